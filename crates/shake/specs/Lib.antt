@@ -1,0 +1,8 @@
+pub mod Code
+pub mod Answer
+pub mod Fault
+pub mod Items
+pub mod Pass
+pub mod Words
+pub mod Line
+pub mod Run

@@ -1,0 +1,56 @@
+-- What the program says on standard error.
+use Rattle.std.specs.Prelude.{◌≡◌, ◌≢◌, ◌⊎◌, ◌&&◌, ◌||◌, ◌==◌, ℕ, List, [], ◌∷◌, ◌++◌, flat_map, Bool, nat_le, nat_lt, Option, Some, None, Err, codes, if◌then◌else◌}
+use Rattle.outside.specs.Moves.{HasFailed, Known, SendsFront}
+use Rattle.tree_text.specs.Fault.{Fault, too_deep, unknown_node, bad_field, out_of_range}
+use Rattle.tree_text.specs.Answer.{IsReadAs}
+use Rattle.shake.specs.declared.status.Status.{Status}
+use Rattle.shake.specs.declared.status.Status.TheVariants as status
+
+-- an ASCII letter or digit, or `_`
+abbrev pub is_word_byte : ℕ → Bool
+is_word_byte b = (nat_le 97 b && nat_le b 122) || (nat_le 65 b && nat_le b 90) || (nat_le 48 b && nat_le b 57) || b == 95
+
+-- a byte of UTF-8 that begins no character
+abbrev pub is_continuation : ℕ → Bool
+is_continuation b = nat_le 128 b && nat_lt b 192
+
+-- what stands for a byte: nothing, or the one character that begins with it, as `?` where it is no part of a word
+abbrev pub shown_byte : ℕ → List ℕ
+shown_byte b = if is_continuation b then [] else (if is_word_byte b then b ∷ [] else 63 ∷ [])
+
+abbrev pub shown : List ℕ → List ℕ
+shown = flat_map shown_byte
+
+abbrev pub fault_line : Fault → List ℕ
+fault_line (unknown_node kind) = codes "shake: unknown node " ++ (shown kind ++ codes "\n")
+fault_line (bad_field kind field) = codes "shake: bad field " ++ (field ++ (codes " in " ++ (kind ++ codes "\n")))
+fault_line out_of_range = codes "shake: number out of range\n"
+fault_line too_deep = []
+
+abbrev pub status_line : Status → List ℕ
+status_line status.Ok = []
+status_line status.Usage = codes "shake: usage: shake COMMAND [--tree-only]\n"
+status_line status.ReadFault = codes "shake: read fault\n"
+status_line status.InputTooLong = codes "shake: input too long\n"
+status_line status.Syntax = codes "shake: not JSON\n"
+status_line status.Tree = []
+status_line status.WriteFault = codes "shake: write fault\n"
+status_line status.OutOfMemory = codes "shake: out of memory\n"
+
+-- where the source tells its bytes
+abbrev pub Told : Option (List ℕ) → (List ℕ → Type 0) → Type 0
+Told None P = Unit {0}
+Told (Some bytes) P = P bytes
+
+-- the bytes are a JSON value that is no tree, for this fault
+abbrev pub HasFault : Option (List ℕ) → Fault → Type 0
+HasFault left f = (f ≢ too_deep) × Told left (λ bytes. IsReadAs bytes (Err f))
+
+-- the line of an answer; that of a tree's fault names it
+abbrev pub IsLineOf : Status → Option (List ℕ) → List ℕ → Type 0
+IsLineOf status.Tree left line = (f : Fault) × (line ≡ fault_line f) × HasFault left f
+IsLineOf s left line = line ≡ status_line s
+
+-- a line went out, or a front of it where a fault came
+abbrev pub Says : (List ℕ → Type 0) → (written now : Option (List ℕ)) → (faults later : ℕ) → Type 0
+Says IsLine written now faults later = (line : List ℕ) × IsLine line × SendsFront line written now × (HasFailed faults later ⊎ Known (λ w. w ++ line) written now)

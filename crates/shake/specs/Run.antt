@@ -1,0 +1,55 @@
+-- What a run of the program leaves behind.
+use Rattle.std.specs.Prelude.{◌≡◌, ◌⊎◌, ◌^◌, ◌≤◌, ℕ, List, [], ◌++◌, Bool, true, false, length, Option, Some, Ok, codes, decimal}
+use Rattle.outside.specs.Moves.{HasFailed, Known, SendsFront}
+use Rattle.js_syntax.specs.Node.{Forest}
+use Rattle.tree_text.specs.Answer.{IsReadAs, IsNoJson}
+use Rattle.tree_text.specs.Fault.{Fault}
+use Rattle.tree_text.specs.Text.{text_of}
+use Rattle.shake.specs.Pass.{shaken, passes_of}
+use Rattle.shake.specs.Line.{Told, HasFault}
+use Rattle.shake.specs.declared.status.Status.{Status}
+use Rattle.shake.specs.declared.status.Status.TheVariants as status
+
+-- how many bytes the program reads at most
+abbrev pub max_input : ℕ
+max_input = 2 ^ 28
+
+-- a tree and the line of counts
+abbrev pub output_of : Forest → (passes references : ℕ) → List ℕ
+output_of t passes references = text_of t ++ (codes "\npasses " ++ (decimal passes ++ (codes " references " ++ (decimal references ++ codes "\n"))))
+
+-- what is written for the tree that was read
+abbrev pub shaken_output : Forest → List ℕ
+shaken_output t = output_of (shaken t) (passes_of t) 0
+
+-- the bytes, which are within the limit, are those of this tree
+abbrev pub IsTreeOf : List ℕ → Forest → Type 0
+IsTreeOf bytes t = (length bytes ≤ max_input) × IsReadAs bytes (Ok t)
+
+-- answer 0: the bytes are a tree's, all of them were read, and its output went out whole
+abbrev pub Shakes : (left left_now written written_now : Option (List ℕ)) → Type 0
+Shakes left left_now written written_now = (t : Forest) × Told left (λ bytes. IsTreeOf bytes t) × Told left (λ _. left_now ≡ Some []) × Known (λ w. w ++ shaken_output t) written written_now
+
+-- a fault of the sink: a front of that output went out
+abbrev pub ShakesFront : (left written written_now : Option (List ℕ)) → Type 0
+ShakesFront left written written_now = (t : Forest) × Told left (λ bytes. IsTreeOf bytes t) × SendsFront (shaken_output t) written written_now
+
+-- the bytes, which are within the limit, are no JSON
+abbrev pub IsBadJson : Option (List ℕ) → Type 0
+IsBadJson left = Told left (λ bytes. (length bytes ≤ max_input) × IsNoJson bytes)
+
+-- the bytes, which are within the limit, are the JSON of no tree
+abbrev pub IsBadTree : Option (List ℕ) → Type 0
+IsBadTree left = (f : Fault) × HasFault left f × Told left (λ bytes. length bytes ≤ max_input)
+
+-- Only with these two answers is anything written.
+abbrev pub writes : Status → Bool
+writes status.Ok = true
+writes status.WriteFault = true
+writes _ = false
+
+-- where the words are accepted, the bytes are a tree's and nothing fails, the answer is 0, unless memory is short
+abbrev pub Completes : (accepted : Bool) (left : Option (List ℕ)) (source_faults source_later out_faults out_later : ℕ) → Status → Type 0
+Completes accepted left source_faults source_later out_faults out_later s =
+    accepted ≡ true → (bytes : List ℕ) → left ≡ Some bytes → (t : Forest) → IsTreeOf bytes t → ¬ HasFailed source_faults source_later → ¬ HasFailed out_faults out_later
+    → (s ≡ status.Ok) ⊎ (s ≡ status.OutOfMemory)

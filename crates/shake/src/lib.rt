@@ -1,0 +1,26 @@
+//! The dead code remover: bytes of a syntax tree in, bytes of the shaken tree out.
+//!
+//! `shake` reads one program from a source, as ESTree JSON, takes out of it what does nothing, and
+//! writes what is left and a line of counts to a sink. Its contract, with the definitions of
+//! `specs/Run.antt`, says for each answer exactly when it comes and what was written then; memory may
+//! be short at any time. It stands on `outside` (sources and sinks), `tree_read` and `tree_write`
+//! (from bytes to trees and back), and `js_tree`.
+#![tactic(auto)]
+
+mod line;
+mod output;
+mod pass;
+mod run;
+mod status;
+#[cfg(test)]
+mod tests;
+mod words;
+
+pub use outside::{
+    Failed, MemSink, MemSource, ReadAllError, Sink, Source, StdErr, StdSink, StdSource, SureSink,
+    SureSource, read_all,
+};
+pub use run::shake;
+pub use status::Status;
+pub use tree_read::{TreeError, read_tree};
+pub use tree_write::write_tree;

@@ -1,0 +1,88 @@
+// What the program says on standard error.
+ghost use Rattle.std.specs.Prelude.{◌≡◌, ◌≤◌, ◌++◌, IfOk, OnOk, string_bytes};
+ghost use Rattle.tree_text.specs.Fault.{unknown_node, bad_field};
+ghost use Rattle.shake.specs.Line as spec;
+ghost use Rattle.shake.specs.Line.{Says, shown, fault_line};
+ghost use Rattle.shake.specs.Fault.{fault_of, IsAnswerTo, refusal_line};
+
+use crate::status::Status;
+use outside::{Sink, write_all};
+use std::alloc::{AllocError, Global};
+use tree_text::TreeError;
+
+/// Says a line. A fault of the sink ends it, and changes no answer.
+pub fn say<E: Sink>(err: &mut E, line: &str)
+    ensures said { Says (λ l. l ≡ line.now) (E.written err.old) (E.written err.new) (E.faults err.old) (E.faults err.new) }
+    ensures later { E.faults err.old ≤ E.faults err.new }
+{
+    match write_all(err, line.as_bytes()) {
+        Ok(()) => {}
+        Err(_) => {}
+    }
+}
+
+fn is_word_byte(byte: u8) -> bool
+    ensures { result ≡ spec.is_word_byte byte }
+{
+    byte >= b'a' && byte <= b'z'
+        || byte >= b'A' && byte <= b'Z'
+        || byte >= b'0' && byte <= b'9'
+        || byte == b'_'
+}
+
+fn is_continuation(byte: u8) -> bool
+    ensures { result ≡ spec.is_continuation byte }
+{
+    byte >= 128 && byte < 192
+}
+
+fn push_shown_byte(line: &mut String, byte: u8) -> Result<(), AllocError>
+    ensures { OnOk result (string_bytes line.new ≡ string_bytes line.old ++ spec.shown_byte byte) }
+{
+    if is_continuation(byte) {
+        return Ok(());
+    }
+    if is_word_byte(byte) {
+        line.push(char::from(byte))?;
+        return Ok(());
+    }
+    line.push('?')?;
+    Ok(())
+}
+
+// The kind as it is shown: each character that is no ASCII letter, digit or `_` as `?`.
+fn push_shown(line: &mut String, kind: &str) -> Result<(), AllocError>
+    ensures { OnOk result (string_bytes line.new ≡ string_bytes line.old ++ shown kind.now) }
+{
+    'bytes: for byte in kind.as_bytes() {
+        push_shown_byte(line, *byte)?;
+    }
+    Ok(())
+}
+
+fn unknown_line(alloc: Global, kind: &str) -> Result<String, AllocError>
+    ensures { IfOk result (λ s. string_bytes s ≡ fault_line (unknown_node kind.now)) }
+{
+    let mut line = String::from_str(alloc, "shake: unknown node ")?;
+    push_shown(&mut line, kind)?;
+    line.push('\n')?;
+    Ok(line)
+}
+
+fn field_line(alloc: Global, kind: &str, field: &str) -> Result<String, AllocError>
+    ensures { IfOk result (λ s. string_bytes s ≡ fault_line (bad_field kind.now field.now)) }
+{
+    format!(in alloc; "shake: bad field {field} in {kind}\n")
+}
+
+/// The line of a fault of a tree, or none where there is no such line.
+pub fn fault_text(alloc: Global, error: &TreeError) -> Result<String, AllocError>
+    ensures { IfOk result (λ s. string_bytes s ≡ fault_line (fault_of error.now)) }
+{
+    match error {
+        TreeError::UnknownNode { kind } => unknown_line(alloc, kind.as_str()),
+        TreeError::BadField { kind, field } => field_line(alloc, kind, field),
+        TreeError::NumberOutOfRange => String::from_str(alloc, "shake: number out of range\n"),
+        TreeError::Syntax | TreeError::OutOfMemory => Ok(String::new(alloc)),
+    }
+}

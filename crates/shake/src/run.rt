@@ -1,0 +1,131 @@
+// The program, over any source and sinks.
+ghost use Rattle.std.specs.Prelude.{◌≡◌, ◌↔◌, ◌≤◌, false, map, string_bytes};
+ghost use Rattle.outside.specs.Moves.{HasFailed};
+ghost use Rattle.outside.specs.Reading.{IsLonger};
+ghost use Rattle.tree_text.specs.Answer.{IsCauseOf};
+ghost use Rattle.shake.specs.Words.{accepts};
+ghost use Rattle.shake.specs.Line.{Says, IsLineOf, status_line};
+ghost use Rattle.shake.specs.Fault.{IsAnswerTo, refusal_line};
+ghost use Rattle.shake.specs.Answer.{Answers, IsLineFor};
+ghost use Rattle.shake.specs.Run.{max_input, Shakes, ShakesFront, IsBadJson, IsBadTree, writes, Completes};
+
+use crate::line::{fault_text, say};
+use crate::output::output;
+use crate::pass::shake_program;
+use crate::status::Status;
+use crate::words::are_accepted;
+use outside::{ReadAllError, Sink, Source, read_all, write_all};
+use std::alloc::Global;
+use tree_read::{TreeError, read_tree};
+
+// How many bytes are read at most: 2^28.
+const MAX_INPUT: u64 = 268_435_456;
+
+fn out_of_memory<E: Sink>(err: &mut E) -> Status
+    ensures answer { result ≡ Status.OutOfMemory }
+    ensures line { Says (λ l. l ≡ status_line Status.OutOfMemory) (E.written err.old) (E.written err.new) (E.faults err.old) (E.faults err.new) }
+    ensures later { E.faults err.old ≤ E.faults err.new }
+{
+    say(err, "shake: out of memory\n");
+    Status::OutOfMemory
+}
+
+// Says why the bytes are no tree.
+fn refuse<E: Sink>(alloc: Global, error: TreeError, err: &mut E) -> Status
+    ensures answer { IsAnswerTo error result }
+    ensures line { Says (λ l. l ≡ refusal_line error result) (E.written err.old) (E.written err.new) (E.faults err.old) (E.faults err.new) }
+    ensures later { E.faults err.old ≤ E.faults err.new }
+{
+    match error {
+        TreeError::Syntax => {
+            say(err, "shake: not JSON\n");
+            Status::Syntax
+        }
+        TreeError::OutOfMemory => out_of_memory(err),
+        fault => match fault_text(alloc, &fault) {
+            Ok(line) => {
+                say(err, line.as_str());
+                Status::Tree
+            }
+            Err(_) => out_of_memory(err),
+        },
+    }
+}
+
+// Shakes the program that the bytes are.
+fn answer<K: Sink, E: Sink>(alloc: Global, bytes: Vec<u8>, out: &mut K, err: &mut E) -> Status
+    ensures answer { Answers result bytes.items (K.written out.old) (K.written out.new) (K.faults out.old) (K.faults out.new) }
+    ensures line { Says (IsLineFor result bytes.items) (E.written err.old) (E.written err.new) (E.faults err.old) (E.faults err.new) }
+    ensures out_later { K.faults out.old ≤ K.faults out.new }
+    ensures err_later { E.faults err.old ≤ E.faults err.new }
+{
+    let mut program = match read_tree(alloc, bytes.as_slice()) {
+        Ok(program) => program,
+        Err(error) => return refuse(alloc, error, err),
+    };
+    drop(bytes);
+    let passes = shake_program(&mut program);
+    let Ok(text) = output(alloc, &program, passes, 0) else {
+        return out_of_memory(err);
+    };
+    match write_all(out, text.as_bytes()) {
+        Ok(()) => Status::Ok,
+        Err(_) => {
+            say(err, "shake: write fault\n");
+            Status::WriteFault
+        }
+    }
+}
+
+/// Runs the program: `words` are the program's name and the words behind it, `source` the input, `out`
+/// where the output goes, and `err` where a refusal says its reason, in one line.
+///
+/// The only command is `dce`. It reads one program as ESTree JSON, takes out what does nothing, and
+/// writes the JSON of what is left, a newline, `passes P references R` and a newline. Nothing is
+/// written before the whole output stands in memory. The answers are tested in the order of their
+/// codes, memory at any point.
+pub fn shake<S: Source, K: Sink, E: Sink>(
+    alloc: Global,
+    words: &[String],
+    source: &mut S,
+    out: &mut K,
+    err: &mut E,
+) -> Status
+    ensures ok { result ≡ Status.Ok → Shakes (S.left source.old) (S.left source.new) (K.written out.old) (K.written out.new) }
+    ensures usage { (result ≡ Status.Usage) ↔ (accepts (map string_bytes words.now) ≡ false) }
+    ensures read_fault { result ≡ Status.ReadFault → HasFailed (S.faults source.old) (S.faults source.new) }
+    ensures input_too_long { result ≡ Status.InputTooLong → IsLonger (S.left source.old) max_input }
+    ensures syntax { result ≡ Status.Syntax → IsBadJson (S.left source.old) }
+    ensures tree { result ≡ Status.Tree → IsBadTree (S.left source.old) }
+    ensures write_fault { result ≡ Status.WriteFault → HasFailed (K.faults out.old) (K.faults out.new) }
+    ensures write_front { result ≡ Status.WriteFault → ShakesFront (S.left source.old) (K.written out.old) (K.written out.new) }
+
+    // After any other refusal nothing was written.
+    ensures unwritten { writes result ≡ false → K.written out.new ≡ K.written out.old }
+    ensures line { Says (IsLineOf result (S.left source.old)) (E.written err.old) (E.written err.new) (E.faults err.old) (E.faults err.new) }
+
+    // It succeeds where nothing stands in its way.
+    ensures completes { Completes (accepts (map string_bytes words.now)) (S.left source.old) (S.faults source.old) (S.faults source.new) (K.faults out.old) (K.faults out.new) result }
+
+    // Faults are counted, and never taken back.
+    ensures source_later { S.faults source.old ≤ S.faults source.new }
+    ensures out_later { K.faults out.old ≤ K.faults out.new }
+    ensures err_later { E.faults err.old ≤ E.faults err.new }
+{
+    if !are_accepted(words) {
+        say(err, "shake: usage: shake COMMAND [--tree-only]\n");
+        return Status::Usage;
+    }
+    match read_all(alloc, source, MAX_INPUT) {
+        Ok(bytes) => answer(alloc, bytes, out, err),
+        Err(ReadAllError::Fault) => {
+            say(err, "shake: read fault\n");
+            Status::ReadFault
+        }
+        Err(ReadAllError::TooLong) => {
+            say(err, "shake: input too long\n");
+            Status::InputTooLong
+        }
+        Err(ReadAllError::OutOfMemory) => out_of_memory(err),
+    }
+}

@@ -1,0 +1,41 @@
+// How a run of the program ends.
+ghost use Rattle.std.specs.Prelude.{◌≡◌};
+ghost use Rattle.shake.specs.Code.{code_of};
+
+/// How a run of the program ended. Each answer but `Ok` says why on standard error, in one line.
+#[derive(Clone, Copy, Debug, PartialEq, Eq)]
+pub enum Status {
+    /// The input was read to its end, and all of the output was written.
+    Ok,
+    /// The words of the command line aren't accepted.
+    Usage,
+    /// The input could not be read.
+    ReadFault,
+    /// The input has more than 2^28 bytes.
+    InputTooLong,
+    /// The input is no JSON.
+    Syntax,
+    /// The input is the JSON of no tree.
+    Tree,
+    /// The output could not be written.
+    WriteFault,
+    OutOfMemory,
+}
+
+impl Status {
+    /// The exit status of the program. 6 and 7 are left for refusals of whole trees.
+    pub fn code(self) -> u8
+        ensures { result ≡ code_of self }
+    {
+        match self {
+            Status::Ok => 0,
+            Status::Usage => 1,
+            Status::ReadFault => 2,
+            Status::InputTooLong => 3,
+            Status::Syntax => 4,
+            Status::Tree => 5,
+            Status::WriteFault => 8,
+            Status::OutOfMemory => 9,
+        }
+    }
+}

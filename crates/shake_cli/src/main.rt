@@ -1,0 +1,49 @@
+//! The program `shake`: one run of the library's `shake` over the words of the command line and the
+//! standard streams. Its exit status is the answer's code. It stands on `shake` alone; what the
+//! standard streams hold no contract can say.
+#![tactic(auto)]
+
+ghost use Rattle.std.specs.Prelude.{◌≡◌, ◌↔◌, false, map, string_bytes};
+ghost use Rattle.shake.specs.Run.{Shakes};
+ghost use Rattle.shake.specs.Words.{accepts};
+
+use shake::{Sink, Source, Status, StdErr, StdSink, StdSource, shake};
+use std::alloc::Global;
+use std::env;
+use std::process::ExitCode;
+
+// The exit status of a run.
+fn exit_status<S: Source, K: Sink, E: Sink>(
+    alloc: Global,
+    words: &[String],
+    source: &mut S,
+    out: &mut K,
+    err: &mut E,
+) -> u8
+    ensures ok { result ≡ 0 → Shakes (S.left source.old) (S.left source.new) (K.written out.old) (K.written out.new) }
+    ensures usage { (result ≡ 1) ↔ (accepts (map string_bytes words.now) ≡ false) }
+{
+    shake(alloc, words, source, out, err).code()
+}
+
+fn main(rt: HostRuntime) -> ExitCode {
+    let mut words = Vec::new(rt.alloc());
+    // Words that are no UTF-8 are no words that the program accepts.
+    if let Ok(given) = env::args(&rt) {
+        for word in given {
+            if words.push(word).is_err() {
+                return ExitCode::from(Status::OutOfMemory.code());
+            }
+        }
+    }
+    let mut source = StdSource::new(rt.reader());
+    let mut out = StdSink::new(&rt);
+    let mut err = StdErr::new(rt.stderr());
+    ExitCode::from(exit_status(
+        rt.alloc(),
+        words.as_slice(),
+        &mut source,
+        &mut out,
+        &mut err,
+    ))
+}

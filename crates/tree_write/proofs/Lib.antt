@@ -1,0 +1,5 @@
+pub mod Appending
+pub mod Rows
+pub mod Plain
+pub mod PlainTrees
+pub mod Reading
