@@ -1,6 +1,8 @@
 -- From the bytes that were read to the bytes that the source told.
 use Rattle.std.proofs.Common.{◌≡◌, ◌≤◌, ℕ, List, [], length, Option, Some, None, subst}
 use Rattle.outside.specs.Reading.{Ends}
+use Rattle.words.specs.Meaning.{command_of}
+use Rattle.words.specs.declared.answer.Command.{Command}
 use Rattle.shake.specs.Answer.{Answers}
 use Rattle.shake.specs.Line.{Told}
 use Rattle.shake.specs.Run.{max_input, IsTreeOf, Shakes}
@@ -17,9 +19,9 @@ emptied None now bytes h = tt
 emptied (Some all) now bytes h = h.1
 
 -- the answers for the bytes, as answers of the program
-module _ (left now : Option (List ℕ)) (bytes : List ℕ) (ends : Ends left now bytes) (within : length bytes ≤ max_input) where
-  pub shakes : (s : Status) (w w' : Option (List ℕ)) (f f' : ℕ) → Answers s bytes w w' f f' → s ≡ status.Ok → Shakes left now w w'
-  shakes status.Ok w w' f f' a is = (a.0, told left now bytes (λ b. IsTreeOf b a.0) ends (within, a.1), emptied left now bytes ends, a.2)
+module _ (words : List (List ℕ)) (command : Command) (asked : command_of words ≡ Some command) (left now : Option (List ℕ)) (bytes : List ℕ) (ends : Ends left now bytes) (within : length bytes ≤ max_input) where
+  pub shakes : (s : Status) (w w' : Option (List ℕ)) (f f' : ℕ) → Answers command s bytes w w' f f' → s ≡ status.Ok → Shakes words left now w w'
+  shakes status.Ok w w' f f' a is = (command, asked, a.0, told left now bytes (λ b. IsTreeOf b a.0) ends (within, a.1), emptied left now bytes ends, a.2)
   shakes status.Usage w w' f f' a is = absurd a
   shakes status.ReadFault w w' f f' a is = absurd a
   shakes status.InputTooLong w w' f f' a is = absurd a

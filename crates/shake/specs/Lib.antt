@@ -3,6 +3,5 @@ pub mod Answer
 pub mod Fault
 pub mod Items
 pub mod Pass
-pub mod Words
 pub mod Line
 pub mod Run

@@ -5,6 +5,9 @@ use Rattle.js_syntax.specs.Node.{Forest}
 use Rattle.tree_text.specs.Answer.{IsReadAs, IsNoJson}
 use Rattle.tree_text.specs.Fault.{Fault}
 use Rattle.tree_text.specs.Text.{text_of}
+use Rattle.words.specs.Meaning.{command_of}
+use Rattle.words.specs.declared.answer.Command.{Command}
+use Rattle.words.specs.declared.answer.Command.TheVariants.{Dce}
 use Rattle.shake.specs.Pass.{shaken, passes_of}
 use Rattle.shake.specs.Line.{Told, HasFault}
 use Rattle.shake.specs.declared.status.Status.{Status}
@@ -14,25 +17,41 @@ use Rattle.shake.specs.declared.status.Status.TheVariants as status
 abbrev pub max_input : ℕ
 max_input = 2 ^ 28
 
+-- the line of counts, on a line of its own
+abbrev pub counts_of : (passes references : ℕ) → List ℕ
+counts_of passes references = codes "\npasses " ++ (decimal passes ++ (codes " references " ++ (decimal references ++ codes "\n")))
+
 -- a tree and the line of counts
 abbrev pub output_of : Forest → (passes references : ℕ) → List ℕ
-output_of t passes references = text_of t ++ (codes "\npasses " ++ (decimal passes ++ (codes " references " ++ (decimal references ++ codes "\n"))))
+output_of t passes references = text_of t ++ counts_of passes references
 
--- what is written for the tree that was read
-abbrev pub shaken_output : Forest → List ℕ
-shaken_output t = output_of (shaken t) (passes_of t) 0
+-- a tree alone
+abbrev pub tree_output_of : Forest → List ℕ
+tree_output_of t = text_of t ++ codes "\n"
+
+-- what a command writes for a tree that is left: with `--tree-only` the tree alone
+abbrev pub command_output : Command → Forest → (passes : ℕ) → List ℕ
+command_output (Dce false) t passes = output_of t passes 0
+command_output (Dce true) t passes = tree_output_of t
+
+-- and for the tree that was read
+abbrev pub shaken_output : Command → Forest → List ℕ
+shaken_output command t = command_output command (shaken t) (passes_of t)
 
 -- the bytes, which are within the limit, are those of this tree
 abbrev pub IsTreeOf : List ℕ → Forest → Type 0
 IsTreeOf bytes t = (length bytes ≤ max_input) × IsReadAs bytes (Ok t)
 
--- answer 0: the bytes are a tree's, all of them were read, and its output went out whole
-abbrev pub Shakes : (left left_now written written_now : Option (List ℕ)) → Type 0
-Shakes left left_now written written_now = (t : Forest) × Told left (λ bytes. IsTreeOf bytes t) × Told left (λ _. left_now ≡ Some []) × Known (λ w. w ++ shaken_output t) written written_now
+-- answer 0: the words ask for a command, the bytes are a tree's, all of them were read, and its output went out whole
+abbrev pub Shakes : (words : List (List ℕ)) (left left_now written written_now : Option (List ℕ)) → Type 0
+Shakes words left left_now written written_now =
+    (command : Command) × (command_of words ≡ Some command) × (t : Forest) × Told left (λ bytes. IsTreeOf bytes t) × Told left (λ _. left_now ≡ Some [])
+    × Known (λ w. w ++ shaken_output command t) written written_now
 
 -- a fault of the sink: a front of that output went out
-abbrev pub ShakesFront : (left written written_now : Option (List ℕ)) → Type 0
-ShakesFront left written written_now = (t : Forest) × Told left (λ bytes. IsTreeOf bytes t) × SendsFront (shaken_output t) written written_now
+abbrev pub ShakesFront : (words : List (List ℕ)) (left written written_now : Option (List ℕ)) → Type 0
+ShakesFront words left written written_now =
+    (command : Command) × (command_of words ≡ Some command) × (t : Forest) × Told left (λ bytes. IsTreeOf bytes t) × SendsFront (shaken_output command t) written written_now
 
 -- the bytes, which are within the limit, are no JSON
 abbrev pub IsBadJson : Option (List ℕ) → Type 0

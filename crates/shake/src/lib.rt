@@ -14,7 +14,6 @@ mod run;
 mod status;
 #[cfg(test)]
 mod tests;
-mod words;
 
 pub use outside::{
     Failed, MemSink, MemSource, ReadAllError, Sink, Source, StdErr, StdSink, StdSource, SureSink,

@@ -1,22 +1,41 @@
 // The text that the program writes.
-ghost use Rattle.std.specs.Prelude.{◌≡◌, IfOk, string_bytes};
+ghost use Rattle.std.specs.Prelude.{◌≡◌, ◌++◌, IfOk, codes, string_bytes};
 ghost use Rattle.js_tree.specs.View.{program_tree};
-ghost use Rattle.shake.specs.Run.{output_of};
+ghost use Rattle.shake.specs.Run.{command_output, counts_of};
 
 use js_tree::Program;
 use std::alloc::{AllocError, Global};
 use tree_write::write_tree;
+use words::Command;
 
-/// The program's tree as JSON, and then the line of counts.
-pub fn output(
-    alloc: Global,
-    program: &Program,
-    passes: u64,
-    references: u64,
-) -> Result<String, AllocError>
-    ensures { IfOk result (λ s. string_bytes s ≡ output_of (program_tree program.now) passes references) }
+// The text, and behind it a newline.
+fn with_newline(mut text: String) -> Result<String, AllocError>
+    ensures { IfOk result (λ s. string_bytes s ≡ string_bytes text ++ codes "\n") }
 {
-    let mut text = write_tree(alloc, program)?.into_string();
+    text.push('\n')?;
+    Ok(text)
+}
+
+// The text, and behind it a newline and the line of counts.
+fn with_counts(mut text: String, passes: u64, references: u64) -> Result<String, AllocError>
+    ensures { IfOk result (λ s. string_bytes s ≡ string_bytes text ++ counts_of passes references) }
+{
     write!(text, "\npasses {passes} references {references}\n")?;
     Ok(text)
+}
+
+/// The program's tree as JSON, and then the line of counts, unless the tree alone is asked for.
+pub fn output(
+    alloc: Global,
+    command: Command,
+    program: &Program,
+    passes: u64,
+) -> Result<String, AllocError>
+    ensures { IfOk result (λ s. string_bytes s ≡ command_output command (program_tree program.now) passes) }
+{
+    let text = write_tree(alloc, program)?.into_string();
+    match command {
+        Command::Dce { tree_only: true } => with_newline(text),
+        Command::Dce { tree_only: false } => with_counts(text, passes, 0),
+    }
 }

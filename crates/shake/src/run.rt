@@ -1,9 +1,9 @@
 // The program, over any source and sinks.
-ghost use Rattle.std.specs.Prelude.{◌≡◌, ◌↔◌, ◌≤◌, false, map, string_bytes};
+ghost use Rattle.std.specs.Prelude.{◌≡◌, ◌≤◌, false, true, map, string_bytes};
 ghost use Rattle.outside.specs.Moves.{HasFailed};
 ghost use Rattle.outside.specs.Reading.{IsLonger};
 ghost use Rattle.tree_text.specs.Answer.{IsCauseOf};
-ghost use Rattle.shake.specs.Words.{accepts};
+ghost use Rattle.words.specs.Meaning.{accepts};
 ghost use Rattle.shake.specs.Line.{Says, IsLineOf, status_line};
 ghost use Rattle.shake.specs.Fault.{IsAnswerTo, refusal_line};
 ghost use Rattle.shake.specs.Answer.{Answers, IsLineFor};
@@ -13,10 +13,10 @@ use crate::line::{fault_text, say};
 use crate::output::output;
 use crate::pass::shake_program;
 use crate::status::Status;
-use crate::words::are_accepted;
 use outside::{ReadAllError, Sink, Source, read_all, write_all};
 use std::alloc::Global;
 use tree_read::{TreeError, read_tree};
+use words::{Command, WordsError, parse};
 
 // How many bytes are read at most: 2^28.
 const MAX_INPUT: u64 = 268_435_456;
@@ -53,8 +53,14 @@ fn refuse<E: Sink>(alloc: Global, error: TreeError, err: &mut E) -> Status
 }
 
 // Shakes the program that the bytes are.
-fn answer<K: Sink, E: Sink>(alloc: Global, bytes: Vec<u8>, out: &mut K, err: &mut E) -> Status
-    ensures answer { Answers result bytes.items (K.written out.old) (K.written out.new) (K.faults out.old) (K.faults out.new) }
+fn answer<K: Sink, E: Sink>(
+    alloc: Global,
+    command: Command,
+    bytes: Vec<u8>,
+    out: &mut K,
+    err: &mut E,
+) -> Status
+    ensures answer { Answers command result bytes.items (K.written out.old) (K.written out.new) (K.faults out.old) (K.faults out.new) }
     ensures line { Says (IsLineFor result bytes.items) (E.written err.old) (E.written err.new) (E.faults err.old) (E.faults err.new) }
     ensures out_later { K.faults out.old ≤ K.faults out.new }
     ensures err_later { E.faults err.old ≤ E.faults err.new }
@@ -65,7 +71,7 @@ fn answer<K: Sink, E: Sink>(alloc: Global, bytes: Vec<u8>, out: &mut K, err: &mu
     };
     drop(bytes);
     let passes = shake_program(&mut program);
-    let Ok(text) = output(alloc, &program, passes, 0) else {
+    let Ok(text) = output(alloc, command, &program, passes) else {
         return out_of_memory(err);
     };
     match write_all(out, text.as_bytes()) {
@@ -81,8 +87,9 @@ fn answer<K: Sink, E: Sink>(alloc: Global, bytes: Vec<u8>, out: &mut K, err: &mu
 /// where the output goes, and `err` where a refusal says its reason, in one line.
 ///
 /// The only command is `dce`. It reads one program as ESTree JSON, takes out what does nothing, and
-/// writes the JSON of what is left, a newline, `passes P references R` and a newline. Nothing is
-/// written before the whole output stands in memory. The answers are tested in the order of their
+/// writes the JSON of what is left, a newline, `passes P references R` and a newline; with
+/// `--tree-only` it leaves the last line out. Nothing is written before the whole output stands in
+/// memory. The answers are tested in the order of their
 /// codes, memory at any point.
 pub fn shake<S: Source, K: Sink, E: Sink>(
     alloc: Global,
@@ -91,14 +98,15 @@ pub fn shake<S: Source, K: Sink, E: Sink>(
     out: &mut K,
     err: &mut E,
 ) -> Status
-    ensures ok { result ≡ Status.Ok → Shakes (S.left source.old) (S.left source.new) (K.written out.old) (K.written out.new) }
-    ensures usage { (result ≡ Status.Usage) ↔ (accepts (map string_bytes words.now) ≡ false) }
+    ensures ok { result ≡ Status.Ok → Shakes (map string_bytes words.now) (S.left source.old) (S.left source.new) (K.written out.old) (K.written out.new) }
+    ensures usage { result ≡ Status.Usage → accepts (map string_bytes words.now) ≡ false }
+    ensures accepted { (result ≡ Status.Usage → ⊥) → (result ≡ Status.OutOfMemory → ⊥) → accepts (map string_bytes words.now) ≡ true }
     ensures read_fault { result ≡ Status.ReadFault → HasFailed (S.faults source.old) (S.faults source.new) }
     ensures input_too_long { result ≡ Status.InputTooLong → IsLonger (S.left source.old) max_input }
     ensures syntax { result ≡ Status.Syntax → IsBadJson (S.left source.old) }
     ensures tree { result ≡ Status.Tree → IsBadTree (S.left source.old) }
     ensures write_fault { result ≡ Status.WriteFault → HasFailed (K.faults out.old) (K.faults out.new) }
-    ensures write_front { result ≡ Status.WriteFault → ShakesFront (S.left source.old) (K.written out.old) (K.written out.new) }
+    ensures write_front { result ≡ Status.WriteFault → ShakesFront (map string_bytes words.now) (S.left source.old) (K.written out.old) (K.written out.new) }
 
     // After any other refusal nothing was written.
     ensures unwritten { writes result ≡ false → K.written out.new ≡ K.written out.old }
@@ -112,12 +120,16 @@ pub fn shake<S: Source, K: Sink, E: Sink>(
     ensures out_later { K.faults out.old ≤ K.faults out.new }
     ensures err_later { E.faults err.old ≤ E.faults err.new }
 {
-    if !are_accepted(words) {
-        say(err, "shake: usage: shake COMMAND [--tree-only]\n");
-        return Status::Usage;
-    }
+    let command = match parse(alloc, words) {
+        Ok(command) => command,
+        Err(WordsError::Usage) => {
+            say(err, "shake: usage: shake COMMAND [--tree-only]\n");
+            return Status::Usage;
+        }
+        Err(WordsError::OutOfMemory) => return out_of_memory(err),
+    };
     match read_all(alloc, source, MAX_INPUT) {
-        Ok(bytes) => answer(alloc, bytes, out, err),
+        Ok(bytes) => answer(alloc, command, bytes, out, err),
         Err(ReadAllError::Fault) => {
             say(err, "shake: read fault\n");
             Status::ReadFault

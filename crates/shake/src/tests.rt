@@ -281,14 +281,15 @@ fn answers_faults_of_the_outside(rt: HostRuntime) -> Result<(), Fail> {
 
 #[test]
 fn accepts_the_one_command(rt: HostRuntime) -> Result<(), Fail> {
-    let refused: [&[&str]; 7] = [
+    let refused: [&[&str]; 8] = [
         &[],
         &["shake"],
         &["dce"],
         &["shake", "frob"],
         &["shake", "DCE"],
         &["shake", "dce", ""],
-        &["shake", "dce", "--tree-only"],
+        &["shake", "dce", "--frob"],
+        &["shake", "--help"],
     ];
     for words in refused {
         let got = run(rt.alloc(), words, EMPTY_MODULE.as_bytes(), &[1], 100, &[])?;
@@ -299,15 +300,18 @@ fn accepts_the_one_command(rt: HostRuntime) -> Result<(), Fail> {
         );
         assert!(rt; got.out.is_empty());
     }
-    let got = run(
-        rt.alloc(),
-        &["any name", "dce"],
-        EMPTY_MODULE.as_bytes(),
-        &[],
-        100,
-        &[],
-    )?;
-    assert_eq!(rt; got.code, 0);
+    let accepted: [(&[&str], &str); 2] = [
+        (&["any name", "dce"], SHAKEN_EMPTY_MODULE),
+        (
+            &["shake", "dce", "--tree-only"],
+            "{\"body\":[],\"sourceType\":\"module\",\"type\":\"Program\"}\n",
+        ),
+    ];
+    for (words, want) in accepted {
+        let got = run(rt.alloc(), words, EMPTY_MODULE.as_bytes(), &[], 100, &[])?;
+        assert_eq!(rt; got.code, 0, "{words:?}");
+        assert_eq!(rt; got.out.as_slice(), want.as_bytes(), "{words:?}");
+    }
     Ok(())
 }
 

@@ -3,9 +3,9 @@
 //! standard streams hold no contract can say.
 #![tactic(auto)]
 
-ghost use Rattle.std.specs.Prelude.{◌≡◌, ◌↔◌, false, map, string_bytes};
+ghost use Rattle.std.specs.Prelude.{◌≡◌, false, map, string_bytes};
 ghost use Rattle.shake.specs.Run.{Shakes};
-ghost use Rattle.shake.specs.Words.{accepts};
+ghost use Rattle.words.specs.Meaning.{accepts};
 
 use shake::{Sink, Source, Status, StdErr, StdSink, StdSource, shake};
 use std::alloc::Global;
@@ -20,8 +20,8 @@ fn exit_status<S: Source, K: Sink, E: Sink>(
     out: &mut K,
     err: &mut E,
 ) -> u8
-    ensures ok { result ≡ 0 → Shakes (S.left source.old) (S.left source.new) (K.written out.old) (K.written out.new) }
-    ensures usage { (result ≡ 1) ↔ (accepts (map string_bytes words.now) ≡ false) }
+    ensures ok { result ≡ 0 → Shakes (map string_bytes words.now) (S.left source.old) (S.left source.new) (K.written out.old) (K.written out.new) }
+    ensures usage { result ≡ 1 → accepts (map string_bytes words.now) ≡ false }
 {
     shake(alloc, words, source, out, err).code()
 }
