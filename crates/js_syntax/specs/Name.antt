@@ -1,8 +1,8 @@
 -- The types of nodes, by ESTree's names.
 use Rattle.std.specs.Prelude.{ℕ, List, Option, Some, None, codes, if◌then◌else◌}
 use Rattle.std.specs.Str.{bytes_eq}
-use Rattle.js_syntax.specs.declared.scalar.NodeType.{NodeType}
-use Rattle.js_syntax.specs.declared.scalar.NodeType.TheVariants.{Program, ExpressionStatement, EmptyStatement, DebuggerStatement, Literal}
+use Rattle.js_syntax.specs.declared.node_type.NodeType.{NodeType}
+use Rattle.js_syntax.specs.declared.node_type.NodeType.TheVariants.{Program, ExpressionStatement, EmptyStatement, DebuggerStatement, Literal}
 
 abbrev pub type_name : NodeType → List ℕ
 type_name Program = codes "Program"

@@ -1,25 +1,7 @@
 -- What a program is: one type for all of its syntax.
-use Rattle.std.specs.Prelude.{ℕ, ◌+◌, ℤ, List, Bool, Option, None}
+use Rattle.std.specs.Prelude.{ℕ, ◌+◌, List, [], ◌∷◌, Option, None}
+use Rattle.js_syntax.specs.Kind.{Kind}
 use Rattle.js_syntax.specs.declared.scalar.Span.{Span}
-use Rattle.js_syntax.specs.declared.scalar.SourceType.{SourceType}
-
--- the value of a literal (ECMA-262 13.2.3); a number is whole
-pub data Value : Type 0 where
-  null : Value
-  boolean : Bool → Value
-  number : ℤ → Value
-  text : List ℕ → Value
-
--- A node's type, with those of its fields that are no nodes. Behind each what lies below it, in reading order.
-pub data Kind : Type 0 where
-  program : SourceType → Kind  -- statements
-  directive : List ℕ → Kind  -- literal
-  expression_statement : Kind  -- expression
-  empty_statement : Kind
-  debugger_statement : Kind
-  literal : Value → Kind
-  -- a list of nodes, which is a field of the node above it and no node of its own
-  statements : Kind  -- directive.. statement..
 
 -- where a node stood, and the number of its symbol, reference or scope once it has one
 pub record Note : Type 0 where
@@ -56,3 +38,14 @@ abbrev pub total : (Kind → ℕ) → Forest → ℕ
 total counts nothing = 0
 total counts (node k n below rest) = counts k + total counts below + total counts rest
 total counts (absent rest) = total counts rest
+
+-- the nodes of a row, each alone
+abbrev pub nodes_of : Forest → List Forest
+nodes_of nothing = []
+nodes_of (node k n below rest) = alone k n below ∷ nodes_of rest
+nodes_of (absent rest) = absent nothing ∷ nodes_of rest
+
+-- what lies below a node
+abbrev pub below_of : Forest → Forest
+below_of (node k n below rest) = below
+below_of _ = nothing

@@ -1,11 +1,10 @@
 -- The table of node types: a row for each way in which a type of ESTree stands in a tree.
-use Rattle.std.specs.Prelude.{ℕ, zero, suc, pos, List, [], ◌∷◌, Bool, true, Option, Some, None, codes, if◌then◌else◌}
-use Rattle.std.specs.Str.{bytes_eq}
-use Rattle.js_syntax.specs.Node.{Kind, Value, number, text, program, directive, expression_statement, empty_statement, debugger_statement, literal, statements}
-use Rattle.js_syntax.specs.declared.scalar.SourceType.{SourceType}
-use Rattle.js_syntax.specs.declared.scalar.SourceType.TheVariants.{Module, Script, CommonJs}
-use Rattle.js_syntax.specs.declared.scalar.NodeType.{NodeType}
-use Rattle.js_syntax.specs.declared.scalar.NodeType.TheVariants as type
+use Rattle.std.specs.Prelude.{ℕ, List, [], ◌∷◌, Bool, Option, Some, None, codes}
+use Rattle.js_syntax.specs.Word.{Words, Word, source_types, source_type_name}
+use Rattle.js_syntax.specs.Kind.{Kind, program, directive, expression_statement, empty_statement, debugger_statement, literal}
+use Rattle.js_syntax.specs.Scalar.{Value, Scalar, the_text, the_value}
+use Rattle.js_syntax.specs.declared.node_type.NodeType.{NodeType}
+use Rattle.js_syntax.specs.declared.node_type.NodeType.TheVariants as type
 
 -- ---- what a field holds
 
@@ -13,13 +12,6 @@ use Rattle.js_syntax.specs.declared.scalar.NodeType.TheVariants as type
 -- literal of a directive
 pub data Class : Type 0 where
   root a_prologue statement expression directive_text : Class
-
--- the lists of words that a field may hold one of
-pub data Words : Type 0 where
-  source_types : Words
-
-abbrev pub Word : Words → Type 0
-Word source_types = SourceType
 
 pub data Sort : Type 0 where
   a_text a_flag a_value : Sort
@@ -91,27 +83,6 @@ stands _ _ = None
 
 -- ---- what a kind says of its node
 
--- a field that is no node, as it is written
-pub data Scalar : Type 0 where
-  the_text : List ℕ → Scalar
-  the_flag : Bool → Scalar
-  the_value : Value → Scalar
-
-abbrev pub source_type_name : SourceType → List ℕ
-source_type_name Module = codes "module"
-source_type_name Script = codes "script"
-source_type_name CommonJs = codes "commonjs"
-
-unfoldable pub source_type_named : List ℕ → Option SourceType
-source_type_named s =
-    if bytes_eq s (codes "module") then Some Module else
-    if bytes_eq s (codes "script") then Some Script else
-    if bytes_eq s (codes "commonjs") then Some CommonJs else
-    None
-
-abbrev pub word_named : (w : Words) → List ℕ → Option (Word w)
-word_named source_types s = source_type_named s
-
 -- the row, unless it is a list
 abbrev pub row_of : Kind → Option Row
 row_of (program t) = Some a_program
@@ -120,7 +91,7 @@ row_of expression_statement = Some an_expression_statement
 row_of empty_statement = Some an_empty_statement
 row_of debugger_statement = Some a_debugger_statement
 row_of (literal v) = Some a_literal
-row_of statements = None
+row_of _ = None
 
 -- its fields that are no nodes, in reading order
 abbrev pub scalars_of : Kind → List Scalar
@@ -130,30 +101,4 @@ scalars_of expression_statement = []
 scalars_of empty_statement = []
 scalars_of debugger_statement = []
 scalars_of (literal v) = the_value v ∷ []
-scalars_of statements = []
-
--- How much a node weighs. A pass that changes a tree makes it lighter, so passes end.
-abbrev pub value_weight : Value → ℕ
-value_weight (number (pos zero)) = 1
-value_weight (number (pos (suc zero))) = 2
-value_weight (text []) = 3
-value_weight _ = 4
-
-abbrev pub weight : Kind → ℕ
-weight (program t) = 4
-weight (directive s) = 2
-weight expression_statement = 2
-weight empty_statement = 1
-weight debugger_statement = 4
-weight (literal v) = value_weight v
-weight statements = 0
-
--- whether runs are defined for the node itself
-abbrev pub is_core : Kind → Bool
-is_core (program t) = true
-is_core (directive s) = true
-is_core expression_statement = true
-is_core empty_statement = true
-is_core debugger_statement = true
-is_core (literal v) = true
-is_core statements = true
+scalars_of _ = []

@@ -9,6 +9,14 @@
 //! The code here is the plain data that nodes carry.
 #![tactic(auto)]
 
+mod kind;
+mod node_type;
+mod operator;
 mod scalar;
 
-pub use scalar::{NodeType, ReferenceId, SPAN, ScopeId, SourceType, Span, SymbolId};
+pub use kind::{ClassKind, FunctionKind, MethodKind, PropertyKind, VariableKind};
+pub use node_type::NodeType;
+pub use operator::{
+    AssignmentOperator, BinaryOperator, LogicalOperator, UnaryOperator, UpdateOperator,
+};
+pub use scalar::{ReferenceId, SPAN, ScopeId, SourceType, Span, SymbolId};

@@ -1,7 +1,9 @@
 -- The tree that each value of the code's types is.
 use Rattle.std.specs.Prelude.{List, [], ◌∷◌, None}
-use Rattle.js_syntax.specs.Node.{Forest, nothing, node, Kind, Value, Note, alone, joined, nowhere, program, directive, expression_statement, empty_statement, debugger_statement, literal, statements}
-use Rattle.js_syntax.specs.Node as tree
+use Rattle.js_syntax.specs.Kind.{program, directive, expression_statement, empty_statement, debugger_statement, literal, statements}
+use Rattle.js_syntax.specs.Scalar.{Value}
+use Rattle.js_syntax.specs.Node.{Forest, nothing, Note, alone, joined, nowhere}
+use Rattle.js_syntax.specs.Scalar as tree
 use Rattle.js_syntax.specs.declared.scalar.Span.{Span}
 use Rattle.js_tree.specs.declared.tree.Program.{Program}
 use Rattle.js_tree.specs.declared.tree.Directive.{Directive}

@@ -2,7 +2,8 @@
 use Rattle.std.proofs.Common.{◌≡◌, ◌∙◌, ◌+◌, ◌==◌, ℕ, suc, Bool, true, false, not, List, [], ◌∷◌, filter, if◌then◌else◌, refl, ap, arith}
 use Rattle.std.proofs.lemmas.Grind.{common_steps}
 use Rattle.std.specs.List.{list_any}
-use Rattle.js_syntax.specs.Node.{Kind, Forest, nothing, node, absent, joined, total}
+use Rattle.js_syntax.specs.Kind.{Kind}
+use Rattle.js_syntax.specs.Node.{Forest, nothing, node, absent, joined, total}
 use Rattle.js_tree.specs.View.{row, literal_tree, expression_tree, statement_tree, directive_tree, body_row, program_tree}
 use Rattle.js_tree.specs.declared.tree.Program.{Program}
 use Rattle.js_tree.specs.declared.tree.Directive.{Directive}

@@ -1,6 +1,7 @@
 -- What shaking leaves of a tree.
 use Rattle.std.specs.Prelude.{ℕ, Bool, true, false, ◌==◌, if◌then◌else◌}
-use Rattle.js_syntax.specs.Node.{Kind, Forest, nothing, node, absent, empty_statement, expression_statement, statements, total}
+use Rattle.js_syntax.specs.Kind.{Kind, empty_statement, expression_statement, statements}
+use Rattle.js_syntax.specs.Node.{Forest, nothing, node, absent, total}
 
 -- An empty statement does nothing, and here each expression is a literal, so an expression statement does nothing
 -- either (ECMA-262 14.4, 14.5, 13.2.3). Directives are no expression statements.

@@ -3,7 +3,7 @@ use Rattle.std.proofs.Common.{◌≡◌, ◌<◌, ◌-◌, ◌∙◌, ◌++◌, 
 use Rattle.serde_json.specs.Data.{Data, Items, no_items, item}
 use Rattle.js_syntax.specs.Node.{Forest, nothing, node, absent, joined}
 use Rattle.js_syntax.specs.Table.{Class, a_prologue, Row, stands}
-use Rattle.js_syntax.specs.declared.scalar.NodeType.{NodeType}
+use Rattle.js_syntax.specs.declared.node_type.NodeType.{NodeType}
 use Rattle.tree_text.specs.Fault.{Fault, too_deep, ◌>>=◌}
 use Rattle.tree_text.specs.Reading.{Reader, type_at, row_here, before, read_items, is_directive, read_body, read_row, read_here, read_node}
 use Rattle.js_tree.specs.View.{row, directive_tree}

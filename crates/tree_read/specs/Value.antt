@@ -1,5 +1,5 @@
 -- What is read of a node before the node stands.
-use Rattle.js_syntax.specs.Node.{Value, null, boolean, number, text}
+use Rattle.js_syntax.specs.Scalar.{Value, null, boolean, number, text}
 use Rattle.tree_read.specs.declared.field.LiteralValue.{LiteralValue}
 use Rattle.tree_read.specs.declared.field.LiteralValue.TheVariants as literal
 use Rattle.std.specs.Prelude.{Result, Err}

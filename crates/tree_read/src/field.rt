@@ -3,7 +3,7 @@ ghost use Rattle.std.specs.Prelude.{◌≡◌, codes, string_bytes};
 ghost use Rattle.serde_json.specs.Find.{get};
 ghost use Rattle.serde_json.specs.View.{view};
 ghost use Rattle.js_syntax.specs.Name.{type_name};
-ghost use Rattle.js_syntax.specs.Table.{source_types};
+ghost use Rattle.js_syntax.specs.Word.{source_types};
 ghost use Rattle.tree_text.specs.Answer.{Gives};
 ghost use Rattle.tree_text.specs.Fault.{bad_field, fault_of};
 ghost use Rattle.tree_text.specs.Reading as reading;
@@ -63,7 +63,7 @@ pub fn text_field(node: &Value, place: Place) -> Result<Text, TreeError>
 }
 
 /// What a program is.
-#[tactic(auto, unfolding(tree_text::specs::Reading::read_word, js_syntax::specs::Table::source_type_named))]
+#[tactic(auto, unfolding(tree_text::specs::Reading::read_word))]
 pub fn source_type_field(node: &Value, place: Place) -> Result<SourceType, TreeError>
     ensures { Gives (λ t. t) result
         (reading.read_word source_types (fault_at place) (get place.field.now (view node.now))) }
@@ -71,11 +71,9 @@ pub fn source_type_field(node: &Value, place: Place) -> Result<SourceType, TreeE
     let Some(Value::String(word)) = node.get(place.field) else {
         return Err(place.fault());
     };
-    match word.as_str() {
-        "module" => Ok(SourceType::Module),
-        "script" => Ok(SourceType::Script),
-        "commonjs" => Ok(SourceType::CommonJs),
-        _ => Err(place.fault()),
+    match SourceType::named(word.as_str()) {
+        Some(source_type) => Ok(source_type),
+        None => Err(place.fault()),
     }
 }
 

@@ -3,7 +3,8 @@ ghost use Rattle.std.specs.Prelude.{◌≡◌, codes, Some, IfSome, is_some, str
 ghost use Rattle.serde_json.specs.Data.{string};
 ghost use Rattle.serde_json.specs.Find.{get};
 ghost use Rattle.serde_json.specs.View.{view};
-ghost use Rattle.js_syntax.specs.Node.{alone, nothing, literal, expression_statement};
+ghost use Rattle.js_syntax.specs.Kind.{literal, expression_statement};
+ghost use Rattle.js_syntax.specs.Node.{alone, nothing};
 ghost use Rattle.js_syntax.specs.Table as table;
 ghost use Rattle.js_tree.specs.View.{note_at, literal_tree, text_literal_tree, expression_tree, expression_statement_tree, statement_tree, directive_tree};
 ghost use Rattle.tree_text.specs.Answer.{Gives};

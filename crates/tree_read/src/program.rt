@@ -3,7 +3,7 @@ ghost use Rattle.std.specs.Prelude.{◌≡◌, ◌<◌, codes, IfOk, IfErr};
 ghost use Rattle.serde_json.specs.Find.{get};
 ghost use Rattle.serde_json.specs.View.{view, items_view};
 ghost use Rattle.js_syntax.specs.Node.{alone, nowhere};
-ghost use Rattle.js_syntax.specs.Node.{statements as list};
+ghost use Rattle.js_syntax.specs.Kind.{statements as list};
 ghost use Rattle.js_syntax.specs.Table as table;
 ghost use Rattle.js_tree.specs.View.{row, directive_tree, statement_tree, body_row, program_tree};
 ghost use Rattle.tree_text.specs.Answer.{Gives, Fails, IsReadAs, IsCauseOf};

@@ -6,10 +6,12 @@ use Rattle.std.specs.Cmp.Lexicographic.{slice_cmp}
 use Rattle.serde_json.specs.Data.{Num, unsigned, negative, float, Data, null, boolean, string, array, object, Items, no_items, item, Members, no_members, member, depth, items_depth, members_depth}
 use Rattle.serde_json.specs.Data as json
 use Rattle.serde_json.specs.Find.{get, get_member}
-use Rattle.js_syntax.specs.Node.{Kind, Forest, statements}
-use Rattle.js_syntax.specs.Table.{Class, a_prologue, statement, Words, word_named, a_text, a_flag, a_value, a_word, child, maybe, each, each_or_hole, a_body, Field, field, Row, fields_of, Makes, kind_at, type_of, stands}
+use Rattle.js_syntax.specs.Kind.{Kind, statements}
+use Rattle.js_syntax.specs.Node.{Forest}
+use Rattle.js_syntax.specs.Word.{Words, word_named}
+use Rattle.js_syntax.specs.Table.{Class, a_prologue, statement, a_text, a_flag, a_value, a_word, child, maybe, each, each_or_hole, a_body, Field, field, Row, fields_of, Makes, kind_at, type_of, stands}
 use Rattle.js_syntax.specs.Name.{type_named}
-use Rattle.js_syntax.specs.declared.scalar.NodeType.{NodeType}
+use Rattle.js_syntax.specs.declared.node_type.NodeType.{NodeType}
 use Rattle.tree_text.specs.Fault.{Fault, too_deep, unknown_node, bad_field, out_of_range, ◌>>=◌, untyped}
 use Rattle.tree_text.specs.Reading.{Reader, is_object, is_known, known, named, type_at, read_text, read_flag, some_word, read_word, read_number, read_null, read_value, Extra, says_nothing, check_extra, check_flags, check_lists, check_extras, read_child, read_maybe, before, read_items, read_list, is_directive, row_here, with_child, read_body, read_fields, read_row, read_here, read_node}
 

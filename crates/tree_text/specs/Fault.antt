@@ -1,7 +1,7 @@
 -- What is wrong with a JSON value that is no tree.
 use Rattle.std.specs.Prelude.{ℕ, List, Result, Ok, Err, codes}
 use Rattle.js_syntax.specs.Name.{type_name}
-use Rattle.js_syntax.specs.declared.scalar.NodeType.{NodeType}
+use Rattle.js_syntax.specs.declared.node_type.NodeType.{NodeType}
 
 pub data Fault : Type 0 where
   -- the counter of levels ran out, which never happens on what JSON's limit of nesting lets in

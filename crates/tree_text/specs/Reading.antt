@@ -6,12 +6,15 @@ use Rattle.serde_json.specs.Data.{Num, unsigned, negative, float, Data, null, bo
 use Rattle.serde_json.specs.Data as json
 use Rattle.serde_json.specs.Find.{get}
 use Rattle.js_syntax.specs.Name.{type_named}
-use Rattle.js_syntax.specs.Node.{Kind, Value, Note, Forest, nothing, absent, alone, joined, nowhere, statements}
-use Rattle.js_syntax.specs.Node as tree
-use Rattle.js_syntax.specs.Table.{Class, a_prologue, directive_text, statement, Words, Word, word_named, Sort, a_text, a_flag, a_value, a_word, child, maybe, each, each_or_hole, a_body, Field, field, Row, a_directive, fields_of, Makes, kind_at, type_of, stands}
+use Rattle.js_syntax.specs.Kind.{Kind, statements}
+use Rattle.js_syntax.specs.Scalar.{Value}
+use Rattle.js_syntax.specs.Node.{Note, Forest, nothing, absent, alone, joined, nowhere}
+use Rattle.js_syntax.specs.Scalar as tree
+use Rattle.js_syntax.specs.Word.{Words, Word, word_named}
+use Rattle.js_syntax.specs.Table.{Class, a_prologue, directive_text, statement, Sort, a_text, a_flag, a_value, a_word, child, maybe, each, each_or_hole, a_body, Field, field, Row, a_directive, fields_of, Makes, kind_at, type_of, stands}
 use Rattle.js_syntax.specs.Table as table
-use Rattle.js_syntax.specs.declared.scalar.NodeType.{NodeType}
-use Rattle.js_syntax.specs.declared.scalar.NodeType.TheVariants as type
+use Rattle.js_syntax.specs.declared.node_type.NodeType.{NodeType}
+use Rattle.js_syntax.specs.declared.node_type.NodeType.TheVariants as type
 use Rattle.js_syntax.specs.declared.scalar.Span.{Span}
 use Rattle.tree_text.specs.Fault.{Fault, too_deep, unknown_node, out_of_range, ◌>>=◌, fault_of, untyped}
 

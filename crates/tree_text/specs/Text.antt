@@ -4,9 +4,12 @@ use Rattle.serde_json.specs.Data.{Data, null, boolean, string, array, object, It
 use Rattle.serde_json.specs.Data as json
 use Rattle.serde_json.specs.Written.{compact_text}
 use Rattle.js_syntax.specs.Name.{type_name}
-use Rattle.js_syntax.specs.Node.{Kind, Value, Forest, nothing, node, absent, literal}
-use Rattle.js_syntax.specs.Node as tree
-use Rattle.js_syntax.specs.Table.{Sort, a_text, a_flag, a_value, a_word, Field, field, Row, fields_of, type_of, row_of, Scalar, the_text, the_flag, the_value, scalars_of}
+use Rattle.js_syntax.specs.Kind.{Kind, literal}
+use Rattle.js_syntax.specs.Scalar.{Value}
+use Rattle.js_syntax.specs.Node.{Forest, nothing, node, absent}
+use Rattle.js_syntax.specs.Scalar as tree
+use Rattle.js_syntax.specs.Scalar.{Scalar, the_text, the_flag, the_value}
+use Rattle.js_syntax.specs.Table.{Sort, a_text, a_flag, a_value, a_word, Field, field, Row, fields_of, type_of, row_of, scalars_of}
 
 abbrev pub items_of : List Data → Items
 items_of [] = no_items

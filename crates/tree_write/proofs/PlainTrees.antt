@@ -3,9 +3,12 @@ use Rattle.std.proofs.Common.{◌≡◌, ℕ, pos, negsuc, Bool, true, false, Li
 use Rattle.std.specs.Prelude.{codes}
 use Rattle.serde_json.specs.Data.{Data, string, put}
 use Rattle.js_syntax.specs.Name.{type_name}
-use Rattle.js_syntax.specs.Node.{Kind, Value, Forest, nothing, node, absent, program, directive, literal, total}
-use Rattle.js_syntax.specs.Node as tree
-use Rattle.js_syntax.specs.Table.{Field, field, a_text, a_flag, a_value, a_word, child, maybe, each, each_or_hole, a_body, Row, fields_of, type_of, row_of, Scalar, scalars_of}
+use Rattle.js_syntax.specs.Kind.{Kind, program, directive, literal}
+use Rattle.js_syntax.specs.Scalar.{Value}
+use Rattle.js_syntax.specs.Node.{Forest, nothing, node, absent, total}
+use Rattle.js_syntax.specs.Scalar as tree
+use Rattle.js_syntax.specs.Scalar.{Scalar}
+use Rattle.js_syntax.specs.Table.{Field, field, a_text, a_flag, a_value, a_word, child, maybe, each, each_or_hole, a_body, Row, fields_of, type_of, row_of, scalars_of}
 use Rattle.tree_text.specs.Text.{items_of, value_data, scalar_data, first_or_null, others, members_of, row_data, node_data, row_datas, data_of}
 use Rattle.tree_write.specs.Readable.{value_unread, unread}
 use Rattle.tree_write.proofs.Plain.{IsPlain, AreItemsPlain, AreMembersPlain, AreMembersPlain-put}

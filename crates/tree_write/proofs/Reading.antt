@@ -3,10 +3,14 @@ use Rattle.std.proofs.Common.{◌≡◌, ℕ, zero, suc, ◌+◌, ◌-◌, ◌<�
 use Rattle.json.specs.Lex.{tokens}
 use Rattle.serde_json.specs.Data.{Data, depth, items_depth}
 use Rattle.js_syntax.specs.Name.{type_named}
-use Rattle.js_syntax.specs.Node.{Value, Note, Forest, nothing, node, absent, alone, joined, bare, total, nowhere, literal, statements}
-use Rattle.js_syntax.specs.Node as tree
-use Rattle.js_syntax.specs.Table.{Class, a_prologue, statement, expression, directive_text, root, stands, source_type_name, source_type_named}
-use Rattle.js_syntax.specs.declared.scalar.NodeType.TheVariants as type
+use Rattle.js_syntax.specs.Kind.{literal, statements}
+use Rattle.js_syntax.specs.Kind as kind
+use Rattle.js_syntax.specs.Scalar.{Value}
+use Rattle.js_syntax.specs.Node.{Note, Forest, nothing, node, absent, alone, joined, bare, total, nowhere}
+use Rattle.js_syntax.specs.Scalar as tree
+use Rattle.js_syntax.specs.Word.{source_types, source_type_name, word_named}
+use Rattle.js_syntax.specs.Table.{Class, a_prologue, statement, expression, directive_text, root, stands}
+use Rattle.js_syntax.specs.declared.node_type.NodeType.TheVariants as type
 use Rattle.js_syntax.specs.declared.scalar.SourceType.{SourceType}
 use Rattle.js_syntax.specs.declared.scalar.SourceType.TheVariants.{Module, Script, CommonJs}
 use Rattle.js_tree.specs.View.{note_at, row, text_literal_tree, literal_tree, expression_tree, expression_statement_tree, statement_tree, directive_tree, body_row, program_tree}
@@ -92,7 +96,7 @@ unfolding fields_read
 expression_statement_read n bad s deep h =
     let some : 0 < n = omega arith in
     rw (read_node_more, expression_read (n - 1) (fault_of type.ExpressionStatement (codes "expression")) s.expression (omega arith) (omega arith))
-    (ap (λ below. Ok (alone tree.expression_statement nowhere below)) (joined_nothing (bare (expression_tree s.expression))))
+    (ap (λ below. Ok (alone kind.expression_statement nowhere below)) (joined_nothing (bare (expression_tree s.expression))))
 
 statement_read : (n : ℕ) (bad : Fault) (s : Statement) → depth (data_of (statement_tree s)) ≤ n → total unread (statement_tree s) ≡ 0
     → read_node n statement bad (data_of (statement_tree s)) ≡ Ok (bare (statement_tree s))
@@ -142,8 +146,8 @@ body_read n bad (d ∷ ds) ss deep h = rw (is_a_directive, directive_read n bad 
 
 -- ---- the program
 
-word_read : (t : SourceType) → source_type_named (source_type_name t) ≡ Some t
-unfolding source_type_named
+word_read : (t : SourceType) → word_named source_types (source_type_name t) ≡ Some t
+unfolding word_named
 word_read Module = refl
 word_read Script = refl
 word_read CommonJs = refl

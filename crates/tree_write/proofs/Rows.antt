@@ -5,7 +5,8 @@ use Rattle.json.specs.Token.{Token, begin_array, end_array}
 use Rattle.json.specs.Tree.{json_tokens, items_tokens}
 use Rattle.serde_json.specs.Data.{Data, null}
 use Rattle.serde_json.specs.Written.{outline, items_outline}
-use Rattle.js_syntax.specs.Node.{Forest, nothing, node, absent, alone, joined, nowhere, statements}
+use Rattle.js_syntax.specs.Kind.{statements}
+use Rattle.js_syntax.specs.Node.{Forest, nothing, node, absent, alone, joined, nowhere}
 use Rattle.js_tree.specs.View.{row, directive_tree, statement_tree, body_row}
 use Rattle.js_tree.specs.declared.tree.Directive.{Directive}
 use Rattle.js_tree.specs.declared.tree.Statement.{Statement}

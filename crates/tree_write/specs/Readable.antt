@@ -2,7 +2,9 @@
 use Rattle.std.specs.Prelude.{◌≡◌, ◌≤◌, ℕ, ◌^◌, pos, negsuc, nat_lt, if◌then◌else◌}
 use Rattle.serde_json.specs.Data.{depth}
 use Rattle.serde_json.specs.Read.{max_depth}
-use Rattle.js_syntax.specs.Node.{Kind, Value, number, literal, Forest, total}
+use Rattle.js_syntax.specs.Kind.{Kind, literal}
+use Rattle.js_syntax.specs.Scalar.{Value, number}
+use Rattle.js_syntax.specs.Node.{Forest, total}
 use Rattle.tree_text.specs.Text.{data_of}
 
 -- 1 for a number that isn't read back: a negative one is written as a unary minus, which is no literal, and past

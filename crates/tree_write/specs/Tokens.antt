@@ -6,8 +6,8 @@ use Rattle.json.specs.Written.{Written}
 use Rattle.serde_json.specs.Written.{outline}
 use Rattle.js_syntax.specs.Name.{type_name}
 use Rattle.js_syntax.specs.Node.{Forest}
-use Rattle.js_syntax.specs.declared.scalar.NodeType.{NodeType}
-use Rattle.js_syntax.specs.declared.scalar.NodeType.TheVariants.{Literal}
+use Rattle.js_syntax.specs.declared.node_type.NodeType.{NodeType}
+use Rattle.js_syntax.specs.declared.node_type.NodeType.TheVariants.{Literal}
 use Rattle.tree_text.specs.Text.{data_of}
 
 -- the tokens of a node's JSON

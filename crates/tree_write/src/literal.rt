@@ -2,7 +2,8 @@
 ghost use Rattle.std.specs.Prelude.{[]};
 ghost use Rattle.json.specs.Tree.{json_tokens};
 ghost use Rattle.serde_json.specs.Written.{outline};
-ghost use Rattle.js_syntax.specs.Node.{null, boolean, number, literal};
+ghost use Rattle.js_syntax.specs.Kind.{literal};
+ghost use Rattle.js_syntax.specs.Scalar.{null, boolean, number};
 ghost use Rattle.js_tree.specs.View.{text_literal_tree, literal_tree};
 ghost use Rattle.tree_text.specs.Text.{whole_number, minus, node_data};
 ghost use Rattle.tree_write.specs.Tokens.{tokens_of, type_tokens, literal_head, Appends};

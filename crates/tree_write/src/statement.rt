@@ -1,14 +1,12 @@
 // Statements and what holds them.
 ghost use Rattle.std.specs.Prelude.{◌≡◌, flat_map};
-ghost use Rattle.js_syntax.specs.Node.{alone, nothing, nowhere, empty_statement, debugger_statement, statements};
-ghost use Rattle.js_syntax.specs.Table.{source_type_name};
+ghost use Rattle.js_syntax.specs.Kind.{empty_statement, debugger_statement, statements};
+ghost use Rattle.js_syntax.specs.Node.{alone, nothing, nowhere};
 ghost use Rattle.js_tree.specs.View.{directive_tree, statement_tree, expression_statement_tree, expression_tree, body_row, program_tree};
 ghost use Rattle.tree_write.specs.Tokens.{tokens_of, Appends};
 
 use crate::literal::{write_literal, write_text_literal, write_type};
-use js_tree::{
-    Directive, Expression, ExpressionStatement, NodeType, Program, SourceType, Statement,
-};
+use js_tree::{Directive, Expression, ExpressionStatement, NodeType, Program, Statement};
 use json::Writer;
 use std::alloc::AllocError;
 
@@ -103,16 +101,6 @@ fn write_body(out: &mut Writer, program: &Program) -> Result<(), AllocError>
     Ok(())
 }
 
-fn name_of(source_type: SourceType) -> &'static str
-    ensures { result.now ≡ source_type_name source_type }
-{
-    match source_type {
-        SourceType::Module => "module",
-        SourceType::Script => "script",
-        SourceType::CommonJs => "commonjs",
-    }
-}
-
 pub(crate) fn write_program(out: &mut Writer, program: &Program) -> Result<(), AllocError>
     ensures { Appends result out.old out.new (tokens_of (program_tree program.now)) }
 {
@@ -120,7 +108,7 @@ pub(crate) fn write_program(out: &mut Writer, program: &Program) -> Result<(), A
     out.key("body")?;
     write_body(out, program)?;
     out.key("sourceType")?;
-    out.string(name_of(program.source_type))?;
+    out.string(program.source_type.as_str())?;
     write_type(out, NodeType::Program)?;
     out.end_object()?;
     Ok(())

@@ -1,0 +1,4 @@
+pub mod Computes
+pub mod Same
+pub mod Depth
+pub mod Kept

@@ -1,0 +1,17 @@
+pub mod Value
+pub mod Trace
+pub mod State
+pub mod Show
+pub mod Operator
+pub mod Scope
+pub mod Host
+pub mod Reference
+pub mod Node
+pub mod Expression
+pub mod Statement
+pub mod Module
+pub mod Meaning
+pub mod Run
+pub mod Kept
+pub mod Samples
+pub mod Examples
