@@ -1,10 +1,11 @@
 -- The depth to which entries may nest is never seen: the budget runs out first.
 use Rattle.std.proofs.Common.{◌≡◌, ℕ, zero, suc, ◌≤◌, List, [], ◌∷◌, Option, Some, None, refl, ap, sym, subst, arith}
 use Rattle.std.specs.Prelude.{Bool, true, false, ◌||◌, ℤ, pos, ◌+ℤ◌, ◌-ℤ◌, ◌*ℤ◌, neg_ℤ, int_div, int_rem}
-use Rattle.js_syntax.specs.Kind.{Kind}
+use Rattle.js_syntax.specs.declared.node_kind.NodeKind.{NodeKind as Kind}
 use Rattle.js_syntax.specs.Facts.{is_core}
 use Rattle.js_syntax.specs.Node.{Forest, nothing, node, absent}
-use Rattle.js_syntax.specs.Scalar.{Key, key_name, key_text, key_number, key_below}
+use Rattle.js_syntax.specs.declared.value.Key.{Key}
+use Rattle.js_syntax.specs.declared.value.Key.TheVariants.{Name as key_name, Text as key_text, Number as key_number, Below as key_below}
 use Rattle.js_syntax.specs.declared.scalar.SourceType.TheVariants as source_type
 use Rattle.js_syntax.specs.declared.kind.FunctionKind.{FunctionKind}
 use Rattle.js_syntax.specs.declared.kind.FunctionKind.TheVariants as function_kind
@@ -22,18 +23,18 @@ use Rattle.js_syntax.specs.declared.operator.AssignmentOperator.{AssignmentOpera
 use Rattle.js_syntax.specs.declared.operator.AssignmentOperator.TheVariants as assignment
 use Rattle.js_meaning.specs.Value.{Text, Slot, local, imported, arguments_object, Env, this_name, Value, Plain, plain, undefined, null, boolean, number, text, host, closure, object, array, error}
 use Rattle.js_meaning.specs.Trace.{Act, Move, call_own, set_global_to, remove_global, set_import_to, answer, refuse, Script, Ending, ended}
-use Rattle.js_meaning.specs.State.{State, Cell, cell, Place, at_slot, at_global, at_member, Completion, normal, gives, gives_all, refers, breaks, continues, returns, throws, Out, goes, stops, M, stop, spend_from, spend}
-use Rattle.js_meaning.specs.Operator.{is_negative, binary_of, unary_of, on_number, on_numbers, updated, truthy, is_object, is_boolean, whole, signed, plus_plain, joined, is_text, plain_text, loosely, answer_is, answer_not}
-use Rattle.js_meaning.specs.Scope.{look}
+use Rattle.js_meaning.specs.State.{State, Cell, cell, Place, at_slot, at_global, at_member, Completion, normal, gives, gives_all, refers, breaks, continues, returns, throws, Out, goes, stops, M, done, stop, unknown, give, choose, raise, spend_from, spend}
+use Rattle.js_meaning.specs.Operator.{int_eq, is_zero, is_negative, binary_of, unary_of, on_number, on_numbers, updated, truthy, is_object, is_boolean, goes_right, whole, signed, plus_plain, joined, is_text, plain_text, loosely, answer_is, answer_not, is_nullish, same_type, strictly_equal, times, divided, remainder}
+use Rattle.js_meaning.specs.Scope.{look, declare, start, fill}
 use Rattle.js_meaning.specs.Host.{Loop, while_loop, do_loop, for_loop, Task, body, turn, called_back, Enter, call_back, moves_end, answered, play, host_moves, consult, only, report}
 use Rattle.js_meaning.specs.Reference.{Global, the_undefined, no_whole_number, usual, global_named, if_set, cell_value, slot_value, if_there, global_value, name_value, or_undefined, typeof_name, assign_cell, assign_import, assign_slot, assign_present, assign_global, name_place, get_member, set_member, get_place, put_place}
-use Rattle.js_meaning.specs.Node.{itself, to_call, for_typeof, Ask, run, value, place, take, take_all, declares, collect, entry, matches, now, Meaning, Parts, need, may, each, values, all_values, value_or_undefined, ask_maybe}
+use Rattle.js_meaning.specs.Node.{Wanted, itself, to_call, for_typeof, Ask, run, value, place, take, take_all, declares, collect, entry, matches, now, Meaning, Parts, need, may, each, values, all_values, value_or_undefined, ask_maybe, first_ask}
 use Rattle.js_meaning.specs.Expression.{call_value, construct_value, binary_value, logical_value, member_key, member_place, then_put, compound, short, assign, update_gives, update_place, fill_own, function_value, in_turn}
-use Rattle.js_meaning.specs.Statement.{after_label, declarator, after_turn, enter_if, test_for, test_then, turn_does, after_init, for_does, case_is, choose_case, case_test, after_switch, after_block, after_finally, try_does, take_maybe, catch_does}
+use Rattle.js_meaning.specs.Statement.{after_label, declarator, after_turn, has_label, enter_if, test_for, test_then, turn_does, after_init, for_does, case_is, choose_case, case_test, after_switch, after_block, after_finally, try_does, take_maybe, catch_does}
 use Rattle.js_meaning.specs.Module.{load_all}
 use Rattle.js_meaning.specs.Meaning.{take_each, default_does, does, if_core, eval, take_this, run_code, after_call, enter_body, task_does, enter}
 use Rattle.js_meaning.specs.Run.{finish, finally, module_does, program_does, first_state, seen, run_within, run as run_of}
-use Rattle.js_meaning.proofs.Same.{Leaves, Alike, Same, same_done, same_stop, same_bind, same_choose, same_seq, same_receiver, same_value, same_all, same_place, same_read, same_store, same_identity, same_raise, same_get_global, same_set_global, same_get_import, same_set_import, same_with_moves, same_set_moves, same_compare, same_show, same_show_all, same_shown_exports, same_emit, same_resolve, same_resolve_all, same_resolve_maybe, same_declare, same_fill, same_start, same_copy, same_entries, same_set_exports}
+use Rattle.js_meaning.proofs.Same.{Leaves, Alike, Same, same_done, same_stop, same_bind, same_choose, same_seq, same_receiver, same_value, same_all, same_place, same_alloc, same_read, same_store, same_identity, same_raise, same_get_global, same_set_global, same_get_import, same_set_import, same_with_moves, same_set_moves, same_compare, same_show, same_show_all, same_shown_exports, same_emit, same_resolve, same_resolve_all, same_resolve_maybe, same_declare, same_fill, same_start, same_copy, same_entries, same_set_exports}
 
 -- what says nothing of an entry does the same as itself
 
@@ -354,7 +355,7 @@ same_member key env r h = same_need r (λ _ _ _ _ m r. same_value (m.asked now e
 same_default : {b : ℕ} {m n : Meaning} (a : Forest) (env : Env) → SameMeaning b m n → Same b (default_does a m env) (default_does a n env)
 same_default nothing env m = same_value (m.asked now env) (λ v. same_fill _ v (same_done _))
 same_default (absent r) env m = same_value (m.asked now env) (λ v. same_fill _ v (same_done _))
-same_default (node (Kind.function function_kind.Declaration pure) n a r) env m = same_done _
+same_default (node (Kind.Function function_kind.Declaration pure) n a r) env m = same_done _
 same_default (node _ n a r) env m = same_value (m.asked now env) (λ v. same_fill _ v (same_done _))
 
 same_fill_own : {b : ℕ} {m n : M} (o : Option Text) (env : Env) (v : Value) → Same b m n → Same b (fill_own o env v m) (fill_own o env v n)
@@ -520,66 +521,66 @@ same_for e a ls env c = same_declare _ env (λ env. same_may c (λ _ _ _ _ i r. 
 -- each node
 
 same_does : {b : ℕ} {E F : Enter} {ms ns : Parts} → Enters b E F → (k : Kind) (a : Forest) → SameParts b ms ns → (q : Ask) (env : Env) → Same b (does E k a ms q env) (does F k a ns q env)
-same_does e Kind.statements a c (run ls) env = same_each _ env c
-same_does e (Kind.directive written) a c (run ls) env = same_done _
-same_does e Kind.empty_statement a c (run ls) env = same_done _
-same_does e Kind.debugger_statement a c (run ls) env = same_done _
-same_does e Kind.expression_statement a c (run ls) env = same_need c (λ _ _ _ _ m r. same_value (m.asked now env) (λ v. same_done _))
-same_does e Kind.block_statement a c (run ls) env = same_declare _ env (λ env. same_start a env (same_need c (λ _ _ _ _ m r. m.asked _ env)))
-same_does e Kind.if_statement a c (run ls) env = same_need c (λ _ _ _ _ t r. same_need r (λ _ _ _ _ m r. same_may r (λ _ _ _ _ d r. same_value (t.asked now env) (λ v. same_choose _ (m.asked _ env) (same_ask _ env d)))))
-same_does e Kind.return_statement a c (run ls) env = same_may c (λ _ _ _ _ o r. same_or_undef env o (λ v. same_done _))
-same_does e Kind.throw_statement a c (run ls) env = same_need c (λ _ _ _ _ m r. same_value (m.asked now env) (λ v. same_done _))
-same_does e (Kind.break_statement label) a c (run ls) env = same_done _
-same_does e (Kind.continue_statement label) a c (run ls) env = same_done _
-same_does e (Kind.labeled_statement l) a c (run ls) env = same_need c (λ _ _ _ _ m r. same_bind (m.asked _ env) (same_after_label l))
-same_does e Kind.while_statement a c (run ls) env = same_test_then e while_loop a ls env c
-same_does e Kind.do_while_statement a c (run ls) env = e.does _
-same_does e Kind.for_statement a c (run ls) env = same_for e a ls env c
-same_does e Kind.switch_statement a c (run ls) env = same_need c (λ _ _ _ _ d r. same_need r (λ _ _ _ _ m r. same_value (d.asked now env) (λ v. same_bind (m.asked _ env) same_after_switch)))
-same_does e Kind.cases a c (matches v) env = same_declare _ env (λ env. same_start a env (same_choose_case v env c (same_done _)))
-same_does e Kind.switch_case a c (matches v) env = same_may c (λ _ _ _ _ t r. same_case_test v env t)
-same_does e Kind.switch_case a c (run ls) env = same_may c (λ _ _ _ _ t r. same_need r (λ _ _ _ _ m r. m.asked _ env))
-same_does e Kind.try_statement a c (run ls) env = same_need c (λ _ _ _ _ m r. same_may r (λ _ _ _ _ h r. same_may r (λ _ _ _ _ f r. same_try env m h f)))
-same_does e Kind.catch_clause a c (take v) env = same_catch a v env c
-same_does e (Kind.variable_declaration how) a c (run ls) env = same_need c (λ _ _ _ _ m r. m.asked _ env)
-same_does e Kind.declarators a c (declares how) env = same_each _ env c
-same_does e Kind.variable_declarator a c (declares how) env = same_need c (λ _ _ _ _ m r. same_may r (λ _ _ _ _ i r. same_declarator how env m i))
-same_does e (Kind.binding_name x) a c (take v) env = same_fill _ v (same_done _)
-same_does e (Kind.function function_kind.Declaration pure) a c (run ls) env = same_done _
-same_does e Kind.function_body a c (run ls) env = same_need c (λ _ _ _ _ m r. m.asked _ env)
-same_does e Kind.parameters a c (take_all vs) env = same_take_each vs env c
-same_does e (Kind.import_declaration source) a c (run ls) env = same_done _
-same_does e (Kind.export_named_declaration source) a c (run ls) env = same_may c (λ _ _ _ _ m r. same_ask _ env m)
-same_does e Kind.export_default_declaration a c (run ls) env = same_need c (λ _ _ _ _ m r. same_default a env m)
-same_does e (Kind.export_all_declaration name source) a c (run ls) env = same_done _
-same_does e Kind.this_expression a c (value w) env = same_name_value (look env this_name) this_name
-same_does e (Kind.reference_name x) a c (value for_typeof) env = same_typeof_name (look env x) x
-same_does e (Kind.reference_name x) a c (value itself) env = same_name_value (look env x) x
-same_does e (Kind.reference_name x) a c (value to_call) env = same_name_value (look env x) x
-same_does e (Kind.literal v) a c (value w) env = same_done _
-same_does e (Kind.function function_kind.Expression pure) a c (value w) env = same_function function_kind.Expression a env
-same_does e (Kind.function function_kind.Arrow pure) a c (value w) env = same_function function_kind.Arrow a env
-same_does e Kind.array_expression a c (value w) env = same_need c (λ _ _ _ _ m r. same_all (m.asked collect env) (λ vs. same_identity (λ i. same_done _)))
-same_does e Kind.object_expression a c (value w) env = same_need c (λ _ _ _ _ m r. same_all (m.asked collect env) (λ vs. same_identity (λ i. same_done _)))
-same_does e (Kind.property how method key) a c entry env = same_may c (λ _ _ _ _ k r. same_need r (λ _ _ _ _ m r. m.asked now env))
-same_does e Kind.elements a c collect env = same_all_values now env c
-same_does e Kind.properties a c collect env = same_all_values entry env c
-same_does e Kind.arguments a c collect env = same_all_values now env c
-same_does e Kind.parenthesized_expression a c (value w) env = same_need c (λ _ _ _ _ m r. m.asked _ env)
-same_does e Kind.parenthesized_expression a c place env = same_need c (λ _ _ _ _ m r. m.asked _ env)
-same_does e Kind.sequence_expression a c (value w) env = same_need c (λ _ _ _ _ m r. m.asked _ env)
-same_does e Kind.expressions a c (value w) env = same_in_turn env c
-same_does e (Kind.unary_expression o) a c (value w) env = same_need c (λ _ _ _ _ m r. same_value (m.asked _ env) (same_unary o))
-same_does e (Kind.update_expression o prefix) a c (value w) env = same_need c (λ _ _ _ _ t r. same_place (t.asked _ env) (same_update e o prefix))
-same_does e (Kind.binary_expression o) a c (value w) env = same_need c (λ _ _ _ _ l r. same_need r (λ _ _ _ _ m r. same_value (l.asked now env) (λ v. same_value (m.asked now env) (same_binary_value e o v))))
-same_does e (Kind.logical_expression o) a c (value w) env = same_need c (λ _ _ _ _ l r. same_need r (λ _ _ _ _ m r. same_value (l.asked now env) (λ v. same_logical o v (same_value (m.asked now env) (λ u. same_done _)))))
-same_does e (Kind.assignment_expression o) a c (value w) env = same_need c (λ _ _ _ _ t r. same_need r (λ _ _ _ _ m r. same_place (t.asked _ env) (λ p. same_assign e o p (m.asked now env))))
-same_does e Kind.conditional_expression a c (value w) env = same_need c (λ _ _ _ _ t r. same_need r (λ _ _ _ _ m r. same_need r (λ _ _ _ _ d r. same_value (t.asked now env) (λ v. same_choose _ (m.asked now env) (d.asked now env)))))
-same_does e (Kind.call_expression false pure) a c (value w) env = same_need c (λ _ _ _ _ m r. same_need r (λ _ _ _ _ args r. same_receiver (m.asked _ env) (λ f this. same_all (args.asked collect env) (same_call e f this))))
-same_does e (Kind.new_expression pure) a c (value w) env = same_need c (λ _ _ _ _ m r. same_need r (λ _ _ _ _ args r. same_value (m.asked now env) (λ f. same_all (args.asked collect env) (same_construct e f))))
-same_does e (Kind.member_expression key false) a c (value w) env = same_member key env c (λ o k. same_value (same_get e o k) (λ v. same_done _))
-same_does e (Kind.member_expression key false) a c place env = same_member key env c (λ o k. same_done _)
-same_does e (Kind.target_name x) a c place env = same_name_place (look env x) x
+same_does e Kind.Statements a c (run ls) env = same_each _ env c
+same_does e (Kind.Directive written) a c (run ls) env = same_done _
+same_does e Kind.EmptyStatement a c (run ls) env = same_done _
+same_does e Kind.DebuggerStatement a c (run ls) env = same_done _
+same_does e Kind.ExpressionStatement a c (run ls) env = same_need c (λ _ _ _ _ m r. same_value (m.asked now env) (λ v. same_done _))
+same_does e Kind.BlockStatement a c (run ls) env = same_declare _ env (λ env. same_start a env (same_need c (λ _ _ _ _ m r. m.asked _ env)))
+same_does e Kind.IfStatement a c (run ls) env = same_need c (λ _ _ _ _ t r. same_need r (λ _ _ _ _ m r. same_may r (λ _ _ _ _ d r. same_value (t.asked now env) (λ v. same_choose _ (m.asked _ env) (same_ask _ env d)))))
+same_does e Kind.ReturnStatement a c (run ls) env = same_may c (λ _ _ _ _ o r. same_or_undef env o (λ v. same_done _))
+same_does e Kind.ThrowStatement a c (run ls) env = same_need c (λ _ _ _ _ m r. same_value (m.asked now env) (λ v. same_done _))
+same_does e (Kind.BreakStatement label) a c (run ls) env = same_done _
+same_does e (Kind.ContinueStatement label) a c (run ls) env = same_done _
+same_does e (Kind.LabeledStatement l) a c (run ls) env = same_need c (λ _ _ _ _ m r. same_bind (m.asked _ env) (same_after_label l))
+same_does e Kind.WhileStatement a c (run ls) env = same_test_then e while_loop a ls env c
+same_does e Kind.DoWhileStatement a c (run ls) env = e.does _
+same_does e Kind.ForStatement a c (run ls) env = same_for e a ls env c
+same_does e Kind.SwitchStatement a c (run ls) env = same_need c (λ _ _ _ _ d r. same_need r (λ _ _ _ _ m r. same_value (d.asked now env) (λ v. same_bind (m.asked _ env) same_after_switch)))
+same_does e Kind.Cases a c (matches v) env = same_declare _ env (λ env. same_start a env (same_choose_case v env c (same_done _)))
+same_does e Kind.SwitchCase a c (matches v) env = same_may c (λ _ _ _ _ t r. same_case_test v env t)
+same_does e Kind.SwitchCase a c (run ls) env = same_may c (λ _ _ _ _ t r. same_need r (λ _ _ _ _ m r. m.asked _ env))
+same_does e Kind.TryStatement a c (run ls) env = same_need c (λ _ _ _ _ m r. same_may r (λ _ _ _ _ h r. same_may r (λ _ _ _ _ f r. same_try env m h f)))
+same_does e Kind.CatchClause a c (take v) env = same_catch a v env c
+same_does e (Kind.VariableDeclaration how) a c (run ls) env = same_need c (λ _ _ _ _ m r. m.asked _ env)
+same_does e Kind.Declarators a c (declares how) env = same_each _ env c
+same_does e Kind.VariableDeclarator a c (declares how) env = same_need c (λ _ _ _ _ m r. same_may r (λ _ _ _ _ i r. same_declarator how env m i))
+same_does e (Kind.BindingName x) a c (take v) env = same_fill _ v (same_done _)
+same_does e (Kind.Function function_kind.Declaration pure) a c (run ls) env = same_done _
+same_does e Kind.FunctionBody a c (run ls) env = same_need c (λ _ _ _ _ m r. m.asked _ env)
+same_does e Kind.Parameters a c (take_all vs) env = same_take_each vs env c
+same_does e (Kind.ImportDeclaration source) a c (run ls) env = same_done _
+same_does e (Kind.ExportNamedDeclaration source) a c (run ls) env = same_may c (λ _ _ _ _ m r. same_ask _ env m)
+same_does e Kind.ExportDefaultDeclaration a c (run ls) env = same_need c (λ _ _ _ _ m r. same_default a env m)
+same_does e (Kind.ExportAllDeclaration name source) a c (run ls) env = same_done _
+same_does e Kind.ThisExpression a c (value w) env = same_name_value (look env this_name) this_name
+same_does e (Kind.ReferenceName x) a c (value for_typeof) env = same_typeof_name (look env x) x
+same_does e (Kind.ReferenceName x) a c (value itself) env = same_name_value (look env x) x
+same_does e (Kind.ReferenceName x) a c (value to_call) env = same_name_value (look env x) x
+same_does e (Kind.Literal v) a c (value w) env = same_done _
+same_does e (Kind.Function function_kind.Expression pure) a c (value w) env = same_function function_kind.Expression a env
+same_does e (Kind.Function function_kind.Arrow pure) a c (value w) env = same_function function_kind.Arrow a env
+same_does e Kind.ArrayExpression a c (value w) env = same_need c (λ _ _ _ _ m r. same_all (m.asked collect env) (λ vs. same_identity (λ i. same_done _)))
+same_does e Kind.ObjectExpression a c (value w) env = same_need c (λ _ _ _ _ m r. same_all (m.asked collect env) (λ vs. same_identity (λ i. same_done _)))
+same_does e (Kind.Property how method key) a c entry env = same_may c (λ _ _ _ _ k r. same_need r (λ _ _ _ _ m r. m.asked now env))
+same_does e Kind.Elements a c collect env = same_all_values now env c
+same_does e Kind.Properties a c collect env = same_all_values entry env c
+same_does e Kind.Arguments a c collect env = same_all_values now env c
+same_does e Kind.ParenthesizedExpression a c (value w) env = same_need c (λ _ _ _ _ m r. m.asked _ env)
+same_does e Kind.ParenthesizedExpression a c place env = same_need c (λ _ _ _ _ m r. m.asked _ env)
+same_does e Kind.SequenceExpression a c (value w) env = same_need c (λ _ _ _ _ m r. m.asked _ env)
+same_does e Kind.Expressions a c (value w) env = same_in_turn env c
+same_does e (Kind.UnaryExpression o) a c (value w) env = same_need c (λ _ _ _ _ m r. same_value (m.asked _ env) (same_unary o))
+same_does e (Kind.UpdateExpression o prefix) a c (value w) env = same_need c (λ _ _ _ _ t r. same_place (t.asked _ env) (same_update e o prefix))
+same_does e (Kind.BinaryExpression o) a c (value w) env = same_need c (λ _ _ _ _ l r. same_need r (λ _ _ _ _ m r. same_value (l.asked now env) (λ v. same_value (m.asked now env) (same_binary_value e o v))))
+same_does e (Kind.LogicalExpression o) a c (value w) env = same_need c (λ _ _ _ _ l r. same_need r (λ _ _ _ _ m r. same_value (l.asked now env) (λ v. same_logical o v (same_value (m.asked now env) (λ u. same_done _)))))
+same_does e (Kind.AssignmentExpression o) a c (value w) env = same_need c (λ _ _ _ _ t r. same_need r (λ _ _ _ _ m r. same_place (t.asked _ env) (λ p. same_assign e o p (m.asked now env))))
+same_does e Kind.ConditionalExpression a c (value w) env = same_need c (λ _ _ _ _ t r. same_need r (λ _ _ _ _ m r. same_need r (λ _ _ _ _ d r. same_value (t.asked now env) (λ v. same_choose _ (m.asked now env) (d.asked now env)))))
+same_does e (Kind.CallExpression false pure) a c (value w) env = same_need c (λ _ _ _ _ m r. same_need r (λ _ _ _ _ args r. same_receiver (m.asked _ env) (λ f this. same_all (args.asked collect env) (same_call e f this))))
+same_does e (Kind.NewExpression pure) a c (value w) env = same_need c (λ _ _ _ _ m r. same_need r (λ _ _ _ _ args r. same_value (m.asked now env) (λ f. same_all (args.asked collect env) (same_construct e f))))
+same_does e (Kind.MemberExpression key false) a c (value w) env = same_member key env c (λ o k. same_value (same_get e o k) (λ v. same_done _))
+same_does e (Kind.MemberExpression key false) a c place env = same_member key env c (λ o k. same_done _)
+same_does e (Kind.TargetName x) a c place env = same_name_place (look env x) x
 same_does e _ a c _ env = same_stop _
 
 same_if_core : {b : ℕ} {m n : Meaning} (t : Bool) → SameMeaning b m n → SameMeaning b (if_core t m) (if_core t n)
@@ -664,7 +665,7 @@ same_module e a =
     same_bind (same_bind (same_declare _ [] (λ env. same_entries _ env (λ es. same_set_exports _ _ (same_start a env (same_seq (same_load e _) (same_each _ env (same_eval e a))))))) (same_finish e)) same_finally
 
 same_program : {b : ℕ} {E F : Enter} → Enters b E F → (t : Forest) → Same b (program_does E t) (program_does F t)
-same_program e (node (Kind.program source_type.Module) n (node Kind.statements m a nothing) nothing) = same_module e a
+same_program e (node (Kind.Program source_type.Module) n (node Kind.Statements m a nothing) nothing) = same_module e a
 same_program e _ = same_stop _
 
 -- With any depth of at least the bound a run is the same.

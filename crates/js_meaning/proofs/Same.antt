@@ -1,14 +1,15 @@
 -- Two computations that do the same from every state with a budget of at most `b`, and leave no more than that. The
 -- acts keep it.
-use Rattle.std.proofs.Common.{◌≡◌, ℕ, ◌≤◌, List, [], ◌∷◌, Option, Some, None, refl, ap, ◌∙◌}
+use Rattle.std.proofs.Common.{◌≡◌, ℕ, zero, suc, ◌≤◌, List, [], ◌∷◌, ◌++◌, Option, Some, None, refl, ap, ◌∙◌, arith}
 use Rattle.std.specs.Prelude.{Bool, true, false}
-use Rattle.js_syntax.specs.Kind.{Kind}
+use Rattle.js_syntax.specs.declared.node_kind.NodeKind.{NodeKind as Kind}
 use Rattle.js_syntax.specs.Node.{Forest, nothing, node, absent}
+use Rattle.js_syntax.specs.declared.kind.FunctionKind.{FunctionKind}
 use Rattle.js_syntax.specs.declared.kind.FunctionKind.TheVariants as function_kind
-use Rattle.js_meaning.specs.Value.{Text, Slot, local, imported, arguments_object, bound, Env, Value, plain, closure, object, array, error, Content, no_content, element, property, ErrorKind, Given, Sort, Shown, Parts, shows, shows_at}
+use Rattle.js_meaning.specs.Value.{Text, Slot, local, imported, arguments_object, Bound, bound, Env, Value, plain, closure, object, array, error, Content, no_content, element, property, ErrorKind, Given, given, given_own, Sort, Shown, Parts, shows, shows_at}
 use Rattle.js_meaning.specs.Trace.{Act, ShownExport, ShownExports, Event, Move, Ending}
-use Rattle.js_meaning.specs.State.{State, Cell, cell, Export, export, Place, Completion, normal, gives, gives_all, refers, breaks, continues, returns, throws, Out, goes, stops, M, more, go_on, bind, done, stop, choose, if_normal, seq, if_gives, with_receiver, with_value, if_gives_all, with_all, if_refers, with_place, alloc, read, store, identity, raise, get_global, set_global, get_import, set_import, with_moves, set_moves, with_exports, set_exports, put_event}
-use Rattle.js_meaning.specs.Show.{After, number_of, show_own, show_in, show_content, show, show_all, show_cell, show_export, show_exports, with_shown_exports, emit, named, if_some, resolve, resolve_all, resolve_maybe}
+use Rattle.js_meaning.specs.State.{State, Cell, cell, Export, export, Place, Completion, normal, gives, gives_all, refers, breaks, continues, returns, throws, Out, goes, stops, M, more, go_on, bind, done, stop, unknown, give, choose, if_normal, seq, if_gives, with_receiver, with_value, if_gives_all, with_all, if_refers, with_place, alloc, read, store, identity, raise, get_global, set_global, get_import, set_import, with_moves, set_moves, with_exports, set_exports, put_event}
+use Rattle.js_meaning.specs.Show.{After, number_of, show_own, holds_nothing, error_sort, show_in, show_content, show, show_all, show_cell, show_export, show_exports, with_shown_exports, emit, named, if_some, resolve, resolve_all, resolve_maybe}
 use Rattle.js_meaning.specs.Operator.{compare}
 use Rattle.js_meaning.specs.Scope.{Way, waiting, ready, linked, left_out, Decl, decl, first_name, name_or_default, look, with_slot, declare, initialised, fill, start_function, start_default, start_item, start, copy_slot, copy}
 use Rattle.js_meaning.specs.Module.{Entry, entry_local, entry_import, if_bound, resolve_entries}
@@ -270,17 +271,17 @@ SameBelow b inner = (m n : M) → Same b m n → Same b (inner m) (inner n)
 same_start_default : {b : ℕ} {inner : M → M} {m n : M} (a : Forest) (env : Env) → SameBelow b inner → Same b m n → Same b (start_default a inner env m) (start_default a inner env n)
 same_start_default nothing env g h = g _ _ h
 same_start_default (absent r) env g h = g _ _ h
-same_start_default (node (Kind.function function_kind.Declaration pure) n a r) env g h = same_start_function (Some (name_or_default (first_name a))) a env h
+same_start_default (node (Kind.Function function_kind.Declaration pure) n a r) env g h = same_start_function (Some (name_or_default (first_name a))) a env h
 same_start_default (node _ n a r) env g h = g _ _ h
 
 same_start_item : {b : ℕ} {inner : M → M} {m n : M} (k : Kind) (a : Forest) (env : Env) → SameBelow b inner → Same b m n → Same b (start_item k a inner env m) (start_item k a inner env n)
-same_start_item (Kind.function function_kind.Declaration pure) a env g h = same_start_function (first_name a) a env h
-same_start_item (Kind.export_named_declaration None) a env g h = g _ _ h
-same_start_item Kind.export_default_declaration a env g h = same_start_default a env g h
-same_start_item Kind.function_body a env g h = g _ _ h
-same_start_item Kind.statements a env g h = g _ _ h
-same_start_item Kind.cases a env g h = g _ _ h
-same_start_item Kind.switch_case a env g h = g _ _ h
+same_start_item (Kind.Function function_kind.Declaration pure) a env g h = same_start_function (first_name a) a env h
+same_start_item (Kind.ExportNamedDeclaration None) a env g h = g _ _ h
+same_start_item Kind.ExportDefaultDeclaration a env g h = same_start_default a env g h
+same_start_item Kind.FunctionBody a env g h = g _ _ h
+same_start_item Kind.Statements a env g h = g _ _ h
+same_start_item Kind.Cases a env g h = g _ _ h
+same_start_item Kind.SwitchCase a env g h = g _ _ h
 same_start_item _ a env g h = h
 
 pub same_start : {b : ℕ} {m n : M} (a : Forest) (env : Env) → Same b m n → Same b (start a env m) (start a env n)

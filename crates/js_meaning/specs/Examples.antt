@@ -1,15 +1,17 @@
 -- Programs with the runs that ECMA-262 gives them.
-use Rattle.std.specs.Prelude.{◌≡◌, ℕ, true, false, List, [], ◌∷◌, None, codes}
-use Rattle.js_syntax.specs.Kind.{Kind}
-use Rattle.js_syntax.specs.Node.{Forest}
-use Rattle.js_syntax.specs.Scalar.{key_name}
+use Rattle.std.specs.Prelude.{◌≡◌, ℕ, pos, Bool, true, false, List, [], ◌∷◌, ◌++◌, Option, Some, None, codes}
+use Rattle.js_syntax.specs.declared.node_kind.NodeKind.{NodeKind as Kind}
+use Rattle.js_syntax.specs.Node.{Forest, nothing}
+use Rattle.js_syntax.specs.declared.value.LiteralValue.{LiteralValue as Literal}
+use Rattle.js_syntax.specs.declared.value.Key.{Key}
+use Rattle.js_syntax.specs.declared.value.Key.TheVariants.{Name as key_name}
 use Rattle.js_syntax.specs.declared.kind.VariableKind.TheVariants as variable
 use Rattle.js_syntax.specs.declared.kind.FunctionKind.TheVariants as function_kind
 use Rattle.js_syntax.specs.declared.kind.PropertyKind.TheVariants as property_kind
 use Rattle.js_syntax.specs.declared.operator.BinaryOperator.TheVariants as binary
 use Rattle.js_syntax.specs.declared.operator.UnaryOperator.TheVariants as unary
 use Rattle.js_syntax.specs.declared.operator.UpdateOperator.TheVariants as update
-use Rattle.js_meaning.specs.Value.{Text, undefined, text, host, given, plainly, first, Sort, Parts}
+use Rattle.js_meaning.specs.Value.{Text, Plain, undefined, number, text, host, Given, given, Shown, plainly, again, first, Sort, Parts}
 use Rattle.js_meaning.specs.Trace.{Act, ShownExport, ShownExports, Event, Move, answer, call_own, Script, Ending, ended, Run}
 use Rattle.js_meaning.specs.Run.{run}
 use Rattle.js_meaning.specs.Samples as sample
@@ -67,7 +69,7 @@ member_call = record {
 -- (0, o.g)(5): no receiver
 abbrev pub indirect_call : Example
 indirect_call = record {
-  tree = sample.a_module (sample.does_it (sample.call (sample.over Kind.parenthesized_expression (sample.over Kind.sequence_expression (sample.listed Kind.expressions (sample.number_of 0 ∷ sample.member (sample.name o) g ∷ [])))) (sample.number_of 5 ∷ [])) ∷ []);
+  tree = sample.a_module (sample.does_it (sample.call (sample.over Kind.ParenthesizedExpression (sample.over Kind.SequenceExpression (sample.listed Kind.Expressions (sample.number_of 0 ∷ sample.member (sample.name o) g ∷ [])))) (sample.number_of 5 ∷ [])) ∷ []);
   script = sample.with_moves member_moves;
   bound = 0;
   run = sample.over_with (got_member ∷ sample.bare (Act.call (plainly (host 9 true)) sample.nothing_shown (sample.shown_number 5 ∷ [])) ∷ []);
@@ -75,26 +77,26 @@ indirect_call = record {
 
 -- function g() { try { return 1; } finally { return 2; } } f(g());
 abbrev pub returned : ℕ → Forest
-returned n = sample.over Kind.return_statement (sample.number_of n)
+returned n = sample.over Kind.ReturnStatement (sample.number_of n)
 
 abbrev pub function_g : List Forest → Forest
-function_g items = sample.function_of function_kind.Declaration (sample.leaf (Kind.binding_name g)) [] items
+function_g items = sample.function_of function_kind.Declaration (sample.leaf (Kind.BindingName g)) [] items
 
 abbrev pub finally_wins : Example
 finally_wins = plainly_run
-    (function_g (sample.over Kind.try_statement (sample.row (sample.block (returned 1 ∷ []) ∷ sample.left_out_here ∷ sample.block (returned 2 ∷ []) ∷ [])) ∷ [])
+    (function_g (sample.over Kind.TryStatement (sample.row (sample.block (returned 1 ∷ []) ∷ sample.left_out_here ∷ sample.block (returned 2 ∷ []) ∷ [])) ∷ [])
     ∷ sample.says (sample.call (sample.name g) [] ∷ []) ∷ [])
     (sample.over_with (said_number 2 ∷ []))
 
 -- switch (n) { case 1: f(1); default: f(2); case 3: f(3); break; case 4: f(4); }
 abbrev pub case_of : Forest → List Forest → Forest
-case_of test items = sample.over Kind.switch_case (sample.row (test ∷ sample.listed Kind.statements items ∷ []))
+case_of test items = sample.over Kind.SwitchCase (sample.row (test ∷ sample.listed Kind.Statements items ∷ []))
 
 abbrev pub switched : ℕ → Forest
-switched n = sample.over Kind.switch_statement (sample.row (sample.number_of n ∷ sample.listed Kind.cases
+switched n = sample.over Kind.SwitchStatement (sample.row (sample.number_of n ∷ sample.listed Kind.Cases
     (case_of (sample.number_of 1) (says_number 1 ∷ [])
     ∷ case_of sample.left_out_here (says_number 2 ∷ [])
-    ∷ case_of (sample.number_of 3) (says_number 3 ∷ sample.leaf (Kind.break_statement None) ∷ [])
+    ∷ case_of (sample.number_of 3) (says_number 3 ∷ sample.leaf (Kind.BreakStatement None) ∷ [])
     ∷ case_of (sample.number_of 4) (says_number 4 ∷ []) ∷ []) ∷ []))
 
 abbrev pub default_in_the_middle : Example
@@ -107,11 +109,11 @@ default_is_last = plainly_run (switched 4 ∷ []) (sample.over_with (said_number
 abbrev pub cells_of_a_loop : Example
 cells_of_a_loop = plainly_run
     (sample.declared variable.Let g (sample.number_of 0)
-    ∷ sample.over Kind.for_statement (sample.row (sample.declared variable.Let i (sample.number_of 0)
+    ∷ sample.over Kind.ForStatement (sample.row (sample.declared variable.Let i (sample.number_of 0)
     ∷ sample.binary_of binary.LessThan (sample.name i) (sample.number_of 2)
-    ∷ sample.over (Kind.update_expression update.Increment false) (sample.leaf (Kind.target_name i))
-    ∷ sample.over Kind.if_statement (sample.row (sample.binary_of binary.StrictEquality (sample.name i) (sample.number_of 0)
-    ∷ sample.does_it (sample.assigned g (sample.over (Kind.function function_kind.Arrow false) (sample.row (sample.left_out_here ∷ sample.leaf Kind.parameters ∷ sample.name i ∷ []))))
+    ∷ sample.over (Kind.UpdateExpression update.Increment false) (sample.leaf (Kind.TargetName i))
+    ∷ sample.over Kind.IfStatement (sample.row (sample.binary_of binary.StrictEquality (sample.name i) (sample.number_of 0)
+    ∷ sample.does_it (sample.assigned g (sample.over (Kind.Function function_kind.Arrow false) (sample.row (sample.left_out_here ∷ sample.leaf Kind.Parameters ∷ sample.name i ∷ []))))
     ∷ sample.left_out_here ∷ [])) ∷ []))
     ∷ sample.says (sample.call (sample.name g) [] ∷ []) ∷ [])
     (sample.over_with (said_number 0 ∷ []))
@@ -129,7 +131,7 @@ constant_written = plainly_run
 -- f(typeof g);
 abbrev pub typeof_of_nothing : Example
 typeof_of_nothing = plainly_run
-    (sample.says (sample.over (Kind.unary_expression unary.Typeof) (sample.name g) ∷ []) ∷ [])
+    (sample.says (sample.over (Kind.UnaryExpression unary.Typeof) (sample.name g) ∷ []) ∷ [])
     (sample.over_with (sample.said (plainly (text (codes "undefined")) ∷ []) ∷ []))
 
 -- function g() {} g(); with room for no entry
@@ -150,7 +152,7 @@ exporting_number n = exporting (ShownExport.exports_value g (sample.shown_number
 
 abbrev pub exports_are_live : Example
 exports_are_live = plainly_run
-    (sample.over (Kind.export_named_declaration None) (sample.row (sample.declared variable.Let g (sample.number_of 1) ∷ sample.leaf Kind.specifiers ∷ []))
+    (sample.over (Kind.ExportNamedDeclaration None) (sample.row (sample.declared variable.Let g (sample.number_of 1) ∷ sample.leaf Kind.Specifiers ∷ []))
     ∷ sample.says [] ∷ sample.does_it (sample.assigned g (sample.number_of 2)) ∷ [])
     (record {
       trace = record { act = Act.call (plainly (host 1 true)) sample.nothing_shown []; exports = exporting_number 1 } ∷ record { act = Act.finished; exports = exporting_number 2 } ∷ [];
@@ -168,9 +170,9 @@ called_back = record {
 
 -- f({ g: 1, h: 2, g: 3 });
 abbrev pub key_of : Text → ℕ → Forest
-key_of x n = sample.over (Kind.property property_kind.Init false (key_name x)) (sample.row (sample.left_out_here ∷ sample.number_of n ∷ []))
+key_of x n = sample.over (Kind.Property property_kind.Init false (key_name x)) (sample.row (sample.left_out_here ∷ sample.number_of n ∷ []))
 
 abbrev pub keys_once : Example
 keys_once = plainly_run
-    (sample.says (sample.over Kind.object_expression (sample.listed Kind.properties (key_of g 1 ∷ key_of h 2 ∷ key_of g 3 ∷ [])) ∷ []) ∷ [])
+    (sample.says (sample.over Kind.ObjectExpression (sample.listed Kind.Properties (key_of g 1 ∷ key_of h 2 ∷ key_of g 3 ∷ [])) ∷ []) ∷ [])
     (sample.over_with (sample.said (first 0 Sort.an_object (Parts.shows_at g (sample.shown_number 3) (Parts.shows_at h (sample.shown_number 2) Parts.no_parts)) ∷ []) ∷ []))

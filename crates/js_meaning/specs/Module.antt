@@ -1,7 +1,7 @@
 -- Modules (ECMA-262 16.2): what they ask for, and what they export.
-use Rattle.std.specs.Prelude.{Bool, true, false, List, [], ◌∷◌, ◌++◌, Option, Some, None, codes, nat_eq, nat_lt, if◌then◌else◌}
+use Rattle.std.specs.Prelude.{ℕ, zero, suc, Bool, true, false, not, List, [], ◌∷◌, ◌++◌, Option, Some, None, codes, nat_eq, nat_lt, if◌then◌else◌}
 use Rattle.std.specs.Str.{bytes_eq}
-use Rattle.js_syntax.specs.Kind.{Kind}
+use Rattle.js_syntax.specs.declared.node_kind.NodeKind.{NodeKind as Kind}
 use Rattle.js_syntax.specs.Node.{Forest, nothing, node, absent, alone, nowhere}
 use Rattle.js_meaning.specs.Value.{Text, Slot, imported, Env}
 use Rattle.js_meaning.specs.Trace.{Act}
@@ -12,9 +12,9 @@ use Rattle.js_meaning.specs.Host.{Enter, consult}
 -- ModuleRequests (16.2.1.3): each source once, in the order of first occurrence
 
 abbrev pub requests_of : Kind → List Text
-requests_of (Kind.import_declaration source) = source ∷ []
-requests_of (Kind.export_named_declaration (Some source)) = source ∷ []
-requests_of (Kind.export_all_declaration name source) = source ∷ []
+requests_of (Kind.ImportDeclaration source) = source ∷ []
+requests_of (Kind.ExportNamedDeclaration (Some source)) = source ∷ []
+requests_of (Kind.ExportAllDeclaration name source) = source ∷ []
 requests_of _ = []
 
 abbrev pub requests : Forest → List Text
@@ -42,7 +42,7 @@ pub data Entry : Type 0 where
   entry_import : (exported source imported : Text) → Entry
 
 abbrev pub specifier_of : Kind → Forest → List Entry
-specifier_of (Kind.export_specifier exported) (node (Kind.reference_name local) n a r) = entry_local (module_text exported) local ∷ []
+specifier_of (Kind.ExportSpecifier exported) (node (Kind.ReferenceName local) n a r) = entry_local (module_text exported) local ∷ []
 specifier_of _ a = []
 
 abbrev pub local_entries : Forest → List Entry
@@ -51,7 +51,7 @@ local_entries (absent r) = local_entries r
 local_entries (node k n a r) = specifier_of k a ++ local_entries r
 
 abbrev pub foreign_of : Text → Kind → List Entry
-foreign_of source (Kind.foreign_specifier name exported) = entry_import (module_text exported) source (module_text name) ∷ []
+foreign_of source (Kind.ForeignSpecifier name exported) = entry_import (module_text exported) source (module_text name) ∷ []
 foreign_of source _ = []
 
 abbrev pub foreign_entries : Text → Forest → List Entry
@@ -69,7 +69,7 @@ names_in (decl x way ∷ ds) = x ∷ names_in ds
 
 -- a declaration exports what it declares, `var` names too
 abbrev pub declared_in : Kind → Forest → List Text
-declared_in (Kind.variable_declaration how) a = bound_names a
+declared_in (Kind.VariableDeclaration how) a = bound_names a
 declared_in k a = names_in (lexical (alone k nowhere a))
 
 abbrev pub declared_entries : Forest → List Entry
@@ -85,14 +85,14 @@ default_local (decl x way ∷ ds) = x
 abbrev pub list_below : Forest → Forest
 list_below nothing = nothing
 list_below (absent r) = list_below r
-list_below (node Kind.specifiers n a r) = a
+list_below (node Kind.Specifiers n a r) = a
 list_below (node k n a r) = list_below r
 
 abbrev pub entries_of : Kind → Forest → List Entry
-entries_of (Kind.export_named_declaration None) a = declared_entries a ++ local_entries (list_below a)
-entries_of (Kind.export_named_declaration (Some source)) a = foreign_entries source (list_below a)
-entries_of Kind.export_default_declaration a = entry_local (codes "default") (default_local (lexical a)) ∷ []
-entries_of (Kind.export_all_declaration (Some name) source) a = entry_import (module_text name) source (codes "*") ∷ []
+entries_of (Kind.ExportNamedDeclaration None) a = declared_entries a ++ local_entries (list_below a)
+entries_of (Kind.ExportNamedDeclaration (Some source)) a = foreign_entries source (list_below a)
+entries_of Kind.ExportDefaultDeclaration a = entry_local (codes "default") (default_local (lexical a)) ∷ []
+entries_of (Kind.ExportAllDeclaration (Some name) source) a = entry_import (module_text name) source (codes "*") ∷ []
 entries_of _ a = []
 
 abbrev pub entries : Forest → List Entry
@@ -102,7 +102,7 @@ entries (node k n a r) = entries_of k a ++ entries r
 
 -- the sources of `export *`
 abbrev pub star_of : Kind → List Text
-star_of (Kind.export_all_declaration None source) = source ∷ []
+star_of (Kind.ExportAllDeclaration None source) = source ∷ []
 star_of _ = []
 
 abbrev pub stars : Forest → List Text

@@ -1,14 +1,16 @@
 -- Which names a piece of a program declares, and what an entry does about them (ECMA-262 8.2, 10.2.11, 14.2.3, 16.1.7).
-use Rattle.std.specs.Prelude.{Bool, true, false, List, [], ◌∷◌, ◌++◌, Option, Some, None, codes, if◌then◌else◌}
+use Rattle.std.specs.Prelude.{ℕ, Bool, true, false, List, [], ◌∷◌, ◌++◌, Option, Some, None, codes, if◌then◌else◌}
 use Rattle.std.specs.Str.{bytes_eq}
-use Rattle.js_syntax.specs.Kind.{Kind}
+use Rattle.js_syntax.specs.declared.node_kind.NodeKind.{NodeKind as Kind}
 use Rattle.js_syntax.specs.Node.{Forest, nothing, node, absent}
-use Rattle.js_syntax.specs.Scalar.{ModuleName, plain_name, quoted_name}
+use Rattle.js_syntax.specs.declared.value.ModuleName.{ModuleName}
+use Rattle.js_syntax.specs.declared.value.ModuleName.TheVariants.{Name as plain_name, Text as quoted_name}
+use Rattle.js_syntax.specs.declared.kind.VariableKind.{VariableKind}
 use Rattle.js_syntax.specs.declared.kind.VariableKind.TheVariants as variable
 use Rattle.js_syntax.specs.declared.kind.FunctionKind.{FunctionKind}
 use Rattle.js_syntax.specs.declared.kind.FunctionKind.TheVariants as function_kind
 use Rattle.js_syntax.specs.declared.kind.ClassKind.TheVariants as class_kind
-use Rattle.js_meaning.specs.Value.{Text, Slot, local, imported, arguments_object, bound, Env, this_name, Value, closure, undef}
+use Rattle.js_meaning.specs.Value.{Text, Slot, local, imported, arguments_object, Bound, bound, Env, this_name, Value, closure, undef}
 use Rattle.js_meaning.specs.State.{M, Cell, cell, alloc, read, store, identity, unknown}
 
 -- How a name starts.
@@ -37,7 +39,7 @@ behind (node k n a r) = r
 behind (absent r) = r
 
 abbrev pub declared_name : Kind → Option Text
-declared_name (Kind.binding_name x) = Some x
+declared_name (Kind.BindingName x) = Some x
 declared_name _ = None
 
 -- the name that a function, class or import specifier declares
@@ -48,9 +50,9 @@ first_name (absent r) = None
 
 -- BoundNames of patterns, declarators and parameters (8.2.1)
 abbrev pub names_of : Kind → List Text → List Text
-names_of (Kind.binding_name x) inner = x ∷ []
-names_of (Kind.function f pure) inner = []
-names_of (Kind.class c) inner = []
+names_of (Kind.BindingName x) inner = x ∷ []
+names_of (Kind.Function f pure) inner = []
+names_of (Kind.Class c) inner = []
 names_of _ inner = inner
 
 abbrev pub bound_names : Forest → List Text
@@ -60,9 +62,9 @@ bound_names (node k n a r) = names_of k (bound_names a) ++ bound_names r
 
 -- VarDeclaredNames (8.2.6): not those of functions and classes inside
 abbrev pub vars_of : Kind → Forest → List Text → List Text
-vars_of (Kind.variable_declaration variable.Var) a inner = bound_names a ++ inner
-vars_of (Kind.function f pure) a inner = []
-vars_of (Kind.class c) a inner = []
+vars_of (Kind.VariableDeclaration variable.Var) a inner = bound_names a ++ inner
+vars_of (Kind.Function f pure) a inner = []
+vars_of (Kind.Class c) a inner = []
 vars_of _ a inner = inner
 
 abbrev pub var_names : Forest → List Text
@@ -92,9 +94,9 @@ name_or_default None = default_name
 
 -- an import is bound to what its source exports (16.2.2)
 abbrev pub specifier_decls : Text → Kind → Forest → List Decl → List Decl
-specifier_decls source (Kind.import_specifier name) a inner = named_so (linked source (module_text name)) (first_name a)
-specifier_decls source Kind.import_default_specifier a inner = named_so (linked source (codes "default")) (first_name a)
-specifier_decls source Kind.import_namespace_specifier a inner = named_so (linked source (codes "*")) (first_name a)
+specifier_decls source (Kind.ImportSpecifier name) a inner = named_so (linked source (module_text name)) (first_name a)
+specifier_decls source Kind.ImportDefaultSpecifier a inner = named_so (linked source (codes "default")) (first_name a)
+specifier_decls source Kind.ImportNamespaceSpecifier a inner = named_so (linked source (codes "*")) (first_name a)
 specifier_decls source _ a inner = inner
 
 abbrev pub import_decls : Text → Forest → List Decl
@@ -109,17 +111,17 @@ or_default (d ∷ ds) = d ∷ ds
 -- LexicallyScopedDeclarations (8.2.5) of an item, with the functions, for the scope around it; `inner` is what stands
 -- below it
 abbrev pub item_decls : Kind → Forest → List Decl → List Decl
-item_decls (Kind.variable_declaration variable.Let) a inner = all_so (waiting false) (bound_names a)
-item_decls (Kind.variable_declaration variable.Const) a inner = all_so (waiting true) (bound_names a)
-item_decls (Kind.function function_kind.Declaration pure) a inner = named_so (waiting false) (first_name a)
-item_decls (Kind.class class_kind.Declaration) a inner = named_so (waiting false) (first_name a)
-item_decls (Kind.import_declaration source) a inner = import_decls source a
-item_decls (Kind.export_named_declaration None) a inner = inner
-item_decls Kind.export_default_declaration a inner = or_default inner
-item_decls Kind.function_body a inner = inner
-item_decls Kind.statements a inner = inner
-item_decls Kind.cases a inner = inner
-item_decls Kind.switch_case a inner = inner
+item_decls (Kind.VariableDeclaration variable.Let) a inner = all_so (waiting false) (bound_names a)
+item_decls (Kind.VariableDeclaration variable.Const) a inner = all_so (waiting true) (bound_names a)
+item_decls (Kind.Function function_kind.Declaration pure) a inner = named_so (waiting false) (first_name a)
+item_decls (Kind.Class class_kind.Declaration) a inner = named_so (waiting false) (first_name a)
+item_decls (Kind.ImportDeclaration source) a inner = import_decls source a
+item_decls (Kind.ExportNamedDeclaration None) a inner = inner
+item_decls Kind.ExportDefaultDeclaration a inner = or_default inner
+item_decls Kind.FunctionBody a inner = inner
+item_decls Kind.Statements a inner = inner
+item_decls Kind.Cases a inner = inner
+item_decls Kind.SwitchCase a inner = inner
 item_decls _ a inner = []
 
 abbrev pub lexical : Forest → List Decl
@@ -157,17 +159,17 @@ start_function None a env m = m
 start_function (Some x) a env m = identity (λ i. fill (look env x) (closure i function_kind.Declaration a env) m)
 
 abbrev pub start_default : Forest → (M → M) → Env → M → M
-start_default (node (Kind.function function_kind.Declaration pure) n a r) inner env m = start_function (Some (name_or_default (first_name a))) a env m
+start_default (node (Kind.Function function_kind.Declaration pure) n a r) inner env m = start_function (Some (name_or_default (first_name a))) a env m
 start_default _ inner env m = inner m
 
 abbrev pub start_item : Kind → Forest → (M → M) → Env → M → M
-start_item (Kind.function function_kind.Declaration pure) a inner env m = start_function (first_name a) a env m
-start_item (Kind.export_named_declaration None) a inner env m = inner m
-start_item Kind.export_default_declaration a inner env m = start_default a inner env m
-start_item Kind.function_body a inner env m = inner m
-start_item Kind.statements a inner env m = inner m
-start_item Kind.cases a inner env m = inner m
-start_item Kind.switch_case a inner env m = inner m
+start_item (Kind.Function function_kind.Declaration pure) a inner env m = start_function (first_name a) a env m
+start_item (Kind.ExportNamedDeclaration None) a inner env m = inner m
+start_item Kind.ExportDefaultDeclaration a inner env m = start_default a inner env m
+start_item Kind.FunctionBody a inner env m = inner m
+start_item Kind.Statements a inner env m = inner m
+start_item Kind.Cases a inner env m = inner m
+start_item Kind.SwitchCase a inner env m = inner m
 start_item _ a inner env m = m
 
 unfoldable pub start : Forest → Env → M → M

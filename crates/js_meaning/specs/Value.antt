@@ -1,7 +1,7 @@
 -- What programs compute with (ECMA-262 6.1), and how the host sees it.
-use Rattle.std.specs.Prelude.{ℕ, ℤ, List, Bool, codes}
+use Rattle.std.specs.Prelude.{ℕ, ℤ, List, [], ◌∷◌, Bool, Option, codes}
 use Rattle.js_syntax.specs.Node.{Forest}
-use Rattle.js_syntax.specs.Scalar.{Value as Literal}
+use Rattle.js_syntax.specs.declared.value.LiteralValue.{LiteralValue as Literal}
 use Rattle.js_syntax.specs.declared.kind.FunctionKind.{FunctionKind}
 
 -- a name or a text, as bytes in UTF-8
@@ -83,7 +83,7 @@ mutual
 
 -- a literal's value (13.2.3)
 abbrev pub literal_value : Literal → Value
-literal_value Literal.null = plain null
-literal_value (Literal.boolean b) = plain (boolean b)
-literal_value (Literal.number z) = plain (number z)
-literal_value (Literal.text s) = plain (text s)
+literal_value Literal.Null = plain null
+literal_value (Literal.Boolean b) = plain (boolean b)
+literal_value (Literal.Number z) = plain (number z)
+literal_value (Literal.Text s) = plain (text s)

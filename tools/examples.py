@@ -1,0 +1,185 @@
+"""shake: worked rows of reading and writing, with what ESTree and docs/DEFINITIONS.md say of them.
+
+Each case is a statement in its own normal form, which is written as it was read; then inputs with the fault that they
+have, and inputs that are written otherwise than they were read.
+"""
+import json
+from table import GENERATED
+
+def N(t,**k): return dict(type=t,**k)
+def I(s): return N('Identifier',name=s)
+def L(v): return N('Literal',value=v)
+def ES(e): return N('ExpressionStatement',expression=e)
+def B(*b): return N('BlockStatement',body=list(b))
+def fn(t,id,params,body,expr=False): return N(t,id=id,params=params,body=body,generator=False,expression=expr,**{'async':False})
+def call(c,*a,**k): return N('CallExpression',callee=c,arguments=list(a),optional=k.get('optional',False),**({'pure':True} if k.get('pure') else {}))
+def mem(o,p,c=False,opt=False): return N('MemberExpression',object=o,property=p,computed=c,optional=opt)
+def prop(k,v,kind='init',computed=False,method=False,shorthand=False): return N('Property',kind=kind,computed=computed,method=method,shorthand=shorthand,key=k,value=v)
+def var(kind,*ds): return N('VariableDeclaration',kind=kind,declarations=[N('VariableDeclarator',id=i,init=n) for i,n in ds])
+def un(o,e): return N('UnaryExpression',operator=o,argument=e,prefix=True)
+def bi(o,l,r): return N('BinaryExpression',operator=o,left=l,right=r)
+def asg(o,l,r): return N('AssignmentExpression',operator=o,left=l,right=r)
+def tmpl(qs,es): return N('TemplateLiteral',quasis=[N('TemplateElement',value=dict(raw=q,cooked=q),tail=i==len(qs)-1) for i,q in enumerate(qs)],expressions=es)
+P=N('PrivateIdentifier',name='p')
+a,b,c,f,x=map(I,'abcfx')
+cases={}
+cases['statements']=[
+ N('ExpressionStatement',expression=L('use strict'),directive='use strict'),
+ B(N('DebuggerStatement')), N('IfStatement',test=a,consequent=N('EmptyStatement'),alternate=ES(L(1))), N('WithStatement',object=a,body=B()),
+ N('LabeledStatement',label=I('l'),body=N('WhileStatement',test=a,body=B(N('BreakStatement',label=I('l')),N('ContinueStatement',label=None)))),
+ N('IfStatement',test=a,consequent=ES(b),alternate=None), N('IfStatement',test=a,consequent=ES(b),alternate=ES(c)),
+ N('SwitchStatement',discriminant=a,cases=[N('SwitchCase',test=L(1),consequent=[ES(b)]),N('SwitchCase',test=None,consequent=[])]),
+ N('ThrowStatement',argument=a), N('TryStatement',block=B(),handler=N('CatchClause',param=I('e'),body=B()),finalizer=None),
+ N('TryStatement',block=B(),handler=None,finalizer=B()),
+ N('DoWhileStatement',body=B(),test=a),
+ N('ForStatement',init=var('let',(a,L(0))),test=None,update=None,body=B()), N('ForStatement',init=asg('=',a,L(1)),test=a,update=N('UpdateExpression',operator='++',prefix=False,argument=a),body=B()),
+ N('ForInStatement',left=var('const',(a,None)),right=b,body=B()), N('ForOfStatement',left=mem(a,b),right=b,body=B(),**{'await':False}),
+ fn('FunctionDeclaration',f,[a,N('AssignmentPattern',left=b,right=L(1)),N('RestElement',argument=N('ArrayPattern',elements=[None,c]))],B(N('ExpressionStatement',expression=L('d'),directive='d'),N('ReturnStatement',argument=a),N('ReturnStatement',argument=None))),
+]
+cases['expressions']=[N('ThrowStatement',argument=e) if e['type']=='Literal' and 'regex' not in e else ES(e) for e in [
+ L(None),L(True),L(7),N('Literal',value={},regex=dict(pattern='a',flags='g')),N('ThisExpression'),
+ N('ArrayExpression',elements=[a,None,N('SpreadElement',argument=b)]),
+ N('ObjectExpression',properties=[prop(a,a,shorthand=True),prop(L('k'),b),prop(L(3),b),prop(a,b,computed=True),prop(I('g'),fn('FunctionExpression',None,[],B()),kind='get'),prop(I('m'),fn('FunctionExpression',None,[],B()),method=True),N('SpreadElement',argument=c)]),
+ fn('ArrowFunctionExpression',None,[a],b,True),dict(fn('ArrowFunctionExpression',None,[],B()),noSideEffects=True),
+ un('typeof',a),un('-',L(3)),bi('in',a,b),bi('>>>',a,b),N('LogicalExpression',operator='??',left=a,right=b),
+ asg('=',N('ObjectPattern',properties=[prop(a,N('AssignmentPattern',left=a,right=L(1)),shorthand=True),prop(L('q'),mem(b,c)),N('RestElement',argument=x)]),b),
+ asg('+=',mem(a,b,True),c),asg('=',N('ArrayPattern',elements=[a,None,N('RestElement',argument=b)]),c),
+ N('ConditionalExpression',test=a,consequent=b,alternate=c),
+ call(a,b,N('SpreadElement',argument=c),pure=True),dict(N('NewExpression',callee=a,arguments=[b]),pure=True),
+ N('ChainExpression',expression=mem(call(mem(a,b,opt=True),optional=True),c)),N('ParenthesizedExpression',expression=a),N('SequenceExpression',expressions=[a,b]),
+ tmpl(['a','b'],[c]),N('TaggedTemplateExpression',tag=a,quasi=tmpl(['z'],[])),
+ call(I('use'),N('Literal',value={},regex=dict(pattern='a',flags='g'))),N('MetaProperty',meta=I('new'),property=I('target')),N('MetaProperty',meta=I('import'),property=I('meta')),N('ImportExpression',source=a),
+]]
+cases['classes']=[
+ N('ClassDeclaration',id=a,superClass=b,body=N('ClassBody',body=[
+  N('MethodDefinition',kind='constructor',computed=False,static=False,key=I('constructor'),value=fn('FunctionExpression',None,[],B(ES(call(N('Super'))),ES(mem(N('Super'),x))))),
+  N('PropertyDefinition',computed=False,static=True,key=P,value=None),N('PropertyDefinition',computed=True,static=False,key=a,value=L(1)),
+  N('StaticBlock',body=[ES(bi('in',P,mem(a,P)))])])),
+ ES(N('ClassExpression',id=None,superClass=None,body=N('ClassBody',body=[]))),
+]
+cases['modules']=[
+ N('ImportDeclaration',specifiers=[N('ImportSpecifier',imported=L('a b'),local=a),N('ImportDefaultSpecifier',local=b),N('ImportNamespaceSpecifier',local=c)],source=L('m')),
+ N('ExportNamedDeclaration',declaration=var('var',(N('ObjectPattern',properties=[prop(a,b),prop(b,N('AssignmentPattern',left=b,right=L(1)),shorthand=True)]),a)),specifiers=[],source=None),
+ N('ExportNamedDeclaration',declaration=None,specifiers=[N('ExportSpecifier',local=a,exported=L('x y'))],source=None),
+ N('ExportNamedDeclaration',declaration=None,specifiers=[N('ExportSpecifier',local=I('default'),exported=b)],source=L('m')),
+ N('ExportDefaultDeclaration',declaration=fn('FunctionDeclaration',None,[],B())),
+ N('ExportDefaultDeclaration',declaration=N('ClassDeclaration',id=None,superClass=None,body=N('ClassBody',body=[]))),
+ N('ExportDefaultDeclaration',declaration=a),
+ N('ExportAllDeclaration',exported=None,source=L('m')),N('ExportAllDeclaration',exported=I('ns'),source=L('m')),
+]
+def prog(body): return N('Program',sourceType='module',body=body)
+faults=[]
+def F(name,body,fault): faults.append((name,prog(body),fault))
+def bf(k,f): return 'shake: bad field %s in %s\n'%(f,k)
+un_='shake: unknown node %s\n'
+F('f1',[ES(N('YieldExpression'))],un_%'YieldExpression')
+F('f2',[ES(dict(L(1),bigint=None))],un_%'Literal')
+F('f3',[ES(N('Super'))],bf('ExpressionStatement','expression'))
+F('f4',[ES(N('NewExpression',callee=N('Super'),arguments=[]))],bf('NewExpression','callee'))
+F('f5',[ES(bi('+',P,a))],bf('BinaryExpression','left'))
+F('f6',[ES(asg('+=',N('ArrayPattern',elements=[]),a))],bf('AssignmentExpression','left'))
+F('f7',[ES(N('ObjectExpression',properties=[prop(L(-1),a)]))],bf('Property','key'))
+F('f8',[ES(N('ObjectExpression',properties=[prop(P,a)]))],bf('Property','key'))
+F('f9',[fn('FunctionDeclaration',None,[],B())],bf('FunctionDeclaration','id'))
+F('f10',[dict(fn('FunctionDeclaration',f,[],B()),generator=True)],bf('FunctionDeclaration','generator'))
+F('f11',[B(N('ImportDeclaration',specifiers=[],source=L('m')))],bf('BlockStatement','body'))
+F('f12',[N('ExportNamedDeclaration',declaration=var('var',(a,None)),specifiers=[N('ExportSpecifier',local=a,exported=a)],source=None)],bf('ExportNamedDeclaration','specifiers'))
+F('f13',[N('ExportNamedDeclaration',declaration=var('var',(a,None)),specifiers=[],source=L('m'))],bf('ExportNamedDeclaration','source'))
+F('f14',[N('ExportNamedDeclaration',declaration=None,specifiers=[N('ExportSpecifier',local=L('q'),exported=a)],source=None)],bf('ExportSpecifier','local'))
+F('f15',[ES(L(9007199254740992))],'shake: number out of range\n')
+F('f16',[ES(dict(call(a),optional=1))],bf('CallExpression','optional'))
+F('f17',[ES(asg('=',N('ParenthesizedExpression',expression=L(5)),a))],bf('ParenthesizedExpression','expression'))
+F('f18',[ES(N('MetaProperty',meta=I('new'),property=I('meta')))],bf('MetaProperty','property'))
+F('f19',[ES(N('ImportExpression',source=a,options=b))],bf('ImportExpression','options'))
+F('f20',[ES(fn('ArrowFunctionExpression',a,[],a,True))],bf('ArrowFunctionExpression','id'))
+F('f21',[var('let',(N('AssignmentPattern',left=a,right=b),None))],bf('VariableDeclarator','id'))
+F('f22',[ES(asg('=',N('ObjectPattern',properties=[prop(a,b,kind='get')]),a))],bf('Property','kind'))
+F('f23',[N('LabeledStatement',label=I('l'),body=None)],bf('LabeledStatement','body'))
+F('f24',[N('BreakStatement',label=N('Identifier'))],bf('Identifier','name'))
+F('f25',[N('ForOfStatement',left=a,right=b,body=B(),**{'await':True})],bf('ForOfStatement','await'))
+F('f26',[ES(bi('=',a,b))],bf('BinaryExpression','operator'))
+F('f27',[ES(tmpl(['a'],[])|dict(quasis=[N('TemplateElement',value=dict(raw='a'),tail=True)]))],bf('TemplateElement','value'))
+F('f28',[ES(N('Literal',value=None,raw='1n'))],'shake: number out of range\n')
+F('f29',[N('ImportDeclaration',specifiers=[],source=L(3))],bf('ImportDeclaration','source'))
+F('f30',[ES(mem(a,L('k')))],bf('MemberExpression','property'))
+others=[('o1',prog([ES(asg('=',N('ParenthesizedExpression',expression=N('ParenthesizedExpression',expression=a)),b))]),prog([ES(asg('=',a,b))])),
+ ('o2',prog([N('ThrowStatement',argument=L(-4))]),prog([N('ThrowStatement',argument=un('-',L(4)))])),
+ ('o3',prog([ES(N('ObjectExpression',properties=[prop(I('a b'),a)]))]),prog([ES(N('ObjectExpression',properties=[prop(L('a b'),a)]))])),
+ ('o4',prog([ES(N('ObjectExpression',properties=[dict(N('Property',kind='init',key=a,value=a))]))]),prog([ES(N('ObjectExpression',properties=[prop(a,a,shorthand=True)]))])),
+ ('o5',prog([ES(dict(call(a),pure='x',foo=[1],optional=False))]),prog([ES(call(a))])),
+ ('o6',prog([dict(ES(mem(a,b)),start=1,end=4)]),prog([ES(mem(a,b))])),
+]
+
+F('f31',[ES(N('AwaitExpression',argument=a))],un_%'AwaitExpression')
+F('f32',[N('TSTypeAliasDeclaration')],un_%'TSTypeAliasDeclaration')
+F('f33',[ES(N('JSXElement'))],un_%'JSXElement')
+F('f34',[ES(N('Import'))],un_%'Import')
+F('f35',[N('Statement')],un_%'Statement')
+F('f36',[N('ClassDeclaration',id=a,superClass=None,body=N('ClassBody',body=[N('AccessorProperty',key=a)]))],un_%'AccessorProperty')
+F('f37',[ES(N('a b-c'))],'shake: unknown node a?b?c\n')
+F('f38',[dict(fn('FunctionDeclaration',f,[],B()),**{'async':True})],bf('FunctionDeclaration','async'))
+F('f39',[ES(fn('FunctionExpression',None,[],B())|dict(generator=True))],bf('FunctionExpression','generator'))
+F('f40',[N('ClassDeclaration',id=a,superClass=None,body=N('ClassBody',body=[]),decorators=[a])],bf('ClassDeclaration','decorators'))
+F('f41',[N('ImportDeclaration',specifiers=[],source=L('m'),attributes=[a])],bf('ImportDeclaration','attributes'))
+F('f42',[N('ImportDeclaration',specifiers=[],source=L('m'),assertions=[a])],bf('ImportDeclaration','assertions'))
+F('f43',[N('ImportDeclaration',specifiers=[],source=L('m'),phase='defer')],bf('ImportDeclaration','phase'))
+F('f44',[N('WithStatement',object=a)],bf('WithStatement','body'))
+F('f45',[N('ReturnStatement',argument=N('SpreadElement',argument=a))],bf('ReturnStatement','argument'))
+F('f46',[N('IfStatement',consequent=ES(a))],bf('IfStatement','test'))
+F('f47',[N('IfStatement',test=a,consequent=a)],bf('IfStatement','consequent'))
+F('f48',[N('SwitchStatement',discriminant=a,cases={})],bf('SwitchStatement','cases'))
+F('f49',[N('SwitchStatement',discriminant=a,cases=[ES(a)])],bf('SwitchStatement','cases'))
+F('f50',[N('TryStatement',block=ES(a),handler=None,finalizer=None)],bf('TryStatement','block'))
+F('f51',[N('TryStatement',block=B(),handler=B(),finalizer=None)],bf('TryStatement','handler'))
+F('f52',[N('WhileStatement',test=a,body=fn('ArrowFunctionExpression',None,[],a,True))],bf('WhileStatement','body'))
+F('f53',[N('ForInStatement',left=L(1),right=b,body=B())],bf('ForInStatement','left'))
+F('f54',[N('VariableDeclaration',kind='using',declarations=[])],bf('VariableDeclaration','kind'))
+F('f55',[N('VariableDeclaration',kind='let',declarations=[a])],bf('VariableDeclaration','declarations'))
+F('f56',[N('ClassDeclaration',superClass=None,body=N('ClassBody',body=[]))],bf('ClassDeclaration','id'))
+F('f57',[N('ClassDeclaration',id=a,superClass=None,body=B())],bf('ClassDeclaration','body'))
+F('f58',[ES(N('UnaryExpression',operator='++',argument=a))],bf('UnaryExpression','operator'))
+F('f59',[ES(N('UpdateExpression',operator='++',prefix=True,argument=L(1)))],bf('UpdateExpression','argument'))
+F('f60',[ES(N('UpdateExpression',operator='++',prefix=1,argument=a))],bf('UpdateExpression','prefix'))
+F('f61',[ES(N('LogicalExpression',operator='^^',left=a,right=b))],bf('LogicalExpression','operator'))
+F('f62',[ES(N('ConditionalExpression',test=a,consequent=b))],bf('ConditionalExpression','alternate'))
+F('f63',[ES(N('CallExpression',callee=a,arguments=[None],optional=False))],bf('CallExpression','arguments'))
+F('f64',[ES(N('ChainExpression',expression=a))],bf('ChainExpression','expression'))
+F('f65',[ES(N('TaggedTemplateExpression',tag=a,quasi=L('x')))],bf('TaggedTemplateExpression','quasi'))
+F('f66',[ES(N('ArrayExpression',elements=[L(1),5]))],bf('ArrayExpression','elements'))
+F('f67',[N('ExportAllDeclaration',exported=L(1),source=L('m'))],bf('ExportAllDeclaration','exported'))
+F('f68',[N('ExportDefaultDeclaration',declaration=var('let',(a,None)))],bf('ExportDefaultDeclaration','declaration'))
+F('f69',[ES(L(-9007199254740992))],'shake: number out of range\n')
+F('f70',[N('ContinueStatement',label=L('l'))],bf('ContinueStatement','label'))
+
+
+def text(tree): return json.dumps(tree, sort_keys=True, separators=(',', ':'))
+def raw(s): return 'r#"%s"#' % s
+
+
+def table(name, what, entries, test):
+    """Tests over the entries, a few in each: the proof of a test grows faster than its table."""
+    out, size = '', 8
+    for i in range(0, len(entries), size):
+        suffix = '' if len(entries) <= size else '_%d' % (i // size + 1)
+        out += '\n// %s\n#[test]\nfn %s%s(rt: HostRuntime) -> Result<(), Fail> {\n    let cases = [%s];\n%s    Ok(())\n}\n' % (what, name, suffix, ', '.join(entries[i:i + size]), test)
+    return out
+
+
+RUN = """        let got = run_words(rt.alloc(), &["shake", "dce", "--tree-only"], input.as_bytes(), &[], 100_000, &[])?;
+"""
+
+
+def reading():
+    out = '// Rows of reading and writing.\n// %s\nuse super::run_words;\nuse std::test::Fail;\n' % GENERATED.replace('tools/nodes.py', 'tools/examples.py')
+    for k, body in cases.items():
+        out += table('writes_%s_as_they_are_read' % k, 'Each is written as it was read.', [raw(text(prog([s]))) for s in body],
+            '    for input in cases {\n' + RUN + '        assert_eq!(rt; got.code, 0, "{input}");\n        assert_eq!(rt; got.out.len(), input.len() + 1, "{input}");\n        assert!(rt; got.out.as_slice().starts_with(input.as_bytes()), "{input}");\n    }\n')
+    pairs = lambda l: ['(%s, %s)' % (raw(text(p)), raw(text(q)) if isinstance(q, dict) else json.dumps(q)) for _, p, q in l]
+    out += table('refuses_by_the_first_fault', 'Each has one line that says why.', pairs(faults),
+        '    for (input, want) in cases {\n' + RUN + '        assert_eq!(rt; got.code, 5, "{input}");\n        assert_eq!(rt; got.err.as_slice(), want.as_bytes(), "{input}");\n        assert!(rt; got.out.is_empty(), "{input}");\n    }\n')
+    out += table('writes_in_one_form', 'What is written otherwise than it was read.', pairs(others),
+        '    for (input, want) in cases {\n' + RUN + '        assert_eq!(rt; got.code, 0, "{input}");\n        assert_eq!(rt; got.out.len(), want.len() + 1, "{input}");\n        assert!(rt; got.out.as_slice().starts_with(want.as_bytes()), "{input}");\n    }\n')
+    return out
+
+
+FILES = {'shake/src/tests/reading.rt': reading}
