@@ -1,86 +1,102 @@
 -- Reading step by step.
-use Rattle.std.proofs.Common.{◌≡◌, ◌<◌, ◌-◌, ◌∙◌, ◌++◌, ℕ, zero, suc, List, [], ◌∷◌, true, Some, None, Result, Ok, Err, refl, sym, ap, sub-one, arith}
+use Rattle.std.proofs.Common.{◌≡◌, ◌≢◌, ◌<◌, ◌-◌, ◌∙◌, ◌++◌, ℕ, zero, suc, List, [], ◌∷◌, Bool, true, false, Option, Some, None, Result, Ok, Err, refl, sym, ap, sub-one, arith}
 use Rattle.serde_json.specs.Data.{Data, Items, no_items, item}
-use Rattle.js_syntax.specs.Node.{Forest, nothing, node, absent, joined}
-use Rattle.js_syntax.specs.Table.{Class, a_prologue, Row, stands}
+use Rattle.js_syntax.specs.Class.{Class, a_prologue}
+use Rattle.js_syntax.specs.declared.node_kind.NodeKind.{NodeKind as Kind}
+use Rattle.js_syntax.specs.Node.{Note, Forest, nothing, alone, joined}
+use Rattle.js_table.specs.View.{row_view}
+use Rattle.js_table.specs.declared.row.Row as code
+use Rattle.js_table.specs.declared.row.Row.TheVariants as in_row
+use Rattle.js_syntax.specs.Table.{Row, stands, type_of, fields_of, kind_at}
 use Rattle.js_syntax.specs.declared.node_type.NodeType.{NodeType}
 use Rattle.tree_text.specs.Fault.{Fault, too_deep, ◌>>=◌}
-use Rattle.tree_text.specs.Reading.{Reader, type_at, row_here, before, read_items, is_directive, read_body, read_row, read_here, read_node}
-use Rattle.js_tree.specs.View.{row, directive_tree}
-use Rattle.js_tree.specs.declared.tree.Directive.{Directive}
+use Rattle.tree_text.specs.Plain.{type_at, check_extras}
+use Rattle.tree_text.specs.Reading.{Reader, row_here, before, read_items, is_directive, read_body, read_fields, read_row, read_here, read_node, made, note_of}
 use Rattle.tree_text.specs.Answer.{Fails, Gives}
 use Rattle.tree_text.specs.declared.error.TreeError.{TreeError}
 use Rattle.tree_text.specs.declared.error.TreeError.TheVariants as error
-
--- a fault ends what goes on
-pub fails_bind : {A B : Type 0} (e : TreeError) (r : Result A Fault) (f : A → Result B Fault) → Fails e r → Fails e (r >>= f)
-fails_bind error.Syntax r f h = rw h refl
-fails_bind (error.UnknownNode k) r f h = rw h refl
-fails_bind (error.BadField k g) r f h = rw h refl
-fails_bind error.NumberOutOfRange r f h = rw h refl
-fails_bind error.OutOfMemory r f h = tt
+use Rattle.js_tree.proofs.Rows.{joined_nothing, joined_assoc}
+use Rattle.tree_scan.specs.Scan.{scan, read_kind}
+use Rattle.tree_scan.proofs.Rows.{Reads, fields_read}
+use Rattle.tree_scan.proofs.Steps.{fails_bind}
 
 pub node_none : (n : ℕ) (c : Class) (bad : Fault) (d : Data) → n ≡ 0 → read_node n c bad d ≡ Err too_deep
 unfolding read_node
 node_none zero c bad d h = refl
 node_none (suc n) c bad d h = absurd (omega arith)
 
-pub node_more : (n : ℕ) (c : Class) (bad : Fault) (d : Data) → 0 < n → read_node n c bad d ≡ (type_at bad d >>= λ t. read_here (read_node (n - 1)) bad d (row_here c d (stands c t)))
+pub node_more : (n : ℕ) (c : Class) (bad : Fault) (d : Data) → 0 < n → read_node n c bad d ≡ (type_at bad d >>= λ t. read_here (read_node (n - 1)) bad d (row_here d (stands c t)))
 unfolding read_node
 node_more zero c bad d h = absurd (omega arith)
 node_more (suc n) c bad d h = rw sub-one refl
 
--- a node that may stand there is read by its row
-pub gives_at : {X : Type 0} (view : X → Forest) (r : Result X TreeError) (n : ℕ) (c : Class) (bad : Fault) (d : Data) (t : NodeType) (row : Row) → 0 < n → type_at bad d ≡ Ok t → row_here c d (stands c t) ≡ Some row
-    → Gives view r (read_row (read_node (n - 1)) row d) → Gives view r (read_node n c bad d)
-gives_at view r n c bad d t row some is here h = rw (node_more n c bad d some, is, here) h
+-- what is read of a row, once its type and its row are known
+pub row_read : (n : ℕ) (c : Class) (bad : Fault) (d : Data) (t : NodeType) (row : Row) → 0 < n → type_at bad d ≡ Ok t → row_here d (stands c t) ≡ Some row → read_node n c bad d ≡ read_row (read_node (n - 1)) row d
+row_read n c bad d t row some is here = rw (node_more n c bad d some, is, here) refl
 
-pub none_at : (n : ℕ) (c : Class) (bad : Fault) (d : Data) (t : NodeType) → 0 < n → type_at bad d ≡ Ok t → row_here c d (stands c t) ≡ None → read_node n c bad d ≡ Err bad
-none_at n c bad d t some is here = rw (node_more n c bad d some, is, here) refl
+pub none_read : (n : ℕ) (c : Class) (bad : Fault) (d : Data) (t : NodeType) → 0 < n → type_at bad d ≡ Ok t → row_here d (stands c t) ≡ None → read_node n c bad d ≡ Err bad
+none_read n c bad d t some is here = rw (node_more n c bad d some, is, here) refl
 
-pub joined_nothing : (t : Forest) → joined t nothing ≡ t
-joined_nothing nothing = refl
-joined_nothing (node k n below rest) = ap (node k n below) (joined_nothing rest)
-joined_nothing (absent rest) = ap absent (joined_nothing rest)
+-- the fault of a field is that of the row
+row_of_fault : (below : Reader) (row : Row) (d : Data) (e : Fault) (r : Result Forest Fault) → Reads r (read_fields below (type_of row) (fields_of row) (kind_at row) d) (read_kind (type_of row) (fields_of row) (kind_at row) d) → r ≡ Err e → read_row below row d ≡ Err e
+row_of_fault below row d e (Err x) h is = rw h cc
+row_of_fault below row d e (Ok x) h is = cc
 
--- ---- the nodes of a list
+row_fault : (below : Reader) (row : Row) (d : Data) (e : Fault) → scan below (type_of row) (fields_of row) d ≡ Err e → read_row below row d ≡ Err e
+row_fault below row d e h = row_of_fault below row d e (scan below (type_of row) (fields_of row) d) (fields_read below (type_of row) (fields_of row) (kind_at row) d) h
 
-pub before_none : (r : Result Forest Fault) → r ≡ before nothing r
-before_none (Ok t) = refl
-before_none (Err e) = refl
+row_of_parts : (below : Reader) (row : Row) (d : Data) (n : Forest) (r : Result Forest Fault) → Reads r (read_fields below (type_of row) (fields_of row) (kind_at row) d) (read_kind (type_of row) (fields_of row) (kind_at row) d) → r ≡ Ok n
+    → read_row below row d ≡ (check_extras (type_of row) d >>= λ _. read_kind (type_of row) (fields_of row) (kind_at row) d >>= λ k. Ok (made row k (note_of d) n))
+row_of_parts below row d n (Err x) h is = cc
+row_of_parts below row d n (Ok x) h is = let same : x ≡ n = cc in rw (h.2, h.1, same) refl
 
-pub joined_assoc : (a b c : Forest) → joined (joined a b) c ≡ joined a (joined b c)
-joined_assoc nothing b c = refl
-joined_assoc (node k n below rest) b c = ap (node k n below) (joined_assoc rest b c)
-joined_assoc (absent rest) b c = ap absent (joined_assoc rest b c)
+-- once what lies below is read
+row_parts : (below : Reader) (row : Row) (d : Data) (n : Forest) → scan below (type_of row) (fields_of row) d ≡ Ok n
+    → read_row below row d ≡ (check_extras (type_of row) d >>= λ _. read_kind (type_of row) (fields_of row) (kind_at row) d >>= λ k. Ok (made row k (note_of d) n))
+row_parts below row d n h = row_of_parts below row d n (scan below (type_of row) (fields_of row) d) (fields_read below (type_of row) (fields_of row) (kind_at row) d) h
+
+fails_row : (below : Reader) (row : Row) (d : Data) (e : TreeError) → Fails e (scan below (type_of row) (fields_of row) d) → Fails e (read_row below row d)
+fails_row below row d error.Syntax h = row_fault below row d too_deep h
+fails_row below row d (error.UnknownNode k) h = row_fault below row d _ h
+fails_row below row d (error.BadField k f) h = row_fault below row d _ h
+fails_row below row d error.NumberOutOfRange h = row_fault below row d _ h
+fails_row below row d error.OutOfMemory h = tt
+
+-- ---- a node of a row that stands for itself
+
+pub fails_below : (below : Reader) (row : Row) (d : Data) (e : TreeError) → Fails e (scan below (type_of row) (fields_of row) d) → Fails e (read_row below row d)
+fails_below below row d e h = fails_row below row d e h
+
+pub extras_fail : (below : Reader) (row : Row) (d : Data) (f : Forest) (e : TreeError) → scan below (type_of row) (fields_of row) d ≡ Ok f → Fails e (check_extras (type_of row) d) → Fails e (read_row below row d)
+extras_fail below row d f e is h = rw (row_parts below row d f is) (fails_bind e (check_extras (type_of row) d) _ h)
+
+pub kind_fails : (below : Reader) (row : Row) (d : Data) (f : Forest) (e : TreeError) → scan below (type_of row) (fields_of row) d ≡ Ok f → check_extras (type_of row) d ≡ Ok tt
+    → Fails e (read_kind (type_of row) (fields_of row) (kind_at row) d) → Fails e (read_row below row d)
+kind_fails below row d f e is extras h = rw (row_parts below row d f is, extras) (fails_bind e (read_kind (type_of row) (fields_of row) (kind_at row) d) _ h)
+
+pub row_made : (below : Reader) (row : Row) (d : Data) (f : Forest) (k : Kind) → scan below (type_of row) (fields_of row) d ≡ Ok f → check_extras (type_of row) d ≡ Ok tt
+    → read_kind (type_of row) (fields_of row) (kind_at row) d ≡ Ok k → read_row below row d ≡ Ok (made row k (note_of d) f)
+row_made below row d f k is extras kind = rw (row_parts below row d f is, extras, kind) refl
+
+-- whose node is its own
+pub stands_for_itself : (r : code.Row) → r ≢ in_row.ParenthesizedTarget → (k : Kind) (n : Note) (f : Forest) → made (row_view r) k n f ≡ alone k n f
+stands_for_itself in_row.ParenthesizedTarget h k n f = absurd (h refl)
+stands_for_itself other h k n f = refl
+
+-- ---- lists
 
 before_before : (a b : Forest) (r : Result Forest Fault) → before a (before b r) ≡ before (joined a b) r
 before_before a b (Ok t) = ap Ok (sym (joined_assoc a b t))
 before_before a b (Err e) = refl
 
-row_push : {X : Type 0} (tree : X → Forest) (xs : List X) (x : X) → row tree (xs ++ x ∷ []) ≡ joined (row tree xs) (tree x)
-row_push tree [] x = joined_nothing (tree x)
-row_push tree (y ∷ xs) x = ap (joined (tree y)) (row_push tree xs x) ∙ sym (joined_assoc (tree y) (row tree xs) (tree x))
+-- one more item or field was read
+pub next_read : (all : Result Forest Fault) (front t : Forest) (one rest : Result Forest Fault)
+    → all ≡ before front (one >>= λ n. before n rest) → one ≡ Ok t → all ≡ before (joined front t) rest
+next_read all front t one rest so_far read = so_far ∙ rw read (before_before front t rest)
 
--- one more item was read
-pub item_read : {X : Type 0} (tree : X → Forest) (one : Data → Result Forest Fault) (all : Result Forest Fault) (found : List X) (x : X) (d : Data) (ds : Items)
-    → all ≡ before (row tree found) (read_items one (item d ds)) → one d ≡ Ok (tree x)
-    → all ≡ before (row tree (found ++ x ∷ [])) (read_items one ds)
-item_read tree one all found x d ds so_far read =
-    so_far ∙ rw (read, row_push tree found x) (before_before (row tree found) (tree x) (read_items one ds))
+pub next_fails : (all : Result Forest Fault) (front : Forest) (e : TreeError) (one rest : Result Forest Fault)
+    → all ≡ before front (one >>= λ n. before n rest) → Fails e one → Fails e all
+next_fails all front e one rest so_far h = rw so_far (fails_bind e (one >>= λ n. before n rest) _ (fails_bind e one _ h))
 
-pub item_fails : (one : Data → Result Forest Fault) (all : Result Forest Fault) (front : Forest) (e : TreeError) (d : Data) (ds : Items)
-    → all ≡ before front (read_items one (item d ds)) → Fails e (one d) → Fails e all
-item_fails one all front e d ds so_far h =
-    rw so_far (fails_bind e (read_items one (item d ds)) _ (fails_bind e (one d) _ h))
-
-pub items_read : {X : Type 0} (tree : X → Forest) (one : Data → Result Forest Fault) (all : Result Forest Fault) (found : List X)
-    → all ≡ before (row tree found) (read_items one no_items) → all ≡ Ok (row tree found)
-items_read tree one all found so_far = so_far ∙ ap Ok (joined_nothing (row tree found))
-
--- one more directive at the head of a body was read
-pub directive_read : (below : Reader) (bad : Fault) (all : Result Forest Fault) (found : List Directive) (x : Directive) (d : Data) (ds : Items)
-    → all ≡ before (row directive_tree found) (read_body below bad (item d ds)) → is_directive d ≡ true → below a_prologue bad d ≡ Ok (directive_tree x)
-    → all ≡ before (row directive_tree (found ++ x ∷ [])) (read_body below bad ds)
-directive_read below bad all found x d ds so_far is read =
-    so_far ∙ rw (is, read, row_push directive_tree found x) (before_before (row directive_tree found) (directive_tree x) (read_body below bad ds))
+pub all_read : (all : Result Forest Fault) (front : Forest) → all ≡ before front (Ok nothing) → all ≡ Ok front
+all_read all front so_far = so_far ∙ ap Ok (joined_nothing front)

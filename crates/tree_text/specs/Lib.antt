@@ -1,4 +1,5 @@
 pub mod Fault
+pub mod Plain
 pub mod Reading
 pub mod Text
 pub mod Answer

@@ -1,136 +1,24 @@
 -- The tree that a JSON value is, by the table of node types, or the first fault in reading order: a node's
 -- type first, then its fields in the table's order, each child whole before the next field.
-use Rattle.std.specs.Prelude.{ℕ, zero, suc, ◌^◌, ◌&&◌, ◌||◌, pos, negsuc, List, [], ◌∷◌, Bool, true, false, not, Option, Some, None, is_some, Result, Ok, Err, codes, nat_lt, if◌then◌else◌}
-use Rattle.std.specs.Str.{bytes_eq}
-use Rattle.serde_json.specs.Data.{Num, unsigned, negative, float, Data, null, boolean, string, array, object, Items, no_items, item, Members, no_members, member}
+use Rattle.std.specs.Prelude.{ℕ, zero, suc, List, [], ◌∷◌, Bool, false, not, ◌&&◌, ◌||◌, Option, Some, None, Result, Ok, Err, codes, nat_lt, ◌^◌, if◌then◌else◌}
+use Rattle.serde_json.specs.Data.{Num, unsigned, Data, null, boolean, string, array, object, Items, no_items, item, no_members}
 use Rattle.serde_json.specs.Data as json
 use Rattle.serde_json.specs.Find.{get}
-use Rattle.js_syntax.specs.Name.{type_named}
-use Rattle.js_syntax.specs.Kind.{Kind, statements}
-use Rattle.js_syntax.specs.Scalar.{Value}
+use Rattle.js_syntax.specs.declared.value.Key.{Key}
+use Rattle.js_syntax.specs.declared.value.Key.TheVariants.{Below as key_below}
+use Rattle.js_syntax.specs.declared.node_kind.NodeKind.{NodeKind as Kind}
+use Rattle.js_syntax.specs.declared.node_kind.NodeKind.TheVariants.{Hole as hole, Statements as statements}
 use Rattle.js_syntax.specs.Node.{Note, Forest, nothing, absent, alone, joined, nowhere}
-use Rattle.js_syntax.specs.Scalar as tree
-use Rattle.js_syntax.specs.Word.{Words, Word, word_named}
-use Rattle.js_syntax.specs.Table.{Class, a_prologue, directive_text, statement, Sort, a_text, a_flag, a_value, a_word, child, maybe, each, each_or_hole, a_body, Field, field, Row, a_directive, fields_of, Makes, kind_at, type_of, stands}
-use Rattle.js_syntax.specs.Table as table
+use Rattle.js_syntax.specs.Class.{Class, root, a_prologue, expression, private_key}
+use Rattle.js_syntax.specs.Field.{Keys, keeps, checks, a_key, child, maybe, each, each_or_hole, a_body, Field, field, Makes}
+use Rattle.js_syntax.specs.Table.{Row, a_literal, a_text_literal, a_reg_exp, a_binary_expression, an_in_expression, an_assignment_expression, a_compound_assignment, a_property, a_method_property, a_new_target, an_import_meta, an_export_list, an_export_declaration, an_export_from, a_parenthesized_target, fields_of, kind_at, type_of, stands}
 use Rattle.js_syntax.specs.declared.node_type.NodeType.{NodeType}
 use Rattle.js_syntax.specs.declared.node_type.NodeType.TheVariants as type
 use Rattle.js_syntax.specs.declared.scalar.Span.{Span}
-use Rattle.tree_text.specs.Fault.{Fault, too_deep, unknown_node, out_of_range, ◌>>=◌, fault_of, untyped}
+use Rattle.tree_text.specs.Fault.{Fault, too_deep, ◌>>=◌, fault_of, untyped}
+use Rattle.tree_text.specs.Plain.{is_object_at, is_text_at, is_true_at, is_there, is_this, type_at, check_extras, read_kept, read_check, read_identifier, read_literal_key, takes_literal, takes_private}
 
--- ---- a node's type
-
-abbrev pub is_object : Data → Bool
-is_object (object ms) = true
-is_object _ = false
-
-abbrev pub is_object_at : Option Data → Bool
-is_object_at (Some d) = is_object d
-is_object_at None = false
-
-abbrev pub is_text_at : Option Data → Bool
-is_text_at (Some (string s)) = true
-is_text_at _ = false
-
--- Numbers of arbitrary size and regular expressions are literals that the table doesn't have.
-abbrev pub is_known : NodeType → Data → Bool
-is_known type.Literal d = not (is_some (get (codes "bigint") d) || is_object_at (get (codes "regex") d))
-is_known _ d = true
-
-abbrev pub known : List ℕ → Data → Option NodeType → Result NodeType Fault
-known s d None = Err (unknown_node s)
-known s d (Some t) = if is_known t d then Ok t else Err (unknown_node s)
-
-abbrev pub named : Data → Option Data → Result NodeType Fault
-named d (Some (string s)) = known s d (type_named s)
-named d _ = Err untyped
-
--- `bad` is the fault of the field that the node stands in
-unfoldable pub type_at : Fault → Data → Result NodeType Fault
-type_at bad d = if is_object d then named d (get (codes "type") d) else Err bad
-
--- ---- fields that are no nodes: `bad` is the fault of the field
-
-unfoldable pub read_text : Fault → Option Data → Result (List ℕ) Fault
-read_text bad (Some (string s)) = Ok s
-read_text bad _ = Err bad
-
--- a missing one is false
-unfoldable pub read_flag : Fault → Option Data → Result Bool Fault
-read_flag bad (Some (boolean b)) = Ok b
-read_flag bad None = Ok false
-read_flag bad _ = Err bad
-
-abbrev pub some_word : {A : Type 0} → Fault → Option A → Result A Fault
-some_word bad (Some w) = Ok w
-some_word bad None = Err bad
-
-unfoldable pub read_word : (w : Words) → Fault → Option Data → Result (Word w) Fault
-read_word w bad (Some (string s)) = some_word bad (word_named w s)
-read_word w bad _ = Err bad
-
--- Numbers are whole and within 2^53 - 1 in magnitude; JSON's reading of one with a fraction or an exponent is a float.
-abbrev pub in_range : ℕ → Value → Result Value Fault
-in_range n v = if nat_lt n (2 ^ 53) then Ok v else Err out_of_range
-
-abbrev pub read_number : Num → Result Value Fault
-read_number (unsigned n) = in_range n (tree.number (pos n))
-read_number (negative (pos n)) = in_range n (tree.number (pos n))
-read_number (negative (negsuc n)) = in_range (suc n) (tree.number (negsuc n))
-read_number (float x) = Err out_of_range
-
--- A null stands for a number that JSON lacks, where the source wrote something else: `raw` is what it wrote.
-abbrev pub read_null : Option Data → Result Value Fault
-read_null (Some (string raw)) = if bytes_eq raw (codes "null") then Ok tree.null else Err out_of_range
-read_null _ = Ok tree.null
-
-unfoldable pub read_value : Fault → (raw found : Option Data) → Result Value Fault
-read_value bad raw (Some null) = read_null raw
-read_value bad raw (Some (boolean b)) = Ok (tree.boolean b)
-read_value bad raw (Some (json.number n)) = read_number n
-read_value bad raw (Some (string s)) = Ok (tree.text s)
-read_value bad raw _ = Err bad
-
--- ---- what every node has, whatever its type
-
--- a field that says more of a node than the table has: whatever it says is refused, unless it says nothing
-pub data Extra : Type 0 where
-  true_is_refused full_is_refused value_is_refused : Extra
-
-abbrev pub is_empty : Data → Bool
-is_empty null = true
-is_empty (string []) = true
-is_empty (array no_items) = true
-is_empty (object no_members) = true
-is_empty _ = false
-
-abbrev pub says_nothing : Extra → Option Data → Bool
-says_nothing e None = true
-says_nothing true_is_refused (Some (boolean b)) = not b
-says_nothing true_is_refused (Some d) = true
-says_nothing full_is_refused (Some d) = is_empty d
-says_nothing value_is_refused (Some null) = true
-says_nothing value_is_refused (Some d) = false
-
-unfoldable pub check_extra : Extra → Fault → Option Data → Result (Unit {0}) Fault
-check_extra e bad found = if says_nothing e found then Ok tt else Err bad
-
--- `async`, generators, decorators and import attributes and phases aren't in the table
-unfoldable pub check_flags : NodeType → Data → Result (Unit {0}) Fault
-check_flags t d =
-    check_extra true_is_refused (fault_of t (codes "async")) (get (codes "async") d) >>= λ _.
-    check_extra true_is_refused (fault_of t (codes "generator")) (get (codes "generator") d) >>= λ _.
-    check_extra true_is_refused (fault_of t (codes "await")) (get (codes "await") d)
-
-unfoldable pub check_lists : NodeType → Data → Result (Unit {0}) Fault
-check_lists t d =
-    check_extra full_is_refused (fault_of t (codes "decorators")) (get (codes "decorators") d) >>= λ _.
-    check_extra full_is_refused (fault_of t (codes "attributes")) (get (codes "attributes") d) >>= λ _.
-    check_extra full_is_refused (fault_of t (codes "assertions")) (get (codes "assertions") d) >>= λ _.
-    check_extra full_is_refused (fault_of t (codes "options")) (get (codes "options") d)
-
-unfoldable pub check_extras : NodeType → Data → Result (Unit {0}) Fault
-check_extras t d = check_flags t d >>= λ _. check_lists t d >>= λ _. check_extra value_is_refused (fault_of t (codes "phase")) (get (codes "phase") d)
+-- ---- spans
 
 -- the span, where both of its ends are whole numbers of 32 bits
 abbrev pub offset_of : Num → Option ℕ
@@ -166,6 +54,11 @@ read_maybe one None = Ok (absent nothing)
 read_maybe one (Some null) = Ok (absent nothing)
 read_maybe one (Some d) = one d
 
+-- null is a hole
+unfoldable pub read_or_hole : (Data → Result Forest Fault) → Data → Result Forest Fault
+read_or_hole one null = Ok (alone hole nowhere nothing)
+read_or_hole one d = one d
+
 -- the nodes of a list, one after another
 abbrev pub before : Forest → Result Forest Fault → Result Forest Fault
 before first rest = rest >>= λ r. Ok (joined first r)
@@ -182,21 +75,38 @@ read_list list all bad (Some (array ds)) = as_list list (all ds)
 read_list list all bad _ = Err bad
 
 -- an expression statement with a text `directive`: at the head of a body it is a directive
-abbrev pub is_this : List ℕ → Option Data → Bool
-is_this s (Some (string r)) = bytes_eq r s
-is_this s _ = false
-
 unfoldable pub is_directive : Data → Bool
 is_directive d = is_this (codes "ExpressionStatement") (get (codes "type") d) && is_text_at (get (codes "directive") d)
 
--- The literal of a directive is a text. Elsewhere the type alone decides what may stand.
-abbrev pub fits : Class → Data → Bool
-fits directive_text d = is_text_at (get (codes "value") d)
-fits _ d = true
+-- ---- the rows of one type
 
-abbrev pub row_here : Class → Data → Option Row → Option Row
-row_here c d (Some r) = if fits c d then Some r else None
-row_here c d None = None
+abbrev pub is_reg_exp : Data → Bool
+is_reg_exp d = is_object_at (get (codes "regex") d)
+
+-- an accessor or method of an object
+abbrev pub is_method : Data → Bool
+is_method d = is_this (codes "get") (get (codes "kind") d) || is_this (codes "set") (get (codes "kind") d) || is_true_at (get (codes "method") d)
+
+abbrev pub is_named : List ℕ → Option Data → Bool
+is_named s (Some d) = is_this s (get (codes "name") d)
+is_named s None = false
+
+-- Where the table has several rows of a type that may stand at a place, what the node says decides between them. The
+-- literal of a directive is a text.
+unfoldable pub row_here : Data → Option Row → Option Row
+row_here d (Some a_text_literal) = if is_text_at (get (codes "value") d) && not (is_reg_exp d) then Some a_text_literal else None
+row_here d (Some a_literal) = if is_reg_exp d then Some a_reg_exp else Some a_literal
+row_here d (Some a_binary_expression) = if is_this (codes "in") (get (codes "operator") d) then Some an_in_expression else Some a_binary_expression
+row_here d (Some an_assignment_expression) = if is_this (codes "=") (get (codes "operator") d) then Some an_assignment_expression else Some a_compound_assignment
+row_here d (Some a_property) = if is_method d then Some a_method_property else Some a_property
+row_here d (Some a_new_target) = if is_named (codes "import") (get (codes "meta") d) then Some an_import_meta else Some a_new_target
+row_here d (Some an_export_list) = if is_there (get (codes "declaration") d) then Some an_export_declaration else if is_there (get (codes "source") d) then Some an_export_from else Some an_export_list
+row_here d other = other
+
+-- parentheses around an assigned name or member are dropped
+abbrev pub made : Row → Kind → Note → Forest → Forest
+made a_parenthesized_target k n below = below
+made row k n below = alone k n below
 
 -- ---- by the table
 
@@ -204,27 +114,43 @@ row_here c d None = None
 abbrev pub with_child : Forest → Result (Kind × Forest) Fault → Result (Kind × Forest) Fault
 with_child t later = later >>= λ p. Ok (p.0, joined t p.1)
 
+-- a key that is no node, and one that is
+abbrev pub apart : Result Key Fault → Result (Key × Forest) Fault
+apart r = r >>= λ k. Ok (k, absent nothing)
+
+abbrev pub within : Result Forest Fault → Result (Key × Forest) Fault
+within r = r >>= λ n. Ok (key_below, n)
+
 module _ (below : Reader) where
-  -- directives at the head, and then statements
-  abbrev pub read_body : Fault → Items → Result Forest Fault
-  read_body bad no_items = Ok nothing
-  read_body bad (item d ds) = if is_directive d then (below a_prologue bad d >>= λ t. before t (read_body bad ds)) else read_items (below statement bad) (item d ds)
+  abbrev pub static_key : Keys → Fault → Data → NodeType → Result (Key × Forest) Fault
+  static_key keys bad d type.Identifier = apart (read_identifier d)
+  static_key keys bad d type.Literal = if takes_literal keys then apart (read_literal_key bad d) else Err bad
+  static_key keys bad d type.PrivateIdentifier = if takes_private keys then within (below private_key bad d) else Err bad
+  static_key keys bad d _ = Err bad
+
+  unfoldable pub read_key : Keys → (computed : Bool) → Fault → Option Data → Result (Key × Forest) Fault
+  read_key keys computed bad None = Err bad
+  read_key keys computed bad (Some d) = if computed then within (below expression bad d) else (type_at bad d >>= λ t. static_key keys bad d t)
+
+  -- directives at the head, and then nodes of this class
+  abbrev pub read_body : Class → Fault → Items → Result Forest Fault
+  read_body c bad no_items = Ok nothing
+  read_body c bad (item d ds) = if is_directive d then (below a_prologue bad d >>= λ t. before t (read_body c bad ds)) else read_items (below c bad) (item d ds)
 
   abbrev pub read_fields : NodeType → (fields : List Field) → Makes fields → Data → Result (Kind × Forest) Fault
   read_fields t [] kind d = Ok (kind, nothing)
-  read_fields t (field name a_text ∷ fs) make d = read_text (fault_of t name) (get name d) >>= λ s. read_fields t fs (make s) d
-  read_fields t (field name a_flag ∷ fs) make d = read_flag (fault_of t name) (get name d) >>= λ b. read_fields t fs (make b) d
-  read_fields t (field name a_value ∷ fs) make d = read_value (fault_of t name) (get (codes "raw") d) (get name d) >>= λ v. read_fields t fs (make v) d
-  read_fields t (field name (a_word w) ∷ fs) make d = read_word w (fault_of t name) (get name d) >>= λ x. read_fields t fs (make x) d
+  read_fields t (field name (keeps k) ∷ fs) make d = read_kept k t name d >>= λ x. read_fields t fs (make x) d
+  read_fields t (field name (checks c) ∷ fs) make d = read_check c (fault_of t name) (get name d) >>= λ _. read_fields t fs make d
+  read_fields t (field name (a_key keys) ∷ fs) make d = read_key keys (is_true_at (get (codes "computed") d)) (fault_of t name) (get name d) >>= λ k. with_child k.1 (read_fields t fs (make k.0) d)
   read_fields t (field name (child c) ∷ fs) make d = read_child (below c (fault_of t name)) (fault_of t name) (get name d) >>= λ n. with_child n (read_fields t fs make d)
   read_fields t (field name (maybe c) ∷ fs) make d = read_maybe (below c (fault_of t name)) (get name d) >>= λ n. with_child n (read_fields t fs make d)
   read_fields t (field name (each list c) ∷ fs) make d = read_list list (read_items (below c (fault_of t name))) (fault_of t name) (get name d) >>= λ n. with_child n (read_fields t fs make d)
-  read_fields t (field name (each_or_hole list c) ∷ fs) make d = read_list list (read_items (λ e. read_maybe (below c (fault_of t name)) (Some e))) (fault_of t name) (get name d) >>= λ n. with_child n (read_fields t fs make d)
-  read_fields t (field name a_body ∷ fs) make d = read_list statements (read_body (fault_of t name)) (fault_of t name) (get name d) >>= λ n. with_child n (read_fields t fs make d)
+  read_fields t (field name (each_or_hole list c) ∷ fs) make d = read_list list (read_items (read_or_hole (below c (fault_of t name)))) (fault_of t name) (get name d) >>= λ n. with_child n (read_fields t fs make d)
+  read_fields t (field name (a_body c) ∷ fs) make d = read_list statements (read_body c (fault_of t name)) (fault_of t name) (get name d) >>= λ n. with_child n (read_fields t fs make d)
 
   -- a node of this row: its fields, and then what every node has
   abbrev pub read_row : Row → Data → Result Forest Fault
-  read_row row d = read_fields (type_of row) (fields_of row) (kind_at row) d >>= λ p. check_extras (type_of row) d >>= λ _. Ok (alone p.0 (note_of d) p.1)
+  read_row row d = read_fields (type_of row) (fields_of row) (kind_at row) d >>= λ p. check_extras (type_of row) d >>= λ _. Ok (made row p.0 (note_of d) p.1)
 
   -- a node that may stand there
   abbrev pub read_here : Fault → Data → Option Row → Result Forest Fault
@@ -234,7 +160,7 @@ module _ (below : Reader) where
 -- the node of this class, in a tree of at most so many levels
 unfoldable pub read_node : ℕ → Reader
 read_node zero c bad d = Err too_deep
-read_node (suc n) c bad d = type_at bad d >>= λ t. read_here (read_node n) bad d (row_here c d (stands c t))
+read_node (suc n) c bad d = type_at bad d >>= λ t. read_here (read_node n) bad d (row_here d (stands c t))
 
 -- a value of JSON nests at most 127 arrays and objects
 abbrev pub max_levels : ℕ
@@ -242,4 +168,4 @@ max_levels = 128
 
 -- the program that a JSON value is
 abbrev pub read_program : Data → Result Forest Fault
-read_program d = read_node max_levels table.root untyped d
+read_program d = read_node max_levels root untyped d

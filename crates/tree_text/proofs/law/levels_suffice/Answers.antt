@@ -1,7 +1,8 @@
 use Rattle.std.proofs.Common.{arith}
-use Rattle.js_syntax.specs.Table.{root}
+use Rattle.js_syntax.specs.Class.{root}
 use Rattle.tree_text.specs.Fault.{untyped}
-use Rattle.tree_text.proofs.Levels.{node_ends, untyped_is_no_level}
+use Rattle.tree_text.proofs.Plain.{untyped_is_no_level}
+use Rattle.tree_text.proofs.Levels.{node_ends}
 use Rattle.tree_text.proofs.law.levels_suffice.Goals as goal
 
 pub returns : goal.returns

@@ -1,0 +1,3 @@
+pub mod Place
+pub mod Scan
+pub mod Scalar
