@@ -1,5 +1,4 @@
 pub mod Appending
-pub mod Rows
-pub mod Plain
-pub mod PlainTrees
-pub mod Reading
+pub mod Names
+pub mod Parts
+pub mod Sizes

@@ -1,0 +1,4 @@
+pub mod Entry
+pub mod Entries
+pub mod Members
+pub mod Form

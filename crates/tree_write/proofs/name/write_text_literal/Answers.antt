@@ -1,0 +1,6 @@
+use Rattle.tree_write.proofs.Appending.{one, ◌then◌}
+use Rattle.tree_write.proofs.name.write_text_literal.Goals as goal
+
+pub returns : goal.returns
+returns c =
+    one c.in_ok-begin_object.ensures then one c.in_ok-key.ensures then one c.in_ok-string.ensures then one c.in_ok-key-2.ensures then one c.in_ok-string-2.ensures then one c.in_ok-end_object.ensures

@@ -1,0 +1,114 @@
+// Names and literals that are no nodes.
+ghost use Rattle.std.specs.Prelude.{◌≡◌, ◌||◌};
+ghost use Rattle.tree_text.specs.Text.{starts_name, is_between, continues_name, is_identifier_name, identifier, text_literal, whole_number, minus, name_data, module_name_data};
+ghost use Rattle.tree_write.specs.Tokens.{data_tokens, Appends};
+
+use js_syntax::ModuleName;
+use json::Writer;
+use std::alloc::AllocError;
+
+fn starts_name(c: u8) -> bool
+    ensures { result ≡ starts_name c }
+{
+    (b'A'..=b'Z').contains(&c) || (b'a'..=b'z').contains(&c) || c == b'$' || c == b'_' || c >= 128
+}
+
+fn is_in_name(c: u8) -> bool
+    ensures { result ≡ starts_name c || is_between 48 57 c }
+{
+    starts_name(c) || (b'0'..=b'9').contains(&c)
+}
+
+fn continues_name(bytes: &[u8]) -> bool
+    ensures { result ≡ continues_name bytes.now }
+{
+    for c in bytes {
+        if !is_in_name(*c) {
+            return false;
+        }
+    }
+    true
+}
+
+/// Whether a text is read as one name.
+fn is_identifier_name(text: &str) -> bool
+    ensures { result ≡ is_identifier_name text.now }
+{
+    match text.as_bytes() {
+        [] => false,
+        [first, rest @ ..] => starts_name(*first) && continues_name(rest),
+    }
+}
+
+pub(crate) fn write_identifier(out: &mut Writer, name: &str) -> Result<(), AllocError>
+    ensures { Appends result out.old out.new (data_tokens (identifier name.now)) }
+{
+    out.begin_object()?;
+    out.key("name")?;
+    out.string(name)?;
+    out.key("type")?;
+    out.string("Identifier")?;
+    out.end_object()?;
+    Ok(())
+}
+
+pub(crate) fn write_text_literal(out: &mut Writer, text: &str) -> Result<(), AllocError>
+    ensures { Appends result out.old out.new (data_tokens (text_literal text.now)) }
+{
+    out.begin_object()?;
+    out.key("type")?;
+    out.string("Literal")?;
+    out.key("value")?;
+    out.string(text)?;
+    out.end_object()?;
+    Ok(())
+}
+
+pub(crate) fn write_whole_number(out: &mut Writer, number: u64) -> Result<(), AllocError>
+    ensures { Appends result out.old out.new (data_tokens (whole_number number)) }
+{
+    out.begin_object()?;
+    out.key("type")?;
+    out.string("Literal")?;
+    out.key("value")?;
+    out.u64(number)?;
+    out.end_object()?;
+    Ok(())
+}
+
+/// A negative number, as unary minus on its magnitude: JSON's literals aren't negative in ESTree.
+pub(crate) fn write_minus(out: &mut Writer, magnitude: u64) -> Result<(), AllocError>
+    ensures { Appends result out.old out.new (data_tokens (minus magnitude)) }
+{
+    out.begin_object()?;
+    out.key("argument")?;
+    write_whole_number(out, magnitude)?;
+    out.key("operator")?;
+    out.string("-")?;
+    out.key("prefix")?;
+    out.boolean(true)?;
+    out.key("type")?;
+    out.string("UnaryExpression")?;
+    out.end_object()?;
+    Ok(())
+}
+
+/// A name that may be a text as well.
+pub(crate) fn write_name(out: &mut Writer, name: &str) -> Result<(), AllocError>
+    ensures { Appends result out.old out.new (data_tokens (name_data name.now)) }
+{
+    if is_identifier_name(name) {
+        write_identifier(out, name)
+    } else {
+        write_text_literal(out, name)
+    }
+}
+
+pub(crate) fn write_module_name(out: &mut Writer, name: &ModuleName) -> Result<(), AllocError>
+    ensures { Appends result out.old out.new (data_tokens (module_name_data name.now)) }
+{
+    match name {
+        ModuleName::Name(name) => write_name(out, name.as_str()),
+        ModuleName::Text(text) => write_text_literal(out, text.as_str()),
+    }
+}
