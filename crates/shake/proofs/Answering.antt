@@ -1,5 +1,5 @@
 -- From what was read to the answer.
-use Rattle.std.proofs.Common.{◌≡◌, inl, inr, ◌++◌, ℕ, List, [], Option, Some, None, Ok, refl, ap₂, subst, ◌∙◌, append-nil}
+use Rattle.std.proofs.Common.{◌≡◌, ◌⊎◌, inl, inr, ◌++◌, ℕ, List, [], Option, Some, None, Ok, refl, ap₂, subst, ◌∙◌, append-nil}
 use Rattle.outside.specs.Moves.{HasFailed, Known, SendsFront}
 use Rattle.js_syntax.specs.Node.{Forest}
 use Rattle.words.specs.declared.answer.Command.{Command}
@@ -7,13 +7,12 @@ use Rattle.tree_text.specs.Answer.{IsCauseOf, IsReadAs}
 use Rattle.tree_text.specs.Fault.{out_of_range}
 use Rattle.tree_text.specs.declared.error.TreeError.{TreeError}
 use Rattle.tree_text.specs.declared.error.TreeError.TheVariants as error
-use Rattle.shake.specs.Answer.{Answers, IsLineFor}
-use Rattle.shake.specs.Fault.{fault_of, IsAnswerTo, refusal_line}
-use Rattle.shake.specs.Line.{Says}
-use Rattle.js_tree.specs.View.{program_tree}
-use Rattle.js_tree.specs.declared.tree.Program.{Program}
-use Rattle.shake.specs.Pass.{shaken, passes_of}
-use Rattle.shake.specs.Run.{command_output, shaken_output}
+use Rattle.shake.specs.Answer.{TreeAnswers, IsTreeLineFor, Answers, IsLineFor}
+use Rattle.shake.specs.Fault.{fault_of, IsAnswerTo, refusal_line, IsLargeAnswer, large_answer_line}
+use Rattle.shake.specs.Line.{Says, status_line}
+use Rattle.js_syntax.specs.Node.{Tree, forest_of}
+use Rattle.shake.specs.Limit.{IsWithinLimits, IsTooLarge}
+use Rattle.shake.specs.Run.{shaken_output}
 use Rattle.shake.specs.declared.status.Status.{Status}
 use Rattle.shake.specs.declared.status.Status.TheVariants as status
 
@@ -49,27 +48,62 @@ no_bytes (Some w) = (([], ([], refl), rw (append-nil w) refl), rw (append-nil w)
 pub says_nothing : (bytes : List ℕ) (written : Option (List ℕ)) (faults : ℕ) → Says (IsLineFor status.Ok bytes) written written faults faults
 says_nothing bytes written faults = ([], refl, (no_bytes written).0, inr (no_bytes written).1)
 
--- ---- what is written
+-- ---- a tree
 
-sent_is : (command : Command) (p q : Program) (passes : ℕ) (text sent : List ℕ) → program_tree q ≡ shaken (program_tree p) → passes ≡ passes_of (program_tree p)
-    → text ≡ command_output command (program_tree q) passes → sent ≡ text → sent ≡ shaken_output command (program_tree p)
-sent_is command p q passes text sent tree count made same = same ∙ made ∙ ap₂ (λ (t : Forest) (n : ℕ). command_output command t n) tree count
+pub tree_answers : (command : Command) (s : Status) (t : Tree) (slice bytes : List ℕ) (written now : Option (List ℕ)) (faults later : ℕ) → IsReadAs slice (Ok (forest_of t)) → slice ≡ bytes
+    → TreeAnswers command s (forest_of t) written now faults later → Answers command s bytes written now faults later
+tree_answers command status.Ok t slice bytes written now faults later is same a = (forest_of t, subst (λ (b : List ℕ). IsReadAs b (Ok (forest_of t))) same is, a.0, a.1, a.2)
+tree_answers command status.WriteFault t slice bytes written now faults later is same a = (forest_of t, subst (λ (b : List ℕ). IsReadAs b (Ok (forest_of t))) same is, a.0, a.1, a.2, a.3)
+tree_answers command status.TooLarge t slice bytes written now faults later is same a = (forest_of t, subst (λ (b : List ℕ). IsReadAs b (Ok (forest_of t))) same is, a.0, a.1)
+tree_answers command status.OutOfMemory t slice bytes written now faults later is same a = a
+tree_answers command status.Usage t slice bytes written now faults later is same a = absurd a
+tree_answers command status.ReadFault t slice bytes written now faults later is same a = absurd a
+tree_answers command status.InputTooLong t slice bytes written now faults later is same a = absurd a
+tree_answers command status.Syntax t slice bytes written now faults later is same a = absurd a
+tree_answers command status.Tree t slice bytes written now faults later is same a = absurd a
 
-pub wrote_all : (command : Command) (p q : Program) (passes : ℕ) (slice bytes text sent : List ℕ) (written now : Option (List ℕ)) (faults later : ℕ) → IsReadAs slice (Ok (program_tree p)) → slice ≡ bytes
-    → program_tree q ≡ shaken (program_tree p) → passes ≡ passes_of (program_tree p) → text ≡ command_output command (program_tree q) passes → sent ≡ text
-    → Known (λ w. w ++ sent) written now → Answers command status.Ok bytes written now faults later
-wrote_all command p q passes slice bytes text sent written now faults later is same tree count made as_text out = (
-  program_tree p,
-  subst (λ (b : List ℕ). IsReadAs b (Ok (program_tree p))) same is,
-  subst (λ (s : List ℕ). Known (λ w. w ++ s) written now) (sent_is command p q passes text sent tree count made as_text) out,
-)
+tree_line : (command : Command) (s : Status) (t : Tree) (slice bytes line : List ℕ) (written now : Option (List ℕ)) (faults later : ℕ) → IsReadAs slice (Ok (forest_of t)) → slice ≡ bytes
+    → TreeAnswers command s (forest_of t) written now faults later → IsTreeLineFor s (forest_of t) line → IsLineFor s bytes line
+tree_line command status.Ok t slice bytes line written now faults later is same a says = says
+tree_line command status.WriteFault t slice bytes line written now faults later is same a says = says
+tree_line command status.TooLarge t slice bytes line written now faults later is same a says = (forest_of t, says, subst (λ (b : List ℕ). IsReadAs b (Ok (forest_of t))) same is)
+tree_line command status.OutOfMemory t slice bytes line written now faults later is same a says = says
+tree_line command status.Usage t slice bytes line written now faults later is same a says = absurd a
+tree_line command status.ReadFault t slice bytes line written now faults later is same a says = absurd a
+tree_line command status.InputTooLong t slice bytes line written now faults later is same a says = absurd a
+tree_line command status.Syntax t slice bytes line written now faults later is same a says = absurd a
+tree_line command status.Tree t slice bytes line written now faults later is same a says = absurd a
 
-pub wrote_front : (command : Command) (p q : Program) (passes : ℕ) (slice bytes text sent : List ℕ) (written now : Option (List ℕ)) (faults later : ℕ) → IsReadAs slice (Ok (program_tree p)) → slice ≡ bytes
-    → program_tree q ≡ shaken (program_tree p) → passes ≡ passes_of (program_tree p) → text ≡ command_output command (program_tree q) passes → sent ≡ text
-    → SendsFront sent written now → HasFailed faults later → Answers command status.WriteFault bytes written now faults later
-wrote_front command p q passes slice bytes text sent written now faults later is same tree count made as_text out failed = (
-  program_tree p,
-  subst (λ (b : List ℕ). IsReadAs b (Ok (program_tree p))) same is,
-  subst (λ (s : List ℕ). SendsFront s written now) (sent_is command p q passes text sent tree count made as_text) out,
-  failed,
-)
+pub tree_says : (command : Command) (s : Status) (t : Tree) (slice bytes : List ℕ) (written now : Option (List ℕ)) (faults later : ℕ) (said said_now : Option (List ℕ)) (err_faults err_later : ℕ)
+    → IsReadAs slice (Ok (forest_of t)) → slice ≡ bytes → TreeAnswers command s (forest_of t) written now faults later
+    → Says (IsTreeLineFor s (forest_of t)) said said_now err_faults err_later → Says (IsLineFor s bytes) said said_now err_faults err_later
+tree_says command s t slice bytes written now faults later said said_now err_faults err_later is same a line =
+    (line.0, tree_line command s t slice bytes line.0 written now faults later is same a line.1, line.2, line.3)
+
+pub large_answers : (command : Command) (s : Status) (t : Forest) (w : Option (List ℕ)) (f : ℕ) → IsTooLarge t → IsLargeAnswer s → TreeAnswers command s t w w f f
+large_answers command s t w f large (inl told) = rw told (large, refl)
+large_answers command s t w f large (inr short) = rw short refl
+
+large_line_for : (s : Status) (t : Forest) (line : List ℕ) → IsLargeAnswer s → line ≡ large_answer_line t s → IsTreeLineFor s t line
+large_line_for s t line (inl told) says = rw told (rw told at says)
+large_line_for s t line (inr short) says = rw short (rw short at says)
+
+pub large_says : (s : Status) (t : Forest) (said said_now : Option (List ℕ)) (faults later : ℕ) → IsLargeAnswer s → Says (λ l. l ≡ large_answer_line t s) said said_now faults later → Says (IsTreeLineFor s t) said said_now faults later
+large_says s t said said_now faults later answer line = (line.0, large_line_for s t line.0 answer line.1, line.2, line.3)
+
+-- ---- what is sent
+
+pub sent_answers : (command : Command) (s : Status) (t : Forest) (references : ℕ) (text : List ℕ) (written now : Option (List ℕ)) (faults later : ℕ) → IsWithinLimits t → text ≡ shaken_output command t references
+    → (s ≡ status.Ok) ⊎ (s ≡ status.WriteFault) → (s ≡ status.Ok → Known (λ w. w ++ text) written now) → (s ≡ status.WriteFault → SendsFront text written now × HasFailed faults later)
+    → TreeAnswers command s t written now faults later
+sent_answers command s t references text written now faults later within is (inl told) sent front =
+    rw told (within, references, subst (λ (x : List ℕ). Known (λ w. w ++ x) written now) is (sent told))
+sent_answers command s t references text written now faults later within is (inr told) sent front =
+    rw told (within, references, subst (λ (x : List ℕ). SendsFront x written now) is (front told).0, (front told).1)
+
+sent_line_for : (s : Status) (t : Forest) (line : List ℕ) → (s ≡ status.Ok) ⊎ (s ≡ status.WriteFault) → line ≡ status_line s → IsTreeLineFor s t line
+sent_line_for s t line (inl told) says = rw told (rw told at says)
+sent_line_for s t line (inr told) says = rw told (rw told at says)
+
+pub sent_says : (s : Status) (t : Forest) (said said_now : Option (List ℕ)) (faults later : ℕ) → (s ≡ status.Ok) ⊎ (s ≡ status.WriteFault) → Says (λ l. l ≡ status_line s) said said_now faults later → Says (IsTreeLineFor s t) said said_now faults later
+sent_says s t said said_now faults later answer line = (line.0, sent_line_for s t line.0 answer line.1, line.2, line.3)

@@ -1,7 +1,7 @@
 -- The exit status of each answer.
 use Rattle.std.specs.Prelude.{ℕ}
 use Rattle.shake.specs.declared.status.Status.{Status}
-use Rattle.shake.specs.declared.status.Status.TheVariants.{Ok, Usage, ReadFault, InputTooLong, Syntax, Tree, WriteFault, OutOfMemory}
+use Rattle.shake.specs.declared.status.Status.TheVariants.{Ok, Usage, ReadFault, InputTooLong, Syntax, Tree, TooLarge, WriteFault, OutOfMemory}
 
 abbrev pub code_of : Status → ℕ
 code_of Ok = 0
@@ -10,5 +10,6 @@ code_of ReadFault = 2
 code_of InputTooLong = 3
 code_of Syntax = 4
 code_of Tree = 5
+code_of TooLarge = 6
 code_of WriteFault = 8
 code_of OutOfMemory = 9

@@ -3,7 +3,8 @@ use Rattle.std.specs.Prelude.{◌≡◌, ◌⊎◌, ℕ, List, string_bytes}
 use Rattle.tree_text.specs.Fault.{Fault, too_deep, unknown_node, bad_field, out_of_range}
 use Rattle.tree_text.specs.declared.error.TreeError.{TreeError}
 use Rattle.tree_text.specs.declared.error.TreeError.TheVariants as error
-use Rattle.shake.specs.Line.{fault_line, status_line}
+use Rattle.shake.specs.Line.{fault_line, too_large_line, status_line}
+use Rattle.js_syntax.specs.Node.{Forest}
 use Rattle.shake.specs.declared.status.Status.{Status}
 use Rattle.shake.specs.declared.status.Status.TheVariants as status
 
@@ -24,6 +25,14 @@ status_of error.OutOfMemory = status.OutOfMemory
 -- the answer for an error; memory for its line may be short
 abbrev pub IsAnswerTo : TreeError → Status → Type 0
 IsAnswerTo e s = (s ≡ status_of e) ⊎ (s ≡ status.OutOfMemory)
+
+-- the answer for a tree that is too large, and its line; memory for the line may be short
+abbrev pub IsLargeAnswer : Status → Type 0
+IsLargeAnswer s = (s ≡ status.TooLarge) ⊎ (s ≡ status.OutOfMemory)
+
+abbrev pub large_answer_line : Forest → Status → List ℕ
+large_answer_line t status.TooLarge = too_large_line t
+large_answer_line t s = status_line s
 
 abbrev pub refusal_line : TreeError → Status → List ℕ
 refusal_line e status.Tree = fault_line (fault_of e)

@@ -1,7 +1,6 @@
 pub mod Code
 pub mod Answer
 pub mod Fault
-pub mod Items
-pub mod Pass
+pub mod Limit
 pub mod Line
 pub mod Run

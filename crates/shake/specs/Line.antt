@@ -1,8 +1,11 @@
 -- What the program says on standard error.
-use Rattle.std.specs.Prelude.{◌≡◌, ◌≢◌, ◌⊎◌, ◌&&◌, ◌||◌, ◌==◌, ℕ, List, [], ◌∷◌, ◌++◌, flat_map, Bool, nat_le, nat_lt, Option, Some, None, Err, codes, if◌then◌else◌}
+use Rattle.std.specs.Prelude.{◌≡◌, ◌≢◌, ◌⊎◌, ◌&&◌, ◌||◌, ◌==◌, ℕ, List, [], ◌∷◌, ◌++◌, flat_map, Bool, nat_le, nat_lt, Option, Some, None, Ok, Err, codes, decimal, min, ◌+◌, if◌then◌else◌}
 use Rattle.outside.specs.Moves.{HasFailed, Known, SendsFront}
 use Rattle.tree_text.specs.Fault.{Fault, too_deep, unknown_node, bad_field, out_of_range}
 use Rattle.tree_text.specs.Answer.{IsReadAs}
+use Rattle.js_syntax.specs.Node.{Forest}
+use Rattle.js_count.specs.Count.{node_count, levels}
+use Rattle.shake.specs.Limit.{max_nodes, max_levels}
 use Rattle.shake.specs.declared.status.Status.{Status}
 use Rattle.shake.specs.declared.status.Status.TheVariants as status
 
@@ -34,8 +37,16 @@ status_line status.ReadFault = codes "shake: read fault\n"
 status_line status.InputTooLong = codes "shake: input too long\n"
 status_line status.Syntax = codes "shake: not JSON\n"
 status_line status.Tree = []
+status_line status.TooLarge = []
 status_line status.WriteFault = codes "shake: write fault\n"
 status_line status.OutOfMemory = codes "shake: out of memory\n"
+
+-- both counts, each capped one past its limit
+abbrev pub large_line : (nodes levels : ℕ) → List ℕ
+large_line nodes levels = codes "shake: too large: nodes " ++ (decimal nodes ++ (codes " levels " ++ (decimal levels ++ codes "\n")))
+
+abbrev pub too_large_line : Forest → List ℕ
+too_large_line t = large_line (min (node_count t) (max_nodes + 1)) (min (levels t) (max_levels + 1))
 
 -- where the source tells its bytes
 abbrev pub Told : Option (List ℕ) → (List ℕ → Type 0) → Type 0
@@ -46,9 +57,10 @@ Told (Some bytes) P = P bytes
 abbrev pub HasFault : Option (List ℕ) → Fault → Type 0
 HasFault left f = (f ≢ too_deep) × Told left (λ bytes. IsReadAs bytes (Err f))
 
--- the line of an answer; that of a tree's fault names it
+-- the line of an answer; that of a tree's fault names it, and that of a tree too large counts it
 abbrev pub IsLineOf : Status → Option (List ℕ) → List ℕ → Type 0
 IsLineOf status.Tree left line = (f : Fault) × (line ≡ fault_line f) × HasFault left f
+IsLineOf status.TooLarge left line = (t : Forest) × (line ≡ too_large_line t) × Told left (λ bytes. IsReadAs bytes (Ok t))
 IsLineOf s left line = line ≡ status_line s
 
 -- a line went out, or a front of it where a fault came

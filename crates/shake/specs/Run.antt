@@ -8,7 +8,8 @@ use Rattle.tree_text.specs.Text.{text_of}
 use Rattle.words.specs.Meaning.{command_of}
 use Rattle.words.specs.declared.answer.Command.{Command}
 use Rattle.words.specs.declared.answer.Command.TheVariants.{Dce}
-use Rattle.shake.specs.Pass.{shaken, passes_of}
+use Rattle.js_pass.specs.Pass.{shaken, passes_of}
+use Rattle.shake.specs.Limit.{IsWithinLimits, IsTooLarge}
 use Rattle.shake.specs.Line.{Told, HasFault}
 use Rattle.shake.specs.declared.status.Status.{Status}
 use Rattle.shake.specs.declared.status.Status.TheVariants as status
@@ -30,28 +31,29 @@ abbrev pub tree_output_of : Forest → List ℕ
 tree_output_of t = text_of t ++ codes "\n"
 
 -- what a command writes for a tree that is left: with `--tree-only` the tree alone
-abbrev pub command_output : Command → Forest → (passes : ℕ) → List ℕ
-command_output (Dce false) t passes = output_of t passes 0
-command_output (Dce true) t passes = tree_output_of t
+abbrev pub command_output : Command → Forest → (passes references : ℕ) → List ℕ
+command_output (Dce false) t passes references = output_of t passes references
+command_output (Dce true) t passes references = tree_output_of t
 
 -- and for the tree that was read
-abbrev pub shaken_output : Command → Forest → List ℕ
-shaken_output command t = command_output command (shaken t) (passes_of t)
+abbrev pub shaken_output : Command → Forest → (references : ℕ) → List ℕ
+shaken_output command t references = command_output command (shaken t) (passes_of t) references
 
 -- the bytes, which are within the limit, are those of this tree
 abbrev pub IsTreeOf : List ℕ → Forest → Type 0
 IsTreeOf bytes t = (length bytes ≤ max_input) × IsReadAs bytes (Ok t)
 
--- answer 0: the words ask for a command, the bytes are a tree's, all of them were read, and its output went out whole
+-- answer 0: the words ask for a command, the bytes are a tree's that is within the limits, all of them were read, and its
+-- output went out whole, for some number of references: that number has no clause yet
 abbrev pub Shakes : (words : List (List ℕ)) (left left_now written written_now : Option (List ℕ)) → Type 0
 Shakes words left left_now written written_now =
-    (command : Command) × (command_of words ≡ Some command) × (t : Forest) × Told left (λ bytes. IsTreeOf bytes t) × Told left (λ _. left_now ≡ Some [])
-    × Known (λ w. w ++ shaken_output command t) written written_now
+    (command : Command) × (command_of words ≡ Some command) × (t : Forest) × Told left (λ bytes. IsTreeOf bytes t) × IsWithinLimits t × Told left (λ _. left_now ≡ Some [])
+    × (references : ℕ) × Known (λ w. w ++ shaken_output command t references) written written_now
 
 -- a fault of the sink: a front of that output went out
 abbrev pub ShakesFront : (words : List (List ℕ)) (left written written_now : Option (List ℕ)) → Type 0
 ShakesFront words left written written_now =
-    (command : Command) × (command_of words ≡ Some command) × (t : Forest) × Told left (λ bytes. IsTreeOf bytes t) × SendsFront (shaken_output command t) written written_now
+    (command : Command) × (command_of words ≡ Some command) × (t : Forest) × Told left (λ bytes. IsTreeOf bytes t) × IsWithinLimits t × (references : ℕ) × SendsFront (shaken_output command t references) written written_now
 
 -- the bytes, which are within the limit, are no JSON
 abbrev pub IsBadJson : Option (List ℕ) → Type 0
@@ -61,14 +63,18 @@ IsBadJson left = Told left (λ bytes. (length bytes ≤ max_input) × IsNoJson b
 abbrev pub IsBadTree : Option (List ℕ) → Type 0
 IsBadTree left = (f : Fault) × HasFault left f × Told left (λ bytes. length bytes ≤ max_input)
 
+-- the bytes, which are within the limit, are those of a tree that is too large
+abbrev pub IsLargeTree : Option (List ℕ) → Type 0
+IsLargeTree left = (t : Forest) × IsTooLarge t × Told left (λ bytes. IsTreeOf bytes t)
+
 -- Only with these two answers is anything written.
 abbrev pub writes : Status → Bool
 writes status.Ok = true
 writes status.WriteFault = true
 writes _ = false
 
--- where the words are accepted, the bytes are a tree's and nothing fails, the answer is 0, unless memory is short
+-- where the words are accepted, the bytes are a tree's that is within the limits and nothing fails, the answer is 0, unless memory is short
 abbrev pub Completes : (accepted : Bool) (left : Option (List ℕ)) (source_faults source_later out_faults out_later : ℕ) → Status → Type 0
 Completes accepted left source_faults source_later out_faults out_later s =
-    accepted ≡ true → (bytes : List ℕ) → left ≡ Some bytes → (t : Forest) → IsTreeOf bytes t → ¬ HasFailed source_faults source_later → ¬ HasFailed out_faults out_later
+    accepted ≡ true → (bytes : List ℕ) → left ≡ Some bytes → (t : Forest) → IsTreeOf bytes t → IsWithinLimits t → ¬ HasFailed source_faults source_later → ¬ HasFailed out_faults out_later
     → (s ≡ status.Ok) ⊎ (s ≡ status.OutOfMemory)

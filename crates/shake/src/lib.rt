@@ -4,12 +4,11 @@
 //! writes what is left and a line of counts to a sink. Its contract, with the definitions of
 //! `specs/Run.antt`, says for each answer exactly when it comes and what was written then; memory may
 //! be short at any time. It stands on `outside` (sources and sinks), `tree_read` and `tree_write`
-//! (from bytes to trees and back), and `js_tree`.
+//! (from bytes to trees and back), `js_count` (the limits) and `js_pass` (what is left of a tree).
 #![tactic(auto)]
 
 mod line;
 mod output;
-mod pass;
 mod run;
 mod status;
 #[cfg(test)]

@@ -2,7 +2,7 @@
 ghost use Rattle.std.specs.Prelude.{◌≡◌, ◌≤◌, ◌++◌, IfOk, OnOk, string_bytes};
 ghost use Rattle.tree_text.specs.Fault.{unknown_node, bad_field};
 ghost use Rattle.shake.specs.Line as spec;
-ghost use Rattle.shake.specs.Line.{Says, shown, fault_line};
+ghost use Rattle.shake.specs.Line.{Says, shown, fault_line, large_line};
 ghost use Rattle.shake.specs.Fault.{fault_of, IsAnswerTo, refusal_line};
 
 use crate::status::Status;
@@ -73,6 +73,13 @@ fn field_line(alloc: Global, kind: &str, field: &str) -> Result<String, AllocErr
     ensures { IfOk result (λ s. string_bytes s ≡ fault_line (bad_field kind.now field.now)) }
 {
     format!(in alloc; "shake: bad field {field} in {kind}\n")
+}
+
+/// The line of a tree that is too large, with both counts.
+pub fn large_text(alloc: Global, nodes: usize, levels: usize) -> Result<String, AllocError>
+    ensures { IfOk result (λ s. string_bytes s ≡ large_line nodes levels) }
+{
+    format!(in alloc; "shake: too large: nodes {nodes} levels {levels}\n")
 }
 
 /// The line of a fault of a tree, or none where there is no such line.

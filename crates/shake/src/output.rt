@@ -1,6 +1,6 @@
 // The text that the program writes.
 ghost use Rattle.std.specs.Prelude.{◌≡◌, ◌++◌, IfOk, codes, string_bytes};
-ghost use Rattle.js_tree.specs.View.{program_tree};
+ghost use Rattle.js_syntax.specs.Node.{forest_of};
 ghost use Rattle.shake.specs.Run.{command_output, counts_of};
 
 use js_tree::Program;
@@ -30,12 +30,13 @@ pub fn output(
     command: Command,
     program: &Program,
     passes: u64,
+    references: u64,
 ) -> Result<String, AllocError>
-    ensures { IfOk result (λ s. string_bytes s ≡ command_output command (program_tree program.now) passes) }
+    ensures { IfOk result (λ s. string_bytes s ≡ command_output command (forest_of program.now) passes references) }
 {
     let text = write_tree(alloc, program)?.into_string();
     match command {
         Command::Dce { tree_only: true } => with_newline(text),
-        Command::Dce { tree_only: false } => with_counts(text, passes, 0),
+        Command::Dce { tree_only: false } => with_counts(text, passes, references),
     }
 }

@@ -1,20 +1,26 @@
 // The program, over any source and sinks.
-ghost use Rattle.std.specs.Prelude.{◌≡◌, ◌≤◌, false, true, map, string_bytes};
-ghost use Rattle.outside.specs.Moves.{HasFailed};
+ghost use Rattle.std.specs.Prelude.{◌≡◌, ◌≤◌, ◌⊎◌, ◌++◌, ℕ, None, IfOk, IfSome, false, true, map, string_bytes};
+ghost use Rattle.js_syntax.specs.Node.{forest_of};
+ghost use Rattle.shake.specs.Limit.{IsWithinLimits, IsTooLarge};
+ghost use Rattle.shake.specs.Fault.{IsLargeAnswer, large_answer_line};
+ghost use Rattle.outside.specs.Moves.{HasFailed, Known, SendsFront};
 ghost use Rattle.outside.specs.Reading.{IsLonger};
 ghost use Rattle.tree_text.specs.Answer.{IsCauseOf};
 ghost use Rattle.words.specs.Meaning.{accepts};
 ghost use Rattle.shake.specs.Line.{Says, IsLineOf, status_line};
 ghost use Rattle.shake.specs.Fault.{IsAnswerTo, refusal_line};
-ghost use Rattle.shake.specs.Answer.{Answers, IsLineFor};
-ghost use Rattle.shake.specs.Run.{max_input, Shakes, ShakesFront, IsBadJson, IsBadTree, writes, Completes};
+ghost use Rattle.shake.specs.Answer.{TreeAnswers, IsTreeLineFor, Answers, IsLineFor};
+ghost use Rattle.shake.specs.Run.{max_input, shaken_output, Shakes, ShakesFront, IsBadJson, IsBadTree, IsLargeTree, writes, Completes};
 
-use crate::line::{fault_text, say};
+use crate::line::{fault_text, large_text, say};
 use crate::output::output;
-use crate::pass::shake_program;
 use crate::status::Status;
+use js_count::{count_nodes, depth};
+use js_pass::shake_program;
+use js_references::resolved_references;
+use js_tree::Program;
 use outside::{ReadAllError, Sink, Source, read_all, write_all};
-use std::alloc::Global;
+use std::alloc::{AllocError, Global};
 use tree_read::{TreeError, read_tree};
 use words::{Command, WordsError, parse};
 
@@ -52,6 +58,82 @@ fn refuse<E: Sink>(alloc: Global, error: TreeError, err: &mut E) -> Status
     }
 }
 
+// How many nodes and levels a program may have.
+const MAX_NODES: u32 = 16_777_216;
+
+const MAX_LEVELS: u32 = 1000;
+
+// Says how large a program is, if it is too large.
+fn refuse_large<E: Sink>(alloc: Global, program: &Program, err: &mut E) -> Option<Status>
+    ensures none { result ≡ None → IsWithinLimits (forest_of program.now) }
+    ensures some { IfSome result (λ s. IsTooLarge (forest_of program.now) × IsLargeAnswer s) }
+    ensures unsaid { result ≡ None → (E.written err.new ≡ E.written err.old) × (E.faults err.new ≡ E.faults err.old) }
+    ensures line { IfSome result (λ s. Says (λ l. l ≡ large_answer_line (forest_of program.now) s) (E.written err.old) (E.written err.new) (E.faults err.old) (E.faults err.new)) }
+    ensures later { E.faults err.old ≤ E.faults err.new }
+{
+    let nodes = count_nodes(program, MAX_NODES);
+    let levels = depth(program, MAX_LEVELS);
+    if nodes <= MAX_NODES as usize && levels <= MAX_LEVELS as usize {
+        return None;
+    }
+    match large_text(alloc, nodes, levels) {
+        Ok(line) => {
+            say(err, line.as_str());
+            Some(Status::TooLarge)
+        }
+        Err(_) => Some(out_of_memory(err)),
+    }
+}
+
+// What is written for a program: what is left of it, and the line of counts.
+fn shaken_text(alloc: Global, command: Command, program: Program) -> Result<String, AllocError>
+    ensures { IfOk result (λ s. (references : ℕ) × (string_bytes s ≡ shaken_output command (forest_of program) references)) }
+{
+    let (left, passes) = shake_program(alloc, program)?;
+    let references = resolved_references(alloc, &left)?;
+    output(alloc, command, &left, passes, references)
+}
+
+// Sends what is written for a program that is within the limits.
+fn send<K: Sink, E: Sink>(text: String, out: &mut K, err: &mut E) -> Status
+    ensures sent { result ≡ Status.Ok → Known (λ w. w ++ string_bytes text) (K.written out.old) (K.written out.new) }
+    ensures front { result ≡ Status.WriteFault → SendsFront (string_bytes text) (K.written out.old) (K.written out.new) × HasFailed (K.faults out.old) (K.faults out.new) }
+    ensures answer { (result ≡ Status.Ok) ⊎ (result ≡ Status.WriteFault) }
+    ensures line { Says (λ l. l ≡ status_line result) (E.written err.old) (E.written err.new) (E.faults err.old) (E.faults err.new) }
+    ensures out_later { K.faults out.old ≤ K.faults out.new }
+    ensures err_later { E.faults err.old ≤ E.faults err.new }
+{
+    match write_all(out, text.as_bytes()) {
+        Ok(()) => Status::Ok,
+        Err(_) => {
+            say(err, "shake: write fault\n");
+            Status::WriteFault
+        }
+    }
+}
+
+// Shakes a program that was read.
+fn answer_tree<K: Sink, E: Sink>(
+    alloc: Global,
+    command: Command,
+    program: Program,
+    out: &mut K,
+    err: &mut E,
+) -> Status
+    ensures answer { TreeAnswers command result (forest_of program) (K.written out.old) (K.written out.new) (K.faults out.old) (K.faults out.new) }
+    ensures line { Says (IsTreeLineFor result (forest_of program)) (E.written err.old) (E.written err.new) (E.faults err.old) (E.faults err.new) }
+    ensures out_later { K.faults out.old ≤ K.faults out.new }
+    ensures err_later { E.faults err.old ≤ E.faults err.new }
+{
+    if let Some(status) = refuse_large(alloc, &program, err) {
+        return status;
+    }
+    match shaken_text(alloc, command, program) {
+        Ok(text) => send(text, out, err),
+        Err(_) => out_of_memory(err),
+    }
+}
+
 // Shakes the program that the bytes are.
 fn answer<K: Sink, E: Sink>(
     alloc: Global,
@@ -65,21 +147,12 @@ fn answer<K: Sink, E: Sink>(
     ensures out_later { K.faults out.old ≤ K.faults out.new }
     ensures err_later { E.faults err.old ≤ E.faults err.new }
 {
-    let mut program = match read_tree(alloc, bytes.as_slice()) {
-        Ok(program) => program,
-        Err(error) => return refuse(alloc, error, err),
-    };
-    drop(bytes);
-    let passes = shake_program(&mut program);
-    let Ok(text) = output(alloc, command, &program, passes) else {
-        return out_of_memory(err);
-    };
-    match write_all(out, text.as_bytes()) {
-        Ok(()) => Status::Ok,
-        Err(_) => {
-            say(err, "shake: write fault\n");
-            Status::WriteFault
+    match read_tree(alloc, bytes.as_slice()) {
+        Ok(program) => {
+            drop(bytes);
+            answer_tree(alloc, command, program, out, err)
         }
+        Err(error) => refuse(alloc, error, err),
     }
 }
 
@@ -105,6 +178,7 @@ pub fn shake<S: Source, K: Sink, E: Sink>(
     ensures input_too_long { result ≡ Status.InputTooLong → IsLonger (S.left source.old) max_input }
     ensures syntax { result ≡ Status.Syntax → IsBadJson (S.left source.old) }
     ensures tree { result ≡ Status.Tree → IsBadTree (S.left source.old) }
+    ensures too_large { result ≡ Status.TooLarge → IsLargeTree (S.left source.old) }
     ensures write_fault { result ≡ Status.WriteFault → HasFailed (K.faults out.old) (K.faults out.new) }
     ensures write_front { result ≡ Status.WriteFault → ShakesFront (map string_bytes words.now) (S.left source.old) (K.written out.old) (K.written out.new) }
 

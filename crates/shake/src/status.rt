@@ -17,13 +17,15 @@ pub enum Status {
     Syntax,
     /// The input is the JSON of no tree.
     Tree,
+    /// The tree has more than 2^24 nodes, or more than 1,000 levels of them.
+    TooLarge,
     /// The output could not be written.
     WriteFault,
     OutOfMemory,
 }
 
 impl Status {
-    /// The exit status of the program. 6 and 7 are left for refusals of whole trees.
+    /// The exit status of the program. 7 is left for a refusal of a tree that is ill formed.
     pub fn code(self) -> u8
         ensures { result ≡ code_of self }
     {
@@ -34,6 +36,7 @@ impl Status {
             Status::InputTooLong => 3,
             Status::Syntax => 4,
             Status::Tree => 5,
+            Status::TooLarge => 6,
             Status::WriteFault => 8,
             Status::OutOfMemory => 9,
         }
