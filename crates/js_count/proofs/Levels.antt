@@ -2,7 +2,7 @@
 use Rattle.std.proofs.Common.{◌≡◌, ◌<◌, ◌+◌, ◌∙◌, ℕ, List, Option, Some, None, length, get_or, drop, max, ap, sym, add-one}
 use Rattle.js_syntax.specs.Node.{Tree, row}
 use Rattle.js_count.specs.Count.{one_each, lower, levels_at}
-use Rattle.js_count.proofs.Children.{child_at, none_at}
+use Rattle.js_tree.proofs.Children.{child_at, none_at}
 
 -- what a child adds, where it stands so much lower than its parent's others
 abbrev pub child_levels : ℕ → Tree → ℕ

@@ -1,7 +1,6 @@
 -- One node of a row after another.
-use Rattle.std.proofs.Common.{◌≡◌, ◌≤◌, ◌+◌, ◌∙◌, ◌⊎◌, inl, inr, ℕ, List, [], ◌∷◌, Bool, true, false, Option, Some, None, length, if◌then◌else◌, refl, sym, ap, arith}
+use Rattle.std.proofs.Common.{◌≡◌, ◌∙◌, ◌⊎◌, inl, inr, List, [], ◌∷◌, Bool, true, false, Option, Some, length, if◌then◌else◌, refl, sym, ap, arith}
 use Rattle.js_syntax.specs.Node.{Forest, nothing, node, absent, joined, Tree, row, forest_of}
-use Rattle.js_tree.specs.Weight.{size_of, tree_size}
 use Rattle.js_tree.proofs.Rows.{joined_nothing, joined_assoc}
 use Rattle.js_pass.specs.Pass.{does_something, kept, shaken}
 use Rattle.js_pass.specs.Items.{trimmed_if}
@@ -40,9 +39,3 @@ all_done false all front rest h none = sym (h ∙ ap (λ ts. joined front (shake
 pub nothing_left : (xs : List (Option Tree)) → length xs ≡ 0 → xs ≡ []
 nothing_left [] h = refl
 nothing_left (x ∷ xs) h = absurd (omega (arith, h))
-
--- ---- sizes
-
-pub rest_smaller : (x : Option Tree) (xs : List (Option Tree)) → size_of (row xs) ≤ size_of (row (x ∷ xs))
-rest_smaller None xs = omega arith
-rest_smaller (Some t) xs = omega arith

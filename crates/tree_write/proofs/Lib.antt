@@ -1,4 +1,3 @@
 pub mod Appending
 pub mod Names
 pub mod Parts
-pub mod Sizes

@@ -1,5 +1,6 @@
 use Rattle.std.proofs.Common.{◌≡◌, Some, ap, sym, ◌∙◌, arith}
-use Rattle.js_clone.proofs.Children.{child_smaller, same_tree, one_more, all_copied}
+use Rattle.js_tree.proofs.Sizes.{child_smaller}
+use Rattle.js_clone.proofs.Children.{same_tree, one_more, all_copied}
 use Rattle.js_clone.proofs.walk.+clone_node.Goals as goal
 use Rattle.js_clone.proofs.walk.+clone_node.Goals.{in-Some+in_ok-clone_node-in-Some, in-None}
 

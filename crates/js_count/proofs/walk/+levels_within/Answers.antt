@@ -1,6 +1,7 @@
 use Rattle.std.proofs.Common.{◌≡◌, ◌∙◌, ap, arith}
 use Rattle.js_count.specs.Count.{one_each, lower, levels_at}
-use Rattle.js_count.proofs.Children.{none_left, child_smaller}
+use Rattle.js_tree.proofs.Children.{none_left}
+use Rattle.js_tree.proofs.Sizes.{child_smaller}
 use Rattle.js_count.proofs.Levels.{levels_child, levels_none}
 use Rattle.js_count.proofs.walk.+levels_within.Goals as goal
 use Rattle.js_count.proofs.walk.+levels_within.Goals.{in-Some, in_default}

@@ -1,6 +1,7 @@
 use Rattle.std.proofs.Common.{ap, arith}
 use Rattle.js_count.specs.Count.{one_each, node_count}
-use Rattle.js_count.proofs.Children.{child_at, none_at, none_left, child_smaller}
+use Rattle.js_tree.proofs.Children.{child_at, none_at, none_left}
+use Rattle.js_tree.proofs.Sizes.{child_smaller}
 use Rattle.js_count.proofs.walk.+take_nodes.Goals as goal
 use Rattle.js_count.proofs.walk.+take_nodes.Goals.{in-Some, in_default}
 

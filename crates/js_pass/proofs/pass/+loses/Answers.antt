@@ -1,8 +1,10 @@
-use Rattle.std.proofs.Common.{◌≡◌, ◌≤◌, ◌∙◌, Some, [], ◌∷◌, false, sym, arith, refl}
+use Rattle.std.proofs.Common.{◌≡◌, ◌≤◌, ◌∙◌, [], ◌∷◌, false, sym, arith, refl}
 use Rattle.js_syntax.specs.Node.{row}
 use Rattle.js_tree.specs.Weight.{size_of, tree_size}
 use Rattle.js_pass.specs.Pass.{loses}
-use Rattle.js_pass.proofs.Search.{loses_each, rest_of, none_found, child_size, item_smaller}
+use Rattle.js_tree.proofs.Search.{rest_of, none_found}
+use Rattle.js_tree.proofs.Sizes.{item_smaller}
+use Rattle.js_pass.proofs.Search.{loses_each}
 use Rattle.js_pass.proofs.pass.+loses.Goals.{any_loses-in-Some+else-node_loses, any_loses-in_default}
 use Rattle.js_pass.proofs.pass.+loses.Goals as goal
 

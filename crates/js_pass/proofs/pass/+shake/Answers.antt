@@ -1,10 +1,9 @@
-use Rattle.std.proofs.Common.{◌≡◌, ◌≤◌, ◌∙◌, ◌⊎◌, inl, inr, [], Bool, false, true, sym, arith, rules, refl, length}
-use Rattle.js_syntax.specs.Node.{row, forest_of}
-use Rattle.js_tree.specs.Weight.{size_of, tree_size}
+use Rattle.std.proofs.Common.{◌≡◌, ◌∙◌, ◌⊎◌, inl, inr, [], false, true, sym, arith, rules, refl}
+use Rattle.js_syntax.specs.Node.{row}
 use Rattle.js_tree.proofs.Rows.{row_push}
+use Rattle.js_tree.proofs.Sizes.{rest_smaller}
 use Rattle.js_pass.specs.Pass.{shaken, does_something}
-use Rattle.js_pass.specs.Items.{trimmed_if}
-use Rattle.js_pass.proofs.Steps.{shaken_front, absent_next, node_next, node_left, all_done, nothing_left, rest_smaller}
+use Rattle.js_pass.proofs.Steps.{shaken_front, absent_next, node_next, node_left, all_done, nothing_left}
 use Rattle.js_pass.proofs.pass.+shake.Goals.{shake_children-then-not-of_list-via-then-not-of_list, shake_children-then-not-of_list-via-else-not-of_list+then-does_something}
 use Rattle.js_pass.proofs.pass.+shake.Goals as goal
 

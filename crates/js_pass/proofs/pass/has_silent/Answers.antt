@@ -1,6 +1,7 @@
 use Rattle.std.proofs.Common.{◌∙◌, sym, arith, refl}
 use Rattle.js_pass.specs.Pass.{has_silent}
-use Rattle.js_pass.proofs.Search.{silent_each, found_at, rest_of, none_found}
+use Rattle.js_tree.proofs.Search.{found_at, rest_of, none_found}
+use Rattle.js_pass.proofs.Search.{silent_each}
 use Rattle.js_pass.proofs.pass.has_silent.Goals as goal
 
 pub returns-then-is_silent_child : goal.returns-then-is_silent_child

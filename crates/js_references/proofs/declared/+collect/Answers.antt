@@ -1,5 +1,5 @@
 use Rattle.std.proofs.Common.{arith}
-use Rattle.js_references.proofs.Children.{child_smaller}
+use Rattle.js_tree.proofs.Sizes.{child_smaller}
 use Rattle.js_references.proofs.declared.+collect.Goals as goal
 
 pub collect-requires : goal.collect-requires

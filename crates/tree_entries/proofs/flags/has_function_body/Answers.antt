@@ -1,6 +1,7 @@
-use Rattle.std.proofs.Common.{◌∙◌, sym, arith}
+use Rattle.std.proofs.Common.{◌∙◌, sym, refl, arith}
 use Rattle.js_syntax.specs.Hint.{has, is_function_body}
-use Rattle.tree_entries.proofs.Search.{has_each, found_at, rest_of, none_found}
+use Rattle.js_tree.proofs.Search.{found_at, rest_of, none_found}
+use Rattle.tree_entries.proofs.Search.{has_each}
 use Rattle.tree_entries.proofs.flags.has_function_body.Goals as goal
 
 pub returns-then-is_function_body : goal.returns-then-is_function_body
@@ -11,4 +12,4 @@ loop-child-preserved c =
     rest_of (has is_function_body) (has_each is_function_body) c.args.children.now c.loop-child.child-index c.child-item.result c.loop-child-test.true c.child-item.is (sym c.is_function_body.ensures ∙ c.if-is_function_body.false) c.loop-child.invariant
 
 pub returns : goal.returns
-returns c = sym (none_found is_function_body c.args.children.now c.loop-child.child-index (omega (arith, c.loop-child-test.false)) c.loop-child.invariant)
+returns c = sym (none_found (has is_function_body) c.args.children.now c.loop-child.child-index refl (omega (arith, c.loop-child-test.false)) c.loop-child.invariant)

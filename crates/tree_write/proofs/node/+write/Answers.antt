@@ -2,14 +2,13 @@ use Rattle.std.proofs.Common.{◌∙◌, flat_map, ap, sym, arith}
 use Rattle.std.proofs.lemmas.Bool.{ltb-true, ltb-false}
 use Rattle.std.proofs.lemmas.List.{take_all}
 use Rattle.std.proofs.lemmas.List.Folds.{flat_map-map}
-use Rattle.js_tree.specs.Weight.{size_of}
 use Rattle.tree_text.specs.Text.{row_datas}
 use Rattle.tree_entries.specs.Entry.{entry_view}
 use Rattle.tree_entries.specs.Entries.{entries_of}
 use Rattle.tree_write.specs.Tokens.{data_tokens, child_data, child_tokens, entry_tokens}
 use Rattle.tree_write.proofs.Appending.{one, ◌then◌, appended}
 use Rattle.tree_write.proofs.Parts.{datas_children, list_tokens, child_at_place, no_child_at_place}
-use Rattle.tree_write.proofs.Sizes.{item_smaller}
+use Rattle.js_tree.proofs.Sizes.{item_smaller}
 use Rattle.tree_write.proofs.node.+write.Goals as goal
 
 -- ---- children

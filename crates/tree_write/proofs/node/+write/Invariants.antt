@@ -1,8 +1,8 @@
-use Rattle.std.proofs.Common.{◌+◌, ◌*◌, take, flat_map, Option, Some, None}
+use Rattle.std.proofs.Common.{◌+◌, ◌*◌, take, flat_map}
 use Rattle.js_tree.specs.Weight.{tree_size}
 use Rattle.tree_entries.specs.Entry.{entry_view}
 use Rattle.tree_write.specs.Tokens.{IsAppended, child_tokens, entry_tokens}
-use Rattle.tree_write.proofs.Sizes.{child_size}
+use Rattle.js_tree.proofs.Sizes.{child_size}
 use Rattle.tree_write.proofs.node.+write.Given as goal
 
 -- the size of the tree, and then how near a function is to going down
