@@ -1,16 +1,7 @@
 """js_clone: a copy of a node's kind."""
 from table import *
 
-# What holds text is cloned by a function of its own; the other types are `Copy`.
-CLONES = {
-    'Ident': 'clone_ident', 'Text': 'clone_text', 'Key': 'clone_key', 'LiteralValue': 'clone_value', 'ModuleName': 'clone_module_name',
-    'TemplateText': 'clone_template_text', 'RegExpText': 'clone_reg_exp_text', 'Option<Ident>': 'clone_optional_ident',
-    'Option<Text>': 'clone_optional_text', 'Option<ModuleName>': 'clone_optional_module_name',
-}
-
-
-def copied(name, rust):
-    return '%s(alloc, %s)?' % (CLONES[rust], name) if rust in CLONES else '*' + name
+def copied(name, rust): return 'clone_%s(alloc, %s)?' % (OWNED[rust], name) if rust in OWNED else '*' + name
 
 
 def kind_file():

@@ -147,3 +147,10 @@ def variants_of_kind():
         out.setdefault(r.kind, Variant(r.kind, fields))
     for k in ['hole'] + LISTS: out[k] = Variant(k, [])
     return out
+
+
+# Types that hold a text: the functions over them are named after these words; the other types are `Copy`.
+OWNED = {
+    'Ident': 'ident', 'Text': 'text', 'Key': 'key', 'LiteralValue': 'value', 'ModuleName': 'module_name', 'TemplateText': 'template_text',
+    'RegExpText': 'reg_exp_text', 'Option<Ident>': 'optional_ident', 'Option<Text>': 'optional_text', 'Option<ModuleName>': 'optional_module_name',
+}
