@@ -1,4 +1,7 @@
 // The names that the scopes around a node declare.
+ghost use Rattle.std.specs.Prelude.{◌≡◌, true};
+ghost use Rattle.js_references.specs.References.{own_reference};
+
 use js_tree::NodeKind;
 use std::alloc::{AllocError, Global};
 use std::collections::BTreeMap;
@@ -35,7 +38,9 @@ impl<'a> Scopes<'a> {
     }
 
     /// Whether this is the kind of a reference that a scope around resolves.
-    pub(crate) fn resolve(&self, kind: &'a NodeKind) -> bool {
+    pub(crate) fn resolve(&self, kind: &'a NodeKind) -> bool
+        ensures reference { result ≡ true → own_reference kind.now ≡ 1 }
+    {
         match kind {
             NodeKind::ReferenceName(name) | NodeKind::TargetName(name) => {
                 self.declares(name.as_str())

@@ -1,5 +1,5 @@
 -- From what was read to the answer.
-use Rattle.std.proofs.Common.{◌≡◌, ◌⊎◌, inl, inr, ◌++◌, ℕ, List, [], Option, Some, None, Ok, refl, ap₂, subst, ◌∙◌, append-nil}
+use Rattle.std.proofs.Common.{◌≡◌, ◌⊎◌, inl, inr, ◌++◌, ℕ, List, [], Option, Some, None, Ok, refl, subst, append-nil}
 use Rattle.outside.specs.Moves.{HasFailed, Known, SendsFront}
 use Rattle.js_syntax.specs.Node.{Forest}
 use Rattle.words.specs.declared.answer.Command.{Command}
@@ -7,12 +7,13 @@ use Rattle.tree_text.specs.Answer.{IsCauseOf, IsReadAs}
 use Rattle.tree_text.specs.Fault.{out_of_range}
 use Rattle.tree_text.specs.declared.error.TreeError.{TreeError}
 use Rattle.tree_text.specs.declared.error.TreeError.TheVariants as error
+use Rattle.js_pass.specs.Pass.{shaken}
 use Rattle.shake.specs.Answer.{TreeAnswers, IsTreeLineFor, Answers, IsLineFor}
 use Rattle.shake.specs.Fault.{fault_of, IsAnswerTo, refusal_line, IsLargeAnswer, large_answer_line}
 use Rattle.shake.specs.Line.{Says, status_line}
 use Rattle.js_syntax.specs.Node.{Tree, forest_of}
 use Rattle.shake.specs.Limit.{IsWithinLimits, IsTooLarge}
-use Rattle.shake.specs.Run.{shaken_output}
+use Rattle.shake.specs.Run.{shaken_output, IsCountFor, IsReadBack}
 use Rattle.shake.specs.declared.status.Status.{Status}
 use Rattle.shake.specs.declared.status.Status.TheVariants as status
 
@@ -52,8 +53,8 @@ says_nothing bytes written faults = ([], refl, (no_bytes written).0, inr (no_byt
 
 pub tree_answers : (command : Command) (s : Status) (t : Tree) (slice bytes : List ℕ) (written now : Option (List ℕ)) (faults later : ℕ) → IsReadAs slice (Ok (forest_of t)) → slice ≡ bytes
     → TreeAnswers command s (forest_of t) written now faults later → Answers command s bytes written now faults later
-tree_answers command status.Ok t slice bytes written now faults later is same a = (forest_of t, subst (λ (b : List ℕ). IsReadAs b (Ok (forest_of t))) same is, a.0, a.1, a.2)
-tree_answers command status.WriteFault t slice bytes written now faults later is same a = (forest_of t, subst (λ (b : List ℕ). IsReadAs b (Ok (forest_of t))) same is, a.0, a.1, a.2, a.3)
+tree_answers command status.Ok t slice bytes written now faults later is same a = (forest_of t, subst (λ (b : List ℕ). IsReadAs b (Ok (forest_of t))) same is, a.0, a.1)
+tree_answers command status.WriteFault t slice bytes written now faults later is same a = (forest_of t, subst (λ (b : List ℕ). IsReadAs b (Ok (forest_of t))) same is, a.0, a.1, a.2)
 tree_answers command status.TooLarge t slice bytes written now faults later is same a = (forest_of t, subst (λ (b : List ℕ). IsReadAs b (Ok (forest_of t))) same is, a.0, a.1)
 tree_answers command status.OutOfMemory t slice bytes written now faults later is same a = a
 tree_answers command status.Usage t slice bytes written now faults later is same a = absurd a
@@ -93,13 +94,13 @@ large_says s t said said_now faults later answer line = (line.0, large_line_for 
 
 -- ---- what is sent
 
-pub sent_answers : (command : Command) (s : Status) (t : Forest) (references : ℕ) (text : List ℕ) (written now : Option (List ℕ)) (faults later : ℕ) → IsWithinLimits t → text ≡ shaken_output command t references
+pub sent_answers : (command : Command) (s : Status) (t : Forest) (references : ℕ) (text : List ℕ) (written now : Option (List ℕ)) (faults later : ℕ) → IsWithinLimits t → IsCountFor t references × (text ≡ shaken_output command t references) → IsReadBack (shaken t)
     → (s ≡ status.Ok) ⊎ (s ≡ status.WriteFault) → (s ≡ status.Ok → Known (λ w. w ++ text) written now) → (s ≡ status.WriteFault → SendsFront text written now × HasFailed faults later)
     → TreeAnswers command s t written now faults later
-sent_answers command s t references text written now faults later within is (inl told) sent front =
-    rw told (within, references, subst (λ (x : List ℕ). Known (λ w. w ++ x) written now) is (sent told))
-sent_answers command s t references text written now faults later within is (inr told) sent front =
-    rw told (within, references, subst (λ (x : List ℕ). SendsFront x written now) is (front told).0, (front told).1)
+sent_answers command s t references text written now faults later within is back (inl told) sent front =
+    rw told (within, (references, is.0, back, subst (λ (x : List ℕ). Known (λ w. w ++ x) written now) is.1 (sent told)))
+sent_answers command s t references text written now faults later within is back (inr told) sent front =
+    rw told (within, (references, is.0, subst (λ (x : List ℕ). SendsFront x written now) is.1 (front told).0), (front told).1)
 
 sent_line_for : (s : Status) (t : Forest) (line : List ℕ) → (s ≡ status.Ok) ⊎ (s ≡ status.WriteFault) → line ≡ status_line s → IsTreeLineFor s t line
 sent_line_for s t line (inl told) says = rw told (rw told at says)

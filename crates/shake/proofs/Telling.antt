@@ -21,7 +21,7 @@ emptied (Some all) now bytes h = h.1
 -- the answers for the bytes, as answers of the program
 module _ (words : List (List ℕ)) (command : Command) (asked : command_of words ≡ Some command) (left now : Option (List ℕ)) (bytes : List ℕ) (ends : Ends left now bytes) (within : length bytes ≤ max_input) where
   pub shakes : (s : Status) (w w' : Option (List ℕ)) (f f' : ℕ) → Answers command s bytes w w' f f' → s ≡ status.Ok → Shakes words left now w w'
-  shakes status.Ok w w' f f' a is = (command, asked, a.0, told left now bytes (λ b. IsTreeOf b a.0) ends (within, a.1), a.2, emptied left now bytes ends, a.3, a.4)
+  shakes status.Ok w w' f f' a is = (command, asked, a.0, told left now bytes (λ b. IsTreeOf b a.0) ends (within, a.1), a.2, emptied left now bytes ends, a.3)
   shakes status.Usage w w' f f' a is = absurd a
   shakes status.ReadFault w w' f f' a is = absurd a
   shakes status.InputTooLong w w' f f' a is = absurd a

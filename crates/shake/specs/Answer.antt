@@ -1,20 +1,20 @@
 -- What the program does with the bytes that it read.
-use Rattle.std.specs.Prelude.{◌≡◌, ◌≢◌, ℕ, List, ◌++◌, Option, Ok, Err}
-use Rattle.outside.specs.Moves.{HasFailed, Known, SendsFront}
+use Rattle.std.specs.Prelude.{◌≡◌, ◌≢◌, ℕ, List, Option, Ok, Err}
+use Rattle.outside.specs.Moves.{HasFailed}
 use Rattle.js_syntax.specs.Node.{Forest}
 use Rattle.words.specs.declared.answer.Command.{Command}
 use Rattle.tree_text.specs.Answer.{IsReadAs, IsNoJson}
 use Rattle.tree_text.specs.Fault.{Fault, too_deep}
 use Rattle.shake.specs.Line.{fault_line, too_large_line, status_line}
 use Rattle.shake.specs.Limit.{IsWithinLimits, IsTooLarge}
-use Rattle.shake.specs.Run.{shaken_output}
+use Rattle.shake.specs.Run.{IsSent, IsFrontSent}
 use Rattle.shake.specs.declared.status.Status.{Status}
 use Rattle.shake.specs.declared.status.Status.TheVariants as status
 
 -- with the tree that was read
 abbrev pub TreeAnswers : Command → Status → Forest → (written now : Option (List ℕ)) → (faults later : ℕ) → Type 0
-TreeAnswers command status.Ok t written now faults later = IsWithinLimits t × (references : ℕ) × Known (λ w. w ++ shaken_output command t references) written now
-TreeAnswers command status.WriteFault t written now faults later = IsWithinLimits t × (references : ℕ) × SendsFront (shaken_output command t references) written now × HasFailed faults later
+TreeAnswers command status.Ok t written now faults later = IsWithinLimits t × IsSent command t written now
+TreeAnswers command status.WriteFault t written now faults later = IsWithinLimits t × IsFrontSent command t written now × HasFailed faults later
 TreeAnswers command status.TooLarge t written now faults later = IsTooLarge t × (now ≡ written)
 TreeAnswers command status.OutOfMemory t written now faults later = now ≡ written
 TreeAnswers command _ t written now faults later = ⊥
@@ -25,8 +25,8 @@ IsTreeLineFor s t line = line ≡ status_line s
 
 -- with the bytes
 abbrev pub Answers : Command → Status → List ℕ → (written now : Option (List ℕ)) → (faults later : ℕ) → Type 0
-Answers command status.Ok bytes written now faults later = (t : Forest) × IsReadAs bytes (Ok t) × IsWithinLimits t × (references : ℕ) × Known (λ w. w ++ shaken_output command t references) written now
-Answers command status.WriteFault bytes written now faults later = (t : Forest) × IsReadAs bytes (Ok t) × IsWithinLimits t × (references : ℕ) × SendsFront (shaken_output command t references) written now × HasFailed faults later
+Answers command status.Ok bytes written now faults later = (t : Forest) × IsReadAs bytes (Ok t) × IsWithinLimits t × IsSent command t written now
+Answers command status.WriteFault bytes written now faults later = (t : Forest) × IsReadAs bytes (Ok t) × IsWithinLimits t × IsFrontSent command t written now × HasFailed faults later
 Answers command status.Syntax bytes written now faults later = IsNoJson bytes × (now ≡ written)
 Answers command status.Tree bytes written now faults later = (f : Fault) × (f ≢ too_deep) × IsReadAs bytes (Err f) × (now ≡ written)
 Answers command status.TooLarge bytes written now faults later = (t : Forest) × IsReadAs bytes (Ok t) × IsTooLarge t × (now ≡ written)

@@ -1,14 +1,16 @@
 -- What a run of the program leaves behind.
 use Rattle.std.specs.Prelude.{◌≡◌, ◌⊎◌, ◌^◌, ◌≤◌, ℕ, List, [], ◌++◌, Bool, true, false, length, Option, Some, Ok, codes, decimal}
 use Rattle.outside.specs.Moves.{HasFailed, Known, SendsFront}
-use Rattle.js_syntax.specs.Node.{Forest}
+use Rattle.js_syntax.specs.Node.{Forest, bare}
 use Rattle.tree_text.specs.Answer.{IsReadAs, IsNoJson}
 use Rattle.tree_text.specs.Fault.{Fault}
 use Rattle.tree_text.specs.Text.{text_of}
+use Rattle.tree_shape.specs.Readable.{IsReadable}
 use Rattle.words.specs.Meaning.{command_of}
 use Rattle.words.specs.declared.answer.Command.{Command}
 use Rattle.words.specs.declared.answer.Command.TheVariants.{Dce}
 use Rattle.js_pass.specs.Pass.{shaken, passes_of}
+use Rattle.js_references.specs.References.{reference_count}
 use Rattle.shake.specs.Limit.{IsWithinLimits, IsTooLarge}
 use Rattle.shake.specs.Line.{Told, HasFault}
 use Rattle.shake.specs.declared.status.Status.{Status}
@@ -39,21 +41,38 @@ command_output (Dce true) t passes references = tree_output_of t
 abbrev pub shaken_output : Command → Forest → (references : ℕ) → List ℕ
 shaken_output command t references = command_output command (shaken t) (passes_of t) references
 
+-- What the line of counts may say of references: no more than there are in what is left. Which of them a scope resolves has
+-- no clause yet.
+abbrev pub IsCountFor : Forest → (references : ℕ) → Type 0
+IsCountFor t references = references ≤ reference_count (shaken t)
+
+-- the text of a readable tree is read as that tree, without spans and ids
+abbrev pub IsReadBack : Forest → Type 0
+IsReadBack t = IsReadable t → IsReadAs (text_of t) (Ok (bare t))
+
+-- the output for a tree that was read went out whole
+abbrev pub IsSent : Command → Forest → (written written_now : Option (List ℕ)) → Type 0
+IsSent command t written written_now = (references : ℕ) × IsCountFor t references × IsReadBack (shaken t) × Known (λ w. w ++ shaken_output command t references) written written_now
+
+-- a front of it did
+abbrev pub IsFrontSent : Command → Forest → (written written_now : Option (List ℕ)) → Type 0
+IsFrontSent command t written written_now = (references : ℕ) × IsCountFor t references × SendsFront (shaken_output command t references) written written_now
+
 -- the bytes, which are within the limit, are those of this tree
 abbrev pub IsTreeOf : List ℕ → Forest → Type 0
 IsTreeOf bytes t = (length bytes ≤ max_input) × IsReadAs bytes (Ok t)
 
 -- answer 0: the words ask for a command, the bytes are a tree's that is within the limits, all of them were read, and its
--- output went out whole, for some number of references: that number has no clause yet
+-- output went out whole
 abbrev pub Shakes : (words : List (List ℕ)) (left left_now written written_now : Option (List ℕ)) → Type 0
 Shakes words left left_now written written_now =
     (command : Command) × (command_of words ≡ Some command) × (t : Forest) × Told left (λ bytes. IsTreeOf bytes t) × IsWithinLimits t × Told left (λ _. left_now ≡ Some [])
-    × (references : ℕ) × Known (λ w. w ++ shaken_output command t references) written written_now
+    × IsSent command t written written_now
 
 -- a fault of the sink: a front of that output went out
 abbrev pub ShakesFront : (words : List (List ℕ)) (left written written_now : Option (List ℕ)) → Type 0
 ShakesFront words left written written_now =
-    (command : Command) × (command_of words ≡ Some command) × (t : Forest) × Told left (λ bytes. IsTreeOf bytes t) × IsWithinLimits t × (references : ℕ) × SendsFront (shaken_output command t references) written written_now
+    (command : Command) × (command_of words ≡ Some command) × (t : Forest) × Told left (λ bytes. IsTreeOf bytes t) × IsWithinLimits t × IsFrontSent command t written written_now
 
 -- the bytes, which are within the limit, are no JSON
 abbrev pub IsBadJson : Option (List ℕ) → Type 0

@@ -1,6 +1,7 @@
 // The program, over any source and sinks.
 ghost use Rattle.std.specs.Prelude.{◌≡◌, ◌≤◌, ◌⊎◌, ◌++◌, ℕ, None, IfOk, IfSome, false, true, map, string_bytes};
 ghost use Rattle.js_syntax.specs.Node.{forest_of};
+ghost use Rattle.js_pass.specs.Pass.{shaken};
 ghost use Rattle.shake.specs.Limit.{IsWithinLimits, IsTooLarge};
 ghost use Rattle.shake.specs.Fault.{IsLargeAnswer, large_answer_line};
 ghost use Rattle.outside.specs.Moves.{HasFailed, Known, SendsFront};
@@ -10,7 +11,7 @@ ghost use Rattle.words.specs.Meaning.{accepts};
 ghost use Rattle.shake.specs.Line.{Says, IsLineOf, status_line};
 ghost use Rattle.shake.specs.Fault.{IsAnswerTo, refusal_line};
 ghost use Rattle.shake.specs.Answer.{TreeAnswers, IsTreeLineFor, Answers, IsLineFor};
-ghost use Rattle.shake.specs.Run.{max_input, shaken_output, Shakes, ShakesFront, IsBadJson, IsBadTree, IsLargeTree, writes, Completes};
+ghost use Rattle.shake.specs.Run.{max_input, shaken_output, IsCountFor, IsReadBack, Shakes, ShakesFront, IsBadJson, IsBadTree, IsLargeTree, writes, Completes};
 
 use crate::line::{fault_text, large_text, say};
 use crate::output::output;
@@ -87,7 +88,8 @@ fn refuse_large<E: Sink>(alloc: Global, program: &Program, err: &mut E) -> Optio
 
 // What is written for a program: what is left of it, and the line of counts.
 fn shaken_text(alloc: Global, command: Command, program: Program) -> Result<String, AllocError>
-    ensures { IfOk result (λ s. (references : ℕ) × (string_bytes s ≡ shaken_output command (forest_of program) references)) }
+    ensures output { IfOk result (λ s. (references : ℕ) × IsCountFor (forest_of program) references × (string_bytes s ≡ shaken_output command (forest_of program) references)) }
+    ensures reads_back { IfOk result (λ _. IsReadBack (shaken (forest_of program))) }
 {
     let (left, passes) = shake_program(alloc, program)?;
     let references = resolved_references(alloc, &left)?;

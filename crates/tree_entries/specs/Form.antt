@@ -1,5 +1,5 @@
 -- How a node is written: null for a hole, an array for a list, unary minus for a negative number, and else an object.
-use Rattle.std.specs.Prelude.{ℕ, suc, negsuc, List}
+use Rattle.std.specs.Prelude.{suc, negsuc, List}
 use Rattle.serde_json.specs.Data.{Data, null, array}
 use Rattle.js_syntax.specs.declared.value.LiteralValue.{LiteralValue as Value}
 use Rattle.js_syntax.specs.declared.value.LiteralValue.TheVariants.{Number as number}

@@ -1,5 +1,5 @@
 -- Lists that are read from the front, one after another.
-use Rattle.std.proofs.Common.{◌≡◌, ◌<◌, ◌≤◌, ◌+◌, ◌-◌, ◌∙◌, ◌++◌, ℕ, suc, zero, List, [], ◌∷◌, Bool, true, false, Option, Some, None, Result, Ok, Err, length, drop, take, get_or, map, add-one, drop-cons, length-drop, refl, sym, ap, arith, codes}
+use Rattle.std.proofs.Common.{◌≡◌, ◌<◌, ◌≤◌, ◌+◌, ◌-◌, ◌∙◌, ℕ, List, ◌∷◌, Bool, true, false, Option, Some, None, Result, Ok, Err, length, drop, take, get_or, map, add-one, drop-cons, length-drop, refl, sym, ap, arith, codes}
 use Rattle.std.specs.Option.{is_some}
 use Rattle.std.proofs.lemmas.List.{drop_all, take_all}
 use Rattle.serde_json.specs.Data.{Data, null, boolean, number, string, array, object}
@@ -8,7 +8,7 @@ use Rattle.serde_json.specs.View.{view, items_view}
 use Rattle.serde_json.specs.declared.value.Value.{Value}
 use Rattle.js_syntax.specs.Class.{Class, a_prologue, simple_target}
 use Rattle.js_syntax.specs.Table.{a_parenthesized_target}
-use Rattle.js_syntax.specs.Node.{Forest, nothing, joined, alone, nowhere, Tree, row, forest_of}
+use Rattle.js_syntax.specs.Node.{Forest, nothing, joined, alone, nowhere}
 use Rattle.js_syntax.specs.declared.node_kind.NodeKind.TheVariants.{Hole as hole}
 use Rattle.js_syntax.specs.declared.node_type.NodeType.{NodeType}
 use Rattle.js_syntax.specs.declared.node_type.NodeType.TheVariants as type
@@ -23,7 +23,6 @@ use Rattle.tree_text.specs.declared.error.TreeError.{TreeError}
 use Rattle.tree_text.specs.Reading.{Reader, before, read_items, read_or_hole, is_directive, read_body, read_child, read_row}
 use Rattle.tree_scan.specs.Scalar.{one_item}
 use Rattle.tree_scan.specs.Scan.{scan, read_field}
-use Rattle.tree_read.specs.Held.{held_row}
 use Rattle.tree_read.proofs.Steps.{next_read, next_fails, all_read}
 
 pub first_and_rest : {A : Type 0} (xs : List A) (x : A) → 1 ≤ length xs → x ≡ get_or xs 0 x → xs ≡ x ∷ drop 1 xs

@@ -1,7 +1,7 @@
 -- Reading step by step.
-use Rattle.std.proofs.Common.{◌≡◌, ◌≢◌, ◌<◌, ◌-◌, ◌∙◌, ◌++◌, ℕ, zero, suc, List, [], ◌∷◌, Bool, true, false, Option, Some, None, Result, Ok, Err, refl, sym, ap, sub-one, arith}
-use Rattle.serde_json.specs.Data.{Data, Items, no_items, item}
-use Rattle.js_syntax.specs.Class.{Class, a_prologue}
+use Rattle.std.proofs.Common.{◌≡◌, ◌≢◌, ◌<◌, ◌-◌, ◌∙◌, ℕ, zero, suc, Some, None, Result, Ok, Err, refl, sym, ap, sub-one, arith}
+use Rattle.serde_json.specs.Data.{Data}
+use Rattle.js_syntax.specs.Class.{Class}
 use Rattle.js_syntax.specs.declared.node_kind.NodeKind.{NodeKind as Kind}
 use Rattle.js_syntax.specs.Node.{Note, Forest, nothing, alone, joined}
 use Rattle.js_table.specs.View.{row_view}
@@ -11,8 +11,8 @@ use Rattle.js_syntax.specs.Table.{Row, stands, type_of, fields_of, kind_at}
 use Rattle.js_syntax.specs.declared.node_type.NodeType.{NodeType}
 use Rattle.tree_text.specs.Fault.{Fault, too_deep, ◌>>=◌}
 use Rattle.tree_text.specs.Plain.{type_at, check_extras}
-use Rattle.tree_text.specs.Reading.{Reader, row_here, before, read_items, is_directive, read_body, read_fields, read_row, read_here, read_node, made, note_of}
-use Rattle.tree_text.specs.Answer.{Fails, Gives}
+use Rattle.tree_text.specs.Reading.{Reader, row_here, before, read_fields, read_row, read_here, read_node, made, note_of}
+use Rattle.tree_text.specs.Answer.{Fails}
 use Rattle.tree_text.specs.declared.error.TreeError.{TreeError}
 use Rattle.tree_text.specs.declared.error.TreeError.TheVariants as error
 use Rattle.js_tree.proofs.Rows.{joined_nothing, joined_assoc}

@@ -1,9 +1,11 @@
 // A program, and the bytes that it is read from.
 ghost use Rattle.std.specs.Prelude.{◌≡◌, IfOk, IfErr, Ok};
 ghost use Rattle.serde_json.specs.View.{view};
+ghost use Rattle.js_syntax.specs.Class.{root};
 ghost use Rattle.js_syntax.specs.Node.{forest_of};
 ghost use Rattle.tree_text.specs.Answer.{Gives, IsReadAs, IsCauseOf};
 ghost use Rattle.tree_text.specs.Reading as reading;
+ghost use Rattle.tree_shape.specs.Shape.{Fits};
 
 use crate::walk::read_node;
 use js_table::Wanted;
@@ -29,9 +31,11 @@ fn program(alloc: Global, value: &Value) -> Result<Program, TreeError>
 }
 
 /// The program that the bytes are, as ESTree JSON (RFC 8259, read as `serde_json` reads it: of a key
-/// that comes twice the last value counts, and at most 127 arrays and objects nest).
+/// that comes twice the last value counts, and at most 127 arrays and objects nest). Each node of it
+/// stands where the table of node types takes it (`tree_shape`).
 pub fn read_tree(alloc: Global, bytes: &[u8]) -> Result<Program, TreeError>
     ensures ok { IfOk result (λ p. IsReadAs bytes.now (Ok (forest_of p))) }
+    ensures fits { IfOk result (λ p. Fits root (forest_of p)) }
     ensures err { IfErr result (λ e. IsCauseOf e bytes.now) }
 {
     match Value::from_slice(alloc, bytes) {

@@ -1,5 +1,5 @@
 -- The bytes of a name, one after another.
-use Rattle.std.proofs.Common.{◌≡◌, ◌<◌, ◌≤◌, ◌+◌, ◌∙◌, ℕ, suc, List, [], ◌∷◌, Bool, true, false, ◌||◌, ◌&&◌, length, drop, get_or, drop-cons, add-one, refl, sym, ap, take, arith, length-drop, ◌-◌}
+use Rattle.std.proofs.Common.{◌≡◌, ◌<◌, ◌≤◌, ◌+◌, ◌∙◌, ℕ, List, [], ◌∷◌, Bool, true, false, ◌||◌, ◌&&◌, length, drop, get_or, drop-cons, add-one, refl, sym, ap, take, arith, length-drop, ◌-◌}
 use Rattle.std.proofs.lemmas.List.{drop_all, take_all}
 use Rattle.tree_text.specs.Text.{starts_name, is_between, continues_name, is_identifier_name}
 

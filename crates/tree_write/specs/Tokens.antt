@@ -1,5 +1,5 @@
 -- What a writer of JSON is given for a tree, token by token.
-use Rattle.std.specs.Prelude.{◌≡◌, List, [], ◌∷◌, ◌++◌, map, Bool, true, Option, Some, None, Result, OnOk, if◌then◌else◌}
+use Rattle.std.specs.Prelude.{◌≡◌, List, [], ◌∷◌, ◌++◌, Bool, true, Option, Some, None, Result, OnOk, if◌then◌else◌}
 use Rattle.json.specs.Token.{Token, key, boolean}
 use Rattle.json.specs.Tree.{json_tokens}
 use Rattle.json.specs.Written.{Written}

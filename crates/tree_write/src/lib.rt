@@ -4,7 +4,8 @@
 //! and on `json`, a writer of tokens into one buffer, which escapes texts. Each function promises the
 //! tokens that it appends, so nothing is built between the tree and its text.
 //!
-//! `write_tree` promises the exact text.
+//! `write_tree` promises the exact text, and that it is read as the same tree where the tree is one that the
+//! table has and its values are exact (`tree_shape`).
 #![tactic(auto)]
 
 mod field;

@@ -1,5 +1,5 @@
 use Rattle.std.proofs.Common.{arith}
-use Rattle.js_references.proofs.Children.{child_smaller}
+use Rattle.js_tree.proofs.Sizes.{child_smaller}
 use Rattle.js_references.proofs.walk.+resolved_within.Goals as goal
 
 pub resolved_within-requires : goal.resolved_within-requires

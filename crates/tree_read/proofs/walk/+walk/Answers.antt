@@ -1,18 +1,15 @@
-use Rattle.std.proofs.Common.{◌≡◌, ◌≤◌, [], ◌∷◌, ◌∙◌, Bool, true, false, Some, None, Ok, Err, refl, sym, ap, length, drop, arith, rules}
-use Rattle.std.specs.Option.{is_some}
+use Rattle.std.proofs.Common.{◌≡◌, [], ◌∙◌, true, Ok, Err, refl, sym, ap, arith, rules}
 use Rattle.std.proofs.lemmas.Result.{err_from_is_err_and}
 use Rattle.std.proofs.lemmas.List.{drop_all}
-use Rattle.serde_json.specs.Find.{as_null}
-use Rattle.serde_json.specs.View.{view, items_view}
+use Rattle.serde_json.specs.View.{view}
 use Rattle.js_syntax.specs.Node.{row, forest_of}
 use Rattle.js_syntax.specs.Table as table
 use Rattle.js_table.specs.View.{class_view, row_view}
 use Rattle.js_tree.proofs.Rows.{joined_nothing, row_push}
 use Rattle.tree_scan.specs.Place.{fault_at}
 use Rattle.tree_scan.specs.Scalar.{one_item}
-use Rattle.tree_scan.specs.Scan.{scan}
 use Rattle.tree_scan.proofs.Steps.{fails_bind}
-use Rattle.tree_text.specs.Reading.{read_node, read_items, read_body, read_row, before, is_directive}
+use Rattle.tree_text.specs.Reading.{read_node, is_directive}
 use Rattle.tree_read.specs.Held.{held_row}
 use Rattle.tree_read.proofs.Steps.{node_none, node_more, row_read, none_read, fails_below, extras_fail, kind_fails, row_made, stands_for_itself, all_read}
 use Rattle.tree_read.proofs.Fields.{field_next, fields_over, node_item, every_item, hole_item, inner_missing, inner_fails, inner_extras, inner_read, item_next, item_fails, items_over, directive_next, whole}

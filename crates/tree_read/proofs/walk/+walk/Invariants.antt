@@ -1,9 +1,8 @@
 use Rattle.std.proofs.Common.{◌≡◌, ◌+◌, ◌*◌, drop, map, length}
 use Rattle.serde_json.specs.View.{view, items_view}
 use Rattle.js_syntax.specs.Node.{row}
-use Rattle.js_syntax.specs.Table.{type_of, fields_of}
 use Rattle.tree_text.specs.Reading.{read_node, read_items, read_body, before}
-use Rattle.js_table.specs.View.{class_view, row_view, field_view}
+use Rattle.js_table.specs.View.{class_view, field_view}
 use Rattle.tree_scan.specs.Place.{fault_at}
 use Rattle.tree_scan.specs.Scalar.{one_item}
 use Rattle.tree_scan.specs.Scan.{scan}
