@@ -4,8 +4,8 @@
 Run at the repository's top, after `./shake.sh dce < crates/shake_cli/stdin` and `(cd crates/json_echo && rt run < stdin)`
 have built both programs: python3 tools/bench.py
 """
+import json
 import os
-import resource
 import subprocess
 import sys
 import time
@@ -20,12 +20,45 @@ def program(items):
     return '{"type":"Program","sourceType":"module","body":[' + ",".join(items) + "]}"
 
 
+def name(text): return {"type": "Identifier", "name": text}
+def literal(value): return {"type": "Literal", "value": value, "raw": json.dumps(value)}
+def call(callee, *arguments): return {"type": "CallExpression", "callee": callee, "arguments": list(arguments), "optional": False}
+def member(object, key): return {"type": "MemberExpression", "object": object, "property": name(key), "computed": False, "optional": False}
+def block(*body): return {"type": "BlockStatement", "body": list(body)}
+def returned(argument): return {"type": "ReturnStatement", "argument": argument}
+def statement(expression): return {"type": "ExpressionStatement", "expression": expression}
+
+
+def function(kind, id, params, *body):
+    return {"type": kind, "id": id, "params": params, "body": block(*body), "generator": False, "async": False, "expression": False}
+
+
+def constant(id, init):
+    return {"type": "VariableDeclaration", "kind": "const", "declarations": [{"type": "VariableDeclarator", "id": id, "init": init}]}
+
+
+def placed(node, at=0):
+    """The node with places like those of a parser."""
+    if isinstance(node, list): return [placed(n, at + 8 * i) for i, n in enumerate(node)]
+    if not isinstance(node, dict): return node
+    out = {"type": node["type"], "start": at, "end": at + 40} if "type" in node else {}
+    return {**out, **{key: placed(value, at + 4) for key, value in node.items() if key != "type"}}
+
+
+def real_item():
+    """function f(a, b) { const x = a.b.c(d, 1, 'text'); if (x) { g(x, function (e) { return e.h + 1; }); } return x; }"""
+    made = constant(name("x"), call(member(member(name("a"), "b"), "c"), name("d"), literal(1), literal("text")))
+    inner = function("FunctionExpression", None, [name("e")], returned({"type": "BinaryExpression", "operator": "+", "left": member(name("e"), "h"), "right": literal(1)}))
+    branch = {"type": "IfStatement", "test": name("x"), "consequent": block(statement(call(name("g"), name("x"), inner))), "alternate": None}
+    return json.dumps(placed(function("FunctionDeclaration", name("f"), [name("a"), name("b")], made, branch, returned(name("x")))), separators=(",", ":"))
+
+
 def inputs(size):
     """Programs of about this many bytes, by name."""
     stay = '{"type":"DebuggerStatement","start":0,"end":9}'
     directive = '{"type":"ExpressionStatement","directive":"use strict","expression":{"type":"Literal","value":"use strict","raw":"\'use strict\'"}}'
     leave = '{"type":"ExpressionStatement","expression":{"type":"Literal","value":"some text of a literal","raw":"\\"some text of a literal\\""}}'
-    for name, item in [("statements that stay", stay), ("directives", directive), ("statements that leave", leave)]:
+    for name, item in [("statements that stay", stay), ("directives", directive), ("statements that leave", leave), ("functions, calls and members", real_item())]:
         yield name, program([item] * (size // (len(item) + 1)))
 
 

@@ -54,3 +54,34 @@ fn a_copy_has_it_all(rt: HostRuntime) -> Result<(), Fail> {
     assert!(rt; has_both(copy.root()));
     Ok(())
 }
+
+// Whether a node has exactly this many levels of nodes below it, one on each.
+fn has_levels(node: &Node, levels: usize) -> bool {
+    let mut at = node;
+    for _ in 0..levels {
+        match at.children() {
+            [Some(child)] => at = child,
+            _ => return false,
+        }
+    }
+    at.children().is_empty()
+}
+
+// This many parentheses around each other, copied.
+fn deep_copy(alloc: Global, levels: usize) -> Result<Program, AllocError> {
+    let mut node = Node::new(NodeKind::ThisExpression, SPAN, Vec::new(alloc));
+    for _ in 0..levels {
+        let mut children = Vec::new(alloc);
+        children.push(Some(node))?;
+        node = Node::new(NodeKind::ParenthesizedExpression, SPAN, children);
+    }
+    let original = Program::new(node);
+    try_clone(alloc, &original)
+}
+
+#[test]
+fn a_thousand_levels(rt: HostRuntime) -> Result<(), Fail> {
+    let copy = deep_copy(rt.alloc(), 999)?;
+    assert!(rt; has_levels(copy.root(), 999));
+    Ok(())
+}
