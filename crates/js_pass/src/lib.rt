@@ -5,5 +5,7 @@
 #![tactic(auto)]
 
 mod pass;
+#[cfg(test)]
+mod tests;
 
 pub use pass::shake_program;

@@ -257,3 +257,19 @@ fn outside_of_modules_functions_leave_their_blocks(rt: HostRuntime) -> Result<()
     }
     Ok(())
 }
+
+// How many references of `a` behind this many parentheses are resolved, in a module that declares nothing.
+fn count_behind(alloc: Global, levels: usize) -> Result<u64, AllocError> {
+    let mut node = name(alloc, "a")?;
+    for _ in 0..levels {
+        node = above(alloc, NodeKind::ParenthesizedExpression, node)?;
+    }
+    let root = above(alloc, NodeKind::Program(SourceType::Module), node)?;
+    count_below(alloc, root)
+}
+
+#[test]
+fn a_thousand_levels(rt: HostRuntime) -> Result<(), Fail> {
+    assert_eq!(rt; count_behind(rt.alloc(), 998)?, 0);
+    Ok(())
+}

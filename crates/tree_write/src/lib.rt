@@ -12,6 +12,8 @@ mod field;
 mod name;
 mod node;
 mod scalar;
+#[cfg(test)]
+mod tests;
 mod write;
 
 pub use write::write_tree;
