@@ -115,7 +115,7 @@ fn send<K: Sink, E: Sink>(text: String, out: &mut K, err: &mut E) -> Status
 }
 
 // Shakes a program that was read.
-fn answer_tree<K: Sink, E: Sink>(
+pub(crate) fn answer_tree<K: Sink, E: Sink>(
     alloc: Global,
     command: Command,
     program: Program,

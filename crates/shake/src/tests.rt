@@ -3,6 +3,7 @@ use super::*;
 use std::alloc::Global;
 use std::test::Fail;
 
+mod large;
 mod reading;
 
 // The answer, what was written, and what was said.
