@@ -11,4 +11,4 @@ mod kind;
 mod tests;
 mod walk;
 
-pub use walk::{count_nodes, depth};
+pub use walk::{count_nodes, count_of_kind, depth, place_behind};

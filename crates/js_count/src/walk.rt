@@ -1,10 +1,10 @@
 // The walks that count.
 ghost use Rattle.std.specs.Prelude.{◌≡◌, ◌-◌, ◌+◌, ◌^◌, ◌<◌, ◌≤◌, min};
-ghost use Rattle.js_syntax.specs.Node.{forest_of};
-ghost use Rattle.js_count.specs.Count.{node_count, levels, levels_at};
+ghost use Rattle.js_syntax.specs.Node.{forest_of, row};
+ghost use Rattle.js_count.specs.Count.{one_each, node_count, levels, levels_at};
 
 use crate::kind::{lower_by, own_count};
-use js_tree::{Node, Program};
+use js_tree::{Node, NodeKind, Program};
 
 /// How many nodes a program has, or `limit + 1` where it has more. The recursion goes as deep as the
 /// tree: ask `depth` first of a program that may be too deep for the stack.
@@ -63,4 +63,26 @@ fn levels_within(node: &Node, more: usize, limit: usize) -> usize
         }
     }
     own + deepest
+}
+
+/// The place of what stands behind a row of nodes, where a place is the number of nodes before a node in
+/// order of places, lists not counted. The recursion goes as deep as the trees.
+pub fn place_behind(place: u32, nodes: &[Option<Node>]) -> u32
+    requires fits { place + node_count (row nodes.now) < 2 ^ 32 }
+    ensures behind { result ≡ place + node_count (row nodes.now) }
+{
+    let mut next = place;
+    for node in nodes {
+        if let Some(node) = node {
+            next = place_behind(next + own_count(node.kind()) as u32, node.children());
+        }
+    }
+    next
+}
+
+/// How a node of this kind is counted: 1, but 0 for a list.
+pub fn count_of_kind(kind: &NodeKind) -> u32
+    ensures own { result ≡ one_each kind.now }
+{
+    own_count(kind) as u32
 }

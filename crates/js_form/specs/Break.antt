@@ -1,10 +1,6 @@
 -- Where a program breaks a rule of form.
 use Rattle.std.specs.Prelude.{ℕ, List, [], ◌∷◌, Bool, ◌&&◌, ◌||◌, ◌==◌, Option, Some, None, nat_lt, if◌then◌else◌}
-
--- the number of nodes before the node that breaks it, in preorder, and the rule's number
-pub record Break : Type 0 where
-  pub place : ℕ
-  pub rule : ℕ
+use Rattle.js_form.specs.declared.rule.Break.{Break}
 
 abbrev pub at_place : (place rule : ℕ) → Break
 at_place place rule = record { place = place; rule = rule }
@@ -24,3 +20,8 @@ lesser a (Some b) = if comes_before b a then b else a
 abbrev pub least : List Break → Option Break
 least [] = None
 least (b ∷ bs) = Some (lesser b (least bs))
+
+-- the first of two, where there is one
+abbrev pub merged : Option Break → Option Break → Option Break
+merged None b = b
+merged (Some a) b = Some (lesser a b)

@@ -13,10 +13,8 @@ use Rattle.js_syntax.specs.declared.kind.MethodKind.{MethodKind}
 use Rattle.js_syntax.specs.declared.kind.MethodKind.TheVariants as method_kind
 use Rattle.js_syntax.specs.declared.kind.PropertyKind.{PropertyKind}
 use Rattle.js_syntax.specs.declared.kind.PropertyKind.TheVariants as property_kind
-
--- what the function at a place is
-pub data Role : Type 0 where
-  plain method derived_constructor : Role
+use Rattle.js_form.specs.declared.role.Role.{Role}
+use Rattle.js_form.specs.declared.role.Role.TheVariants.{Plain as plain, Method as method, DerivedConstructor as derived_constructor}
 
 pub record Label : Type 0 where
   pub name : List ℕ

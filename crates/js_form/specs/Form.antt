@@ -5,7 +5,8 @@ use Rattle.js_syntax.specs.declared.node_kind.NodeKind.TheVariants.{Program as p
 use Rattle.js_syntax.specs.declared.scalar.SourceType.{SourceType}
 use Rattle.js_syntax.specs.declared.scalar.SourceType.TheVariants as source_type
 use Rattle.js_syntax.specs.Node.{Forest, nothing, node, absent}
-use Rattle.js_form.specs.Break.{Break, least}
+use Rattle.js_form.specs.declared.rule.Break.{Break}
+use Rattle.js_form.specs.Break.{least}
 use Rattle.js_form.specs.Context.{Context, inside, outermost}
 use Rattle.js_form.specs.Rules.{broken_at}
 

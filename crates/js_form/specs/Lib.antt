@@ -1,6 +1,6 @@
 pub mod Break
 pub mod Name
-pub mod Declared
+pub mod Scope
 pub mod Context
 pub mod Rules
 pub mod Form

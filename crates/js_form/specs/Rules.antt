@@ -18,9 +18,15 @@ use Rattle.js_syntax.specs.declared.kind.VariableKind.{VariableKind}
 use Rattle.js_syntax.specs.declared.kind.VariableKind.TheVariants as variable_kind
 use Rattle.js_syntax.specs.declared.operator.UnaryOperator.TheVariants as unary
 use Rattle.js_syntax.specs.Node.{Forest, nothing, node, absent}
-use Rattle.js_form.specs.Break.{Break, at_place, unless}
+use Rattle.js_form.specs.declared.rule.Break.{Break}
+use Rattle.js_form.specs.declared.role.Half.{Half}
+use Rattle.js_form.specs.declared.role.Half.TheVariants.{Getter as getter, Setter as setter, Whole as whole}
+use Rattle.js_form.specs.declared.sought.Sort.{Sort}
+use Rattle.js_form.specs.declared.sought.Sort.TheVariants.{Lexical as lexical, Repeatable as repeatable, Hoisted as hoisted}
+use Rattle.js_form.specs.declared.sought.Sought.TheVariants.{Scope as scope, FunctionScope as function_scope, CatchScope as catch_scope}
+use Rattle.js_form.specs.Break.{at_place, unless}
 use Rattle.js_form.specs.Name.{is_among, may_be_read, may_be_bound}
-use Rattle.js_form.specs.Declared.{Declared, lexical, repeatable, hoisted, scope, function_scope, catch_scope, Sort, declared, later, clash, both_parameters, variable_of_catch}
+use Rattle.js_form.specs.Scope.{Declared, declared, later, clash, both_parameters, variable_of_catch}
 use Rattle.js_form.specs.Context.{Context, Label, is_module, is_strict_function, is_method, is_absent, private_key_of}
 use Rattle.tree_text.specs.Text.{is_identifier_name}
 
@@ -129,9 +135,6 @@ rule_3 c (labeled_statement s) place below = unless (not (has_label s c.leaves.l
 rule_3 c k place below = []
 
 -- ---- 4: a private name is declared by a class around it, and once by its class, but for a getter and a setter (15.7.1)
-
-pub data Half : Type 0 where
-  getter setter whole : Half
 
 pub record Private : Type 0 where
   pub name : List ℕ

@@ -13,7 +13,8 @@ use Rattle.js_syntax.specs.declared.kind.FunctionKind.TheVariants as function_ki
 use Rattle.js_syntax.specs.declared.kind.ClassKind.TheVariants as class_kind
 use Rattle.js_syntax.specs.declared.kind.MethodKind.{MethodKind}
 use Rattle.js_syntax.specs.Node.{Forest, nothing, node, absent, nowhere, joined}
-use Rattle.js_form.specs.Break.{Break, at_place}
+use Rattle.js_form.specs.Break.{at_place}
+use Rattle.js_form.specs.declared.rule.Break.{Break}
 use Rattle.js_form.specs.Form.{first_broken}
 
 -- ---- trees

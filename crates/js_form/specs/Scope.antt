@@ -8,29 +8,15 @@ use Rattle.js_syntax.specs.Node.{Forest, nothing, node, absent, alone}
 use Rattle.js_syntax.specs.declared.kind.FunctionKind.TheVariants as function_kind
 use Rattle.js_syntax.specs.declared.kind.ClassKind.TheVariants as class_kind
 use Rattle.js_syntax.specs.declared.kind.VariableKind.TheVariants as variable_kind
-
--- how a name is declared: `hoisted` is a function at the top of a script, a function or a static block, and `repeatable` one in
--- a block of code that isn't strict
-pub data Sort : Type 0 where
-  lexical repeatable hoisted variable parameter catch_parameter : Sort
+use Rattle.js_form.specs.declared.sought.Sort.{Sort}
+use Rattle.js_form.specs.declared.sought.Sort.TheVariants.{Lexical as lexical, Repeatable as repeatable, Hoisted as hoisted, Variable as variable, Parameter as parameter, CatchParameter as catch_parameter}
+use Rattle.js_form.specs.declared.sought.Sought.{Sought}
+use Rattle.js_form.specs.declared.sought.Sought.TheVariants.{Nothing as none, Names as names, Bound as bound, Scope as scope, Variables as variables, FunctionScope as function_scope, CatchScope as catch_scope}
 
 pub record Declared : Type 0 where
   pub name : List ℕ
   pub place : ℕ
   pub sort : Sort
-
--- what is sought in a row of nodes
-pub data Sought : Type 0 where
-  none : Sought
-  -- the names among them, as those of a function or class; what patterns bind
-  names bound : Sort → Sought
-  -- what statements declare in their scope, functions so, and by `var` in all that lies below
-  scope : (functions : Sort) → Sought
-  -- by `var` alone
-  variables : Sought
-  -- the parameters of a function or of a catch, and what the body behind them declares
-  function_scope : Sought
-  catch_scope : (functions : Sort) → Sought
 
 -- BoundNames (8.2.1): keys and defaults are expressions, and bind nothing
 abbrev pub bound_below : Sort → Kind → Sought
