@@ -1,6 +1,6 @@
 use Rattle.std.proofs.Common.{◌∙◌, sym, arith}
-use Rattle.tree_write.proofs.Names.{stops, goes_on, all_in_name}
-use Rattle.tree_write.proofs.name.continues_name.Goals as goal
+use Rattle.identifiers.proofs.Names.{stops, goes_on, all_in_name}
+use Rattle.identifiers.proofs.name.continues_name.Goals as goal
 
 pub returns-then-not-is_in_name : goal.returns-then-not-is_in_name
 returns-then-not-is_in_name c = sym (stops c.args.bytes.now c.loop-c.c-index c.loop-c-test.true (sym c.is_in_name.ensures ∙ c.if-not-is_in_name.true) c.loop-c.invariant)

@@ -1,0 +1,86 @@
+// Names that are reserved.
+ghost use Rattle.std.specs.Prelude.{◌≡◌};
+ghost use Rattle.js_form.specs.Name.{is_among, reserved_words, strict_words, is_reserved, may_be_read, may_be_bound};
+
+use crate::name::is_identifier_name;
+
+/// Whether code may read this name.
+pub fn may_be_read(strict: bool, is_module: bool, name: &str) -> bool
+    ensures read { result ≡ may_be_read strict is_module name.now }
+{
+    is_identifier_name(name) && !is_reserved(strict, is_module, name)
+}
+
+/// Whether code may bind this name or assign to it.
+pub fn may_be_bound(strict: bool, is_module: bool, name: &str) -> bool
+    ensures bound { result ≡ may_be_bound strict is_module name.now }
+{
+    may_be_read(strict, is_module, name) && !(strict && (name == "eval" || name == "arguments"))
+}
+
+fn is_reserved(strict: bool, is_module: bool, name: &str) -> bool
+    ensures { result ≡ is_reserved strict is_module name.now }
+{
+    is_reserved_word(name) || (strict && is_strict_word(name)) || (is_module && name == "await")
+}
+
+fn is_reserved_word(name: &str) -> bool
+    ensures { result ≡ is_among name.now reserved_words }
+{
+    match name {
+        "break"
+        | "case"
+        | "catch"
+        | "class"
+        | "const"
+        | "continue"
+        | "debugger"
+        | "default"
+        | "delete"
+        | "do"
+        | "else"
+        | "enum"
+        | "export"
+        | "extends"
+        | "false"
+        | "finally"
+        | "for"
+        | "function"
+        | "if"
+        | "import"
+        | "in"
+        | "instanceof"
+        | "new"
+        | "null"
+        | "return"
+        | "super"
+        | "switch"
+        | "this"
+        | "throw"
+        | "true"
+        | "try"
+        | "typeof"
+        | "var"
+        | "void"
+        | "while"
+        | "with" => true,
+        _ => false,
+    }
+}
+
+fn is_strict_word(name: &str) -> bool
+    ensures { result ≡ is_among name.now strict_words }
+{
+    match name {
+        "implements"
+        | "interface"
+        | "let"
+        | "package"
+        | "private"
+        | "protected"
+        | "public"
+        | "static"
+        | "yield" => true,
+        _ => false,
+    }
+}

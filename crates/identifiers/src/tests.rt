@@ -1,0 +1,36 @@
+// Names, told by hand.
+use crate::{is_identifier_name, may_be_bound, may_be_read};
+use std::test::Fail;
+
+#[test]
+fn tells_names_from_other_texts(rt: HostRuntime) -> Result<(), Fail> {
+    assert!(rt; is_identifier_name("$a_1"));
+    assert!(rt; is_identifier_name("\u{e4}"));
+    assert!(rt; is_identifier_name("if"));
+    assert!(rt; !is_identifier_name("1a"));
+    assert!(rt; !is_identifier_name("a b"));
+    assert!(rt; !is_identifier_name(""));
+    Ok(())
+}
+
+#[test]
+fn tells_what_may_be_read(rt: HostRuntime) -> Result<(), Fail> {
+    assert!(rt; !may_be_read(false, false, "if"));
+    assert!(rt; !may_be_read(false, false, "1a"));
+    assert!(rt; may_be_read(false, false, "let"));
+    assert!(rt; !may_be_read(true, false, "let"));
+    assert!(rt; may_be_read(true, false, "await"));
+    assert!(rt; !may_be_read(true, true, "await"));
+    assert!(rt; may_be_read(true, true, "eval"));
+    Ok(())
+}
+
+#[test]
+fn tells_what_may_be_bound(rt: HostRuntime) -> Result<(), Fail> {
+    assert!(rt; may_be_bound(true, true, "\u{e4}"));
+    assert!(rt; may_be_bound(false, false, "eval"));
+    assert!(rt; !may_be_bound(true, false, "eval"));
+    assert!(rt; !may_be_bound(true, false, "arguments"));
+    assert!(rt; !may_be_bound(false, false, "with"));
+    Ok(())
+}
