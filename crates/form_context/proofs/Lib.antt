@@ -1,0 +1,3 @@
+mod Index
+mod Rows
+mod Private

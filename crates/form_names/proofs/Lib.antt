@@ -1,0 +1,4 @@
+pub mod Clashing
+pub mod Firsts
+pub mod Known
+pub mod Repeating
