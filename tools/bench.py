@@ -45,12 +45,12 @@ def placed(node, at=0):
     return {**out, **{key: placed(value, at + 4) for key, value in node.items() if key != "type"}}
 
 
-def real_item():
-    """function f(a, b) { const x = a.b.c(d, 1, 'text'); if (x) { g(x, function (e) { return e.h + 1; }); } return x; }"""
+def real_item(number):
+    """function f0(a, b) { const x = a.b.c(d, 1, 'text'); if (x) { g(x, function (e) { return e.h + 1; }); } return x; }"""
     made = constant(name("x"), call(member(member(name("a"), "b"), "c"), name("d"), literal(1), literal("text")))
     inner = function("FunctionExpression", None, [name("e")], returned({"type": "BinaryExpression", "operator": "+", "left": member(name("e"), "h"), "right": literal(1)}))
     branch = {"type": "IfStatement", "test": name("x"), "consequent": block(statement(call(name("g"), name("x"), inner))), "alternate": None}
-    return json.dumps(placed(function("FunctionDeclaration", name("f"), [name("a"), name("b")], made, branch, returned(name("x")))), separators=(",", ":"))
+    return json.dumps(placed(function("FunctionDeclaration", name("f%d" % number), [name("a"), name("b")], made, branch, returned(name("x")))), separators=(",", ":"))
 
 
 def inputs(size):
@@ -58,8 +58,10 @@ def inputs(size):
     stay = '{"type":"DebuggerStatement","start":0,"end":9}'
     directive = '{"type":"ExpressionStatement","directive":"use strict","expression":{"type":"Literal","value":"use strict","raw":"\'use strict\'"}}'
     leave = '{"type":"ExpressionStatement","expression":{"type":"Literal","value":"some text of a literal","raw":"\\"some text of a literal\\""}}'
-    for name, item in [("statements that stay", stay), ("directives", directive), ("statements that leave", leave), ("functions, calls and members", real_item())]:
+    for name, item in [("statements that stay", stay), ("directives", directive), ("statements that leave", leave)]:
         yield name, program([item] * (size // (len(item) + 1)))
+    # each function has a name of its own: a module declares a name once
+    yield "functions, calls and members", program([real_item(number) for number in range(size // (len(real_item(0)) + 3))])
 
 
 def run(command, data):

@@ -1,6 +1,6 @@
 """shake: worked rows of reading and writing, with what ESTree and docs/DEFINITIONS.md say of them.
 
-Each case is a statement in its own normal form, which is written as it was read; then inputs with the fault that they
+Each case is a statement, or a program, in its own normal form, which is written as it was read; then inputs with the fault that they
 have, and inputs that are written otherwise than they were read.
 """
 import json
@@ -22,10 +22,12 @@ def asg(o,l,r): return N('AssignmentExpression',operator=o,left=l,right=r)
 def tmpl(qs,es): return N('TemplateLiteral',quasis=[N('TemplateElement',value=dict(raw=q,cooked=q),tail=i==len(qs)-1) for i,q in enumerate(qs)],expressions=es)
 P=N('PrivateIdentifier',name='p')
 a,b,c,f,x=map(I,'abcfx')
+def prog(body,kind='module'): return N('Program',sourceType=kind,body=body)
+def whole(s): return s if s['type']=='Program' else prog([s])
 cases={}
 cases['statements']=[
  N('ExpressionStatement',expression=L('use strict'),directive='use strict'),
- B(N('DebuggerStatement')), N('IfStatement',test=a,consequent=N('EmptyStatement'),alternate=ES(L(1))), N('WithStatement',object=a,body=B()),
+ B(N('DebuggerStatement')), N('IfStatement',test=a,consequent=N('EmptyStatement'),alternate=ES(L(1))), prog([N('WithStatement',object=a,body=B())],'script'),
  N('LabeledStatement',label=I('l'),body=N('WhileStatement',test=a,body=B(N('BreakStatement',label=I('l')),N('ContinueStatement',label=None)))),
  N('IfStatement',test=a,consequent=ES(b),alternate=None), N('IfStatement',test=a,consequent=ES(b),alternate=ES(c)),
  N('SwitchStatement',discriminant=a,cases=[N('SwitchCase',test=L(1),consequent=[ES(b)]),N('SwitchCase',test=None,consequent=[])]),
@@ -48,7 +50,7 @@ cases['expressions']=[N('ThrowStatement',argument=e) if e['type']=='Literal' and
  call(a,b,N('SpreadElement',argument=c),pure=True),dict(N('NewExpression',callee=a,arguments=[b]),pure=True),
  N('ChainExpression',expression=mem(call(mem(a,b,opt=True),optional=True),c)),N('ParenthesizedExpression',expression=a),N('SequenceExpression',expressions=[a,b]),
  tmpl(['a','b'],[c]),N('TaggedTemplateExpression',tag=a,quasi=tmpl(['z'],[])),
- call(I('use'),N('Literal',value={},regex=dict(pattern='a',flags='g'))),N('MetaProperty',meta=I('new'),property=I('target')),N('MetaProperty',meta=I('import'),property=I('meta')),N('ImportExpression',source=a),
+ call(I('use'),N('Literal',value={},regex=dict(pattern='a',flags='g'))),fn('FunctionExpression',None,[],B(ES(N('MetaProperty',meta=I('new'),property=I('target'))))),N('MetaProperty',meta=I('import'),property=I('meta')),N('ImportExpression',source=a),
 ]]
 cases['classes']=[
  N('ClassDeclaration',id=a,superClass=b,body=N('ClassBody',body=[
@@ -59,15 +61,14 @@ cases['classes']=[
 ]
 cases['modules']=[
  N('ImportDeclaration',specifiers=[N('ImportSpecifier',imported=L('a b'),local=a),N('ImportDefaultSpecifier',local=b),N('ImportNamespaceSpecifier',local=c)],source=L('m')),
- N('ExportNamedDeclaration',declaration=var('var',(N('ObjectPattern',properties=[prop(a,b),prop(b,N('AssignmentPattern',left=b,right=L(1)),shorthand=True)]),a)),specifiers=[],source=None),
- N('ExportNamedDeclaration',declaration=None,specifiers=[N('ExportSpecifier',local=a,exported=L('x y'))],source=None),
+ N('ExportNamedDeclaration',declaration=var('var',(N('ObjectPattern',properties=[prop(a,b),prop(c,N('AssignmentPattern',left=c,right=L(1)),shorthand=True)]),a)),specifiers=[],source=None),
+ prog([var('let',(a,None)),N('ExportNamedDeclaration',declaration=None,specifiers=[N('ExportSpecifier',local=a,exported=L('x y'))],source=None)]),
  N('ExportNamedDeclaration',declaration=None,specifiers=[N('ExportSpecifier',local=I('default'),exported=b)],source=L('m')),
  N('ExportDefaultDeclaration',declaration=fn('FunctionDeclaration',None,[],B())),
  N('ExportDefaultDeclaration',declaration=N('ClassDeclaration',id=None,superClass=None,body=N('ClassBody',body=[]))),
  N('ExportDefaultDeclaration',declaration=a),
  N('ExportAllDeclaration',exported=None,source=L('m')),N('ExportAllDeclaration',exported=I('ns'),source=L('m')),
 ]
-def prog(body): return N('Program',sourceType='module',body=body)
 faults=[]
 def F(name,body,fault): faults.append((name,prog(body),fault))
 def bf(k,f): return 'shake: bad field %s in %s\n'%(f,k)
@@ -172,7 +173,7 @@ RUN = """        let got = run_words(rt.alloc(), &["shake", "dce", "--tree-only"
 def reading():
     out = '// Rows of reading and writing.\n// %s\nuse super::run_words;\nuse std::test::Fail;\n' % GENERATED.replace('tools/nodes.py', 'tools/examples.py')
     for k, body in cases.items():
-        out += table('writes_%s_as_they_are_read' % k, 'Each is written as it was read.', [raw(text(prog([s]))) for s in body],
+        out += table('writes_%s_as_they_are_read' % k, 'Each is written as it was read.', [raw(text(whole(s))) for s in body],
             '    for input in cases {\n' + RUN + '        assert_eq!(rt; got.code, 0, "{input}");\n        assert_eq!(rt; got.out.len(), input.len() + 1, "{input}");\n        assert!(rt; got.out.as_slice().starts_with(input.as_bytes()), "{input}");\n    }\n')
     pairs = lambda l: ['(%s, %s)' % (raw(text(p)), raw(text(q)) if isinstance(q, dict) else json.dumps(q)) for _, p, q in l]
     out += table('refuses_by_the_first_fault', 'Each has one line that says why.', pairs(faults),

@@ -1,5 +1,5 @@
 -- From what was read to the answer.
-use Rattle.std.proofs.Common.{◌≡◌, ◌⊎◌, inl, inr, ◌++◌, ℕ, List, [], Option, Some, None, Ok, refl, subst, append-nil}
+use Rattle.std.proofs.Common.{◌≡◌, ◌⊎◌, inl, inr, ◌++◌, ◌∙◌, ℕ, List, [], Option, Some, None, Ok, refl, subst, append-nil, ap₂}
 use Rattle.outside.specs.Moves.{HasFailed, Known, SendsFront}
 use Rattle.js_syntax.specs.Node.{Forest}
 use Rattle.words.specs.declared.answer.Command.{Command}
@@ -9,11 +9,15 @@ use Rattle.tree_text.specs.declared.error.TreeError.{TreeError}
 use Rattle.tree_text.specs.declared.error.TreeError.TheVariants as error
 use Rattle.js_pass.specs.Pass.{shaken}
 use Rattle.shake.specs.Answer.{TreeAnswers, IsTreeLineFor, Answers, IsLineFor}
-use Rattle.shake.specs.Fault.{fault_of, IsAnswerTo, refusal_line, IsLargeAnswer, large_answer_line}
-use Rattle.shake.specs.Line.{Says, status_line}
+use Rattle.js_form.specs.Break.{at_place}
+use Rattle.js_form.specs.Form.{first_broken}
+use Rattle.minifier.specs.Minify.{IsCause}
+use Rattle.minifier.specs.declared.error.MinifyError.{MinifyError}
+use Rattle.minifier.specs.declared.error.MinifyError.TheVariants as minify
+use Rattle.shake.specs.Fault.{fault_of, IsAnswerTo, refusal_line, IsMinifyAnswer, minify_line}
+use Rattle.shake.specs.Line.{Says, status_line, large_line}
 use Rattle.js_syntax.specs.Node.{Tree, forest_of}
-use Rattle.shake.specs.Limit.{IsWithinLimits, IsTooLarge}
-use Rattle.shake.specs.Run.{shaken_output, IsCountFor, IsReadBack}
+use Rattle.shake.specs.Run.{IsSound, shaken_output, IsCountFor, IsReadBack}
 use Rattle.shake.specs.declared.status.Status.{Status}
 use Rattle.shake.specs.declared.status.Status.TheVariants as status
 
@@ -56,6 +60,7 @@ pub tree_answers : (command : Command) (s : Status) (t : Tree) (slice bytes : Li
 tree_answers command status.Ok t slice bytes written now faults later is same a = (forest_of t, subst (λ (b : List ℕ). IsReadAs b (Ok (forest_of t))) same is, a.0, a.1)
 tree_answers command status.WriteFault t slice bytes written now faults later is same a = (forest_of t, subst (λ (b : List ℕ). IsReadAs b (Ok (forest_of t))) same is, a.0, a.1, a.2)
 tree_answers command status.TooLarge t slice bytes written now faults later is same a = (forest_of t, subst (λ (b : List ℕ). IsReadAs b (Ok (forest_of t))) same is, a.0, a.1)
+tree_answers command status.IllFormed t slice bytes written now faults later is same a = (forest_of t, subst (λ (b : List ℕ). IsReadAs b (Ok (forest_of t))) same is, a.0, a.1)
 tree_answers command status.OutOfMemory t slice bytes written now faults later is same a = a
 tree_answers command status.Usage t slice bytes written now faults later is same a = absurd a
 tree_answers command status.ReadFault t slice bytes written now faults later is same a = absurd a
@@ -68,6 +73,7 @@ tree_line : (command : Command) (s : Status) (t : Tree) (slice bytes line : List
 tree_line command status.Ok t slice bytes line written now faults later is same a says = says
 tree_line command status.WriteFault t slice bytes line written now faults later is same a says = says
 tree_line command status.TooLarge t slice bytes line written now faults later is same a says = (forest_of t, says, subst (λ (b : List ℕ). IsReadAs b (Ok (forest_of t))) same is)
+tree_line command status.IllFormed t slice bytes line written now faults later is same a says = (forest_of t, says, subst (λ (b : List ℕ). IsReadAs b (Ok (forest_of t))) same is)
 tree_line command status.OutOfMemory t slice bytes line written now faults later is same a says = says
 tree_line command status.Usage t slice bytes line written now faults later is same a says = absurd a
 tree_line command status.ReadFault t slice bytes line written now faults later is same a says = absurd a
@@ -81,20 +87,27 @@ pub tree_says : (command : Command) (s : Status) (t : Tree) (slice bytes : List 
 tree_says command s t slice bytes written now faults later said said_now err_faults err_later is same a line =
     (line.0, tree_line command s t slice bytes line.0 written now faults later is same a line.1, line.2, line.3)
 
-pub large_answers : (command : Command) (s : Status) (t : Forest) (w : Option (List ℕ)) (f : ℕ) → IsTooLarge t → IsLargeAnswer s → TreeAnswers command s t w w f f
-large_answers command s t w f large (inl told) = rw told (large, refl)
-large_answers command s t w f large (inr short) = rw short refl
+not_none : {A : Type 0} {o : Option A} {x : A} → o ≡ Some x → o ≡ None → ⊥
+not_none is none = absurd (cc (is, none))
 
-large_line_for : (s : Status) (t : Forest) (line : List ℕ) → IsLargeAnswer s → line ≡ large_answer_line t s → IsTreeLineFor s t line
-large_line_for s t line (inl told) says = rw told (rw told at says)
-large_line_for s t line (inr short) says = rw short (rw short at says)
+pub refusal_answers : (command : Command) (e : MinifyError) (s : Status) (t : Forest) (w : Option (List ℕ)) (f : ℕ) → IsCause e t → IsMinifyAnswer e s → TreeAnswers command s t w w f f
+refusal_answers command e s t w f cause (inr short) = rw short refl
+refusal_answers command (minify.TooLarge nodes deep) s t w f cause (inl told) = rw told (cause.0, refl)
+refusal_answers command (minify.IllFormed rule place) s t w f cause (inl told) = rw told ((cause.0, not_none cause.1), refl)
+refusal_answers command minify.OutOfMemory s t w f cause (inl told) = rw told refl
 
-pub large_says : (s : Status) (t : Forest) (said said_now : Option (List ℕ)) (faults later : ℕ) → IsLargeAnswer s → Says (λ l. l ≡ large_answer_line t s) said said_now faults later → Says (IsTreeLineFor s t) said said_now faults later
-large_says s t said said_now faults later answer line = (line.0, large_line_for s t line.0 answer line.1, line.2, line.3)
+refusal_line_for : (e : MinifyError) (s : Status) (t : Forest) (line : List ℕ) → IsCause e t → IsMinifyAnswer e s → line ≡ minify_line e s → IsTreeLineFor s t line
+refusal_line_for e s t line cause (inr short) says = rw short (rw short at says)
+refusal_line_for (minify.TooLarge nodes deep) s t line cause (inl told) says = rw told (rw told at says ∙ ap₂ (λ (n l : ℕ). large_line n l) cause.1.0 cause.1.1)
+refusal_line_for (minify.IllFormed rule place) s t line cause (inl told) says = rw told (at_place place rule, cause.1, rw told at says)
+refusal_line_for minify.OutOfMemory s t line cause (inl told) says = rw told (rw told at says)
+
+pub refusal_says : (e : MinifyError) (s : Status) (t : Forest) (said said_now : Option (List ℕ)) (faults later : ℕ) → IsCause e t → IsMinifyAnswer e s → Says (λ l. l ≡ minify_line e s) said said_now faults later → Says (IsTreeLineFor s t) said said_now faults later
+refusal_says e s t said said_now faults later cause answer line = (line.0, refusal_line_for e s t line.0 cause answer line.1, line.2, line.3)
 
 -- ---- what is sent
 
-pub sent_answers : (command : Command) (s : Status) (t : Forest) (references : ℕ) (text : List ℕ) (written now : Option (List ℕ)) (faults later : ℕ) → IsWithinLimits t → IsCountFor t references × (text ≡ shaken_output command t references) → IsReadBack (shaken t)
+pub sent_answers : (command : Command) (s : Status) (t : Forest) (references : ℕ) (text : List ℕ) (written now : Option (List ℕ)) (faults later : ℕ) → IsSound t → IsCountFor t references × (text ≡ shaken_output command t references) → IsReadBack (shaken t)
     → (s ≡ status.Ok) ⊎ (s ≡ status.WriteFault) → (s ≡ status.Ok → Known (λ w. w ++ text) written now) → (s ≡ status.WriteFault → SendsFront text written now × HasFailed faults later)
     → TreeAnswers command s t written now faults later
 sent_answers command s t references text written now faults later within is back (inl told) sent front =

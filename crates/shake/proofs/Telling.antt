@@ -28,5 +28,6 @@ module _ (words : List (List ℕ)) (command : Command) (asked : command_of words
   shakes status.Syntax w w' f f' a is = absurd cc
   shakes status.Tree w w' f f' a is = absurd cc
   shakes status.TooLarge w w' f f' a is = absurd cc
+  shakes status.IllFormed w w' f f' a is = absurd cc
   shakes status.WriteFault w w' f f' a is = absurd cc
   shakes status.OutOfMemory w w' f f' a is = absurd cc

@@ -1,7 +1,7 @@
 -- The exit status of each answer.
 use Rattle.std.specs.Prelude.{ℕ}
 use Rattle.shake.specs.declared.status.Status.{Status}
-use Rattle.shake.specs.declared.status.Status.TheVariants.{Ok, Usage, ReadFault, InputTooLong, Syntax, Tree, TooLarge, WriteFault, OutOfMemory}
+use Rattle.shake.specs.declared.status.Status.TheVariants.{Ok, Usage, ReadFault, InputTooLong, Syntax, Tree, TooLarge, IllFormed, WriteFault, OutOfMemory}
 
 abbrev pub code_of : Status → ℕ
 code_of Ok = 0
@@ -11,5 +11,6 @@ code_of InputTooLong = 3
 code_of Syntax = 4
 code_of Tree = 5
 code_of TooLarge = 6
+code_of IllFormed = 7
 code_of WriteFault = 8
 code_of OutOfMemory = 9

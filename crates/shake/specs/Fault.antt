@@ -1,10 +1,11 @@
--- The fault that an error of reading is.
+-- The fault that an error of reading is, and the answers for errors.
 use Rattle.std.specs.Prelude.{◌≡◌, ◌⊎◌, ℕ, List, string_bytes}
 use Rattle.tree_text.specs.Fault.{Fault, too_deep, unknown_node, bad_field, out_of_range}
 use Rattle.tree_text.specs.declared.error.TreeError.{TreeError}
 use Rattle.tree_text.specs.declared.error.TreeError.TheVariants as error
-use Rattle.shake.specs.Line.{fault_line, too_large_line, status_line}
-use Rattle.js_syntax.specs.Node.{Forest}
+use Rattle.minifier.specs.declared.error.MinifyError.{MinifyError}
+use Rattle.minifier.specs.declared.error.MinifyError.TheVariants as minify
+use Rattle.shake.specs.Line.{fault_line, large_line, ill_formed_line, status_line}
 use Rattle.shake.specs.declared.status.Status.{Status}
 use Rattle.shake.specs.declared.status.Status.TheVariants as status
 
@@ -26,13 +27,24 @@ status_of error.OutOfMemory = status.OutOfMemory
 abbrev pub IsAnswerTo : TreeError → Status → Type 0
 IsAnswerTo e s = (s ≡ status_of e) ⊎ (s ≡ status.OutOfMemory)
 
--- the answer for a tree that is too large, and its line; memory for the line may be short
-abbrev pub IsLargeAnswer : Status → Type 0
-IsLargeAnswer s = (s ≡ status.TooLarge) ⊎ (s ≡ status.OutOfMemory)
+-- the answer for a program that isn't minified, and its line; memory for the line may be short
+abbrev pub minify_status : MinifyError → Status
+minify_status (minify.TooLarge nodes levels) = status.TooLarge
+minify_status (minify.IllFormed rule place) = status.IllFormed
+minify_status minify.OutOfMemory = status.OutOfMemory
 
-abbrev pub large_answer_line : Forest → Status → List ℕ
-large_answer_line t status.TooLarge = too_large_line t
-large_answer_line t s = status_line s
+abbrev pub IsMinifyAnswer : MinifyError → Status → Type 0
+IsMinifyAnswer e s = (s ≡ minify_status e) ⊎ (s ≡ status.OutOfMemory)
+
+abbrev pub minify_text : MinifyError → List ℕ
+minify_text (minify.TooLarge nodes levels) = large_line nodes levels
+minify_text (minify.IllFormed rule place) = ill_formed_line rule place
+minify_text minify.OutOfMemory = status_line status.OutOfMemory
+
+abbrev pub minify_line : MinifyError → Status → List ℕ
+minify_line e status.TooLarge = minify_text e
+minify_line e status.IllFormed = minify_text e
+minify_line e s = status_line s
 
 abbrev pub refusal_line : TreeError → Status → List ℕ
 refusal_line e status.Tree = fault_line (fault_of e)

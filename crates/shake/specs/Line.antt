@@ -5,7 +5,9 @@ use Rattle.tree_text.specs.Fault.{Fault, too_deep, unknown_node, bad_field, out_
 use Rattle.tree_text.specs.Answer.{IsReadAs}
 use Rattle.js_syntax.specs.Node.{Forest}
 use Rattle.js_count.specs.Count.{node_count, levels}
-use Rattle.shake.specs.Limit.{max_nodes, max_levels}
+use Rattle.js_form.specs.declared.rule.Break.{Break}
+use Rattle.js_form.specs.Form.{first_broken}
+use Rattle.minifier.specs.Limit.{max_nodes, max_levels}
 use Rattle.shake.specs.declared.status.Status.{Status}
 use Rattle.shake.specs.declared.status.Status.TheVariants as status
 
@@ -38,6 +40,7 @@ status_line status.InputTooLong = codes "shake: input too long\n"
 status_line status.Syntax = codes "shake: not JSON\n"
 status_line status.Tree = []
 status_line status.TooLarge = []
+status_line status.IllFormed = []
 status_line status.WriteFault = codes "shake: write fault\n"
 status_line status.OutOfMemory = codes "shake: out of memory\n"
 
@@ -48,6 +51,13 @@ large_line nodes levels = codes "shake: too large: nodes " ++ (decimal nodes ++ 
 abbrev pub too_large_line : Forest → List ℕ
 too_large_line t = large_line (min (node_count t) (max_nodes + 1)) (min (levels t) (max_levels + 1))
 
+-- the rule and the place of the first break
+abbrev pub ill_formed_line : (rule place : ℕ) → List ℕ
+ill_formed_line rule place = codes "shake: ill formed: rule " ++ (decimal rule ++ (codes " at " ++ (decimal place ++ codes "\n")))
+
+abbrev pub IsBreakLine : Forest → List ℕ → Type 0
+IsBreakLine t line = (b : Break) × (first_broken t ≡ Some b) × (line ≡ ill_formed_line b.rule b.place)
+
 -- where the source tells its bytes
 abbrev pub Told : Option (List ℕ) → (List ℕ → Type 0) → Type 0
 Told None P = Unit {0}
@@ -57,10 +67,12 @@ Told (Some bytes) P = P bytes
 abbrev pub HasFault : Option (List ℕ) → Fault → Type 0
 HasFault left f = (f ≢ too_deep) × Told left (λ bytes. IsReadAs bytes (Err f))
 
--- the line of an answer; that of a tree's fault names it, and that of a tree too large counts it
+-- the line of an answer; that of a tree's fault names it, that of a tree too large counts it, and that of one ill formed has its
+-- first break
 abbrev pub IsLineOf : Status → Option (List ℕ) → List ℕ → Type 0
 IsLineOf status.Tree left line = (f : Fault) × (line ≡ fault_line f) × HasFault left f
 IsLineOf status.TooLarge left line = (t : Forest) × (line ≡ too_large_line t) × Told left (λ bytes. IsReadAs bytes (Ok t))
+IsLineOf status.IllFormed left line = (t : Forest) × IsBreakLine t line × Told left (λ bytes. IsReadAs bytes (Ok t))
 IsLineOf s left line = line ≡ status_line s
 
 -- a line went out, or a front of it where a fault came

@@ -11,7 +11,8 @@ use Rattle.words.specs.declared.answer.Command.{Command}
 use Rattle.words.specs.declared.answer.Command.TheVariants.{Dce}
 use Rattle.js_pass.specs.Pass.{shaken, passes_of}
 use Rattle.js_references.specs.References.{reference_count}
-use Rattle.shake.specs.Limit.{IsWithinLimits, IsTooLarge}
+use Rattle.js_form.specs.Form.{IsWellFormed}
+use Rattle.minifier.specs.Limit.{IsWithinLimits, IsTooLarge}
 use Rattle.shake.specs.Line.{Told, HasFault}
 use Rattle.shake.specs.declared.status.Status.{Status}
 use Rattle.shake.specs.declared.status.Status.TheVariants as status
@@ -58,21 +59,29 @@ IsSent command t written written_now = (references : ℕ) × IsCountFor t refere
 abbrev pub IsFrontSent : Command → Forest → (written written_now : Option (List ℕ)) → Type 0
 IsFrontSent command t written written_now = (references : ℕ) × IsCountFor t references × SendsFront (shaken_output command t references) written written_now
 
+-- a tree that is within the limits, and breaks no rule of form, or does
+pub record IsSound (t : Forest) : Type 0 where
+  pub limits : IsWithinLimits t
+  pub form : IsWellFormed t
+
+abbrev pub IsIllFormed : Forest → Type 0
+IsIllFormed t = IsWithinLimits t × ¬ IsWellFormed t
+
 -- the bytes, which are within the limit, are those of this tree
 abbrev pub IsTreeOf : List ℕ → Forest → Type 0
 IsTreeOf bytes t = (length bytes ≤ max_input) × IsReadAs bytes (Ok t)
 
--- answer 0: the words ask for a command, the bytes are a tree's that is within the limits, all of them were read, and its
--- output went out whole
+-- answer 0: the words ask for a command, the bytes are those of a tree that is within the limits and breaks no rule of form, all
+-- of them were read, and its output went out whole
 abbrev pub Shakes : (words : List (List ℕ)) (left left_now written written_now : Option (List ℕ)) → Type 0
 Shakes words left left_now written written_now =
-    (command : Command) × (command_of words ≡ Some command) × (t : Forest) × Told left (λ bytes. IsTreeOf bytes t) × IsWithinLimits t × Told left (λ _. left_now ≡ Some [])
+    (command : Command) × (command_of words ≡ Some command) × (t : Forest) × Told left (λ bytes. IsTreeOf bytes t) × IsSound t × Told left (λ _. left_now ≡ Some [])
     × IsSent command t written written_now
 
 -- a fault of the sink: a front of that output went out
 abbrev pub ShakesFront : (words : List (List ℕ)) (left written written_now : Option (List ℕ)) → Type 0
 ShakesFront words left written written_now =
-    (command : Command) × (command_of words ≡ Some command) × (t : Forest) × Told left (λ bytes. IsTreeOf bytes t) × IsWithinLimits t × IsFrontSent command t written written_now
+    (command : Command) × (command_of words ≡ Some command) × (t : Forest) × Told left (λ bytes. IsTreeOf bytes t) × IsSound t × IsFrontSent command t written written_now
 
 -- the bytes, which are within the limit, are no JSON
 abbrev pub IsBadJson : Option (List ℕ) → Type 0
@@ -86,14 +95,18 @@ IsBadTree left = (f : Fault) × HasFault left f × Told left (λ bytes. length b
 abbrev pub IsLargeTree : Option (List ℕ) → Type 0
 IsLargeTree left = (t : Forest) × IsTooLarge t × Told left (λ bytes. IsTreeOf bytes t)
 
+-- the bytes, which are within the limit, are those of a tree that is within its limits, and breaks a rule of form
+abbrev pub IsBrokenTree : Option (List ℕ) → Type 0
+IsBrokenTree left = (t : Forest) × IsIllFormed t × Told left (λ bytes. IsTreeOf bytes t)
+
 -- Only with these two answers is anything written.
 abbrev pub writes : Status → Bool
 writes status.Ok = true
 writes status.WriteFault = true
 writes _ = false
 
--- where the words are accepted, the bytes are a tree's that is within the limits and nothing fails, the answer is 0, unless memory is short
+-- where the words are accepted, the bytes are those of a tree that is within the limits and well formed, and nothing fails, the answer is 0, unless memory is short
 abbrev pub Completes : (accepted : Bool) (left : Option (List ℕ)) (source_faults source_later out_faults out_later : ℕ) → Status → Type 0
 Completes accepted left source_faults source_later out_faults out_later s =
-    accepted ≡ true → (bytes : List ℕ) → left ≡ Some bytes → (t : Forest) → IsTreeOf bytes t → IsWithinLimits t → ¬ HasFailed source_faults source_later → ¬ HasFailed out_faults out_later
+    accepted ≡ true → (bytes : List ℕ) → left ≡ Some bytes → (t : Forest) → IsTreeOf bytes t → IsSound t → ¬ HasFailed source_faults source_later → ¬ HasFailed out_faults out_later
     → (s ≡ status.Ok) ⊎ (s ≡ status.OutOfMemory)

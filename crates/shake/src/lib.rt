@@ -1,10 +1,10 @@
 //! The dead code remover: bytes of a syntax tree in, bytes of the shaken tree out.
 //!
-//! `shake` reads one program from a source, as ESTree JSON, takes out of it what does nothing, and
-//! writes what is left and a line of counts to a sink. Its contract, with the definitions of
+//! `shake` reads one program from a source, as ESTree JSON, refuses it where it is too large or breaks
+//! a rule of form, takes out of it what does nothing, and writes what is left and a line of counts to a sink. Its contract, with the definitions of
 //! `specs/Run.antt`, says for each answer exactly when it comes and what was written then; memory may
 //! be short at any time. It stands on `outside` (sources and sinks), `tree_read` and `tree_write`
-//! (from bytes to trees and back), `js_count` (the limits) and `js_pass` (what is left of a tree).
+//! (from bytes to trees and back) and `minifier` (the limits, the rules of form and the pass).
 #![tactic(auto)]
 
 mod line;
@@ -14,6 +14,11 @@ mod status;
 #[cfg(test)]
 mod tests;
 
+pub use form_check::{FormError, well_formed};
+pub use minifier::{
+    CompressOptions, CompressOptionsKeepNames, CompressOptionsUnused, Minifier, MinifierOptions,
+    MinifierReturn, MinifyError, PropertyReadSideEffects, TreeShakeOptions,
+};
 pub use outside::{
     Failed, MemSink, MemSource, ReadAllError, Sink, Source, StdErr, StdSink, StdSource, SureSink,
     SureSource, read_all,

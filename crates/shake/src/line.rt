@@ -2,10 +2,10 @@
 ghost use Rattle.std.specs.Prelude.{◌≡◌, ◌≤◌, ◌++◌, IfOk, OnOk, string_bytes};
 ghost use Rattle.tree_text.specs.Fault.{unknown_node, bad_field};
 ghost use Rattle.shake.specs.Line as spec;
-ghost use Rattle.shake.specs.Line.{Says, shown, fault_line, large_line};
-ghost use Rattle.shake.specs.Fault.{fault_of, IsAnswerTo, refusal_line};
+ghost use Rattle.shake.specs.Line.{Says, shown, fault_line};
+ghost use Rattle.shake.specs.Fault.{fault_of, minify_text};
 
-use crate::status::Status;
+use minifier::MinifyError;
 use outside::{Sink, write_all};
 use std::alloc::{AllocError, Global};
 use tree_text::TreeError;
@@ -75,11 +75,19 @@ fn field_line(alloc: Global, kind: &str, field: &str) -> Result<String, AllocErr
     format!(in alloc; "shake: bad field {field} in {kind}\n")
 }
 
-/// The line of a tree that is too large, with both counts.
-pub fn large_text(alloc: Global, nodes: usize, levels: usize) -> Result<String, AllocError>
-    ensures { IfOk result (λ s. string_bytes s ≡ large_line nodes levels) }
+/// The line of a program that isn't minified: both counts, or the rule and the place of its first break.
+pub fn minify_text(alloc: Global, error: MinifyError) -> Result<String, AllocError>
+    ensures { IfOk result (λ s. string_bytes s ≡ minify_text error) }
 {
-    format!(in alloc; "shake: too large: nodes {nodes} levels {levels}\n")
+    match error {
+        MinifyError::TooLarge { nodes, levels } => {
+            format!(in alloc; "shake: too large: nodes {nodes} levels {levels}\n")
+        }
+        MinifyError::IllFormed { rule, place } => {
+            format!(in alloc; "shake: ill formed: rule {rule} at {place}\n")
+        }
+        MinifyError::OutOfMemory => String::from_str(alloc, "shake: out of memory\n"),
+    }
 }
 
 /// The line of a fault of a tree, or none where there is no such line.

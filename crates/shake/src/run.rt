@@ -1,9 +1,10 @@
 // The program, over any source and sinks.
-ghost use Rattle.std.specs.Prelude.{◌≡◌, ◌≤◌, ◌⊎◌, ◌++◌, ℕ, None, IfOk, IfSome, false, true, map, string_bytes};
+ghost use Rattle.std.specs.Prelude.{◌≡◌, ◌≤◌, ◌⊎◌, ◌++◌, ℕ, IfOk, IfErr, false, true, map, string_bytes};
 ghost use Rattle.js_syntax.specs.Node.{forest_of};
-ghost use Rattle.js_pass.specs.Pass.{shaken};
-ghost use Rattle.shake.specs.Limit.{IsWithinLimits, IsTooLarge};
-ghost use Rattle.shake.specs.Fault.{IsLargeAnswer, large_answer_line};
+ghost use Rattle.js_pass.specs.Pass.{shaken, passes_of};
+ghost use Rattle.js_references.specs.References.{reference_count};
+ghost use Rattle.minifier.specs.Minify.{IsCause};
+ghost use Rattle.shake.specs.Fault.{IsMinifyAnswer, minify_line};
 ghost use Rattle.outside.specs.Moves.{HasFailed, Known, SendsFront};
 ghost use Rattle.outside.specs.Reading.{IsLonger};
 ghost use Rattle.tree_text.specs.Answer.{IsCauseOf};
@@ -11,15 +12,14 @@ ghost use Rattle.words.specs.Meaning.{accepts};
 ghost use Rattle.shake.specs.Line.{Says, IsLineOf, status_line};
 ghost use Rattle.shake.specs.Fault.{IsAnswerTo, refusal_line};
 ghost use Rattle.shake.specs.Answer.{TreeAnswers, IsTreeLineFor, Answers, IsLineFor};
-ghost use Rattle.shake.specs.Run.{max_input, shaken_output, IsCountFor, IsReadBack, Shakes, ShakesFront, IsBadJson, IsBadTree, IsLargeTree, writes, Completes};
+ghost use Rattle.shake.specs.Run.{max_input, command_output, IsSound, IsReadBack, Shakes, ShakesFront, IsBadJson, IsBadTree, IsLargeTree, IsBrokenTree, writes, Completes};
 
-use crate::line::{fault_text, large_text, say};
+use crate::line::{fault_text, minify_text, say};
 use crate::output::output;
 use crate::status::Status;
-use js_count::{count_nodes, depth};
-use js_pass::shake_program;
 use js_references::resolved_references;
 use js_tree::Program;
+use minifier::{CompressOptions, Minifier, MinifierOptions, MinifyError};
 use outside::{ReadAllError, Sink, Source, read_all, write_all};
 use std::alloc::{AllocError, Global};
 use tree_read::{TreeError, read_tree};
@@ -59,41 +59,38 @@ fn refuse<E: Sink>(alloc: Global, error: TreeError, err: &mut E) -> Status
     }
 }
 
-// How many nodes and levels a program may have.
-const MAX_NODES: u32 = 16_777_216;
-
-const MAX_LEVELS: u32 = 1000;
-
-// Says how large a program is, if it is too large.
-fn refuse_large<E: Sink>(alloc: Global, program: &Program, err: &mut E) -> Option<Status>
-    ensures none { result ≡ None → IsWithinLimits (forest_of program.now) }
-    ensures some { IfSome result (λ s. IsTooLarge (forest_of program.now) × IsLargeAnswer s) }
-    ensures unsaid { result ≡ None → (E.written err.new ≡ E.written err.old) × (E.faults err.new ≡ E.faults err.old) }
-    ensures line { IfSome result (λ s. Says (λ l. l ≡ large_answer_line (forest_of program.now) s) (E.written err.old) (E.written err.new) (E.faults err.old) (E.faults err.new)) }
+// Says why a program isn't minified.
+fn refuse_program<E: Sink>(alloc: Global, error: MinifyError, err: &mut E) -> Status
+    ensures answer { IsMinifyAnswer error result }
+    ensures line { Says (λ l. l ≡ minify_line error result) (E.written err.old) (E.written err.new) (E.faults err.old) (E.faults err.new) }
     ensures later { E.faults err.old ≤ E.faults err.new }
 {
-    let nodes = count_nodes(program, MAX_NODES);
-    let levels = depth(program, MAX_LEVELS);
-    if nodes <= MAX_NODES as usize && levels <= MAX_LEVELS as usize {
-        return None;
-    }
-    match large_text(alloc, nodes, levels) {
+    let status = match error {
+        MinifyError::TooLarge { .. } => Status::TooLarge,
+        MinifyError::IllFormed { .. } => Status::IllFormed,
+        MinifyError::OutOfMemory => return out_of_memory(err),
+    };
+    match minify_text(alloc, error) {
         Ok(line) => {
             say(err, line.as_str());
-            Some(Status::TooLarge)
+            status
         }
-        Err(_) => Some(out_of_memory(err)),
+        Err(_) => out_of_memory(err),
     }
 }
 
-// What is written for a program: what is left of it, and the line of counts.
-fn shaken_text(alloc: Global, command: Command, program: Program) -> Result<String, AllocError>
-    ensures output { IfOk result (λ s. (references : ℕ) × IsCountFor (forest_of program) references × (string_bytes s ≡ shaken_output command (forest_of program) references)) }
-    ensures reads_back { IfOk result (λ _. IsReadBack (shaken (forest_of program))) }
+// What is written for what is left of a program: its tree, and the line of counts.
+fn left_text(
+    alloc: Global,
+    command: Command,
+    left: &Program,
+    passes: u64,
+) -> Result<String, AllocError>
+    ensures output { IfOk result (λ s. (references : ℕ) × (references ≤ reference_count (forest_of left.now)) × (string_bytes s ≡ command_output command (forest_of left.now) passes references)) }
+    ensures reads_back { IfOk result (λ _. IsReadBack (forest_of left.now)) }
 {
-    let (left, passes) = shake_program(alloc, program)?;
-    let references = resolved_references(alloc, &left)?;
-    output(alloc, command, &left, passes, references)
+    let references = resolved_references(alloc, left)?;
+    output(alloc, command, left, passes, references)
 }
 
 // Sends what is written for a program that is within the limits.
@@ -114,11 +111,47 @@ fn send<K: Sink, E: Sink>(text: String, out: &mut K, err: &mut E) -> Status
     }
 }
 
+// Puts what is left of a program in its place, and answers how many passes were followed by another.
+fn minify(alloc: Global, program: &mut Program) -> Result<u64, MinifyError>
+    ensures left { IfOk result (λ _. forest_of program.new ≡ shaken (forest_of program.old)) }
+    ensures passes { IfOk result (λ n. n ≡ passes_of (forest_of program.old)) }
+    ensures sound { IfOk result (λ _. IsSound (forest_of program.old)) }
+    ensures err { IfErr result (λ e. IsCause e (forest_of program.old)) }
+{
+    let options = MinifierOptions {
+        compress: Some(CompressOptions::dce(alloc)),
+    };
+    let done = Minifier::new(options).dce(alloc, program)?;
+    Ok(done.iterations)
+}
+
+// Shakes a program in its place, and sends what is left.
+fn answer_program<K: Sink, E: Sink>(
+    alloc: Global,
+    command: Command,
+    program: &mut Program,
+    out: &mut K,
+    err: &mut E,
+) -> Status
+    ensures answer { TreeAnswers command result (forest_of program.old) (K.written out.old) (K.written out.new) (K.faults out.old) (K.faults out.new) }
+    ensures line { Says (IsTreeLineFor result (forest_of program.old)) (E.written err.old) (E.written err.new) (E.faults err.old) (E.faults err.new) }
+    ensures out_later { K.faults out.old ≤ K.faults out.new }
+    ensures err_later { E.faults err.old ≤ E.faults err.new }
+{
+    match minify(alloc, program) {
+        Ok(passes) => match left_text(alloc, command, program, passes) {
+            Ok(text) => send(text, out, err),
+            Err(_) => out_of_memory(err),
+        },
+        Err(error) => refuse_program(alloc, error, err),
+    }
+}
+
 // Shakes a program that was read.
 pub(crate) fn answer_tree<K: Sink, E: Sink>(
     alloc: Global,
     command: Command,
-    program: Program,
+    mut program: Program,
     out: &mut K,
     err: &mut E,
 ) -> Status
@@ -127,13 +160,7 @@ pub(crate) fn answer_tree<K: Sink, E: Sink>(
     ensures out_later { K.faults out.old ≤ K.faults out.new }
     ensures err_later { E.faults err.old ≤ E.faults err.new }
 {
-    if let Some(status) = refuse_large(alloc, &program, err) {
-        return status;
-    }
-    match shaken_text(alloc, command, program) {
-        Ok(text) => send(text, out, err),
-        Err(_) => out_of_memory(err),
-    }
+    answer_program(alloc, command, &mut program, out, err)
 }
 
 // Shakes the program that the bytes are.
@@ -161,7 +188,7 @@ fn answer<K: Sink, E: Sink>(
 /// Runs the program: `words` are the program's name and the words behind it, `source` the input, `out`
 /// where the output goes, and `err` where a refusal says its reason, in one line.
 ///
-/// The only command is `dce`. It reads one program as ESTree JSON, takes out what does nothing, and
+/// The only command is `dce`. It reads one program as ESTree JSON, tests that it is well formed, takes out what does nothing, and
 /// writes the JSON of what is left, a newline, `passes P references R` and a newline; with
 /// `--tree-only` it leaves the last line out. Nothing is written before the whole output stands in
 /// memory. The answers are tested in the order of their
@@ -181,6 +208,7 @@ pub fn shake<S: Source, K: Sink, E: Sink>(
     ensures syntax { result ≡ Status.Syntax → IsBadJson (S.left source.old) }
     ensures tree { result ≡ Status.Tree → IsBadTree (S.left source.old) }
     ensures too_large { result ≡ Status.TooLarge → IsLargeTree (S.left source.old) }
+    ensures ill_formed { result ≡ Status.IllFormed → IsBrokenTree (S.left source.old) }
     ensures write_fault { result ≡ Status.WriteFault → HasFailed (K.faults out.old) (K.faults out.new) }
     ensures write_front { result ≡ Status.WriteFault → ShakesFront (map string_bytes words.now) (S.left source.old) (K.written out.old) (K.written out.new) }
 

@@ -19,13 +19,15 @@ pub enum Status {
     Tree,
     /// The tree has more than 2^24 nodes, or more than 1,000 levels of them.
     TooLarge,
+    /// The tree breaks a rule of form.
+    IllFormed,
     /// The output could not be written.
     WriteFault,
     OutOfMemory,
 }
 
 impl Status {
-    /// The exit status of the program. 7 is left for a refusal of a tree that is ill formed.
+    /// The exit status of the program.
     pub fn code(self) -> u8
         ensures { result ≡ code_of self }
     {
@@ -37,6 +39,7 @@ impl Status {
             Status::Syntax => 4,
             Status::Tree => 5,
             Status::TooLarge => 6,
+            Status::IllFormed => 7,
             Status::WriteFault => 8,
             Status::OutOfMemory => 9,
         }

@@ -243,6 +243,21 @@ fn refuses_what_is_no_program(rt: HostRuntime) -> Result<(), Fail> {
     Ok(())
 }
 
+// The tree of `let a; let a;`.
+#[test]
+fn refuses_what_is_ill_formed(rt: HostRuntime) -> Result<(), Fail> {
+    let input =
+        r#"{"type":"Program","sourceType":"script","body":[{"type":"VariableDeclaration","kind":"let","declarations":[{"type":"VariableDeclarator","id":{"type":"Identifier","name":"a"},"init":null}]},{"type":"VariableDeclaration","kind":"let","declarations":[{"type":"VariableDeclarator","id":{"type":"Identifier","name":"a"},"init":null}]}]}"#;
+    let got = dce(rt.alloc(), input.as_bytes())?;
+    assert_eq!(rt; got.code, 7);
+    assert_eq!(rt;
+        got.err.as_slice(),
+        b"shake: ill formed: rule 1 at 6\n".as_slice()
+    );
+    assert!(rt; got.out.is_empty());
+    Ok(())
+}
+
 const EMPTY_MODULE: &str = "{\"type\":\"Program\",\"sourceType\":\"module\",\"body\":[]}";
 
 const SHAKEN_EMPTY_MODULE: &str =
@@ -324,6 +339,7 @@ fn codes_are_those_of_the_table(rt: HostRuntime) {
         (Status::Syntax, 4),
         (Status::Tree, 5),
         (Status::TooLarge, 6),
+        (Status::IllFormed, 7),
         (Status::WriteFault, 8),
         (Status::OutOfMemory, 9),
     ];

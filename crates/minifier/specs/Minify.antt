@@ -1,0 +1,25 @@
+-- What the library call makes of a program, and why it refuses one.
+use Rattle.std.specs.Prelude.{◌≡◌, ◌+◌, ℕ, Option, Some, None, min}
+use Rattle.js_syntax.specs.Node.{Forest}
+use Rattle.js_count.specs.Count.{node_count, levels}
+use Rattle.js_pass.specs.Pass.{shaken, passes_of}
+use Rattle.js_form.specs.Break.{at_place}
+use Rattle.js_form.specs.Form.{first_broken}
+use Rattle.minifier.specs.Limit.{IsWithinLimits, IsTooLarge, max_nodes, max_levels}
+use Rattle.minifier.specs.declared.options.CompressOptions.{CompressOptions}
+use Rattle.minifier.specs.declared.error.MinifyError.{MinifyError}
+use Rattle.minifier.specs.declared.error.MinifyError.TheVariants.{TooLarge, IllFormed, OutOfMemory}
+
+-- without options for compression no pass runs
+abbrev pub IsMinified : Option CompressOptions → (old new : Forest) → (iterations : ℕ) → Type 0
+IsMinified None old new iterations = (new ≡ old) × (iterations ≡ 0)
+IsMinified (Some options) old new iterations = (new ≡ shaken old) × (iterations ≡ passes_of old)
+
+-- both counts, each capped one past its limit
+abbrev pub IsCounted : (nodes levels : ℕ) → Forest → Type 0
+IsCounted nodes deep t = (nodes ≡ min (node_count t) (max_nodes + 1)) × (deep ≡ min (levels t) (max_levels + 1))
+
+abbrev pub IsCause : MinifyError → Forest → Type 0
+IsCause (TooLarge nodes deep) t = IsTooLarge t × IsCounted nodes deep t
+IsCause (IllFormed rule place) t = IsWithinLimits t × (first_broken t ≡ Some (at_place place rule))
+IsCause OutOfMemory t = Unit {0}
