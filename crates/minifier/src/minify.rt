@@ -1,10 +1,11 @@
 // The library call.
-ghost use Rattle.std.specs.Prelude.{◌≡◌, IfOk, IfErr, IsSome};
+ghost use Rattle.std.specs.Prelude.{◌≡◌, IfOk, IfErr, IsSomeAnd};
 ghost use Rattle.js_syntax.specs.Node.{forest_of};
 ghost use Rattle.js_form.specs.Form.{IsWellFormed};
 ghost use Rattle.js_pass.specs.Pass.{shaken, passes_of};
 ghost use Rattle.minifier.specs.Limit.{IsWithinLimits};
 ghost use Rattle.minifier.specs.Minify.{IsMinified, IsCause};
+ghost use Rattle.minifier.specs.Options.{IsSmallest};
 
 use crate::error::MinifyError;
 use crate::options::CompressOptions;
@@ -30,7 +31,7 @@ pub struct MinifierOptions {
 impl MinifierOptions {
     /// The smallest output.
     pub fn default(alloc: Global) -> MinifierOptions
-        ensures compress { IsSome result.compress }
+        ensures compress { IsSomeAnd result.compress IsSmallest }
     {
         MinifierOptions {
             compress: Some(CompressOptions::smallest(alloc)),

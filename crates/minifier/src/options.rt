@@ -1,8 +1,6 @@
 // What is compressed, and what is taken to have no side effects.
-ghost use Rattle.std.specs.Prelude.{◌≡◌, [], None, true, false};
-ghost use Rattle.minifier.specs.declared.options.CompressOptionsUnused.TheVariants.{Remove, Keep};
-ghost use Rattle.minifier.specs.declared.options.PropertyReadSideEffects.TheVariants.{All};
-ghost use Rattle.minifier.specs.Options.{all_kept, none_kept, IsDefault};
+ghost use Rattle.std.specs.Prelude.{◌≡◌, true, false};
+ghost use Rattle.minifier.specs.Options.{IsDefault, IsSmallest, IsSafest, IsDce};
 
 use js_syntax::Text;
 use std::alloc::Global;
@@ -125,15 +123,7 @@ pub struct CompressOptions {
 impl CompressOptions {
     /// The smallest output.
     pub fn smallest(alloc: Global) -> CompressOptions
-        ensures drop_debugger { result.drop_debugger ≡ true }
-        ensures drop_console { result.drop_console ≡ false }
-        ensures join_vars { result.join_vars ≡ true }
-        ensures sequences { result.sequences ≡ true }
-        ensures unused { result.unused ≡ Remove }
-        ensures keep_names { result.keep_names ≡ none_kept }
-        ensures treeshake { IsDefault result.treeshake }
-        ensures drop_labels { result.drop_labels.items ≡ [] }
-        ensures max_iterations { result.max_iterations ≡ None }
+        ensures smallest { IsSmallest result }
     {
         CompressOptions {
             drop_debugger: true,
@@ -150,15 +140,7 @@ impl CompressOptions {
 
     /// What no program can tell from its input, not even by names.
     pub fn safest(alloc: Global) -> CompressOptions
-        ensures drop_debugger { result.drop_debugger ≡ false }
-        ensures drop_console { result.drop_console ≡ false }
-        ensures join_vars { result.join_vars ≡ true }
-        ensures sequences { result.sequences ≡ true }
-        ensures unused { result.unused ≡ Keep }
-        ensures keep_names { result.keep_names ≡ all_kept }
-        ensures treeshake { IsDefault result.treeshake }
-        ensures drop_labels { result.drop_labels.items ≡ [] }
-        ensures max_iterations { result.max_iterations ≡ None }
+        ensures safest { IsSafest result }
     {
         CompressOptions {
             drop_debugger: false,
@@ -175,15 +157,7 @@ impl CompressOptions {
 
     /// Dead code elimination alone.
     pub fn dce(alloc: Global) -> CompressOptions
-        ensures drop_debugger { result.drop_debugger ≡ false }
-        ensures drop_console { result.drop_console ≡ false }
-        ensures join_vars { result.join_vars ≡ false }
-        ensures sequences { result.sequences ≡ false }
-        ensures unused { result.unused ≡ Remove }
-        ensures keep_names { result.keep_names ≡ all_kept }
-        ensures treeshake { IsDefault result.treeshake }
-        ensures drop_labels { result.drop_labels.items ≡ [] }
-        ensures max_iterations { result.max_iterations ≡ None }
+        ensures dce { IsDce result }
     {
         CompressOptions {
             drop_debugger: false,
