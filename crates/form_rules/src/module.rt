@@ -7,11 +7,10 @@ ghost use Rattle.js_form.specs.Rules.{rule_7};
 ghost use Rattle.form_rules.specs.Parts.{export_breaks};
 
 use crate::local::unless;
-use crate::rows::first_below;
 use crate::scope::declared_by;
 use form_context::Context;
 use form_names::{first_repeated_export, first_undeclared};
-use form_scopes::{exported_among, locals_among};
+use form_scopes::{exported_among, first_below, locals_among};
 use js_form::{Break, first_of};
 use js_tree::{Node, NodeKind, SourceType};
 use std::alloc::{AllocError, Global};

@@ -10,6 +10,7 @@ ghost use Rattle.js_form.specs.Rules.{first_below, behind, exports_of, text_of, 
 
 use crate::declared::add_declared;
 use crate::place::behind_node;
+use crate::rows::{behind, first_below};
 use js_form::{Declared, Exported, Sort, Sought};
 use js_syntax::ModuleName;
 use js_tree::{Node, NodeKind};
@@ -21,26 +22,6 @@ fn text_of(name: &ModuleName) -> &str
     match name {
         ModuleName::Name(name) => name.as_str(),
         ModuleName::Text(text) => text.as_str(),
-    }
-}
-
-// What lies below the first node of a row.
-fn first_below(nodes: &[Option<Node>]) -> &[Option<Node>]
-    ensures { row result.now ≡ first_below (row nodes.now) }
-{
-    match nodes {
-        [Some(first), ..] => first.children(),
-        _ => &[],
-    }
-}
-
-// The specifiers of an export, whose list is the second of its nodes.
-fn specifiers_of(children: &[Option<Node>]) -> &[Option<Node>]
-    ensures { row result.now ≡ first_below (behind (row children.now)) }
-{
-    match children {
-        [_, others @ ..] => first_below(others),
-        [] => &[],
     }
 }
 
@@ -115,7 +96,7 @@ fn add_exported<'a>(
     match statement.kind() {
         NodeKind::ExportNamedDeclaration(_) => {
             add_declaration(alloc, place, statement.children(), found)?;
-            add_specifiers(place, specifiers_of(statement.children()), found)?;
+            add_specifiers(place, first_below(behind(statement.children())), found)?;
         }
         NodeKind::ExportDefaultDeclaration => found.push(Exported::new("default", place))?,
         NodeKind::ExportAllDeclaration {
@@ -197,7 +178,7 @@ fn add_locals<'a>(
 {
     match statement.kind() {
         NodeKind::ExportNamedDeclaration(None) => {
-            add_locals_named(place, specifiers_of(statement.children()), found)
+            add_locals_named(place, first_below(behind(statement.children())), found)
         }
         _ => Ok(()),
     }

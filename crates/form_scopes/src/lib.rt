@@ -9,6 +9,7 @@ mod exported;
 mod place;
 mod private;
 mod row;
+mod rows;
 #[cfg(test)]
 mod tests;
 
@@ -16,3 +17,4 @@ pub use declared::add_declared;
 pub use exported::{exported_among, locals_among};
 pub use private::privates_among;
 pub use row::{constructors, defaults, early_rests, wrong_declarators};
+pub use rows::{behind, first_below, is_absent};

@@ -2,11 +2,11 @@
 ghost use Rattle.std.specs.Prelude.{◌≡◌, ◌+◌, ◌^◌, ◌<◌, IfOk};
 ghost use Rattle.js_syntax.specs.Node.{row};
 ghost use Rattle.js_count.specs.Count.{node_count};
-ghost use Rattle.js_form.specs.Context.{is_absent};
 ghost use Rattle.js_form.specs.Rules.{places_of, is_default, is_constructor, is_declarator_wrong, is_rest, is_name_first, is_constant, has_initializer, early_rests};
 ghost use Rattle.form_scopes.specs.Part.{part_test, has_part, places};
 
 use crate::place::behind_node;
+use crate::rows::is_absent;
 use js_syntax::{MethodKind, VariableKind};
 use js_tree::{Node, NodeKind};
 use std::alloc::{AllocError, Global};
@@ -18,15 +18,6 @@ enum Part {
     Constructor,
     EarlyRest,
     WrongDeclarator { is_head: bool, how: VariableKind },
-}
-
-fn is_first_absent(nodes: &[Option<Node>]) -> bool
-    ensures { result ≡ is_absent (row nodes.now) }
-{
-    match nodes {
-        [None, ..] => true,
-        _ => false,
-    }
 }
 
 fn is_name_first(nodes: &[Option<Node>]) -> bool
@@ -45,7 +36,7 @@ fn has_initializer(nodes: &[Option<Node>]) -> bool
     ensures { result ≡ has_initializer (row nodes.now) }
 {
     match nodes {
-        [_, others @ ..] => !is_first_absent(others),
+        [_, others @ ..] => !is_absent(others),
         [] => true,
     }
 }
@@ -54,7 +45,7 @@ fn is_default(node: &Node) -> bool
     ensures { result ≡ is_default node.now.kind node.now.below }
 {
     match node.kind() {
-        NodeKind::SwitchCase => is_first_absent(node.children()),
+        NodeKind::SwitchCase => is_absent(node.children()),
         _ => false,
     }
 }
