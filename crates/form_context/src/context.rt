@@ -14,9 +14,9 @@ use std::alloc::{AllocError, Global};
 use std::marker::Model;
 use std::rc::Rc;
 
-/// A label, and whether it is a loop's.
+// A label, and whether it is a loop's.
 #[derive(Drop)]
-pub struct Label<'a> {
+pub(crate) struct Label<'a> {
     name: &'a str,
     is_loop: bool,
 }
@@ -30,7 +30,7 @@ impl<'a> Model for Label<'a> {
 }
 
 impl<'a> Label<'a> {
-    pub fn new(name: &'a str, is_loop: bool) -> Label<'a>
+    pub(crate) fn new(name: &'a str, is_loop: bool) -> Label<'a>
         ensures { result ≡ record { name = name.now; is_loop = is_loop } }
     {
         Label { name, is_loop }

@@ -13,7 +13,6 @@ mod scan;
 #[cfg(test)]
 mod tests;
 
-pub use context::{Context, Label};
+pub use context::Context;
 pub use frame::Frame;
-pub use names::Names;
-pub use scan::{is_strict_function, private_key};
+pub use scan::{is_strict_function, is_strict_list};
