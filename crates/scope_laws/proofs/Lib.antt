@@ -1,0 +1,16 @@
+pub mod Notes
+pub mod Marking
+pub mod Bindings
+pub mod Numbers
+pub mod Exact
+pub mod Counted
+pub mod Split
+pub mod Moving
+pub mod Shifting
+pub mod Declared
+pub mod Around
+pub mod Tried
+pub mod Kept
+pub mod Lists
+pub mod Follows
+pub mod Rewriting
