@@ -1,0 +1,8 @@
+use Rattle.std.proofs.Common.{arith, ap}
+use Rattle.js_syntax.specs.Node.{forest_of}
+use Rattle.js_scopes.specs.Site.{scope_count}
+use Rattle.js_scopes.proofs.Counts.{no_more_scopes}
+use Rattle.scope_walk.proofs.walk.find_sites.Goals as goal
+
+pub add_sites-requires : goal.add_sites-requires
+add_sites-requires c = omega (arith, no_more_scopes (forest_of c.args.program.now), ap (λ t. scope_count (forest_of t)) c.root.ensures, c.requires.small)
