@@ -1,0 +1,11 @@
+-- The table of a tree is exact for the marked tree.
+use Rattle.std.proofs.Common.{◌≡◌, ℕ, List}
+use Rattle.js_syntax.specs.Node.{Forest}
+use Rattle.js_scopes.specs.Table.{Scoping, symbols_declared}
+use Rattle.js_scopes.specs.Mark.{marked, first_marks}
+use Rattle.scope_laws.specs.Exact.{Exact}
+use Rattle.scope_laws.proofs.Exact.{exact}
+use Rattle.js_scoping.specs.Build.{found_of, table_of}
+
+pub exact_now : (s : Scoping) (t u : Forest) (symbols : List ℕ) → s ≡ table_of t → symbols ≡ symbols_declared (found_of t).bindings → u ≡ marked (first_marks symbols) t → Exact s u
+exact_now s t u symbols table declared marks = rw (table, marks, declared) (exact t)

@@ -1,0 +1,15 @@
+//! The scopes, symbols and references of a program: which name each declaration binds, and which binding
+//! each reference has.
+//!
+//! `build` makes the table of a program and marks its nodes with their numbers, and the table is exact then
+//! (`scope_laws/specs/Exact.antt`). Its reading calls are those of `Scoping`.
+#![tactic(auto)]
+
+pub mod rows;
+mod table;
+#[cfg(test)]
+mod tests;
+
+pub use scope_flags::{ReferenceFlags, ScopeFlags, SymbolFlags};
+pub use scoping_table::{Redeclaration, Reference, Scope, Scoping, Symbol, Unresolved};
+pub use table::build;

@@ -1,0 +1,5 @@
+pub mod Group
+pub mod Kept
+pub mod Unbound
+pub mod Named
+pub mod Reading

@@ -1,0 +1,63 @@
+// The whole table.
+ghost use Rattle.std.specs.Prelude.{◌≡◌, ◌<◌, ◌^◌, length, is_some, IfOk};
+ghost use Rattle.std.specs.List.{count_by, sum_by};
+ghost use Rattle.js_scopes.specs.Binding.{resolved};
+ghost use Rattle.js_scopes.specs.Table.{scoping_of, symbols_declared};
+
+use crate::reference::{Reference, references_of};
+use crate::scope::{Scope, scopes_with};
+use crate::symbol::{Symbol, symbols_with};
+use crate::unresolved::{Unresolved, unresolved_of};
+use declared_names::Declared;
+use scope_sites::Found;
+use std::alloc::{AllocError, Global};
+use std::marker::Model;
+
+/// The scopes, symbols and references of a tree. A number names each: how many stand before it.
+#[derive(Drop)]
+pub struct Scoping {
+    pub(crate) scopes: Vec<Scope>,
+    pub(crate) symbols: Vec<Symbol>,
+    pub(crate) references: Vec<Reference>,
+    pub(crate) unresolved: Vec<Unresolved>,
+}
+
+impl Model for Scoping {
+    ghost use Rattle.std.specs.Prelude.{◌<◌, ◌^◌, length, map};
+    ghost use Rattle.js_scopes.specs.Table.{Scoping};
+    ghost use Rattle.scoping_table.specs.Kept.{told};
+
+    ghost Value = { Scoping };
+
+    ghost view = { λ s. record { scopes = s.scopes.items; symbols = map told s.symbols.items; references = s.references.items; unresolved = s.unresolved.items } };
+
+    ghost invariant = { λ s. (length s.symbols.items < 2 ^ 32) × (length s.references.items < 2 ^ 32) };
+}
+
+/// What is made of what a walk has found: the scoping, and the symbol of each declaration, in order.
+#[derive(Drop)]
+pub struct Scoped {
+    pub scoping: Scoping,
+    pub symbols: Vec<u32>,
+}
+
+/// The table of what a walk has found.
+pub fn table(alloc: Global, found: &Found) -> Result<Scoped, AllocError>
+    requires few_bindings { length found.now.bindings < 2 ^ 32 }
+    requires few_references { length found.now.references < 2 ^ 32 }
+    ensures scoping { IfOk result (λ t. t.scoping ≡ scoping_of found.now) }
+    ensures symbols { IfOk result (λ t. t.symbols.items ≡ symbols_declared found.now.bindings) }
+    ensures listed { IfOk result (λ t. sum_by (λ s. length s.references) t.scoping.symbols ≡ count_by (λ r. is_some r.symbol) t.scoping.references) }
+    ensures resolved { IfOk result (λ t. count_by (λ r. is_some r.symbol) t.scoping.references ≡ resolved found.now.bindings found.now.references) }
+{
+    let names = Declared::new(alloc, found.bindings())?;
+    let (references, unbound) = references_of(alloc, &names, found.references())?;
+    let scoping = Scoping {
+        scopes: scopes_with(alloc, &names, found.scopes())?,
+        symbols: symbols_with(alloc, &names, &references)?,
+        references,
+        unresolved: unresolved_of(alloc, &unbound)?,
+    };
+    let symbols = names.symbols_declared(alloc)?;
+    Ok(Scoped { scoping, symbols })
+}
