@@ -14,20 +14,20 @@ abbrev pub MovesRow : (ℕ → ℕ) → (from to count : ℕ) → Type 0
 MovesRow g from to count = (j : ℕ) → j < count → g (from + j) ≡ to + j
 
 opened_moves : (g : ℕ → ℕ) (c d : Context) → Follows g c d → (n m : ℕ) (k : Kind) (t u : Forest) → opens k t ≡ opens k u → (b : Bool) → opens k u ≡ b → MovesRow g n m (if b then 1 else 0) → (at : ℕ) → Follows g (inside c n k t at) (inside d m k u at)
-opened_moves g c d e n m k t u o true is row at =
-    let there : g n ≡ m = ap g (Prim.omega arith) ∙ row 0 (Prim.omega arith) ∙ Prim.omega arith in
+opened_moves g c d e n m k t u o true is moves at =
+    let there : g n ≡ m = ap g (Prim.omega arith) ∙ moves 0 (Prim.omega arith) ∙ Prim.omega arith in
     inside_moves g c d e n k t u o at ∙ ap (λ (i : ℕ). aside (inside d i k u at)) there
-opened_moves g c d e n m k t u o false is row at =
+opened_moves g c d e n m k t u o false is moves at =
     inside_moves g c d e n k t u o at ∙ ap aside (no_number d (g n) m k u is at)
 
 pub contexts_move : (g : ℕ → ℕ) (c d : Context) → Follows g c d → (n m : ℕ) (k : Kind) (t u : Forest) → opens k t ≡ opens k u → MovesRow g n m (opens_one k u) → (at : ℕ) → Follows g (inside c n k t at) (inside d m k u at)
-contexts_move g c d e n m k t u o row at = opened_moves g c d e n m k t u o (opens k u) refl row at
+contexts_move g c d e n m k t u o moves at = opened_moves g c d e n m k t u o (opens k u) refl moves at
 
 pub sites_move : (g : ℕ → ℕ) → g 0 ≡ 0 → (t : Forest) (cs ds : ℕ → Context) (at n m : ℕ) → ((i : ℕ) → Follows g (cs i) (ds i)) → MovesRow g n m (scope_count t)
     → map (moved g) (sites cs at n t) ≡ map unflagged (sites ds at m t)
-sites_move g zero_stays nothing cs ds at n m follows row = refl
-sites_move g zero_stays (absent rest) cs ds at n m follows row = sites_move g zero_stays rest cs ds (suc at) n m follows row
-sites_move g zero_stays (node k note below rest) cs ds at n m follows row =
+sites_move g zero_stays nothing cs ds at n m follows moves = refl
+sites_move g zero_stays (absent rest) cs ds at n m follows moves = sites_move g zero_stays rest cs ds (suc at) n m follows moves
+sites_move g zero_stays (node k note below rest) cs ds at n m follows moves =
     let o = opens_one k below in
     let s = scope_count below in
     let inner = sites (inside (cs at) n k below) 0 (n + o) below in
@@ -42,11 +42,11 @@ sites_move g zero_stays (node k note below rest) cs ds at n m follows row =
     ∙ ap₂ (λ xs ys. xs ++ ys)
     (own_moves g zero_stays (cs at) (ds at) (follows at) note k below below refl)
     (sites_move g zero_stays below (inside (cs at) n k below) (inside (ds at) m k below) 0 (n + o) (m + o)
-    (contexts_move g (cs at) (ds at) (follows at) n m k below below refl (λ j h. row j (Prim.omega (arith, h))))
-    (λ j h. ap g (Prim.omega arith) ∙ row (o + j) (Prim.omega (arith, h)) ∙ Prim.omega arith))
+    (contexts_move g (cs at) (ds at) (follows at) n m k below below refl (λ j h. moves j (Prim.omega (arith, h))))
+    (λ j h. ap g (Prim.omega arith) ∙ moves (o + j) (Prim.omega (arith, h)) ∙ Prim.omega arith))
     ∙ sym (map-append unflagged own' inner'))
     (sites_move g zero_stays rest cs ds (suc at) (n + scope_count (node k note below nothing)) (m + scope_count (node k note below nothing)) follows
-    (λ j h. ap g (Prim.omega arith) ∙ row (o + s + j) (Prim.omega (arith, h)) ∙ Prim.omega arith))
+    (λ j h. ap g (Prim.omega arith) ∙ moves (o + s + j) (Prim.omega (arith, h)) ∙ Prim.omega arith))
     ∙ sym (map-append unflagged (own' ++ inner') outer')
 
 -- ---- around a place: x stood there, and y stands there now
@@ -56,24 +56,24 @@ opened_same k t u e = ap (λ b. if b then 1 else 0) e
 
 pub before_moves : (g : ℕ → ℕ) → g 0 ≡ 0 → (a : Around) (x y : Option Tree) (cs ds : ℕ → Context) (at n : ℕ) → SameScopes a y x → ((i : ℕ) → Follows g (cs i) (ds i)) → MovesRow g n n (scopes_before a x)
     → map (moved g) (before cs at n a y) ≡ map unflagged (before ds at n a x)
-before_moves g zero_stays (first rest) x y cs ds at n same follows row = refl
-before_moves g zero_stays (behind k note below a) x y cs ds at n same follows row =
+before_moves g zero_stays (first rest) x y cs ds at n same follows moves = refl
+before_moves g zero_stays (behind k note below a) x y cs ds at n same follows moves =
     let t = node k note below nothing in
     map-append (moved g) (sites cs at n t) (before cs (suc at) (n + scope_count t) a y)
     ∙ ap₂ (λ xs ys. xs ++ ys)
-    (sites_move g zero_stays t cs ds at n n follows (λ j h. row j (Prim.omega (arith, h))))
-    (before_moves g zero_stays a x y cs ds (suc at) (n + scope_count t) same follows (λ j h. ap g (Prim.omega arith) ∙ row (scope_count t + j) (Prim.omega (arith, h)) ∙ Prim.omega arith))
+    (sites_move g zero_stays t cs ds at n n follows (λ j h. moves j (Prim.omega (arith, h))))
+    (before_moves g zero_stays a x y cs ds (suc at) (n + scope_count t) same follows (λ j h. ap g (Prim.omega arith) ∙ moves (scope_count t + j) (Prim.omega (arith, h)) ∙ Prim.omega arith))
     ∙ sym (map-append unflagged (sites ds at n t) (before ds (suc at) (n + scope_count t) a x))
-before_moves g zero_stays (behind_none a) x y cs ds at n same follows row = before_moves g zero_stays a x y cs ds (suc at) n same follows row
-before_moves g zero_stays (under k note a rest) x y cs ds at n same follows row =
+before_moves g zero_stays (behind_none a) x y cs ds at n same follows moves = before_moves g zero_stays a x y cs ds (suc at) n same follows moves
+before_moves g zero_stays (under k note a rest) x y cs ds at n same follows moves =
     let o = opens_one k (plug a x) in
     map-append (moved g) (own_sites (cs at) note k (plug a y)) (before (inside (cs at) n k (plug a y)) 0 (n + opens_one k (plug a y)) a y)
     ∙ ap₂ (λ xs ys. xs ++ ys)
     (own_moves g zero_stays (cs at) (ds at) (follows at) note k (plug a y) (plug a x) same.0)
     (ap (λ (i : ℕ). map (moved g) (before (inside (cs at) n k (plug a y)) 0 (n + i) a y)) (opened_same k (plug a y) (plug a x) same.0)
     ∙ before_moves g zero_stays a x y (inside (cs at) n k (plug a y)) (inside (ds at) n k (plug a x)) 0 (n + o) same.1
-    (contexts_move g (cs at) (ds at) (follows at) n n k (plug a y) (plug a x) same.0 (λ j h. row j (Prim.omega (arith, h))))
-    (λ j h. ap g (Prim.omega arith) ∙ row (o + j) (Prim.omega (arith, h)) ∙ Prim.omega arith))
+    (contexts_move g (cs at) (ds at) (follows at) n n k (plug a y) (plug a x) same.0 (λ j h. moves j (Prim.omega (arith, h))))
+    (λ j h. ap g (Prim.omega arith) ∙ moves (o + j) (Prim.omega (arith, h)) ∙ Prim.omega arith))
     ∙ sym (map-append unflagged (own_sites (ds at) note k (plug a x)) (before (inside (ds at) n k (plug a x)) 0 (n + o) a x))
 
 -- the whole has so many scopes more
@@ -106,16 +106,16 @@ same_before (under k note a rest) x y same = ap₂ (λ (i j : ℕ). i + j) (sym 
 pub after_moves : (g : ℕ → ℕ) → g 0 ≡ 0 → (a : Around) (x y : Option Tree) (w : ℕ) (cs ds : ℕ → Context) (at n : ℕ) → SameScopes a y x → scope_count (one_place x) ≡ scope_count (one_place y) + w
     → ((i : ℕ) → Follows g (cs i) (ds i)) → MovesRow g n n (scopes_before a x) → ((j : ℕ) → n + scopes_before a x + scope_count (one_place y) ≤ j → g j ≡ j + w)
     → map (moved g) (after cs at n a y) ≡ map unflagged (after ds at n a x)
-after_moves g zero_stays (first rest) x y w cs ds at n same many follows row later =
+after_moves g zero_stays (first rest) x y w cs ds at n same many follows moves later =
     sites_move g zero_stays rest cs ds (suc at) (n + scope_count (one_place y)) (n + scope_count (one_place x)) follows
     (λ j h. later (n + scope_count (one_place y) + j) (Prim.omega arith) ∙ Prim.omega (arith, many))
-after_moves g zero_stays (behind k note below a) x y w cs ds at n same many follows row later =
+after_moves g zero_stays (behind k note below a) x y w cs ds at n same many follows moves later =
     let t = node k note below nothing in
     after_moves g zero_stays a x y w cs ds (suc at) (n + scope_count t) same many follows
-    (λ j h. ap g (Prim.omega arith) ∙ row (scope_count t + j) (Prim.omega (arith, h)) ∙ Prim.omega arith)
+    (λ j h. ap g (Prim.omega arith) ∙ moves (scope_count t + j) (Prim.omega (arith, h)) ∙ Prim.omega arith)
     (λ j h. later j (Prim.omega (arith, h)))
-after_moves g zero_stays (behind_none a) x y w cs ds at n same many follows row later = after_moves g zero_stays a x y w cs ds (suc at) n same many follows row later
-after_moves g zero_stays (under k note a rest) x y w cs ds at n same many follows row later =
+after_moves g zero_stays (behind_none a) x y w cs ds at n same many follows moves later = after_moves g zero_stays a x y w cs ds (suc at) n same many follows moves later
+after_moves g zero_stays (under k note a rest) x y w cs ds at n same many follows moves later =
     let o = opens_one k (plug a x) in
     let mx = n + scope_count (node k note (plug a x) nothing) in
     let my = n + scope_count (node k note (plug a y) nothing) in
@@ -125,8 +125,8 @@ after_moves g zero_stays (under k note a rest) x y w cs ds at n same many follow
     ∙ ap₂ (λ xs ys. xs ++ ys)
     (ap (λ (i : ℕ). map (moved g) (after (inside (cs at) n k (plug a y)) 0 (n + i) a y)) same_opened
     ∙ after_moves g zero_stays a x y w (inside (cs at) n k (plug a y)) (inside (ds at) n k (plug a x)) 0 (n + o) same.1 many
-    (contexts_move g (cs at) (ds at) (follows at) n n k (plug a y) (plug a x) same.0 (λ j h. row j (Prim.omega (arith, h))))
-    (λ j h. ap g (Prim.omega arith) ∙ row (o + j) (Prim.omega (arith, h)) ∙ Prim.omega arith)
+    (contexts_move g (cs at) (ds at) (follows at) n n k (plug a y) (plug a x) same.0 (λ j h. moves j (Prim.omega (arith, h))))
+    (λ j h. ap g (Prim.omega arith) ∙ moves (o + j) (Prim.omega (arith, h)) ∙ Prim.omega arith)
     (λ j h. later j (Prim.omega (arith, h))))
     (sites_move g zero_stays rest cs ds (suc at) my mx follows
     (λ j h. later (my + j) (Prim.omega (arith, before_within a y, same_before a x y same.1, same_opened)) ∙ Prim.omega (arith, more, same_opened)))
