@@ -5,9 +5,9 @@ use Rattle.std.specs.Str.{bytes_eq}
 use Rattle.std.proofs.lemmas.Bool.Decides.{Decides-eqb}
 use Rattle.std.proofs.lemmas.Slice.Eq.{bytes_eq-Decides}
 use Rattle.js_tree.proofs.Rows.{front_of}
-use Rattle.js_scopes.specs.Site.{BindingSite}
-use Rattle.js_scopes.specs.Binding.{Binding, declared_by}
-use Rattle.js_scopes.specs.Table.{same_flag, same_binding, is_among, new_behind, symbols_of, number_from, symbol_of}
+use Rattle.scope_rules.specs.Site.{BindingSite}
+use Rattle.scope_rules.specs.Binding.{Binding, declared_by}
+use Rattle.scope_rules.specs.Table.{same_flag, same_binding, is_among, new_behind, symbols_of, number_from, symbol_of}
 
 -- ---- one binding or two
 

@@ -1,9 +1,9 @@
 -- What maps know of all declarations.
 use Rattle.std.specs.Prelude.{◌≡◌, ℕ, List}
-use Rattle.js_scopes.specs.declared.layer.Layer.{Layer}
-use Rattle.js_scopes.specs.Site.{BindingSite}
-use Rattle.js_scopes.specs.Binding.{Binding, is_declared}
-use Rattle.js_scopes.specs.Table.{symbol_of, symbols_of}
+use Rattle.scope_rules.specs.declared.layer.Layer.{Layer}
+use Rattle.scope_rules.specs.Site.{BindingSite}
+use Rattle.scope_rules.specs.Binding.{Binding, is_declared}
+use Rattle.scope_rules.specs.Table.{symbol_of, symbols_of}
 use Rattle.declared_names.specs.declared.places.Places.{Places}
 use Rattle.declared_names.specs.declared.numbers.Numbers.{Numbers}
 use Rattle.declared_names.specs.Places.{is_placed}

@@ -1,7 +1,7 @@
 -- The numbers of symbols.
 use Rattle.std.specs.Prelude.{ℕ, List, Bool, true, false, Option}
 use Rattle.std.specs.BTreeMap.{BTreeMap}
-use Rattle.js_scopes.specs.Binding.{Binding}
+use Rattle.scope_rules.specs.Binding.{Binding}
 use Rattle.declared_names.specs.declared.numbers.Numbers.{Numbers}
 use Rattle.declared_names.specs.Keys.{at}
 use denote.Ref.{Bor}

@@ -1,9 +1,9 @@
 -- In which layers names are declared.
 use Rattle.std.specs.Prelude.{ℕ, List, Bool}
 use Rattle.std.specs.BTreeSet.{BTreeSet}
-use Rattle.js_scopes.specs.declared.layer.Layer.{Layer}
-use Rattle.js_scopes.specs.declared.layer.Part.{Part}
-use Rattle.js_scopes.specs.declared.layer.Part.TheVariants.{OwnName as own_name, Parameters as parameters, Body as body}
+use Rattle.scope_rules.specs.declared.layer.Layer.{Layer}
+use Rattle.scope_rules.specs.declared.layer.Part.{Part}
+use Rattle.scope_rules.specs.declared.layer.Part.TheVariants.{OwnName as own_name, Parameters as parameters, Body as body}
 use Rattle.declared_names.specs.declared.places.Places.{Places}
 use Rattle.declared_names.specs.Keys.{has}
 use denote.Ref.{Bor}

@@ -1,11 +1,11 @@
 // All declarations of a tree, with a map of their names.
 ghost use Rattle.std.specs.Prelude.{◌≡◌, ◌<◌, ◌^◌, length, map, IfOk};
-ghost use Rattle.js_scopes.specs.Binding.{is_declared, binding_layer};
-ghost use Rattle.js_scopes.specs.Table.{symbols_of, symbol_declared, symbol_used, is_hidden, symbols_declared};
+ghost use Rattle.scope_rules.specs.Binding.{is_declared, binding_layer};
+ghost use Rattle.scope_rules.specs.Table.{symbols_of, symbol_declared, symbol_used, is_hidden, symbols_declared};
 
 use crate::numbers::{First, Numbers, numbers_of};
 use crate::places::{Places, places_of};
-use js_scopes::Layer;
+use scope_rules::Layer;
 use scope_sites::{BindingSite, ReferenceSite};
 use std::alloc::{AllocError, Global};
 use std::marker::Model;
@@ -21,7 +21,7 @@ pub struct Declared<'f, 'a> {
 
 impl<'f, 'a> Model for Declared<'f, 'a> {
     ghost use Rattle.std.specs.Prelude.{List};
-    ghost use Rattle.js_scopes.specs.Site.{BindingSite};
+    ghost use Rattle.scope_rules.specs.Site.{BindingSite};
     ghost use Rattle.declared_names.specs.Indexed.{AreIndexed};
 
     ghost Value = { List BindingSite };

@@ -1,12 +1,12 @@
 // The symbols, in order of their first declarations, and the number of each.
 ghost use Rattle.std.specs.Prelude.{◌≡◌, ◌<◌, ◌^◌, ◌∷◌, ◌++◌, [], ℕ, List, Bool, false, length, is_some, nat_eq, Option, None, Some, IfOk, OnOk, if◌then◌else◌, ◌&&◌};
 ghost use Rattle.std.specs.Str.{bytes_eq};
-ghost use Rattle.js_scopes.specs.Binding.{Binding, named_in, declared_by};
-ghost use Rattle.js_scopes.specs.Table.{same_binding, symbol_of, symbols_of};
+ghost use Rattle.scope_rules.specs.Binding.{Binding, named_in, declared_by};
+ghost use Rattle.scope_rules.specs.Table.{same_binding, symbol_of, symbols_of};
 ghost use Rattle.declared_names.specs.Keys.{at};
 ghost use Rattle.declared_names.specs.Numbers.{number_at};
 
-use js_scopes::{Layer, Part};
+use scope_rules::{Layer, Part};
 use scope_sites::BindingSite;
 use std::alloc::{AllocError, Global};
 use std::collections::BTreeMap;
@@ -21,7 +21,7 @@ pub struct First<'a> {
 }
 
 impl<'a> Model for First<'a> {
-    ghost use Rattle.js_scopes.specs.Binding.{Binding};
+    ghost use Rattle.scope_rules.specs.Binding.{Binding};
 
     ghost Value = { Binding };
 

@@ -1,12 +1,12 @@
 // In which layers names are declared.
 ghost use Rattle.std.specs.Prelude.{◌≡◌, ℕ, List, Bool, false, ◌&&◌, ◌||◌, nat_eq, IfOk, OnOk};
 ghost use Rattle.std.specs.Str.{bytes_eq};
-ghost use Rattle.js_scopes.specs.declared.layer.Layer.{Layer};
-ghost use Rattle.js_scopes.specs.Binding.{same_layer, is_declared};
+ghost use Rattle.scope_rules.specs.declared.layer.Layer.{Layer};
+ghost use Rattle.scope_rules.specs.Binding.{same_layer, is_declared};
 ghost use Rattle.declared_names.specs.Keys.{has};
 ghost use Rattle.declared_names.specs.Places.{is_placed};
 
-use js_scopes::{Layer, Part};
+use scope_rules::{Layer, Part};
 use scope_sites::BindingSite;
 use std::alloc::{AllocError, Global};
 use std::collections::BTreeSet;

@@ -1,8 +1,8 @@
 -- The table of a tree is exact for the marked tree.
 use Rattle.std.proofs.Common.{◌≡◌, ℕ, List}
 use Rattle.js_syntax.specs.Node.{Forest}
-use Rattle.js_scopes.specs.Table.{Scoping, symbols_declared}
-use Rattle.js_scopes.specs.Mark.{marked, first_marks}
+use Rattle.scope_rules.specs.Table.{Scoping, symbols_declared}
+use Rattle.scope_rules.specs.Mark.{marked, first_marks}
 use Rattle.scope_laws.specs.Exact.{Exact}
 use Rattle.scope_laws.proofs.Exact.{exact}
 use Rattle.js_scoping.specs.Build.{found_of, table_of}

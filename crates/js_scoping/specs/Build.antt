@@ -1,8 +1,8 @@
 -- The table of a tree, and the tree with its nodes marked.
 use Rattle.js_syntax.specs.Node.{Forest}
-use Rattle.js_scopes.specs.Site.{Found, sites_of, found_in}
-use Rattle.js_scopes.specs.Table.{Scoping, scoping_of, symbols_declared}
-use Rattle.js_scopes.specs.Mark.{marked, first_marks}
+use Rattle.scope_rules.specs.Site.{Found, sites_of, found_in}
+use Rattle.scope_rules.specs.Table.{Scoping, scoping_of, symbols_declared}
+use Rattle.scope_rules.specs.Mark.{marked, first_marks}
 
 abbrev pub found_of : Forest → Found
 found_of t = found_in (sites_of t)

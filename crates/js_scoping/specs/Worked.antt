@@ -5,8 +5,8 @@ use Rattle.js_syntax.specs.declared.kind.FunctionKind.TheVariants as function_ki
 use Rattle.js_syntax.specs.declared.operator.AssignmentOperator.TheVariants as assignment
 use Rattle.js_syntax.specs.Node.{Forest, nowhere}
 use Rattle.js_form.specs.Samples.{over, row, listed, a_module, a_script, a, binds, reads, one, does, var_, function_of, function_a, catches}
-use Rattle.js_scopes.specs.Samples.{b, writes, assigns}
-use Rattle.js_scopes.specs.Table.{Named, Scope, Symbol, Reference, Redeclaration, Unresolved, Scoping}
+use Rattle.scope_rules.specs.Samples.{b, writes, assigns}
+use Rattle.scope_rules.specs.Table.{Named, Scope, Symbol, Reference, Redeclaration, Unresolved, Scoping}
 use Rattle.js_scoping.specs.Build.{table_of}
 
 pub record Row : Type 0 where

@@ -2,7 +2,7 @@
 ghost use Rattle.std.specs.Prelude.{◌≡◌, ◌^◌, ◌<◌, IfOk, IfErr};
 ghost use Rattle.js_syntax.specs.Node.{forest_of};
 ghost use Rattle.js_count.specs.Count.{node_count};
-ghost use Rattle.js_scopes.specs.Table.{symbols_declared};
+ghost use Rattle.scope_rules.specs.Table.{symbols_declared};
 ghost use Rattle.scope_laws.specs.Exact.{Exact};
 ghost use Rattle.js_scoping.specs.Build.{found_of, table_of, numbered};
 

@@ -3,8 +3,8 @@ use Rattle.std.specs.Prelude.{ℕ, List, [], ◌∷◌, Bool, if◌then◌else�
 use Rattle.js_syntax.specs.declared.node_kind.NodeKind.{NodeKind as Kind}
 use Rattle.js_syntax.specs.declared.node_kind.NodeKind.TheVariants.{Function as function}
 use Rattle.js_syntax.specs.Node.{Forest, Tree}
-use Rattle.js_scopes.specs.declared.layer.Layer.{Layer}
-use Rattle.js_scopes.specs.Context.{Context, opens, strict_in, layers_in, body_of}
+use Rattle.scope_rules.specs.declared.layer.Layer.{Layer}
+use Rattle.scope_rules.specs.Context.{Context, opens, strict_in, layers_in, body_of}
 
 pub record Frame : Type 0 where
   pub scope : ℕ

@@ -3,16 +3,16 @@ ghost use Rattle.std.specs.Prelude.{◌≡◌, ◌≤◌, is_some};
 ghost use Rattle.js_syntax.specs.Node.{row};
 ghost use Rattle.js_form.specs.Context.{behind_first};
 ghost use Rattle.js_names.specs.Names.{eval_of_call};
-ghost use Rattle.js_scopes.specs.Context.{opens, is_there};
-ghost use Rattle.js_scopes.specs.Site.{has_eval, scope_row, function_bits, form_bits, bit, scope_bits, target_bits, read_bits};
+ghost use Rattle.scope_rules.specs.Context.{opens, is_there};
+ghost use Rattle.scope_rules.specs.Site.{has_eval, scope_row, function_bits, form_bits, bit, scope_bits, target_bits, read_bits};
 ghost use Rattle.scope_context.specs.Frame.{frame_of};
 
 use crate::context::Context;
 use crate::frame::Frame;
 use js_names::as_direct_eval_call;
-use js_scopes::Role;
 use js_syntax::FunctionKind;
 use js_tree::{Node, NodeKind};
+use scope_rules::Role;
 
 fn behind_first(nodes: &[Option<Node>]) -> &[Option<Node>]
     ensures { row result.now ≡ behind_first (row nodes.now) }

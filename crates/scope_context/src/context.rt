@@ -1,9 +1,9 @@
 // The context of a node.
 ghost use Rattle.std.specs.Prelude.{◌≡◌, ◌∷◌, ◌++◌, IfOk, OnOk};
-ghost use Rattle.js_scopes.specs.Context.{body_of, parameters_of, own_name_of, entered, declares, used, below_it, as_constructor, outermost};
+ghost use Rattle.scope_rules.specs.Context.{body_of, parameters_of, own_name_of, entered, declares, used, below_it, as_constructor, outermost};
 ghost use Rattle.scope_sites.specs.Listed.{listed};
 
-use js_scopes::{Layer, Part, Role};
+use scope_rules::{Layer, Part, Role};
 use std::alloc::{AllocError, Global};
 use std::marker::Model;
 use std::rc::Rc;
@@ -85,7 +85,7 @@ pub struct Context {
 }
 
 impl Model for Context {
-    ghost use Rattle.js_scopes.specs.Context.{Context};
+    ghost use Rattle.scope_rules.specs.Context.{Context};
     ghost use Rattle.scope_sites.specs.Listed.{listed};
 
     ghost Value = { Context };

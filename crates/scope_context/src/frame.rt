@@ -1,7 +1,7 @@
 // What a node makes of its context for its children.
 ghost use Rattle.std.specs.Prelude.{◌≡◌, ◌∷◌, IfOk};
 ghost use Rattle.js_syntax.specs.Node.{row};
-ghost use Rattle.js_scopes.specs.Context.{strict_in, layers_of_parameters, layers_in};
+ghost use Rattle.scope_rules.specs.Context.{strict_in, layers_of_parameters, layers_in};
 ghost use Rattle.scope_sites.specs.Listed.{listed};
 ghost use Rattle.scope_context.specs.Frame.{frame_of, body_behind, layers_within};
 

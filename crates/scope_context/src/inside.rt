@@ -1,14 +1,14 @@
 // The context of a node's child.
 ghost use Rattle.std.specs.Prelude.{◌≡◌, ◌∷◌, IfOk};
-ghost use Rattle.js_scopes.specs.Context.{in_body, in_block, in_variables, at_function_name, at_class_name, at_parameters, in_function, declares, used, role_of, role_of_object, of_method, below_it, beside, of_function, body_of, layers_of_parameters, inside};
+ghost use Rattle.scope_rules.specs.Context.{in_body, in_block, in_variables, at_function_name, at_class_name, at_parameters, in_function, declares, used, role_of, role_of_object, of_method, below_it, beside, of_function, body_of, layers_of_parameters, inside};
 ghost use Rattle.scope_context.specs.Frame.{frame_of};
 
 use crate::bits::opens;
 use crate::context::{Context, body_of, own_name_of, parameters_of};
 use crate::frame::Frame;
-use js_scopes::Role;
 use js_syntax::{AssignmentOperator, ClassKind, FunctionKind, MethodKind, VariableKind};
 use js_tree::{Node, NodeKind};
+use scope_rules::Role;
 use std::alloc::AllocError;
 
 fn role_of(operator: AssignmentOperator) -> Role

@@ -1,8 +1,8 @@
 // What stands around the parts of a function.
 use crate::{Context, Frame};
-use js_scopes::{Layer, Part};
 use js_syntax::FunctionKind;
 use js_tree::{Node, NodeKind, SPAN};
+use scope_rules::{Layer, Part};
 use std::alloc::{AllocError, Global};
 use std::test::Fail;
 

@@ -4,10 +4,10 @@ use Rattle.js_syntax.specs.declared.node_kind.NodeKind.{NodeKind as Kind}
 use Rattle.js_syntax.specs.declared.node_kind.NodeKind.TheVariants.{PropertyDefinition as property_definition}
 use Rattle.js_syntax.specs.Node.{Forest, Tree, Note, nothing, node, absent, total}
 use Rattle.js_form.specs.Context.{behind_first}
-use Rattle.js_scopes.specs.Context.{Context, is_there, has_second, opens, inside, outermost}
-use Rattle.js_scopes.specs.Site.{Site, scope_site, binding_site, reference_site, ScopeSite, BindingSite, ReferenceSite, own_sites, opens_one, scope_bits, scope_count, sites, sites_of, bindings_among, references_among}
-use Rattle.js_scopes.specs.Binding.{declared_by, binding_of}
-use Rattle.js_scopes.specs.Mark.{own_binding, own_reference}
+use Rattle.scope_rules.specs.Context.{Context, is_there, has_second, opens, inside, outermost}
+use Rattle.scope_rules.specs.Site.{Site, scope_site, binding_site, reference_site, ScopeSite, BindingSite, ReferenceSite, own_sites, opens_one, scope_bits, scope_count, sites, sites_of, bindings_among, references_among}
+use Rattle.scope_rules.specs.Binding.{declared_by, binding_of}
+use Rattle.scope_rules.specs.Mark.{own_binding, own_reference}
 use Rattle.scope_laws.specs.Exact.{Among, Names}
 use Rattle.scope_laws.specs.Place.{Around, first, behind, behind_none, under, placed, one_place, plug, there, scopes_before, SameScopes, sites_before, sites_there, sites_after, sites_around}
 use Rattle.scope_laws.specs.Moved.{moved_declaration, moved_reference, moved, unflagged}

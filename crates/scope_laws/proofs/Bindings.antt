@@ -2,12 +2,12 @@
 use Rattle.std.proofs.Common.{◌≡◌, ◌+◌, ◌∙◌, ℕ, suc, List, [], ◌∷◌, Bool, true, false, ◌&&◌, ◌||◌, true≢false, nat_eq, Some, None, is_some, option_map, unwrap_or, if◌then◌else◌, drop, inl, inr, bytes_eq, refl, sym, ap, ap₂}
 use Rattle.std.proofs.lemmas.Bool.{and_parts, and_from, or_cases, eqb-true, eq-eqb}
 use Rattle.std.proofs.lemmas.Slice.Eq.{bytes_eq-Decides}
-use Rattle.js_scopes.specs.declared.layer.Layer.{Layer}
-use Rattle.js_scopes.specs.declared.layer.Part.{Part}
-use Rattle.js_scopes.specs.declared.layer.Part.TheVariants.{OwnName as own_name, Parameters as parameters, Body as body}
-use Rattle.js_scopes.specs.Site.{BindingSite, ReferenceSite}
-use Rattle.js_scopes.specs.Binding.{Binding, same_part, same_layer, is_declared, binding_layer, named_in, declared_by, binding_of, resolved}
-use Rattle.js_scopes.specs.Table.{same_flag, same_binding}
+use Rattle.scope_rules.specs.declared.layer.Layer.{Layer}
+use Rattle.scope_rules.specs.declared.layer.Part.{Part}
+use Rattle.scope_rules.specs.declared.layer.Part.TheVariants.{OwnName as own_name, Parameters as parameters, Body as body}
+use Rattle.scope_rules.specs.Site.{BindingSite, ReferenceSite}
+use Rattle.scope_rules.specs.Binding.{Binding, same_part, same_layer, is_declared, binding_layer, named_in, declared_by, binding_of, resolved}
+use Rattle.scope_rules.specs.Table.{same_flag, same_binding}
 use Rattle.scope_laws.specs.Renumbered.{bindings_with, references_from}
 use Rattle.scope_laws.specs.Exact.{Among}
 

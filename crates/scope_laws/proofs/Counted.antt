@@ -1,8 +1,8 @@
 -- The symbols' lists hold as many references as have a binding.
 use Rattle.std.proofs.Common.{◌≡◌, ◌∙◌, ◌+◌, ◌<◌, ℕ, zero, suc, List, [], ◌∷◌, map, length, Bool, true, false, true≢false, nat_eq, slice_get, Option, Some, None, is_some, option_and_then, if◌then◌else◌, refl, sym, ap, ap₂, arith, eq-eqb, eqb-true}
-use Rattle.js_scopes.specs.Site.{BindingSite, ReferenceSite, Found}
-use Rattle.js_scopes.specs.Binding.{Binding, declared_by, binding_of, resolved}
-use Rattle.js_scopes.specs.Table.{symbols_of, symbol_of, symbol_used, is_number, references_to, symbols_from, scoping_of}
+use Rattle.scope_rules.specs.Site.{BindingSite, ReferenceSite, Found}
+use Rattle.scope_rules.specs.Binding.{Binding, declared_by, binding_of, resolved}
+use Rattle.scope_rules.specs.Table.{symbols_of, symbol_of, symbol_used, is_number, references_to, symbols_from, scoping_of}
 use Rattle.scope_laws.specs.Counted.{listed_references}
 use Rattle.scope_laws.proofs.Bindings.{none_is_some, declared_binding}
 use Rattle.scope_laws.proofs.Numbers.{numbered, has_symbol}

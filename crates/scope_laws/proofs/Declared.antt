@@ -2,11 +2,11 @@
 use Rattle.std.proofs.Common.{◌≡◌, ◌∙◌, ◌⊎◌, ◌↔◌, ◌+◌, ◌≤◌, ◌<◌, ℕ, List, [], ◌∷◌, ◌++◌, map, Bool, true, false, ◌&&◌, ◌||◌, true≢false, nat_eq, nat_lt, Option, Some, None, option_map, if◌then◌else◌, inl, inr, bytes_eq, refl, sym, ap, ap₂, subst, arith, eqb-true, eq-eqb, ltb-true, ltb-false}
 use Rattle.std.proofs.lemmas.Bool.{and_from, or_left, or_right, false_from_ne_true}
 use Rattle.std.proofs.lemmas.Slice.Eq.{bytes_eq-Decides}
-use Rattle.js_scopes.specs.declared.layer.Layer.{Layer}
-use Rattle.js_scopes.specs.declared.layer.Part.{Part}
-use Rattle.js_scopes.specs.declared.layer.Part.TheVariants.{OwnName as own_name, Parameters as parameters, Body as body}
-use Rattle.js_scopes.specs.Site.{BindingSite, ReferenceSite}
-use Rattle.js_scopes.specs.Binding.{Binding, same_part, same_layer, is_declared, binding_layer, named_in, declared_by, binding_of}
+use Rattle.scope_rules.specs.declared.layer.Layer.{Layer}
+use Rattle.scope_rules.specs.declared.layer.Part.{Part}
+use Rattle.scope_rules.specs.declared.layer.Part.TheVariants.{OwnName as own_name, Parameters as parameters, Body as body}
+use Rattle.scope_rules.specs.Site.{BindingSite, ReferenceSite}
+use Rattle.scope_rules.specs.Binding.{Binding, same_part, same_layer, is_declared, binding_layer, named_in, declared_by, binding_of}
 use Rattle.scope_laws.specs.Exact.{Among, Names}
 use Rattle.scope_laws.specs.Moved.{shifted, moved_layer, moved_binding, moved_declaration, moved_reference}
 use Rattle.scope_laws.specs.Keeping.{Elsewhere}

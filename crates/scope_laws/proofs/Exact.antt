@@ -2,10 +2,10 @@
 use Rattle.std.proofs.Common.{◌≡◌, ◌∙◌, ◌↔◌, ◌+◌, ◌≤◌, ℕ, zero, suc, List, [], ◌∷◌, map, slice_get, Option, Some, None, option_map, option_and_then, inl, inr, refl, sym, ap, ap₂, subst, subst₂, arith}
 use Rattle.std.proofs.lemmas.Option.{slice_get-map}
 use Rattle.js_syntax.specs.Node.{Forest}
-use Rattle.js_scopes.specs.Site.{BindingSite, ReferenceSite, Found, found_in, sites_of}
-use Rattle.js_scopes.specs.Binding.{Binding, declared_by, binding_of}
-use Rattle.js_scopes.specs.Table.{symbols_of, symbol_of, symbol_used, symbol_at, symbols_from, reference_at, number_or_none, symbols_declared, scoping_of, Symbol, references_to}
-use Rattle.js_scopes.specs.Mark.{first_marks, marked}
+use Rattle.scope_rules.specs.Site.{BindingSite, ReferenceSite, Found, found_in, sites_of}
+use Rattle.scope_rules.specs.Binding.{Binding, declared_by, binding_of}
+use Rattle.scope_rules.specs.Table.{symbols_of, symbol_of, symbol_used, symbol_at, symbols_from, reference_at, number_or_none, symbols_declared, scoping_of, Symbol, references_to}
+use Rattle.scope_rules.specs.Mark.{first_marks, marked}
 use Rattle.scope_laws.specs.Renumbered.{binding_with, reference_with, bindings_with, references_from}
 use Rattle.scope_laws.specs.Exact.{Among, NoneTwice, Names, IsNamed, IsEntered, IsDeclared, IsListed, ExactFor, Exact}
 use Rattle.scope_laws.proofs.Marking.{found_marked}

@@ -1,8 +1,8 @@
 -- A table that is exact for one tree is so for one that follows it, once what went is unlisted.
 use Rattle.std.proofs.Common.{◌≡◌, ◌∙◌, ◌↔◌, ℕ, Some, slice_get, inl, inr, sym, ap, subst}
-use Rattle.js_scopes.specs.Site.{BindingSite, ReferenceSite}
-use Rattle.js_scopes.specs.Binding.{declared_by}
-use Rattle.js_scopes.specs.Table.{Symbol, Scoping}
+use Rattle.scope_rules.specs.Site.{BindingSite, ReferenceSite}
+use Rattle.scope_rules.specs.Binding.{declared_by}
+use Rattle.scope_rules.specs.Table.{Symbol, Scoping}
 use Rattle.scope_laws.specs.Exact.{Among, Names, IsNamed, IsEntered, IsDeclared, IsListed, ExactFor}
 use Rattle.scope_laws.specs.Moved.{moved_declaration, moved_reference, moved_binding}
 use Rattle.scope_laws.specs.Keeping.{Keeps}

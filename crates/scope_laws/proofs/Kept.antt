@@ -2,11 +2,11 @@
 use Rattle.std.proofs.Common.{◌≡◌, ◌∙◌, ◌⊎◌, ◌+◌, ℕ, suc, List, [], ◌∷◌, ◌++◌, map, Option, Some, inl, inr, append_assoc, refl, sym, ap, subst, Bool, true, false, is_some, option_map, if◌then◌else◌, arith, None, ap₂}
 use Rattle.std.proofs.lemmas.List.{map-append}
 use Rattle.js_syntax.specs.Node.{Tree, node, nothing, total}
-use Rattle.js_scopes.specs.Context.{Context, inside, outermost}
-use Rattle.js_scopes.specs.Site.{Site, scope_site, binding_site, reference_site, BindingSite, ReferenceSite, scope_count, opens_one, sites, sites_of, bindings_among, references_among}
-use Rattle.js_scopes.specs.Binding.{declared_by, named_in, binding_of, resolved, resolved_references}
-use Rattle.js_scopes.specs.Table.{Scoping}
-use Rattle.js_scopes.specs.Mark.{own_reference, own_binding}
+use Rattle.scope_rules.specs.Context.{Context, inside, outermost}
+use Rattle.scope_rules.specs.Site.{Site, scope_site, binding_site, reference_site, BindingSite, ReferenceSite, scope_count, opens_one, sites, sites_of, bindings_among, references_among}
+use Rattle.scope_rules.specs.Binding.{declared_by, named_in, binding_of, resolved, resolved_references}
+use Rattle.scope_rules.specs.Table.{Scoping}
+use Rattle.scope_rules.specs.Mark.{own_reference, own_binding}
 use Rattle.scope_laws.specs.Exact.{Among, NoneTwice, Exact}
 use Rattle.scope_laws.specs.Place.{Around, first, behind, behind_none, under, one_place, plug, there, scopes_before, sites_before, sites_there, sites_after, sites_around}
 use Rattle.scope_laws.specs.Moved.{moved_reference, moved_binding, moved, unflagged}

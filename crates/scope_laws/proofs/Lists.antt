@@ -4,9 +4,9 @@ use Rattle.std.proofs.lemmas.List.{map-append}
 use Rattle.js_syntax.specs.declared.node_kind.NodeKind.{NodeKind as Kind}
 use Rattle.js_syntax.specs.declared.node_kind.NodeKind.TheVariants.{PropertyDefinition as property_definition, Statements as statements, Cases as cases, Declarators as declarators, Parameters as parameters, Members as members, Elements as elements, Properties as properties, Expressions as expressions, Arguments as arguments, Quasis as quasis, Specifiers as specifiers}
 use Rattle.js_syntax.specs.Node.{Forest, nothing, node, absent}
-use Rattle.js_scopes.specs.Context.{Context, is_there, has_second, opens, inside, outermost}
-use Rattle.js_scopes.specs.Site.{Site, scope_site, binding_site, reference_site, own_sites, opens_one, scope_count, sites, sites_of, bindings_among, references_among}
-use Rattle.js_scopes.specs.Table.{Scoping}
+use Rattle.scope_rules.specs.Context.{Context, is_there, has_second, opens, inside, outermost}
+use Rattle.scope_rules.specs.Site.{Site, scope_site, binding_site, reference_site, own_sites, opens_one, scope_count, sites, sites_of, bindings_among, references_among}
+use Rattle.scope_rules.specs.Table.{Scoping}
 use Rattle.scope_laws.specs.Exact.{ExactFor, Exact}
 use Rattle.scope_laws.specs.Place.{Around, first, behind, behind_none, under, plug}
 use Rattle.scope_laws.specs.Moved.{moved, unflagged}

@@ -4,9 +4,9 @@ use mathlib.Core.Path.{fun_ext}
 use Rattle.js_syntax.specs.declared.node_kind.NodeKind.{NodeKind as Kind}
 use Rattle.js_syntax.specs.declared.node_kind.NodeKind.TheVariants.{PropertyDefinition as property_definition, BindingName as binding_name, ReferenceName as reference_name, TargetName as target_name}
 use Rattle.js_syntax.specs.Node.{Forest, nothing, node, absent, Note, nowhere, bare, total}
-use Rattle.js_scopes.specs.Context.{Context, opens, has_second, inside, outermost}
-use Rattle.js_scopes.specs.Site.{Site, scope_site, binding_site, reference_site, ScopeSite, scopes_among, bindings_among, references_among, found_in, opens_one, scope_count, scope_bits, name_sites, own_sites, sites, sites_of}
-use Rattle.js_scopes.specs.Mark.{Marks, own_binding, first_symbol, mark_of, behind_node, behind_row, marked}
+use Rattle.scope_rules.specs.Context.{Context, opens, has_second, inside, outermost}
+use Rattle.scope_rules.specs.Site.{Site, scope_site, binding_site, reference_site, ScopeSite, scopes_among, bindings_among, references_among, found_in, opens_one, scope_count, scope_bits, name_sites, own_sites, sites, sites_of}
+use Rattle.scope_rules.specs.Mark.{Marks, own_binding, first_symbol, mark_of, behind_node, behind_row, marked}
 use Rattle.scope_laws.specs.Renumbered.{renumbered_site, behind_site, renumbered, scope_with, binding_with, reference_with, scopes_from, bindings_with, references_from, found_renumbered, unmarked}
 use Rattle.scope_laws.proofs.Notes.{unseen, opens_bare, scope_count_bare, scope_bits_bare, inside_bare}
 

@@ -12,11 +12,11 @@ use Rattle.js_syntax.specs.declared.kind.MethodKind.TheVariants as method_kind
 use Rattle.js_syntax.specs.declared.kind.VariableKind.{VariableKind}
 use Rattle.js_syntax.specs.declared.kind.VariableKind.TheVariants as variable_kind
 use Rattle.js_form.specs.Context.{is_strict_function}
-use Rattle.js_scopes.specs.Context.{Context, has_second, opens, in_block, below_it, used, role_of, role_of_object, of_method, declares, body_of, in_variables, at_function_name, at_class_name, at_parameters, in_function, inside, outermost}
+use Rattle.scope_rules.specs.Context.{Context, has_second, opens, in_block, below_it, used, role_of, role_of_object, of_method, declares, body_of, in_variables, at_function_name, at_class_name, at_parameters, in_function, inside, outermost}
 use Rattle.std.proofs.lemmas.List.{map-append}
-use Rattle.js_scopes.specs.declared.layer.Role.{Role}
-use Rattle.js_scopes.specs.declared.layer.Role.TheVariants.{Read as read, Write as write}
-use Rattle.js_scopes.specs.Site.{scope_site, reference_site, scope_bits, read_bits, target_bits, number_or_first, reference_of, name_sites, scope_sites, own_sites}
+use Rattle.scope_rules.specs.declared.layer.Role.{Role}
+use Rattle.scope_rules.specs.declared.layer.Role.TheVariants.{Read as read, Write as write}
+use Rattle.scope_rules.specs.Site.{scope_site, reference_site, scope_bits, read_bits, target_bits, number_or_first, reference_of, name_sites, scope_sites, own_sites}
 use Rattle.scope_laws.specs.Moved.{moved_layer, moved, unflagged}
 
 -- ---- contexts, without whether they are strict, which is seen in scopes' flags alone

@@ -7,8 +7,8 @@ use Rattle.js_syntax.specs.declared.node_kind.NodeKind.TheVariants.{Program as p
 use Rattle.js_syntax.specs.Node.{Forest, nothing, node, absent, Tree, bare, total}
 use Rattle.js_form.specs.Context.{is_module, has_use_strict, is_strict_list, is_strict_function, behind_first}
 use Rattle.js_names.specs.Names.{eval_name, eval_of_call}
-use Rattle.js_scopes.specs.Context.{Context, is_there, has_second, opens, strict_in, in_body, in_block, below_it, of_function, inside}
-use Rattle.js_scopes.specs.Site.{has_eval, scope_row, scope_bits, scope_count, bit, form_bits}
+use Rattle.scope_rules.specs.Context.{Context, is_there, has_second, opens, strict_in, in_body, in_block, below_it, of_function, inside}
+use Rattle.scope_rules.specs.Site.{has_eval, scope_row, scope_bits, scope_count, bit, form_bits}
 
 -- what is the same of a tree without its notes is the same of two trees that differ in notes alone
 pub unseen : {A : Type 0} (f : Forest → A) → ((t : Forest) → f (bare t) ≡ f t) → (t u : Forest) → bare t ≡ bare u → f t ≡ f u

@@ -2,9 +2,9 @@
 -- binding.
 use Rattle.std.proofs.Common.{◌≡◌, ◌∙◌, ◌⊎◌, ◌+◌, ℕ, zero, suc, List, [], ◌∷◌, map, Bool, true, false, true≢false, slice_get, Option, Some, None, option_map, if◌then◌else◌, inl, inr, refl, sym, ap, arith, eqb-true, eq-eqb}
 use Rattle.std.proofs.lemmas.Bool.{or_cases}
-use Rattle.js_scopes.specs.Site.{BindingSite}
-use Rattle.js_scopes.specs.Binding.{Binding, declared_by}
-use Rattle.js_scopes.specs.Table.{same_binding, is_among, new_behind, symbols_of, number_from, is_number, references_to, symbol_at, symbols_from}
+use Rattle.scope_rules.specs.Site.{BindingSite}
+use Rattle.scope_rules.specs.Binding.{Binding, declared_by}
+use Rattle.scope_rules.specs.Table.{same_binding, is_among, new_behind, symbols_of, number_from, is_number, references_to, symbol_at, symbols_from}
 use Rattle.scope_laws.specs.Exact.{Among, NoneTwice}
 use Rattle.scope_laws.proofs.Bindings.{none_is_some, same_value, same_binding_true, same_binding_same}
 

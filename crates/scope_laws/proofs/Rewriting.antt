@@ -1,8 +1,8 @@
 -- A tree in which one thing stands for another follows the tree that it was.
 use Rattle.std.proofs.Common.{◌≡◌, ◌∙◌, ◌⊎◌, ℕ, List, [], ◌∷◌, ◌++◌, map, Option, inl, inr, refl, sym, ap, ap₂, subst}
 use Rattle.std.proofs.lemmas.List.{map-append}
-use Rattle.js_scopes.specs.Site.{BindingSite, ReferenceSite, sites_of, bindings_among, references_among}
-use Rattle.js_scopes.specs.Table.{Scoping}
+use Rattle.scope_rules.specs.Site.{BindingSite, ReferenceSite, sites_of, bindings_among, references_among}
+use Rattle.scope_rules.specs.Table.{Scoping}
 use Rattle.scope_laws.specs.Exact.{Among, NoneTwice, Exact}
 use Rattle.scope_laws.specs.Place.{plug, sites_before, sites_there, sites_after, sites_around}
 use Rattle.scope_laws.specs.Moved.{moved_declaration, moved_reference}

@@ -3,8 +3,8 @@ use Rattle.std.proofs.Common.{◌≡◌, ◌∙◌, ◌+◌, ◌≤◌, ◌<◌,
 use Rattle.std.proofs.lemmas.List.{map-append}
 use Rattle.js_syntax.specs.declared.node_kind.NodeKind.{NodeKind as Kind}
 use Rattle.js_syntax.specs.Node.{Forest, Tree, nothing, node, absent}
-use Rattle.js_scopes.specs.Context.{Context, opens, inside}
-use Rattle.js_scopes.specs.Site.{own_sites, opens_one, scope_count, sites}
+use Rattle.scope_rules.specs.Context.{Context, opens, inside}
+use Rattle.scope_rules.specs.Site.{own_sites, opens_one, scope_count, sites}
 use Rattle.scope_laws.specs.Place.{Around, first, behind, behind_none, under, placed, one_place, plug, before, after, scopes_before, SameScopes}
 use Rattle.scope_laws.specs.Moved.{moved, unflagged}
 use Rattle.scope_laws.proofs.Moving.{aside, Follows, inside_moves, no_number, own_moves}

@@ -1,8 +1,8 @@
 -- The sites of a tree are those before a place, those there, and those behind it.
 use Rattle.std.proofs.Common.{◌≡◌, ◌∙◌, ◌+◌, ℕ, suc, List, ◌++◌, Option, Some, None, append-nil, append_assoc, refl, sym, ap, ap₂, arith}
 use Rattle.js_syntax.specs.Node.{Forest, Tree, nothing, node}
-use Rattle.js_scopes.specs.Context.{Context, inside, outermost}
-use Rattle.js_scopes.specs.Site.{Site, own_sites, opens_one, scope_count, sites, sites_of}
+use Rattle.scope_rules.specs.Context.{Context, inside, outermost}
+use Rattle.scope_rules.specs.Site.{Site, own_sites, opens_one, scope_count, sites, sites_of}
 use Rattle.scope_laws.specs.Place.{Around, first, behind, behind_none, under, placed, one_place, plug, before, there, after, sites_before, sites_there, sites_after}
 
 placed_sites : (cs : ℕ → Context) (at next : ℕ) (x : Option Tree) (rest : Forest) → sites cs at next (placed x rest) ≡ sites cs at next (one_place x) ++ sites cs (suc at) (next + scope_count (one_place x)) rest

@@ -1,6 +1,6 @@
 -- Small programs, by computing.
 use Rattle.std.proofs.Common.{◌≡◌, ◌∙◌, ℕ, [], ◌∷◌, inl, inr, refl, sym, ap, arith}
-use Rattle.js_scopes.specs.Site.{BindingSite, ReferenceSite, sites_of, bindings_among, references_among}
+use Rattle.scope_rules.specs.Site.{BindingSite, ReferenceSite, sites_of, bindings_among, references_among}
 use Rattle.scope_laws.specs.Exact.{Among, IsNamed, Exact}
 use Rattle.scope_laws.specs.Keeping.{DeclaresWithin}
 use Rattle.scope_laws.specs.Moved.{moved_reference}

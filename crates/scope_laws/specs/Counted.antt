@@ -1,6 +1,6 @@
 -- How many references a table lists.
 use Rattle.std.specs.Prelude.{ℕ, ◌+◌, List, [], ◌∷◌, length}
-use Rattle.js_scopes.specs.Table.{Symbol}
+use Rattle.scope_rules.specs.Table.{Symbol}
 
 abbrev pub listed_references : List Symbol → ℕ
 listed_references [] = 0

@@ -1,9 +1,9 @@
 -- Whether a table tells what stands in a tree, whatever its nodes are marked with.
 use Rattle.std.specs.Prelude.{◌≡◌, ◌↔◌, ◌⊎◌, ℕ, List, [], ◌∷◌, map, slice_get, Some}
 use Rattle.js_syntax.specs.Node.{Forest}
-use Rattle.js_scopes.specs.Site.{BindingSite, ReferenceSite, sites_of, bindings_among, references_among}
-use Rattle.js_scopes.specs.Binding.{declared_by, binding_of}
-use Rattle.js_scopes.specs.Table.{Symbol, Reference, Scoping}
+use Rattle.scope_rules.specs.Site.{BindingSite, ReferenceSite, sites_of, bindings_among, references_among}
+use Rattle.scope_rules.specs.Binding.{declared_by, binding_of}
+use Rattle.scope_rules.specs.Table.{Symbol, Reference, Scoping}
 
 -- ---- lists
 

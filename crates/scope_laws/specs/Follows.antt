@@ -1,7 +1,7 @@
 -- When a table of one tree tells of another: what stands in the other stood in the one, and what went is unlisted.
 use Rattle.std.specs.Prelude.{◌≡◌, ◌⊎◌, ℕ, List, map, Option, Some}
-use Rattle.js_scopes.specs.Site.{BindingSite, ReferenceSite}
-use Rattle.js_scopes.specs.Binding.{declared_by, binding_of}
+use Rattle.scope_rules.specs.Site.{BindingSite, ReferenceSite}
+use Rattle.scope_rules.specs.Binding.{declared_by, binding_of}
 use Rattle.scope_laws.specs.Exact.{Among, NoneTwice}
 use Rattle.scope_laws.specs.Moved.{moved_declaration, moved_reference}
 use Rattle.scope_laws.specs.Keeping.{Elsewhere}

@@ -4,9 +4,9 @@
 -- the symbol that its declarations are marked with, and that stays.
 use Rattle.std.specs.Prelude.{◌≡◌, ◌↔◌, ◌<◌, ◌≤◌, ℕ, ◌+◌, List, Option, Some, option_map}
 use Rattle.js_syntax.specs.Node.{Tree, total}
-use Rattle.js_scopes.specs.Site.{BindingSite, ReferenceSite, scope_count, sites_of, bindings_among}
-use Rattle.js_scopes.specs.Binding.{declared_by, binding_of}
-use Rattle.js_scopes.specs.Mark.{own_binding}
+use Rattle.scope_rules.specs.Site.{BindingSite, ReferenceSite, scope_count, sites_of, bindings_among}
+use Rattle.scope_rules.specs.Binding.{declared_by, binding_of}
+use Rattle.scope_rules.specs.Mark.{own_binding}
 use Rattle.scope_laws.specs.Exact.{Among, Names}
 use Rattle.scope_laws.specs.Place.{Around, one_place, plug, scopes_before, SameScopes, sites_around, sites_there}
 use Rattle.scope_laws.specs.Moved.{shifted, moved_binding, moved_reference}

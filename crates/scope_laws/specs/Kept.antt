@@ -1,9 +1,9 @@
 -- What becomes of a table where something plain stands in the place of what had names.
 use Rattle.std.specs.Prelude.{◌≡◌, ◌↔◌, ℕ, List, map, slice_get, Option, Some}
 use Rattle.js_syntax.specs.Node.{Tree, total}
-use Rattle.js_scopes.specs.Site.{ReferenceSite, references_among}
-use Rattle.js_scopes.specs.Table.{Symbol, Scoping}
-use Rattle.js_scopes.specs.Mark.{own_reference}
+use Rattle.scope_rules.specs.Site.{ReferenceSite, references_among}
+use Rattle.scope_rules.specs.Table.{Symbol, Scoping}
+use Rattle.scope_rules.specs.Mark.{own_reference}
 use Rattle.scope_laws.specs.Exact.{Among, NoneTwice}
 use Rattle.scope_laws.specs.Place.{Around, one_place, sites_around, sites_there}
 use Rattle.scope_laws.specs.Moved.{moved_reference}

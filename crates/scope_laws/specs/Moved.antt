@@ -1,8 +1,8 @@
 -- Sites whose scopes have other numbers.
 use Rattle.std.specs.Prelude.{ℕ, ◌+◌, map, nat_lt, option_map, if◌then◌else◌}
-use Rattle.js_scopes.specs.declared.layer.Layer.{Layer}
-use Rattle.js_scopes.specs.Site.{Site, scope_site, binding_site, reference_site, ScopeSite, BindingSite, ReferenceSite}
-use Rattle.js_scopes.specs.Binding.{Binding}
+use Rattle.scope_rules.specs.declared.layer.Layer.{Layer}
+use Rattle.scope_rules.specs.Site.{Site, scope_site, binding_site, reference_site, ScopeSite, BindingSite, ReferenceSite}
+use Rattle.scope_rules.specs.Binding.{Binding}
 
 -- as many more from a number on
 abbrev pub shifted : (from by : ℕ) → ℕ → ℕ

@@ -2,8 +2,8 @@
 use Rattle.std.specs.Prelude.{◌≡◌, ℕ, suc, ◌+◌, List, [], ◌++◌, Option, Some, None}
 use Rattle.js_syntax.specs.declared.node_kind.NodeKind.{NodeKind as Kind}
 use Rattle.js_syntax.specs.Node.{Forest, Tree, Note, nothing, node, absent}
-use Rattle.js_scopes.specs.Context.{Context, opens, inside, outermost}
-use Rattle.js_scopes.specs.Site.{Site, own_sites, opens_one, scope_count, sites}
+use Rattle.scope_rules.specs.Context.{Context, opens, inside, outermost}
+use Rattle.scope_rules.specs.Site.{Site, own_sites, opens_one, scope_count, sites}
 
 -- a tree without what stands at one place: the first of a row, one behind a node or behind a field that is not there, or one
 -- below a node

@@ -2,8 +2,8 @@
 -- symbol.
 use Rattle.std.specs.Prelude.{ℕ, ◌+◌, List, [], ◌∷◌, drop, Option, Some, None}
 use Rattle.js_syntax.specs.Node.{Forest, nothing, node, absent}
-use Rattle.js_scopes.specs.Site.{Site, scope_site, binding_site, reference_site, ScopeSite, BindingSite, ReferenceSite, Found}
-use Rattle.js_scopes.specs.Mark.{Marks, first_symbol}
+use Rattle.scope_rules.specs.Site.{Site, scope_site, binding_site, reference_site, ScopeSite, BindingSite, ReferenceSite, Found}
+use Rattle.scope_rules.specs.Mark.{Marks, first_symbol}
 
 abbrev pub scope_with : Option ℕ → ScopeSite → ScopeSite
 scope_with id s = record { id = id; parent = s.parent; flags = s.flags }

@@ -1,8 +1,8 @@
 -- When one thing may stand in the place of another that has all its names.
 use Rattle.std.specs.Prelude.{◌≡◌, ◌⊎◌, ◌<◌, ℕ, List, map, Option, Some}
 use Rattle.js_syntax.specs.Node.{Tree}
-use Rattle.js_scopes.specs.Site.{BindingSite, ReferenceSite, sites_of, bindings_among, references_among}
-use Rattle.js_scopes.specs.Binding.{declared_by, binding_of}
+use Rattle.scope_rules.specs.Site.{BindingSite, ReferenceSite, sites_of, bindings_among, references_among}
+use Rattle.scope_rules.specs.Binding.{declared_by, binding_of}
 use Rattle.scope_laws.specs.Exact.{Among, NoneTwice}
 use Rattle.scope_laws.specs.Place.{Around, plug, scopes_before, SameScopes, sites_there}
 use Rattle.scope_laws.specs.Moved.{moved_declaration, moved_reference}

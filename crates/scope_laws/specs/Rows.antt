@@ -4,10 +4,10 @@ use Rattle.js_syntax.specs.declared.node_kind.NodeKind.{NodeKind as Kind}
 use Rattle.js_syntax.specs.declared.scalar.SourceType.TheVariants as source_type
 use Rattle.js_syntax.specs.Node.{Forest, Tree, nothing, node, nowhere}
 use Rattle.js_form.specs.Samples.{over, listed, block, a_module, a, let_, reads, does}
-use Rattle.js_scopes.specs.Site.{BindingSite, sites_of, found_in, bindings_among}
-use Rattle.js_scopes.specs.Table.{Symbol, Scoping, scoping_of, symbols_declared}
-use Rattle.js_scopes.specs.Mark.{marked, first_marks}
-use Rattle.js_scopes.specs.Samples.{b}
+use Rattle.scope_rules.specs.Site.{BindingSite, sites_of, found_in, bindings_among}
+use Rattle.scope_rules.specs.Table.{Symbol, Scoping, scoping_of, symbols_declared}
+use Rattle.scope_rules.specs.Mark.{marked, first_marks}
+use Rattle.scope_rules.specs.Samples.{b}
 use Rattle.scope_laws.specs.Rewriting.{Rewriting}
 use Rattle.scope_laws.specs.Place.{Around, first, under, sites_around}
 

@@ -2,11 +2,11 @@
 ghost use Rattle.std.specs.Prelude.{◌≡◌, ℕ, ◌+◌, ◌<◌, ◌++◌, map, length, Option, None, Some, is_some, true, false};
 ghost use Rattle.js_syntax.specs.declared.node_kind.NodeKind.{NodeKind as Kind};
 ghost use Rattle.js_syntax.specs.Node.{Forest, Tree, bare, total};
-ghost use Rattle.js_scopes.specs.Context.{Context};
-ghost use Rattle.js_scopes.specs.Site.{BindingSite, ReferenceSite, sites, sites_of, bindings_among, references_among, found_in};
-ghost use Rattle.js_scopes.specs.Binding.{declared_by, binding_of, resolved, resolved_references};
-ghost use Rattle.js_scopes.specs.Mark.{Marks, marked, first_marks, own_reference, own_binding};
-ghost use Rattle.js_scopes.specs.Table.{Scoping, scoping_of, symbols_declared};
+ghost use Rattle.scope_rules.specs.Context.{Context};
+ghost use Rattle.scope_rules.specs.Site.{BindingSite, ReferenceSite, sites, sites_of, bindings_among, references_among, found_in};
+ghost use Rattle.scope_rules.specs.Binding.{declared_by, binding_of, resolved, resolved_references};
+ghost use Rattle.scope_rules.specs.Mark.{Marks, marked, first_marks, own_reference, own_binding};
+ghost use Rattle.scope_rules.specs.Table.{Scoping, scoping_of, symbols_declared};
 ghost use Rattle.scope_laws.specs.Counted.{listed_references};
 ghost use Rattle.scope_laws.specs.Exact.{Among, Exact, ExactFor};
 ghost use Rattle.scope_laws.specs.Follows.{Change, Follows};

@@ -5,7 +5,7 @@
 //! (`specs/Exact.antt`), and that a change at one place (`specs/Place.antt`) leaves the references around
 //! with the bindings that they had (`specs/Keeping.antt`), though scopes behind the place get other
 //! numbers (`specs/Moved.antt`). The code is empty: each function's contract is a law of the definitions
-//! of js_scopes, or in `rows` a small program that they are tried on.
+//! of scope_rules, or in `rows` a small program that they are tried on.
 #![tactic(auto)]
 
 pub mod laws;

@@ -5,7 +5,7 @@ use Rattle.js_syntax.specs.declared.node_kind.NodeKind.{NodeKind as Kind}
 use Rattle.js_syntax.specs.Node.{Forest, Tree, Note, nothing, node, absent, row, forest_of, joined, total}
 use Rattle.js_tree.proofs.Rows.{joined_nothing, joined_assoc, row_push}
 use Rattle.js_tree.proofs.Children.{none_left}
-use Rattle.js_scopes.specs.Mark.{Marks, own_binding, behind_node, behind_row, marked}
+use Rattle.scope_rules.specs.Mark.{Marks, own_binding, behind_node, behind_row, marked}
 
 same : (a b : Marks) → a.scope ≡ b.scope → a.reference ≡ b.reference → a.symbols ≡ b.symbols → a ≡ b
 same a b s t u = ap (λ x. record { scope = x; reference = a.reference; symbols = a.symbols }) s ∙ ap (λ x. record { scope = b.scope; reference = x; symbols = a.symbols }) t ∙ ap (λ x. record { scope = b.scope; reference = b.reference; symbols = x }) u

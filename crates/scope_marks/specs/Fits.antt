@@ -1,8 +1,8 @@
 -- When the numbers of a row suffice.
 use Rattle.std.specs.Prelude.{◌+◌, ◌^◌, ◌<◌}
 use Rattle.js_syntax.specs.Node.{Forest, total}
-use Rattle.js_scopes.specs.Site.{scope_count}
-use Rattle.js_scopes.specs.Mark.{Marks, own_reference}
+use Rattle.scope_rules.specs.Site.{scope_count}
+use Rattle.scope_rules.specs.Mark.{Marks, own_reference}
 
 pub record Fits (m : Marks) (t : Forest) : Type 0 where
   pub scopes : m.scope + scope_count t < 2 ^ 32

@@ -2,7 +2,7 @@
 ghost use Rattle.std.specs.Prelude.{◌≡◌, ◌^◌, ◌<◌};
 ghost use Rattle.js_syntax.specs.Node.{row, forest_of};
 ghost use Rattle.js_count.specs.Count.{node_count};
-ghost use Rattle.js_scopes.specs.Mark.{behind_row, marked, first_marks};
+ghost use Rattle.scope_rules.specs.Mark.{behind_row, marked, first_marks};
 ghost use Rattle.scope_marks.specs.Fits.{Fits};
 
 use crate::marks::Marks;

@@ -1,6 +1,6 @@
 // What a walk has found so far.
 ghost use Rattle.std.specs.Prelude.{◌≡◌, [], ◌∷◌, OnOk, OnErr};
-ghost use Rattle.js_scopes.specs.Site.{added, scope_site, binding_site, reference_site, scopes_among, bindings_among, references_among};
+ghost use Rattle.scope_rules.specs.Site.{added, scope_site, binding_site, reference_site, scopes_among, bindings_among, references_among};
 
 use crate::site::{BindingSite, ReferenceSite, ScopeSite};
 use std::alloc::{AllocError, Global};
@@ -15,7 +15,7 @@ pub struct Found<'a> {
 }
 
 impl<'a> Model for Found<'a> {
-    ghost use Rattle.js_scopes.specs.Site.{Found};
+    ghost use Rattle.scope_rules.specs.Site.{Found};
 
     ghost Value = { Found };
 

@@ -2,8 +2,8 @@
 ghost use Rattle.std.specs.Prelude.{◌≡◌};
 ghost use Rattle.scope_sites.specs.Listed.{listed};
 
-use js_scopes::Layer;
 use js_syntax::Span;
+use scope_rules::Layer;
 use std::marker::Model;
 use std::rc::Rc;
 
@@ -16,7 +16,7 @@ pub struct ScopeSite {
 }
 
 impl Model for ScopeSite {
-    ghost use Rattle.js_scopes.specs.Site.{ScopeSite};
+    ghost use Rattle.scope_rules.specs.Site.{ScopeSite};
 
     ghost Value = { ScopeSite };
 
@@ -61,7 +61,7 @@ pub struct BindingSite<'a> {
 }
 
 impl<'a> Model for BindingSite<'a> {
-    ghost use Rattle.js_scopes.specs.Site.{BindingSite};
+    ghost use Rattle.scope_rules.specs.Site.{BindingSite};
 
     ghost Value = { BindingSite };
 
@@ -138,7 +138,7 @@ pub struct ReferenceSite<'a> {
 }
 
 impl<'a> Model for ReferenceSite<'a> {
-    ghost use Rattle.js_scopes.specs.Site.{ReferenceSite};
+    ghost use Rattle.scope_rules.specs.Site.{ReferenceSite};
     ghost use Rattle.scope_sites.specs.Listed.{listed};
 
     ghost Value = { ReferenceSite };

@@ -1,7 +1,7 @@
 // What is pushed is found, in order.
 use crate::{BindingSite, Found, ReferenceSite, ScopeSite};
-use js_scopes::{Layer, Part};
 use js_syntax::SPAN;
+use scope_rules::{Layer, Part};
 use std::rc::Rc;
 
 fn body_of(scope: u32) -> Layer {

@@ -2,8 +2,8 @@
 use Rattle.std.proofs.Common.{◌≡◌, ◌<◌, ◌≤◌, ◌+◌, ◌∙◌, ℕ, suc, List, [], ◌∷◌, ◌++◌, Option, Some, None, length, get_or, drop, add-one, append-nil, append_assoc, refl, sym, ap}
 use Rattle.js_syntax.specs.Node.{Forest, Tree, node, nothing, row, forest_of}
 use Rattle.js_tree.proofs.Children.{child_at, none_at, none_left}
-use Rattle.js_scopes.specs.Context.{Context, outermost}
-use Rattle.js_scopes.specs.Site.{Site, scope_site, binding_site, reference_site, scopes_among, bindings_among, references_among, scope_count, sites, sites_of, Found, added, found_in}
+use Rattle.scope_rules.specs.Context.{Context, outermost}
+use Rattle.scope_rules.specs.Site.{Site, scope_site, binding_site, reference_site, scopes_among, bindings_among, references_among, scope_count, sites, sites_of, Found, added, found_in}
 use Rattle.scope_walk.specs.Walk.{node_sites}
 
 scopes_append : (xs ys : List Site) → scopes_among (xs ++ ys) ≡ scopes_among xs ++ scopes_among ys

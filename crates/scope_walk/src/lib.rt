@@ -1,6 +1,6 @@
 //! The scopes, bindings and references of a program, as one walk over its tree finds them.
 //!
-//! What `find_sites` answers is what the definitions of `js_scopes` list, each sort in order of places.
+//! What `find_sites` answers is what the definitions of `scope_rules` list, each sort in order of places.
 #![tactic(auto)]
 
 #[cfg(test)]

@@ -2,7 +2,7 @@
 ghost use Rattle.std.specs.Prelude.{◌≡◌, ◌+◌, ◌^◌, ◌<◌, IfOk, OnOk};
 ghost use Rattle.js_syntax.specs.Node.{forest_of};
 ghost use Rattle.js_count.specs.Count.{node_count};
-ghost use Rattle.js_scopes.specs.Site.{name_sites, scope_sites, own_sites, opens_one, number_or_first, scope_count, added, found_in, sites_of};
+ghost use Rattle.scope_rules.specs.Site.{name_sites, scope_sites, own_sites, opens_one, number_or_first, scope_count, added, found_in, sites_of};
 ghost use Rattle.scope_context.specs.Frame.{frame_of};
 ghost use Rattle.scope_walk.specs.Walk.{node_sites};
 

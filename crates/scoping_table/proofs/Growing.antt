@@ -1,9 +1,9 @@
 -- Symbols with one more declaration, or one more reference.
 use Rattle.std.proofs.Common.{◌≡◌, ◌∙◌, ◌<◌, ◌≤◌, ◌+◌, ℕ, zero, suc, List, [], ◌∷◌, ◌++◌, Bool, true, false, Option, Some, None, if◌then◌else◌, map, length, get_or, take, arith, refl, sym, ap}
 use Rattle.std.specs.Int.RustNames.{bit_or}
-use Rattle.js_scopes.specs.Site.{BindingSite, ReferenceSite}
-use Rattle.js_scopes.specs.Binding.{Binding}
-use Rattle.js_scopes.specs.Table.{Redeclaration, redeclaration, is_number, symbol_declared, declarations_of, joined_bits, references_to, Reference, reference_at, symbol_used, symbol_at, symbols_from, symbols_of}
+use Rattle.scope_rules.specs.Site.{BindingSite, ReferenceSite}
+use Rattle.scope_rules.specs.Binding.{Binding}
+use Rattle.scope_rules.specs.Table.{Redeclaration, redeclaration, is_number, symbol_declared, declarations_of, joined_bits, references_to, Reference, reference_at, symbol_used, symbol_at, symbols_from, symbols_of}
 use Rattle.std.proofs.lemmas.List.{take_more, length-map, length-take-le, map-append}
 use Rattle.scoping_table.specs.Group.{at_number}
 use Rattle.scoping_table.specs.Kept.{KeptSymbol, blank, with_declaration, with_reference, kept_at, kept_from, told}

@@ -5,9 +5,9 @@ use Rattle.std.specs.List.{count_by, sum_by}
 use Rattle.std.proofs.lemmas.Bool.{ne_eqb, eqb-false}
 use Rattle.std.proofs.lemmas.Bool.Decides.{Decides-eqb}
 use Rattle.std.proofs.lemmas.List.Sums.{sum_by-cons}
-use Rattle.js_scopes.specs.Site.{BindingSite, ReferenceSite}
-use Rattle.js_scopes.specs.Binding.{Binding, binding_of}
-use Rattle.js_scopes.specs.Table.{same_binding, is_number, references_to, number_from, symbols_of, symbol_of, symbol_used, symbol_at, symbols_from, reference_at}
+use Rattle.scope_rules.specs.Site.{BindingSite, ReferenceSite}
+use Rattle.scope_rules.specs.Binding.{Binding, binding_of}
+use Rattle.scope_rules.specs.Table.{same_binding, is_number, references_to, number_from, symbols_of, symbol_of, symbol_used, symbol_at, symbols_from, reference_at}
 
 listed_from : (n : ℕ) → (uses : List (Option ℕ)) → (next : ℕ) → List Binding → ℕ
 listed_from n uses next [] = 0

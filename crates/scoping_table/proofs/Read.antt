@@ -9,7 +9,7 @@ use Rattle.js_syntax.specs.declared.scalar.ReferenceId.{ReferenceId}
 use Rattle.std.specs.Str.{bytes_eq}
 use Rattle.std.specs.String.{string_bytes}
 use Rattle.js_syntax.specs.declared.scalar.SymbolId.{SymbolId}
-use Rattle.js_scopes.specs.Table.{Scoping}
+use Rattle.scope_rules.specs.Table.{Scoping}
 use Rattle.scoping_table.specs.Named.{named}
 use Rattle.scoping_table.specs.Reading.{scope_at, symbol_named, scopes_up, first_of, binding_among}
 

@@ -4,12 +4,12 @@ use Rattle.std.specs.Bool.{nat_eq}
 use Rattle.std.specs.List.{count_by}
 use Rattle.std.specs.Str.{bytes_eq}
 use Rattle.std.proofs.lemmas.List.Sums.{sum_by-cons}
-use Rattle.js_scopes.specs.declared.layer.Layer.{Layer}
-use Rattle.js_scopes.specs.declared.layer.Part.{Part}
-use Rattle.js_scopes.specs.declared.layer.Part.TheVariants.{OwnName as own_name, Parameters as parameters, Body as body}
-use Rattle.js_scopes.specs.Site.{BindingSite, ReferenceSite}
-use Rattle.js_scopes.specs.Binding.{Binding, is_own_name, same_part, same_layer, is_declared, binding_layer, named_in, declared_by, binding_of, resolved}
-use Rattle.js_scopes.specs.Table.{same_flag, same_binding, is_among, new_behind, symbols_of, symbol_of, symbol_used, reference_at}
+use Rattle.scope_rules.specs.declared.layer.Layer.{Layer}
+use Rattle.scope_rules.specs.declared.layer.Part.{Part}
+use Rattle.scope_rules.specs.declared.layer.Part.TheVariants.{OwnName as own_name, Parameters as parameters, Body as body}
+use Rattle.scope_rules.specs.Site.{BindingSite, ReferenceSite}
+use Rattle.scope_rules.specs.Binding.{Binding, is_own_name, same_part, same_layer, is_declared, binding_layer, named_in, declared_by, binding_of, resolved}
+use Rattle.scope_rules.specs.Table.{same_flag, same_binding, is_among, new_behind, symbols_of, symbol_of, symbol_used, reference_at}
 use Rattle.declared_names.proofs.Firsts.{same_is, number_among}
 
 and_first : (a b : Bool) → a && b ≡ true → a ≡ true

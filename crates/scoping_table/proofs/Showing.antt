@@ -10,9 +10,9 @@ use Rattle.std.proofs.lemmas.List.{take-append-drop, length-take-le, length-map,
 use Rattle.indexmap.specs.IndexMap.{insert_entry}
 use Rattle.js_tree.proofs.Rows.{front_of}
 use Rattle.js_syntax.specs.declared.scalar.SymbolId.{SymbolId}
-use Rattle.js_scopes.specs.Site.{ScopeSite, BindingSite}
-use Rattle.js_scopes.specs.Binding.{Binding, declared_by}
-use Rattle.js_scopes.specs.Table.{same_binding, is_among, new_behind, symbols_of, Named, Scope, is_hidden, names_from, scopes_from}
+use Rattle.scope_rules.specs.Site.{ScopeSite, BindingSite}
+use Rattle.scope_rules.specs.Binding.{Binding, declared_by}
+use Rattle.scope_rules.specs.Table.{same_binding, is_among, new_behind, symbols_of, Named, Scope, is_hidden, names_from, scopes_from}
 use Rattle.declared_names.proofs.Firsts.{same_itself}
 use Rattle.scoping_table.specs.Group.{at_number}
 use Rattle.scoping_table.specs.Named.{named, blank_scope, put_name, with_name, scopes_named}

@@ -1,9 +1,9 @@
 -- Symbols as they are kept while the table is made: with all their declarations so far.
 use Rattle.std.specs.Prelude.{ℕ, suc, List, [], ◌∷◌, ◌++◌, Option}
 use Rattle.std.specs.Int.RustNames.{bit_or}
-use Rattle.js_scopes.specs.Site.{BindingSite}
-use Rattle.js_scopes.specs.Binding.{Binding}
-use Rattle.js_scopes.specs.Table.{Redeclaration, declarations_of, joined_bits, if_several, is_pure_alone, references_to, Symbol}
+use Rattle.scope_rules.specs.Site.{BindingSite}
+use Rattle.scope_rules.specs.Binding.{Binding}
+use Rattle.scope_rules.specs.Table.{Redeclaration, declarations_of, joined_bits, if_several, is_pure_alone, references_to, Symbol}
 
 pub record KeptSymbol : Type 0 where
   pub name : List ℕ

@@ -4,9 +4,9 @@ use Rattle.std.specs.String.{string_bytes}
 use Rattle.std.specs.Global.{Global}
 use Rattle.std.specs.Str.{bytes_eq}
 use Rattle.js_syntax.specs.declared.scalar.SymbolId.{SymbolId}
-use Rattle.js_scopes.specs.Site.{ScopeSite}
-use Rattle.js_scopes.specs.Binding.{Binding}
-use Rattle.js_scopes.specs.Table.{Named, Scope, names_from}
+use Rattle.scope_rules.specs.Site.{ScopeSite}
+use Rattle.scope_rules.specs.Binding.{Binding}
+use Rattle.scope_rules.specs.Table.{Named, Scope, names_from}
 
 abbrev pub named : String Global × SymbolId → Named
 named e = record { name = string_bytes e.0; symbol = e.1.0 }

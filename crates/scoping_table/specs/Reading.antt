@@ -2,7 +2,7 @@
 use Rattle.std.specs.Prelude.{ℕ, zero, suc, ◌==◌, List, [], ◌∷◌, Bool, false, Option, Some, None, if◌then◌else◌, slice_index_or}
 use Rattle.std.specs.Int.RustNames.{bit_and}
 use Rattle.std.specs.Str.{bytes_eq}
-use Rattle.js_scopes.specs.Table.{Named, Scope, Symbol, Reference, Scoping}
+use Rattle.scope_rules.specs.Table.{Named, Scope, Symbol, Reference, Scoping}
 
 -- ---- what a number names; nothing, past the last
 

@@ -5,7 +5,7 @@ use Rattle.std.specs.Ordering.{nat_cmp}
 use Rattle.std.specs.Str.{bytes_eq}
 use Rattle.std.specs.BTreeMap as tree
 use Rattle.std.specs.BTreeMap.{BTreeMap}
-use Rattle.js_scopes.specs.Table.{Unresolved}
+use Rattle.scope_rules.specs.Table.{Unresolved}
 use denote.Ref.{Bor}
 
 abbrev pub name_told : Option (Bor (List ℕ)) → Option (List ℕ)

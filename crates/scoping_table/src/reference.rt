@@ -1,6 +1,6 @@
 // References, with their symbols.
 ghost use Rattle.std.specs.Prelude.{◌≡◌, map, option_map, IfOk};
-ghost use Rattle.js_scopes.specs.Table.{reference_at, unless_bound, unbound_name};
+ghost use Rattle.scope_rules.specs.Table.{reference_at, unless_bound, unbound_name};
 ghost use Rattle.scoping_table.specs.Reading.{is_write};
 ghost use Rattle.scoping_table.specs.Unbound.{name_told};
 
@@ -21,7 +21,7 @@ pub struct Reference {
 }
 
 impl Model for Reference {
-    ghost use Rattle.js_scopes.specs.Table.{Reference};
+    ghost use Rattle.scope_rules.specs.Table.{Reference};
 
     ghost Value = { Reference };
 

@@ -1,6 +1,6 @@
 // Scopes, with the names that they have.
 ghost use Rattle.std.specs.Prelude.{◌≡◌, ◌<◌, ◌^◌, map, length, string_bytes, Some, option_map, IfOk, OnOk, if◌then◌else◌};
-ghost use Rattle.js_scopes.specs.Table.{symbols_of, is_hidden, scopes_from};
+ghost use Rattle.scope_rules.specs.Table.{symbols_of, is_hidden, scopes_from};
 ghost use Rattle.scoping_table.specs.Reading.{symbol_named};
 ghost use Rattle.scoping_table.specs.Group.{at_number};
 ghost use Rattle.scoping_table.specs.Named.{blank_scope, named, with_name};
@@ -24,7 +24,7 @@ pub struct Scope {
 
 impl Model for Scope {
     ghost use Rattle.std.specs.Prelude.{map};
-    ghost use Rattle.js_scopes.specs.Table.{Scope};
+    ghost use Rattle.scope_rules.specs.Table.{Scope};
     ghost use Rattle.scoping_table.specs.Named.{named};
 
     ghost Value = { Scope };

@@ -1,8 +1,8 @@
 // The whole table.
 ghost use Rattle.std.specs.Prelude.{◌≡◌, ◌<◌, ◌^◌, length, is_some, IfOk};
 ghost use Rattle.std.specs.List.{count_by, sum_by};
-ghost use Rattle.js_scopes.specs.Binding.{resolved};
-ghost use Rattle.js_scopes.specs.Table.{scoping_of, symbols_declared};
+ghost use Rattle.scope_rules.specs.Binding.{resolved};
+ghost use Rattle.scope_rules.specs.Table.{scoping_of, symbols_declared};
 
 use crate::reference::{Reference, references_of};
 use crate::scope::{Scope, scopes_with};
@@ -24,7 +24,7 @@ pub struct Scoping {
 
 impl Model for Scoping {
     ghost use Rattle.std.specs.Prelude.{◌<◌, ◌^◌, length, map};
-    ghost use Rattle.js_scopes.specs.Table.{Scoping};
+    ghost use Rattle.scope_rules.specs.Table.{Scoping};
     ghost use Rattle.scoping_table.specs.Kept.{told};
 
     ghost Value = { Scoping };

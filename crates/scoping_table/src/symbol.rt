@@ -1,6 +1,6 @@
 // Symbols, with their declarations and the references to them.
 ghost use Rattle.std.specs.Prelude.{◌≡◌, ◌<◌, ◌^◌, [], map, length, IfOk, OnOk};
-ghost use Rattle.js_scopes.specs.Table.{redeclaration, symbols_of, if_several, is_pure_alone};
+ghost use Rattle.scope_rules.specs.Table.{redeclaration, symbols_of, if_several, is_pure_alone};
 ghost use Rattle.scoping_table.specs.Group.{at_number};
 ghost use Rattle.scoping_table.specs.Kept.{blank, with_declaration, with_reference, kept_from};
 
@@ -22,7 +22,7 @@ pub struct Redeclaration {
 }
 
 impl Model for Redeclaration {
-    ghost use Rattle.js_scopes.specs.Table.{Redeclaration};
+    ghost use Rattle.scope_rules.specs.Table.{Redeclaration};
 
     ghost Value = { Redeclaration };
 

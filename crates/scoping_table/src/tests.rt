@@ -1,7 +1,7 @@
 // A table told as text, beside the same told by hand.
 use crate::{Scoping, table};
-use js_scopes::{Layer, Part};
 use js_syntax::{ReferenceId, SPAN, ScopeId, SymbolId};
+use scope_rules::{Layer, Part};
 use scope_sites::{BindingSite, Found, ReferenceSite, ScopeSite};
 use std::alloc::{AllocError, Global};
 use std::rc::Rc;

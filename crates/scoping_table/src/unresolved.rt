@@ -1,7 +1,7 @@
 // Names that nothing declares, with the references that have them.
 ghost use Rattle.std.specs.Prelude.{◌≡◌, ◌<◌, ◌≤◌, ◌^◌, ℕ, List, [], map, length, option_and_then, Some, IfOk, OnOk, if◌then◌else◌};
 ghost use Rattle.std.specs.Str.{bytes_eq};
-ghost use Rattle.js_scopes.specs.Table.{names_behind, name_number, unresolved_among};
+ghost use Rattle.scope_rules.specs.Table.{names_behind, name_number, unresolved_among};
 ghost use Rattle.scoping_table.specs.Group.{at_number};
 ghost use Rattle.scoping_table.specs.Unbound.{name_told, number_of, blank_name, with_use, IsNumbered, IsCounted};
 
@@ -19,7 +19,7 @@ pub struct Unresolved {
 
 impl Model for Unresolved {
     ghost use Rattle.std.specs.Prelude.{map};
-    ghost use Rattle.js_scopes.specs.Table.{Unresolved};
+    ghost use Rattle.scope_rules.specs.Table.{Unresolved};
 
     ghost Value = { Unresolved };
 

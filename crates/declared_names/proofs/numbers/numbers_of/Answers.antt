@@ -1,5 +1,5 @@
 use Rattle.std.proofs.Common.{◌∙◌}
-use Rattle.js_scopes.specs.Binding.{named_in}
+use Rattle.scope_rules.specs.Binding.{named_in}
 use Rattle.declared_names.specs.Numbers.{number_at}
 use Rattle.declared_names.proofs.Firsts.{numbered_more}
 use Rattle.declared_names.proofs.numbers.numbers_of.Goals as goal

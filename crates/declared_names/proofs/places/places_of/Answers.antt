@@ -1,6 +1,6 @@
 use Rattle.std.proofs.Common.{◌≡◌, ◌∙◌, ◌&&◌, ◌||◌, ap}
 use Rattle.std.specs.Str.{bytes_eq}
-use Rattle.js_scopes.specs.Binding.{same_layer}
+use Rattle.scope_rules.specs.Binding.{same_layer}
 use Rattle.declared_names.specs.Places.{is_placed}
 use Rattle.declared_names.proofs.Layers.{declared_more, declared_none}
 use Rattle.declared_names.proofs.places.places_of.Goals as goal

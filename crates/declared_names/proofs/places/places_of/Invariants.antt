@@ -1,6 +1,6 @@
 use Rattle.std.proofs.Common.{◌≡◌, ◌||◌, ℕ, List, drop}
-use Rattle.js_scopes.specs.declared.layer.Layer.{Layer}
-use Rattle.js_scopes.specs.Binding.{is_declared}
+use Rattle.scope_rules.specs.declared.layer.Layer.{Layer}
+use Rattle.scope_rules.specs.Binding.{is_declared}
 use Rattle.declared_names.specs.Places.{is_placed}
 use Rattle.declared_names.proofs.places.places_of.Given as goal
 

@@ -1,7 +1,7 @@
 use Rattle.std.proofs.Common.{◌≡◌, drop}
 use Rattle.js_syntax.specs.Node.{row}
 use Rattle.js_tree.specs.Weight.{size_of}
-use Rattle.js_scopes.specs.Site.{has_eval}
+use Rattle.scope_rules.specs.Site.{has_eval}
 use Rattle.scope_context.proofs.bits.+has_eval.Given as goal
 
 abbrev pub decreases-has_eval : goal.decreases-has_eval

@@ -1,5 +1,5 @@
 use Rattle.std.proofs.Common.{sym}
-use Rattle.js_scopes.specs.Site.{sites_of, found_in}
+use Rattle.scope_rules.specs.Site.{sites_of, found_in}
 use Rattle.scope_laws.proofs.Counted.{listed_resolved}
 use Rattle.scope_laws.proofs.laws.bound_references_are_listed.Goals as goal
 

@@ -1,4 +1,4 @@
-use Rattle.js_scopes.specs.Context.{outermost}
+use Rattle.scope_rules.specs.Context.{outermost}
 use Rattle.scope_laws.proofs.Marking.{sites_marked, found_marked}
 use Rattle.scope_laws.proofs.laws.marking_renumbers.Goals as goal
 

@@ -1,6 +1,6 @@
 use Rattle.std.proofs.Common.{◌∙◌, ap}
-use Rattle.js_scopes.specs.Site.{sites_of, found_in}
-use Rattle.js_scopes.specs.Binding.{resolved}
+use Rattle.scope_rules.specs.Site.{sites_of, found_in}
+use Rattle.scope_rules.specs.Binding.{resolved}
 use Rattle.scope_laws.proofs.Marking.{found_marked}
 use Rattle.scope_laws.proofs.Bindings.{same_resolved}
 use Rattle.scope_laws.proofs.laws.resolving_ignores_marks.Goals as goal

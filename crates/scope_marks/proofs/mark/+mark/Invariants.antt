@@ -1,7 +1,7 @@
 use Rattle.std.proofs.Common.{◌≡◌, ◌≤◌, ◌+◌, ◌*◌, drop}
 use Rattle.js_syntax.specs.Node.{row}
 use Rattle.js_tree.specs.Weight.{size_of, tree_size}
-use Rattle.js_scopes.specs.Mark.{marked, behind_row}
+use Rattle.scope_rules.specs.Mark.{marked, behind_row}
 use Rattle.scope_marks.proofs.Steps.{all_marked, all_behind}
 use Rattle.scope_marks.proofs.mark.+mark.Given as goal
 

@@ -1,8 +1,8 @@
 use Rattle.std.proofs.Common.{◌≡◌, ◌∙◌, ap, arith}
 use Rattle.js_syntax.specs.Node.{forest_of, total}
-use Rattle.js_scopes.specs.Site.{scope_count}
-use Rattle.js_scopes.specs.Mark.{own_reference}
-use Rattle.js_scopes.proofs.Counts.{no_more_scopes, no_more_references}
+use Rattle.scope_rules.specs.Site.{scope_count}
+use Rattle.scope_rules.specs.Mark.{own_reference}
+use Rattle.scope_rules.proofs.Counts.{no_more_scopes, no_more_references}
 use Rattle.scope_marks.proofs.mark.mark_nodes.Goals as goal
 
 pub mark_node-requires : goal.mark_node-requires

@@ -2,8 +2,8 @@ use Rattle.std.proofs.Common.{◌+◌, ◌∙◌, ℕ, drop, ap, ap₂, arith}
 use Rattle.js_syntax.specs.Node.{row}
 use Rattle.js_tree.proofs.Children.{child_at, none_at}
 use Rattle.js_tree.proofs.Sizes.{child_smaller}
-use Rattle.js_scopes.specs.Context.{inside}
-use Rattle.js_scopes.specs.Site.{scope_count, sites, added}
+use Rattle.scope_rules.specs.Context.{inside}
+use Rattle.scope_rules.specs.Site.{scope_count, sites, added}
 use Rattle.scope_walk.specs.Walk.{node_sites}
 use Rattle.scope_walk.proofs.Steps.{next_child, next_absent}
 use Rattle.scope_walk.proofs.walk.+add_sites.Goals.{in-Some+in_ok-inner+in_ok-next+in-None-1, in-Some+in_ok-inner+in_ok-next+in-Some-1, in_default}

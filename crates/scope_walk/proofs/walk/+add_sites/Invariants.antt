@@ -1,8 +1,8 @@
 use Rattle.std.proofs.Common.{◌≡◌, ◌+◌, drop}
 use Rattle.js_syntax.specs.Node.{row, forest_of}
 use Rattle.js_tree.specs.Weight.{tree_size}
-use Rattle.js_scopes.specs.Context.{inside}
-use Rattle.js_scopes.specs.Site.{scope_count, sites, added}
+use Rattle.scope_rules.specs.Context.{inside}
+use Rattle.scope_rules.specs.Site.{scope_count, sites, added}
 use Rattle.scope_walk.specs.Walk.{node_sites}
 use Rattle.scope_walk.proofs.walk.+add_sites.Given as goal
 

@@ -1,7 +1,7 @@
 use Rattle.std.proofs.Common.{arith, ap}
 use Rattle.js_syntax.specs.Node.{forest_of}
-use Rattle.js_scopes.specs.Site.{scope_count}
-use Rattle.js_scopes.proofs.Counts.{no_more_scopes}
+use Rattle.scope_rules.specs.Site.{scope_count}
+use Rattle.scope_rules.proofs.Counts.{no_more_scopes}
 use Rattle.scope_walk.proofs.walk.find_sites.Goals as goal
 
 pub add_sites-requires : goal.add_sites-requires

@@ -1,5 +1,5 @@
 use Rattle.std.proofs.Common.{◌≡◌, map, take}
-use Rattle.js_scopes.specs.Table.{reference_at, unbound_name}
+use Rattle.scope_rules.specs.Table.{reference_at, unbound_name}
 use Rattle.scoping_table.specs.Unbound.{name_told}
 use Rattle.scoping_table.proofs.reference.references_of.Given as goal
 

@@ -1,5 +1,5 @@
 use Rattle.std.proofs.Common.{◌∙◌}
-use Rattle.js_scopes.specs.Table.{symbols_of}
+use Rattle.scope_rules.specs.Table.{symbols_of}
 use Rattle.scoping_table.proofs.Showing.{none_named, listed_more, listed_all}
 use Rattle.scoping_table.proofs.scope.scopes_with.Goals as goal
 

@@ -1,5 +1,5 @@
 use Rattle.std.proofs.Common.{◌≡◌, take}
-use Rattle.js_scopes.specs.Table.{symbols_of}
+use Rattle.scope_rules.specs.Table.{symbols_of}
 use Rattle.scoping_table.specs.Named.{scopes_named}
 use Rattle.scoping_table.proofs.scope.scopes_with.Given as goal
 

@@ -1,7 +1,7 @@
 use Rattle.std.proofs.Common.{◌≡◌, ◌∙◌, length, map, is_some, arith, ap, sym}
 use Rattle.std.specs.List.{count_by, sum_by}
 use Rattle.std.proofs.lemmas.List.{length-map}
-use Rattle.js_scopes.specs.Table.{symbols_of, scopes_from, reference_at, symbol_used, unbound_name, symbols_from, unresolved_among}
+use Rattle.scope_rules.specs.Table.{symbols_of, scopes_from, reference_at, symbol_used, unbound_name, symbols_from, unresolved_among}
 use Rattle.scoping_table.specs.Kept.{told, kept_from}
 use Rattle.scoping_table.specs.Unbound.{name_told}
 use Rattle.scoping_table.proofs.Growing.{told_all, uses_are, kept_length}

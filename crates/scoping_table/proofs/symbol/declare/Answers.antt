@@ -1,5 +1,5 @@
 use Rattle.std.proofs.Common.{arith}
-use Rattle.js_scopes.specs.Table.{redeclaration}
+use Rattle.scope_rules.specs.Table.{redeclaration}
 use Rattle.scoping_table.specs.Kept.{with_declaration}
 use Rattle.scoping_table.proofs.Grouped.{changed, beyond, nowhere}
 use Rattle.scoping_table.proofs.symbol.declare.Goals as goal

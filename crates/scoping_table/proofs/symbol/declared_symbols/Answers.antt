@@ -1,5 +1,5 @@
 use Rattle.std.proofs.Common.{◌∙◌, map, ap}
-use Rattle.js_scopes.specs.Table.{symbols_of}
+use Rattle.scope_rules.specs.Table.{symbols_of}
 use Rattle.scoping_table.specs.Kept.{blank}
 use Rattle.scoping_table.proofs.Growing.{kept_none, declared_more}
 use Rattle.scoping_table.proofs.symbol.declared_symbols.Goals as goal

@@ -1,5 +1,5 @@
 use Rattle.std.proofs.Common.{◌≡◌, [], take}
-use Rattle.js_scopes.specs.Table.{symbols_of}
+use Rattle.scope_rules.specs.Table.{symbols_of}
 use Rattle.scoping_table.specs.Kept.{kept_from}
 use Rattle.scoping_table.proofs.symbol.declared_symbols.Given as goal
 

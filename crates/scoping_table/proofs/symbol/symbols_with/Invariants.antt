@@ -1,5 +1,5 @@
 use Rattle.std.proofs.Common.{◌≡◌, map, take}
-use Rattle.js_scopes.specs.Table.{symbols_of}
+use Rattle.scope_rules.specs.Table.{symbols_of}
 use Rattle.scoping_table.specs.Kept.{kept_from}
 use Rattle.scoping_table.proofs.symbol.symbols_with.Given as goal
 

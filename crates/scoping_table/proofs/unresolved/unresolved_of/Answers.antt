@@ -1,6 +1,6 @@
 use Rattle.std.proofs.Common.{◌∙◌, [], None, get_or, map}
 use Rattle.std.proofs.lemmas.List.{get_or_default}
-use Rattle.js_scopes.specs.Table.{names_behind}
+use Rattle.scope_rules.specs.Table.{names_behind}
 use Rattle.scoping_table.specs.Unbound.{name_told, number_of}
 use Rattle.scoping_table.proofs.Naming.{unused, unresolved_more, unresolved_all}
 use Rattle.scoping_table.proofs.unresolved.unresolved_of.Goals as goal

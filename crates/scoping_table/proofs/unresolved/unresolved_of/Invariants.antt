@@ -1,5 +1,5 @@
 use Rattle.std.proofs.Common.{◌≡◌, [], map, take, option_and_then}
-use Rattle.js_scopes.specs.Table.{names_behind, unresolved_from}
+use Rattle.scope_rules.specs.Table.{names_behind, unresolved_from}
 use Rattle.scoping_table.specs.Unbound.{name_told, number_of}
 use Rattle.scoping_table.proofs.unresolved.unresolved_of.Given as goal
 

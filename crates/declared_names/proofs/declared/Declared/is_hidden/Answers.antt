@@ -1,6 +1,6 @@
 use Rattle.std.proofs.Common.{◌≡◌, ◌∙◌, ◌&&◌, false, is_some, sym, ap}
-use Rattle.js_scopes.specs.Binding.{Binding}
-use Rattle.js_scopes.specs.Table.{is_among, symbols_of}
+use Rattle.scope_rules.specs.Binding.{Binding}
+use Rattle.scope_rules.specs.Table.{is_among, symbols_of}
 use Rattle.declared_names.specs.Numbers.{number_at}
 use Rattle.declared_names.proofs.Firsts.{number_among}
 use Rattle.declared_names.proofs.declared.Declared.is_hidden.Goals as goal

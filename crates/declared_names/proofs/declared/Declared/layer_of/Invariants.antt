@@ -1,5 +1,5 @@
 use Rattle.std.proofs.Common.{◌≡◌, drop}
-use Rattle.js_scopes.specs.Binding.{binding_layer}
+use Rattle.scope_rules.specs.Binding.{binding_layer}
 use Rattle.declared_names.proofs.declared.Declared.layer_of.Given as goal
 
 abbrev pub invariant-loop-layer : goal.invariant-loop-layer

@@ -1,5 +1,5 @@
 use Rattle.std.proofs.Common.{◌≡◌, map, take}
-use Rattle.js_scopes.specs.Table.{number_or_none, symbol_declared}
+use Rattle.scope_rules.specs.Table.{number_or_none, symbol_declared}
 use Rattle.declared_names.proofs.declared.Declared.symbols_declared.Given as goal
 
 abbrev pub invariant-loop-site : goal.invariant-loop-site

@@ -8,8 +8,8 @@ use Rattle.js_syntax.specs.declared.operator.AssignmentOperator.TheVariants as a
 use Rattle.js_syntax.specs.declared.operator.UpdateOperator.TheVariants as update
 use Rattle.js_syntax.specs.Node.{joined}
 use Rattle.js_form.specs.Samples.{over, leaf, row, listed, no, a_module, a_script, a, binds, reads, one, does, declares, let_, var_, block, function_of, function_a, use_strict, class_of, method_b, static_block, catches, calls, exports}
-use Rattle.js_scopes.specs.declared.layer.Part.TheVariants.{OwnName as own_name, Parameters as parameters, Body as body}
-use Rattle.js_scopes.specs.Samples.{Row, named, uses, program_of, inside_of, bound, bound_to_own, b, writes, assigns, member, defaults, class_expression, field, switches, imports}
+use Rattle.scope_rules.specs.declared.layer.Part.TheVariants.{OwnName as own_name, Parameters as parameters, Body as body}
+use Rattle.scope_rules.specs.Samples.{Row, named, uses, program_of, inside_of, bound, bound_to_own, b, writes, assigns, member, defaults, class_expression, field, switches, imports}
 
 -- a; { var a; let b; } b;
 -- { function a() { } } a; in a script

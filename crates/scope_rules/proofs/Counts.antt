@@ -1,12 +1,12 @@
--- A tree has no more scopes than nodes, and no more references.
+-- A tree has no more scopes, declarations and references than nodes.
 use Rattle.std.proofs.Common.{◌≤◌, ◌+◌, ℕ, Bool, true, false, arith, if◌then◌else◌}
 use Rattle.js_syntax.specs.declared.node_kind.NodeKind.{NodeKind as Kind}
-use Rattle.js_syntax.specs.declared.node_kind.NodeKind.TheVariants.{Program as program, Function as function, Class as class, PropertyDefinition as property_definition, StaticBlock as static_block, BlockStatement as block_statement, WithStatement as with_statement, SwitchStatement as switch_statement, CatchClause as catch_clause, ForStatement as for_statement, ForInStatement as for_in_statement, ForOfStatement as for_of_statement, ReferenceName as reference_name, TargetName as target_name}
+use Rattle.js_syntax.specs.declared.node_kind.NodeKind.TheVariants.{Program as program, Function as function, Class as class, PropertyDefinition as property_definition, StaticBlock as static_block, BlockStatement as block_statement, WithStatement as with_statement, SwitchStatement as switch_statement, CatchClause as catch_clause, ForStatement as for_statement, ForInStatement as for_in_statement, ForOfStatement as for_of_statement, BindingName as binding_name, ReferenceName as reference_name, TargetName as target_name}
 use Rattle.js_syntax.specs.Node.{Forest, nothing, node, absent, total}
 use Rattle.js_count.specs.Count.{one_each, node_count}
-use Rattle.js_scopes.specs.Context.{has_second}
-use Rattle.js_scopes.specs.Site.{opens_one, scope_count}
-use Rattle.js_scopes.specs.Mark.{own_reference}
+use Rattle.scope_rules.specs.Context.{has_second}
+use Rattle.scope_rules.specs.Site.{opens_one, scope_count}
+use Rattle.scope_rules.specs.Mark.{own_binding, own_reference}
 
 at_most_one : (b : Bool) → (if b then 1 else 0) ≤ 1
 at_most_one true = Prim.omega arith
@@ -41,3 +41,12 @@ pub no_more_references : (t : Forest) → total own_reference t ≤ node_count t
 no_more_references nothing = Prim.omega arith
 no_more_references (absent rest) = no_more_references rest
 no_more_references (node k n below rest) = Prim.omega (arith, one_reference k, no_more_references below, no_more_references rest)
+
+one_binding : (k : Kind) → own_binding k ≤ one_each k
+one_binding (binding_name x) = Prim.omega arith
+one_binding k = Prim.omega arith
+
+pub no_more_bindings : (t : Forest) → total own_binding t ≤ node_count t
+no_more_bindings nothing = Prim.omega arith
+no_more_bindings (absent rest) = no_more_bindings rest
+no_more_bindings (node k n below rest) = Prim.omega (arith, one_binding k, no_more_bindings below, no_more_bindings rest)

@@ -4,8 +4,8 @@ use Rattle.std.specs.Prelude.{ℕ, suc, List, [], ◌∷◌, map, Bool, true, fa
 use Rattle.std.specs.Str.{bytes_eq}
 use Rattle.std.specs.Int.RustNames.{bit_or}
 use Rattle.js_syntax.specs.declared.scalar.Span.{Span}
-use Rattle.js_scopes.specs.Site.{ScopeSite, BindingSite, ReferenceSite, Found}
-use Rattle.js_scopes.specs.Binding.{Binding, declared_by, binding_of}
+use Rattle.scope_rules.specs.Site.{ScopeSite, BindingSite, ReferenceSite, Found}
+use Rattle.scope_rules.specs.Binding.{Binding, declared_by, binding_of}
 
 -- ---- symbols: the bindings, in order of their first declarations; a symbol's number is how many stand before it
 

@@ -1,5 +1,5 @@
 use Rattle.std.proofs.Common.{refl}
-use Rattle.js_scopes.proofs.rows.functions.Goals as goal
+use Rattle.scope_rules.proofs.rows.functions.Goals as goal
 
 pub returns : goal.returns
 returns c = ((refl, refl, refl), ((refl, refl, refl), ((refl, refl, refl), ((refl, refl, refl), ((refl, refl, refl), ((refl, refl, refl), tt))))))

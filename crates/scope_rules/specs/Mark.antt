@@ -4,8 +4,8 @@ use Rattle.std.specs.Prelude.{ℕ, ◌+◌, List, [], ◌∷◌, drop, Option, S
 use Rattle.js_syntax.specs.declared.node_kind.NodeKind.{NodeKind as Kind}
 use Rattle.js_syntax.specs.declared.node_kind.NodeKind.TheVariants.{BindingName as binding_name, ReferenceName as reference_name, TargetName as target_name}
 use Rattle.js_syntax.specs.Node.{Forest, nothing, node, absent, total}
-use Rattle.js_scopes.specs.Context.{opens}
-use Rattle.js_scopes.specs.Site.{opens_one, scope_count}
+use Rattle.scope_rules.specs.Context.{opens}
+use Rattle.scope_rules.specs.Site.{opens_one, scope_count}
 
 -- the next numbers, and the symbols of the declarations to come
 pub record Marks : Type 0 where

@@ -14,10 +14,10 @@ use Rattle.js_syntax.specs.declared.kind.VariableKind.TheVariants as variable_ki
 use Rattle.js_syntax.specs.declared.operator.AssignmentOperator.{AssignmentOperator}
 use Rattle.js_syntax.specs.declared.operator.AssignmentOperator.TheVariants as assignment
 use Rattle.js_form.specs.Context.{is_module, is_strict_list, is_strict_function, behind_first}
-use Rattle.js_scopes.specs.declared.layer.Layer.{Layer}
-use Rattle.js_scopes.specs.declared.layer.Part.TheVariants.{OwnName as own_name, Parameters as parameters, Body as body}
-use Rattle.js_scopes.specs.declared.layer.Role.{Role}
-use Rattle.js_scopes.specs.declared.layer.Role.TheVariants.{Read as read, Write as write, ReadAndWrite as read_and_write, Object as object}
+use Rattle.scope_rules.specs.declared.layer.Layer.{Layer}
+use Rattle.scope_rules.specs.declared.layer.Part.TheVariants.{OwnName as own_name, Parameters as parameters, Body as body}
+use Rattle.scope_rules.specs.declared.layer.Role.{Role}
+use Rattle.scope_rules.specs.declared.layer.Role.TheVariants.{Read as read, Write as write, ReadAndWrite as read_and_write, Object as object}
 
 -- what a binding name declares: where, as which bits of a symbol's flags, and whether as a function that is marked to
 -- have no side effects

@@ -1,6 +1,6 @@
 //! Programs with their scopes, bindings and references, told by hand, as the definitions compute them.
-ghost use Rattle.js_scopes.specs.Samples.{AreRight};
-ghost use Rattle.js_scopes.specs.Worked as table;
+ghost use Rattle.scope_rules.specs.Samples.{AreRight};
+ghost use Rattle.scope_rules.specs.Worked as table;
 
 /// `let` and functions stay in a block, and `var` doesn't.
 pub fn blocks()

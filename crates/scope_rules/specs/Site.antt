@@ -8,10 +8,10 @@ use Rattle.js_syntax.specs.declared.kind.FunctionKind.TheVariants as function_ki
 use Rattle.js_syntax.specs.declared.scalar.Span.{Span}
 use Rattle.js_form.specs.Context.{behind_first}
 use Rattle.js_names.specs.Names.{eval_of_call}
-use Rattle.js_scopes.specs.declared.layer.Layer.{Layer}
-use Rattle.js_scopes.specs.declared.layer.Role.{Role}
-use Rattle.js_scopes.specs.declared.layer.Role.TheVariants.{ReadAndWrite as read_and_write, Object as object}
-use Rattle.js_scopes.specs.Context.{Context, opens, strict_in, inside, outermost}
+use Rattle.scope_rules.specs.declared.layer.Layer.{Layer}
+use Rattle.scope_rules.specs.declared.layer.Role.{Role}
+use Rattle.scope_rules.specs.declared.layer.Role.TheVariants.{ReadAndWrite as read_and_write, Object as object}
+use Rattle.scope_rules.specs.Context.{Context, opens, strict_in, inside, outermost}
 
 -- a scope: what its node is marked with, the number of the scope around it, and the bits of its flags
 pub record ScopeSite : Type 0 where
