@@ -1,14 +1,13 @@
 -- Rows that nodes leave.
-use Rattle.std.proofs.Common.{◌≡◌, ◌≤◌, inl, inr, Bool, true, false, if◌then◌else◌, refl, sym, subst, ap, ◌∙◌, arith}
+use Rattle.std.proofs.Common.{◌≡◌, inl, inr, Bool, true, false, if◌then◌else◌, refl, sym, subst, ap, ◌∙◌}
 use Rattle.js_syntax.specs.Class.{Class}
 use Rattle.js_syntax.specs.declared.node_kind.NodeKind.{NodeKind as Kind}
-use Rattle.js_syntax.specs.declared.node_kind.NodeKind.TheVariants.{Directive as directive, Statements as statements}
-use Rattle.js_syntax.specs.Node.{Note, Forest, nothing, node, absent, total}
+use Rattle.js_syntax.specs.declared.node_kind.NodeKind.TheVariants.{Directive as directive}
+use Rattle.js_syntax.specs.Node.{Note, Forest, nothing, node, absent}
 use Rattle.js_syntax.specs.Table.{stands}
 use Rattle.js_syntax.specs.declared.node_type.NodeType.TheVariants as type
-use Rattle.js_pass.specs.Pass.{does_something, kept, trimmed, shaken}
+use Rattle.js_pass.specs.Pass.{does_something, kept}
 use Rattle.tree_shape.specs.Shape.{all, all_or_holes, all_of_body, after_body_item, is_directive_kind, item_or_hole, item_of_body, IsOf, IsAt, Stand}
-use Rattle.tree_shape.specs.Exact.{inexact}
 use Rattle.tree_shape.proofs.Choice.{directive_kind}
 use Rattle.tree_shape.proofs.Fitting.{takes_directive, body_of_all}
 
@@ -54,23 +53,3 @@ pub kept_body : (c : Class) (t : Forest) → takes_directive (stands c type.Expr
 kept_body c nothing none h = tt
 kept_body c (node k n below rest) none h = kept_body_at c k n below rest none h.0 h.1 (kept_body c rest none)
 kept_body c (absent rest) none h = absurd h.0
-
--- ---- values
-
-lighter : (b : Bool) (k : Kind) (n : Note) (below rest left : Forest) → total inexact left ≤ total inexact rest → total inexact (if b then node k n below left else left) ≤ total inexact (node k n below rest)
-lighter true k n below rest left h = omega (arith, h)
-lighter false k n below rest left h = omega (arith, h)
-
-kept_lighter : (t : Forest) → total inexact (kept t) ≤ total inexact t
-kept_lighter nothing = omega arith
-kept_lighter (node k n below rest) = lighter (does_something k below) k n below rest (kept rest) (kept_lighter rest)
-kept_lighter (absent rest) = kept_lighter rest
-
-trimmed_lighter : (k : Kind) (t : Forest) → total inexact (trimmed k t) ≤ total inexact t
-trimmed_lighter statements t = kept_lighter t
-trimmed_lighter k t = omega arith
-
-pub shaken_lighter : (t : Forest) → total inexact (shaken t) ≤ total inexact t
-shaken_lighter nothing = omega arith
-shaken_lighter (node k n below rest) = omega (arith, trimmed_lighter k (shaken below), shaken_lighter below, shaken_lighter rest)
-shaken_lighter (absent rest) = shaken_lighter rest
