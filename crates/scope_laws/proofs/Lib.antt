@@ -14,3 +14,4 @@ pub mod Kept
 pub mod Lists
 pub mod Follows
 pub mod Rewriting
+pub mod Parents

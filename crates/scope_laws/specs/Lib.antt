@@ -9,3 +9,4 @@ pub mod Kept
 pub mod Lists
 pub mod Follows
 pub mod Rewriting
+pub mod Parents

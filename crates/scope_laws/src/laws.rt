@@ -14,6 +14,7 @@ ghost use Rattle.scope_laws.specs.Keeping.{Renumbers, IsEdit, former, Elsewhere,
 ghost use Rattle.scope_laws.specs.Kept.{IsRemoval, Unlists, gone_from};
 ghost use Rattle.scope_laws.specs.Lists.{is_listed, without};
 ghost use Rattle.scope_laws.specs.Moved.{moved, moved_reference, unflagged};
+ghost use Rattle.scope_laws.specs.Parents.{AreBefore};
 ghost use Rattle.scope_laws.specs.Place.{Around, one_place, plug, scopes_before, SameScopes, sites_before, sites_there, sites_after, sites_around};
 ghost use Rattle.scope_laws.specs.Renumbered.{renumbered, found_renumbered, unmarked};
 ghost use Rattle.scope_laws.specs.Rewriting.{Rewriting, IsRewriting};
@@ -43,6 +44,11 @@ pub fn resolving_ignores_marks()
 /// The table that is made of a tree is exact once the tree is marked.
 pub fn tables_are_exact()
     ensures { (t : Forest) → Exact (scoping_of (found_in (sites_of t))) (marked (first_marks (symbols_declared (found_in (sites_of t)).bindings)) t) }
+{}
+
+/// In the table that is made of a tree the scope around a scope has a smaller number.
+pub fn parents_come_first()
+    ensures { (t : Forest) → AreBefore 0 (map (λ s. s.parent) (scoping_of (found_in (sites_of t))).scopes) }
 {}
 
 /// What stands in a tree is what stands before a place, there, and behind it.
