@@ -1,0 +1,9 @@
+pub mod Sets
+pub mod Exactly
+pub mod Typed
+pub mod Have
+pub mod Only
+pub mod Whole
+pub mod Fresh
+pub mod Exactness
+pub mod Leaves
