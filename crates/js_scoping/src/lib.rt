@@ -2,7 +2,8 @@
 //! each reference has.
 //!
 //! `build` makes the table of a program and marks its nodes with their numbers, and the table is exact then
-//! (`scope_laws/specs/Exact.antt`). Its reading calls are those of `Scoping`.
+//! (`scope_laws/specs/Exact.antt`). Its reading calls are those of `Scoping`, and `scoping_matches` answers
+//! whether a table still says what the rules say at every node (`scoping_match/specs/Matches.antt`).
 #![tactic(auto)]
 
 pub mod rows;
@@ -11,5 +12,6 @@ mod table;
 mod tests;
 
 pub use scope_flags::{ReferenceFlags, ScopeFlags, SymbolFlags};
+pub use scoping_match::scoping_matches;
 pub use scoping_table::{Redeclaration, Reference, Scope, Scoping, Symbol, Unresolved};
 pub use table::build;

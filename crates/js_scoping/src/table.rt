@@ -1,9 +1,12 @@
 // The table of a program.
-ghost use Rattle.std.specs.Prelude.{◌≡◌, ◌^◌, ◌<◌, IfOk, IfErr};
+ghost use Rattle.std.specs.Prelude.{◌≡◌, ◌^◌, ◌<◌, IfOk, IfErr, is_some};
+ghost use Rattle.std.specs.List.{count_by};
 ghost use Rattle.js_syntax.specs.Node.{forest_of};
 ghost use Rattle.js_count.specs.Count.{node_count};
+ghost use Rattle.scope_rules.specs.Binding.{resolved_references};
 ghost use Rattle.scope_rules.specs.Table.{symbols_declared};
 ghost use Rattle.scope_laws.specs.Exact.{Exact};
+ghost use Rattle.scoping_match.specs.Matches.{Matches};
 ghost use Rattle.js_scoping.specs.Build.{found_of, table_of, numbered};
 
 use js_tree::Program;
@@ -17,6 +20,7 @@ fn scoped(alloc: Global, program: &Program) -> Result<Scoped, AllocError>
     requires small { node_count (forest_of program.now) < 2 ^ 32 }
     ensures scoping { IfOk result (λ s. s.scoping ≡ table_of (forest_of program.now)) }
     ensures symbols { IfOk result (λ s. s.symbols.items ≡ symbols_declared (found_of (forest_of program.now)).bindings) }
+    ensures resolved { IfOk result (λ s. count_by (λ r. is_some r.symbol) s.scoping.references ≡ resolved_references (forest_of program.now)) }
 {
     let found = find_sites(alloc, program)?;
     table(alloc, &found)
@@ -30,6 +34,8 @@ pub fn build(alloc: Global, program: &mut Program) -> Result<Scoping, AllocError
     ensures scoping { IfOk result (λ s. s ≡ table_of (forest_of program.old)) }
     ensures marked { IfOk result (λ _. forest_of program.new ≡ numbered (forest_of program.old)) }
     ensures exact { IfOk result (λ s. Exact s (forest_of program.new)) }
+    ensures matches { IfOk result (λ s. Matches s (forest_of program.new)) }
+    ensures resolved { IfOk result (λ s. count_by (λ r. is_some r.symbol) s.references ≡ resolved_references (forest_of program.old)) }
     ensures unchanged { IfErr result (λ _. program.new ≡ program.old) }
 {
     let Scoped { scoping, symbols } = scoped(alloc, program)?;
