@@ -10,10 +10,15 @@ use Rattle.minifier.specs.declared.options.CompressOptions.{CompressOptions}
 use Rattle.minifier.specs.declared.error.MinifyError.{MinifyError}
 use Rattle.minifier.specs.declared.error.MinifyError.TheVariants.{TooLarge, IllFormed, OutOfMemory}
 
--- without options for compression no pass runs
-abbrev pub IsMinified : Option CompressOptions → (old new : Forest) → (iterations : ℕ) → Type 0
-IsMinified None old new iterations = (new ≡ old) × (iterations ≡ 0)
-IsMinified (Some options) old new iterations = (new ≡ shaken old) × (iterations ≡ passes_of old)
+-- what is left of a tree; without options for compression no pass runs
+abbrev pub left_of : Option CompressOptions → Forest → Forest
+left_of None t = t
+left_of (Some options) t = shaken t
+
+-- how many passes were followed by another
+abbrev pub passes_by : Option CompressOptions → Forest → ℕ
+passes_by None t = 0
+passes_by (Some options) t = passes_of t
 
 -- both counts, each capped one past its limit
 abbrev pub IsCounted : (nodes levels : ℕ) → Forest → Type 0

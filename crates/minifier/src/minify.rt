@@ -1,11 +1,16 @@
 // The library call.
-ghost use Rattle.std.specs.Prelude.{◌≡◌, IfOk, IfErr, IsSomeAnd};
+ghost use Rattle.std.specs.Prelude.{◌≡◌, IfOk, IfErr, IsSomeAnd, is_some};
+ghost use Rattle.std.specs.List.{count_by};
 ghost use Rattle.js_syntax.specs.Node.{forest_of};
 ghost use Rattle.js_form.specs.Form.{IsWellFormed};
 ghost use Rattle.js_pass.specs.Pass.{shaken, passes_of};
+ghost use Rattle.js_scoping.specs.Build.{table_of, numbered};
 ghost use Rattle.minifier.specs.Limit.{IsWithinLimits};
-ghost use Rattle.minifier.specs.Minify.{IsMinified, IsCause};
+ghost use Rattle.minifier.specs.Minify.{left_of, passes_by, IsCause};
 ghost use Rattle.minifier.specs.Options.{IsSmallest};
+ghost use Rattle.scope_laws.specs.Exact.{Exact};
+ghost use Rattle.scope_rules.specs.Binding.{resolved_references};
+ghost use Rattle.scoping_match.specs.Matches.{Matches};
 
 use crate::error::MinifyError;
 use crate::options::CompressOptions;
@@ -13,6 +18,7 @@ use form_check::{FormError, well_formed};
 use js_clone::try_clone;
 use js_count::{count_nodes, depth};
 use js_pass::shake_program;
+use js_scoping::{Scoping, build};
 use js_tree::Program;
 use std::alloc::{AllocError, Global};
 
@@ -40,8 +46,10 @@ impl MinifierOptions {
 }
 
 /// What the library call answers beside the program.
-#[derive(Clone, Copy, Debug, PartialEq, Eq)]
+#[derive(Drop)]
 pub struct MinifierReturn {
+    /// The scopes, symbols and references of what is left, whose nodes are marked with their numbers.
+    pub scoping: Scoping,
     /// How many passes were followed by another, since they changed something.
     pub iterations: u64,
 }
@@ -81,17 +89,64 @@ fn check_form(alloc: Global, program: &Program) -> Result<(), MinifyError>
     }
 }
 
-// Puts what the pass leaves of a program in its place, and answers how many passes were followed by
-// another.
-fn compress(alloc: Global, program: &mut Program) -> Result<u64, AllocError>
-    ensures left { IfOk result (λ _. forest_of program.new ≡ shaken (forest_of program.old)) }
-    ensures passes { IfOk result (λ n. n ≡ passes_of (forest_of program.old)) }
+// Puts what the pass leaves of a program in its place, its nodes marked.
+fn compress(alloc: Global, program: &mut Program) -> Result<MinifierReturn, AllocError>
+    requires within { IsWithinLimits (forest_of program.old) }
+    ensures left { IfOk result (λ _. forest_of program.new ≡ numbered (shaken (forest_of program.old))) }
+    ensures iterations { IfOk result (λ r. r.iterations ≡ passes_of (forest_of program.old)) }
+    ensures scoping { IfOk result (λ r. r.scoping ≡ table_of (shaken (forest_of program.old))) }
+    ensures exact { IfOk result (λ r. Exact r.scoping (forest_of program.new)) }
+    ensures matches { IfOk result (λ r. Matches r.scoping (forest_of program.new)) }
+    ensures resolved { IfOk result (λ r. count_by (λ r. is_some r.symbol) r.scoping.references ≡ resolved_references (shaken (forest_of program.old))) }
     ensures unchanged { IfErr result (λ _. program.new ≡ program.old) }
 {
     let copy = try_clone(alloc, program)?;
-    let (left, passes) = shake_program(alloc, copy)?;
+    let (mut left, iterations) = shake_program(alloc, copy)?;
+    let scoping = build(alloc, &mut left)?;
     *program = left;
-    Ok(passes)
+    Ok(MinifierReturn {
+        scoping,
+        iterations,
+    })
+}
+
+// Marks the nodes of a program that stays.
+fn mark(alloc: Global, program: &mut Program) -> Result<MinifierReturn, AllocError>
+    requires within { IsWithinLimits (forest_of program.old) }
+    ensures marked { IfOk result (λ _. forest_of program.new ≡ numbered (forest_of program.old)) }
+    ensures iterations { IfOk result (λ r. r.iterations ≡ 0) }
+    ensures scoping { IfOk result (λ r. r.scoping ≡ table_of (forest_of program.old)) }
+    ensures exact { IfOk result (λ r. Exact r.scoping (forest_of program.new)) }
+    ensures matches { IfOk result (λ r. Matches r.scoping (forest_of program.new)) }
+    ensures resolved { IfOk result (λ r. count_by (λ r. is_some r.symbol) r.scoping.references ≡ resolved_references (forest_of program.old)) }
+    ensures unchanged { IfErr result (λ _. program.new ≡ program.old) }
+{
+    let scoping = build(alloc, program)?;
+    Ok(MinifierReturn {
+        scoping,
+        iterations: 0,
+    })
+}
+
+// Compresses a program, or only marks its nodes.
+fn minify(
+    alloc: Global,
+    options: &Option<CompressOptions>,
+    program: &mut Program,
+) -> Result<MinifierReturn, AllocError>
+    requires within { IsWithinLimits (forest_of program.old) }
+    ensures left { IfOk result (λ _. forest_of program.new ≡ numbered (left_of options.now (forest_of program.old))) }
+    ensures iterations { IfOk result (λ r. r.iterations ≡ passes_by options.now (forest_of program.old)) }
+    ensures scoping { IfOk result (λ r. r.scoping ≡ table_of (left_of options.now (forest_of program.old))) }
+    ensures exact { IfOk result (λ r. Exact r.scoping (forest_of program.new)) }
+    ensures matches { IfOk result (λ r. Matches r.scoping (forest_of program.new)) }
+    ensures resolved { IfOk result (λ r. count_by (λ r. is_some r.symbol) r.scoping.references ≡ resolved_references (left_of options.now (forest_of program.old))) }
+    ensures unchanged { IfErr result (λ _. program.new ≡ program.old) }
+{
+    match options {
+        None => mark(alloc, program),
+        Some(_) => compress(alloc, program),
+    }
 }
 
 impl Minifier {
@@ -101,10 +156,16 @@ impl Minifier {
         Minifier { options }
     }
 
-    /// Dead code elimination: what the pass leaves of the program is put in its place. The program is
-    /// tested for its limits first, and then for the rules of form. After an error it is as it was.
+    /// Dead code elimination: what the pass leaves of the program is put in its place, its nodes marked
+    /// with the numbers of their scopes, symbols and references. The program is tested for its limits
+    /// first, and then for the rules of form. After an error it is as it was.
     pub fn dce(self, alloc: Global, program: &mut Program) -> Result<MinifierReturn, MinifyError>
-        ensures minified { IfOk result (λ r. IsMinified self.options.compress (forest_of program.old) (forest_of program.new) r.iterations) }
+        ensures left { IfOk result (λ _. forest_of program.new ≡ numbered (left_of self.options.compress (forest_of program.old))) }
+        ensures iterations { IfOk result (λ r. r.iterations ≡ passes_by self.options.compress (forest_of program.old)) }
+        ensures scoping { IfOk result (λ r. r.scoping ≡ table_of (left_of self.options.compress (forest_of program.old))) }
+        ensures exact { IfOk result (λ r. Exact r.scoping (forest_of program.new)) }
+        ensures matches { IfOk result (λ r. Matches r.scoping (forest_of program.new)) }
+        ensures resolved { IfOk result (λ r. count_by (λ r. is_some r.symbol) r.scoping.references ≡ resolved_references (left_of self.options.compress (forest_of program.old))) }
         ensures within { IfOk result (λ _. IsWithinLimits (forest_of program.old)) }
         ensures well_formed { IfOk result (λ _. IsWellFormed (forest_of program.old)) }
         ensures err { IfErr result (λ e. IsCause e (forest_of program.old)) }
@@ -112,10 +173,7 @@ impl Minifier {
     {
         check_limits(program)?;
         check_form(alloc, program)?;
-        let iterations = match self.options.compress {
-            None => 0,
-            Some(_) => compress(alloc, program)?,
-        };
-        Ok(MinifierReturn { iterations })
+        let done = minify(alloc, &self.options.compress, program)?;
+        Ok(done)
     }
 }

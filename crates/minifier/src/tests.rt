@@ -1,5 +1,5 @@
 // The library call on small programs.
-use crate::{CompressOptions, Minifier, MinifierOptions, MinifierReturn, MinifyError};
+use crate::{CompressOptions, Minifier, MinifierOptions, MinifyError};
 use js_tree::{Node, NodeKind, Program, SPAN, SourceType};
 use std::alloc::{AllocError, Global};
 use std::test::Fail;
@@ -23,11 +23,16 @@ fn statements(program: &Program) -> usize {
     }
 }
 
-type Answer = (Result<MinifierReturn, MinifyError>, usize);
+// How many passes followed another and how many scopes there are, or an error; and how many statements are
+// left.
+type Answer = (Result<(u64, usize), MinifyError>, usize);
 
 fn called(alloc: Global, options: MinifierOptions, kind: NodeKind) -> Result<Answer, AllocError> {
     let mut program = module(alloc, kind)?;
-    let answer = Minifier::new(options).dce(alloc, &mut program);
+    let answer = match Minifier::new(options).dce(alloc, &mut program) {
+        Ok(done) => Ok((done.iterations, done.scoping.scopes_len())),
+        Err(error) => Err(error),
+    };
     Ok((answer, statements(&program)))
 }
 
@@ -36,7 +41,7 @@ fn empty_statements_leave(rt: HostRuntime) -> Result<(), Fail> {
     let options = MinifierOptions {
         compress: Some(CompressOptions::dce(rt.alloc())),
     };
-    let want = (Ok(MinifierReturn { iterations: 0 }), 0);
+    let want = (Ok((0, 1)), 0);
     assert_eq!(rt;
         called(rt.alloc(), options, NodeKind::EmptyStatement)?,
         want
@@ -47,7 +52,7 @@ fn empty_statements_leave(rt: HostRuntime) -> Result<(), Fail> {
 #[test]
 fn nothing_leaves_without_options(rt: HostRuntime) -> Result<(), Fail> {
     let options = MinifierOptions { compress: None };
-    let want = (Ok(MinifierReturn { iterations: 0 }), 1);
+    let want = (Ok((0, 1)), 1);
     assert_eq!(rt;
         called(rt.alloc(), options, NodeKind::EmptyStatement)?,
         want
