@@ -5,9 +5,8 @@ use Rattle.js_syntax.specs.Node.{Forest}
 use Rattle.words.specs.declared.answer.Command.{Command}
 use Rattle.tree_text.specs.Answer.{IsReadAs, IsNoJson}
 use Rattle.tree_text.specs.Fault.{Fault, too_deep}
-use Rattle.js_form.specs.Form.{IsWellFormed}
 use Rattle.shake.specs.Line.{fault_line, too_large_line, IsBreakLine, status_line}
-use Rattle.minifier.specs.Limit.{IsWithinLimits, IsTooLarge}
+use Rattle.minifier.specs.Limit.{IsTooLarge}
 use Rattle.shake.specs.Run.{IsSound, IsIllFormed, IsSent, IsFrontSent}
 use Rattle.shake.specs.declared.status.Status.{Status}
 use Rattle.shake.specs.declared.status.Status.TheVariants as status

@@ -10,7 +10,7 @@ use Rattle.words.specs.Meaning.{command_of}
 use Rattle.words.specs.declared.answer.Command.{Command}
 use Rattle.words.specs.declared.answer.Command.TheVariants.{Dce}
 use Rattle.js_pass.specs.Pass.{shaken, passes_of}
-use Rattle.js_references.specs.References.{reference_count}
+use Rattle.scope_rules.specs.Binding.{resolved_references}
 use Rattle.js_form.specs.Form.{IsWellFormed}
 use Rattle.minifier.specs.Limit.{IsWithinLimits, IsTooLarge}
 use Rattle.shake.specs.Line.{Told, HasFault}
@@ -38,14 +38,10 @@ abbrev pub command_output : Command → Forest → (passes references : ℕ) →
 command_output (Dce false) t passes references = output_of t passes references
 command_output (Dce true) t passes references = tree_output_of t
 
--- and for the tree that was read
-abbrev pub shaken_output : Command → Forest → (references : ℕ) → List ℕ
-shaken_output command t references = command_output command (shaken t) (passes_of t) references
-
--- What the line of counts may say of references: no more than there are in what is left. Which of them a scope resolves has
--- no clause yet.
-abbrev pub IsCountFor : Forest → (references : ℕ) → Type 0
-IsCountFor t references = references ≤ reference_count (shaken t)
+-- and for the tree that was read: what is left of it, how many passes were followed by another, and how many references of
+-- what is left have a binding
+abbrev pub shaken_output : Command → Forest → List ℕ
+shaken_output command t = command_output command (shaken t) (passes_of t) (resolved_references (shaken t))
 
 -- the text of a readable tree is read as that tree, without spans and ids
 abbrev pub IsReadBack : Forest → Type 0
@@ -53,11 +49,11 @@ IsReadBack t = IsReadable t → IsReadAs (text_of t) (Ok (bare t))
 
 -- the output for a tree that was read went out whole
 abbrev pub IsSent : Command → Forest → (written written_now : Option (List ℕ)) → Type 0
-IsSent command t written written_now = (references : ℕ) × IsCountFor t references × IsReadBack (shaken t) × Known (λ w. w ++ shaken_output command t references) written written_now
+IsSent command t written written_now = IsReadBack (shaken t) × Known (λ w. w ++ shaken_output command t) written written_now
 
 -- a front of it did
 abbrev pub IsFrontSent : Command → Forest → (written written_now : Option (List ℕ)) → Type 0
-IsFrontSent command t written written_now = (references : ℕ) × IsCountFor t references × SendsFront (shaken_output command t references) written written_now
+IsFrontSent command t written written_now = SendsFront (shaken_output command t) written written_now
 
 -- a tree that is within the limits, and breaks no rule of form, or does
 pub record IsSound (t : Forest) : Type 0 where

@@ -1,8 +1,7 @@
 // The program, over any source and sinks.
 ghost use Rattle.std.specs.Prelude.{◌≡◌, ◌≤◌, ◌⊎◌, ◌++◌, ℕ, IfOk, IfErr, false, true, map, string_bytes};
 ghost use Rattle.js_syntax.specs.Node.{forest_of};
-ghost use Rattle.js_pass.specs.Pass.{shaken, passes_of};
-ghost use Rattle.js_references.specs.References.{reference_count};
+ghost use Rattle.js_pass.specs.Pass.{shaken};
 ghost use Rattle.minifier.specs.Minify.{IsCause};
 ghost use Rattle.shake.specs.Fault.{IsMinifyAnswer, minify_line};
 ghost use Rattle.outside.specs.Moves.{HasFailed, Known, SendsFront};
@@ -12,12 +11,11 @@ ghost use Rattle.words.specs.Meaning.{accepts};
 ghost use Rattle.shake.specs.Line.{Says, IsLineOf, status_line};
 ghost use Rattle.shake.specs.Fault.{IsAnswerTo, refusal_line};
 ghost use Rattle.shake.specs.Answer.{TreeAnswers, IsTreeLineFor, Answers, IsLineFor};
-ghost use Rattle.shake.specs.Run.{max_input, command_output, IsSound, IsReadBack, Shakes, ShakesFront, IsBadJson, IsBadTree, IsLargeTree, IsBrokenTree, writes, Completes};
+ghost use Rattle.shake.specs.Run.{max_input, shaken_output, IsSound, IsReadBack, Shakes, ShakesFront, IsBadJson, IsBadTree, IsLargeTree, IsBrokenTree, writes, Completes};
 
 use crate::line::{fault_text, minify_text, say};
 use crate::output::output;
 use crate::status::Status;
-use js_references::resolved_references;
 use js_tree::Program;
 use minifier::{CompressOptions, Minifier, MinifierOptions, MinifyError};
 use outside::{ReadAllError, Sink, Source, read_all, write_all};
@@ -79,20 +77,6 @@ fn refuse_program<E: Sink>(alloc: Global, error: MinifyError, err: &mut E) -> St
     }
 }
 
-// What is written for what is left of a program: its tree, and the line of counts.
-fn left_text(
-    alloc: Global,
-    command: Command,
-    left: &Program,
-    passes: u64,
-) -> Result<String, AllocError>
-    ensures output { IfOk result (λ s. (references : ℕ) × (references ≤ reference_count (forest_of left.now)) × (string_bytes s ≡ command_output command (forest_of left.now) passes references)) }
-    ensures reads_back { IfOk result (λ _. IsReadBack (forest_of left.now)) }
-{
-    let references = resolved_references(alloc, left)?;
-    output(alloc, command, left, passes, references)
-}
-
 // Sends what is written for a program that is within the limits.
 fn send<K: Sink, E: Sink>(text: String, out: &mut K, err: &mut E) -> Status
     ensures sent { result ≡ Status.Ok → Known (λ w. w ++ string_bytes text) (K.written out.old) (K.written out.new) }
@@ -111,10 +95,15 @@ fn send<K: Sink, E: Sink>(text: String, out: &mut K, err: &mut E) -> Status
     }
 }
 
-// Puts what is left of a program in its place, and answers how many passes were followed by another.
-fn minify(alloc: Global, program: &mut Program) -> Result<u64, MinifyError>
-    ensures left { IfOk result (λ _. forest_of program.new ≡ shaken (forest_of program.old)) }
-    ensures passes { IfOk result (λ n. n ≡ passes_of (forest_of program.old)) }
+// Puts what is left of a program in its place, and answers what is written for it: its tree, and the line of
+// counts.
+fn shaken_text(
+    alloc: Global,
+    command: Command,
+    program: &mut Program,
+) -> Result<String, MinifyError>
+    ensures output { IfOk result (λ s. string_bytes s ≡ shaken_output command (forest_of program.old)) }
+    ensures reads_back { IfOk result (λ _. IsReadBack (shaken (forest_of program.old))) }
     ensures sound { IfOk result (λ _. IsSound (forest_of program.old)) }
     ensures err { IfErr result (λ e. IsCause e (forest_of program.old)) }
 {
@@ -122,7 +111,9 @@ fn minify(alloc: Global, program: &mut Program) -> Result<u64, MinifyError>
         compress: Some(CompressOptions::dce(alloc)),
     };
     let done = Minifier::new(options).dce(alloc, program)?;
-    Ok(done.iterations)
+    let references = done.scoping.resolved_count();
+    let text = output(alloc, command, program, done.iterations, references)?;
+    Ok(text)
 }
 
 // Shakes a program in its place, and sends what is left.
@@ -138,11 +129,8 @@ fn answer_program<K: Sink, E: Sink>(
     ensures out_later { K.faults out.old ≤ K.faults out.new }
     ensures err_later { E.faults err.old ≤ E.faults err.new }
 {
-    match minify(alloc, program) {
-        Ok(passes) => match left_text(alloc, command, program, passes) {
-            Ok(text) => send(text, out, err),
-            Err(_) => out_of_memory(err),
-        },
+    match shaken_text(alloc, command, program) {
+        Ok(text) => send(text, out, err),
         Err(error) => refuse_program(alloc, error, err),
     }
 }

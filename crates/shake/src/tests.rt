@@ -81,6 +81,39 @@ fn writes_what_is_left(rt: HostRuntime) -> Result<(), Fail> {
     Ok(())
 }
 
+// How many references of what is left have a binding.
+#[test]
+fn counts_references_that_resolve(rt: HostRuntime) -> Result<(), Fail> {
+    let cases = [
+        // let x = 1; export { x };
+        (
+            r#"{"type":"Program","sourceType":"module","body":[{"type":"VariableDeclaration","kind":"let","declarations":[{"type":"VariableDeclarator","id":{"type":"Identifier","name":"x"},"init":{"type":"Literal","value":1}}]},{"type":"ExportNamedDeclaration","declaration":null,"specifiers":[{"type":"ExportSpecifier","local":{"type":"Identifier","name":"x"},"exported":{"type":"Identifier","name":"x"}}],"source":null}]}"#,
+            "\npasses 0 references 1\n",
+        ),
+        // import 'm'; var x = 1; export function f() { if (x) a(); }
+        (
+            r#"{"type":"Program","sourceType":"module","body":[{"type":"ImportDeclaration","specifiers":[],"source":{"type":"Literal","value":"m"}},{"type":"VariableDeclaration","kind":"var","declarations":[{"type":"VariableDeclarator","id":{"type":"Identifier","name":"x"},"init":{"type":"Literal","value":1}}]},{"type":"ExportNamedDeclaration","declaration":{"type":"FunctionDeclaration","id":{"type":"Identifier","name":"f"},"params":[],"body":{"type":"BlockStatement","body":[{"type":"IfStatement","test":{"type":"Identifier","name":"x"},"consequent":{"type":"ExpressionStatement","expression":{"type":"CallExpression","callee":{"type":"Identifier","name":"a"},"arguments":[],"optional":false}},"alternate":null}]},"generator":false,"async":false,"expression":false},"specifiers":[],"source":null}]}"#,
+            "\npasses 0 references 1\n",
+        ),
+        // export function f() { return g(); let x = 1; function g() { return x; } }
+        (
+            r#"{"type":"Program","sourceType":"module","body":[{"type":"ExportNamedDeclaration","declaration":{"type":"FunctionDeclaration","id":{"type":"Identifier","name":"f"},"params":[],"body":{"type":"BlockStatement","body":[{"type":"ReturnStatement","argument":{"type":"CallExpression","callee":{"type":"Identifier","name":"g"},"arguments":[],"optional":false}},{"type":"VariableDeclaration","kind":"let","declarations":[{"type":"VariableDeclarator","id":{"type":"Identifier","name":"x"},"init":{"type":"Literal","value":1}}]},{"type":"FunctionDeclaration","id":{"type":"Identifier","name":"g"},"params":[],"body":{"type":"BlockStatement","body":[{"type":"ReturnStatement","argument":{"type":"Identifier","name":"x"}}]},"generator":false,"async":false,"expression":false}]},"generator":false,"async":false,"expression":false},"specifiers":[],"source":null}]}"#,
+            "\npasses 0 references 2\n",
+        ),
+        // (function f(f, b = c) { var c; f; b; c; });
+        (
+            r#"{"type":"Program","sourceType":"module","body":[{"type":"ExpressionStatement","expression":{"type":"FunctionExpression","id":{"type":"Identifier","name":"f"},"params":[{"type":"Identifier","name":"f"},{"type":"AssignmentPattern","left":{"type":"Identifier","name":"b"},"right":{"type":"Identifier","name":"c"}}],"body":{"type":"BlockStatement","body":[{"type":"VariableDeclaration","kind":"var","declarations":[{"type":"VariableDeclarator","id":{"type":"Identifier","name":"c"},"init":null}]},{"type":"ExpressionStatement","expression":{"type":"Identifier","name":"f"}},{"type":"ExpressionStatement","expression":{"type":"Identifier","name":"b"}},{"type":"ExpressionStatement","expression":{"type":"Identifier","name":"c"}}]},"generator":false,"async":false,"expression":false}}]}"#,
+            "\npasses 0 references 3\n",
+        ),
+    ];
+    for (json, line) in cases {
+        let got = dce(rt.alloc(), json.as_bytes())?;
+        assert_eq!(rt; got.code, 0);
+        assert!(rt; got.out.as_slice().ends_with(line.as_bytes()));
+    }
+    Ok(())
+}
+
 // The lines of trees that are refused. Each input is the body's one item, or a whole program.
 #[test]
 fn names_the_first_fault(rt: HostRuntime) -> Result<(), Fail> {

@@ -1,0 +1,50 @@
+-- Marks are not written.
+use Rattle.std.proofs.Common.{◌≡◌, ◌++◌, ◌∙◌, ℕ, List, Option, Some, Ok, true, false, sym, subst, ap, codes}
+use Rattle.js_syntax.specs.Node.{Forest, bare}
+use Rattle.js_pass.specs.Pass.{shaken, passes_of}
+use Rattle.scope_rules.specs.Binding.{resolved_references}
+use Rattle.scope_laws.proofs.Marking.{bare_marked}
+use Rattle.js_scoping.specs.Build.{numbered}
+use Rattle.serde_json.specs.Written.{compact_text}
+use Rattle.tree_text.specs.Text.{text_of}
+use Rattle.tree_text.specs.Answer.{IsReadAs}
+use Rattle.bare_shape.proofs.Same.{same_data, readable}
+use Rattle.words.specs.declared.answer.Command.{Command}
+use Rattle.words.specs.declared.answer.Command.TheVariants.{Dce}
+use Rattle.minifier.specs.Minify.{left_of, passes_by}
+use Rattle.minifier.specs.declared.options.CompressOptions.{CompressOptions}
+use Rattle.shake.specs.Run.{counts_of, command_output, shaken_output, IsReadBack}
+
+same_bare : (t : Forest) → bare (numbered t) ≡ bare t
+same_bare t = bare_marked _ t
+
+same_text : (t : Forest) → text_of (numbered t) ≡ text_of t
+same_text t = ap compact_text (same_data (numbered t) t (same_bare t))
+
+same_output : (command : Command) (t : Forest) (passes references : ℕ) → command_output command (numbered t) passes references ≡ command_output command t passes references
+same_output (Dce false) t passes references = ap (λ s. s ++ counts_of passes references) (same_text t)
+same_output (Dce true) t passes references = ap (λ s. s ++ codes "\n") (same_text t)
+
+-- with options for compression
+asked_left : (o : Option CompressOptions) (options : CompressOptions) (t : Forest) → o ≡ Some options → left_of o t ≡ shaken t
+asked_left o options t is = ap (λ (o : Option CompressOptions). left_of o t) is
+
+asked_passes : (o : Option CompressOptions) (options : CompressOptions) (t : Forest) → o ≡ Some options → passes_by o t ≡ passes_of t
+asked_passes o options t is = ap (λ (o : Option CompressOptions). passes_by o t) is
+
+pub shaken_told : (command : Command) (t new : Forest) (o : Option CompressOptions) (options : CompressOptions) (passes references : ℕ) (text : List ℕ) → o ≡ Some options → text ≡ command_output command new passes references
+    → new ≡ numbered (left_of o t) → passes ≡ passes_by o t → references ≡ resolved_references (left_of o t) → text ≡ shaken_output command t
+shaken_told command t new o options passes references text asked is left told count =
+    let left : new ≡ numbered (shaken t) = left ∙ ap numbered (asked_left o options t asked) in
+    let told : passes ≡ passes_of t = told ∙ asked_passes o options t asked in
+    let count : references ≡ resolved_references (shaken t) = count ∙ ap resolved_references (asked_left o options t asked) in
+    is ∙ ap (λ (u : Forest). command_output command u passes references) left ∙ ap (λ (n : ℕ). command_output command (numbered (shaken t)) n references) told
+    ∙ ap (λ (n : ℕ). command_output command (numbered (shaken t)) (passes_of t) n) count
+    ∙ same_output command (shaken t) (passes_of t) (resolved_references (shaken t))
+
+reads_back : (t : Forest) → IsReadBack (numbered t) → IsReadBack t
+reads_back t back is =
+    subst (λ (s : List ℕ). IsReadAs s (Ok (bare t))) (same_text t) (subst (λ (u : Forest). IsReadAs (text_of (numbered t)) (Ok u)) (same_bare t) (back (readable t (numbered t) (sym (same_bare t)) is)))
+
+pub shaken_back : (t new : Forest) (o : Option CompressOptions) (options : CompressOptions) → o ≡ Some options → IsReadBack new → new ≡ numbered (left_of o t) → IsReadBack (shaken t)
+shaken_back t new o options asked back left = reads_back (shaken t) (subst IsReadBack (left ∙ ap numbered (asked_left o options t asked)) back)
