@@ -1,5 +1,5 @@
 -- The depth to which entries may nest is never seen: the budget runs out first.
-use Rattle.std.proofs.Common.{◌≡◌, ℕ, zero, suc, ◌≤◌, List, [], ◌∷◌, Option, Some, None, refl, ap, sym, subst, arith}
+use Rattle.std.proofs.Common.{◌≡◌, ℕ, zero, suc, ◌≤◌, List, [], ◌∷◌, Option, Some, None, refl, ap, sym, ◌∙◌, subst, arith}
 use Rattle.std.specs.Prelude.{Bool, true, false, ◌||◌, ℤ, pos, ◌+ℤ◌, ◌-ℤ◌, ◌*ℤ◌, neg_ℤ, int_div, int_rem}
 use Rattle.js_syntax.specs.declared.node_kind.NodeKind.{NodeKind as Kind}
 use Rattle.js_syntax.specs.Facts.{is_core}
@@ -634,6 +634,13 @@ alike_enter (suc d) zero b i j t s h = alike_stop _ _ (out_at_zero _ s (omega ar
 alike_enter (suc d) (suc f) b i j t s h =
     same_spent s.budget s h (λ y k. (same_task (record { does = λ t. record { at = alike_enter d f y (omega arith) (omega arith) t } })).does t)
 
+-- At any depth that is at least the budget an entry costs one, and does its task at the same depth.
+pub enter_once : (d : ℕ) (t : Task) (s : State) → s.budget ≤ d → enter d t s ≡ spend (task_does (enter d) t) s
+unfolding enter stop spend
+enter_once zero t s i = sym (out_at_zero _ s i)
+enter_once (suc d) t s i =
+    (same_spent s.budget s i (λ y k. (same_task (record { does = λ t. record { at = alike_enter d (suc d) y (omega arith) (omega arith) t } })).does t)).equal
+
 same_load : {b : ℕ} {E F : Enter} → Enters b E F → (xs : List Text) → Same b (load_all E xs) (load_all F xs)
 unfolding load_all
 same_load e [] = same_done _
@@ -673,4 +680,22 @@ pub depth_suffices : (d : ℕ) (t : Forest) (script : Script) (n : ℕ) → n �
 unfolding run_within run_of
 depth_suffices d t script n i =
     let here : Same n (program_does (enter d) t) (program_does (enter n) t) = same_program (record { does = λ t. record { at = alike_enter d n n i (omega arith) t } }) t in
+    ap seen ((here.at (first_state script n) (omega arith)).equal)
+
+-- An entry at the depth that the budget allows still: it costs one and does its task so, whatever the budget.
+abbrev pub enter_fully : Enter
+enter_fully t s = enter s.budget t s
+
+fully_enters : (d b : ℕ) → b ≤ d → Enters b (enter d) enter_fully
+fully_enters d b i = record { does = λ t. record { at = λ s h. alike_less h (alike_enter d s.budget s.budget (omega arith) (omega arith) t s (omega arith)) } }
+
+pub fully_once : (t : Task) (s : State) → enter_fully t s ≡ spend (task_does enter_fully t) s
+unfolding spend
+fully_once t s =
+    enter_once s.budget t s (omega arith) ∙ (same_spent s.budget s (omega arith) (λ y (k : suc y ≤ s.budget). (same_task (fully_enters s.budget y (omega arith))).does t)).equal
+
+pub fully_runs : (t : Forest) (script : Script) (n : ℕ) → run_of t script n ≡ seen (program_does enter_fully t (first_state script n))
+unfolding run_within run_of
+fully_runs t script n =
+    let here : Same n (program_does (enter n) t) (program_does enter_fully t) = same_program (fully_enters n n (omega arith)) t in
     ap seen ((here.at (first_state script n) (omega arith)).equal)

@@ -114,7 +114,7 @@ state_of w = record {
   globals = named_in w.globals.items;
   imports = foreign_in w.imports.items;
   shown = values_of w.seen.items;
-  moves = moves_of w.moves.items;
+  moves = moves_of w.moves.now;
   exports = map export_of w.exports.items;
   stars = map (λ s. s.now) w.stars.items;
 }

@@ -1,13 +1,14 @@
 // The acts that all others are made of.
-ghost use Rattle.std.specs.Prelude.{◌≡◌, ◌∷◌, ℕ, Option, Some, IfOk, OnOk, string_bytes, if◌then◌else◌};
+ghost use Rattle.std.specs.Prelude.{◌≡◌, ◌∷◌, ℕ, List, Option, Some, IfOk, OnOk, map, string_bytes, if◌then◌else◌};
 ghost use Rattle.js_meaning.specs.Value as meant;
-ghost use Rattle.js_meaning.specs.State.{M, alloc, read, store, identity, raise, get_global, set_global, get_import, set_import, spend, done, stop};
+ghost use Rattle.js_meaning.specs.State.{M, alloc, read, store, identity, raise, get_global, set_global, get_import, set_import, spend, with_moves, set_moves, set_exports, done, stop};
 ghost use Rattle.js_meaning.specs.Trace as trace;
 ghost use Rattle.js_meaning.specs.State as state;
 ghost use Rattle.js_value.specs.View.{value_of, error_of};
-ghost use Rattle.js_world.specs.World.{at, cell_of, stored, named_in, foreign_in, maybe_value, completion_of};
+ghost use Rattle.js_scope.specs.Held.{held};
+ghost use Rattle.js_world.specs.World.{at, cell_of, export_of, stored, named_in, foreign_in, maybe_value, completion_of, moves_of};
 
-use crate::world::{Cell, Completion, Foreign, Named, Stored, World};
+use crate::world::{Cell, Completion, Export, Foreign, Move, Named, Stored, World};
 use js_value::{ErrorKind, Value};
 use std::alloc::{AllocError, Global};
 use std::rc::Rc;
@@ -116,7 +117,7 @@ impl<'a> World<'a> {
         put_first(&mut self.cells, Stored { number, cell })
     }
 
-    /// The number of a new object.
+    /// The number of a new object. Should the numbers end, that is an end of memory.
     #[tactic(auto, unfolding(js_meaning::specs::State::identity))]
     pub fn identity(&mut self) -> Result<usize, AllocError>
         ensures does { IfOk result (λ i. (k : ℕ → M) → at self.old (identity k) ≡ at self.new (k i)) }
@@ -196,5 +197,30 @@ impl<'a> World<'a> {
             self.budget -= 1;
             true
         }
+    }
+
+    /// What the host has still to do.
+    #[tactic(auto, unfolding(js_meaning::specs::State::with_moves))]
+    pub fn moves(&self) -> &'a [Move]
+        ensures { (k : List trace.Move → M) → at self.now (with_moves k) ≡ at self.now (k (moves_of result.now)) }
+    {
+        self.moves
+    }
+
+    /// Leaves the host these moves.
+    #[tactic(auto, unfolding(js_meaning::specs::State::set_moves))]
+    pub fn set_moves(&mut self, moves: &'a [Move])
+        ensures does { (m : M) → at self.old (set_moves (moves_of moves.now) m) ≡ at self.new m }
+    {
+        self.moves = moves;
+    }
+
+    /// Makes these the exports.
+    #[tactic(auto, unfolding(js_meaning::specs::State::set_exports))]
+    pub fn set_exports(&mut self, exports: Vec<Export<'a>>, stars: Vec<&'a str>)
+        ensures does { (m : M) → at self.old (set_exports (map export_of exports.entry.items) (held stars.entry.items) m) ≡ at self.new m }
+    {
+        self.exports = exports;
+        self.stars = stars;
     }
 }

@@ -6,7 +6,6 @@
 #![tactic(auto)]
 
 mod acts;
-mod moves;
 mod reference;
 mod scope;
 mod script;

@@ -1,12 +1,13 @@
 // Reading and writing names (ECMA-262 6.2.5, 9.1).
-ghost use Rattle.std.specs.Prelude.{◌≡◌, codes, IfOk};
-ghost use Rattle.js_meaning.specs.State.{give, raise, unknown};
+ghost use Rattle.std.specs.Prelude.{◌≡◌, Option, codes, IfOk};
+ghost use Rattle.js_meaning.specs.State.{M, give, raise, unknown};
+ghost use Rattle.js_meaning.specs.Value as meant;
 ghost use Rattle.js_meaning.specs.Value.{undef};
 ghost use Rattle.js_meaning.specs.Reference.{global_named, if_set, cell_value, slot_value, if_there, global_value, name_value, or_undefined, typeof_name, assign_cell, assign_import, assign_slot, assign_present, assign_global, name_place};
 ghost use Rattle.js_value.specs.View.{value_of, error_of};
 ghost use Rattle.js_value.specs.Name.{slot_of, maybe_slot};
 ghost use Rattle.js_world.specs.World.{at, cell_of, maybe_value, replies};
-ghost use Rattle.js_world.specs.Named.{global_of};
+ghost use Rattle.js_world.specs.Named.{global_of, found};
 
 use crate::world::{Cell, Completion, Place, Reply, World};
 use js_show::{Act, Ending};
@@ -20,6 +21,12 @@ enum Fixed {
     Undefined,
     NoWholeNumber,
     Usual,
+}
+
+// What is found of a global name: what it says by itself, or what a script gave.
+enum Found<'a> {
+    Says(Reply<'a>),
+    Holds(Option<Value<'a>>),
 }
 
 fn global_named(name: &str) -> Fixed
@@ -90,37 +97,39 @@ impl<'a> World<'a> {
         Ok(Reply::Completes(thrown))
     }
 
-    /// The value of a global, which has to be there (6.2.5.5).
-    pub fn global_value(&mut self, name: &str) -> Result<Reply<'a>, AllocError>
-        ensures does { IfOk result (λ r. at self.old (global_value (global_named name.now) name.now if_there) ≡ at self.new (replies r)) }
+    // What a global name says by itself, or what there is of this name.
+    fn look_up(&self, name: &str) -> Result<Found<'a>, AllocError>
+        ensures { IfOk result (λ g. (k : Option meant.Value → M) → at self.now (global_value (global_named name.now) name.now k) ≡ at self.now (found g k)) }
     {
         match global_named(name) {
-            Fixed::Undefined => Ok(gives(undefined())),
-            Fixed::NoWholeNumber => Ok(unknown()),
+            Fixed::Undefined => Ok(Found::Says(gives(undefined()))),
+            Fixed::NoWholeNumber => Ok(Found::Says(unknown())),
             Fixed::Usual => {
                 let value = self.get_global(name)?;
-                match value {
-                    Some(value) => Ok(gives(value)),
-                    None => self.raises(ErrorKind::ReferenceError),
-                }
+                Ok(Found::Holds(value))
             }
         }
     }
 
-    // `typeof` of a global that isn't there is that of undefined (13.5.3).
-    fn global_or_undefined(&mut self, name: &str) -> Result<Reply<'a>, AllocError>
-        ensures does { IfOk result (λ r. at self.old (global_value (global_named name.now) name.now or_undefined) ≡ at self.new (replies r)) }
+    /// The value of a global, which has to be there (6.2.5.5).
+    pub fn global_value(&mut self, name: &str) -> Result<Reply<'a>, AllocError>
+        ensures does { IfOk result (λ r. at self.old (global_value (global_named name.now) name.now if_there) ≡ at self.new (replies r)) }
     {
-        match global_named(name) {
-            Fixed::Undefined => Ok(gives(undefined())),
-            Fixed::NoWholeNumber => Ok(unknown()),
-            Fixed::Usual => {
-                let value = self.get_global(name)?;
-                match value {
-                    Some(value) => Ok(gives(value)),
-                    None => Ok(gives(undefined())),
-                }
-            }
+        match self.look_up(name)? {
+            Found::Says(reply) => Ok(reply),
+            Found::Holds(Some(value)) => Ok(gives(value)),
+            Found::Holds(None) => self.raises(ErrorKind::ReferenceError),
+        }
+    }
+
+    // `typeof` of a global that isn't there is that of undefined (13.5.3).
+    fn global_or_undefined(&self, name: &str) -> Result<Reply<'a>, AllocError>
+        ensures { IfOk result (λ r. at self.now (global_value (global_named name.now) name.now or_undefined) ≡ at self.now (replies r)) }
+    {
+        match self.look_up(name)? {
+            Found::Says(reply) => Ok(reply),
+            Found::Holds(Some(value)) => Ok(gives(value)),
+            Found::Holds(None) => Ok(gives(undefined())),
         }
     }
 

@@ -1,6 +1,6 @@
 // Acts in small worlds.
-use crate::{Completion, Move, Next, Reply, Script, World};
-use js_show::{Act, Given};
+use crate::{Completion, Move, Reply, Script, World};
+use js_show::Given;
 use js_value::{Plain, Slot, Value};
 use std::alloc::{AllocError, Global};
 use std::rc::Rc;
@@ -21,18 +21,10 @@ fn script(alloc: Global) -> Result<Script, AllocError> {
     Ok(Script { globals, moves })
 }
 
-fn gives_number(reply: &Reply, wanted: i64) -> bool {
-    match reply {
-        Reply::Completes(Completion::Gives(Value::Plain(Plain::Number(number)), _)) => {
-            *number == wanted
-        }
-        _ => false,
-    }
-}
-
 #[test]
 fn a_global_is_there(rt: HostRuntime) -> Result<(), Fail> {
-    let mut world = World::new(rt.alloc(), &script(rt.alloc())?, 0)?;
+    let script = script(rt.alloc())?;
+    let mut world = World::new(rt.alloc(), &script, 0)?;
     let reply = world.name_value(None, "f")?;
     assert!(rt;
         matches!(
@@ -45,29 +37,17 @@ fn a_global_is_there(rt: HostRuntime) -> Result<(), Fail> {
 
 #[test]
 fn another_is_not(rt: HostRuntime) -> Result<(), Fail> {
-    let mut world = World::new(rt.alloc(), &script(rt.alloc())?, 0)?;
+    let script = script(rt.alloc())?;
+    let mut world = World::new(rt.alloc(), &script, 0)?;
     let reply = world.name_value(None, "g")?;
     assert!(rt; matches!(reply, Reply::Completes(Completion::Throws(_))));
     Ok(())
 }
 
 #[test]
-fn the_host_answers_once(rt: HostRuntime) -> Result<(), Fail> {
-    let mut world = World::new(rt.alloc(), &script(rt.alloc())?, 0)?;
-    let first = world.consult(rt.alloc(), Act::Finished)?;
-    let second = world.consult(rt.alloc(), Act::Finished)?;
-    let answered = match &first {
-        Next::Replies(reply) => gives_number(reply, 7),
-        Next::CallsBack(..) => false,
-    };
-    assert!(rt; answered);
-    assert!(rt; matches!(second, Next::Replies(Reply::Stops(_))));
-    Ok(())
-}
-
-#[test]
 fn no_entry_is_left(rt: HostRuntime) -> Result<(), Fail> {
-    let mut world = World::new(rt.alloc(), &script(rt.alloc())?, 1)?;
+    let script = script(rt.alloc())?;
+    let mut world = World::new(rt.alloc(), &script, 1)?;
     let first = world.spend();
     let second = world.spend();
     assert!(rt; first && !second);
@@ -76,7 +56,8 @@ fn no_entry_is_left(rt: HostRuntime) -> Result<(), Fail> {
 
 #[test]
 fn a_cell_waits(rt: HostRuntime) -> Result<(), Fail> {
-    let world = World::new(rt.alloc(), &script(rt.alloc())?, 1)?;
+    let script = script(rt.alloc())?;
+    let world = World::new(rt.alloc(), &script, 1)?;
     let reply = world.slot_value(Slot::Local(0))?;
     assert!(rt; matches!(reply, Reply::Stops(_)));
     Ok(())

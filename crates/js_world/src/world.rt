@@ -119,7 +119,7 @@ pub struct World<'a> {
     pub(crate) globals: Vec<Named<'a>>,
     pub(crate) imports: Vec<Foreign<'a>>,
     pub(crate) seen: Vec<Value<'a>>,
-    pub(crate) moves: Vec<Move>,
+    pub(crate) moves: &'a [Move],
     pub(crate) exports: Vec<Export<'a>>,
     pub(crate) stars: Vec<&'a str>,
     pub(crate) trace: Vec<Event>,

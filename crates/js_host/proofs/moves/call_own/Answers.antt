@@ -4,11 +4,11 @@ use Rattle.js_meaning.specs.Show.{if_some, resolve, resolve_all}
 use Rattle.js_meaning.specs.Host.{call_back}
 use Rattle.js_show.specs.View.{given_of}
 use Rattle.js_world.specs.World.{at, maybe_value, givens_of}
-use Rattle.js_world.proofs.world.World.call_own.Goals as goal
+use Rattle.js_host.proofs.moves.call_own.Goals as goal
 
 pub returns-in-Some : goal.returns-in-Some
 returns-in-Some c =
     IfOk-weaker c.call_on.result _ _ (λ n told E.
     c.in_ok-callee.ensures (λ f. resolve (given_of c.args.this.now) (λ this. resolve_all (givens_of c.args.arguments.now) (λ vs. call_back E c.args.awaited this vs f)))
-    ∙ ap (λ o. at c.args.self.now (if_some (maybe_value o) (λ f. resolve (given_of c.args.this.now) (λ this. resolve_all (givens_of c.args.arguments.now) (λ vs. call_back E c.args.awaited this vs f))))) c.in-Some.is
+    ∙ ap (λ o. at c.args.world.now (if_some (maybe_value o) (λ f. resolve (given_of c.args.this.now) (λ this. resolve_all (givens_of c.args.arguments.now) (λ vs. call_back E c.args.awaited this vs f))))) c.in-Some.is
     ∙ told E) c.call_on.ensures
