@@ -1,0 +1,4 @@
+pub mod Ask
+pub mod Frame
+pub mod Held
+pub mod Law

@@ -1,0 +1,11 @@
+use Rattle.std.proofs.Common.{◌∙◌, sym, ap}
+use Rattle.js_plan.specs.Frame.{controls, onto}
+use Rattle.js_plan.proofs.Law.{pushes}
+use Rattle.js_planning.proofs.stack.push_plan.Goals as goal
+
+pub returns : goal.returns
+returns c = record {
+  onto = λ E.
+      sym (pushes E c.args.frames.now.items c.args.plan.then.items (controls E c.args.plan.control))
+      ∙ ap (λ fs. onto E fs (controls E c.args.plan.control)) (sym c.in_ok-push_all.ensures.put);
+}
