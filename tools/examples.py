@@ -1,7 +1,7 @@
 """shake: worked rows of reading and writing, with what ESTree and docs/DEFINITIONS.md say of them.
 
 Each case is a statement, or a program, in its own normal form, which is written as it was read; then inputs with the fault that they
-have, and inputs that are written otherwise than they were read.
+have, inputs that are written otherwise than they were read, and what passes leave of a program.
 """
 import json
 from table import GENERATED
@@ -36,9 +36,10 @@ cases['statements']=[
  N('DoWhileStatement',body=B(),test=a),
  N('ForStatement',init=var('let',(a,L(0))),test=None,update=None,body=B()), N('ForStatement',init=asg('=',a,L(1)),test=a,update=N('UpdateExpression',operator='++',prefix=False,argument=a),body=B()),
  N('ForInStatement',left=var('const',(a,None)),right=b,body=B()), N('ForOfStatement',left=mem(a,b),right=b,body=B(),**{'await':False}),
- fn('FunctionDeclaration',f,[a,N('AssignmentPattern',left=b,right=L(1)),N('RestElement',argument=N('ArrayPattern',elements=[None,c]))],B(N('ExpressionStatement',expression=L('d'),directive='d'),N('ReturnStatement',argument=a),N('ReturnStatement',argument=None))),
+ prog([fn('FunctionDeclaration',f,[a,N('AssignmentPattern',left=b,right=L(1)),N('RestElement',argument=N('ArrayPattern',elements=[None,c]))],B(N('ExpressionStatement',expression=L('d'),directive='d'),N('ReturnStatement',argument=a),N('ReturnStatement',argument=None)))],'script'),
 ]
-cases['expressions']=[N('ThrowStatement',argument=e) if e['type']=='Literal' and 'regex' not in e else ES(e) for e in [
+SILENT=('Literal','ArrowFunctionExpression','FunctionExpression')
+cases['expressions']=[N('ThrowStatement',argument=e) if e['type'] in SILENT else ES(e) for e in [
  L(None),L(True),L(7),N('Literal',value={},regex=dict(pattern='a',flags='g')),N('ThisExpression'),
  N('ArrayExpression',elements=[a,None,N('SpreadElement',argument=b)]),
  N('ObjectExpression',properties=[prop(a,a,shorthand=True),prop(L('k'),b),prop(L(3),b),prop(a,b,computed=True),prop(I('g'),fn('FunctionExpression',None,[],B()),kind='get'),prop(I('m'),fn('FunctionExpression',None,[],B()),method=True),N('SpreadElement',argument=c)]),
@@ -153,6 +154,54 @@ F('f69',[ES(L(-9007199254740992))],'shake: number out of range\n')
 F('f70',[N('ContinueStatement',label=L('l'))],bf('ContinueStatement','label'))
 
 
+# What passes leave: the program in words, its body, what is left of it (None: all), the passes that changed something, and the
+# references that resolve.
+shaken=[]
+def S(words,body,left,passes,references,kind='module'): shaken.append((words,prog(body,kind),prog(body if left is None else left,kind),passes,references))
+def F_(name,params,*body): return fn('FunctionDeclaration',I(name),[I(p) for p in params],B(*body))
+def export(d): return N('ExportNamedDeclaration',declaration=d,specifiers=[],source=None)
+def exports(*xs): return N('ExportNamedDeclaration',declaration=None,specifiers=[N('ExportSpecifier',local=I(x),exported=I(x)) for x in xs],source=None)
+def use(e): return ES(call(I('use'),e))
+def do(n,*args): return ES(call(I(n),*args))
+EMPTY=N('EmptyStatement')
+DEBUGGER=N('DebuggerStatement')
+RETURN=lambda e: N('ReturnStatement',argument=e)
+x_is=lambda v,kind='let': var(kind,(x,v))
+S('1; let x = 2; let y = x; f();',[ES(L(1)),x_is(L(2)),var('let',(I('y'),x)),do('f')],[do('f')],2,0)
+S('; f();',[EMPTY,do('f')],[do('f')],0,0)
+S('; debugger; 1;',[EMPTY,DEBUGGER,ES(L(1))],[DEBUGGER],1,0)
+S("import 'm'; var x = 1; export function f() { if (x) a(); }",[N('ImportDeclaration',specifiers=[],source=L('m')),x_is(L(1),'var'),export(F_('f',[],N('IfStatement',test=x,consequent=do('a'),alternate=None)))],None,0,1)
+S('export function f() { return g(); let x = 1; function g() { return x; } }',[export(F_('f',[],RETURN(call(I('g'))),x_is(L(1)),F_('g',[],RETURN(x))))],None,0,2)
+S('let x = 1; export { x };',[x_is(L(1)),exports('x')],None,0,1)
+S('use(9007199254740991 + 1);',[use(bi('+',L(9007199254740991),L(1)))],None,0,0)
+S('use(0 * -1);',[use(bi('*',L(0),un('-',L(1))))],None,0,0)
+S('var x = 1; export var x;',[x_is(L(1),'var'),export(x_is(None,'var'))],None,0,0)
+S('export function a() { b(); } function b() { c(); } function c() {}',[export(F_('a',[],do('b'))),F_('b',[],do('c')),F_('c',[])],None,0,2)
+S('function f() {} in a script',[F_('f',[])],None,0,0,'script')
+S('function f() {} in a module',[F_('f',[])],[],1,0)
+S("function f() {} eval('f()');",[F_('f',[]),do('eval',L('f()'))],None,0,0)
+S("let x = 1; use(function () { eval(''); });",[x_is(L(1)),do('use',fn('FunctionExpression',None,[],B(do('eval',L('')))))],None,0,0)
+S('let x = f();',[x_is(call(f))],None,0,0)
+S('let a = 1, b = f(), c = 2;',[var('let',(a,L(1)),(b,call(f)),(c,L(2)))],[var('let',(b,call(f)))],1,0)
+S('for (let a = 1;;) b();',[N('ForStatement',init=var('let',(a,L(1))),test=None,update=None,body=do('b'))],None,0,0)
+S('switch (a) { case 1: 1; b(); default: ; }',[N('SwitchStatement',discriminant=a,cases=[N('SwitchCase',test=L(1),consequent=[ES(L(1)),do('b')]),N('SwitchCase',test=None,consequent=[EMPTY])])],[N('SwitchStatement',discriminant=a,cases=[N('SwitchCase',test=L(1),consequent=[do('b')]),N('SwitchCase',test=None,consequent=[])])],1,0)
+S('if (a) 1;',[N('IfStatement',test=a,consequent=ES(L(1)),alternate=None)],None,0,0)
+S('undefined; undefine;',[ES(I('undefined')),ES(I('undefine'))],[ES(I('undefine'))],1,0)
+S('function a() { b(); } function b() {}',[F_('a',[],do('b')),F_('b',[])],[],2,0)
+S('function f() { f(); }',[F_('f',[],do('f'))],None,0,1)
+S('function f(x) { var x = 1; } in a script',[F_('f',['x'],x_is(L(1),'var'))],[F_('f',['x'])],1,0,'script')
+S('function f(x) { with (x) { x; } x; } in a script',[F_('f',['x'],N('WithStatement',object=x,body=B(ES(x))),ES(x))],[F_('f',['x'],N('WithStatement',object=x,body=B(ES(x))))],1,2,'script')
+S('function f() { function g() {} { function h() {} } } in a script',[F_('f',[],F_('g',[]),B(F_('h',[])))],[F_('f',[],B(F_('h',[])))],1,0,'script')
+S("function f() { 'use strict'; { function h() {} } } in a script",[F_('f',[],N('ExpressionStatement',expression=L('use strict'),directive='use strict'),B(F_('h',[])))],[F_('f',[],N('ExpressionStatement',expression=L('use strict'),directive='use strict'),B())],1,0,'script')
+S('function f(o) { with (o) { var x = 1; var y; } } in a script',[F_('f',['o'],N('WithStatement',object=I('o'),body=B(x_is(L(1),'var'),var('var',(I('y'),None)))))],[F_('f',['o'],N('WithStatement',object=I('o'),body=B(x_is(L(1),'var'))))],1,1,'script')
+S('var x = 1; in a script',[x_is(L(1),'var')],None,0,0,'script')
+S('var x = 1; in a CommonJS module',[x_is(L(1),'var')],[],1,0,'commonjs')
+S('export let x = 1; export function f() { let y; }',[export(x_is(L(1))),export(F_('f',[],var('let',(I('y'),None))))],[export(x_is(L(1))),export(F_('f',[]))],1,0)
+S('let x; [x, , !x]; ({ a: x, m() {} }); x ? void x : typeof x;',[x_is(None),ES(N('ArrayExpression',elements=[x,None,un('!',x)])),ES(N('ObjectExpression',properties=[prop(a,x),prop(I('m'),fn('FunctionExpression',None,[],B()),method=True)])),ES(N('ConditionalExpression',test=x,consequent=un('void',x),alternate=un('typeof',x)))],[],2,0)
+S('let x; x && (x, x); (x ?? (() => x)) || (function () {});',[x_is(None),ES(N('LogicalExpression',operator='&&',left=x,right=N('SequenceExpression',expressions=[x,x]))),ES(N('LogicalExpression',operator='||',left=N('ParenthesizedExpression',expression=N('LogicalExpression',operator='??',left=x,right=fn('ArrowFunctionExpression',None,[],x,True))),right=fn('FunctionExpression',None,[],B())))],[],2,0)
+S('let x; [...x]; ({ [x]: 1 }); ({ get a() {} }); -x; f(x), 2;',[x_is(None),ES(N('ArrayExpression',elements=[N('SpreadElement',argument=x)])),ES(N('ObjectExpression',properties=[prop(x,L(1),computed=True)])),ES(N('ObjectExpression',properties=[prop(a,fn('FunctionExpression',None,[],B()),kind='get')])),ES(un('-',x)),ES(N('SequenceExpression',expressions=[call(f,x),L(2)]))],None,0,4)
+
+
 def text(tree): return json.dumps(tree, sort_keys=True, separators=(',', ':'))
 def raw(s): return 'r#"%s"#' % s
 
@@ -183,4 +232,13 @@ def reading():
     return out
 
 
-FILES = {'shake/src/tests/reading.rt': reading}
+
+def left():
+    """Tests over what passes leave: the whole text that is written."""
+    out = '// Rows of what passes leave.\n// %s\nuse super::dce;\nuse std::test::Fail;\n' % GENERATED.replace('tools/nodes.py', 'tools/examples.py')
+    entries = ['\n// %s\n(%s, %s)' % (w, raw(text(p)), json.dumps('%s\npasses %d references %d\n' % (text(q), n, r))) for w, p, q, n, r in shaken]
+    return out + table('writes_what_passes_leave', 'The tree that is left, and the line of counts.', entries,
+        '    for (input, want) in cases {\n        let got = dce(rt.alloc(), input.as_bytes())?;\n        assert_eq!(rt; got.code, 0, "{input}");\n        assert_eq!(rt; got.out.as_slice(), want.as_bytes(), "{input}");\n    }\n')
+
+
+FILES = {'shake/src/tests/reading.rt': reading, 'shake/src/tests/left.rt': left}

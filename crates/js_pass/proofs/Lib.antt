@@ -1,3 +1,6 @@
-pub mod Search
+pub mod Each
 pub mod Steps
 pub mod Lighter
+pub mod Unchanged
+pub mod Fewer
+pub mod Leaving

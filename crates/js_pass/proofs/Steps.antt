@@ -1,40 +1,50 @@
 -- One node of a row after another.
-use Rattle.std.proofs.Common.{◌≡◌, ◌∙◌, ◌⊎◌, inl, inr, List, [], ◌∷◌, Bool, true, false, Option, Some, length, if◌then◌else◌, refl, sym, ap, arith}
+use Rattle.std.proofs.Common.{◌≡◌, ◌∙◌, List, [], ◌∷◌, Bool, true, false, Option, Some, length, if◌then◌else◌, refl, sym, ap, arith}
 use Rattle.js_syntax.specs.Node.{Forest, nothing, node, absent, joined, Tree, row, forest_of}
+use Rattle.js_syntax.specs.declared.node_kind.NodeKind.TheVariants.{EmptyStatement as empty_statement}
 use Rattle.js_tree.proofs.Rows.{joined_nothing, joined_assoc}
-use Rattle.js_pass.specs.Pass.{does_something, kept, shaken}
-use Rattle.js_pass.specs.Items.{trimmed_if}
+use Rattle.js_pass.specs.declared.around.Around.{Around}
+use Rattle.js_pass.specs.Around.{entered}
+use Rattle.js_pass.specs.Pass.{Names, goes, empties, unmarked, swept}
 
-pub shaken_front : (t s : Tree) (ts : List (Option Tree)) → forest_of s ≡ shaken (forest_of t) → shaken (row (Some t ∷ ts)) ≡ joined (forest_of s) (shaken (row ts))
-shaken_front t s ts h = ap (λ f. joined f (shaken (row ts))) (sym h)
+module _ (names : Names) (a : Around) where
+  -- a field that is not there
+  pub absent_next : (all front : Forest) (ts : List (Option Tree)) → all ≡ joined front (absent (swept names a (row ts))) → all ≡ joined (joined front (absent nothing)) (swept names a (row ts))
+  absent_next all front ts h = h ∙ sym (joined_assoc front (absent nothing) (swept names a (row ts)))
 
--- a field that is not there
-pub absent_next : (b : Bool) (all front r : Forest) → all ≡ joined front (trimmed_if b (absent r)) → all ≡ joined (joined front (absent nothing)) (trimmed_if b r)
-absent_next true all front r h = h ∙ sym (joined_assoc front (absent nothing) (kept r))
-absent_next false all front r h = h ∙ sym (joined_assoc front (absent nothing) r)
+  -- what is left where a node stood
+  abbrev left : (goes_here empties_here : Bool) (t : Tree) (later : Forest) → Forest
+  left goes_here empties_here t later =
+      if goes_here then later
+      else if empties_here then node empty_statement (unmarked t.note) nothing later
+      else node t.kind t.note (swept names (entered a t.kind) t.below) later
 
-kept_node : (s : Tree) (r : Forest) → does_something s.kind s.below ≡ true → kept (joined (forest_of s) r) ≡ joined (forest_of s) (kept r)
-kept_node s r told = ap (λ (b : Bool). if b then node s.kind s.note s.below (kept r) else kept r) told
+  -- a node that stays
+  pub node_next : (all front : Forest) (t s : Tree) (ts : List (Option Tree)) → goes names a t.kind t.below ≡ false → empties names a t.kind t.below ≡ false → forest_of s ≡ node t.kind t.note (swept names (entered a t.kind) t.below) nothing
+      → all ≡ joined front (swept names a (row (Some t ∷ ts))) → all ≡ joined (joined front (forest_of s)) (swept names a (row ts))
+  node_next all front t s ts stays full is h =
+      h
+      ∙ ap (λ (b : Bool). joined front (left b (empties names a t.kind t.below) t (swept names a (row ts)))) stays
+      ∙ ap (λ (b : Bool). joined front (left false b t (swept names a (row ts)))) full
+      ∙ ap (λ f. joined front (joined f (swept names a (row ts)))) (sym is)
+      ∙ sym (joined_assoc front (forest_of s) (swept names a (row ts)))
 
-left_node : (s : Tree) (r : Forest) → does_something s.kind s.below ≡ false → kept (joined (forest_of s) r) ≡ kept r
-left_node s r told = ap (λ (b : Bool). if b then node s.kind s.note s.below (kept r) else kept r) told
+  -- one that becomes empty
+  pub node_empty : (all front : Forest) (t s : Tree) (ts : List (Option Tree)) → goes names a t.kind t.below ≡ false → empties names a t.kind t.below ≡ true → forest_of s ≡ node empty_statement (unmarked t.note) nothing nothing
+      → all ≡ joined front (swept names a (row (Some t ∷ ts))) → all ≡ joined (joined front (forest_of s)) (swept names a (row ts))
+  node_empty all front t s ts stays empty is h =
+      h
+      ∙ ap (λ (b : Bool). joined front (left b (empties names a t.kind t.below) t (swept names a (row ts)))) stays
+      ∙ ap (λ (b : Bool). joined front (left false b t (swept names a (row ts)))) empty
+      ∙ ap (λ f. joined front (joined f (swept names a (row ts)))) (sym is)
+      ∙ sym (joined_assoc front (forest_of s) (swept names a (row ts)))
 
--- a node that stays
-pub node_next : (b : Bool) (all front : Forest) (s : Tree) (r : Forest) → all ≡ joined front (trimmed_if b (joined (forest_of s) r)) → (b ≡ false) ⊎ (does_something s.kind s.below ≡ true)
-    → all ≡ joined (joined front (forest_of s)) (trimmed_if b r)
-node_next true all front s r h (inl e) = absurd (cc)
-node_next true all front s r h (inr told) = h ∙ ap (joined front) (kept_node s r told) ∙ sym (joined_assoc front (forest_of s) (kept r))
-node_next false all front s r h stays = h ∙ sym (joined_assoc front (forest_of s) r)
+  -- and one that goes
+  pub node_gone : (all front : Forest) (t : Tree) (ts : List (Option Tree)) → goes names a t.kind t.below ≡ true → all ≡ joined front (swept names a (row (Some t ∷ ts))) → all ≡ joined front (swept names a (row ts))
+  node_gone all front t ts goes_there h = h ∙ ap (λ (b : Bool). joined front (left b (empties names a t.kind t.below) t (swept names a (row ts)))) goes_there
 
--- and one that leaves
-pub node_left : (b : Bool) (all front : Forest) (s : Tree) (r : Forest) → all ≡ joined front (trimmed_if b (joined (forest_of s) r)) → b ≡ true → does_something s.kind s.below ≡ false
-    → all ≡ joined front (trimmed_if b r)
-node_left true all front s r h of told = h ∙ ap (joined front) (left_node s r told)
-node_left false all front s r h of told = absurd (cc)
-
-pub all_done : (b : Bool) (all front : Forest) (rest : List (Option Tree)) → all ≡ joined front (trimmed_if b (shaken (row rest))) → rest ≡ [] → front ≡ all
-all_done true all front rest h none = sym (h ∙ ap (λ ts. joined front (kept (shaken (row ts)))) none ∙ joined_nothing front)
-all_done false all front rest h none = sym (h ∙ ap (λ ts. joined front (shaken (row ts))) none ∙ joined_nothing front)
+  pub all_done : (all front : Forest) (ts : List (Option Tree)) → all ≡ joined front (swept names a (row ts)) → ts ≡ [] → front ≡ all
+  all_done all front ts h none = sym (h ∙ ap (λ us. joined front (swept names a (row us))) none ∙ joined_nothing front)
 
 pub nothing_left : (xs : List (Option Tree)) → length xs ≡ 0 → xs ≡ []
 nothing_left [] h = refl

@@ -1,57 +1,127 @@
--- What shaking leaves of a tree.
-use Rattle.std.specs.Prelude.{ℕ, Bool, true, false, not, ◌&&◌, ◌||◌, if◌then◌else◌}
+-- What a pass leaves of a tree.
+use Rattle.std.specs.Prelude.{List, [], Bool, true, false, not, ◌&&◌, ◌||◌, None, if◌then◌else◌}
 use Rattle.js_syntax.specs.declared.node_kind.NodeKind.{NodeKind as Kind}
-use Rattle.js_syntax.specs.declared.node_kind.NodeKind.TheVariants.{Literal as literal, EmptyStatement as empty_statement, ExpressionStatement as expression_statement, Statements as statements}
-use Rattle.js_syntax.specs.Node.{Forest, nothing, node, absent}
+use Rattle.js_syntax.specs.declared.node_kind.NodeKind.TheVariants.{EmptyStatement as empty_statement, ExpressionStatement as expression_statement, Function as function, VariableDeclaration as variable_declaration, VariableDeclarator as variable_declarator, Declarators as declarators, BindingName as binding_name}
+use Rattle.js_syntax.specs.declared.kind.FunctionKind.{FunctionKind}
+use Rattle.js_syntax.specs.declared.kind.FunctionKind.TheVariants as function_kind
+use Rattle.js_syntax.specs.Node.{Forest, nothing, node, absent, Note}
+use Rattle.silence.specs.Silence.{is_marked, may_have_effects}
+use Rattle.js_pass.specs.declared.around.Around.{Around}
+use Rattle.js_pass.specs.declared.around.Row.{Row}
+use Rattle.js_pass.specs.declared.around.Row.TheVariants.{Items as items, Declarators as item_declarators, Body as body}
+use Rattle.js_pass.specs.Around.{entered, outermost}
 
--- what lies below an expression statement is a literal that is no regular expression
-abbrev pub is_literal : Forest → Bool
-is_literal (node (literal v) n below rest) = true
-is_literal _ = false
+-- What is known of the names of a tree, by the numbers that its nodes are marked with: of each reference, whether it has
+-- a binding, and of each symbol, whether a declarator or a function declaration of its name may go.
+pub record Names : Type 0 where
+  pub bound : List Bool
+  pub variables : List Bool
+  pub functions : List Bool
 
-abbrev pub is_silent : Kind → (below : Forest) → Bool
-is_silent expression_statement below = is_literal below
-is_silent _ below = false
+-- ---- what goes
 
--- An empty statement does nothing, and neither does an expression statement of a literal (ECMA-262 14.4, 14.5, 13.2.3).
--- Directives are no expression statements.
-abbrev pub does_something : Kind → (below : Forest) → Bool
-does_something empty_statement below = false
-does_something k below = not (is_silent k below)
+abbrev pub name_goes : List Bool → Kind → Note → Bool
+name_goes marks (binding_name x) n = is_marked marks n.id
+name_goes marks k n = false
 
--- the nodes of a row that do something
-abbrev pub kept : Forest → Forest
-kept nothing = nothing
-kept (node k n below rest) = if does_something k below then node k n below (kept rest) else kept rest
-kept (absent rest) = absent (kept rest)
+abbrev pub is_given : Forest → Bool
+is_given (node k n below rest) = true
+is_given t = false
 
-abbrev pub trimmed : Kind → Forest → Forest
-trimmed statements row = kept row
-trimmed _ row = row
+-- A declarator of one name that nothing uses, whose initialiser is silent or absent (ECMA-262 14.3.1, 14.3.2). Inside of a
+-- `with` statement an initialiser may set a property of its object.
+abbrev pub declarator_goes : Names → (in_with : Bool) → (below : Forest) → Bool
+declarator_goes names in_with (node k n below value) = name_goes names.variables k n && not (may_have_effects names.bound in_with value || in_with && is_given value)
+declarator_goes names in_with t = false
 
--- each list of statements, without those that do nothing
-abbrev pub shaken : Forest → Forest
-shaken nothing = nothing
-shaken (node k n below rest) = node k n (trimmed k (shaken below)) (shaken rest)
-shaken (absent rest) = absent (shaken rest)
+abbrev pub goes_as_declarator : Names → (in_with : Bool) → Kind → (below : Forest) → Bool
+goes_as_declarator names in_with variable_declarator below = declarator_goes names in_with below
+goes_as_declarator names in_with k below = false
 
--- ---- passes
+-- whether one of a declaration's declarators stays
+abbrev pub one_stays : Names → (in_with : Bool) → Forest → Bool
+one_stays names in_with nothing = false
+one_stays names in_with (absent rest) = one_stays names in_with rest
+one_stays names in_with (node k n below rest) = not (goes_as_declarator names in_with k below) || one_stays names in_with rest
 
-abbrev pub is_list : Kind → Bool
-is_list statements = true
-is_list _ = false
+-- a declaration of which none does
+abbrev pub declaration_goes : Names → (in_with : Bool) → (below : Forest) → Bool
+declaration_goes names in_with (node declarators n below rest) = not (one_stays names in_with below)
+declaration_goes names in_with t = false
 
-abbrev pub has_silent : Forest → Bool
-has_silent nothing = false
-has_silent (node k n below rest) = is_silent k below || has_silent rest
-has_silent (absent rest) = has_silent rest
+-- a function declaration of a name that nothing uses (15.2)
+abbrev pub named_goes : List Bool → (below : Forest) → Bool
+named_goes marks (node k n below rest) = name_goes marks k n
+named_goes marks t = false
 
--- whether a list of statements somewhere loses an expression statement
-abbrev pub loses : Forest → Bool
-loses nothing = false
-loses (node k n below rest) = (is_list k && has_silent below) || (loses below || loses rest)
-loses (absent rest) = loses rest
+abbrev pub function_goes : Names → FunctionKind → (below : Forest) → Bool
+function_goes names function_kind.Declaration below = named_goes names.functions below
+function_goes names how below = false
 
--- A pass that changed something is followed by another. Empty statements leave before the first pass.
-abbrev pub passes_of : Forest → ℕ
-passes_of t = if loses t then 1 else 0
+-- An item of a list of statements that does nothing: a directive is none.
+abbrev pub goes_as_item : Names → (in_with : Bool) → Kind → (below : Forest) → Bool
+goes_as_item names in_with empty_statement below = true
+goes_as_item names in_with expression_statement below = not (may_have_effects names.bound in_with below)
+goes_as_item names in_with (function how pure) below = function_goes names how below
+goes_as_item names in_with (variable_declaration how) below = declaration_goes names in_with below
+goes_as_item names in_with k below = false
+
+abbrev pub goes_in : Row → Names → (in_with : Bool) → Kind → (below : Forest) → Bool
+goes_in items names in_with k below = goes_as_item names in_with k below
+goes_in item_declarators names in_with k below = goes_as_declarator names in_with k below
+goes_in row names in_with k below = false
+
+abbrev pub is_empty_in : Row → Kind → Bool
+is_empty_in items empty_statement = true
+is_empty_in row k = false
+
+-- Where no names are known, only empty statements go.
+abbrev pub goes : Names → Around → Kind → (below : Forest) → Bool
+goes names a k below = if a.knows_names then goes_in a.row names a.in_with k below else is_empty_in a.row k
+
+-- A function that goes where it is the body of another statement becomes an empty statement.
+abbrev pub empties_as_body : Names → Kind → (below : Forest) → Bool
+empties_as_body names (function how pure) below = function_goes names how below
+empties_as_body names k below = false
+
+abbrev pub empties_in : Row → Names → Kind → (below : Forest) → Bool
+empties_in body names k below = empties_as_body names k below
+empties_in row names k below = false
+
+abbrev pub empties : Names → Around → Kind → (below : Forest) → Bool
+empties names a k below = if a.knows_names then empties_in a.row names k below else false
+
+abbrev pub unmarked : Note → Note
+unmarked n = record { span = n.span; id = None }
+
+-- ---- what is left
+
+abbrev pub swept : Names → Around → Forest → Forest
+swept names a nothing = nothing
+swept names a (absent rest) = absent (swept names a rest)
+swept names a (node k n below rest) =
+    if goes names a k below then swept names a rest
+    else if empties names a k below then node empty_statement (unmarked n) nothing (swept names a rest)
+    else node k n (swept names (entered a k) below) (swept names a rest)
+
+-- whether something goes, or becomes empty
+abbrev pub loses : Names → Around → Forest → Bool
+loses names a nothing = false
+loses names a (absent rest) = loses names a rest
+loses names a (node k n below rest) = ((goes names a k below || empties names a k below) || loses names (entered a k) below) || loses names a rest
+
+-- ---- whole trees
+
+-- what a pass leaves of one, and whether it changes it
+abbrev pub passed : Names → Forest → Forest
+passed names t = swept names (outermost true) t
+
+abbrev pub changes : Names → Forest → Bool
+changes names t = loses names (outermost true) t
+
+abbrev pub no_names : Names
+no_names = record { bound = []; variables = []; functions = [] }
+
+-- one without the empty statements of its lists
+abbrev pub cleared : Forest → Forest
+cleared t = swept no_names (outermost false) t

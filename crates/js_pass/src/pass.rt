@@ -1,75 +1,59 @@
-// What does nothing leaves.
-ghost use Rattle.std.specs.Prelude.{◌≡◌, [], ◌∷◌, IfOk, ◌||◌, ◌&&◌};
-ghost use Rattle.js_syntax.specs.Node.{row, forest_of};
+// What is left of a tree.
+ghost use Rattle.std.specs.Prelude.{◌≡◌, IfOk};
+ghost use Rattle.js_syntax.specs.declared.node_kind.NodeKind.TheVariants.{EmptyStatement as empty_statement};
+ghost use Rattle.js_syntax.specs.Node.{row, nothing, alone, forest_of};
+ghost use Rattle.js_pass.specs.Around.{entered, outermost};
+ghost use Rattle.js_pass.specs.Pass.{swept, cleared, passed};
 ghost use Rattle.js_pass.specs.Pass as pass;
-ghost use Rattle.js_pass.specs.Pass.{shaken, loses, passes_of};
-ghost use Rattle.js_pass.specs.Items.{trimmed_if};
 
-use js_syntax::NodeKind;
-use js_tree::{Node, Program};
+use crate::around::Around;
+use crate::goes::{empties, goes};
+use crate::names::Names;
+use js_tree::{Node, NodeKind, Program};
 use std::alloc::{AllocError, Global};
 
-fn is_literal(node: &Node) -> bool
-    ensures { result ≡ pass.is_literal node.now.below }
+// An empty statement where a node stood.
+fn emptied(alloc: Global, node: Node) -> Node
+    ensures { forest_of result ≡ alone empty_statement (pass.unmarked node.note) nothing }
 {
-    match node.children().first() {
-        Some(Some(child)) => matches!(child.kind(), NodeKind::Literal(_)),
-        _ => false,
-    }
+    let span = node.span();
+    drop(node);
+    Node::new(NodeKind::EmptyStatement, span, Vec::new(alloc))
 }
 
-fn is_silent(node: &Node) -> bool
-    ensures { result ≡ pass.is_silent node.now.kind node.now.below }
-{
-    match node.kind() {
-        NodeKind::ExpressionStatement => is_literal(node),
-        _ => false,
-    }
-}
-
-fn does_something(node: &Node) -> bool
-    ensures { result ≡ pass.does_something node.now.kind node.now.below }
-{
-    match node.kind() {
-        NodeKind::EmptyStatement => false,
-        _ => !is_silent(node),
-    }
-}
-
-fn is_list(kind: &NodeKind) -> bool
-    ensures { result ≡ pass.is_list kind.now }
-{
-    matches!(kind, NodeKind::Statements)
-}
-
-// The node, without what does nothing in the lists below it.
-#[cycle(shake)]
-fn shake_node(alloc: Global, node: Node) -> Result<Node, AllocError>
-    ensures { IfOk result (λ t. forest_of t ≡ shaken (forest_of node)) }
+// The node, without what goes below it.
+#[cycle(sweep)]
+fn sweep_node(alloc: Global, names: &Names, around: Around, node: Node) -> Result<Node, AllocError>
+    ensures { IfOk result (λ t. forest_of t ≡ alone node.kind node.note (swept names.now (entered around node.kind) node.below)) }
 {
     let mut node = node;
     let below = node.replace_children(Vec::new(alloc));
-    let below = shake_children(alloc, below, is_list(node.kind()))?;
+    let below = sweep_children(alloc, names, around.entered(node.kind()), below)?;
     node.replace_children(below);
     Ok(node)
 }
 
-// The nodes of a row, each shaken; of a list of statements only those that do something.
-#[cycle(shake)]
-fn shake_children(
+// The nodes of a row, without those that go.
+#[cycle(sweep)]
+fn sweep_children(
     alloc: Global,
+    names: &Names,
+    around: Around,
     children: Vec<Option<Node>>,
-    of_list: bool,
 ) -> Result<Vec<Option<Node>>, AllocError>
-    ensures { IfOk result (λ cs. row cs.items ≡ trimmed_if of_list (shaken (row children.items))) }
+    ensures { IfOk result (λ cs. row cs.items ≡ swept names.now around (row children.items)) }
 {
     let mut left = Vec::new(alloc);
     for child in children {
         match child {
             None => left.push(None)?,
             Some(node) => {
-                let node = shake_node(alloc, node)?;
-                if !of_list || does_something(&node) {
+                if goes(names, around, &node) {
+                    drop(node);
+                } else if empties(names, around, &node) {
+                    left.push(Some(emptied(alloc, node)))?;
+                } else {
+                    let node = sweep_node(alloc, names, around, node)?;
                     left.push(Some(node))?;
                 }
             }
@@ -78,41 +62,21 @@ fn shake_children(
     Ok(left)
 }
 
-fn is_silent_child(child: &Option<Node>) -> bool
-    ensures { result ≡ pass.has_silent (row (child.now ∷ [])) }
-{
-    match child {
-        Some(node) => is_silent(node),
-        None => false,
-    }
-}
-
-fn has_silent(children: &[Option<Node>]) -> bool
-    ensures { result ≡ pass.has_silent (row children.now) }
-{
-    for child in children {
-        if is_silent_child(child) {
-            return true;
-        }
-    }
-    false
-}
-
-// Whether a list of statements loses an expression statement.
 #[cycle(loses)]
-fn node_loses(node: &Node) -> bool
-    ensures { result ≡ loses (forest_of node.now) }
+fn node_loses(names: &Names, around: Around, node: &Node) -> bool
+    ensures { result ≡ pass.loses names.now around (forest_of node.now) }
 {
-    (is_list(node.kind()) && has_silent(node.children())) || any_loses(node.children())
+    let goes_here = goes(names, around, node) || empties(names, around, node);
+    goes_here || any_loses(names, around.entered(node.kind()), node.children())
 }
 
 #[cycle(loses)]
-fn any_loses(children: &[Option<Node>]) -> bool
-    ensures { result ≡ loses (row children.now) }
+fn any_loses(names: &Names, around: Around, children: &[Option<Node>]) -> bool
+    ensures { result ≡ pass.loses names.now around (row children.now) }
 {
     for child in children {
         if let Some(node) = child {
-            if node_loses(node) {
+            if node_loses(names, around, node) {
                 return true;
             }
         }
@@ -120,14 +84,43 @@ fn any_loses(children: &[Option<Node>]) -> bool
     false
 }
 
-/// Takes what does nothing out of the program, and answers what is left and the number of passes that
-/// another followed.
-pub fn shake_program(alloc: Global, program: Program) -> Result<(Program, u64), AllocError>
-    ensures tree { IfOk result (λ p. forest_of p.0 ≡ shaken (forest_of program)) }
-    ensures passes { IfOk result (λ p. p.1 ≡ passes_of (forest_of program)) }
+// A program's own node stands in no list.
+fn sweep_program(
+    alloc: Global,
+    names: &Names,
+    knows_names: bool,
+    program: Program,
+) -> Result<Program, AllocError>
+    ensures { IfOk result (λ p. forest_of p ≡ swept names.now (outermost knows_names) (forest_of program)) }
 {
-    let root = program.into_root();
-    let passes = if node_loses(&root) { 1 } else { 0 };
-    let left = shake_node(alloc, root)?;
-    Ok((Program::new(left), passes))
+    let around = Around::outermost(knows_names);
+    let left = sweep_node(alloc, names, around, program.into_root())?;
+    Ok(Program::new(left))
+}
+
+/// Takes what goes out of a program, whose nodes are marked with the numbers that the names are known by.
+/// The recursion goes as deep as the tree.
+pub fn run_pass(alloc: Global, names: &Names, program: Program) -> Result<Program, AllocError>
+    ensures left { IfOk result (λ p. forest_of p ≡ passed names.now (forest_of program)) }
+{
+    sweep_program(alloc, names, true, program)
+}
+
+/// Whether something goes.
+pub fn changes(names: &Names, program: &Program) -> bool
+    ensures answer { result ≡ pass.changes names.now (forest_of program.now) }
+{
+    node_loses(names, Around::outermost(true), program.root())
+}
+
+/// Takes the empty statements out of a program's lists.
+pub fn clear_program(alloc: Global, program: Program) -> Result<Program, AllocError>
+    ensures left { IfOk result (λ p. forest_of p ≡ cleared (forest_of program)) }
+{
+    let names = Names {
+        bound: Vec::new(alloc),
+        variables: Vec::new(alloc),
+        functions: Vec::new(alloc),
+    };
+    sweep_program(alloc, &names, false, program)
 }

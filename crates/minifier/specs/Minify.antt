@@ -2,7 +2,9 @@
 use Rattle.std.specs.Prelude.{◌≡◌, ◌+◌, ℕ, Option, Some, None, min}
 use Rattle.js_syntax.specs.Node.{Forest}
 use Rattle.js_count.specs.Count.{node_count, levels}
-use Rattle.js_pass.specs.Pass.{shaken, passes_of}
+use Rattle.passes.specs.Passes.{shaken, passes_of, IsShaken, IsClean}
+use Rattle.js_scoping.specs.Build.{numbered}
+use Rattle.scope_rules.specs.Table.{Scoping}
 use Rattle.js_form.specs.Break.{at_place}
 use Rattle.js_form.specs.Form.{first_broken}
 use Rattle.minifier.specs.Limit.{IsWithinLimits, IsTooLarge, max_nodes, max_levels}
@@ -19,6 +21,17 @@ left_of (Some options) t = shaken t
 abbrev pub passes_by : Option CompressOptions → Forest → ℕ
 passes_by None t = 0
 passes_by (Some options) t = passes_of t
+
+-- what is left, marked, comes from the tree by so many passes that leave things out, and nothing else; without options it
+-- is the tree
+abbrev pub IsLeftOutBy : Option CompressOptions → (count : ℕ) → (t left : Forest) → Type 0
+IsLeftOutBy None count t left = left ≡ numbered t
+IsLeftOutBy (Some options) count t left = (u : Forest) × (left ≡ numbered u) × IsShaken count t u
+
+-- with options nothing is left that may go
+abbrev pub IsCleanBy : Option CompressOptions → Scoping → Forest → Type 0
+IsCleanBy None s t = Unit {0}
+IsCleanBy (Some options) s t = IsClean s t
 
 -- both counts, each capped one past its limit
 abbrev pub IsCounted : (nodes levels : ℕ) → Forest → Type 0

@@ -1,13 +1,13 @@
 // The library call.
 ghost use Rattle.std.specs.Prelude.{◌≡◌, IfOk, IfErr, IsSomeAnd, is_some};
 ghost use Rattle.std.specs.List.{count_by};
-ghost use Rattle.js_syntax.specs.Node.{forest_of};
+ghost use Rattle.js_syntax.specs.Node.{Forest, forest_of};
 ghost use Rattle.js_form.specs.Form.{IsWellFormed};
-ghost use Rattle.js_pass.specs.Pass.{shaken, passes_of};
 ghost use Rattle.js_scoping.specs.Build.{table_of, numbered};
 ghost use Rattle.minifier.specs.Limit.{IsWithinLimits};
-ghost use Rattle.minifier.specs.Minify.{left_of, passes_by, IsCause};
+ghost use Rattle.minifier.specs.Minify.{left_of, passes_by, IsLeftOutBy, IsCleanBy, IsCause};
 ghost use Rattle.minifier.specs.Options.{IsSmallest};
+ghost use Rattle.passes.specs.Passes.{shaken, passes_of, IsShaken, IsClean};
 ghost use Rattle.scope_laws.specs.Exact.{Exact};
 ghost use Rattle.scope_rules.specs.Binding.{resolved_references};
 ghost use Rattle.scoping_match.specs.Matches.{Matches};
@@ -17,9 +17,9 @@ use crate::options::CompressOptions;
 use form_check::{FormError, well_formed};
 use js_clone::try_clone;
 use js_count::{count_nodes, depth};
-use js_pass::shake_program;
 use js_scoping::{Scoping, build};
 use js_tree::Program;
+use passes::{Shaken, shake_program};
 use std::alloc::{AllocError, Global};
 
 // How many nodes and levels a program may have.
@@ -89,20 +89,25 @@ fn check_form(alloc: Global, program: &Program) -> Result<(), MinifyError>
     }
 }
 
-// Puts what the pass leaves of a program in its place, its nodes marked.
+// Puts what the passes leave of a program in its place, its nodes marked.
 fn compress(alloc: Global, program: &mut Program) -> Result<MinifierReturn, AllocError>
     requires within { IsWithinLimits (forest_of program.old) }
     ensures left { IfOk result (λ _. forest_of program.new ≡ numbered (shaken (forest_of program.old))) }
     ensures iterations { IfOk result (λ r. r.iterations ≡ passes_of (forest_of program.old)) }
     ensures scoping { IfOk result (λ r. r.scoping ≡ table_of (shaken (forest_of program.old))) }
+    ensures left_out { IfOk result (λ r. (u : Forest) × (forest_of program.new ≡ numbered u) × IsShaken r.iterations (forest_of program.old) u) }
+    ensures clean { IfOk result (λ r. IsClean r.scoping (forest_of program.new)) }
     ensures exact { IfOk result (λ r. Exact r.scoping (forest_of program.new)) }
     ensures matches { IfOk result (λ r. Matches r.scoping (forest_of program.new)) }
     ensures resolved { IfOk result (λ r. count_by (λ r. is_some r.symbol) r.scoping.references ≡ resolved_references (shaken (forest_of program.old))) }
     ensures unchanged { IfErr result (λ _. program.new ≡ program.old) }
 {
     let copy = try_clone(alloc, program)?;
-    let (mut left, iterations) = shake_program(alloc, copy)?;
-    let scoping = build(alloc, &mut left)?;
+    let Shaken {
+        program: left,
+        scoping,
+        iterations,
+    } = shake_program(alloc, copy)?;
     *program = left;
     Ok(MinifierReturn {
         scoping,
@@ -138,6 +143,8 @@ fn minify(
     ensures left { IfOk result (λ _. forest_of program.new ≡ numbered (left_of options.now (forest_of program.old))) }
     ensures iterations { IfOk result (λ r. r.iterations ≡ passes_by options.now (forest_of program.old)) }
     ensures scoping { IfOk result (λ r. r.scoping ≡ table_of (left_of options.now (forest_of program.old))) }
+    ensures left_out { IfOk result (λ r. IsLeftOutBy options.now r.iterations (forest_of program.old) (forest_of program.new)) }
+    ensures clean { IfOk result (λ r. IsCleanBy options.now r.scoping (forest_of program.new)) }
     ensures exact { IfOk result (λ r. Exact r.scoping (forest_of program.new)) }
     ensures matches { IfOk result (λ r. Matches r.scoping (forest_of program.new)) }
     ensures resolved { IfOk result (λ r. count_by (λ r. is_some r.symbol) r.scoping.references ≡ resolved_references (left_of options.now (forest_of program.old))) }
@@ -156,13 +163,15 @@ impl Minifier {
         Minifier { options }
     }
 
-    /// Dead code elimination: what the pass leaves of the program is put in its place, its nodes marked
+    /// Dead code elimination: what the passes leave of the program is put in its place, its nodes marked
     /// with the numbers of their scopes, symbols and references. The program is tested for its limits
     /// first, and then for the rules of form. After an error it is as it was.
     pub fn dce(self, alloc: Global, program: &mut Program) -> Result<MinifierReturn, MinifyError>
         ensures left { IfOk result (λ _. forest_of program.new ≡ numbered (left_of self.options.compress (forest_of program.old))) }
         ensures iterations { IfOk result (λ r. r.iterations ≡ passes_by self.options.compress (forest_of program.old)) }
         ensures scoping { IfOk result (λ r. r.scoping ≡ table_of (left_of self.options.compress (forest_of program.old))) }
+        ensures left_out { IfOk result (λ r. IsLeftOutBy self.options.compress r.iterations (forest_of program.old) (forest_of program.new)) }
+        ensures clean { IfOk result (λ r. IsCleanBy self.options.compress r.scoping (forest_of program.new)) }
         ensures exact { IfOk result (λ r. Exact r.scoping (forest_of program.new)) }
         ensures matches { IfOk result (λ r. Matches r.scoping (forest_of program.new)) }
         ensures resolved { IfOk result (λ r. count_by (λ r. is_some r.symbol) r.scoping.references ≡ resolved_references (left_of self.options.compress (forest_of program.old))) }

@@ -1,2 +1,1 @@
-pub mod Kept
-pub mod Shaken
+pub mod Swept

@@ -1,4 +1,4 @@
-//! What the pass leaves of a tree is a tree of the table again.
+//! What a pass leaves of a tree is a tree of the table again.
 //!
 //! The code is empty: the contracts are laws of `js_pass`'s definition of what is left and `tree_shape`'s
 //! of which trees fit.
@@ -6,4 +6,6 @@
 
 mod law;
 
-pub use law::{shaken_trees_are_exact, shaken_trees_fit};
+pub use law::{
+    cleared_trees_are_exact, cleared_trees_fit, passed_trees_are_exact, passed_trees_fit,
+};

@@ -1,7 +1,7 @@
 -- Marks are not written.
 use Rattle.std.proofs.Common.{◌≡◌, ◌++◌, ◌∙◌, ℕ, List, Option, Some, Ok, true, false, sym, subst, ap, codes}
 use Rattle.js_syntax.specs.Node.{Forest, bare}
-use Rattle.js_pass.specs.Pass.{shaken, passes_of}
+use Rattle.passes.specs.Passes.{shaken, passes_of}
 use Rattle.scope_rules.specs.Binding.{resolved_references}
 use Rattle.scope_laws.proofs.Marking.{bare_marked}
 use Rattle.js_scoping.specs.Build.{numbered}

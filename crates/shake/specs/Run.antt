@@ -9,7 +9,7 @@ use Rattle.tree_shape.specs.Readable.{IsReadable}
 use Rattle.words.specs.Meaning.{command_of}
 use Rattle.words.specs.declared.answer.Command.{Command}
 use Rattle.words.specs.declared.answer.Command.TheVariants.{Dce}
-use Rattle.js_pass.specs.Pass.{shaken, passes_of}
+use Rattle.passes.specs.Passes.{shaken, passes_of, IsShaken}
 use Rattle.scope_rules.specs.Binding.{resolved_references}
 use Rattle.js_form.specs.Form.{IsWellFormed}
 use Rattle.minifier.specs.Limit.{IsWithinLimits, IsTooLarge}
@@ -47,9 +47,10 @@ shaken_output command t = command_output command (shaken t) (passes_of t) (resol
 abbrev pub IsReadBack : Forest → Type 0
 IsReadBack t = IsReadable t → IsReadAs (text_of t) (Ok (bare t))
 
--- the output for a tree that was read went out whole
+-- the output for a tree that was read went out whole: what is left comes from the tree by leaving things out, and nothing is
+-- left that goes
 abbrev pub IsSent : Command → Forest → (written written_now : Option (List ℕ)) → Type 0
-IsSent command t written written_now = IsReadBack (shaken t) × Known (λ w. w ++ shaken_output command t) written written_now
+IsSent command t written written_now = IsReadBack (shaken t) × IsShaken (passes_of t) t (shaken t) × Known (λ w. w ++ shaken_output command t) written written_now
 
 -- a front of it did
 abbrev pub IsFrontSent : Command → Forest → (written written_now : Option (List ℕ)) → Type 0

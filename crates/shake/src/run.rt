@@ -1,7 +1,7 @@
 // The program, over any source and sinks.
 ghost use Rattle.std.specs.Prelude.{◌≡◌, ◌≤◌, ◌⊎◌, ◌++◌, ℕ, IfOk, IfErr, false, true, map, string_bytes};
 ghost use Rattle.js_syntax.specs.Node.{forest_of};
-ghost use Rattle.js_pass.specs.Pass.{shaken};
+ghost use Rattle.passes.specs.Passes.{shaken};
 ghost use Rattle.minifier.specs.Minify.{IsCause};
 ghost use Rattle.shake.specs.Fault.{IsMinifyAnswer, minify_line};
 ghost use Rattle.outside.specs.Moves.{HasFailed, Known, SendsFront};

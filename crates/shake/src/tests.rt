@@ -4,6 +4,7 @@ use std::alloc::Global;
 use std::test::Fail;
 
 mod large;
+mod left;
 mod reading;
 
 // The answer, what was written, and what was said.
@@ -103,7 +104,7 @@ fn counts_references_that_resolve(rt: HostRuntime) -> Result<(), Fail> {
         // (function f(f, b = c) { var c; f; b; c; });
         (
             r#"{"type":"Program","sourceType":"module","body":[{"type":"ExpressionStatement","expression":{"type":"FunctionExpression","id":{"type":"Identifier","name":"f"},"params":[{"type":"Identifier","name":"f"},{"type":"AssignmentPattern","left":{"type":"Identifier","name":"b"},"right":{"type":"Identifier","name":"c"}}],"body":{"type":"BlockStatement","body":[{"type":"VariableDeclaration","kind":"var","declarations":[{"type":"VariableDeclarator","id":{"type":"Identifier","name":"c"},"init":null}]},{"type":"ExpressionStatement","expression":{"type":"Identifier","name":"f"}},{"type":"ExpressionStatement","expression":{"type":"Identifier","name":"b"}},{"type":"ExpressionStatement","expression":{"type":"Identifier","name":"c"}}]},"generator":false,"async":false,"expression":false}}]}"#,
-            "\npasses 0 references 3\n",
+            "\npasses 1 references 0\n",
         ),
     ];
     for (json, line) in cases {

@@ -11,4 +11,4 @@ abbrev pub decreases-any_loses : goal.decreases-any_loses
 decreases-any_loses l = 2 * size_of (row l.children.now) + 1
 
 abbrev pub invariant-any_loses-loop-child : goal.invariant-any_loses-loop-child
-invariant-any_loses-loop-child l = loses (row l.children) ≡ loses (row (drop l.child-index l.children))
+invariant-any_loses-loop-child l = loses l.names l.around (row l.children) ≡ loses l.names l.around (row (drop l.child-index l.children))

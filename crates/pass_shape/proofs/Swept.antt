@@ -1,0 +1,355 @@
+-- What is left of a row stands where the row stood.
+use Rattle.std.proofs.Common.{◌≡◌, inl, inr, Some, List, [], ◌∷◌, Bool, true, false, not, ◌&&◌, ◌||◌, if◌then◌else◌, refl, sym, subst, ap, ◌∙◌}
+use Rattle.js_syntax.specs.Class.{Class, a_prologue, expression, statement, private_key}
+use Rattle.js_syntax.specs.declared.value.Key.{Key}
+use Rattle.js_syntax.specs.declared.value.Key.TheVariants.{Name as key_name, Text as key_text, Number as key_number, Below as key_below}
+use Rattle.js_syntax.specs.declared.node_kind.NodeKind.{NodeKind as Kind}
+use Rattle.js_syntax.specs.declared.node_kind.NodeKind.TheVariants.{Directive as directive, Hole as hole, Statements as statements, Declarators as declarators, VariableDeclaration as variable_declaration, LabeledStatement as labeled_statement, IfStatement as if_statement, Function as function, EmptyStatement as empty_statement}
+use Rattle.js_syntax.specs.declared.kind.FunctionKind.{FunctionKind}
+use Rattle.js_syntax.specs.declared.kind.FunctionKind.TheVariants as function_kind
+use Rattle.js_syntax.specs.Field.{Keys, keeps, checks, a_key, child, maybe, each, each_or_hole, a_body, Field, field}
+use Rattle.js_syntax.specs.Hint.{has, is_private}
+use Rattle.js_syntax.specs.Node.{Note, Forest, nothing, node, absent}
+use Rattle.js_syntax.specs.Table.{Row as TableRow, a_program, an_empty_statement, a_labeled_statement, an_if_statement, a_function_declaration, a_default_function, fields_of, type_of, stands}
+use Rattle.js_syntax.specs.declared.node_type.NodeType.TheVariants as type
+use Rattle.js_pass.specs.declared.around.Around.{Around}
+use Rattle.js_pass.specs.declared.around.Row.{Row}
+use Rattle.js_pass.specs.declared.around.Row.TheVariants.{Items as items, OfItem as of_item, Declarators as item_declarators, Body as part, Other as other}
+use Rattle.js_pass.specs.Around.{row_below, entered}
+use Rattle.js_pass.specs.Pass.{Names, function_goes, goes_in, is_empty_in, goes, empties_as_body, empties_in, empties, unmarked, swept}
+use Rattle.js_pass.proofs.Fewer.{may_go, only_these_go}
+use Rattle.tree_shape.specs.Shape.{Values, kind_in, first_of, Place, one, maybe_one, beyond, key_node, key_apart, key_place, list, list_with_holes, body, item_or_hole, item_of_body, places, Plan, these, all, all_or_holes, all_of_body, first_place, behind, after_body_item, is_directive_kind, IsOf, IsAt, Stand}
+use Rattle.tree_shape.proofs.Booleans.{left_of, right_of}
+use Rattle.tree_shape.proofs.Fitting.{takes_directive, body_of_all}
+use Rattle.tree_shape.proofs.FittingNodes.{are_bodies, bodies_in, none_of}
+
+-- ---- rows that lose nodes
+
+abbrev drops : Row → Bool
+drops items = true
+drops item_declarators = true
+drops row = false
+
+abbrev is_list : Kind → Bool
+is_list statements = true
+is_list declarators = true
+is_list k = false
+
+-- no row of the table makes a list of nodes
+no_list : (r : TableRow) (vs : Values (fields_of r)) → is_list (kind_in r vs) ≡ false
+no_list a_program vs = refl
+no_list r vs = refl
+
+below_drops_not : (row : Row) (k : Kind) → is_list k ≡ false → drops (row_below row k) ≡ false
+below_drops_not row statements h = absurd cc
+below_drops_not items (variable_declaration how) h = refl
+below_drops_not of_item (variable_declaration how) h = refl
+below_drops_not item_declarators (variable_declaration how) h = refl
+below_drops_not part (variable_declaration how) h = refl
+below_drops_not other (variable_declaration how) h = refl
+below_drops_not row declarators h = absurd cc
+below_drops_not row k h = refl
+
+none_goes : (knows : Bool) (row : Row) (names : Names) (w : Bool) (k : Kind) (below : Forest) → drops row ≡ false → (if knows then goes_in row names w k below else is_empty_in row k) ≡ false
+none_goes knows items names w k below h = absurd cc
+none_goes knows item_declarators names w k below h = absurd cc
+none_goes true of_item names w k below h = refl
+none_goes true part names w k below h = refl
+none_goes false part names w k below h = refl
+none_goes true other names w k below h = refl
+none_goes false of_item names w k below h = refl
+none_goes false other names w k below h = refl
+
+-- where one goes
+dropping : (knows : Bool) (row : Row) (names : Names) (w : Bool) (k : Kind) (below : Forest) → (if knows then goes_in row names w k below else is_empty_in row k) ≡ true → drops row ≡ true
+dropping knows items names w k below h = refl
+dropping knows item_declarators names w k below h = refl
+dropping true of_item names w k below h = absurd cc
+dropping true part names w k below h = absurd cc
+dropping false part names w k below h = absurd cc
+dropping true other names w k below h = absurd cc
+dropping false of_item names w k below h = absurd cc
+dropping false other names w k below h = absurd cc
+
+-- ---- rows where functions become empty
+
+abbrev is_part : Row → Bool
+is_part part = true
+is_part row = false
+
+-- the statements that have others as their bodies
+abbrev has_body : Kind → Bool
+has_body (labeled_statement name) = true
+has_body if_statement = true
+has_body k = false
+
+part_of_body : (row : Row) (k : Kind) → is_part (row_below row k) ≡ true → has_body k ≡ true
+part_of_body row (labeled_statement name) h = refl
+part_of_body row if_statement h = refl
+part_of_body items (variable_declaration how) h = absurd cc
+part_of_body of_item (variable_declaration how) h = absurd cc
+part_of_body item_declarators (variable_declaration how) h = absurd cc
+part_of_body part (variable_declaration how) h = absurd cc
+part_of_body other (variable_declaration how) h = absurd cc
+part_of_body items declarators h = absurd cc
+part_of_body of_item declarators h = absurd cc
+part_of_body item_declarators declarators h = absurd cc
+part_of_body part declarators h = absurd cc
+part_of_body other declarators h = absurd cc
+part_of_body row k h = absurd cc
+
+abbrev is_declaration : Kind → Bool
+is_declaration (function function_kind.Declaration pure) = true
+is_declaration k = false
+
+declared_goes : (names : Names) (how : FunctionKind) (pure : Bool) (below : Forest) → function_goes names how below ≡ true → is_declaration (function how pure) ≡ true
+declared_goes names function_kind.Declaration pure below h = refl
+declared_goes names how pure below h = absurd cc
+
+body_declares : (names : Names) (k : Kind) (below : Forest) → empties_as_body names k below ≡ true → is_declaration k ≡ true
+body_declares names (function how pure) below h = declared_goes names how pure below h
+body_declares names k below h = absurd cc
+
+emptying : (knows : Bool) (row : Row) (names : Names) (k : Kind) (below : Forest) → (if knows then empties_in row names k below else false) ≡ true → (is_part row ≡ true) × (is_declaration k ≡ true)
+emptying true part names k below h = (refl, body_declares names k below h)
+emptying true items names k below h = absurd cc
+emptying true of_item names k below h = absurd cc
+emptying true item_declarators names k below h = absurd cc
+emptying true other names k below h = absurd cc
+emptying false row names k below h = absurd cc
+
+public_function : (k : Kind) → is_declaration k ≡ true → is_private k ≡ false
+public_function (function how pure) h = refl
+public_function k h = absurd cc
+
+-- no expression is a function declaration
+no_function : (r : TableRow) (vs : Values (fields_of r)) → stands expression (type_of r) ≡ Some (first_of r) → is_declaration (kind_in r vs) ≡ false
+no_function a_function_declaration vs h = absurd cc
+no_function a_default_function vs h = absurd cc
+no_function r vs h = refl
+
+-- statements and expressions, of which the former may be empty
+abbrev takes_empty : Class → Bool
+takes_empty statement = true
+takes_empty expression = true
+takes_empty c = false
+
+abbrev place_takes : Place → Bool
+place_takes (one c) = takes_empty c
+place_takes (maybe_one c) = takes_empty c
+place_takes p = false
+
+abbrev places_take : List Place → Bool
+places_take [] = true
+places_take (p ∷ ps) = place_takes p && places_take ps
+
+abbrev plan_takes : Plan → Bool
+plan_takes (these ps) = places_take ps
+plan_takes plan = false
+
+parts_take : (r : TableRow) (vs : Values (fields_of r)) (private : Bool) → has_body (kind_in r vs) ≡ true → places_take (places private (fields_of r) vs) ≡ true
+parts_take a_labeled_statement vs private h = refl
+parts_take an_if_statement vs private h = refl
+parts_take r vs private h = absurd cc
+
+-- no list is such a statement
+abbrev are_lists : List Field → Bool
+are_lists [] = true
+are_lists (field name (each kind c) ∷ fs) = not (has_body kind) && are_lists fs
+are_lists (field name (each_or_hole kind c) ∷ fs) = not (has_body kind) && are_lists fs
+are_lists (f ∷ fs) = are_lists fs
+
+lists_in : (r : TableRow) → are_lists (fields_of r) ≡ true
+lists_in a_program = refl
+lists_in r = refl
+
+-- ---- plans whose bodies have statements behind the directives
+
+abbrev is_body : Class → Bool
+is_body c = not (takes_directive (stands c type.ExpressionStatement))
+
+abbrev place_ok : Place → Bool
+place_ok (body c) = is_body c
+place_ok (item_of_body c) = is_body c
+place_ok (list kind c) = not (has_body kind)
+place_ok (list_with_holes kind c) = not (has_body kind)
+place_ok p = true
+
+abbrev places_ok : List Place → Bool
+places_ok [] = true
+places_ok (p ∷ ps) = place_ok p && places_ok ps
+
+abbrev plan_ok : Plan → Bool
+plan_ok (these ps) = places_ok ps
+plan_ok (all_of_body c) = is_body c
+plan_ok plan = true
+
+first_ok : (plan : Plan) → plan_ok plan ≡ true → place_ok (first_place plan) ≡ true
+first_ok (these []) ok = refl
+first_ok (these (p ∷ ps)) ok = left_of _ _ ok
+first_ok (all c) ok = refl
+first_ok (all_or_holes c) ok = refl
+first_ok (all_of_body c) ok = ok
+
+after_ok : (c : Class) (b : Bool) → is_body c ≡ true → plan_ok (after_body_item c b) ≡ true
+after_ok c true ok = ok
+after_ok c false ok = refl
+
+behind_ok : (plan : Plan) (k : Kind) → plan_ok plan ≡ true → plan_ok (behind plan k) ≡ true
+behind_ok (these []) k ok = refl
+behind_ok (these (p ∷ ps)) k ok = right_of _ _ ok
+behind_ok (all c) k ok = refl
+behind_ok (all_or_holes c) k ok = refl
+behind_ok (all_of_body c) k ok = after_ok c (is_directive_kind k) ok
+
+both : (a b : Bool) → a ≡ true → b ≡ true → a && b ≡ true
+both true b h g = g
+both false b h g = h
+
+key_ok : (keys : Keys) (private : Bool) (key : Key) → place_ok (key_place keys private key) ≡ true
+key_ok keys private (key_name s) = refl
+key_ok keys private (key_text s) = refl
+key_ok keys private (key_number n) = refl
+key_ok keys private key_below = refl
+
+fields_ok : (private : Bool) (fs : List Field) (vs : Values fs) → are_bodies fs ≡ true → are_lists fs ≡ true → places_ok (places private fs vs) ≡ true
+fields_ok private [] vs ok lists = refl
+fields_ok private (field name (keeps k) ∷ fs) vs ok lists = fields_ok private fs vs.1 ok lists
+fields_ok private (field name (checks c) ∷ fs) vs ok lists = fields_ok private fs vs ok lists
+fields_ok private (field name (a_key keys) ∷ fs) vs ok lists = both _ _ (key_ok keys private vs.0) (fields_ok private fs vs.1 ok lists)
+fields_ok private (field name (child c) ∷ fs) vs ok lists = fields_ok private fs vs ok lists
+fields_ok private (field name (maybe c) ∷ fs) vs ok lists = fields_ok private fs vs ok lists
+fields_ok private (field name (each kind c) ∷ fs) vs ok lists = both _ _ (left_of _ _ lists) (fields_ok private fs vs ok (right_of _ _ lists))
+fields_ok private (field name (each_or_hole kind c) ∷ fs) vs ok lists = both _ _ (left_of _ _ lists) (fields_ok private fs vs ok (right_of _ _ lists))
+fields_ok private (field name (a_body c) ∷ fs) vs ok lists = both _ _ (left_of _ _ ok) (fields_ok private fs vs (right_of _ _ ok) lists)
+
+-- ---- plans of lists
+
+abbrev of_list : Plan → Bool
+of_list (these ps) = false
+of_list plan = true
+
+-- A row that loses nodes is planned as a list, and one where functions become empty takes empty statements.
+abbrev pub Suits : Row → Plan → Type 0
+Suits row plan = (drops row ≡ true → of_list plan ≡ true) × (is_part row ≡ true → plan_takes plan ≡ true)
+
+after_list : (c : Class) (b : Bool) → of_list (after_body_item c b) ≡ true
+after_list c true = refl
+after_list c false = refl
+
+behind_list : (plan : Plan) (k : Kind) → of_list plan ≡ true → of_list (behind plan k) ≡ true
+behind_list (these []) k h = h
+behind_list (these (p ∷ ps)) k h = absurd cc
+behind_list (all c) k h = refl
+behind_list (all_or_holes c) k h = refl
+behind_list (all_of_body c) k h = after_list c (is_directive_kind k)
+
+behind_takes : (plan : Plan) (k : Kind) → plan_takes plan ≡ true → plan_takes (behind plan k) ≡ true
+behind_takes (these []) k h = refl
+behind_takes (these (p ∷ ps)) k h = right_of _ _ h
+behind_takes (all c) k h = absurd cc
+behind_takes (all_or_holes c) k h = absurd cc
+behind_takes (all_of_body c) k h = absurd cc
+
+behind_suits : (row : Row) (plan : Plan) (k : Kind) → Suits row plan → Suits row (behind plan k)
+behind_suits row plan k suits = ((λ d. behind_list plan k (suits.0 d)), (λ d. behind_takes plan k (suits.1 d)))
+
+no_directive : (k : Kind) → may_go k ≡ true → is_directive_kind k ≡ false
+no_directive (directive written) h = absurd cc
+no_directive k h = refl
+
+not_both : (b : Bool) → b ≡ true → not b ≡ true → ⊥
+not_both true h g = absurd cc
+not_both false h g = absurd cc
+
+-- ---- an empty statement in the place of a function
+
+empty_of : (k : Kind) (below : Forest) (c : Class) → takes_empty c ≡ true → is_declaration k ≡ true → IsOf k below (λ p. Stand p below) c → IsOf empty_statement nothing (λ p. Stand p nothing) c
+empty_of k below statement takes declares of = (an_empty_statement, tt, refl, tt, refl, tt)
+empty_of k below expression takes declares of = absurd (cc (declares, ap is_declaration of.4, no_function of.0 of.1 of.2))
+empty_of k below c takes declares of = absurd cc
+
+empty_at : (k : Kind) (below : Forest) (p : Place) → place_takes p ≡ true → is_declaration k ≡ true → IsAt k below (λ p. Stand p below) p → IsAt empty_statement nothing (λ p. Stand p nothing) p
+empty_at k below (one c) takes declares of = empty_of k below c takes declares of
+empty_at k below (maybe_one c) takes declares of = empty_of k below c takes declares of
+empty_at k below p takes declares at = absurd cc
+
+empty_stands : (k : Kind) (n : Note) (below rest : Forest) (plan : Plan) → plan_takes plan ≡ true → is_declaration k ≡ true → IsAt k below (λ p. Stand p below) (first_place plan) → Stand (behind plan k) rest → Stand plan (node empty_statement n nothing rest)
+empty_stands k n below rest (these []) takes declares at later = absurd at
+empty_stands k n below rest (these (p ∷ ps)) takes declares at later = (empty_at k below p (left_of _ _ takes) declares at, later)
+empty_stands k n below rest plan takes declares at later = absurd cc
+
+module _ (names : Names) where
+  private_step : (e : Bool) (k : Kind) (n : Note) (below_left left rest : Forest) → (e ≡ true → is_private k ≡ false) → has is_private left ≡ has is_private rest
+      → has is_private (if e then node empty_statement (unmarked n) nothing left else node k n below_left left) ≡ is_private k || has is_private rest
+  private_step true k n below_left left rest h same = same ∙ ap (λ (b : Bool). b || has is_private rest) (sym (h refl))
+  private_step false k n below_left left rest h same = ap (λ (b : Bool). is_private k || b) same
+
+  private_left : (a : Around) (t : Forest) → drops a.row ≡ false → has is_private (swept names a t) ≡ has is_private t
+  private_left a nothing h = refl
+  private_left a (absent rest) h = private_left a rest h
+  private_left a (node k n below rest) h =
+      ap (λ (b : Bool). has is_private (if b then swept names a rest else if empties names a k below then node empty_statement (unmarked n) nothing (swept names a rest) else node k n (swept names (entered a k) below) (swept names a rest))) (none_goes a.knows_names a.row names a.in_with k below h)
+      ∙ private_step (empties names a k below) k n (swept names (entered a k) below) (swept names a rest) rest (λ e. public_function k (emptying a.knows_names a.row names k below e).1) (private_left a rest h)
+
+  -- what lies below stands as it stood
+  abbrev pub Stays : Forest → Type 0
+  Stays t = (a : Around) (plan : Plan) → plan_ok plan ≡ true → Suits a.row plan → Stand plan t → Stand plan (swept names a t)
+
+  module _ (a : Around) (k : Kind) (below : Forest) (stays : Stays below) where
+    abbrev left : Forest
+    left = swept names (entered a k) below
+
+    of_left : (c : Class) → IsOf k below (λ p. Stand p below) c → IsOf k left (λ p. Stand p left) c
+    of_left c of =
+        let drops_not = below_drops_not a.row k (ap is_list of.4 ∙ no_list of.0 of.1) in
+        let fs = fields_of of.0 in (
+          of.0,
+          of.1,
+          of.2,
+          of.3,
+          of.4,
+          subst (λ (b : Bool). Stand (these (places b fs of.1)) left) (sym (private_left (entered a k) below drops_not))
+              (stays (entered a k) (these (places (has is_private below) fs of.1)) (fields_ok (has is_private below) fs of.1 (bodies_in of.0) (lists_in of.0))
+              ((λ d. absurd (cc (d, drops_not))), (λ d. parts_take of.0 of.1 (has is_private below) (sym (ap has_body of.4) ∙ part_of_body a.row k d))) of.5),
+        )
+
+    no_part : (kind : Kind) → k ≡ kind → not (has_body kind) ≡ true → is_part (row_below a.row k) ≡ true → ⊥
+    no_part kind same ok d = not_both (has_body kind) (sym (ap has_body same) ∙ part_of_body a.row k d) ok
+
+    at_left : (p : Place) → place_ok p ≡ true → IsAt k below (λ p. Stand p below) p → IsAt k left (λ p. Stand p left) p
+    at_left (one c) ok of = of_left c of
+    at_left (maybe_one c) ok of = of_left c of
+    at_left beyond ok at = absurd at
+    at_left (key_node keys true) ok at = (at.0, of_left private_key at.1)
+    at_left (key_node keys false) ok of = of_left expression of
+    at_left (key_apart may) ok at = absurd at
+    at_left (list kind c) ok at = (at.0, stays (entered a k) (all c) refl ((λ d. refl), (λ d. absurd (no_part kind at.0 ok d))) at.1)
+    at_left (list_with_holes kind c) ok at = (at.0, stays (entered a k) (all_or_holes c) refl ((λ d. refl), (λ d. absurd (no_part kind at.0 ok d))) at.1)
+    at_left (body c) ok at = (at.0, stays (entered a k) (all_of_body c) ok ((λ d. refl), (λ d. absurd (no_part statements at.0 refl d))) at.1)
+    at_left (item_or_hole c) ok (inl at) = inl (at.0, stays (entered a k) (these []) refl ((λ d. absurd (cc (d, below_drops_not a.row k (ap is_list at.0)))), (λ d. refl)) at.1)
+    at_left (item_or_hole c) ok (inr of) = inr (of_left c of)
+    at_left (item_of_body c) ok (inl of) = inl (of_left a_prologue of)
+    at_left (item_of_body c) ok (inr at) = inr (at.0, of_left c at.1)
+
+  -- a node of a list goes: what stands behind it stands in its place
+  gone : (plan : Plan) (k : Kind) (t : Forest) → plan_ok plan ≡ true → of_list plan ≡ true → may_go k ≡ true → Stand (behind plan k) t → Stand plan t
+  gone (these ps) k t ok is may h = absurd cc
+  gone (all c) k t ok is may h = h
+  gone (all_or_holes c) k t ok is may h = h
+  gone (all_of_body c) k t ok is may h = body_of_all c t (none_of _ ok) (subst (λ (d : Bool). Stand (after_body_item c d) t) (no_directive k may) h)
+
+  one_node : (b e : Bool) (a : Around) (k : Kind) (n : Note) (below rest : Forest) (plan : Plan) → goes names a k below ≡ b → empties names a k below ≡ e → plan_ok plan ≡ true → Suits a.row plan → Stays below
+      → IsAt k below (λ p. Stand p below) (first_place plan) → Stand (behind plan k) (swept names a rest)
+      → Stand plan (if b then swept names a rest else if e then node empty_statement (unmarked n) nothing (swept names a rest) else node k n (swept names (entered a k) below) (swept names a rest))
+  one_node true e a k n below rest plan is empty ok suits stays at later = gone plan k (swept names a rest) ok (suits.0 (dropping a.knows_names a.row names a.in_with k below is)) (only_these_go names a k below is) later
+  one_node false true a k n below rest plan is empty ok suits stays at later =
+      let told = emptying a.knows_names a.row names k below empty in
+      empty_stands k (unmarked n) below (swept names a rest) plan (suits.1 told.0) told.1 at later
+  one_node false false a k n below rest plan is empty ok suits stays at later = (at_left a k below stays (first_place plan) (first_ok plan ok) at, later)
+
+  pub swept_stands : (t : Forest) → Stays t
+  swept_stands nothing a plan ok suits h = h
+  swept_stands (node k n below rest) a plan ok suits h =
+      one_node (goes names a k below) (empties names a k below) a k n below rest plan refl refl ok suits (swept_stands below) h.0 (swept_stands rest a (behind plan k) (behind_ok plan k ok) (behind_suits a.row plan k suits) h.1)
+  swept_stands (absent rest) a plan ok suits h = (h.0, swept_stands rest a (behind plan hole) (behind_ok plan hole ok) (behind_suits a.row plan hole suits) h.1)

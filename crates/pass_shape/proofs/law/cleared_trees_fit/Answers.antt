@@ -1,0 +1,10 @@
+use Rattle.std.proofs.Common.{[], ◌∷◌, false, refl}
+use Rattle.js_syntax.specs.Class.{root}
+use Rattle.tree_shape.specs.Shape.{one, these}
+use Rattle.js_pass.specs.Around.{outermost}
+use Rattle.js_pass.specs.Pass.{no_names}
+use Rattle.pass_shape.proofs.Swept.{swept_stands}
+use Rattle.pass_shape.proofs.law.cleared_trees_fit.Goals as goal
+
+pub returns : goal.returns
+returns c = λ t fits. swept_stands no_names t (outermost false) (these (one root ∷ [])) refl ((λ d. absurd (cc d)), (λ d. absurd (cc d))) fits
