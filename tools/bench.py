@@ -1,5 +1,6 @@
 #!/usr/bin/env python3
-"""Times the compiled program beside one that only parses and prints JSON, on 10 MB made here.
+"""Times the compiled program beside one that only parses and prints JSON, on 10 MB made here, and alone on modules of 1, 2, 4
+and 8 thousand groups of declarations that leave in two passes.
 
 Run at the repository's top, after `./shake.sh dce < crates/shake_cli/stdin` and `(cd crates/json_echo && rt run < stdin)`
 have built both programs: python3 tools/bench.py
@@ -46,11 +47,19 @@ def placed(node, at=0):
 
 
 def real_item(number):
-    """function f0(a, b) { const x = a.b.c(d, 1, 'text'); if (x) { g(x, function (e) { return e.h + 1; }); } return x; }"""
+    """export function f0(a, b) { const x = a.b.c(d, 1, 'text'); if (x) { g(x, function (e) { return e.h + 1; }); } return x; }"""
     made = constant(name("x"), call(member(member(name("a"), "b"), "c"), name("d"), literal(1), literal("text")))
     inner = function("FunctionExpression", None, [name("e")], returned({"type": "BinaryExpression", "operator": "+", "left": member(name("e"), "h"), "right": literal(1)}))
     branch = {"type": "IfStatement", "test": name("x"), "consequent": block(statement(call(name("g"), name("x"), inner))), "alternate": None}
-    return json.dumps(placed(function("FunctionDeclaration", name("f%d" % number), [name("a"), name("b")], made, branch, returned(name("x")))), separators=(",", ":"))
+    declared = function("FunctionDeclaration", name("f%d" % number), [name("a"), name("b")], made, branch, returned(name("x")))
+    return json.dumps(placed({"type": "ExportNamedDeclaration", "declaration": declared, "specifiers": [], "source": None}), separators=(",", ":"))
+
+
+def group(number):
+    """function f0() {} let a0 = 1; let b0 = a0; use(x);"""
+    def declares(id, init): return {"type": "VariableDeclaration", "kind": "let", "declarations": [{"type": "VariableDeclarator", "id": name(id), "init": init}]}
+    items = [function("FunctionDeclaration", name("f%d" % number), []), declares("a%d" % number, literal(1)), declares("b%d" % number, name("a%d" % number)), statement(call(name("use"), name("x")))]
+    return ",".join(json.dumps(item, separators=(",", ":")) for item in items)
 
 
 def inputs(size):
@@ -88,6 +97,13 @@ def main():
             seconds = min(r[0] for r in runs)
             peak = max(r[1] for r in runs)
             print(f"  {label:10} {len(data) / seconds / 1e6:7.0f} MB/s {seconds * 1000:6.0f} ms {peak / len(data):5.1f} bytes of memory a byte")
+    before = None
+    for thousands in (1, 2, 4, 8):
+        with open("/tmp/diwagbo_bench.json", "w") as file:
+            file.write(program([group(number) for number in range(thousands * 1000)]))
+        seconds = min(run(PROGRAMS[0][1], None)[0] for _ in range(15))
+        print(f"{thousands},000 groups: {seconds * 1000:.1f} ms" + (f", {seconds / before:.2f} times as much" if before else ""))
+        before = seconds
     os.remove("/tmp/diwagbo_bench.json")
 
 
