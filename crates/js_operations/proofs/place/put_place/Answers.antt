@@ -1,0 +1,10 @@
+use Rattle.js_meaning.specs.Reference.{put_place}
+use Rattle.js_value.specs.View.{value_of}
+use Rattle.js_world.specs.World.{place_of}
+use Rattle.js_plan.specs.Frame.{plans}
+use Rattle.js_plan.proofs.Law.{goes_on}
+use Rattle.js_operations.proofs.place.put_place.Goals as goal
+
+pub returns-clause-follows : goal.returns-clause-follows
+returns-clause-follows c =
+    λ E k. goes_on c.args.world.now c.put.new.world (put_place E (place_of c.args.place) (value_of c.args.value)) (plans E c.in_ok-plan.plan) k (c.in_ok-plan.ensures.does E)
