@@ -1,0 +1,15 @@
+pub mod Worlds
+pub mod Relations
+pub mod Acts
+pub mod Showing
+pub mod Scopes
+pub mod Operators
+pub mod Rows
+pub mod Hosted
+pub mod Alone
+pub mod Nodes
+pub mod Contexts
+pub mod Fit
+pub mod Once
+pub mod Avoid
+pub mod Instances
