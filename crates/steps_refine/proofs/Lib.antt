@@ -1,0 +1,13 @@
+pub mod Silent
+pub mod Calm
+pub mod Lists
+pub mod Names
+pub mod Scopes
+pub mod Refine
+pub mod Exports
+pub mod Modules
+pub mod Avoids
+pub mod Once
+pub mod Shown
+pub mod Formed
+pub mod Whole

@@ -1,0 +1,4 @@
+pub mod Formed
+pub mod Drop
+pub mod Tidy
+pub mod Once
