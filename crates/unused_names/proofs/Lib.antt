@@ -1,0 +1,10 @@
+pub mod Lists
+pub mod Taking
+pub mod Meeting
+pub mod Seeing
+pub mod Sites
+pub mod Agreeing
+pub mod Referring
+pub mod Exporting
+pub mod Standing
+pub mod Unused

@@ -1,0 +1,4 @@
+pub mod Placed
+pub mod Agreeing
+pub mod Standing
+pub mod Rows
