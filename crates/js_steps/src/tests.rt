@@ -9,6 +9,10 @@ fn ident(alloc: Global, name: &str) -> Result<Ident, AllocError> {
     Ok(Ident::new(String::from_str(alloc, name)?))
 }
 
+fn leaf(alloc: Global, kind: NodeKind) -> Node {
+    Node::new(kind, SPAN, Vec::new(alloc))
+}
+
 fn above(alloc: Global, kind: NodeKind, child: Node) -> Result<Node, AllocError> {
     let mut children = Vec::new(alloc);
     children.push(Some(child))?;
@@ -17,8 +21,46 @@ fn above(alloc: Global, kind: NodeKind, child: Node) -> Result<Node, AllocError>
 
 // A reference to this name.
 fn reads(alloc: Global, name: &str) -> Result<Node, AllocError> {
-    let kind = NodeKind::ReferenceName(ident(alloc, name)?);
-    Ok(Node::new(kind, SPAN, Vec::new(alloc)))
+    let name = ident(alloc, name)?;
+    Ok(leaf(alloc, NodeKind::ReferenceName(name)))
+}
+
+fn call_of(alloc: Global, name: &str) -> Result<Node, AllocError> {
+    let callee = reads(alloc, name)?;
+    let kind = NodeKind::CallExpression {
+        optional: false,
+        pure: false,
+    };
+    above(alloc, kind, callee)
+}
+
+fn arrow_of(alloc: Global, name: &str) -> Result<Node, AllocError> {
+    let body = reads(alloc, name)?;
+    let kind = NodeKind::Function {
+        kind: FunctionKind::Arrow,
+        no_side_effects: false,
+    };
+    above(alloc, kind, body)
+}
+
+fn both(alloc: Global, first: Node, second: Node) -> Result<Vec<Option<Node>>, AllocError> {
+    let mut children = Vec::new(alloc);
+    children.push(Some(first))?;
+    children.push(Some(second))?;
+    Ok(children)
+}
+
+// A catch clause that declares one name and reads another.
+fn clause_of(alloc: Global, declared: &str, read: &str) -> Result<Node, AllocError> {
+    let declared = ident(alloc, declared)?;
+    let declared = leaf(alloc, NodeKind::BindingName(declared));
+    let read = reads(alloc, read)?;
+    let children = both(alloc, declared, read)?;
+    Ok(Node::new(NodeKind::CatchClause, SPAN, children))
+}
+
+fn refers_in(alloc: Global, name: &str, node: Node) -> Result<bool, AllocError> {
+    refers(alloc, name, &node)
 }
 
 #[test]
@@ -31,45 +73,46 @@ fn a_declared_name_does_nothing(rt: HostRuntime) -> Result<(), Fail> {
 
 #[test]
 fn a_call_may_act(rt: HostRuntime) -> Result<(), Fail> {
-    let alloc = rt.alloc();
-    let kind = NodeKind::CallExpression {
-        optional: false,
-        pure: false,
-    };
-    let call = above(alloc, kind, reads(alloc, "a")?)?;
+    let call = call_of(rt.alloc(), "a")?;
     assert!(rt; may_act(&["a"], &call));
-    let literal = Node::new(NodeKind::Literal(LiteralValue::Null), SPAN, Vec::new(alloc));
+    Ok(())
+}
+
+#[test]
+fn a_literal_may_not_act(rt: HostRuntime) -> Result<(), Fail> {
+    let literal = leaf(rt.alloc(), NodeKind::Literal(LiteralValue::Null));
     assert!(rt; !may_act(&[], &literal));
     Ok(())
 }
 
 #[test]
 fn what_a_function_reads_is_referred_to(rt: HostRuntime) -> Result<(), Fail> {
-    let alloc = rt.alloc();
-    let kind = NodeKind::Function {
-        kind: FunctionKind::Arrow,
-        no_side_effects: false,
-    };
-    let arrow = above(alloc, kind, reads(alloc, "a")?)?;
-    assert!(rt; refers(alloc, "a", &arrow)?);
-    assert!(rt; !refers(alloc, "b", &arrow)?);
+    let arrow = arrow_of(rt.alloc(), "a")?;
+    let refers = refers_in(rt.alloc(), "a", arrow)?;
+    assert!(rt; refers);
+    Ok(())
+}
+
+#[test]
+fn what_nothing_reads_is_not_referred_to(rt: HostRuntime) -> Result<(), Fail> {
+    let arrow = arrow_of(rt.alloc(), "a")?;
+    let refers = refers_in(rt.alloc(), "b", arrow)?;
+    assert!(rt; !refers);
     Ok(())
 }
 
 #[test]
 fn a_name_that_is_declared_again_is_another(rt: HostRuntime) -> Result<(), Fail> {
-    let alloc = rt.alloc();
-    let name = Node::new(
-        NodeKind::BindingName(ident(alloc, "a")?),
-        SPAN,
-        Vec::new(alloc),
-    );
-    let mut children = Vec::new(alloc);
-    children.push(Some(name))?;
-    children.push(Some(reads(alloc, "a")?))?;
-    children.push(Some(reads(alloc, "b")?))?;
-    let clause = Node::new(NodeKind::CatchClause, SPAN, children);
-    assert!(rt; !refers(alloc, "a", &clause)?);
-    assert!(rt; refers(alloc, "b", &clause)?);
+    let clause = clause_of(rt.alloc(), "a", "a")?;
+    let refers = refers_in(rt.alloc(), "a", clause)?;
+    assert!(rt; !refers);
+    Ok(())
+}
+
+#[test]
+fn a_name_that_is_not_declared_again_is_the_same(rt: HostRuntime) -> Result<(), Fail> {
+    let clause = clause_of(rt.alloc(), "a", "b")?;
+    let refers = refers_in(rt.alloc(), "b", clause)?;
+    assert!(rt; refers);
     Ok(())
 }
