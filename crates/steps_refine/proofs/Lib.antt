@@ -11,3 +11,4 @@ pub mod Once
 pub mod Shown
 pub mod Formed
 pub mod Whole
+pub mod Many

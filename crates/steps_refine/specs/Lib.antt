@@ -2,3 +2,4 @@ pub mod Formed
 pub mod Drop
 pub mod Tidy
 pub mod Once
+pub mod Many

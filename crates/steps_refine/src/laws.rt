@@ -7,6 +7,7 @@ ghost use Rattle.js_near.specs.Fit.{whole};
 ghost use Rattle.js_near.specs.Avoid.{InPlace};
 ghost use Rattle.js_steps.specs.Steps.{Step, outermost, all_core};
 ghost use Rattle.steps_refine.specs.Formed.{is_formed};
+ghost use Rattle.steps_refine.specs.Many.{CoreSteps};
 ghost use Rattle.steps_refine.specs.Once.{Once};
 ghost use Rattle.steps_refine.specs.Tidy.{Tidy};
 
@@ -31,6 +32,12 @@ pub fn a_step_of_a_core_module_keeps_runs()
         is_formed (module_of n m a) ≡ true → all_core a ≡ true → InPlace whole fields (module_of n m a) → Once s → Kept (module_of n m a) u }
     ensures back { (n m : Note) (a u : Forest) (s : Step outermost (module_of n m a) u) →
         is_formed (module_of n m a) ≡ true → all_core a ≡ true → InPlace whole fields (module_of n m a) → Once s → KeptBack (module_of n m a) u }
+{}
+
+/// So do steps one after the other.
+pub fn steps_of_a_core_module_refine()
+    ensures { (n m : Note) (a u : Forest) → CoreSteps (module_of n m a) u →
+        is_formed (module_of n m a) ≡ true → all_core a ≡ true → InPlace whole fields (module_of n m a) → Refined (module_of n m a) u }
 {}
 
 /// A step of a formed tree leaves a formed tree.
