@@ -1,8 +1,8 @@
 -- Steps of a core module, one after the other.
-use Rattle.std.proofs.Common.{◌≡◌, Bool, true}
+use Rattle.std.proofs.Common.{◌≡◌, true}
 use Rattle.js_syntax.specs.declared.node_kind.NodeKind.{NodeKind as Kind}
 use Rattle.js_syntax.specs.declared.scalar.SourceType.TheVariants as source_type
-use Rattle.js_syntax.specs.Node.{Forest, nothing, node, absent, Note, alone}
+use Rattle.js_syntax.specs.Node.{Forest, nothing, Note, alone}
 use Rattle.js_meaning.specs.Kept.{Refined}
 use Rattle.js_meaning.proofs.Kept.{refined_same, refined_joined}
 use Rattle.js_near.specs.Near.{fields, module_of}
@@ -14,11 +14,8 @@ use Rattle.steps_refine.specs.Formed.{is_formed}
 use Rattle.steps_refine.specs.Once.{Once}
 use Rattle.steps_refine.specs.Many.{CoreSteps, no_step, one_step}
 use Rattle.steps_refine.proofs.Formed.{formed_step}
-use Rattle.steps_refine.proofs.Modules.{place_step}
+use Rattle.steps_refine.proofs.Modules.{place_step, nothing_stays}
 use Rattle.steps_refine.proofs.Whole.{module_once}
-
-nothing_steps : {w : Around} {u : Forest} → Step w nothing u → ⊥
-nothing_steps s = elim s [ ]
 
 -- a core module that is formed
 data IsModule (n m : Note) : Forest → Type 0 where
@@ -32,11 +29,11 @@ list_after : (n m : Note) (a b : Forest) (s : Step (in_program m a) (alone Kind.
 list_after n m a _ (inside {b = b} s) f c i =
     let z : Step outermost (module_of n m a) (module_of n m b) = inside {w = outermost} {k = Kind.Program source_type.Module} {n = n} {r = nothing} (inside {w = in_program m a} {k = Kind.Statements} {n = m} {r = nothing} s) in
     is_module (formed_step z f) (step_core s c) (place_step whole fields z i)
-list_after n m a _ (behind_node s) f c i = absurd (nothing_steps s)
+list_after n m a _ (behind_node s) f c i = absurd (nothing_stays s)
 
 module_after : (n m : Note) (a u : Forest) (s : Step outermost (module_of n m a) u) → is_formed (module_of n m a) ≡ true → all_core a ≡ true → InPlace whole fields (module_of n m a) → IsModule n m u
 module_after n m a _ (inside {b = b} s) f c i = list_after n m a b s f c i
-module_after n m a _ (behind_node s) f c i = absurd (nothing_steps s)
+module_after n m a _ (behind_node s) f c i = absurd (nothing_stays s)
 
 after : (n m : Note) (t u : Forest) → IsModule n m t → Step outermost t u → IsModule n m u
 after n m _ u (is_module {a = a} f c i) s = module_after n m a u s f c i

@@ -118,7 +118,7 @@ place_step others p (behind_absent s) i = place_step whole p s i
 
 -- a step of a whole module
 
-nothing_stays : {w : Around} {u : Forest} → Step w nothing u → ⊥
+pub nothing_stays : {w : Around} {u : Forest} → Step w nothing u → ⊥
 nothing_stays s = elim s [ ]
 
 clear_if : (d : Drop) (m : Note) (b : Forest) → TidyAt (Kind.Program source_type.Module) (alone Kind.Statements m b) d → ClearIf d b

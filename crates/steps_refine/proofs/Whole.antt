@@ -19,12 +19,9 @@ use Rattle.steps_refine.specs.Tidy.{TidyAt, Tidy}
 use Rattle.steps_refine.specs.Once.{OnceIn, Once}
 use Rattle.steps_refine.proofs.Calm.{form_holds, form_below}
 use Rattle.steps_refine.proofs.Formed.{formed_step}
-use Rattle.steps_refine.proofs.Modules.{place_step, module_step}
+use Rattle.steps_refine.proofs.Modules.{place_step, nothing_stays, module_step}
 use Rattle.steps_refine.proofs.Once.{scope_free, name_free, refers_step, scope_block, scope_function, clear_row, once_tidy}
 use Rattle.steps_refine.proofs.Shown.{exports_avoid}
-
-nothing_steps : {w : Around} {u : Forest} → Step w nothing u → ⊥
-nothing_steps s = elim s [ ]
 
 -- around the statements of a module
 abbrev at_top : Note → Forest → Around
@@ -55,11 +52,11 @@ list_tidy n m a _ (inside {b = b} s) f c i o z =
       top_tidy m a b s (dropped s) refl h k l j o,
       (tt, once_tidy whole near.items s Kind.Statements (form_holds Kind.Statements a nothing g) h l (step_core s c) tt j z.1),
     )
-list_tidy n m a _ (behind_node s) f c i o z = absurd (nothing_steps s)
+list_tidy n m a _ (behind_node s) f c i o z = absurd (nothing_stays s)
 
 module_tidy : (n m : Note) (a u : Forest) (s : Step outermost (module_of n m a) u) → is_formed (module_of n m a) ≡ true → all_core a ≡ true → InPlace whole fields (module_of n m a) → Once s → Tidy s
 module_tidy n m a _ (inside {b = b} s) f c i o = list_tidy n m a b s f c i o.0 o.1
-module_tidy n m a _ (behind_node s) f c i o = absurd (nothing_steps s)
+module_tidy n m a _ (behind_node s) f c i o = absurd (nothing_stays s)
 
 pub module_once : (n m : Note) (a u : Forest) (s : Step outermost (module_of n m a) u) → is_formed (module_of n m a) ≡ true → all_core a ≡ true → InPlace whole fields (module_of n m a) → Once s → Refined (module_of n m a) u
 module_once n m a u s f c i o = module_step n m a u s f i (module_tidy n m a u s f c i o)
