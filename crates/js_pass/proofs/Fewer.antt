@@ -1,16 +1,15 @@
--- Where something goes, less is left, if each node that may go weighs something.
-use Rattle.std.proofs.Common.{◌≡◌, ℕ, ◌≤◌, ◌<◌, List, Bool, true, false, ◌||◌, if◌then◌else◌, refl, arith}
+-- Where something goes or becomes empty, less is left, if each node that may go weighs something, and an expression
+-- statement more than an empty one.
+use Rattle.std.proofs.Common.{◌≡◌, ℕ, ◌≤◌, ◌<◌, Bool, true, false, ◌||◌, if◌then◌else◌, refl, ap, arith}
 use Rattle.js_syntax.specs.declared.node_kind.NodeKind.{NodeKind as Kind}
-use Rattle.js_syntax.specs.declared.node_kind.NodeKind.TheVariants.{EmptyStatement as empty_statement, ExpressionStatement as expression_statement, Function as function, VariableDeclaration as variable_declaration, VariableDeclarator as variable_declarator, BindingName as binding_name}
-use Rattle.js_syntax.specs.declared.kind.FunctionKind.{FunctionKind}
-use Rattle.js_syntax.specs.declared.kind.FunctionKind.TheVariants as function_kind
+use Rattle.js_syntax.specs.declared.node_kind.NodeKind.TheVariants.{EmptyStatement as empty_statement, ExpressionStatement as expression_statement, Function as function, VariableDeclaration as variable_declaration, VariableDeclarator as variable_declarator}
 use Rattle.js_syntax.specs.Node.{Note, Forest, nothing, node, absent, total}
 use Rattle.js_pass.specs.declared.around.Around.{Around}
 use Rattle.js_pass.specs.declared.around.Row.{Row}
-use Rattle.js_pass.specs.declared.around.Row.TheVariants.{Items as items, OfItem as of_item, Declarators as item_declarators, Body as body, Other as other}
+use Rattle.js_pass.specs.declared.around.Row.TheVariants.{Items as items, OfItem as of_item, Declarators as item_declarators, Other as other}
 use Rattle.js_pass.specs.Around.{entered}
-use Rattle.js_pass.specs.Pass.{Names, named_goes, function_goes, goes_as_item, goes_as_declarator, goes_in, is_empty_in, empties_as_body, empties_in, goes, empties, unmarked, swept, loses}
-use Rattle.js_pass.proofs.Lighter.{swept_lighter}
+use Rattle.js_pass.specs.Pass.{Names, goes_as_item, goes_as_declarator, goes_in, is_empty_in, goes, empties, unmarked, swept, loses}
+use Rattle.js_pass.proofs.Lighter.{only_these_empty, swept_lighter}
 
 -- the kinds of nodes that may go
 abbrev pub may_go : Kind → Bool
@@ -36,7 +35,6 @@ in_may : (row : Row) (names : Names) (w : Bool) (k : Kind) (below : Forest) → 
 in_may items names w k below h = item_may names w k below h
 in_may item_declarators names w k below h = declarator_may names w k below h
 in_may of_item names w k below h = absurd cc
-in_may body names w k below h = absurd cc
 in_may other names w k below h = absurd cc
 
 item_empty : (k : Kind) → is_empty_in items k ≡ true → may_go k ≡ true
@@ -47,7 +45,6 @@ empty_may : (row : Row) (k : Kind) → is_empty_in row k ≡ true → may_go k �
 empty_may items k h = item_empty k h
 empty_may item_declarators k h = absurd cc
 empty_may of_item k h = absurd cc
-empty_may body k h = absurd cc
 empty_may other k h = absurd cc
 
 either_may : (knows : Bool) (row : Row) (names : Names) (w : Bool) (k : Kind) (below : Forest) → (if knows then goes_in row names w k below else is_empty_in row k) ≡ true → may_go k ≡ true
@@ -57,39 +54,16 @@ either_may false row names w k below h = empty_may row k h
 pub only_these_go : (names : Names) (a : Around) (k : Kind) (below : Forest) → goes names a k below ≡ true → may_go k ≡ true
 only_these_go names a k below h = either_may a.knows_names a.row names a.in_with k below h
 
-module _ (weight : Kind → ℕ) (light : (how : FunctionKind) (pure : Bool) → weight empty_statement ≤ weight (function how pure)) (counts : (k : Kind) → may_go k ≡ true → 1 ≤ weight k) (named : (x : List ℕ) → 1 ≤ weight (binding_name x)) (names : Names) where
-  -- a function that becomes empty loses its name
-  name_weighs : (marks : List Bool) (below : Forest) → named_goes marks below ≡ true → 1 ≤ total weight below
-  name_weighs marks nothing h = absurd cc
-  name_weighs marks (absent rest) h = absurd cc
-  name_weighs marks (node (binding_name x) n below rest) h = Prim.omega (arith, named x)
-  name_weighs marks (node k n below rest) h = absurd cc
-
-  function_weighs : (how : FunctionKind) (below : Forest) → function_goes names how below ≡ true → 1 ≤ total weight below
-  function_weighs function_kind.Declaration below h = name_weighs names.functions below h
-  function_weighs how below h = absurd cc
-
-  body_fewer : (k : Kind) (n : Note) (below : Forest) → empties_as_body names k below ≡ true → weight empty_statement < total weight (node k n below nothing)
-  body_fewer (function how pure) n below h = Prim.omega (arith, light how pure, function_weighs how below h)
-  body_fewer k n below h = absurd cc
-
-  row_fewer : (row : Row) (k : Kind) (n : Note) (below : Forest) → empties_in row names k below ≡ true → weight empty_statement < total weight (node k n below nothing)
-  row_fewer body k n below h = body_fewer k n below h
-  row_fewer items k n below h = absurd cc
-  row_fewer of_item k n below h = absurd cc
-  row_fewer item_declarators k n below h = absurd cc
-  row_fewer other k n below h = absurd cc
-
-  either_fewer : (knows : Bool) (row : Row) (k : Kind) (n : Note) (below : Forest) → (if knows then empties_in row names k below else false) ≡ true → weight empty_statement < total weight (node k n below nothing)
-  either_fewer true row k n below h = row_fewer row k n below h
-  either_fewer false row k n below h = absurd cc
+module _ (weight : Kind → ℕ) (light : weight empty_statement < weight expression_statement) (counts : (k : Kind) → may_go k ≡ true → 1 ≤ weight k) (names : Names) where
+  no_heavier : weight empty_statement ≤ weight expression_statement
+  no_heavier = Prim.omega (arith, light)
 
   -- one goes here, or becomes empty, or one goes below, or later
-  fewer : (b e inside later : Bool) (k : Kind) (n : Note) (below rest below_left left : Forest) → (b ≡ true → 1 ≤ weight k) → (e ≡ true → weight empty_statement < total weight (node k n below nothing))
+  fewer : (b e inside later : Bool) (k : Kind) (n : Note) (below rest below_left left : Forest) → (b ≡ true → 1 ≤ weight k) → (e ≡ true → k ≡ expression_statement)
       → total weight below_left ≤ total weight below → total weight left ≤ total weight rest → (inside ≡ true → total weight below_left < total weight below) → (later ≡ true → total weight left < total weight rest)
       → ((b || e) || inside) || later ≡ true → total weight (if b then left else if e then node empty_statement (unmarked n) nothing left else node k n below_left left) < total weight (node k n below rest)
   fewer true e inside later k n below rest below_left left here empty no_more nor_more less_inside less_later h = Prim.omega (arith, here refl, no_more, nor_more)
-  fewer false true inside later k n below rest below_left left here empty no_more nor_more less_inside less_later h = Prim.omega (arith, empty refl, nor_more)
+  fewer false true inside later k n below rest below_left left here empty no_more nor_more less_inside less_later h = Prim.omega (arith, light, ap weight (empty refl), nor_more)
   fewer false false true later k n below rest below_left left here empty no_more nor_more less_inside less_later h = Prim.omega (arith, less_inside refl, nor_more)
   fewer false false false true k n below rest below_left left here empty no_more nor_more less_inside less_later h = Prim.omega (arith, less_later refl, no_more)
   fewer false false false false k n below rest below_left left here empty no_more nor_more less_inside less_later h = absurd cc
@@ -99,5 +73,5 @@ module _ (weight : Kind → ℕ) (light : (how : FunctionKind) (pure : Bool) →
   less_left a (absent rest) h = less_left a rest h
   less_left a (node k n below rest) h =
       fewer (goes names a k below) (empties names a k below) (loses names (entered a k) below) (loses names a rest) k n below rest (swept names (entered a k) below) (swept names a rest)
-      (λ it. counts k (only_these_go names a k below it)) (either_fewer a.knows_names a.row k n below) (swept_lighter weight light names (entered a k) below) (swept_lighter weight light names a rest)
+      (λ it. counts k (only_these_go names a k below it)) (only_these_empty names a k below) (swept_lighter weight no_heavier names (entered a k) below) (swept_lighter weight no_heavier names a rest)
       (less_left (entered a k) below) (less_left a rest) h

@@ -3,4 +3,3 @@ pub mod Steps
 pub mod Lighter
 pub mod Unchanged
 pub mod Fewer
-pub mod Leaving

@@ -1,19 +1,16 @@
 -- What a pass asks of the place where a node stands.
 use Rattle.std.specs.Prelude.{Bool, true, false, ◌||◌}
 use Rattle.js_syntax.specs.declared.node_kind.NodeKind.{NodeKind as Kind}
-use Rattle.js_syntax.specs.declared.node_kind.NodeKind.TheVariants.{Statements as statements, VariableDeclaration as variable_declaration, Declarators as declarators, WithStatement as with_statement, LabeledStatement as labeled_statement, IfStatement as if_statement}
+use Rattle.js_syntax.specs.declared.node_kind.NodeKind.TheVariants.{Statements as statements, VariableDeclaration as variable_declaration, Declarators as declarators, WithStatement as with_statement}
 use Rattle.js_pass.specs.declared.around.Around.{Around}
 use Rattle.js_pass.specs.declared.around.Row.{Row}
-use Rattle.js_pass.specs.declared.around.Row.TheVariants.{Items as items, OfItem as of_item, Declarators as item_declarators, Body as body, Other as other}
+use Rattle.js_pass.specs.declared.around.Row.TheVariants.{Items as items, OfItem as of_item, Declarators as item_declarators, Other as other}
 
--- The row below a node: a list of statements, the declarators of a declaration that is an item of one, or a statement that
--- is alone the body of another, which may be a function in trees that break a rule of form (ECMA-262 B.3.1, B.3.3).
+-- The row below a node: a list of statements, or the declarators of a declaration that is an item of one.
 abbrev pub row_below : Row → Kind → Row
 row_below row statements = items
 row_below items (variable_declaration how) = of_item
 row_below of_item declarators = item_declarators
-row_below row (labeled_statement name) = body
-row_below row if_statement = body
 row_below row k = other
 
 abbrev pub is_with : Kind → Bool

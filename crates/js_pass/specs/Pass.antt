@@ -8,7 +8,7 @@ use Rattle.js_syntax.specs.Node.{Forest, nothing, node, absent, Note}
 use Rattle.silence.specs.Silence.{is_marked, may_have_effects}
 use Rattle.js_pass.specs.declared.around.Around.{Around}
 use Rattle.js_pass.specs.declared.around.Row.{Row}
-use Rattle.js_pass.specs.declared.around.Row.TheVariants.{Items as items, Declarators as item_declarators, Body as body}
+use Rattle.js_pass.specs.declared.around.Row.TheVariants.{Items as items, Declarators as item_declarators}
 use Rattle.js_pass.specs.Around.{entered, outermost}
 
 -- What is known of the names of a tree, by the numbers that its nodes are marked with: of each reference, whether it has
@@ -58,10 +58,15 @@ abbrev pub function_goes : Names → FunctionKind → (below : Forest) → Bool
 function_goes names function_kind.Declaration below = named_goes names.functions below
 function_goes names how below = false
 
--- An item of a list of statements that does nothing: a directive is none.
+-- a statement of a silent expression: a directive is none
+abbrev pub is_silent_statement : Names → (in_with : Bool) → Kind → (below : Forest) → Bool
+is_silent_statement names in_with expression_statement below = not (may_have_effects names.bound in_with below)
+is_silent_statement names in_with k below = false
+
+-- An item of a list of statements that does nothing.
 abbrev pub goes_as_item : Names → (in_with : Bool) → Kind → (below : Forest) → Bool
 goes_as_item names in_with empty_statement below = true
-goes_as_item names in_with expression_statement below = not (may_have_effects names.bound in_with below)
+goes_as_item names in_with expression_statement below = is_silent_statement names in_with expression_statement below
 goes_as_item names in_with (function how pure) below = function_goes names how below
 goes_as_item names in_with (variable_declaration how) below = declaration_goes names in_with below
 goes_as_item names in_with k below = false
@@ -79,17 +84,13 @@ is_empty_in row k = false
 abbrev pub goes : Names → Around → Kind → (below : Forest) → Bool
 goes names a k below = if a.knows_names then goes_in a.row names a.in_with k below else is_empty_in a.row k
 
--- A function that goes where it is the body of another statement becomes an empty statement.
-abbrev pub empties_as_body : Names → Kind → (below : Forest) → Bool
-empties_as_body names (function how pure) below = function_goes names how below
-empties_as_body names k below = false
-
-abbrev pub empties_in : Row → Names → Kind → (below : Forest) → Bool
-empties_in body names k below = empties_as_body names k below
-empties_in row names k below = false
+-- A silent expression statement that is no item of a list, from which it would go, becomes an empty statement.
+abbrev pub empties_in : Row → Names → (in_with : Bool) → Kind → (below : Forest) → Bool
+empties_in items names in_with k below = false
+empties_in row names in_with k below = is_silent_statement names in_with k below
 
 abbrev pub empties : Names → Around → Kind → (below : Forest) → Bool
-empties names a k below = if a.knows_names then empties_in a.row names k below else false
+empties names a k below = if a.knows_names then empties_in a.row names a.in_with k below else false
 
 abbrev pub unmarked : Note → Note
 unmarked n = record { span = n.span; id = None }

@@ -94,7 +94,11 @@ fn sweep_program(
     ensures { IfOk result (λ p. forest_of p ≡ swept names.now (outermost knows_names) (forest_of program)) }
 {
     let around = Around::outermost(knows_names);
-    let left = sweep_node(alloc, names, around, program.into_root())?;
+    let root = program.into_root();
+    if empties(names, around, &root) {
+        return Ok(Program::new(emptied(alloc, root)));
+    }
+    let left = sweep_node(alloc, names, around, root)?;
     Ok(Program::new(left))
 }
 
@@ -106,7 +110,7 @@ pub fn run_pass(alloc: Global, names: &Names, program: Program) -> Result<Progra
     sweep_program(alloc, names, true, program)
 }
 
-/// Whether something goes.
+/// Whether something goes, or becomes empty.
 pub fn changes(names: &Names, program: &Program) -> bool
     ensures answer { result ≡ pass.changes names.now (forest_of program.now) }
 {

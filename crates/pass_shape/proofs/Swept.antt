@@ -1,22 +1,21 @@
 -- What is left of a row stands where the row stood.
 use Rattle.std.proofs.Common.{◌≡◌, inl, inr, Some, List, [], ◌∷◌, Bool, true, false, not, ◌&&◌, ◌||◌, if◌then◌else◌, refl, sym, subst, ap, ◌∙◌}
-use Rattle.js_syntax.specs.Class.{Class, a_prologue, expression, statement, private_key}
+use Rattle.js_syntax.specs.Class.{Class, a_prologue, module_item, expression, statement, private_key}
 use Rattle.js_syntax.specs.declared.value.Key.{Key}
 use Rattle.js_syntax.specs.declared.value.Key.TheVariants.{Name as key_name, Text as key_text, Number as key_number, Below as key_below}
 use Rattle.js_syntax.specs.declared.node_kind.NodeKind.{NodeKind as Kind}
-use Rattle.js_syntax.specs.declared.node_kind.NodeKind.TheVariants.{Directive as directive, Hole as hole, Statements as statements, Declarators as declarators, VariableDeclaration as variable_declaration, LabeledStatement as labeled_statement, IfStatement as if_statement, Function as function, EmptyStatement as empty_statement}
-use Rattle.js_syntax.specs.declared.kind.FunctionKind.{FunctionKind}
-use Rattle.js_syntax.specs.declared.kind.FunctionKind.TheVariants as function_kind
+use Rattle.js_syntax.specs.declared.node_kind.NodeKind.TheVariants.{Directive as directive, Hole as hole, Statements as statements, Declarators as declarators, VariableDeclaration as variable_declaration, ExpressionStatement as expression_statement, EmptyStatement as empty_statement}
 use Rattle.js_syntax.specs.Field.{Keys, keeps, checks, a_key, child, maybe, each, each_or_hole, a_body, Field, field}
 use Rattle.js_syntax.specs.Hint.{has, is_private}
 use Rattle.js_syntax.specs.Node.{Note, Forest, nothing, node, absent}
-use Rattle.js_syntax.specs.Table.{Row as TableRow, a_program, an_empty_statement, a_labeled_statement, an_if_statement, a_function_declaration, a_default_function, fields_of, type_of, stands}
+use Rattle.js_syntax.specs.Table.{Row as TableRow, a_program, an_expression_statement, an_empty_statement, fields_of, type_of, stands}
 use Rattle.js_syntax.specs.declared.node_type.NodeType.TheVariants as type
 use Rattle.js_pass.specs.declared.around.Around.{Around}
 use Rattle.js_pass.specs.declared.around.Row.{Row}
-use Rattle.js_pass.specs.declared.around.Row.TheVariants.{Items as items, OfItem as of_item, Declarators as item_declarators, Body as part, Other as other}
+use Rattle.js_pass.specs.declared.around.Row.TheVariants.{Items as items, OfItem as of_item, Declarators as item_declarators, Other as other}
 use Rattle.js_pass.specs.Around.{row_below, entered}
-use Rattle.js_pass.specs.Pass.{Names, function_goes, goes_in, is_empty_in, goes, empties_as_body, empties_in, empties, unmarked, swept}
+use Rattle.js_pass.specs.Pass.{Names, goes_in, is_empty_in, goes, empties, unmarked, swept}
+use Rattle.js_pass.proofs.Lighter.{only_these_empty}
 use Rattle.js_pass.proofs.Fewer.{may_go, only_these_go}
 use Rattle.tree_shape.specs.Shape.{Values, kind_in, first_of, Place, one, maybe_one, beyond, key_node, key_apart, key_place, list, list_with_holes, body, item_or_hole, item_of_body, places, Plan, these, all, all_or_holes, all_of_body, first_place, behind, after_body_item, is_directive_kind, IsOf, IsAt, Stand}
 use Rattle.tree_shape.proofs.Booleans.{left_of, right_of}
@@ -45,7 +44,6 @@ below_drops_not row statements h = absurd cc
 below_drops_not items (variable_declaration how) h = refl
 below_drops_not of_item (variable_declaration how) h = refl
 below_drops_not item_declarators (variable_declaration how) h = refl
-below_drops_not part (variable_declaration how) h = refl
 below_drops_not other (variable_declaration how) h = refl
 below_drops_not row declarators h = absurd cc
 below_drops_not row k h = refl
@@ -54,8 +52,6 @@ none_goes : (knows : Bool) (row : Row) (names : Names) (w : Bool) (k : Kind) (be
 none_goes knows items names w k below h = absurd cc
 none_goes knows item_declarators names w k below h = absurd cc
 none_goes true of_item names w k below h = refl
-none_goes true part names w k below h = refl
-none_goes false part names w k below h = refl
 none_goes true other names w k below h = refl
 none_goes false of_item names w k below h = refl
 none_goes false other names w k below h = refl
@@ -65,98 +61,32 @@ dropping : (knows : Bool) (row : Row) (names : Names) (w : Bool) (k : Kind) (bel
 dropping knows items names w k below h = refl
 dropping knows item_declarators names w k below h = refl
 dropping true of_item names w k below h = absurd cc
-dropping true part names w k below h = absurd cc
-dropping false part names w k below h = absurd cc
 dropping true other names w k below h = absurd cc
 dropping false of_item names w k below h = absurd cc
 dropping false other names w k below h = absurd cc
 
--- ---- rows where functions become empty
+-- ---- rows where expression statements become empty
 
-abbrev is_part : Row → Bool
-is_part part = true
-is_part row = false
+abbrev is_statement : Kind → Bool
+is_statement expression_statement = true
+is_statement k = false
 
--- the statements that have others as their bodies
-abbrev has_body : Kind → Bool
-has_body (labeled_statement name) = true
-has_body if_statement = true
-has_body k = false
+-- they are of one row of the table
+one_row : (r : TableRow) (vs : Values (fields_of r)) → is_statement (kind_in r vs) ≡ true → r ≡ an_expression_statement
+one_row an_expression_statement vs h = refl
+one_row r vs h = absurd cc
 
-part_of_body : (row : Row) (k : Kind) → is_part (row_below row k) ≡ true → has_body k ≡ true
-part_of_body row (labeled_statement name) h = refl
-part_of_body row if_statement h = refl
-part_of_body items (variable_declaration how) h = absurd cc
-part_of_body of_item (variable_declaration how) h = absurd cc
-part_of_body item_declarators (variable_declaration how) h = absurd cc
-part_of_body part (variable_declaration how) h = absurd cc
-part_of_body other (variable_declaration how) h = absurd cc
-part_of_body items declarators h = absurd cc
-part_of_body of_item declarators h = absurd cc
-part_of_body item_declarators declarators h = absurd cc
-part_of_body part declarators h = absurd cc
-part_of_body other declarators h = absurd cc
-part_of_body row k h = absurd cc
-
-abbrev is_declaration : Kind → Bool
-is_declaration (function function_kind.Declaration pure) = true
-is_declaration k = false
-
-declared_goes : (names : Names) (how : FunctionKind) (pure : Bool) (below : Forest) → function_goes names how below ≡ true → is_declaration (function how pure) ≡ true
-declared_goes names function_kind.Declaration pure below h = refl
-declared_goes names how pure below h = absurd cc
-
-body_declares : (names : Names) (k : Kind) (below : Forest) → empties_as_body names k below ≡ true → is_declaration k ≡ true
-body_declares names (function how pure) below h = declared_goes names how pure below h
-body_declares names k below h = absurd cc
-
-emptying : (knows : Bool) (row : Row) (names : Names) (k : Kind) (below : Forest) → (if knows then empties_in row names k below else false) ≡ true → (is_part row ≡ true) × (is_declaration k ≡ true)
-emptying true part names k below h = (refl, body_declares names k below h)
-emptying true items names k below h = absurd cc
-emptying true of_item names k below h = absurd cc
-emptying true item_declarators names k below h = absurd cc
-emptying true other names k below h = absurd cc
-emptying false row names k below h = absurd cc
-
-public_function : (k : Kind) → is_declaration k ≡ true → is_private k ≡ false
-public_function (function how pure) h = refl
-public_function k h = absurd cc
-
--- no expression is a function declaration
-no_function : (r : TableRow) (vs : Values (fields_of r)) → stands expression (type_of r) ≡ Some (first_of r) → is_declaration (kind_in r vs) ≡ false
-no_function a_function_declaration vs h = absurd cc
-no_function a_default_function vs h = absurd cc
-no_function r vs h = refl
-
--- statements and expressions, of which the former may be empty
-abbrev takes_empty : Class → Bool
-takes_empty statement = true
-takes_empty expression = true
-takes_empty c = false
-
-abbrev place_takes : Place → Bool
-place_takes (one c) = takes_empty c
-place_takes (maybe_one c) = takes_empty c
-place_takes p = false
-
-abbrev places_take : List Place → Bool
-places_take [] = true
-places_take (p ∷ ps) = place_takes p && places_take ps
-
-abbrev plan_takes : Plan → Bool
-plan_takes (these ps) = places_take ps
-plan_takes plan = false
-
-parts_take : (r : TableRow) (vs : Values (fields_of r)) (private : Bool) → has_body (kind_in r vs) ≡ true → places_take (places private (fields_of r) vs) ≡ true
-parts_take a_labeled_statement vs private h = refl
-parts_take an_if_statement vs private h = refl
-parts_take r vs private h = absurd cc
+-- where one stands an empty statement may stand
+empty_may : (c : Class) → stands c type.ExpressionStatement ≡ Some an_expression_statement → stands c type.EmptyStatement ≡ Some an_empty_statement
+empty_may module_item h = refl
+empty_may statement h = refl
+empty_may c h = absurd cc
 
 -- no list is such a statement
 abbrev are_lists : List Field → Bool
 are_lists [] = true
-are_lists (field name (each kind c) ∷ fs) = not (has_body kind) && are_lists fs
-are_lists (field name (each_or_hole kind c) ∷ fs) = not (has_body kind) && are_lists fs
+are_lists (field name (each kind c) ∷ fs) = not (is_statement kind) && are_lists fs
+are_lists (field name (each_or_hole kind c) ∷ fs) = not (is_statement kind) && are_lists fs
 are_lists (f ∷ fs) = are_lists fs
 
 lists_in : (r : TableRow) → are_lists (fields_of r) ≡ true
@@ -171,8 +101,8 @@ is_body c = not (takes_directive (stands c type.ExpressionStatement))
 abbrev place_ok : Place → Bool
 place_ok (body c) = is_body c
 place_ok (item_of_body c) = is_body c
-place_ok (list kind c) = not (has_body kind)
-place_ok (list_with_holes kind c) = not (has_body kind)
+place_ok (list kind c) = not (is_statement kind)
+place_ok (list_with_holes kind c) = not (is_statement kind)
 place_ok p = true
 
 abbrev places_ok : List Place → Bool
@@ -229,9 +159,9 @@ abbrev of_list : Plan → Bool
 of_list (these ps) = false
 of_list plan = true
 
--- A row that loses nodes is planned as a list, and one where functions become empty takes empty statements.
+-- a row that loses nodes is planned as a list
 abbrev pub Suits : Row → Plan → Type 0
-Suits row plan = (drops row ≡ true → of_list plan ≡ true) × (is_part row ≡ true → plan_takes plan ≡ true)
+Suits row plan = drops row ≡ true → of_list plan ≡ true
 
 after_list : (c : Class) (b : Bool) → of_list (after_body_item c b) ≡ true
 after_list c true = refl
@@ -244,15 +174,8 @@ behind_list (all c) k h = refl
 behind_list (all_or_holes c) k h = refl
 behind_list (all_of_body c) k h = after_list c (is_directive_kind k)
 
-behind_takes : (plan : Plan) (k : Kind) → plan_takes plan ≡ true → plan_takes (behind plan k) ≡ true
-behind_takes (these []) k h = refl
-behind_takes (these (p ∷ ps)) k h = right_of _ _ h
-behind_takes (all c) k h = absurd cc
-behind_takes (all_or_holes c) k h = absurd cc
-behind_takes (all_of_body c) k h = absurd cc
-
 behind_suits : (row : Row) (plan : Plan) (k : Kind) → Suits row plan → Suits row (behind plan k)
-behind_suits row plan k suits = ((λ d. behind_list plan k (suits.0 d)), (λ d. behind_takes plan k (suits.1 d)))
+behind_suits row plan k suits = λ d. behind_list plan k (suits d)
 
 no_directive : (k : Kind) → may_go k ≡ true → is_directive_kind k ≡ false
 no_directive (directive written) h = absurd cc
@@ -262,22 +185,41 @@ not_both : (b : Bool) → b ≡ true → not b ≡ true → ⊥
 not_both true h g = absurd cc
 not_both false h g = absurd cc
 
--- ---- an empty statement in the place of a function
+-- ---- an empty statement in the place of an expression statement
 
-empty_of : (k : Kind) (below : Forest) (c : Class) → takes_empty c ≡ true → is_declaration k ≡ true → IsOf k below (λ p. Stand p below) c → IsOf empty_statement nothing (λ p. Stand p nothing) c
-empty_of k below statement takes declares of = (an_empty_statement, tt, refl, tt, refl, tt)
-empty_of k below expression takes declares of = absurd (cc (declares, ap is_declaration of.4, no_function of.0 of.1 of.2))
-empty_of k below c takes declares of = absurd cc
+empty_of : (k : Kind) (below : Forest) (c : Class) → k ≡ expression_statement → IsOf k below (λ p. Stand p below) c → IsOf empty_statement nothing (λ p. Stand p nothing) c
+empty_of k below c is of =
+    let row = one_row of.0 of.1 (ap is_statement (sym of.4 ∙ is)) in
+    (an_empty_statement, tt, empty_may c (subst (λ (r : TableRow). stands c (type_of r) ≡ Some (first_of r)) row of.2), tt, refl, tt)
 
-empty_at : (k : Kind) (below : Forest) (p : Place) → place_takes p ≡ true → is_declaration k ≡ true → IsAt k below (λ p. Stand p below) p → IsAt empty_statement nothing (λ p. Stand p nothing) p
-empty_at k below (one c) takes declares of = empty_of k below c takes declares of
-empty_at k below (maybe_one c) takes declares of = empty_of k below c takes declares of
-empty_at k below p takes declares at = absurd cc
+no_such_list : (k kind : Kind) → not (is_statement kind) ≡ true → k ≡ expression_statement → k ≡ kind → ⊥
+no_such_list k kind ok is same = not_both (is_statement kind) (ap is_statement (sym same ∙ is)) ok
 
-empty_stands : (k : Kind) (n : Note) (below rest : Forest) (plan : Plan) → plan_takes plan ≡ true → is_declaration k ≡ true → IsAt k below (λ p. Stand p below) (first_place plan) → Stand (behind plan k) rest → Stand plan (node empty_statement n nothing rest)
-empty_stands k n below rest (these []) takes declares at later = absurd at
-empty_stands k n below rest (these (p ∷ ps)) takes declares at later = (empty_at k below p (left_of _ _ takes) declares at, later)
-empty_stands k n below rest plan takes declares at later = absurd cc
+empty_at : (k : Kind) (below : Forest) (p : Place) → place_ok p ≡ true → k ≡ expression_statement → IsAt k below (λ p. Stand p below) p → IsAt empty_statement nothing (λ p. Stand p nothing) p
+empty_at k below (one c) ok is of = empty_of k below c is of
+empty_at k below (maybe_one c) ok is of = empty_of k below c is of
+empty_at k below beyond ok is at = absurd at
+empty_at k below (key_node keys true) ok is at = (at.0, empty_of k below private_key is at.1)
+empty_at k below (key_node keys false) ok is of = empty_of k below expression is of
+empty_at k below (key_apart may) ok is at = absurd at
+empty_at k below (list kind c) ok is at = absurd (no_such_list k kind ok is at.0)
+empty_at k below (list_with_holes kind c) ok is at = absurd (no_such_list k kind ok is at.0)
+empty_at k below (body c) ok is at = absurd (no_such_list k statements refl is at.0)
+empty_at k below (item_or_hole c) ok is (inl at) = absurd (no_such_list k hole refl is at.0)
+empty_at k below (item_or_hole c) ok is (inr of) = inr (empty_of k below c is of)
+empty_at k below (item_of_body c) ok is (inl of) = inl (empty_of k below a_prologue is of)
+empty_at k below (item_of_body c) ok is (inr at) = inr (refl, empty_of k below c is at.1)
+
+-- neither of the two is a directive
+behind_either : (plan : Plan) → behind plan expression_statement ≡ behind plan empty_statement
+behind_either (these []) = refl
+behind_either (these (p ∷ ps)) = refl
+behind_either (all c) = refl
+behind_either (all_or_holes c) = refl
+behind_either (all_of_body c) = refl
+
+empty_stands : (k : Kind) (n : Note) (below rest : Forest) (plan : Plan) → plan_ok plan ≡ true → k ≡ expression_statement → IsAt k below (λ p. Stand p below) (first_place plan) → Stand (behind plan k) rest → Stand plan (node empty_statement n nothing rest)
+empty_stands k n below rest plan ok is at later = (empty_at k below (first_place plan) (first_ok plan ok) is at, subst (λ (p : Plan). Stand p rest) (ap (behind plan) is ∙ behind_either plan) later)
 
 module _ (names : Names) where
   private_step : (e : Bool) (k : Kind) (n : Note) (below_left left rest : Forest) → (e ≡ true → is_private k ≡ false) → has is_private left ≡ has is_private rest
@@ -290,7 +232,7 @@ module _ (names : Names) where
   private_left a (absent rest) h = private_left a rest h
   private_left a (node k n below rest) h =
       ap (λ (b : Bool). has is_private (if b then swept names a rest else if empties names a k below then node empty_statement (unmarked n) nothing (swept names a rest) else node k n (swept names (entered a k) below) (swept names a rest))) (none_goes a.knows_names a.row names a.in_with k below h)
-      ∙ private_step (empties names a k below) k n (swept names (entered a k) below) (swept names a rest) rest (λ e. public_function k (emptying a.knows_names a.row names k below e).1) (private_left a rest h)
+      ∙ private_step (empties names a k below) k n (swept names (entered a k) below) (swept names a rest) rest (λ e. ap is_private (only_these_empty names a k below e)) (private_left a rest h)
 
   -- what lies below stands as it stood
   abbrev pub Stays : Forest → Type 0
@@ -311,11 +253,8 @@ module _ (names : Names) where
           of.4,
           subst (λ (b : Bool). Stand (these (places b fs of.1)) left) (sym (private_left (entered a k) below drops_not))
               (stays (entered a k) (these (places (has is_private below) fs of.1)) (fields_ok (has is_private below) fs of.1 (bodies_in of.0) (lists_in of.0))
-              ((λ d. absurd (cc (d, drops_not))), (λ d. parts_take of.0 of.1 (has is_private below) (sym (ap has_body of.4) ∙ part_of_body a.row k d))) of.5),
+              (λ d. absurd (cc (d, drops_not))) of.5),
         )
-
-    no_part : (kind : Kind) → k ≡ kind → not (has_body kind) ≡ true → is_part (row_below a.row k) ≡ true → ⊥
-    no_part kind same ok d = not_both (has_body kind) (sym (ap has_body same) ∙ part_of_body a.row k d) ok
 
     at_left : (p : Place) → place_ok p ≡ true → IsAt k below (λ p. Stand p below) p → IsAt k left (λ p. Stand p left) p
     at_left (one c) ok of = of_left c of
@@ -324,10 +263,10 @@ module _ (names : Names) where
     at_left (key_node keys true) ok at = (at.0, of_left private_key at.1)
     at_left (key_node keys false) ok of = of_left expression of
     at_left (key_apart may) ok at = absurd at
-    at_left (list kind c) ok at = (at.0, stays (entered a k) (all c) refl ((λ d. refl), (λ d. absurd (no_part kind at.0 ok d))) at.1)
-    at_left (list_with_holes kind c) ok at = (at.0, stays (entered a k) (all_or_holes c) refl ((λ d. refl), (λ d. absurd (no_part kind at.0 ok d))) at.1)
-    at_left (body c) ok at = (at.0, stays (entered a k) (all_of_body c) ok ((λ d. refl), (λ d. absurd (no_part statements at.0 refl d))) at.1)
-    at_left (item_or_hole c) ok (inl at) = inl (at.0, stays (entered a k) (these []) refl ((λ d. absurd (cc (d, below_drops_not a.row k (ap is_list at.0)))), (λ d. refl)) at.1)
+    at_left (list kind c) ok at = (at.0, stays (entered a k) (all c) refl (λ d. refl) at.1)
+    at_left (list_with_holes kind c) ok at = (at.0, stays (entered a k) (all_or_holes c) refl (λ d. refl) at.1)
+    at_left (body c) ok at = (at.0, stays (entered a k) (all_of_body c) ok (λ d. refl) at.1)
+    at_left (item_or_hole c) ok (inl at) = inl (at.0, stays (entered a k) (these []) refl (λ d. absurd (cc (d, below_drops_not a.row k (ap is_list at.0)))) at.1)
     at_left (item_or_hole c) ok (inr of) = inr (of_left c of)
     at_left (item_of_body c) ok (inl of) = inl (of_left a_prologue of)
     at_left (item_of_body c) ok (inr at) = inr (at.0, of_left c at.1)
@@ -342,10 +281,8 @@ module _ (names : Names) where
   one_node : (b e : Bool) (a : Around) (k : Kind) (n : Note) (below rest : Forest) (plan : Plan) → goes names a k below ≡ b → empties names a k below ≡ e → plan_ok plan ≡ true → Suits a.row plan → Stays below
       → IsAt k below (λ p. Stand p below) (first_place plan) → Stand (behind plan k) (swept names a rest)
       → Stand plan (if b then swept names a rest else if e then node empty_statement (unmarked n) nothing (swept names a rest) else node k n (swept names (entered a k) below) (swept names a rest))
-  one_node true e a k n below rest plan is empty ok suits stays at later = gone plan k (swept names a rest) ok (suits.0 (dropping a.knows_names a.row names a.in_with k below is)) (only_these_go names a k below is) later
-  one_node false true a k n below rest plan is empty ok suits stays at later =
-      let told = emptying a.knows_names a.row names k below empty in
-      empty_stands k (unmarked n) below (swept names a rest) plan (suits.1 told.0) told.1 at later
+  one_node true e a k n below rest plan is empty ok suits stays at later = gone plan k (swept names a rest) ok (suits (dropping a.knows_names a.row names a.in_with k below is)) (only_these_go names a k below is) later
+  one_node false true a k n below rest plan is empty ok suits stays at later = empty_stands k (unmarked n) below (swept names a rest) plan ok (only_these_empty names a k below empty) at later
   one_node false false a k n below rest plan is empty ok suits stays at later = (at_left a k below stays (first_place plan) (first_ok plan ok) at, later)
 
   pub swept_stands : (t : Forest) → Stays t

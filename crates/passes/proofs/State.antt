@@ -10,7 +10,7 @@ use Rattle.scoping_match.specs.Matches.{Matches}
 use Rattle.js_scoping.specs.Build.{table_of, numbered}
 use Rattle.js_pass.specs.Pass.{passed, changes}
 use Rattle.unused.specs.Unused.{names_of}
-use Rattle.passes.specs.Passes.{next, has_next, settled, passes_within}
+use Rattle.passes.specs.Passes.{next, has_next, settled, passes_within, most_passes}
 use Rattle.passes.proofs.Clean.{next_no_more}
 
 -- a tree with the table that was made of `u`, whose marks it has
@@ -123,10 +123,10 @@ small_next most t done left after s changed (u, b, rest, l) small is yes_changed
 at_count : (most count : ℕ) (t : Forest) (done : ℕ) (left : Forest) (s : Scoping) → most ≡ count → Ends most t done left s → Ends count t done left s
 at_count most count t done left s is h = subst (λ (n : ℕ). Ends n t done left s) is h
 
-pub ends_here : (most : ℕ) (t : Forest) (done : ℕ) (left after : Forest) (s : Scoping) (changed : Bool) → Stands most t done left s → most ≡ node_count t → changed ≡ changes (names_of s left) left → IsLeft left after s changed → changed ≡ false
-    → Ends (node_count t) t done after s
+pub ends_here : (most : ℕ) (t : Forest) (done : ℕ) (left after : Forest) (s : Scoping) (changed : Bool) → Stands most t done left s → most ≡ most_passes t → changed ≡ changes (names_of s left) left → IsLeft left after s changed → changed ≡ false
+    → Ends (most_passes t) t done after s
 ends_here most t done left after s changed stands count told is no_change =
-    at_count most (node_count t) t done after s count (subst (λ (v : Forest). Ends most t done v s) (sym (kept left after s changed is no_change)) (ended most t done left s stands (sym told ∙ no_change)))
+    at_count most (most_passes t) t done after s count (subst (λ (v : Forest). Ends most t done v s) (sym (kept left after s changed is no_change)) (ended most t done left s stands (sym told ∙ no_change)))
 
-pub ends_spent : (most : ℕ) (t : Forest) (done : ℕ) (left : Forest) (s : Scoping) → Stands most t done left s → most ≡ node_count t → most ≤ done → Ends (node_count t) t most left s
-ends_spent most t done left s stands count over = at_count most (node_count t) t most left s count (spent most t done left s stands over)
+pub ends_spent : (most : ℕ) (t : Forest) (done : ℕ) (left : Forest) (s : Scoping) → Stands most t done left s → most ≡ most_passes t → most ≤ done → Ends (most_passes t) t most left s
+ends_spent most t done left s stands count over = at_count most (most_passes t) t most left s count (spent most t done left s stands over)

@@ -1,12 +1,10 @@
 -- What passes leave of a tree: one follows another until one changes nothing.
-use Rattle.std.specs.Prelude.{◌≡◌, ℕ, zero, suc, Bool, true, false, if◌then◌else◌}
+use Rattle.std.specs.Prelude.{◌≡◌, ℕ, zero, suc, ◌*◌, Bool, true, false, if◌then◌else◌}
 use Rattle.js_syntax.specs.Node.{Forest}
 use Rattle.js_count.specs.Count.{node_count}
 use Rattle.scope_rules.specs.Table.{Scoping}
 use Rattle.js_scoping.specs.Build.{table_of, numbered}
-use Rattle.js_pass.specs.Around.{outermost}
 use Rattle.js_pass.specs.Pass.{Names, passed, changes, no_names, cleared}
-use Rattle.js_pass.specs.Leaving.{LeavesOut}
 use Rattle.unused.specs.Unused.{names_of}
 
 -- what is known of the names of a tree, from the table that is made of it
@@ -30,29 +28,17 @@ abbrev pub passes_within : (most : ℕ) → Forest → ℕ
 passes_within zero t = zero
 passes_within (suc most) t = if has_next t then suc (passes_within most (next t)) else zero
 
--- Each pass that changes something takes a node, so there are no more of them than nodes. Empty statements leave before
--- the first.
+-- Each pass that changes something takes a node or makes an expression statement empty, which it becomes only once.
+abbrev pub most_passes : Forest → ℕ
+most_passes t = 2 * node_count t
+
+-- Empty statements leave before the first.
 abbrev pub shaken : Forest → Forest
-shaken t = settled (node_count (cleared t)) (cleared t)
+shaken t = settled (most_passes (cleared t)) (cleared t)
 
 abbrev pub passes_of : Forest → ℕ
-passes_of t = passes_within (node_count (cleared t)) (cleared t)
+passes_of t = passes_within (most_passes (cleared t)) (cleared t)
 
--- By what a table says of the names of a tree, nothing of it may go.
+-- By what a table says of the names of a tree, nothing of it may go or become empty.
 abbrev pub IsClean : Scoping → Forest → Type 0
 IsClean s t = changes (names_of s t) t ≡ false
-
--- ---- what is left comes from what was there
-
--- by so many passes, each of which leaves things out one after another: those that go by the table that was made of the
--- tree before the pass, and nothing else
-abbrev pub InPasses : (count : ℕ) → (t u : Forest) → Type 0
-InPasses zero t u = t ≡ u
-InPasses (suc count) t u = (v : Forest) × LeavesOut (names_in t) (outermost true) (numbered t) v × InPasses count v u
-
--- once the empty statements of its lists are left out; and in the end nothing is left that goes
-pub record IsShaken (count : ℕ) (t u : Forest) : Type 0 where
-  pub without_empties : Forest
-  pub cleared : LeavesOut no_names (outermost false) t without_empties
-  pub comes : InPasses count without_empties u
-  pub settled : has_next u ≡ false

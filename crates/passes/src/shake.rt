@@ -7,7 +7,7 @@ ghost use Rattle.js_scoping.specs.Build.{table_of, numbered};
 ghost use Rattle.scope_laws.specs.Exact.{Exact};
 ghost use Rattle.scope_rules.specs.Binding.{resolved_references};
 ghost use Rattle.scoping_match.specs.Matches.{Matches};
-ghost use Rattle.passes.specs.Passes.{settled, passes_within, shaken, passes_of, IsShaken, IsClean};
+ghost use Rattle.passes.specs.Passes.{settled, passes_within, most_passes, shaken, passes_of, IsClean};
 
 use crate::next::next_pass;
 use js_count::count_nodes;
@@ -29,14 +29,15 @@ pub struct Shaken {
 
 fn settle(alloc: Global, program: Program) -> Result<Shaken, AllocError>
     requires small { node_count (forest_of program) < 2 ^ 32 }
-    ensures left { IfOk result (λ s. forest_of s.program ≡ numbered (settled (node_count (forest_of program)) (forest_of program))) }
-    ensures scoping { IfOk result (λ s. s.scoping ≡ table_of (settled (node_count (forest_of program)) (forest_of program))) }
-    ensures iterations { IfOk result (λ s. s.iterations ≡ passes_within (node_count (forest_of program)) (forest_of program)) }
+    ensures left { IfOk result (λ s. forest_of s.program ≡ numbered (settled (most_passes (forest_of program)) (forest_of program))) }
+    ensures scoping { IfOk result (λ s. s.scoping ≡ table_of (settled (most_passes (forest_of program)) (forest_of program))) }
+    ensures iterations { IfOk result (λ s. s.iterations ≡ passes_within (most_passes (forest_of program)) (forest_of program)) }
     ensures exact { IfOk result (λ s. Exact s.scoping (forest_of s.program)) }
     ensures matches { IfOk result (λ s. Matches s.scoping (forest_of s.program)) }
-    ensures resolved { IfOk result (λ s. count_by (λ r. is_some r.symbol) s.scoping.references ≡ resolved_references (settled (node_count (forest_of program)) (forest_of program))) }
+    ensures resolved { IfOk result (λ s. count_by (λ r. is_some r.symbol) s.scoping.references ≡ resolved_references (settled (most_passes (forest_of program)) (forest_of program))) }
 {
-    let most = count_nodes(&program, u32::MAX);
+    let nodes = count_nodes(&program, u32::MAX);
+    let most = 2 * nodes;
     let mut left = program;
     let mut scoping = build(alloc, &mut left)?;
     for done in 0..most {
@@ -65,7 +66,6 @@ pub fn shake_program(alloc: Global, program: Program) -> Result<Shaken, AllocErr
     ensures left { IfOk result (λ s. forest_of s.program ≡ numbered (shaken (forest_of program))) }
     ensures scoping { IfOk result (λ s. s.scoping ≡ table_of (shaken (forest_of program))) }
     ensures iterations { IfOk result (λ s. s.iterations ≡ passes_of (forest_of program)) }
-    ensures left_out { IfOk result (λ s. (u : Forest) × (forest_of s.program ≡ numbered u) × IsShaken s.iterations (forest_of program) u) }
     ensures clean { IfOk result (λ s. IsClean s.scoping (forest_of s.program)) }
     ensures exact { IfOk result (λ s. Exact s.scoping (forest_of s.program)) }
     ensures matches { IfOk result (λ s. Matches s.scoping (forest_of s.program)) }

@@ -9,11 +9,10 @@ use Rattle.tree_text.specs.declared.error.TreeError.{TreeError}
 use Rattle.tree_text.specs.declared.error.TreeError.TheVariants as error
 use Rattle.passes.specs.Passes.{shaken}
 use Rattle.shake.specs.Answer.{TreeAnswers, IsTreeLineFor, Answers, IsLineFor}
-use Rattle.passes.proofs.Clean.{is_shaken}
 use Rattle.js_form.specs.Break.{at_place}
-use Rattle.minifier.specs.Minify.{IsCause}
-use Rattle.minifier.specs.declared.error.MinifyError.{MinifyError}
-use Rattle.minifier.specs.declared.error.MinifyError.TheVariants as minify
+use Rattle.min_driver.specs.Minify.{IsCause}
+use Rattle.min_driver.specs.declared.error.MinifyError.{MinifyError}
+use Rattle.min_driver.specs.declared.error.MinifyError.TheVariants as minify
 use Rattle.shake.specs.Fault.{fault_of, IsAnswerTo, refusal_line, IsMinifyAnswer, minify_line}
 use Rattle.shake.specs.Line.{Says, status_line, large_line}
 use Rattle.js_syntax.specs.Node.{Tree, forest_of}
@@ -111,7 +110,7 @@ pub sent_answers : (command : Command) (s : Status) (t : Forest) (text : List �
     → (s ≡ status.Ok) ⊎ (s ≡ status.WriteFault) → (s ≡ status.Ok → Known (λ w. w ++ text) written now) → (s ≡ status.WriteFault → SendsFront text written now × HasFailed faults later)
     → TreeAnswers command s t written now faults later
 sent_answers command s t text written now faults later within is back (inl told) sent front =
-    rw told (within, (back, is_shaken t, subst (λ (x : List ℕ). Known (λ w. w ++ x) written now) is (sent told)))
+    rw told (within, (back, subst (λ (x : List ℕ). Known (λ w. w ++ x) written now) is (sent told)))
 sent_answers command s t text written now faults later within is back (inr told) sent front =
     rw told (within, subst (λ (x : List ℕ). SendsFront x written now) is (front told).0, (front told).1)
 

@@ -11,8 +11,8 @@ use Rattle.tree_text.specs.Answer.{IsReadAs}
 use Rattle.bare_shape.proofs.Same.{same_data, readable}
 use Rattle.words.specs.declared.answer.Command.{Command}
 use Rattle.words.specs.declared.answer.Command.TheVariants.{Dce}
-use Rattle.minifier.specs.Minify.{left_of, passes_by}
-use Rattle.minifier.specs.declared.options.CompressOptions.{CompressOptions}
+use Rattle.min_driver.specs.Minify.{left_of, passes_by}
+use Rattle.min_driver.specs.declared.options.CompressOptions.{CompressOptions}
 use Rattle.shake.specs.Run.{counts_of, command_output, shaken_output, IsReadBack}
 
 same_bare : (t : Forest) → bare (numbered t) ≡ bare t

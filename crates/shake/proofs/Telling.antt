@@ -1,6 +1,13 @@
 -- From the bytes that were read to the bytes that the source told.
-use Rattle.std.proofs.Common.{◌≡◌, ◌≤◌, ℕ, List, [], length, Option, Some, None, subst}
+use Rattle.std.proofs.Common.{◌≡◌, ◌≤◌, ℕ, List, [], length, Option, Some, None, Ok, subst}
 use Rattle.outside.specs.Reading.{Ends}
+use Rattle.js_syntax.specs.Class.{root}
+use Rattle.js_syntax.specs.Node.{Forest}
+use Rattle.tree_text.specs.Answer.{IsReadAs}
+use Rattle.tree_text.specs.Fault.{untyped}
+use Rattle.tree_shape.specs.Shape.{Fits}
+use Rattle.tree_shape.proofs.FittingNodes.{nodes_fit}
+use Rattle.shaken_runs.proofs.Headline.{headline_of}
 use Rattle.words.specs.Meaning.{command_of}
 use Rattle.words.specs.declared.answer.Command.{Command}
 use Rattle.shake.specs.Answer.{Answers}
@@ -18,10 +25,14 @@ emptied : (left now : Option (List ℕ)) (bytes : List ℕ) → Ends left now by
 emptied None now bytes h = tt
 emptied (Some all) now bytes h = h.1
 
+-- what was read fits the table of node types
+read_fits : (bytes : List ℕ) (t : Forest) → IsReadAs bytes (Ok t) → Fits root t
+read_fits bytes t is = nodes_fit 128 root untyped is.1.0 t is.1.2
+
 -- the answers for the bytes, as answers of the program
 module _ (words : List (List ℕ)) (command : Command) (asked : command_of words ≡ Some command) (left now : Option (List ℕ)) (bytes : List ℕ) (ends : Ends left now bytes) (within : length bytes ≤ max_input) where
   pub shakes : (s : Status) (w w' : Option (List ℕ)) (f f' : ℕ) → Answers command s bytes w w' f f' → s ≡ status.Ok → Shakes words left now w w'
-  shakes status.Ok w w' f f' a is = (command, asked, a.0, told left now bytes (λ b. IsTreeOf b a.0) ends (within, a.1), a.2, emptied left now bytes ends, a.3)
+  shakes status.Ok w w' f f' a is = (command, asked, a.0, told left now bytes (λ b. IsTreeOf b a.0) ends (within, a.1), a.2, emptied left now bytes ends, headline_of a.0 (read_fits bytes a.0 a.1) a.2.form, a.3)
   shakes status.Usage w w' f f' a is = absurd a
   shakes status.ReadFault w w' f f' a is = absurd a
   shakes status.InputTooLong w w' f f' a is = absurd a

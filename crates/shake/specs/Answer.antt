@@ -6,7 +6,7 @@ use Rattle.words.specs.declared.answer.Command.{Command}
 use Rattle.tree_text.specs.Answer.{IsReadAs, IsNoJson}
 use Rattle.tree_text.specs.Fault.{Fault, too_deep}
 use Rattle.shake.specs.Line.{fault_line, too_large_line, IsBreakLine, status_line}
-use Rattle.minifier.specs.Limit.{IsTooLarge}
+use Rattle.min_driver.specs.Limit.{IsTooLarge}
 use Rattle.shake.specs.Run.{IsSound, IsIllFormed, IsSent, IsFrontSent}
 use Rattle.shake.specs.declared.status.Status.{Status}
 use Rattle.shake.specs.declared.status.Status.TheVariants as status

@@ -3,8 +3,8 @@ use Rattle.std.specs.Prelude.{◌≡◌, ◌⊎◌, ℕ, List, string_bytes}
 use Rattle.tree_text.specs.Fault.{Fault, too_deep, unknown_node, bad_field, out_of_range}
 use Rattle.tree_text.specs.declared.error.TreeError.{TreeError}
 use Rattle.tree_text.specs.declared.error.TreeError.TheVariants as error
-use Rattle.minifier.specs.declared.error.MinifyError.{MinifyError}
-use Rattle.minifier.specs.declared.error.MinifyError.TheVariants as minify
+use Rattle.min_driver.specs.declared.error.MinifyError.{MinifyError}
+use Rattle.min_driver.specs.declared.error.MinifyError.TheVariants as minify
 use Rattle.shake.specs.Line.{fault_line, large_line, ill_formed_line, status_line}
 use Rattle.shake.specs.declared.status.Status.{Status}
 use Rattle.shake.specs.declared.status.Status.TheVariants as status

@@ -7,7 +7,7 @@ use Rattle.js_syntax.specs.Node.{Forest}
 use Rattle.js_count.specs.Count.{node_count, levels}
 use Rattle.js_form.specs.declared.rule.Break.{Break}
 use Rattle.js_form.specs.Form.{first_broken}
-use Rattle.minifier.specs.Limit.{max_nodes, max_levels}
+use Rattle.min_driver.specs.Limit.{max_nodes, max_levels}
 use Rattle.shake.specs.declared.status.Status.{Status}
 use Rattle.shake.specs.declared.status.Status.TheVariants as status
 

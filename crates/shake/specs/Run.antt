@@ -9,10 +9,11 @@ use Rattle.tree_shape.specs.Readable.{IsReadable}
 use Rattle.words.specs.Meaning.{command_of}
 use Rattle.words.specs.declared.answer.Command.{Command}
 use Rattle.words.specs.declared.answer.Command.TheVariants.{Dce}
-use Rattle.passes.specs.Passes.{shaken, passes_of, IsShaken}
+use Rattle.passes.specs.Passes.{shaken, passes_of}
+use Rattle.shaken_runs.specs.Headline.{Headline}
 use Rattle.scope_rules.specs.Binding.{resolved_references}
 use Rattle.js_form.specs.Form.{IsWellFormed}
-use Rattle.minifier.specs.Limit.{IsWithinLimits, IsTooLarge}
+use Rattle.min_driver.specs.Limit.{IsWithinLimits, IsTooLarge}
 use Rattle.shake.specs.Line.{Told, HasFault}
 use Rattle.shake.specs.declared.status.Status.{Status}
 use Rattle.shake.specs.declared.status.Status.TheVariants as status
@@ -47,10 +48,9 @@ shaken_output command t = command_output command (shaken t) (passes_of t) (resol
 abbrev pub IsReadBack : Forest → Type 0
 IsReadBack t = IsReadable t → IsReadAs (text_of t) (Ok (bare t))
 
--- the output for a tree that was read went out whole: what is left comes from the tree by leaving things out, and nothing is
--- left that goes
+-- the output for a tree that was read went out whole
 abbrev pub IsSent : Command → Forest → (written written_now : Option (List ℕ)) → Type 0
-IsSent command t written written_now = IsReadBack (shaken t) × IsShaken (passes_of t) t (shaken t) × Known (λ w. w ++ shaken_output command t) written written_now
+IsSent command t written written_now = IsReadBack (shaken t) × Known (λ w. w ++ shaken_output command t) written written_now
 
 -- a front of it did
 abbrev pub IsFrontSent : Command → Forest → (written written_now : Option (List ℕ)) → Type 0
@@ -69,11 +69,11 @@ abbrev pub IsTreeOf : List ℕ → Forest → Type 0
 IsTreeOf bytes t = (length bytes ≤ max_input) × IsReadAs bytes (Ok t)
 
 -- answer 0: the words ask for a command, the bytes are those of a tree that is within the limits and breaks no rule of form, all
--- of them were read, and its output went out whole
+-- of them were read, what is left is that program without its dead code, and its output went out whole
 abbrev pub Shakes : (words : List (List ℕ)) (left left_now written written_now : Option (List ℕ)) → Type 0
 Shakes words left left_now written written_now =
     (command : Command) × (command_of words ≡ Some command) × (t : Forest) × Told left (λ bytes. IsTreeOf bytes t) × IsSound t × Told left (λ _. left_now ≡ Some [])
-    × IsSent command t written written_now
+    × Headline t (shaken t) × IsSent command t written written_now
 
 -- a fault of the sink: a front of that output went out
 abbrev pub ShakesFront : (words : List (List ℕ)) (left written written_now : Option (List ℕ)) → Type 0

@@ -4,18 +4,16 @@
 //! a rule of form, takes out of it what does nothing, and writes what is left and a line of counts to a sink. Its contract, with the definitions of
 //! `specs/Run.antt`, says for each answer exactly when it comes and what was written then; memory may
 //! be short at any time. It stands on `outside` (sources and sinks), `tree_read` and `tree_write`
-//! (from bytes to trees and back) and `minifier` (the limits, the rules of form and the pass).
+//! (from bytes to trees and back) and `min_driver` (the limits, the rules of form and the pass).
 #![tactic(auto)]
 
 mod line;
 mod output;
 mod run;
 mod status;
-#[cfg(test)]
-mod tests;
 
 pub use form_check::{FormError, well_formed};
-pub use minifier::{
+pub use min_driver::{
     CompressOptions, CompressOptionsKeepNames, CompressOptionsUnused, Minifier, MinifierOptions,
     MinifierReturn, MinifyError, PropertyReadSideEffects, TreeShakeOptions,
 };

@@ -5,7 +5,7 @@ ghost use Rattle.shake.specs.Line as spec;
 ghost use Rattle.shake.specs.Line.{Says, shown, fault_line};
 ghost use Rattle.shake.specs.Fault.{fault_of, minify_text};
 
-use minifier::MinifyError;
+use min_driver::MinifyError;
 use outside::{Sink, write_all};
 use std::alloc::{AllocError, Global};
 use tree_text::TreeError;

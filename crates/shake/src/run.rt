@@ -2,7 +2,7 @@
 ghost use Rattle.std.specs.Prelude.{◌≡◌, ◌≤◌, ◌⊎◌, ◌++◌, ℕ, IfOk, IfErr, false, true, map, string_bytes};
 ghost use Rattle.js_syntax.specs.Node.{forest_of};
 ghost use Rattle.passes.specs.Passes.{shaken};
-ghost use Rattle.minifier.specs.Minify.{IsCause};
+ghost use Rattle.min_driver.specs.Minify.{IsCause};
 ghost use Rattle.shake.specs.Fault.{IsMinifyAnswer, minify_line};
 ghost use Rattle.outside.specs.Moves.{HasFailed, Known, SendsFront};
 ghost use Rattle.outside.specs.Reading.{IsLonger};
@@ -17,7 +17,7 @@ use crate::line::{fault_text, minify_text, say};
 use crate::output::output;
 use crate::status::Status;
 use js_tree::Program;
-use minifier::{CompressOptions, Minifier, MinifierOptions, MinifyError};
+use min_driver::{CompressOptions, Minifier, MinifierOptions, MinifyError};
 use outside::{ReadAllError, Sink, Source, read_all, write_all};
 use std::alloc::{AllocError, Global};
 use tree_read::{TreeError, read_tree};

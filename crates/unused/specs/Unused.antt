@@ -2,7 +2,7 @@
 use Rattle.std.specs.Prelude.{ℕ, zero, suc, ◌==◌, List, [], ◌∷◌, ◌++◌, length, Bool, true, false, not, ◌&&◌, ◌||◌, Option, Some, None, is_some, slice_set, if◌then◌else◌}
 use Rattle.std.specs.Int.RustNames.{bit_and}
 use Rattle.js_syntax.specs.declared.node_kind.NodeKind.{NodeKind as Kind}
-use Rattle.js_syntax.specs.declared.node_kind.NodeKind.TheVariants.{Program as program, BindingName as binding_name, ExportNamedDeclaration as export_named_declaration}
+use Rattle.js_syntax.specs.declared.node_kind.NodeKind.TheVariants.{Program as program, Function as function, Class as class, BindingName as binding_name, ExportNamedDeclaration as export_named_declaration, ExportDefaultDeclaration as export_default_declaration}
 use Rattle.js_syntax.specs.declared.scalar.SourceType.TheVariants as source_type
 use Rattle.js_syntax.specs.Node.{Forest, nothing, node, absent, Note}
 use Rattle.scope_rules.specs.Table.{Symbol, Scoping}
@@ -36,6 +36,7 @@ function_is_unused s is_script y = length y.references == 0 && not (is_global is
 
 abbrev pub is_export : Kind → Bool
 is_export (export_named_declaration source) = true
+is_export export_default_declaration = true
 is_export k = false
 
 -- a mark that is taken away
@@ -43,21 +44,32 @@ abbrev pub without : Option ℕ → List Bool → List Bool
 without None marks = marks
 without (Some n) marks = slice_set marks n false
 
--- A name below an export that the program's own scope has is exported; those of functions within are not (16.2.3).
-abbrev pub is_of_program : Scoping → Option ℕ → Bool
-is_of_program s None = false
-is_of_program s (Some n) = (symbol_at s n).scope == 0
+abbrev pub without_name : Kind → Note → List Bool → List Bool
+without_name (binding_name x) n marks = without n.id marks
+without_name k n marks = marks
 
-abbrev pub without_name : Scoping → (in_export : Bool) → Kind → Note → List Bool → List Bool
-without_name s in_export (binding_name x) n marks = if in_export && is_of_program s n.id then without n.id marks else marks
-without_name s in_export k n marks = marks
+-- the name in front of a row
+abbrev pub without_first : Forest → List Bool → List Bool
+without_first (node k n below rest) marks = without_name k n marks
+without_first t marks = marks
 
--- the marks of symbols, without those that an exported declaration declares
-abbrev pub without_exported : Scoping → (in_export : Bool) → Forest → List Bool → List Bool
-without_exported s in_export nothing marks = marks
-without_exported s in_export (absent rest) marks = without_exported s in_export rest marks
-without_exported s in_export (node k n below rest) marks =
-    without_exported s in_export rest (without_exported s (in_export || is_export k) below (without_name s in_export k n marks))
+-- Of a function and of a class the name alone is declared around them (8.2.4).
+abbrev pub has_own_names : Kind → Bool
+has_own_names (function how pure) = true
+has_own_names (class how) = true
+has_own_names k = false
+
+-- the marks of symbols, without those that a declaration in the row declares
+abbrev pub without_declared : Forest → List Bool → List Bool
+without_declared nothing marks = marks
+without_declared (absent rest) marks = without_declared rest marks
+without_declared (node k n below rest) marks = without_declared rest (if has_own_names k then without_first below marks else without_declared below (without_name k n marks))
+
+-- those that an exported declaration declares (16.2.3)
+abbrev pub without_exported : Forest → List Bool → List Bool
+without_exported nothing marks = marks
+without_exported (absent rest) marks = without_exported rest marks
+without_exported (node k n below rest) marks = without_exported rest (if is_export k then without_declared below marks else without_exported below marks)
 
 -- ---- the names of a tree
 
@@ -74,6 +86,6 @@ is_script t = false
 abbrev pub names_of : Scoping → Forest → Names
 names_of s t = record {
   bound = answers (λ r. is_some (reference_at s r).symbol) (length s.references);
-  variables = without_exported s false t (answers (λ y. variable_is_unused s (is_script t) (symbol_at s y)) (length s.symbols));
-  functions = without_exported s false t (answers (λ y. function_is_unused s (is_script t) (symbol_at s y)) (length s.symbols));
+  variables = without_exported t (answers (λ y. variable_is_unused s (is_script t) (symbol_at s y)) (length s.symbols));
+  functions = without_exported t (answers (λ y. function_is_unused s (is_script t) (symbol_at s y)) (length s.symbols));
 }

@@ -50,11 +50,11 @@ fn functions(alloc: Global, table: &Table) -> Result<Vec<bool>, AllocError>
 }
 
 // The marks, without those of exported names.
-fn unexported(scoping: &Scoping, program: &Program, marks: Vec<bool>) -> Vec<bool>
-    ensures { result.items ≡ without_exported scoping.now false (forest_of program.now) marks.items }
+fn unexported(program: &Program, marks: Vec<bool>) -> Vec<bool>
+    ensures { result.items ≡ without_exported (forest_of program.now) marks.items }
 {
     let mut marks = marks;
-    take_exported(scoping, false, program.root(), marks.as_mut_slice());
+    take_exported(program.root(), marks.as_mut_slice());
     marks
 }
 
@@ -72,7 +72,7 @@ pub fn names_of(alloc: Global, scoping: &Scoping, program: &Program) -> Result<N
     let functions = functions(alloc, &table)?;
     Ok(Names {
         bound,
-        variables: unexported(scoping, program, variables),
-        functions: unexported(scoping, program, functions),
+        variables: unexported(program, variables),
+        functions: unexported(program, functions),
     })
 }

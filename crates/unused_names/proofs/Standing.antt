@@ -35,7 +35,7 @@ references_of t = references_among (sites_of t)
 
 -- what refers in this row to a name that the layer declares is an export of it, or a reference with the name's binding
 abbrev pub Answers : Forest → (row : Forest) → Layer → Type 0
-Answers t row l = (x : Text) → is_declared (declarations_of t) l x ≡ true → refers x row ≡ true → Declares (exported_declarations t) l x ⊎ HasReference (declarations_of t) (named_in x l) (references_of t)
+Answers t row l = (x : Text) → is_declared (declarations_of t) l x ≡ true → refers x row ≡ true → ((l.scope ≡ 0) × Declares (exported_declarations t) l x) ⊎ HasReference (declarations_of t) (named_in x l) (references_of t)
 
 -- ---- rows without references
 
@@ -175,7 +175,7 @@ pub record Facts (t : Forest) (ps : ℕ → Place) (cs : ℕ → Context) (next 
   pub agreed : Agrees (declarations_of t) next a
   pub references : (r : ReferenceSite) → Among r (references_among (sites cs 0 next a)) → Among r (references_of t)
   -- what the row exports is of the layer
-  pub exported : (x : Text) → exports x a ≡ true → Declares (exported_declarations t) l x
+  pub exported : (x : Text) → exports x a ≡ true → (l.scope ≡ 0) × Declares (exported_declarations t) l x
 
 answers : (t : Forest) (ps : ℕ → Place) (cs : ℕ → Context) (next : ℕ) (a : Forest) (l : Layer) → Facts t ps cs next a l → ((x : Text) → is_declared (declarations_of t) l x ≡ true → Ready (declarations_of t) x (named_in x l) cs 0 a) → Answers t a l
 answers t ps cs next a l facts ready x e h = elim (refers_found (declarations_of t) x (named_in x l) ps cs 0 next a facts.placed facts.agreed (ready x e) h) [

@@ -1,5 +1,5 @@
 -- What no reference has as its binding is unused, wherever it is declared.
-use Rattle.std.proofs.Common.{◌≡◌, ◌∙◌, ◌⊎◌, inl, inr, ℕ, suc, ◌+◌, Bool, true, false, ◌&&◌, ◌||◌, if◌then◌else◌, List, [], ◌∷◌, refl, sym, ap₂, subst}
+use Rattle.std.proofs.Common.{◌≡◌, ◌∙◌, ◌⊎◌, inl, inr, ℕ, suc, ◌+◌, Bool, true, false, ◌&&◌, ◌||◌, if◌then◌else◌, List, [], ◌∷◌, refl, sym, ap, ap₂, subst}
 use Rattle.std.proofs.lemmas.Bool.{and_parts, and_from, or_left, or_right, false_from_ne_true, eq-eqb}
 use Rattle.std.proofs.lemmas.Slice.Eq.{bytes_eq-Decides}
 use Rattle.js_syntax.specs.declared.node_kind.NodeKind.{NodeKind as Kind}
@@ -107,7 +107,7 @@ holds_program source n a w = record {
     tops i = record { rest = []; is = refl }
 
     inner : Answers t a (body_of 0)
-    inner = answers_in t (λ i. program_list) cs 1 a (body_of 0) (record { placed = placed; agreed = agreed; references = references; exported = λ x e. program_exports source n a x w e }) (λ i. refl) tops
+    inner = answers_in t (λ i. program_list) cs 1 a (body_of 0) (record { placed = placed; agreed = agreed; references = references; exported = λ x e. (refl, program_exports source n a x w e) }) (λ i. refl) tops
 
 below_second : (t : Forest) (cs : ℕ → Context) (at next : ℕ) (k : Kind) (n : Note) (a r : Forest) → ((s : ReferenceSite) → Among s (references_among (sites cs at next (node k n a r))) → Among s (references_of t))
     → (s : ReferenceSite) → Among s (references_among (sites (inside (cs at) next k a) 0 (next + opens_one k a) a)) → Among s (references_of t)
@@ -172,11 +172,11 @@ declared (d ∷ bs) b (inr h) = or_right (same_layer d.layer b.layer && _) (is_d
 
 -- ---- unused
 
-answered : (t : Forest) (row : Forest) (l : Layer) (x : Text) → Answers t row l → is_declared (declarations_of t) l x ≡ true → NothingRefers t (named_in x l) → ((b : BindingSite) → Among b (exported_declarations t) → declared_by b ≡ named_in x l → ⊥) → refers x row ≡ false
+answered : (t : Forest) (row : Forest) (l : Layer) (x : Text) → Answers t row l → is_declared (declarations_of t) l x ≡ true → NothingRefers t (named_in x l) → ((b : BindingSite) → Among b (exported_declarations t) → b.layer.scope ≡ 0 → declared_by b ≡ named_in x l → ⊥) → refers x row ≡ false
 answered t row l x h e none unexported = false_from_ne_true (refers x row) (λ g. by (h x e g))
   where
-    by : Declares (exported_declarations t) l x ⊎ HasReference (declarations_of t) (named_in x l) (references_of t) → ⊥
-    by (inl f) = unexported f.site f.stands (ap₂ named_in f.name f.layer)
+    by : ((l.scope ≡ 0) × Declares (exported_declarations t) l x) ⊎ HasReference (declarations_of t) (named_in x l) (references_of t) → ⊥
+    by (inl f) = unexported f.1.site f.1.stands (ap (λ (m : Layer). m.scope) f.1.layer ∙ f.0) (ap₂ named_in f.1.name f.1.layer)
     by (inr f) = none f.reference f.stands f.binds
 
 neither : (a b : Bool) → a ≡ false → b ≡ false → (a || b) ≡ false

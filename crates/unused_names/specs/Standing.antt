@@ -56,8 +56,9 @@ abbrev pub is_crossed : Around → VariableKind → Text → Bool
 is_crossed w variable.Var x = is_among w.inner x
 is_crossed w how x = is_among w.passing x
 
--- Nothing refers to what is declared, and no export is of it.
+-- Nothing refers to what is declared, and no export is of it: what lies below an export and isn't a name of the program's own
+-- scope is none that it exports.
 pub record IsUnused (t : Forest) (w : Around) (c : Context) (how : VariableKind) (x : Text) : Type 0 where
   pub nothing_refers : NothingRefers t (named_in x (layer_of how c))
-  pub is_not_exported : (b : BindingSite) → Among b (exported_declarations t) → declared_by b ≡ named_in x (layer_of how c) → ⊥
+  pub is_not_exported : (b : BindingSite) → Among b (exported_declarations t) → b.layer.scope ≡ 0 → declared_by b ≡ named_in x (layer_of how c) → ⊥
   pub is_seen : is_crossed w how x ≡ false

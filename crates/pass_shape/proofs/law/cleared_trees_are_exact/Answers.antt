@@ -6,4 +6,4 @@ use Rattle.tree_shape.specs.Exact.{inexact}
 use Rattle.pass_shape.proofs.law.cleared_trees_are_exact.Goals as goal
 
 pub returns : goal.returns
-returns c = λ t exact. omega (arith, swept_lighter inexact (λ how pure. omega arith) no_names (outermost false) t, exact)
+returns c = λ t exact. omega (arith, swept_lighter inexact (omega arith) no_names (outermost false) t, exact)

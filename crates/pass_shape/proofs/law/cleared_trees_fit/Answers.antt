@@ -7,4 +7,4 @@ use Rattle.pass_shape.proofs.Swept.{swept_stands}
 use Rattle.pass_shape.proofs.law.cleared_trees_fit.Goals as goal
 
 pub returns : goal.returns
-returns c = λ t fits. swept_stands no_names t (outermost false) (these (one root ∷ [])) refl ((λ d. absurd (cc d)), (λ d. absurd (cc d))) fits
+returns c = λ t fits. swept_stands no_names t (outermost false) (these (one root ∷ [])) refl (λ d. absurd (cc d)) fits

@@ -5,4 +5,4 @@ use Rattle.tree_shape.specs.Exact.{inexact}
 use Rattle.pass_shape.proofs.law.passed_trees_are_exact.Goals as goal
 
 pub returns : goal.returns
-returns c = λ names t exact. omega (arith, swept_lighter inexact (λ how pure. omega arith) names (outermost true) t, exact)
+returns c = λ names t exact. omega (arith, swept_lighter inexact (omega arith) names (outermost true) t, exact)

@@ -6,4 +6,4 @@ use Rattle.pass_shape.proofs.Swept.{swept_stands}
 use Rattle.pass_shape.proofs.law.passed_trees_fit.Goals as goal
 
 pub returns : goal.returns
-returns c = λ names t fits. swept_stands names t (outermost true) (these (one root ∷ [])) refl ((λ d. absurd (cc d)), (λ d. absurd (cc d))) fits
+returns c = λ names t fits. swept_stands names t (outermost true) (these (one root ∷ [])) refl (λ d. absurd (cc d)) fits

@@ -1,6 +1,6 @@
 use Rattle.std.proofs.Common.{◌≡◌}
 use Rattle.js_syntax.specs.Node.{forest_of}
-use Rattle.js_count.specs.Count.{node_count}
+use Rattle.passes.specs.Passes.{most_passes}
 use Rattle.passes.proofs.State.{Stands}
 use Rattle.passes.proofs.shake.settle.Given as goal
 
@@ -8,5 +8,5 @@ abbrev pub invariant-loop-done : goal.invariant-loop-done
 invariant-loop-done l =
     record {
       stands : Stands l.most (forest_of l.fn.program) l.done (forest_of l.left) l.scoping;
-      most : l.most ≡ node_count (forest_of l.fn.program);
+      most : l.most ≡ most_passes (forest_of l.fn.program);
     }

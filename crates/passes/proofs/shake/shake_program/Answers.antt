@@ -1,5 +1,5 @@
 use Rattle.js_syntax.specs.Node.{forest_of}
-use Rattle.passes.proofs.Clean.{small_cleared, clean_left, shaken_told}
+use Rattle.passes.proofs.Clean.{small_cleared, clean_left}
 use Rattle.passes.proofs.shake.shake_program.Goals as goal
 
 pub settle-requires : goal.settle-requires
@@ -7,6 +7,3 @@ settle-requires c = record { small = small_cleared (forest_of c.args.program) (f
 
 pub returns-clause-clean : goal.returns-clause-clean
 returns-clause-clean c = clean_left (forest_of c.in_ok-cleared.cleared) (forest_of c.in_ok-left.left.program) c.in_ok-left.left.scoping c.in_ok-left.ensures.left c.in_ok-left.ensures.scoping
-
-pub returns-clause-left_out : goal.returns-clause-left_out
-returns-clause-left_out c = shaken_told (forest_of c.args.program) (forest_of c.in_ok-cleared.cleared) (forest_of c.in_ok-left.left.program) c.in_ok-left.left.iterations c.in_ok-cleared.ensures.left c.in_ok-left.ensures.left c.in_ok-left.ensures.iterations

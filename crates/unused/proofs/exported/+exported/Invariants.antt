@@ -11,5 +11,4 @@ abbrev pub decreases-take_exported_below : goal.decreases-take_exported_below
 decreases-take_exported_below l = 2 * size_of (row l.children.now) + 1
 
 abbrev pub invariant-take_exported_below-loop-child : goal.invariant-take_exported_below-loop-child
-invariant-take_exported_below-loop-child l =
-    without_exported l.scoping l.in_export (row (drop l.child-index l.children)) l.marks ≡ without_exported l.scoping l.in_export (row l.children) l.initial.marks
+invariant-take_exported_below-loop-child l = without_exported (row (drop l.child-index l.children)) l.marks ≡ without_exported (row l.children) l.initial.marks

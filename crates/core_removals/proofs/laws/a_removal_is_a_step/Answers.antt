@@ -1,0 +1,11 @@
+use Rattle.core_removals.proofs.Here.{placed_values}
+use Rattle.core_removals.proofs.Steps.{removal_steps}
+use Rattle.core_removals.proofs.laws.a_removal_is_a_step.Goals as goal
+
+pub returns : goal.returns
+returns c t u placed clear plain arranged removes = removal_steps t u removes placed (record {
+  clear = clear;
+  values = placed_values t placed;
+  statements = plain;
+  arranged = arranged;
+})

@@ -1,0 +1,17 @@
+pub mod Inside
+pub mod Unlisting
+pub mod Names
+pub mod Leaving
+pub mod Marks
+pub mod Silent
+pub mod Parts
+pub mod Exported
+pub mod Losing
+pub mod Unseen
+pub mod Changes
+pub mod Cases
+pub mod Paths
+pub mod Passing
+pub mod Clearing
+pub mod Arranging
+pub mod Tried

@@ -1,0 +1,28 @@
+-- What becomes of a table while things leave its tree.
+use Rattle.std.specs.Prelude.{◌≡◌, ℕ, slice_get, Bool, true, false, Some}
+use Rattle.js_syntax.specs.declared.node_kind.NodeKind.TheVariants.{Program as program}
+use Rattle.js_syntax.specs.Node.{Forest, node}
+use Rattle.scope_rules.specs.Table.{Symbol, Scoping}
+use Rattle.scope_laws.specs.Exact.{Among, Exact}
+
+-- a tree of a program
+abbrev pub is_program : Forest → Bool
+is_program (node (program source) n below rest) = true
+is_program t = false
+
+-- the symbol had the references that it has, and maybe more
+pub record HadMore (before : Scoping) (number : ℕ) (now : Symbol) : Type 0 where
+  pub symbol : Symbol
+  pub stood : slice_get before.symbols number ≡ Some symbol
+  pub listed : (id : ℕ) → Among id now.references → Among id symbol.references
+
+-- the entries are the same, and no list is longer
+pub record Shortens (before now : Scoping) : Type 0 where
+  pub same_entries : now.references ≡ before.references
+  pub symbols : (number : ℕ) (symbol : Symbol) → slice_get now.symbols number ≡ Some symbol → HadMore before number symbol
+
+-- the table, with shorter lists, is exact for the tree that is there now
+pub record IsKept (s : Scoping) (t : Forest) : Type 0 where
+  pub table : Scoping
+  pub shortens : Shortens s table
+  pub exact : Exact table t

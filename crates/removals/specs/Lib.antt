@@ -1,0 +1,4 @@
+pub mod Silent
+pub mod Removes
+pub mod Arranged
+pub mod Rows

@@ -1,0 +1,11 @@
+//! What may a dead code remover do to a program, of any source type?
+//!
+//! `specs/Removes.antt` has one constructor for each case: one change at one place, whose conditions are read
+//! off the tree as it is then, by the bindings of its references. `Removals` are such changes one after the
+//! other, from program to program.
+//!
+//! The code is empty: each function's contract is a law.
+#![tactic(auto)]
+
+pub mod laws;
+pub mod rows;

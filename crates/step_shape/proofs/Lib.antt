@@ -1,0 +1,4 @@
+pub mod Rows
+pub mod Planned
+pub mod Emptied
+pub mod Stepped
