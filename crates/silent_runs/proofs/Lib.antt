@@ -1,3 +1,5 @@
 pub mod Quiet
 pub mod Silent
 pub mod Marks
+pub mod Operators
+pub mod Forms

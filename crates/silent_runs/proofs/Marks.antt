@@ -27,7 +27,7 @@ found : (env : Env) (x : Text) (b c : Bool) → (b || c) ≡ true → (b ≡ tru
 found env x true c e h = inl (h refl)
 found env x false c e h = inr e
 
-known_found : (bound : List Bool) (env : Env) (k : Kind) (n : Note) (below : Type 0) → is_known bound k n ≡ true → HoldsAt (HasBinding env) bound k n below → IsFound env k
+pub known_found : (bound : List Bool) (env : Env) (k : Kind) (n : Note) (below : Type 0) → is_known bound k n ≡ true → HoldsAt (HasBinding env) bound k n below → IsFound env k
 known_found bound env (Kind.ReferenceName x) n below e h = found env x (is_marked bound n.id) (bytes_eq x (codes "undefined")) e h
 known_found bound env k n below e h = absurd (true≢false (sym e))
 

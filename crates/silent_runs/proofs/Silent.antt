@@ -24,13 +24,13 @@ use Rattle.silent_runs.proofs.Quiet.{quiet_done, quiet_unknown, quiet_choose, qu
 
 -- the fields of a row
 
-quiet_need : {W : Completion → Type 0} {k : Meaning → Parts → M} (env : Env) (ms : Parts) → QuietRow env ms → ((m : Meaning) (r : Parts) → QuietNode env m → QuietRow env r → Quietly W (k m r)) → Quietly W (need ms k)
+pub quiet_need : {W : Completion → Type 0} {k : Meaning → Parts → M} (env : Env) (ms : Parts) → QuietRow env ms → ((m : Meaning) (r : Parts) → QuietNode env m → QuietRow env r → Quietly W (k m r)) → Quietly W (need ms k)
 unfolding need
 quiet_need env [] rows h = quiet_unknown
 quiet_need env (None ∷ ms) rows h = quiet_unknown
 quiet_need env (Some m ∷ ms) rows h = h m ms rows.0 rows.1
 
-quiet_may : {W : Completion → Type 0} {k : Option Meaning → Parts → M} (env : Env) (ms : Parts) → QuietRow env ms → ((o : Option Meaning) (r : Parts) → QuietRow env r → Quietly W (k o r)) → Quietly W (may ms k)
+pub quiet_may : {W : Completion → Type 0} {k : Option Meaning → Parts → M} (env : Env) (ms : Parts) → QuietRow env ms → ((o : Option Meaning) (r : Parts) → QuietRow env r → Quietly W (k o r)) → Quietly W (may ms k)
 unfolding may
 quiet_may env [] rows h = quiet_unknown
 quiet_may env (o ∷ ms) rows h = h o ms rows.1
@@ -60,7 +60,7 @@ quiet_if_set (Some v) = quiet_give v
 quiet_cell_value : (c : Cell) → Quiet (cell_value c)
 quiet_cell_value (cell constant o) = quiet_if_set o
 
-quiet_slot : (slot : Slot) → Quiet (slot_value slot)
+pub quiet_slot : (slot : Slot) → Quiet (slot_value slot)
 quiet_slot (local c) = quiet_read c quiet_cell_value
 quiet_slot (imported source x) = quiet_import source x quiet_if_set
 quiet_slot arguments_object = quiet_unknown
@@ -106,7 +106,7 @@ quiet_function f a env = quiet_named (own_name f a) f a env
 
 -- Each sort of kind.
 
-quiet_kind : (E : Enter) (env : Env) (a : Forest) (ms : Parts) (k : Kind) → is_value k ≡ true → QuietNode env (does E k a ms)
+pub quiet_kind : (E : Enter) (env : Env) (a : Forest) (ms : Parts) (k : Kind) → is_value k ≡ true → QuietNode env (does E k a ms)
 quiet_kind E env a ms (Kind.Literal v) e (value w) = quiet_give _
 quiet_kind E env a ms (Kind.Literal v) e q = quiet_unknown
 quiet_kind E env a ms (Kind.RegExp x) e q = quiet_unknown
@@ -123,7 +123,7 @@ quiet_reference E env a ms x h (value for_typeof) = quiet_typeof_name (look env 
 quiet_reference E env a ms x h (value w) = quiet_name (look env x) x h
 quiet_reference E env a ms x h q = quiet_unknown
 
-quiet_found : (E : Enter) (env : Env) (a : Forest) (ms : Parts) (k : Kind) → IsFound env k → QuietNode env (does E k a ms)
+pub quiet_found : (E : Enter) (env : Env) (a : Forest) (ms : Parts) (k : Kind) → IsFound env k → QuietNode env (does E k a ms)
 quiet_found E env a ms (Kind.ReferenceName x) h = quiet_reference E env a ms x h
 quiet_found E env a ms k h = absurd h
 
@@ -133,7 +133,7 @@ quiet_unary unary.Void v e = quiet_give undef
 quiet_unary unary.Typeof v e = quiet_give _
 quiet_unary o v e = absurd (true≢false (sym e))
 
-quiet_parts : (E : Enter) (env : Env) (a : Forest) (ms : Parts) (k : Kind) → runs_its_parts k ≡ true → QuietRow env ms → QuietNode env (does E k a ms)
+pub quiet_parts : (E : Enter) (env : Env) (a : Forest) (ms : Parts) (k : Kind) → runs_its_parts k ≡ true → QuietRow env ms → QuietNode env (does E k a ms)
 quiet_parts E env a ms (Kind.UnaryExpression o) e rows (value w) = quiet_need env ms rows (λ m r h hs. quiet_value (h (value (wanted_by o))) (λ v. quiet_unary o v e))
 quiet_parts E env a ms Kind.ParenthesizedExpression e rows (value w) = quiet_need env ms rows (λ m r h hs. h (value w))
 quiet_parts E env a ms Kind.ParenthesizedExpression e rows place = quiet_need env ms rows (λ m r h hs. h place)
@@ -161,7 +161,7 @@ quiet_parts E env a ms k e rows q = absurd (true≢false (sym e))
 
 -- rows
 
-quiet_core : (env : Env) (b : Bool) (m : Meaning) → QuietNode env m → QuietNode env (if_core b m)
+pub quiet_core : (env : Env) (b : Bool) (m : Meaning) → QuietNode env m → QuietNode env (if_core b m)
 quiet_core env true m h q = h q
 quiet_core env false m h q = quiet_unknown
 

@@ -3,13 +3,14 @@ ghost use Rattle.std.specs.Prelude.{◌≡◌, ◌⊎◌, List, [], Bool, true, 
 ghost use Rattle.js_syntax.specs.declared.node_kind.NodeKind.{NodeKind as Kind};
 ghost use Rattle.js_syntax.specs.Node.{Forest, Note, alone};
 ghost use Rattle.silence.specs.Silence.{may_have_effects};
-ghost use Rattle.js_meaning.specs.Value.{Text, Env, Value};
+ghost use Rattle.js_meaning.specs.Value.{Text, Env, this_name, Value};
 ghost use Rattle.js_meaning.specs.Trace.{Ending};
 ghost use Rattle.js_meaning.specs.State.{State, gives, goes, stops, M};
 ghost use Rattle.js_meaning.specs.Host.{Enter};
 ghost use Rattle.js_meaning.specs.Node.{run};
 ghost use Rattle.js_meaning.specs.Meaning.{eval};
 ghost use Rattle.silent_runs.specs.Quiet.{OnlyAllocates, Quietly, IsNormal, Quiet};
+ghost use Rattle.silent_runs.specs.Forms.{acts};
 ghost use Rattle.silent_runs.specs.Silent.{HasBinding, SilentRow, HoldsOfBound, Known, QuietNode, QuietRow, meaning};
 
 /// What is silent in an environment is quiet there, whatever it is asked.
@@ -38,6 +39,19 @@ pub fn a_silent_node_is_quiet()
 pub fn a_silent_statement_is_quiet()
     ensures { (bound : List Bool) (env : Env) (E : Enter) (a : Forest) (ls : List Text) →
         may_have_effects bound false a ≡ false → Known bound env a → Quietly IsNormal (meaning E Kind.ExpressionStatement a (run ls) env) }
+{}
+
+/// All silent forms of core nodes are quiet, whatever they are asked, where the names that are marked as
+/// bound have bindings, and `this` has one.
+pub fn silent_forms_are_quiet()
+    ensures row { (bound : List Bool) (env : Env) (E : Enter) → HasBinding env this_name → (t : Forest) → acts bound t ≡ false → Known bound env t → QuietRow env (eval E t) }
+    ensures statement { (bound : List Bool) (env : Env) (E : Enter) → HasBinding env this_name → (a : Forest) (ls : List Text) →
+        acts bound a ≡ false → Known bound env a → Quietly IsNormal (meaning E Kind.ExpressionStatement a (run ls) env) }
+{}
+
+/// What the remover takes out as silent is one of these forms.
+pub fn what_is_taken_is_a_silent_form()
+    ensures { (bound : List Bool) (t : Forest) → may_have_effects bound false t ≡ false → acts bound t ≡ false }
 {}
 
 /// What quiet says: from every state the computation gives a value without an event, by allocation
