@@ -1,10 +1,9 @@
-"""shake: worked rows of reading and writing, with what ESTree and docs/DEFINITIONS.md say of them.
+"""shake_rows: worked rows of reading and writing, with what ESTree and docs/DEFINITIONS.md say of them.
 
 Each case is a statement, or a program, in its own normal form, which is written as it was read; then inputs with the fault that they
 have, inputs that are written otherwise than they were read, and what passes leave of a program.
 """
 import json
-from table import GENERATED
 
 def N(t,**k): return dict(type=t,**k)
 def I(s): return N('Identifier',name=s)
@@ -27,7 +26,7 @@ def whole(s): return s if s['type']=='Program' else prog([s])
 cases={}
 cases['statements']=[
  N('ExpressionStatement',expression=L('use strict'),directive='use strict'),
- B(N('DebuggerStatement')), N('IfStatement',test=a,consequent=N('EmptyStatement'),alternate=ES(L(1))), prog([N('WithStatement',object=a,body=B())],'script'),
+ B(N('DebuggerStatement')), N('IfStatement',test=a,consequent=N('EmptyStatement'),alternate=ES(b)), prog([N('WithStatement',object=a,body=B())],'script'),
  N('LabeledStatement',label=I('l'),body=N('WhileStatement',test=a,body=B(N('BreakStatement',label=I('l')),N('ContinueStatement',label=None)))),
  N('IfStatement',test=a,consequent=ES(b),alternate=None), N('IfStatement',test=a,consequent=ES(b),alternate=ES(c)),
  N('SwitchStatement',discriminant=a,cases=[N('SwitchCase',test=L(1),consequent=[ES(b)]),N('SwitchCase',test=None,consequent=[])]),
@@ -166,6 +165,10 @@ def do(n,*args): return ES(call(I(n),*args))
 EMPTY=N('EmptyStatement')
 DEBUGGER=N('DebuggerStatement')
 RETURN=lambda e: N('ReturnStatement',argument=e)
+IF=lambda then,other=None: N('IfStatement',test=a,consequent=then,alternate=other)
+LABEL=lambda l,s: N('LabeledStatement',label=I(l),body=s)
+ARROW=lambda *body: fn('ArrowFunctionExpression',None,[],B(*body))
+STRICT=N('ExpressionStatement',expression=L('use strict'),directive='use strict')
 x_is=lambda v,kind='let': var(kind,(x,v))
 S('1; let x = 2; let y = x; f();',[ES(L(1)),x_is(L(2)),var('let',(I('y'),x)),do('f')],[do('f')],2,0)
 S('; f();',[EMPTY,do('f')],[do('f')],0,0)
@@ -185,14 +188,28 @@ S('let x = f();',[x_is(call(f))],None,0,0)
 S('let a = 1, b = f(), c = 2;',[var('let',(a,L(1)),(b,call(f)),(c,L(2)))],[var('let',(b,call(f)))],1,0)
 S('for (let a = 1;;) b();',[N('ForStatement',init=var('let',(a,L(1))),test=None,update=None,body=do('b'))],None,0,0)
 S('switch (a) { case 1: 1; b(); default: ; }',[N('SwitchStatement',discriminant=a,cases=[N('SwitchCase',test=L(1),consequent=[ES(L(1)),do('b')]),N('SwitchCase',test=None,consequent=[EMPTY])])],[N('SwitchStatement',discriminant=a,cases=[N('SwitchCase',test=L(1),consequent=[do('b')]),N('SwitchCase',test=None,consequent=[])])],1,0)
-S('if (a) 1;',[N('IfStatement',test=a,consequent=ES(L(1)),alternate=None)],None,0,0)
+S('if (a) 1;',[IF(ES(L(1)))],[IF(EMPTY)],1,0)
+S('if (a) b(); else 1;',[IF(do('b'),ES(L(1)))],[IF(do('b'),EMPTY)],1,0)
+S('while (a) 1;',[N('WhileStatement',test=a,body=ES(L(1)))],[N('WhileStatement',test=a,body=EMPTY)],1,0)
+S('do 1; while (a);',[N('DoWhileStatement',body=ES(L(1)),test=a)],[N('DoWhileStatement',body=EMPTY,test=a)],1,0)
+S('for (let a = 1; ; 1) 1;',[N('ForStatement',init=var('let',(a,L(1))),test=None,update=L(1),body=ES(L(1)))],[N('ForStatement',init=var('let',(a,L(1))),test=None,update=L(1),body=EMPTY)],1,0)
+S('for (const k in a) k;',[N('ForInStatement',left=var('const',(I('k'),None)),right=a,body=ES(I('k')))],[N('ForInStatement',left=var('const',(I('k'),None)),right=a,body=EMPTY)],1,0)
+S('for (const k of a) !k;',[N('ForOfStatement',left=var('const',(I('k'),None)),right=a,body=ES(un('!',I('k'))),**{'await':False})],[N('ForOfStatement',left=var('const',(I('k'),None)),right=a,body=EMPTY,**{'await':False})],1,0)
+S('1; l: 1; m: n: 1;',[ES(L(1)),LABEL('l',ES(L(1))),LABEL('m',LABEL('n',ES(L(1))))],[LABEL('l',EMPTY),LABEL('m',LABEL('n',EMPTY))],1,0)
+S('with (o) 1; in a script',[N('WithStatement',object=I('o'),body=ES(L(1)))],[N('WithStatement',object=I('o'),body=EMPTY)],1,0,'script')
+S('function f(o, x) { with (o) x; } in a script',[F_('f',['o','x'],N('WithStatement',object=I('o'),body=ES(x)))],None,0,2,'script')
+S('if (a) while (b) 1; else if (c) 1; else { 1; }',[IF(N('WhileStatement',test=b,body=ES(L(1))),N('IfStatement',test=c,consequent=ES(L(1)),alternate=B(ES(L(1)))))],[IF(N('WhileStatement',test=b,body=EMPTY),N('IfStatement',test=c,consequent=EMPTY,alternate=B()))],1,0)
+S('let x; if (a) x; b();',[x_is(None),IF(ES(x)),do('b')],[IF(EMPTY),do('b')],2,0)
+S('if (a) (() => { if (b) 1; }); use(() => { if (b) 1; });',[IF(ES(ARROW(N('IfStatement',test=b,consequent=ES(L(1)),alternate=None)))),use(ARROW(N('IfStatement',test=b,consequent=ES(L(1)),alternate=None)))],[IF(EMPTY),use(ARROW(N('IfStatement',test=b,consequent=EMPTY,alternate=None)))],1,0)
+S("'use strict'; if (a) 'use strict';",[STRICT,IF(ES(L('use strict')))],[STRICT,IF(EMPTY)],1,0)
+S('if (a) b; else -1; while (a) this;',[IF(ES(b),ES(un('-',L(1)))),N('WhileStatement',test=a,body=ES(N('ThisExpression')))],None,0,0)
 S('undefined; undefine;',[ES(I('undefined')),ES(I('undefine'))],[ES(I('undefine'))],1,0)
 S('function a() { b(); } function b() {}',[F_('a',[],do('b')),F_('b',[])],[],2,0)
 S('function f() { f(); }',[F_('f',[],do('f'))],None,0,1)
 S('function f(x) { var x = 1; } in a script',[F_('f',['x'],x_is(L(1),'var'))],[F_('f',['x'])],1,0,'script')
 S('function f(x) { with (x) { x; } x; } in a script',[F_('f',['x'],N('WithStatement',object=x,body=B(ES(x))),ES(x))],[F_('f',['x'],N('WithStatement',object=x,body=B(ES(x))))],1,2,'script')
 S('function f() { function g() {} { function h() {} } } in a script',[F_('f',[],F_('g',[]),B(F_('h',[])))],[F_('f',[],B(F_('h',[])))],1,0,'script')
-S("function f() { 'use strict'; { function h() {} } } in a script",[F_('f',[],N('ExpressionStatement',expression=L('use strict'),directive='use strict'),B(F_('h',[])))],[F_('f',[],N('ExpressionStatement',expression=L('use strict'),directive='use strict'),B())],1,0,'script')
+S("function f() { 'use strict'; { function h() {} } } in a script",[F_('f',[],STRICT,B(F_('h',[])))],[F_('f',[],STRICT,B())],1,0,'script')
 S('function f(o) { with (o) { var x = 1; var y; } } in a script',[F_('f',['o'],N('WithStatement',object=I('o'),body=B(x_is(L(1),'var'),var('var',(I('y'),None)))))],[F_('f',['o'],N('WithStatement',object=I('o'),body=B(x_is(L(1),'var'))))],1,1,'script')
 S('var x = 1; in a script',[x_is(L(1),'var')],None,0,0,'script')
 S('var x = 1; in a CommonJS module',[x_is(L(1),'var')],[],1,0,'commonjs')
@@ -203,42 +220,20 @@ S('let x; [...x]; ({ [x]: 1 }); ({ get a() {} }); -x; f(x), 2;',[x_is(None),ES(N
 
 
 def text(tree): return json.dumps(tree, sort_keys=True, separators=(',', ':'))
-def raw(s): return 'r#"%s"#' % s
 
 
-def table(name, what, entries, test):
-    """Tests over the entries, a few in each: the proof of a test grows faster than its table."""
-    out, size = '', 8
-    for i in range(0, len(entries), size):
-        suffix = '' if len(entries) <= size else '_%d' % (i // size + 1)
-        out += '\n// %s\n#[test]\nfn %s%s(rt: HostRuntime) -> Result<(), Fail> {\n    let cases = [%s];\n%s    Ok(())\n}\n' % (what, name, suffix, ', '.join(entries[i:i + size]), test)
-    return out
-
-
-RUN = """        let got = run_words(rt.alloc(), &["shake", "dce", "--tree-only"], input.as_bytes(), &[], 100_000, &[])?;
-"""
-
-
-def reading():
-    out = '// Rows of reading and writing.\n// %s\nuse super::run_words;\nuse std::test::Fail;\n' % GENERATED.replace('tools/nodes.py', 'tools/examples.py')
+def rows():
+    """What each group of rows shows, and its rows: the words in front of the program, its tree, and what is answered, written and said."""
     for k, body in cases.items():
-        out += table('writes_%s_as_they_are_read' % k, 'Each is written as it was read.', [raw(text(whole(s))) for s in body],
-            '    for input in cases {\n' + RUN + '        assert_eq!(rt; got.code, 0, "{input}");\n        assert_eq!(rt; got.out.len(), input.len() + 1, "{input}");\n        assert!(rt; got.out.as_slice().starts_with(input.as_bytes()), "{input}");\n    }\n')
-    pairs = lambda l: ['(%s, %s)' % (raw(text(p)), raw(text(q)) if isinstance(q, dict) else json.dumps(q)) for _, p, q in l]
-    out += table('refuses_by_the_first_fault', 'Each has one line that says why.', pairs(faults),
-        '    for (input, want) in cases {\n' + RUN + '        assert_eq!(rt; got.code, 5, "{input}");\n        assert_eq!(rt; got.err.as_slice(), want.as_bytes(), "{input}");\n        assert!(rt; got.out.is_empty(), "{input}");\n    }\n')
-    out += table('writes_in_one_form', 'What is written otherwise than it was read.', pairs(others),
-        '    for (input, want) in cases {\n' + RUN + '        assert_eq!(rt; got.code, 0, "{input}");\n        assert_eq!(rt; got.out.len(), want.len() + 1, "{input}");\n        assert!(rt; got.out.as_slice().starts_with(want.as_bytes()), "{input}");\n    }\n')
-    return out
+        yield '%s: each is written as it was read' % k, [('--tree-only ', whole(s), '0\n%s\n' % text(whole(s))) for s in body]
+    yield 'faults: the first one has the line that says why', [('--tree-only ', p, '5\n%s' % line) for _, p, line in faults]
+    yield 'forms: what is written otherwise than it was read', [('--tree-only ', p, '0\n%s\n' % text(q)) for _, p, q in others]
+    for words, p, q, passes, references in shaken:
+        yield words, [('', p, '0\n%s\npasses %d references %d\n' % (text(q), passes, references))]
 
 
-
-def left():
-    """Tests over what passes leave: the whole text that is written."""
-    out = '// Rows of what passes leave.\n// %s\nuse super::dce;\nuse std::test::Fail;\n' % GENERATED.replace('tools/nodes.py', 'tools/examples.py')
-    entries = ['\n// %s\n(%s, %s)' % (w, raw(text(p)), json.dumps('%s\npasses %d references %d\n' % (text(q), n, r))) for w, p, q, n, r in shaken]
-    return out + table('writes_what_passes_leave', 'The tree that is left, and the line of counts.', entries,
-        '    for (input, want) in cases {\n        let got = dce(rt.alloc(), input.as_bytes())?;\n        assert_eq!(rt; got.code, 0, "{input}");\n        assert_eq!(rt; got.out.as_slice(), want.as_bytes(), "{input}");\n    }\n')
+def given(): return ''.join('// %s\n%s' % (what, ''.join(words + text(p) + '\n' for words, p, _ in group)) for what, group in rows())
+def wanted(): return ''.join('// %s\n%s' % (what, ''.join(want for _, _, want in group)) for what, group in rows())
 
 
-FILES = {'shake/src/tests/reading.rt': reading, 'shake/src/tests/left.rt': left}
+FILES = {'shake_rows/stdin': given, 'shake_rows/stdout': wanted}

@@ -10,8 +10,6 @@ mod place;
 mod private;
 mod row;
 mod rows;
-#[cfg(test)]
-mod tests;
 
 pub use declared::add_declared;
 pub use exported::{exported_among, locals_among};

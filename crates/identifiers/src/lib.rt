@@ -7,8 +7,6 @@
 
 mod name;
 mod reserved;
-#[cfg(test)]
-mod tests;
 
 pub use name::is_identifier_name;
 pub use reserved::{may_be_bound, may_be_read};

@@ -7,8 +7,6 @@
 #![tactic(auto)]
 
 mod kind;
-#[cfg(test)]
-mod tests;
 mod walk;
 
 pub use walk::{count_nodes, count_of_kind, depth, place_behind};

@@ -9,8 +9,6 @@ mod covered;
 mod node;
 mod program;
 mod task;
-#[cfg(test)]
-mod tests;
 
 pub use node::enter_node;
 pub use program::enter_program;

@@ -12,8 +12,6 @@ mod literal;
 mod member;
 mod operator;
 mod other;
-#[cfg(test)]
-mod tests;
 
 pub use expression::enter_value;
 pub use other::{enter_collection, enter_entry, enter_place};

@@ -11,8 +11,6 @@ mod loops;
 mod parts;
 mod simple;
 mod statement;
-#[cfg(test)]
-mod tests;
 
 pub use branch::{enter_cases, test_case};
 pub use declare::{enter_catch_clause, enter_declarator, take_name};

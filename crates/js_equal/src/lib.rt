@@ -6,8 +6,6 @@
 #![tactic(auto)]
 
 mod kind;
-#[cfg(test)]
-mod tests;
 mod text;
 mod value;
 mod walk;

@@ -5,7 +5,5 @@
 #![tactic(auto)]
 
 mod moves;
-#[cfg(test)]
-mod tests;
 
 pub use moves::{consult, host_moves};

@@ -8,8 +8,6 @@
 
 mod enter;
 mod exports;
-#[cfg(test)]
-mod tests;
 
 pub use enter::{
     copy_loop_names, declare_loop_names, enter_block, enter_catch, enter_function, enter_module,

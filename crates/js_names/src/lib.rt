@@ -6,8 +6,6 @@
 
 mod bound;
 mod eval;
-#[cfg(test)]
-mod tests;
 
 pub use bound::bound_names;
 pub use eval::as_direct_eval_call;

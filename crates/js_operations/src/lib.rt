@@ -9,8 +9,6 @@ mod call;
 mod host;
 mod operator;
 mod place;
-#[cfg(test)]
-mod tests;
 
 pub use call::{call_value, construct_value};
 pub use host::{consults, given, throws};

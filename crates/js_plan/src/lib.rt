@@ -11,8 +11,6 @@ mod frame;
 mod held;
 pub mod laws;
 mod plan;
-#[cfg(test)]
-mod tests;
 
 pub use ask::{Ask, Wanted};
 pub use frame::{

@@ -6,8 +6,6 @@
 
 mod parts;
 mod stack;
-#[cfg(test)]
-mod tests;
 
 pub use parts::{
     asks, asks_maybe, completes, enters, goes, replies, then_completion, then_normal, then_operand,

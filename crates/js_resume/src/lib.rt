@@ -7,7 +7,5 @@
 
 mod frames;
 mod sort;
-#[cfg(test)]
-mod tests;
 
 pub use frames::resume_frame;

@@ -8,8 +8,6 @@ mod literal;
 mod operand;
 mod place;
 mod target;
-#[cfg(test)]
-mod tests;
 
 pub use literal::resume_values;
 pub use operand::resume_operand;

@@ -7,8 +7,6 @@
 mod completion;
 mod normal;
 mod run;
-#[cfg(test)]
-mod tests;
 mod turn;
 mod value;
 

@@ -8,8 +8,6 @@
 mod first;
 mod lists;
 mod loops;
-#[cfg(test)]
-mod tests;
 
 pub use first::{Front, asks_first, first_ask, first_field};
 pub use lists::{collect_values, declare_each, find_case, give_each, run_each, run_in_turn};

@@ -7,7 +7,5 @@
 
 mod machine;
 mod program;
-#[cfg(test)]
-mod tests;
 
 pub use program::run;

@@ -7,8 +7,6 @@
 mod declared;
 mod module;
 mod names;
-#[cfg(test)]
-mod tests;
 
 pub use declared::{
     Decl, Way, function_decls, lexical, module_decls, named_so, own_name, waiting_names,

@@ -8,8 +8,6 @@
 
 pub mod rows;
 mod table;
-#[cfg(test)]
-mod tests;
 
 pub use scope_flags::{ReferenceFlags, ScopeFlags, SymbolFlags};
 pub use scoping_match::scoping_matches;

@@ -8,8 +8,6 @@
 mod event;
 mod show;
 mod shown;
-#[cfg(test)]
-mod tests;
 
 pub use event::{Act, Ending, Event, Outcome, ShownExport, ShownExports};
 pub use show::show_value;

@@ -10,8 +10,6 @@ mod acting;
 pub mod laws;
 mod names;
 mod references;
-#[cfg(test)]
-mod tests;
 
 pub use acting::may_act;
 pub use references::refers;

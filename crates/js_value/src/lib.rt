@@ -10,8 +10,6 @@ mod number;
 mod object;
 mod operator;
 mod plain;
-#[cfg(test)]
-mod tests;
 mod value;
 
 pub use env::{Bound, Env, Slot};

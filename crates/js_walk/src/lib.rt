@@ -4,8 +4,6 @@
 //! answered false; lists are fields and no nodes of their own. That is `specs/Walk.antt`.
 #![tactic(auto)]
 
-#[cfg(test)]
-mod tests;
 mod walk;
 
 pub use walk::{Visit, walk_node, walk_program};

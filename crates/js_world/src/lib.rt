@@ -10,8 +10,6 @@ mod reference;
 mod scope;
 mod script;
 mod seeing;
-#[cfg(test)]
-mod tests;
 mod world;
 
 pub use reference::{gives, unknown};

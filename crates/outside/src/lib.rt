@@ -18,8 +18,6 @@ mod memory;
 mod read;
 mod standard;
 mod sure;
-#[cfg(test)]
-mod tests;
 mod traits;
 mod write;
 

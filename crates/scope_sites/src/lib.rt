@@ -7,8 +7,6 @@
 
 mod found;
 mod site;
-#[cfg(test)]
-mod tests;
 
 pub use found::Found;
 pub use site::{BindingSite, ReferenceSite, ScopeSite};

@@ -13,8 +13,6 @@ mod marks;
 mod reference;
 mod scope;
 mod symbol;
-#[cfg(test)]
-mod tests;
 mod unresolved;
 
 pub use answer::scoping_matches;

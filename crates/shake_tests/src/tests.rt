@@ -1,11 +1,19 @@
 // Worked runs of the program, with what ESTree and the project's documents say of them.
-use super::*;
-use std::alloc::Global;
+use js_tree::{Node, NodeKind, SPAN};
+use shake::{MemSink, MemSource, Status, read_tree, shake, write_tree};
+use std::alloc::{AllocError, Global};
 use std::test::Fail;
 
+mod called;
 mod large;
-mod left;
-mod reading;
+mod passed;
+
+// A node above one other.
+fn above(alloc: Global, kind: NodeKind, child: Node) -> Result<Node, AllocError> {
+    let mut children = Vec::new(alloc);
+    children.push(Some(child))?;
+    Ok(Node::new(kind, SPAN, children))
+}
 
 // The answer, what was written, and what was said.
 #[derive(Drop)]

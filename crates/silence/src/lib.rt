@@ -5,7 +5,5 @@
 #![tactic(auto)]
 
 mod silent;
-#[cfg(test)]
-mod tests;
 
 pub use silent::{is_marked, may_have_side_effects, none_has_side_effects};

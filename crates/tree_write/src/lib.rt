@@ -12,8 +12,6 @@ mod field;
 mod name;
 mod node;
 mod scalar;
-#[cfg(test)]
-mod tests;
 mod write;
 
 pub use write::write_tree;

@@ -20,8 +20,6 @@ mod answer;
 mod law;
 mod program;
 mod read;
-#[cfg(test)]
-mod tests;
 
 pub use answer::{Command, WordsError};
 pub use law::{refuses_help, takes_dce, takes_dce_with_tree_only};

@@ -1,18 +1,12 @@
 // Programs at the limit of levels.
-use super::Outcome;
-use crate::run::answer_tree;
+use super::above;
+use js_count::depth;
 use js_syntax::UnaryOperator;
 use js_tree::{Ident, Node, NodeKind, Program, SPAN, SourceType};
-use outside::MemSink;
+use min_driver::{CompressOptions, Minifier, MinifierOptions, MinifyError};
 use std::alloc::{AllocError, Global};
 use std::test::Fail;
-use words::Command;
-
-fn above(alloc: Global, kind: NodeKind, child: Node) -> Result<Node, AllocError> {
-    let mut children = Vec::new(alloc);
-    children.push(Some(child))?;
-    Ok(Node::new(kind, SPAN, children))
-}
+use tree_write::write_tree;
 
 // The tree of `f()`, of two levels.
 fn call(alloc: Global) -> Result<Node, AllocError> {
@@ -46,40 +40,40 @@ fn negated(alloc: Global, operators: usize) -> Result<Program, AllocError> {
     Ok(Program::new(root))
 }
 
-fn outcome(alloc: Global, code: u8, out: &MemSink, err: &MemSink) -> Result<Outcome, AllocError> {
-    Ok(Outcome {
-        code,
-        out: Vec::from_slice(alloc, out.written())?,
-        err: Vec::from_slice(alloc, err.written())?,
-    })
+fn shaken(alloc: Global, program: &mut Program) -> Result<u64, MinifyError> {
+    let options = MinifierOptions {
+        compress: Some(CompressOptions::dce(alloc)),
+    };
+    let done = Minifier::new(options).dce(alloc, program)?;
+    Ok(done.iterations)
 }
 
-fn answered(alloc: Global, operators: usize) -> Result<Outcome, AllocError> {
-    let program = negated(alloc, operators)?;
-    let mut out = MemSink::new(alloc, 200_000, &[])?;
-    let mut err = MemSink::new(alloc, 1000, &[])?;
-    let command = Command::Dce { tree_only: false };
-    let status = answer_tree(alloc, command, program, &mut out, &mut err);
-    outcome(alloc, status.code(), &out, &err)
+// How many passes changed something, or an error; how many levels are left; and how long their text is.
+type Answer = (Result<u64, MinifyError>, usize, usize);
+
+fn answered(alloc: Global, operators: usize) -> Result<Answer, AllocError> {
+    let mut program = negated(alloc, operators)?;
+    let answer = shaken(alloc, &mut program);
+    let levels = depth(&program, 2000);
+    let text = write_tree(alloc, &program)?;
+    Ok((answer, levels, text.as_str().len()))
 }
 
+// Each operator has 67 bytes, and all that stands around them has 193.
 #[test]
 fn a_thousand_levels_are_shaken(rt: HostRuntime) -> Result<(), Fail> {
     let got = answered(rt.alloc(), 996)?;
-    assert_eq!(rt; got.code, 0);
-    assert!(rt; got.out.as_slice().ends_with(b"\npasses 0 references 0\n"));
-    assert!(rt; got.err.is_empty());
+    assert_eq!(rt; got, (Ok(0), 1000, 66_925));
     Ok(())
 }
 
 #[test]
 fn one_level_more_is_refused(rt: HostRuntime) -> Result<(), Fail> {
+    let refused = MinifyError::TooLarge {
+        nodes: 1001,
+        levels: 1001,
+    };
     let got = answered(rt.alloc(), 997)?;
-    assert_eq!(rt; got.code, 6);
-    assert_eq!(rt;
-        got.err.as_slice(),
-        "shake: too large: nodes 1001 levels 1001\n".as_bytes()
-    );
-    assert!(rt; got.out.is_empty());
+    assert_eq!(rt; got, (Err(refused), 1001, 66_992));
     Ok(())
 }

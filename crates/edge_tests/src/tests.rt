@@ -1,0 +1,3 @@
+// Streams, and words.
+mod parsed;
+mod streams;

@@ -1,0 +1,8 @@
+// Small programs.
+mod built;
+mod contexts;
+mod faults;
+mod marks;
+mod sites;
+mod told;
+mod walks;
