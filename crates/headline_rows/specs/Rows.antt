@@ -1,0 +1,41 @@
+-- Small modules.
+use Rattle.std.specs.Prelude.{[], ◌∷◌, None}
+use Rattle.js_syntax.specs.declared.node_kind.NodeKind.{NodeKind as Kind}
+use Rattle.js_syntax.specs.declared.kind.VariableKind.TheVariants as variable
+use Rattle.js_syntax.specs.Node.{Forest}
+use Rattle.js_meaning.specs.Samples as sample
+use Rattle.js_meaning.specs.Examples.{g, function_g, says_number}
+
+abbrev pub empty : Forest
+empty = sample.a_module []
+
+-- export let g = 1;
+abbrev pub exports_one : Forest
+exports_one = sample.a_module (sample.over (Kind.ExportNamedDeclaration None) (sample.row (sample.declared variable.Let g (sample.number_of 1) ∷ sample.leaf Kind.Specifiers ∷ [])) ∷ [])
+
+-- f(1); where f is a function of the host
+abbrev pub calls_host : Forest
+calls_host = sample.a_module (says_number 1 ∷ [])
+
+-- g();
+abbrev pub call_of_g : Forest
+call_of_g = sample.does_it (sample.call (sample.name g) [])
+
+-- function g() {} g();
+abbrev pub calls_own : Forest
+calls_own = sample.a_module (function_g [] ∷ call_of_g ∷ [])
+
+abbrev pub calls_nothing : Forest
+calls_nothing = sample.a_module (call_of_g ∷ [])
+
+-- for (;;) ;
+abbrev pub never_ends : Forest
+never_ends = sample.a_module (sample.over Kind.ForStatement (sample.row (sample.left_out_here ∷ sample.left_out_here ∷ sample.left_out_here ∷ sample.leaf Kind.EmptyStatement ∷ [])) ∷ [])
+
+-- 1;
+abbrev pub dead : Forest
+dead = sample.a_module (sample.does_it (sample.number_of 1) ∷ [])
+
+-- f(1); 2;
+abbrev pub with_dead : Forest
+with_dead = sample.a_module (says_number 1 ∷ sample.does_it (sample.number_of 2) ∷ [])
