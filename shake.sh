@@ -1,7 +1,7 @@
 #!/usr/bin/env bash
 # Builds the program once, and runs it on these words and standard input:
 #   ./shake.sh dce < module.json
-# The first run proves every crate that the program stands on, which takes some minutes; later runs only run it.
+# The first run proves every crate that the program stands on, which takes about an hour; later runs only run it.
 #   ./shake.sh --unproved dce < module.json
 # builds it without any proof, in about a minute, and says so on standard error.
 set -eu
