@@ -13,6 +13,8 @@ mod run;
 mod status;
 
 pub use form_check::{FormError, well_formed};
+pub use js_scoping::Scoping;
+pub use js_tree::{Program, Text};
 pub use min_driver::{
     CompressOptions, CompressOptionsKeepNames, CompressOptionsUnused, Minifier, MinifierOptions,
     MinifierReturn, MinifyError, PropertyReadSideEffects, TreeShakeOptions,

@@ -10,7 +10,6 @@ mod left;
 mod patterns;
 mod silent;
 mod texts;
-mod uses;
 mod visits;
 
 fn leaf(alloc: Global, kind: NodeKind) -> Node {
