@@ -16,10 +16,10 @@ b = codes "b"
 
 -- a name does nothing where it is declared, a literal nowhere; a call may act
 pub record Act : Type 0 where
-  declared : may_act (b ∷ a ∷ []) (name a) ≡ false
-  undeclared : may_act (b ∷ []) (name a) ≡ true
-  called : may_act (a ∷ []) (call (name a) []) ≡ true
-  literal : may_act [] (leaf (Kind.Literal Literal.Null)) ≡ false
+  pub declared : may_act (b ∷ a ∷ []) (name a) ≡ false
+  pub undeclared : may_act (b ∷ []) (name a) ≡ true
+  pub called : may_act (a ∷ []) (call (name a) []) ≡ true
+  pub literal : may_act [] (leaf (Kind.Literal Literal.Null)) ≡ false
 
 -- () => a
 abbrev pub arrow : Forest
@@ -31,7 +31,7 @@ clause x = over Kind.CatchClause (row (leaf (Kind.BindingName a) ∷ name x ∷ 
 
 -- what a function reads is referred to, what nothing reads is not; a name that is declared again is another one
 pub record Refer : Type 0 where
-  read_inside : refers a arrow ≡ true
-  read_nowhere : refers b arrow ≡ false
-  declared_again : refers a (clause a) ≡ false
-  not_declared_again : refers b (clause b) ≡ true
+  pub read_inside : refers a arrow ≡ true
+  pub read_nowhere : refers b arrow ≡ false
+  pub declared_again : refers a (clause a) ≡ false
+  pub not_declared_again : refers b (clause b) ≡ true
