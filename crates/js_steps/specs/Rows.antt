@@ -5,7 +5,7 @@ use Rattle.js_syntax.specs.declared.kind.FunctionKind.TheVariants as function_ki
 use Rattle.js_syntax.specs.declared.value.LiteralValue.{LiteralValue as Literal}
 use Rattle.js_syntax.specs.Node.{Forest}
 use Rattle.js_meaning.specs.Value.{Text}
-use Rattle.js_meaning.specs.Samples.{over, leaf, row, name, call}
+use Rattle.js_meaning.specs.Samples.{over, leaf, row, name, call, assigned, number_of}
 use Rattle.js_steps.specs.Names.{refers, may_act}
 
 abbrev pub a : Text
@@ -29,9 +29,10 @@ arrow = over (Kind.Function function_kind.Arrow false) (name a)
 abbrev pub clause : Text → Forest
 clause x = over Kind.CatchClause (row (leaf (Kind.BindingName a) ∷ name x ∷ []))
 
--- what a function reads is referred to, what nothing reads is not; a name that is declared again is another one
+-- what a function reads is referred to, and what is assigned; what nothing reads is not; a name that is declared again is another one
 pub record Refer : Type 0 where
   pub read_inside : refers a arrow ≡ true
   pub read_nowhere : refers b arrow ≡ false
   pub declared_again : refers a (clause a) ≡ false
   pub not_declared_again : refers b (clause b) ≡ true
+  pub assigned : refers a (assigned a (number_of 1)) ≡ true

@@ -6,7 +6,8 @@ pub fn what_acts()
     ensures { Act }
 {}
 
-/// What a function reads is referred to, what nothing reads is not, and a name that is declared again is another one.
+/// What a function reads is referred to, and what is assigned; what nothing reads is not, and a name that is declared
+/// again is another one.
 pub fn what_is_referred_to()
     ensures { Refer }
 {}
