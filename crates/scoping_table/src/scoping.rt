@@ -14,12 +14,22 @@ use std::alloc::{AllocError, Global};
 use std::marker::Model;
 
 /// The scopes, symbols and references of a tree. A number names each: how many stand before it.
-#[derive(Drop)]
 pub struct Scoping {
     pub(crate) scopes: Vec<Scope>,
     pub(crate) symbols: Vec<Symbol>,
     pub(crate) references: Vec<Reference>,
     pub(crate) unresolved: Vec<Unresolved>,
+}
+
+impl Drop for Scoping {
+    fn drop(self) {
+        let Scoping {
+            scopes: _,
+            symbols: _,
+            references: _,
+            unresolved: _,
+        } = self;
+    }
 }
 
 impl Model for Scoping {
