@@ -1,7 +1,6 @@
 -- The words of a list, one after another.
-use Rattle.std.proofs.Common.{◌≡◌, ◌<◌, ◌≤◌, ◌+◌, ◌∙◌, ℕ, List, [], ◌∷◌, Bool, true, false, ◌||◌, length, drop, map, slice_index_or, drop-cons, add-one, ap}
+use Rattle.std.proofs.Common.{◌≡◌, ◌<◌, ◌+◌, ◌∙◌, ℕ, List, ◌∷◌, Bool, true, false, ◌||◌, length, drop, map, slice_index_or, drop-cons, add-one, ap}
 use Rattle.std.specs.Str.{bytes_eq}
-use Rattle.std.proofs.lemmas.List.{drop_all}
 use Rattle.js_form.specs.Name.{is_among}
 
 front : {A : Type 0} (ws : List A) (i : ℕ) (d : A) → i < length ws → drop i ws ≡ slice_index_or ws i d ∷ drop (i + 1) ws
@@ -16,6 +15,3 @@ found f s ws i d h told = here f s ws i d true h told
 
 pub passed : {A : Type 0} (f : A → List ℕ) (s : List ℕ) (ws : List A) (i : ℕ) (d : A) → i < length ws → bytes_eq s (f (slice_index_or ws i d)) ≡ false → is_among s (map f (drop i ws)) ≡ is_among s (map f (drop (i + 1) ws))
 passed f s ws i d h told = here f s ws i d false h told
-
-pub none_left : {A : Type 0} (f : A → List ℕ) (s : List ℕ) (ws : List A) (i : ℕ) → length ws ≤ i → is_among s (map f (drop i ws)) ≡ false
-none_left f s ws i h = ap (λ xs. is_among s (map f xs)) (drop_all i ws h)
