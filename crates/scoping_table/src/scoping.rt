@@ -61,6 +61,7 @@ pub fn table(alloc: Global, found: &Found) -> Result<Scoped, AllocError>
     ensures resolved { IfOk result (λ t. count_by (λ r. is_some r.symbol) t.scoping.references ≡ resolved found.now.bindings found.now.references) }
 {
     let names = Declared::new(alloc, found.bindings())?;
+    let symbols = names.symbols_declared(alloc)?;
     let (references, unbound) = references_of(alloc, &names, found.references())?;
     let scoping = Scoping {
         scopes: scopes_with(alloc, &names, found.scopes())?,
@@ -68,6 +69,5 @@ pub fn table(alloc: Global, found: &Found) -> Result<Scoped, AllocError>
         references,
         unresolved: unresolved_of(alloc, &unbound)?,
     };
-    let symbols = names.symbols_declared(alloc)?;
     Ok(Scoped { scoping, symbols })
 }
