@@ -51,6 +51,29 @@ pub struct Scoped {
     pub symbols: Vec<u32>,
 }
 
+// The table of what a walk has found, by its declarations.
+fn scoping_with<'a>(
+    alloc: Global,
+    names: &Declared<'_, 'a>,
+    found: &Found<'a>,
+) -> Result<Scoping, AllocError>
+    requires names { names.now ≡ found.now.bindings }
+    requires few_bindings { length found.now.bindings < 2 ^ 32 }
+    requires few_references { length found.now.references < 2 ^ 32 }
+    ensures scoping { IfOk result (λ s. s ≡ scoping_of found.now) }
+    ensures listed { IfOk result (λ s. sum_by (λ x. length x.references) s.symbols ≡ count_by (λ r. is_some r.symbol) s.references) }
+    ensures resolved { IfOk result (λ s. count_by (λ r. is_some r.symbol) s.references ≡ resolved found.now.bindings found.now.references) }
+{
+    let (references, unbound) = references_of(alloc, names, found.references())?;
+    let scoping = Scoping {
+        scopes: scopes_with(alloc, names, found.scopes())?,
+        symbols: symbols_with(alloc, names, &references)?,
+        references,
+        unresolved: unresolved_of(alloc, &unbound)?,
+    };
+    Ok(scoping)
+}
+
 /// The table of what a walk has found.
 pub fn table(alloc: Global, found: &Found) -> Result<Scoped, AllocError>
     requires few_bindings { length found.now.bindings < 2 ^ 32 }
@@ -62,12 +85,6 @@ pub fn table(alloc: Global, found: &Found) -> Result<Scoped, AllocError>
 {
     let names = Declared::new(alloc, found.bindings())?;
     let symbols = names.symbols_declared(alloc)?;
-    let (references, unbound) = references_of(alloc, &names, found.references())?;
-    let scoping = Scoping {
-        scopes: scopes_with(alloc, &names, found.scopes())?,
-        symbols: symbols_with(alloc, &names, &references)?,
-        references,
-        unresolved: unresolved_of(alloc, &unbound)?,
-    };
+    let scoping = scoping_with(alloc, &names, found)?;
     Ok(Scoped { scoping, symbols })
 }
