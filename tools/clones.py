@@ -14,7 +14,9 @@ def copied(name, rust): return 'clone_%s(alloc, %s)?' % (OWNED[rust], name) if r
 
 def arm(v):
     names = [n if n != 'kind' else 'how' for n, _ in v.fields]
-    return '        %s => Ok(%s),\n' % (v.filled(names), v.filled([copied(n, t) for n, (_, t) in zip(names, v.fields)]))
+    types = [t for _, t in v.fields]
+    if len(types) == 1 and types[0] in OWNED: return '        %s => clone_%s(alloc, %s).map(NodeKind::%s),\n' % (v.filled(names), OWNED[types[0]], names[0], v.name)
+    return '        %s => Ok(%s),\n' % (v.filled(names), v.filled([copied(n, t) for n, t in zip(names, types)]))
 
 
 def kind_file():

@@ -113,9 +113,10 @@ def scalars():
             row = ROWS_OF[kind][0]
             fields = row.kept
             names = [n for n, _ in v.fields][len(v.fields) - len(fields):]
+        if not fields: continue
         shown = ['_'] * (len(v.fields) - len(names)) + names
         out += '        %s => %s,\n' % (pattern(kind, shown), gathered([scalar_code(f, n) for f, n in zip(fields, names)]))
-    return out + '    }\n}\n'
+    return out + '        _ => Scalars::None,\n    }\n}\n'
 
 
 def entries_spec():

@@ -11,12 +11,22 @@ use std::alloc::{AllocError, Global};
 use std::marker::Model;
 
 /// The declarations of a tree, with their symbols.
-#[derive(Drop)]
 pub struct Declared<'f, 'a> {
     sites: &'f [BindingSite<'a>],
     places: Places<'a>,
     numbers: Numbers<'a>,
     firsts: Vec<First<'a>>,
+}
+
+impl<'f, 'a> Drop for Declared<'f, 'a> {
+    fn drop(self) {
+        let Declared {
+            sites: _,
+            places: _,
+            numbers: _,
+            firsts: _,
+        } = self;
+    }
 }
 
 impl<'f, 'a> Model for Declared<'f, 'a> {

@@ -130,7 +130,6 @@ pub(crate) fn copy_privates<'a>(
 }
 
 /// What stands around a node.
-#[derive(Drop)]
 pub struct Context<'a> {
     source: SourceType,
     strict: bool,
@@ -146,6 +145,27 @@ pub struct Context<'a> {
     role: Role,
     is_alone: bool,
     is_head: bool,
+}
+
+impl<'a> Drop for Context<'a> {
+    fn drop(self) {
+        let Context {
+            source: _,
+            strict: _,
+            returns: _,
+            breaks: _,
+            continues: _,
+            labels: _,
+            privates: _,
+            super_calls: _,
+            super_members: _,
+            new_target: _,
+            is_derived: _,
+            role: _,
+            is_alone: _,
+            is_head: _,
+        } = self;
+    }
 }
 
 impl<'a> Model for Context<'a> {

@@ -13,12 +13,22 @@ use std::marker::Model;
 use std::rc::Rc;
 
 /// What a node makes of its context, worked out once for all its children.
-#[derive(Drop)]
 pub struct Frame<'a> {
     strict: bool,
     is_derived: bool,
     labels: Option<Rc<Vec<Label<'a>>>>,
     privates: Option<Rc<Vec<Rc<Names<'a>>>>>,
+}
+
+impl<'a> Drop for Frame<'a> {
+    fn drop(self) {
+        let Frame {
+            strict: _,
+            is_derived: _,
+            labels: _,
+            privates: _,
+        } = self;
+    }
 }
 
 impl<'a> Model for Frame<'a> {

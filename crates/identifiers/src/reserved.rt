@@ -1,5 +1,5 @@
 // Names that are reserved.
-ghost use Rattle.std.specs.Prelude.{◌≡◌};
+ghost use Rattle.std.specs.Prelude.{◌≡◌, map};
 ghost use Rattle.js_form.specs.Name.{is_among, reserved_words, strict_words, is_reserved, may_be_read, may_be_bound};
 
 use crate::name::is_identifier_name;
@@ -24,63 +24,78 @@ fn is_reserved(strict: bool, is_module: bool, name: &str) -> bool
     is_reserved_word(name) || (strict && is_strict_word(name)) || (is_module && name == "await")
 }
 
+// ReservedWord.
+static RESERVED_WORDS: [&str; 36] = [
+    "break",
+    "case",
+    "catch",
+    "class",
+    "const",
+    "continue",
+    "debugger",
+    "default",
+    "delete",
+    "do",
+    "else",
+    "enum",
+    "export",
+    "extends",
+    "false",
+    "finally",
+    "for",
+    "function",
+    "if",
+    "import",
+    "in",
+    "instanceof",
+    "new",
+    "null",
+    "return",
+    "super",
+    "switch",
+    "this",
+    "throw",
+    "true",
+    "try",
+    "typeof",
+    "var",
+    "void",
+    "while",
+    "with",
+];
+
+// In strict code these as well.
+static STRICT_WORDS: [&str; 9] = [
+    "implements",
+    "interface",
+    "let",
+    "package",
+    "private",
+    "protected",
+    "public",
+    "static",
+    "yield",
+];
+
+fn is_among(words: &[&str], name: &str) -> bool
+    ensures { result ≡ is_among name.now (map (λ w. w.now) words.now) }
+{
+    for word in words {
+        if name == *word {
+            return true;
+        }
+    }
+    false
+}
+
 fn is_reserved_word(name: &str) -> bool
     ensures { result ≡ is_among name.now reserved_words }
 {
-    match name {
-        "break"
-        | "case"
-        | "catch"
-        | "class"
-        | "const"
-        | "continue"
-        | "debugger"
-        | "default"
-        | "delete"
-        | "do"
-        | "else"
-        | "enum"
-        | "export"
-        | "extends"
-        | "false"
-        | "finally"
-        | "for"
-        | "function"
-        | "if"
-        | "import"
-        | "in"
-        | "instanceof"
-        | "new"
-        | "null"
-        | "return"
-        | "super"
-        | "switch"
-        | "this"
-        | "throw"
-        | "true"
-        | "try"
-        | "typeof"
-        | "var"
-        | "void"
-        | "while"
-        | "with" => true,
-        _ => false,
-    }
+    is_among(RESERVED_WORDS.as_slice(), name)
 }
 
 fn is_strict_word(name: &str) -> bool
     ensures { result ≡ is_among name.now strict_words }
 {
-    match name {
-        "implements"
-        | "interface"
-        | "let"
-        | "package"
-        | "private"
-        | "protected"
-        | "public"
-        | "static"
-        | "yield" => true,
-        _ => false,
-    }
+    is_among(STRICT_WORDS.as_slice(), name)
 }

@@ -16,7 +16,7 @@ pub fn clone_kind(alloc: Global, kind: &NodeKind) -> Result<NodeKind, AllocError
 {
     match kind {
         NodeKind::Program(source_type) => Ok(NodeKind::Program(*source_type)),
-        NodeKind::Directive(directive) => Ok(NodeKind::Directive(clone_text(alloc, directive)?)),
+        NodeKind::Directive(directive) => clone_text(alloc, directive).map(NodeKind::Directive),
         NodeKind::ExpressionStatement => Ok(NodeKind::ExpressionStatement),
         NodeKind::BlockStatement => Ok(NodeKind::BlockStatement),
         NodeKind::FunctionBody => Ok(NodeKind::FunctionBody),
@@ -24,15 +24,15 @@ pub fn clone_kind(alloc: Global, kind: &NodeKind) -> Result<NodeKind, AllocError
         NodeKind::DebuggerStatement => Ok(NodeKind::DebuggerStatement),
         NodeKind::WithStatement => Ok(NodeKind::WithStatement),
         NodeKind::ReturnStatement => Ok(NodeKind::ReturnStatement),
-        NodeKind::LabeledStatement(label) => Ok(NodeKind::LabeledStatement(clone_ident(
-            alloc, label,
-        )?)),
-        NodeKind::BreakStatement(label) => Ok(NodeKind::BreakStatement(clone_optional_ident(
-            alloc, label,
-        )?)),
-        NodeKind::ContinueStatement(label) => Ok(NodeKind::ContinueStatement(clone_optional_ident(
-            alloc, label,
-        )?)),
+        NodeKind::LabeledStatement(label) => clone_ident(alloc, label).map(
+            NodeKind::LabeledStatement,
+        ),
+        NodeKind::BreakStatement(label) => clone_optional_ident(alloc, label).map(
+            NodeKind::BreakStatement,
+        ),
+        NodeKind::ContinueStatement(label) => clone_optional_ident(alloc, label).map(
+            NodeKind::ContinueStatement,
+        ),
         NodeKind::IfStatement => Ok(NodeKind::IfStatement),
         NodeKind::SwitchStatement => Ok(NodeKind::SwitchStatement),
         NodeKind::SwitchCase => Ok(NodeKind::SwitchCase),
@@ -69,12 +69,12 @@ pub fn clone_kind(alloc: Global, kind: &NodeKind) -> Result<NodeKind, AllocError
             key: clone_key(alloc, key)?,
         }),
         NodeKind::StaticBlock => Ok(NodeKind::StaticBlock),
-        NodeKind::BindingName(name) => Ok(NodeKind::BindingName(clone_ident(alloc, name)?)),
-        NodeKind::ReferenceName(name) => Ok(NodeKind::ReferenceName(clone_ident(alloc, name)?)),
-        NodeKind::TargetName(name) => Ok(NodeKind::TargetName(clone_ident(alloc, name)?)),
-        NodeKind::PrivateName(name) => Ok(NodeKind::PrivateName(clone_ident(alloc, name)?)),
-        NodeKind::Literal(value) => Ok(NodeKind::Literal(clone_value(alloc, value)?)),
-        NodeKind::RegExp(text) => Ok(NodeKind::RegExp(clone_reg_exp_text(alloc, text)?)),
+        NodeKind::BindingName(name) => clone_ident(alloc, name).map(NodeKind::BindingName),
+        NodeKind::ReferenceName(name) => clone_ident(alloc, name).map(NodeKind::ReferenceName),
+        NodeKind::TargetName(name) => clone_ident(alloc, name).map(NodeKind::TargetName),
+        NodeKind::PrivateName(name) => clone_ident(alloc, name).map(NodeKind::PrivateName),
+        NodeKind::Literal(value) => clone_value(alloc, value).map(NodeKind::Literal),
+        NodeKind::RegExp(text) => clone_reg_exp_text(alloc, text).map(NodeKind::RegExp),
         NodeKind::ThisExpression => Ok(NodeKind::ThisExpression),
         NodeKind::Super => Ok(NodeKind::Super),
         NodeKind::ArrayExpression => Ok(NodeKind::ArrayExpression),
@@ -122,27 +122,27 @@ pub fn clone_kind(alloc: Global, kind: &NodeKind) -> Result<NodeKind, AllocError
         NodeKind::TargetObject => Ok(NodeKind::TargetObject),
         NodeKind::BindingArray => Ok(NodeKind::BindingArray),
         NodeKind::TargetArray => Ok(NodeKind::TargetArray),
-        NodeKind::BindingProperty(key) => Ok(NodeKind::BindingProperty(clone_key(alloc, key)?)),
-        NodeKind::TargetProperty(key) => Ok(NodeKind::TargetProperty(clone_key(alloc, key)?)),
+        NodeKind::BindingProperty(key) => clone_key(alloc, key).map(NodeKind::BindingProperty),
+        NodeKind::TargetProperty(key) => clone_key(alloc, key).map(NodeKind::TargetProperty),
         NodeKind::BindingDefault => Ok(NodeKind::BindingDefault),
         NodeKind::TargetDefault => Ok(NodeKind::TargetDefault),
         NodeKind::NewTarget => Ok(NodeKind::NewTarget),
         NodeKind::ImportMeta => Ok(NodeKind::ImportMeta),
         NodeKind::ImportExpression => Ok(NodeKind::ImportExpression),
-        NodeKind::ImportDeclaration(source) => Ok(NodeKind::ImportDeclaration(clone_text(
-            alloc, source,
-        )?)),
-        NodeKind::ImportSpecifier(imported) => Ok(NodeKind::ImportSpecifier(clone_module_name(
-            alloc, imported,
-        )?)),
+        NodeKind::ImportDeclaration(source) => clone_text(alloc, source).map(
+            NodeKind::ImportDeclaration,
+        ),
+        NodeKind::ImportSpecifier(imported) => clone_module_name(alloc, imported).map(
+            NodeKind::ImportSpecifier,
+        ),
         NodeKind::ImportDefaultSpecifier => Ok(NodeKind::ImportDefaultSpecifier),
         NodeKind::ImportNamespaceSpecifier => Ok(NodeKind::ImportNamespaceSpecifier),
-        NodeKind::ExportNamedDeclaration(source) => Ok(NodeKind::ExportNamedDeclaration(
-            clone_optional_text(alloc, source)?,
-        )),
-        NodeKind::ExportSpecifier(exported) => Ok(NodeKind::ExportSpecifier(clone_module_name(
-            alloc, exported,
-        )?)),
+        NodeKind::ExportNamedDeclaration(source) => clone_optional_text(alloc, source).map(
+            NodeKind::ExportNamedDeclaration,
+        ),
+        NodeKind::ExportSpecifier(exported) => clone_module_name(alloc, exported).map(
+            NodeKind::ExportSpecifier,
+        ),
         NodeKind::ForeignSpecifier { local, exported } => Ok(NodeKind::ForeignSpecifier {
             local: clone_module_name(alloc, local)?,
             exported: clone_module_name(alloc, exported)?,

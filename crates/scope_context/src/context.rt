@@ -70,7 +70,6 @@ pub(crate) fn with_layer(alloc: Global, layer: Layer, layers: &Layers) -> Result
 }
 
 /// What stands around a node.
-#[derive(Drop)]
 pub struct Context {
     layers: Layers,
     scope: Option<u32>,
@@ -82,6 +81,23 @@ pub struct Context {
     role: Role,
     strict: bool,
     constructs: bool,
+}
+
+impl Drop for Context {
+    fn drop(self) {
+        let Context {
+            layers: _,
+            scope: _,
+            variables: _,
+            block: _,
+            declared_in: _,
+            declared_as: _,
+            is_pure: _,
+            role: _,
+            strict: _,
+            constructs: _,
+        } = self;
+    }
 }
 
 impl Model for Context {

@@ -16,12 +16,22 @@ use std::alloc::{AllocError, Global};
 use std::marker::Model;
 
 /// What a node makes of its context, worked out once for all its children.
-#[derive(Drop)]
 pub struct Frame {
     scope: u32,
     strict: bool,
     layers: Layers,
     body: Layers,
+}
+
+impl Drop for Frame {
+    fn drop(self) {
+        let Frame {
+            scope: _,
+            strict: _,
+            layers: _,
+            body: _,
+        } = self;
+    }
 }
 
 impl Model for Frame {

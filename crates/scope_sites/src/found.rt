@@ -7,11 +7,20 @@ use std::alloc::{AllocError, Global};
 use std::marker::Model;
 
 /// The scopes, declared names and used names that a walk has found, each sort in the order in which it came.
-#[derive(Drop)]
 pub struct Found<'a> {
     scopes: Vec<ScopeSite>,
     bindings: Vec<BindingSite<'a>>,
     references: Vec<ReferenceSite<'a>>,
+}
+
+impl<'a> Drop for Found<'a> {
+    fn drop(self) {
+        let Found {
+            scopes: _,
+            bindings: _,
+            references: _,
+        } = self;
+    }
 }
 
 impl<'a> Model for Found<'a> {

@@ -11,11 +11,20 @@ use scope_sites::{BindingSite, Found, ReferenceSite, ScopeSite};
 use std::alloc::{AllocError, Global};
 use std::marker::Model;
 
-#[derive(Drop)]
 pub(crate) struct Marks {
     scopes: Vec<u32>,
     symbols: Vec<u32>,
     references: Vec<u32>,
+}
+
+impl Drop for Marks {
+    fn drop(self) {
+        let Marks {
+            scopes: _,
+            symbols: _,
+            references: _,
+        } = self;
+    }
 }
 
 impl Model for Marks {

@@ -15,11 +15,20 @@ use std::alloc::{AllocError, Global};
 use std::marker::Model;
 
 /// A scope. Its names stand in the order of their first declarations.
-#[derive(Drop)]
 pub struct Scope {
     parent: Option<u32>,
     flags: u16,
     bindings: IndexMap<String, SymbolId>,
+}
+
+impl Drop for Scope {
+    fn drop(self) {
+        let Scope {
+            parent: _,
+            flags: _,
+            bindings: _,
+        } = self;
+    }
 }
 
 impl Model for Scope {

@@ -14,12 +14,22 @@ use std::alloc::{AllocError, Global};
 use std::marker::Model;
 
 /// The scopes, symbols and references of a tree. A number names each: how many stand before it.
-#[derive(Drop)]
 pub struct Scoping {
     pub(crate) scopes: Vec<Scope>,
     pub(crate) symbols: Vec<Symbol>,
     pub(crate) references: Vec<Reference>,
     pub(crate) unresolved: Vec<Unresolved>,
+}
+
+impl Drop for Scoping {
+    fn drop(self) {
+        let Scoping {
+            scopes: _,
+            symbols: _,
+            references: _,
+            unresolved: _,
+        } = self;
+    }
 }
 
 impl Model for Scoping {
@@ -41,6 +51,29 @@ pub struct Scoped {
     pub symbols: Vec<u32>,
 }
 
+// The table of what a walk has found, by its declarations.
+fn scoping_with<'a>(
+    alloc: Global,
+    names: &Declared<'_, 'a>,
+    found: &Found<'a>,
+) -> Result<Scoping, AllocError>
+    requires names { names.now ≡ found.now.bindings }
+    requires few_bindings { length found.now.bindings < 2 ^ 32 }
+    requires few_references { length found.now.references < 2 ^ 32 }
+    ensures scoping { IfOk result (λ s. s ≡ scoping_of found.now) }
+    ensures listed { IfOk result (λ s. sum_by (λ x. length x.references) s.symbols ≡ count_by (λ r. is_some r.symbol) s.references) }
+    ensures resolved { IfOk result (λ s. count_by (λ r. is_some r.symbol) s.references ≡ resolved found.now.bindings found.now.references) }
+{
+    let (references, unbound) = references_of(alloc, names, found.references())?;
+    let scoping = Scoping {
+        scopes: scopes_with(alloc, names, found.scopes())?,
+        symbols: symbols_with(alloc, names, &references)?,
+        references,
+        unresolved: unresolved_of(alloc, &unbound)?,
+    };
+    Ok(scoping)
+}
+
 /// The table of what a walk has found.
 pub fn table(alloc: Global, found: &Found) -> Result<Scoped, AllocError>
     requires few_bindings { length found.now.bindings < 2 ^ 32 }
@@ -51,13 +84,7 @@ pub fn table(alloc: Global, found: &Found) -> Result<Scoped, AllocError>
     ensures resolved { IfOk result (λ t. count_by (λ r. is_some r.symbol) t.scoping.references ≡ resolved found.now.bindings found.now.references) }
 {
     let names = Declared::new(alloc, found.bindings())?;
-    let (references, unbound) = references_of(alloc, &names, found.references())?;
-    let scoping = Scoping {
-        scopes: scopes_with(alloc, &names, found.scopes())?,
-        symbols: symbols_with(alloc, &names, &references)?,
-        references,
-        unresolved: unresolved_of(alloc, &unbound)?,
-    };
     let symbols = names.symbols_declared(alloc)?;
+    let scoping = scoping_with(alloc, &names, found)?;
     Ok(Scoped { scoping, symbols })
 }

@@ -61,13 +61,24 @@ impl Redeclaration {
 }
 
 /// A symbol. It keeps all its declarations, one or more.
-#[derive(Drop)]
 pub struct Symbol {
     name: Ident,
     scope: u32,
     flags: u8,
     declarations: Vec<Redeclaration>,
     references: Vec<ReferenceId>,
+}
+
+impl Drop for Symbol {
+    fn drop(self) {
+        let Symbol {
+            name: _,
+            scope: _,
+            flags: _,
+            declarations: _,
+            references: _,
+        } = self;
+    }
 }
 
 impl Model for Symbol {

@@ -11,10 +11,18 @@ use std::collections::BTreeMap;
 use std::marker::Model;
 
 /// A name that nothing declares.
-#[derive(Drop)]
 pub struct Unresolved {
     name: Ident,
     references: Vec<ReferenceId>,
+}
+
+impl Drop for Unresolved {
+    fn drop(self) {
+        let Unresolved {
+            name: _,
+            references: _,
+        } = self;
+    }
 }
 
 impl Model for Unresolved {

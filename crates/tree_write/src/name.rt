@@ -1,4 +1,6 @@
 // Names and literals that are no nodes.
+ghost use Rattle.std.specs.Prelude.{[], ◌∷◌};
+ghost use Rattle.json.specs.Token.{key, string};
 ghost use Rattle.tree_text.specs.Text.{identifier, text_literal, whole_number, minus, name_data, module_name_data};
 ghost use Rattle.tree_write.specs.Tokens.{data_tokens, Appends};
 
@@ -7,14 +9,21 @@ use js_syntax::ModuleName;
 use json::Writer;
 use std::alloc::AllocError;
 
+// A field that holds a text.
+fn write_word(out: &mut Writer, name: &str, word: &str) -> Result<(), AllocError>
+    ensures { Appends result out.old out.new (key name.now ∷ string word.now ∷ []) }
+{
+    out.key(name)?;
+    out.string(word)?;
+    Ok(())
+}
+
 pub(crate) fn write_identifier(out: &mut Writer, name: &str) -> Result<(), AllocError>
     ensures { Appends result out.old out.new (data_tokens (identifier name.now)) }
 {
     out.begin_object()?;
-    out.key("name")?;
-    out.string(name)?;
-    out.key("type")?;
-    out.string("Identifier")?;
+    write_word(out, "name", name)?;
+    write_word(out, "type", "Identifier")?;
     out.end_object()?;
     Ok(())
 }
@@ -23,10 +32,8 @@ pub(crate) fn write_text_literal(out: &mut Writer, text: &str) -> Result<(), All
     ensures { Appends result out.old out.new (data_tokens (text_literal text.now)) }
 {
     out.begin_object()?;
-    out.key("type")?;
-    out.string("Literal")?;
-    out.key("value")?;
-    out.string(text)?;
+    write_word(out, "type", "Literal")?;
+    write_word(out, "value", text)?;
     out.end_object()?;
     Ok(())
 }
@@ -35,8 +42,7 @@ pub(crate) fn write_whole_number(out: &mut Writer, number: u64) -> Result<(), Al
     ensures { Appends result out.old out.new (data_tokens (whole_number number)) }
 {
     out.begin_object()?;
-    out.key("type")?;
-    out.string("Literal")?;
+    write_word(out, "type", "Literal")?;
     out.key("value")?;
     out.u64(number)?;
     out.end_object()?;
@@ -50,12 +56,10 @@ pub(crate) fn write_minus(out: &mut Writer, magnitude: u64) -> Result<(), AllocE
     out.begin_object()?;
     out.key("argument")?;
     write_whole_number(out, magnitude)?;
-    out.key("operator")?;
-    out.string("-")?;
+    write_word(out, "operator", "-")?;
     out.key("prefix")?;
     out.boolean(true)?;
-    out.key("type")?;
-    out.string("UnaryExpression")?;
+    write_word(out, "type", "UnaryExpression")?;
     out.end_object()?;
     Ok(())
 }

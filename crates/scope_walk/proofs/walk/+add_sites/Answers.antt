@@ -6,7 +6,7 @@ use Rattle.scope_rules.specs.Context.{inside}
 use Rattle.scope_rules.specs.Site.{scope_count, sites, added}
 use Rattle.scope_walk.specs.Walk.{node_sites}
 use Rattle.scope_walk.proofs.Steps.{next_child, next_absent}
-use Rattle.scope_walk.proofs.walk.+add_sites.Goals.{in-Some+in_ok-inner+in_ok-next+in-None-1, in-Some+in_ok-inner+in_ok-next+in-Some-1, in_default}
+use Rattle.scope_walk.proofs.walk.+add_sites.Goals.{in-Some+in_ok-inner+in_ok-next, in_default}
 use Rattle.scope_walk.proofs.walk.+add_sites.Goals as goal
 
 pub add_sites-requires : goal.add_sites-requires
@@ -18,15 +18,7 @@ add_sites-requires t c =
 pub loop-at-preserved : goal.loop-at-preserved
 loop-at-preserved t c =
     elim c.match-child.branch [
-      | in-Some+in_ok-inner+in_ok-next+in-Some-1 w ↦
-          let around = inside c.args.context.now c.args.next c.args.node.now.kind c.args.node.now.below in
-          let step = w.found-is ∙ w.in_ok-next.ensures.found ∙ ap (λ k. added c.loop-at.found (node_sites k c.loop-at.next w.in-Some.child)) w.in_ok-inner.ensures.inside in
-          let next = next_child around c.children-children.result.now c.loop-at.at c.loop-at.next c.index-children-at.result w.in-Some.child c.loop-at.found c.match-child.found _ c.loop-at-test.true c.index-children-at.is w.in-Some.is step c.loop-at.invariant.found in
-          record {
-            next = omega (arith, ap scope_count (child_at _ _ _ _ c.loop-at-test.true c.index-children-at.is w.in-Some.is), c.loop-at.invariant.next, w.next-is, w.in_ok-next.ensures.next);
-            found = ap (λ (n : ℕ). added c.match-child.found (sites around (c.loop-at.at + 1) n (row (drop (c.loop-at.at + 1) c.children-children.result.now)))) (w.next-is ∙ w.in_ok-next.ensures.next) ∙ next;
-          }
-      | in-Some+in_ok-inner+in_ok-next+in-None-1 w ↦
+      | in-Some+in_ok-inner+in_ok-next w ↦
           let around = inside c.args.context.now c.args.next c.args.node.now.kind c.args.node.now.below in
           let step = w.found-is ∙ w.in_ok-next.ensures.found ∙ ap (λ k. added c.loop-at.found (node_sites k c.loop-at.next w.in-Some.child)) w.in_ok-inner.ensures.inside in
           let next = next_child around c.children-children.result.now c.loop-at.at c.loop-at.next c.index-children-at.result w.in-Some.child c.loop-at.found c.match-child.found _ c.loop-at-test.true c.index-children-at.is w.in-Some.is step c.loop-at.invariant.found in
