@@ -1,4 +1,5 @@
 """What crates.txt and the first lines of each crate's root file say, for the scripts that write documents from them."""
+import functools
 import pathlib
 import re
 
@@ -49,6 +50,7 @@ def used_by(crate):
     return [used for used in CRATES[crate] if used in CRATES]
 
 
+@functools.lru_cache(None)
 def below(crate, uses=used_by):
     """All that a crate stands on."""
     found, ahead = set(), [crate]
@@ -66,6 +68,7 @@ def own_uses(crate):
     return [one for one in used if not any(one in below(other) for other in used)]
 
 
+@functools.lru_cache(None)
 def run_uses(crate):
     """The crates that a crate's code uses, and not its contracts and proofs alone."""
     text = ''.join(file.read_text() for file in sorted((FOLDER / crate / 'src').rglob('*.rt')))
