@@ -49,6 +49,11 @@ function field(node) {
   return verbatim(`${node.static ? 'static ' : ''}${key}${value};`);
 }
 
+// `export * as`, whose name escodegen forgets.
+function all(node) {
+  return { type: 'ExpressionStatement', expression: verbatim(`export * as ${generate(named(node.exported))} from ${generate(node.source)}`) };
+}
+
 // `??` isn't mixed with `||` and `&&` without parentheses, which escodegen forgets.
 function apart(node) {
   const isMixed = (side) => side.type === 'LogicalExpression' && (side.operator === '??') !== (node.operator === '??');
@@ -65,7 +70,7 @@ const SHOWN = {
   StaticBlock: (node) => verbatim(`static ${generate({ type: 'BlockStatement', body: node.body })}`),
   ImportSpecifier: (node) => ({ ...node, imported: named(node.imported) }),
   ExportSpecifier: (node) => ({ ...node, local: named(node.local), exported: named(node.exported) }),
-  ExportAllDeclaration: (node) => ({ ...node, exported: node.exported && named(node.exported) }),
+  ExportAllDeclaration: (node) => (node.exported ? all(node) : node),
   ExpressionStatement: (node) => (typeof node.directive === 'string' ? { ...node, expression: verbatim(quoted(node.directive)) } : node),
 };
 
