@@ -86,10 +86,10 @@ function brokenRule({ tree }, number, at) {
 const ANSWERS = [
   [/^shake: usage: /, () => 'the words must be `dce`, or `dce --tree-only`'],
   [/^shake: read fault$/, () => 'the system failed a read of standard input; try again, or from a file'],
-  [/^shake: input too long$/, () => 'the input has more than 2^28 bytes: shake its modules one by one'],
+  [/^shake: input too long$/, () => 'the input has more than 2^28 bytes; where it is several modules, shake them one by one'],
   [/^shake: not JSON$/, () => jsonFault(looked())],
   [/^shake: (unknown node|bad field|number out of range)/, () => treeFault(looked(), line)],
-  [/^shake: too large: nodes (\d+) levels (\d+)$/, () => 'at most 16777216 nodes and 1000 levels are taken: shake its modules one by one'],
+  [/^shake: too large: nodes (\d+) levels (\d+)$/, () => 'at most 16777216 nodes and 1000 levels are taken; where the input is several modules, shake them one by one'],
   [/^shake: ill formed: rule (\d+) at (\d+)$/, (said) => brokenRule(looked(), said[1], Number(said[2]))],
   [/^shake: write fault$/, () => 'the system failed a write of standard output, of which a front may have gone out: was the reader gone, or the disk full?'],
   [/^shake: out of memory$/, () => 'memory was short: a run takes some 25 times the bytes of its input'],
