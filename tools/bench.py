@@ -2,7 +2,7 @@
 """Times the compiled program beside one that only parses and prints JSON, on 10 MB made here, and alone on modules of 1, 2, 4
 and 8 thousand groups of declarations that leave in two passes.
 
-Run at the repository's top, after `./shake.sh dce < crates/shake_cli/stdin` and `(cd crates/json_echo && rt run < stdin)`
+Run at the repository's top, after `./shake.sh build` and `(cd crates/json_echo && rt run < stdin)`
 have built both programs: python3 tools/bench.py
 """
 import json
