@@ -77,7 +77,7 @@ def node_kind():
     out = "// What a node is: ESTree's type, with those of its fields that are no nodes. %s\n" % GENERATED
     out += 'use crate::kind::{ClassKind, FunctionKind, MethodKind, PropertyKind, VariableKind};\n'
     out += 'use crate::operator::{\n    AssignmentOperator, BinaryOperator, LogicalOperator, UnaryOperator, UpdateOperator,\n};\nuse crate::scalar::SourceType;\nuse crate::text::{Ident, Text};\nuse crate::value::{Key, LiteralValue, ModuleName, RegExpText, TemplateText};\n'
-    out += "\n/// A node's type, with those of its fields that are no nodes. Behind each stands what lies below it, in\n/// reading order; `?` marks what may be absent.\n#[derive(Drop)]\npub enum NodeKind {\n"
+    out += "\n/// A node's type, with those of its fields that are no nodes. Behind each stands what lies below it, in\n/// reading order; `?` marks what may be absent.\npub enum NodeKind {\n"
     types_of = {}
     for r in ROWS: types_of.setdefault(r.kind, r.type)
     for k, v in variants_of_kind().items():
@@ -85,7 +85,8 @@ def node_kind():
         elif k == 'hole': out += '    /// A place of an array that holds nothing.\n'
         else: out += '    /// A list of nodes: a field of the node above it.\n'
         out += '    %s,\n' % v.declared()
-    return out + '}\n'
+    out += '}\n\n// By hand, and so a call in each function that lets a kind go, where a derived one is all of its arms.\nimpl Drop for NodeKind {\n    fn drop(self) {\n        match self {\n'
+    return out + ''.join('            %s => {}\n' % v.ignored() for v in variants_of_kind().values()) + '        }\n    }\n}\n'
 
 
 def classes():
@@ -165,12 +166,24 @@ def rust_enum(name, vs, doc=''):
 
 def node_type():
     out = '// The types of nodes. %s\n' % GENERATED
-    out += 'ghost use Rattle.std.specs.Prelude.{◌≡◌};\nghost use Rattle.js_syntax.specs.Name.{type_name, type_named};\n\n'
+    out += 'ghost use Rattle.std.specs.Prelude.{◌≡◌};\nghost use Rattle.js_syntax.specs.Name.{type_among, type_name, type_named};\n\n'
     out += rust_enum('NodeType', types(), "/// A type of node, by ESTree's name for it.\n")
     out += '\nimpl NodeType {\n    /// The text of the node\'s field `type`.\n    pub fn name(self) -> &\'static str\n        ensures { result.now ≡ type_name self }\n    {\n        match self {\n'
     out += ''.join('            NodeType::%s => "%s",\n' % (t, t) for t in types()) + '        }\n    }\n'
-    out += '\n    /// The type of this name, where the table has it.\n    #[tactic(auto, unfolding(crate::specs::Name::type_named))]\n    pub fn named(name: &str) -> Option<NodeType>\n        ensures { result ≡ type_named name.now }\n    {\n        match name {\n'
-    return out + ''.join('            "%s" => Some(NodeType::%s),\n' % (t, t) for t in types()) + '            _ => None,\n        }\n    }\n}\n'
+    out += '\n    /// The type of this name, where the table has it.\n    pub fn named(name: &str) -> Option<NodeType>\n        ensures { result ≡ type_named name.now }\n    {\n        among(TYPES.as_slice(), name)\n    }\n}\n'
+    out += static('TYPES', 'NodeType', types(), 'The types, in the order of the definitions.')
+    return out + search('among', 'NodeType', 'node_type', 'types', 'name', 'name', 'type_among name.now types.now', 'The first of these types that has this name.')
+
+
+def static(name, enum, vs, doc):
+    """A table of all the variants of an enum."""
+    return '\n/// %s\nstatic %s: [%s; %d] = [\n%s];\n' % (doc, name, enum, len(vs), ''.join('    %s::%s,\n' % (enum, v) for v in vs))
+
+
+def search(function, enum, item, items, text, method, found, doc):
+    """A loop over some variants of an enum for the one of a text. A match would prove each text unlike all before it."""
+    out = '\n/// %s\nfn %s(%s: &[%s], %s: &str) -> Option<%s>\n    ensures { result ≡ %s }\n{\n' % (doc, function, items, enum, text, enum, found)
+    return out + '    for %s in %s {\n        if %s == %s.%s() {\n            return Some(*%s);\n        }\n    }\n    None\n}\n' % (item, items, text, item, method, item)
 
 
 DOCS = {
@@ -181,15 +194,28 @@ DOCS = {
 }
 
 
+# The words that are found by a search of a table, being many.
+SEARCHED = [w for w, _, _, vs in WORDS if len(variants(vs)) > 8]
+
+
+def among(words): return words.removesuffix('s') + '_among'
+
+
 def rust_words(file, what):
     """Enums of a file, each with the words of its variants."""
     out = '// %s %s\n' % (what, GENERATED)
     listed = [(w, e, variants(vs)) for w, e, f, vs in WORDS if f == file]
-    out += 'ghost use Rattle.std.specs.Prelude.{◌≡◌};\nghost use Rattle.js_syntax.specs.Word.{%sword_named, %s};\n' % (''.join('%s_name, ' % snake(e) for _, e, _ in listed), ', '.join(w for w, _, _ in listed))
+    among_word = 'word_among, ' if any(w in SEARCHED for w, _, _ in listed) else ''
+    out += 'ghost use Rattle.std.specs.Prelude.{◌≡◌};\nghost use Rattle.js_syntax.specs.Word.{%s%sword_named, %s};\n' % (''.join('%s_name, ' % snake(e) for _, e, _ in listed), among_word, ', '.join(w for w, _, _ in listed))
     for w, e, vs in listed:
         out += '\n' + rust_enum(e, [v for v, _ in vs], '/// %s\n' % DOCS[e])
         out += '\nimpl %s {\n    /// The word as it is written.\n    pub fn as_str(self) -> &\'static str\n        ensures { result.now ≡ %s_name self }\n    {\n        match self {\n' % (e, snake(e))
         out += ''.join('            %s::%s => "%s",\n' % (e, v, t) for v, t in vs) + '        }\n    }\n'
+        if w in SEARCHED:
+            out += '\n    /// The word of this text.\n    pub fn named(text: &str) -> Option<%s>\n        ensures { result ≡ word_named %s text.now }\n    {\n        %s(%s.as_slice(), text)\n    }\n}\n' % (e, w, among(w), w.upper())
+            out += static(w.upper(), e, [v for v, _ in vs], 'The %s, in the order of the definitions.' % w.replace('_', ' '))
+            out += search(among(w), e, 'operator', 'operators', 'text', 'as_str', 'word_among %s text.now operators.now' % w, 'The first of these operators that is written so.')
+            continue
         out += '\n    /// The word of this text.\n    #[tactic(auto, unfolding(crate::specs::Word::word_named))]\n    pub fn named(text: &str) -> Option<%s>\n        ensures { result ≡ word_named %s text.now }\n    {\n        match text {\n' % (e, w)
         out += ''.join('            "%s" => Some(%s::%s),\n' % (t, e, v) for v, t in vs) + '            _ => None,\n        }\n    }\n}\n'
     for e, f, vs in FAMILIES:
@@ -207,20 +233,56 @@ FILES = {
 }
 
 
-def no_name():
-    """The proof that the search for a type's name passes all of them."""
-    return '''-- No name of the table is this one.
--- %s
-use Rattle.std.proofs.Common.{refl}
-use Rattle.js_syntax.specs.Name.{type_named}
-use Rattle.js_syntax.proofs.Names.{passes}
-use Rattle.js_syntax.proofs.node_type.NodeType.named.Goals as goal
+def searches():
+    """The lemmas of the searches: the first of those that are left has the text, or it is among the others."""
+    out = '-- The searches for a type by its name, and for a word by its text.\n-- %s\n' % GENERATED
+    out += 'use Rattle.std.proofs.Common.{◌≡◌, ℕ, ◌+◌, ◌<◌, List, drop, length, Bool, true, false, Some, slice_index_or, if◌then◌else◌, refl, ap, ◌∙◌, sym, drop-cons, add-one}\n'
+    out += 'use Rattle.std.specs.Str.{bytes_eq}\n' + enum_uses([('NodeType', 'node_type')])
+    out += 'use %sName.{type_among, type_name}\nuse %sWord.{Words, Word, word_among, word_name}\n' % (SYNTAX, SYNTAX)
+    out += '''
+first : (b : Bool) {A : Type 0} (x r : A) → b ≡ true → (if b then x else r) ≡ x
+first true x r e = refl
+first false x r e = cc
 
-pub returns-in_default : goal.returns-in_default
-unfolding type_named
-returns-in_default c =
-%s    refl%s
-''' % (GENERATED, ''.join('    passes _ _ _ _ c.in_default.not-%s (\n' % t for t in types()).replace('(\n', '(\n'), ')' * len(types()))
+second : (b : Bool) {A : Type 0} (x r : A) → b ≡ false → (if b then x else r) ≡ r
+second true x r e = cc
+second false x r e = refl
+'''
+    for what, params, given, item, name, among in [('type', '', '', 'NodeType', 'type_name', 'type_among s'), ('word', '(w : Words) ', 'w ', 'Word w', 'word_name w', 'word_among w s')]:
+        head = '%s(s : List ℕ) (xs : List %s) (i : ℕ) (d : %s) → i < length xs → bytes_eq s (%s (slice_index_or xs i d)) ≡ ' % (params, argument(item), item, name)
+        out += '\n-- where this %s has the text, it is the first of those that are left\npub %s_found : %strue → %s (drop i xs) ≡ Some (slice_index_or xs i d)\n' % (what, what, head, among)
+        out += '%s_found %ss xs i d h e = ap (%s) (drop-cons xs i d h) ∙ first _ _ _ e\n' % (what, given, among)
+        out += '\n-- where it has another, the text is among the others\npub %s_passed : %sfalse → %s (drop i xs) ≡ %s (drop (i + 1) xs)\n' % (what, head, among, among)
+        out += '%s_passed %ss xs i d h e = ap (%s) (drop-cons xs i d h) ∙ second _ _ _ e ∙ ap (λ k. %s (drop k xs)) (sym (add-one i))\n' % (what, given, among, among)
+    return out
 
 
-FILES['js_syntax/proofs/node_type/NodeType/named/Answers.antt'] = no_name
+def searching(file, function, items, item, text, method, name, among, uses, given):
+    """The proof of a search: where it stands in the list, and its two ways on."""
+    place = 'Rattle.js_syntax.proofs.%s.%s.' % (file, function)
+    def invariants():
+        out = '-- %s\nuse Rattle.std.proofs.Common.{◌≡◌, drop}\nuse %s\nuse %sGiven as goal\n' % (GENERATED, uses, place)
+        return out + '\nabbrev pub invariant-loop-%s : goal.invariant-loop-%s\ninvariant-loop-%s l = %s l.%s (drop l.%s-index l.%s) ≡ %s l.%s l.%s\n' % (item, item, item, among, text, item, items, among, text, items)
+    def answers():
+        what = 'type' if name == 'type' else 'word'
+        out = '-- %s\nuse Rattle.std.proofs.Common.{◌∙◌, sym, ap, arith}\nuse Rattle.std.specs.Str.{bytes_eq}\n' % GENERATED
+        if given: out += 'use %sWord.{%s}\n' % (SYNTAX, given.strip())
+        out += 'use Rattle.js_syntax.proofs.Names.{%s_found, %s_passed}\nuse %sGoals as goal\n' % (what, what, place)
+        for goal, lemma, way in [('returns-then-eq', 'found', 'true'), ('loop-%s-preserved' % item, 'passed', 'false')]:
+            out += '\npub %s : goal.%s\n%s c =\n    sym (%s_%s %sc.args.%s.now c.args.%s.now c.loop-%s.%s-index _ (omega arith) (ap (bytes_eq c.args.%s.now) (sym c.%s.ensures) ∙ sym c.eq.ensures ∙ c.if-eq.%s))\n    ∙ c.loop-%s.invariant\n' % (goal, goal, goal, what, lemma, given, text, items, item, item, text, method, way, item)
+        return out
+    return {'js_syntax/proofs/%s/%s/Invariants.antt' % (file, function): invariants, 'js_syntax/proofs/%s/%s/Answers.antt' % (file, function): answers}
+
+
+def naming(file, enum, function, all_named, among, arg, uses):
+    """The proof that a search of the whole table is what the definitions say."""
+    return lambda: '-- %s\nuse Rattle.std.proofs.Common.{◌∙◌, ap}\nuse %s\nuse Rattle.js_syntax.proofs.%s.%s.named.Goals as goal\n\npub returns : goal.returns\nunfolding %s\nreturns c = c.%s.ensures ∙ ap (%s c.args.%s.now) c.as_slice.ensures\n' % (GENERATED, uses, file, enum, all_named, function, among, arg)
+
+
+FILES['js_syntax/proofs/Names.antt'] = searches
+FILES['js_syntax/proofs/node_type/NodeType/named/Answers.antt'] = naming('node_type', 'NodeType', 'among', 'type_named', 'type_among', 'name', SYNTAX + 'Name.{type_among, type_named}')
+FILES.update(searching('node_type', 'among', 'types', 'node_type', 'name', 'name', 'type', 'type_among', SYNTAX + 'Name.{type_among}', ''))
+for w, e, f, _ in WORDS:
+    if w in SEARCHED:
+        FILES['js_syntax/proofs/%s/%s/named/Answers.antt' % (f, e)] = naming(f, e, among(w), 'word_named', 'word_among ' + w, 'text', SYNTAX + 'Word.{word_among, word_named, %s}' % w)
+        FILES.update(searching(f, among(w), 'operators', 'operator', 'text', 'as_str', 'word', 'word_among ' + w, SYNTAX + 'Word.{word_among, %s}' % w, w + ' '))

@@ -131,6 +131,11 @@ class Variant:
         if len(self.fields) == 1: return '%s(%s)' % (self.name, self.fields[0][1])
         return '%s { %s }' % (self.name, ', '.join('%s: %s' % f for f in self.fields))
 
+    def ignored(self):
+        """The pattern of the variant, whatever its fields."""
+        if len(self.fields) < 2: return self.filled(['_'] * len(self.fields))
+        return 'NodeKind::%s { %s }' % (self.name, ', '.join('%s: _' % n for n, _ in self.fields))
+
     def filled(self, values):
         """The variant with these expressions for its fields, in order."""
         if not self.fields: return 'NodeKind::' + self.name

@@ -8,12 +8,22 @@ use std::mem::replace;
 
 /// A node: what it is, where it stood, the number of its symbol, reference or scope once it has one,
 /// and what lies below it in reading order, `None` for a field that is not there.
-#[derive(Drop)]
 pub struct Node {
     kind: NodeKind,
     span: Span,
     id: Option<u32>,
     children: Vec<Option<Node>>,
+}
+
+impl Drop for Node {
+    fn drop(self) {
+        let Node {
+            kind: _,
+            span: _,
+            id: _,
+            children: _,
+        } = self;
+    }
 }
 
 impl Model for Node {
@@ -77,7 +87,12 @@ impl Node {
     pub fn into_children(self) -> Vec<Option<Node>>
         ensures { row result.items ≡ self.below }
     {
-        let Node { children, .. } = self;
+        let Node {
+            kind: _,
+            span: _,
+            id: _,
+            children,
+        } = self;
         children
     }
 
