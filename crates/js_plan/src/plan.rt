@@ -45,7 +45,10 @@ pub struct Plan<'a> {
 
 impl<'a> Drop for Plan<'a> {
     fn drop(self) {
-        let Plan { control: _, then: _ } = self;
+        let Plan {
+            control: _,
+            then: _,
+        } = self;
     }
 }
 

@@ -20,7 +20,11 @@ impl Drop for ShownExport {
         match self {
             ShownExport::Value { name: _, shown: _ } => {}
             ShownExport::Uninitialised(_) => {}
-            ShownExport::Import { name: _, source: _, imported: _ } => {}
+            ShownExport::Import {
+                name: _,
+                source: _,
+                imported: _,
+            } => {}
         }
     }
 }
@@ -120,6 +124,9 @@ pub struct Outcome {
 
 impl Drop for Outcome {
     fn drop(self) {
-        let Outcome { trace: _, ending: _ } = self;
+        let Outcome {
+            trace: _,
+            ending: _,
+        } = self;
     }
 }

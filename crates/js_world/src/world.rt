@@ -15,7 +15,10 @@ pub struct Cell<'a> {
 
 impl<'a> Drop for Cell<'a> {
     fn drop(self) {
-        let Cell { constant: _, value: _ } = self;
+        let Cell {
+            constant: _,
+            value: _,
+        } = self;
     }
 }
 
@@ -62,7 +65,11 @@ pub struct Foreign<'a> {
 
 impl<'a> Drop for Foreign<'a> {
     fn drop(self) {
-        let Foreign { source: _, name: _, value: _ } = self;
+        let Foreign {
+            source: _,
+            name: _,
+            value: _,
+        } = self;
     }
 }
 
@@ -157,7 +164,10 @@ pub struct Script {
 
 impl Drop for Script {
     fn drop(self) {
-        let Script { globals: _, moves: _ } = self;
+        let Script {
+            globals: _,
+            moves: _,
+        } = self;
     }
 }
 
@@ -184,7 +194,18 @@ pub struct World<'a> {
 
 impl<'a> Drop for World<'a> {
     fn drop(self) {
-        let World { budget: _, fresh: _, cells: _, globals: _, imports: _, seen: _, moves: _, exports: _, stars: _, trace: _ } = self;
+        let World {
+            budget: _,
+            fresh: _,
+            cells: _,
+            globals: _,
+            imports: _,
+            seen: _,
+            moves: _,
+            exports: _,
+            stars: _,
+            trace: _,
+        } = self;
     }
 }
 
