@@ -109,7 +109,10 @@ fn call_with<'a>(
 {
     let arguments = world.resolve_all(alloc, arguments)?;
     match arguments {
-        Some(arguments) => call_back(awaited, this, arguments, callee),
+        Some(arguments) => {
+            let next = call_back(awaited, this, arguments, callee)?;
+            Ok(next)
+        }
         None => Ok(Next::Replies(stopped())),
     }
 }

@@ -55,7 +55,8 @@ impl<'a> Drop for Plan<'a> {
 impl<'a> Plan<'a> {
     /// What is computed next, and the frames that follow it.
     pub fn into_parts(self) -> (Control<'a>, Vec<Frame<'a>>)
-        ensures { result ≡ (self.entry.control, self.entry.then) }
+        ensures control { result.0 ≡ self.entry.control }
+        ensures then { result.1 ≡ self.entry.then }
     {
         let Plan { control, then } = self;
         (control, then)

@@ -1,6 +1,6 @@
 // Reading and writing names (ECMA-262 6.2.5, 9.1).
 ghost use Rattle.std.specs.Prelude.{◌≡◌, Option, Some, false, codes, IfOk};
-ghost use Rattle.js_meaning.specs.State.{M, give, raise, store, unknown};
+ghost use Rattle.js_meaning.specs.State.{M, give, raise, set_global, store, unknown};
 ghost use Rattle.js_meaning.specs.State.{cell as state_cell};
 ghost use Rattle.js_meaning.specs.Value as meant;
 ghost use Rattle.js_meaning.specs.Value.{undef};
@@ -231,26 +231,38 @@ impl<'a> World<'a> {
         }
     }
 
+    // The global takes the value, which is given.
+    fn put_global(
+        &mut self,
+        alloc: Global,
+        name: &str,
+        value: Value<'a>,
+    ) -> Result<Reply<'a>, AllocError>
+        ensures does { IfOk result (λ r. at self.old (set_global name.now (Some (value_of value.entry)) (give (value_of value.entry))) ≡ at self.new (replies r)) }
+    {
+        let kept = value.copy()?;
+        let text = String::from_str(alloc, name)?;
+        let text = Rc::new(alloc, text)?;
+        self.set_global(text, Some(value))?;
+        Ok(gives(kept))
+    }
+
     // A global that has to be there still (9.1.1.2.5).
     fn assign_present(
         &mut self,
         alloc: Global,
         name: &str,
         value: Value<'a>,
-        old: Option<Value<'a>>,
+        old: &Option<Value<'a>>,
     ) -> Result<Reply<'a>, AllocError>
-        ensures does { IfOk result (λ r. at self.old (assign_present name.now (value_of value.entry) (maybe_value old.entry)) ≡ at self.new (replies r)) }
+        ensures does { IfOk result (λ r. at self.old (assign_present name.now (value_of value.entry) (maybe_value old.now)) ≡ at self.new (replies r)) }
     {
         match old {
             Some(_) => {
                 let shown = self.show(alloc, &value)?;
                 let text = String::from_str(alloc, name)?;
                 if self.emit(alloc, Act::Write(text, shown))? {
-                    let kept = value.copy()?;
-                    let text = String::from_str(alloc, name)?;
-                    let text = Rc::new(alloc, text)?;
-                    self.set_global(text, Some(value))?;
-                    Ok(gives(kept))
+                    self.put_global(alloc, name, value)
                 } else {
                     Ok(unknown())
                 }
@@ -276,7 +288,7 @@ impl<'a> World<'a> {
             Fixed::Usual => {
                 if there {
                     let old = self.get_global(name)?;
-                    self.assign_present(alloc, name, value, old)
+                    self.assign_present(alloc, name, value, &old)
                 } else {
                     self.raises(ErrorKind::ReferenceError)
                 }
