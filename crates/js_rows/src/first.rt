@@ -71,7 +71,11 @@ pub fn asks_first<'a>(
 {
     match nodes {
         [Some(node), ..] => asks(alloc, node, ask, env),
-        _ => {
+        [None, ..] => {
+            discard_ask(ask);
+            uncovered(alloc)
+        }
+        [] => {
             discard_ask(ask);
             uncovered(alloc)
         }
