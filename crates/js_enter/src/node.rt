@@ -15,7 +15,7 @@ use js_enter_statement::{
     enter_cases, enter_catch_clause, enter_declarator, enter_statement, take_name, test_case,
 };
 use js_plan::{Ask, Plan};
-use js_planning::uncovered;
+use js_planning::{discard_ask, uncovered};
 use js_rows::{declare_each, give_each};
 use js_syntax::{NodeKind, VariableKind};
 use js_tree::Node;
@@ -124,6 +124,7 @@ fn enter_if_core<'a>(
     if core {
         enter_covered(world, alloc, node, ask, env)
     } else {
+        discard_ask(ask);
         Ok(uncovered(alloc))
     }
 }

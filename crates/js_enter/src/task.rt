@@ -13,8 +13,8 @@ ghost use Rattle.js_plan.specs.Ask.{loop_of, task_of};
 ghost use Rattle.js_plan.specs.Frame.{again, meaning, plans, start_body};
 
 use js_instantiate::enter_function;
-use js_plan::{AfterCompletion, AfterNormal, Ask, Labels, Loop, Nodes, Plan, Task};
-use js_planning::{asks, replies, then_completion, then_normal, uncovered};
+use js_plan::{AfterCompletion, AfterNormal, Ask, Control, Labels, Loop, Nodes, Plan, Task};
+use js_planning::{asks, discard_control, replies, then_completion, then_normal, uncovered};
 use js_rows::{Front, first_field};
 use js_show::Ending;
 use js_tree::Node;
@@ -284,6 +284,7 @@ pub fn enter_task<'a>(
     if world.spend() {
         do_task(world, alloc, task)
     } else {
+        discard_control(Control::Enter(task));
         Ok(replies(alloc, Reply::Stops(Ending::Out)))
     }
 }

@@ -8,7 +8,7 @@ ghost use Rattle.js_plan.specs.Ask.{ask_of};
 ghost use Rattle.js_plan.specs.Frame.{plans};
 
 use js_plan::{Ask, Plan};
-use js_planning::{asks, completes, uncovered};
+use js_planning::{asks, completes, discard_ask, uncovered};
 use js_tree::Node;
 use js_value::Env;
 use js_world::Completion;
@@ -26,7 +26,13 @@ pub(crate) fn asks_first_maybe<'a>(
 {
     match nodes {
         [Some(node), ..] => asks(alloc, node, ask, env),
-        [None, ..] => completes(alloc, Completion::Normal),
-        [] => uncovered(alloc),
+        [None, ..] => {
+            discard_ask(ask);
+            completes(alloc, Completion::Normal)
+        }
+        [] => {
+            discard_ask(ask);
+            uncovered(alloc)
+        }
     }
 }

@@ -40,24 +40,29 @@ fn call_back<'a>(
     awaited: bool,
     this: Value<'a>,
     arguments: Vec<Value<'a>>,
-    callee: Value<'a>,
-) -> Next<'a>
-    ensures { (E : Enter) → goes E result ≡ call_back E awaited (value_of this.entry) (values_of arguments.entry.items) (value_of callee.entry) }
+    callee: &Value<'a>,
+) -> Result<Next<'a>, AllocError>
+    ensures { IfOk result (λ n. (E : Enter) → goes E n ≡ call_back E awaited (value_of this.entry) (values_of arguments.entry.items) (value_of callee.now)) }
 {
     match callee {
-        Value::Closure(_, kind, below, env) => Next::CallsBack(
-            awaited,
-            Call {
-                kind,
-                below,
-                env,
-                this,
-                arguments,
-            },
-        ),
-        Value::Plain(_) | Value::Object(..) | Value::Array(..) | Value::Error(..) => {
-            Next::Replies(stopped())
+        Value::Closure(_, kind, below, env) => {
+            let env = env.copy()?;
+            let kind = *kind;
+            let below = *below;
+            Ok(Next::CallsBack(
+                awaited,
+                Call {
+                    kind,
+                    below,
+                    env,
+                    this,
+                    arguments,
+                },
+            ))
         }
+        Value::Plain(_) | Value::Object(..) | Value::Array(..) | Value::Error(..) => Ok(
+            Next::Replies(stopped()),
+        ),
     }
 }
 
@@ -96,15 +101,18 @@ fn call_with<'a>(
     world: &World<'a>,
     alloc: Global,
     awaited: bool,
-    callee: Value<'a>,
+    callee: &Value<'a>,
     this: Value<'a>,
     arguments: &[Given],
 ) -> Result<Next<'a>, AllocError>
-    ensures { IfOk result (λ n. (E : Enter) → at world.now (resolve_all (givens_of arguments.now) (λ vs. call_back E awaited (value_of this.entry) vs (value_of callee.entry))) ≡ at world.now (goes E n)) }
+    ensures { IfOk result (λ n. (E : Enter) → at world.now (resolve_all (givens_of arguments.now) (λ vs. call_back E awaited (value_of this.entry) vs (value_of callee.now))) ≡ at world.now (goes E n)) }
 {
     let arguments = world.resolve_all(alloc, arguments)?;
     match arguments {
-        Some(arguments) => Ok(call_back(awaited, this, arguments, callee)),
+        Some(arguments) => {
+            let next = call_back(awaited, this, arguments, callee)?;
+            Ok(next)
+        }
         None => Ok(Next::Replies(stopped())),
     }
 }
@@ -113,11 +121,11 @@ fn call_on<'a>(
     world: &World<'a>,
     alloc: Global,
     awaited: bool,
-    callee: Value<'a>,
+    callee: &Value<'a>,
     this: &Given,
     arguments: &[Given],
 ) -> Result<Next<'a>, AllocError>
-    ensures { IfOk result (λ n. (E : Enter) → at world.now (resolve (given_of this.now) (λ this. resolve_all (givens_of arguments.now) (λ vs. call_back E awaited this vs (value_of callee.entry)))) ≡ at world.now (goes E n)) }
+    ensures { IfOk result (λ n. (E : Enter) → at world.now (resolve (given_of this.now) (λ this. resolve_all (givens_of arguments.now) (λ vs. call_back E awaited this vs (value_of callee.now)))) ≡ at world.now (goes E n)) }
 {
     let this = world.resolve(this)?;
     match this {
@@ -138,7 +146,7 @@ fn call_own<'a>(
 {
     let callee = world.resolve(&Given::Own(number))?;
     match callee {
-        Some(callee) => call_on(world, alloc, awaited, callee, this, arguments),
+        Some(callee) => call_on(world, alloc, awaited, &callee, this, arguments),
         None => Ok(Next::Replies(stopped())),
     }
 }

@@ -38,14 +38,14 @@ fn call_host<'a>(
 fn call_plain<'a>(
     world: &mut World<'a>,
     alloc: Global,
-    callee: Plain,
+    callee: &Plain,
     this: &Value<'a>,
     arguments: &[Value<'a>],
 ) -> Result<Plan<'a>, AllocError>
-    ensures does { IfOk result (λ p. (E : Enter) → at world.old (call_value E (plain (plain_of callee)) (value_of this.now) (values_of arguments.now)) ≡ at world.new (plans E p)) }
+    ensures does { IfOk result (λ p. (E : Enter) → at world.old (call_value E (plain (plain_of callee.now)) (value_of this.now) (values_of arguments.now)) ≡ at world.new (plans E p)) }
 {
     match callee {
-        Plain::Host(number, true) => call_host(world, alloc, number, this, arguments),
+        Plain::Host(number, true) => call_host(world, alloc, *number, this, arguments),
         Plain::Host(_, false)
         | Plain::Undefined
         | Plain::Null
@@ -59,14 +59,17 @@ fn call_plain<'a>(
 pub fn call_value<'a>(
     world: &mut World<'a>,
     alloc: Global,
-    callee: Value<'a>,
+    callee: &Value<'a>,
     this: Value<'a>,
     arguments: Vec<Value<'a>>,
 ) -> Result<Plan<'a>, AllocError>
-    ensures does { IfOk result (λ p. (E : Enter) → at world.old (call_value E (value_of callee.entry) (value_of this.entry) (values_of arguments.entry.items)) ≡ at world.new (plans E p)) }
+    ensures does { IfOk result (λ p. (E : Enter) → at world.old (call_value E (value_of callee.now) (value_of this.entry) (values_of arguments.entry.items)) ≡ at world.new (plans E p)) }
 {
     match callee {
         Value::Closure(_, kind, below, env) => {
+            let env = env.copy()?;
+            let kind = *kind;
+            let below = *below;
             let call = Call {
                 kind,
                 below,

@@ -81,21 +81,21 @@ pub fn get_place<'a>(
 fn put<'a>(
     world: &mut World<'a>,
     alloc: Global,
-    place: Place<'a>,
+    place: &Place<'a>,
     value: Value<'a>,
 ) -> Result<Plan<'a>, AllocError>
-    ensures does { IfOk result (λ p. (E : Enter) → at world.old (put_place E (place_of place.entry) (value_of value.entry)) ≡ at world.new (plans E p)) }
+    ensures does { IfOk result (λ p. (E : Enter) → at world.old (put_place E (place_of place.now) (value_of value.entry)) ≡ at world.new (plans E p)) }
 {
     match place {
         Place::Slot(slot) => {
-            let reply = world.assign_slot(slot, value)?;
+            let reply = world.assign_slot(*slot, value)?;
             Ok(replies(alloc, reply))
         }
         Place::Global(name, there) => {
-            let reply = world.assign_global(alloc, name, there, value)?;
+            let reply = world.assign_global(alloc, name, *there, value)?;
             Ok(replies(alloc, reply))
         }
-        Place::Member(object, key) => set_member(world, alloc, &object, &key, value),
+        Place::Member(object, key) => set_member(world, alloc, object, key, value),
     }
 }
 
@@ -103,11 +103,11 @@ fn put<'a>(
 pub fn put_place<'a>(
     world: &mut World<'a>,
     alloc: Global,
-    place: Place<'a>,
+    place: &Place<'a>,
     value: Value<'a>,
 ) -> Result<Plan<'a>, AllocError>
-    ensures does { IfOk result (λ p. (E : Enter) → at world.old (put_place E (place_of place.entry) (value_of value.entry)) ≡ at world.new (plans E p)) }
-    ensures follows { IfOk result (λ p. (E : Enter) (k : state.Completion → M) → at world.old (bind (put_place E (place_of place.entry) (value_of value.entry)) k) ≡ at world.new (bind (plans E p) k)) }
+    ensures does { IfOk result (λ p. (E : Enter) → at world.old (put_place E (place_of place.now) (value_of value.entry)) ≡ at world.new (plans E p)) }
+    ensures follows { IfOk result (λ p. (E : Enter) (k : state.Completion → M) → at world.old (bind (put_place E (place_of place.now) (value_of value.entry)) k) ≡ at world.new (bind (plans E p) k)) }
 {
     let plan = put(world, alloc, place, value)?;
     Ok(plan)
@@ -117,10 +117,10 @@ pub fn put_place<'a>(
 pub fn put_given<'a>(
     world: &mut World<'a>,
     alloc: Global,
-    place: Place<'a>,
+    place: &Place<'a>,
     found: Option<Value<'a>>,
 ) -> Result<Plan<'a>, AllocError>
-    ensures does { IfOk result (λ p. (E : Enter) → at world.old (with_value (value.gives found.entry) (put_place E (place_of place.entry))) ≡ at world.new (plans E p)) }
+    ensures does { IfOk result (λ p. (E : Enter) → at world.old (with_value (value.gives found.entry) (put_place E (place_of place.now))) ≡ at world.new (plans E p)) }
 {
     match found {
         Some(found) => put_place(world, alloc, place, found),

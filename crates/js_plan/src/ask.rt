@@ -5,7 +5,7 @@ use js_value::Value;
 
 /// What an expression's value is wanted for: itself; to be called, with the receiver that it is called
 /// on; as the operand of `typeof`.
-#[derive(Clone, Copy, Debug, PartialEq, Eq)]
+#[derive(Clone, Copy)]
 pub enum Wanted {
     Itself,
     ToCall,

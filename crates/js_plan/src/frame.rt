@@ -51,7 +51,7 @@ pub enum AfterStatement<'a> {
 }
 
 /// What is done with the property that is found.
-#[derive(Clone, Copy, Debug, PartialEq, Eq)]
+#[derive(Clone, Copy)]
 pub enum Use {
     /// It is read.
     Read(Wanted),

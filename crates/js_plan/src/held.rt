@@ -74,9 +74,14 @@ impl<'a> Nodes<'a> {
 }
 
 /// The labels under which a statement stands, the innermost first.
-#[derive(Drop)]
 pub struct Labels<'a> {
     names: Option<Rc<Vec<&'a str>>>,
+}
+
+impl<'a> Drop for Labels<'a> {
+    fn drop(self) {
+        let Labels { names: _ } = self;
+    }
 }
 
 impl<'a> Model for Labels<'a> {

@@ -1,4 +1,6 @@
 // What is computed now, and what follows.
+ghost use Rattle.std.specs.Prelude.{◌≡◌};
+
 use crate::ask::Ask;
 use crate::frame::Frame;
 use crate::held::{Labels, NodeRef, Nodes};
@@ -6,7 +8,7 @@ use js_value::Env;
 use js_world::{Call, Reply};
 
 /// The loops that a turn may be of.
-#[derive(Clone, Copy, Debug, PartialEq, Eq)]
+#[derive(Clone, Copy)]
 pub enum Loop {
     While,
     DoWhile,
@@ -36,8 +38,27 @@ pub enum Control<'a> {
 }
 
 /// What is computed next, and the frames that follow it, the nearest last.
-#[derive(Drop)]
 pub struct Plan<'a> {
     pub control: Control<'a>,
     pub then: Vec<Frame<'a>>,
+}
+
+impl<'a> Drop for Plan<'a> {
+    fn drop(self) {
+        let Plan {
+            control: _,
+            then: _,
+        } = self;
+    }
+}
+
+impl<'a> Plan<'a> {
+    /// What is computed next, and the frames that follow it.
+    pub fn into_parts(self) -> (Control<'a>, Vec<Frame<'a>>)
+        ensures control { result.0 ≡ self.entry.control }
+        ensures then { result.1 ≡ self.entry.then }
+    {
+        let Plan { control, then } = self;
+        (control, then)
+    }
 }

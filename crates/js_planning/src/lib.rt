@@ -11,4 +11,6 @@ pub use parts::{
     asks, asks_maybe, completes, enters, goes, replies, then_completion, then_normal, then_operand,
     then_place, then_statement, then_target, then_values, uncovered,
 };
-pub use stack::{discard, discard_all, discard_control, push_plan, take_nearest};
+pub use stack::{
+    discard, discard_all, discard_ask, discard_completion, discard_control, push_plan, take_nearest,
+};

@@ -119,7 +119,7 @@ pub fn resume_values<'a>(
     match frame {
         AfterValues::Array => make_array(world, alloc, values),
         AfterValues::Object(nodes) => make_object(world, alloc, nodes.nodes(), values.as_slice()),
-        AfterValues::Call(callee, this) => call_value(world, alloc, callee, this, values),
+        AfterValues::Call(callee, this) => call_value(world, alloc, &callee, this, values),
         AfterValues::New(callee) => construct_value(world, alloc, &callee, values.as_slice()),
     }
 }

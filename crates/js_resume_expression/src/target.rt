@@ -36,11 +36,11 @@ fn write_updated<'a>(
     world: &mut World<'a>,
     alloc: Global,
     prefix: bool,
-    place: Place<'a>,
+    place: &Place<'a>,
     old: Value<'a>,
     new: Option<Value<'a>>,
 ) -> Result<Plan<'a>, AllocError>
-    ensures does { IfOk result (λ p. (E : Enter) → at world.old (with_value (given.gives new.entry) (λ new. with_value (put_place E (place_of place.entry) new) (λ u. update_gives prefix (value_of old.entry) new))) ≡ at world.new (plans E p)) }
+    ensures does { IfOk result (λ p. (E : Enter) → at world.old (with_value (given.gives new.entry) (λ new. with_value (put_place E (place_of place.now) new) (λ u. update_gives prefix (value_of old.entry) new))) ≡ at world.new (plans E p)) }
 {
     match new {
         Some(new) => {
@@ -84,9 +84,9 @@ pub fn resume_target<'a>(
     match frame {
         AfterTarget::Update(operator, prefix, place) => {
             let new = updated(operator, &value);
-            write_updated(world, alloc, prefix, place, value, new)
+            write_updated(world, alloc, prefix, &place, value, new)
         }
-        AfterTarget::Put(place) => put_place(world, alloc, place, value),
+        AfterTarget::Put(place) => put_place(world, alloc, &place, value),
         AfterTarget::Compound(operator, place, right, env) => {
             let plan = asks(alloc, right.node(), Ask::Value(Wanted::Itself), env);
             then_target(
@@ -97,7 +97,7 @@ pub fn resume_target<'a>(
         }
         AfterTarget::CompoundRight(operator, old, place) => {
             let found = binary_of(alloc, operator, &old, &value)?;
-            put_given(world, alloc, place, found)
+            put_given(world, alloc, &place, found)
         }
         AfterTarget::Short(operator, place, right, env) => {
             short(alloc, operator, value, place, &right, env)

@@ -11,7 +11,7 @@ ghost use Rattle.js_plan.specs.Frame.{maybe_meaning, plans, after_completion_of}
 use crate::run::{finally, finish, report};
 use crate::turn::{after_label, after_switch, end_init, end_turn};
 use js_plan::{AfterCompletion, Ask, Labels, NodeRef, Plan};
-use js_planning::{asks, asks_maybe, completes, replies, then_completion};
+use js_planning::{asks, asks_maybe, completes, discard_completion, replies, then_completion};
 use js_value::{Env, Plain, Value};
 use js_world::{Completion, Reply, World, gives, unknown};
 use std::alloc::{AllocError, Global};
@@ -95,8 +95,20 @@ pub fn resume_completion<'a>(
             Ok(replies(alloc, after_finally(before, completion)))
         }
         AfterCompletion::Call => Ok(replies(alloc, after_call(completion))),
-        AfterCompletion::Report(awaited) => report(world, alloc, awaited, &completion),
-        AfterCompletion::Finish => finish(world, alloc, &completion),
-        AfterCompletion::Finally => finally(world, alloc, &completion),
+        AfterCompletion::Report(awaited) => {
+            let plan = report(world, alloc, awaited, &completion);
+            discard_completion(completion);
+            plan
+        }
+        AfterCompletion::Finish => {
+            let plan = finish(world, alloc, &completion);
+            discard_completion(completion);
+            plan
+        }
+        AfterCompletion::Finally => {
+            let plan = finally(world, alloc, &completion);
+            discard_completion(completion);
+            plan
+        }
     }
 }

@@ -9,7 +9,7 @@ ghost use Rattle.js_plan.specs.Frame.{plans};
 ghost use Rattle.js_rows.specs.Front.{front_of};
 
 use js_plan::{Ask, Labels, Plan, Wanted};
-use js_planning::{asks, uncovered};
+use js_planning::{asks, discard_ask, uncovered};
 use js_syntax::NodeKind;
 use js_tree::Node;
 use js_value::Env;
@@ -71,6 +71,13 @@ pub fn asks_first<'a>(
 {
     match nodes {
         [Some(node), ..] => asks(alloc, node, ask, env),
-        _ => uncovered(alloc),
+        [None, ..] => {
+            discard_ask(ask);
+            uncovered(alloc)
+        }
+        [] => {
+            discard_ask(ask);
+            uncovered(alloc)
+        }
     }
 }

@@ -111,7 +111,7 @@ pub(crate) fn go_on<'a>(
 ) -> Result<Ending, AllocError>
     ensures does { IfOk result (λ e. seen (at world.old (plans enter_fully plan.entry)) ≡ seen (at world.new (stop (ending_of e)))) }
 {
-    let Plan { control, then } = plan;
+    let (control, then) = plan.into_parts();
     let mut control = control;
     let mut frames = then;
     'steps: for _ in 0..u64::MAX {

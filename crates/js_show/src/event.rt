@@ -2,7 +2,6 @@
 use crate::shown::Shown;
 
 /// An export as the host sees it: its value, or none before it has one; or which import it passes on.
-#[derive(Drop)]
 pub enum ShownExport {
     Value {
         name: String,
@@ -16,15 +15,33 @@ pub enum ShownExport {
     },
 }
 
+impl Drop for ShownExport {
+    fn drop(self) {
+        match self {
+            ShownExport::Value { name: _, shown: _ } => {}
+            ShownExport::Uninitialised(_) => {}
+            ShownExport::Import {
+                name: _,
+                source: _,
+                imported: _,
+            } => {}
+        }
+    }
+}
+
 /// The exports in the order of their names' bytes, and the sources of `export *` in the tree's order.
-#[derive(Drop)]
 pub struct ShownExports {
     pub names: Vec<ShownExport>,
     pub stars: Vec<String>,
 }
 
+impl Drop for ShownExports {
+    fn drop(self) {
+        let ShownExports { names: _, stars: _ } = self;
+    }
+}
+
 /// What happens where the host can see it.
-#[derive(Drop)]
 pub enum Act {
     /// A module is asked for.
     Load(String),
@@ -48,16 +65,39 @@ pub enum Act {
     Failed(Shown),
 }
 
+impl Drop for Act {
+    fn drop(self) {
+        match self {
+            Act::Load(_) => {}
+            Act::Get(_, _) => {}
+            Act::Set(_, _, _) => {}
+            Act::In(_, _) => {}
+            Act::Instanceof(_, _) => {}
+            Act::Construct(_, _) => {}
+            Act::Call(_, _, _) => {}
+            Act::Write(_, _) => {}
+            Act::Returned(_) => {}
+            Act::Threw(_) => {}
+            Act::Finished => {}
+            Act::Failed(_) => {}
+        }
+    }
+}
+
 /// What happened, and the exports at that moment.
-#[derive(Drop)]
 pub struct Event {
     pub act: Act,
     pub exports: ShownExports,
 }
 
+impl Drop for Event {
+    fn drop(self) {
+        let Event { act: _, exports: _ } = self;
+    }
+}
+
 /// How a run ends: with the exports of that moment; because no move was left or one can't be made;
 /// because an entry passed the bound; at an act of which nothing is said.
-#[derive(Drop)]
 pub enum Ending {
     Ended(ShownExports),
     HostStopped,
@@ -65,9 +105,28 @@ pub enum Ending {
     Uncovered,
 }
 
+impl Drop for Ending {
+    fn drop(self) {
+        match self {
+            Ending::Ended(_) => {}
+            Ending::HostStopped => {}
+            Ending::Out => {}
+            Ending::Uncovered => {}
+        }
+    }
+}
+
 /// What a run gave.
-#[derive(Drop)]
 pub struct Outcome {
     pub trace: Vec<Event>,
     pub ending: Ending,
+}
+
+impl Drop for Outcome {
+    fn drop(self) {
+        let Outcome {
+            trace: _,
+            ending: _,
+        } = self;
+    }
 }

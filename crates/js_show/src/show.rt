@@ -127,14 +127,11 @@ fn show_content<'a>(
     Ok(Parts::new(keys, values))
 }
 
-fn in_front(alloc: Global, first: Shown, others: Vec<Shown>) -> Result<Vec<Shown>, AllocError>
+fn in_front(first: Shown, others: Vec<Shown>) -> Result<Vec<Shown>, AllocError>
     ensures { IfOk result (λ v. v.items ≡ first ∷ others.items) }
 {
-    let mut all = Vec::new(alloc);
-    all.push(first)?;
-    for other in others {
-        all.push(other)?;
-    }
+    let mut all = others;
+    all.insert(0, first)?;
     Ok(all)
 }
 
@@ -150,7 +147,7 @@ fn show_values<'a>(
         [first, others @ ..] => {
             let first = show_value(alloc, first, seen)?;
             let others = show_values(alloc, others, seen)?;
-            in_front(alloc, first, others)
+            in_front(first, others)
         }
         [] => Ok(Vec::new(alloc)),
     }

@@ -7,7 +7,7 @@ use std::marker::Model;
 use std::rc::Rc;
 
 /// What an own object is.
-#[derive(Clone, Copy, Debug, PartialEq, Eq)]
+#[derive(Clone, Copy)]
 pub enum Sort {
     AFunction,
     AnObject,
@@ -19,19 +19,35 @@ pub enum Sort {
 /// A value as the host sees it. An own object has its number in the order of first showing; where it is
 /// shown first, what it is and what a literal holds stand beside.
 #[cycle(shown)]
-#[derive(Drop)]
 pub enum Shown {
     Plainly(Plain),
     Again(usize),
     First(usize, Sort, Parts),
 }
 
+impl Drop for Shown {
+    #[cycle(drop)]
+    fn drop(self) {
+        match self {
+            Shown::Plainly(_) => {}
+            Shown::Again(_) => {}
+            Shown::First(_, _, _) => {}
+        }
+    }
+}
+
 /// What a literal is shown to hold: values, the first of which have keys.
 #[cycle(shown)]
-#[derive(Drop)]
 pub struct Parts {
     keys: Vec<Rc<String>>,
     values: Vec<Shown>,
+}
+
+impl Drop for Parts {
+    #[cycle(drop)]
+    fn drop(self) {
+        let Parts { keys: _, values: _ } = self;
+    }
 }
 
 impl Model for Parts {
@@ -72,8 +88,16 @@ impl Parts {
 }
 
 /// A value as the host hands it in: an own object by the number under which it was shown.
-#[derive(Drop)]
 pub enum Given {
     Plain(Plain),
     Own(usize),
+}
+
+impl Drop for Given {
+    fn drop(self) {
+        match self {
+            Given::Plain(_) => {}
+            Given::Own(_) => {}
+        }
+    }
 }

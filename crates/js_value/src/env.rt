@@ -26,9 +26,14 @@ pub struct Bound<'a> {
 }
 
 /// The names around a piece of a program, the innermost first.
-#[derive(Drop)]
 pub struct Env<'a> {
     names: Rc<Vec<Bound<'a>>>,
+}
+
+impl<'a> Drop for Env<'a> {
+    fn drop(self) {
+        let Env { names: _ } = self;
+    }
 }
 
 impl<'a> Model for Env<'a> {

@@ -12,10 +12,15 @@ use std::marker::Model;
 use std::rc::Rc;
 
 /// Keys with their values, in the order in which the keys first came.
-#[derive(Drop)]
 pub struct Properties<'a> {
     keys: Vec<Rc<String>>,
     values: Vec<Value<'a>>,
+}
+
+impl<'a> Drop for Properties<'a> {
+    fn drop(self) {
+        let Properties { keys: _, values: _ } = self;
+    }
 }
 
 impl<'a> Model for Properties<'a> {

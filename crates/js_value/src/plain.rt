@@ -6,7 +6,6 @@ use std::alloc::AllocError;
 use std::rc::Rc;
 
 /// A primitive value, or an object of the host: its number, and whether it can be called.
-#[derive(Drop)]
 pub enum Plain {
     Undefined,
     Null,
@@ -14,6 +13,19 @@ pub enum Plain {
     Number(i64),
     Text(Rc<String>),
     Host(u64, bool),
+}
+
+impl Drop for Plain {
+    fn drop(self) {
+        match self {
+            Plain::Undefined => {}
+            Plain::Null => {}
+            Plain::Boolean(_) => {}
+            Plain::Number(_) => {}
+            Plain::Text(_) => {}
+            Plain::Host(_, _) => {}
+        }
+    }
 }
 
 impl Plain {

@@ -12,7 +12,7 @@ use std::marker::Model;
 use std::rc::Rc;
 
 /// What the language itself throws.
-#[derive(Clone, Copy, Debug, PartialEq, Eq)]
+#[derive(Clone, Copy)]
 pub enum ErrorKind {
     TypeError,
     ReferenceError,
@@ -20,7 +20,6 @@ pub enum ErrorKind {
 
 /// A value. An own object has a number that no other object has.
 #[cycle(value)]
-#[derive(Drop)]
 pub enum Value<'a> {
     Plain(Plain),
     /// A function: what lies below its node, and the names around it.
@@ -30,12 +29,31 @@ pub enum Value<'a> {
     Error(usize, ErrorKind),
 }
 
+impl<'a> Drop for Value<'a> {
+    #[cycle(drop)]
+    fn drop(self) {
+        match self {
+            Value::Plain(_) => {}
+            Value::Closure(_, _, _, _) => {}
+            Value::Object(_, _) => {}
+            Value::Array(_, _) => {}
+            Value::Error(_, _) => {}
+        }
+    }
+}
+
 /// What a literal holds: values, the first of which have keys.
 #[cycle(value)]
-#[derive(Drop)]
 pub struct Content<'a> {
     keys: Vec<Rc<String>>,
     values: Vec<Value<'a>>,
+}
+
+impl<'a> Drop for Content<'a> {
+    #[cycle(drop)]
+    fn drop(self) {
+        let Content { keys: _, values: _ } = self;
+    }
 }
 
 impl<'a> Model for Content<'a> {

@@ -86,6 +86,14 @@ pub(crate) fn put_first<T: Drop>(items: &mut Vec<T>, first: T) -> Result<(), All
     Ok(())
 }
 
+pub(crate) fn in_front<T: Drop>(first: T, others: Vec<T>) -> Result<Vec<T>, AllocError>
+    ensures { IfOk result (λ v. v.items ≡ first ∷ others.items) }
+{
+    let mut all = others;
+    all.insert(0, first)?;
+    Ok(all)
+}
+
 impl<'a> World<'a> {
     /// Makes a cell, and answers its number. Should the numbers end, that is an end of memory.
     #[tactic(auto, unfolding(js_meaning::specs::State::alloc))]

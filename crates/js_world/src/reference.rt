@@ -1,6 +1,7 @@
 // Reading and writing names (ECMA-262 6.2.5, 9.1).
-ghost use Rattle.std.specs.Prelude.{◌≡◌, Option, codes, IfOk};
-ghost use Rattle.js_meaning.specs.State.{M, give, raise, unknown};
+ghost use Rattle.std.specs.Prelude.{◌≡◌, Option, Some, false, codes, IfOk};
+ghost use Rattle.js_meaning.specs.State.{M, give, raise, set_global, store, unknown};
+ghost use Rattle.js_meaning.specs.State.{cell as state_cell};
 ghost use Rattle.js_meaning.specs.Value as meant;
 ghost use Rattle.js_meaning.specs.Value.{undef};
 ghost use Rattle.js_meaning.specs.Reference.{global_named, if_set, cell_value, slot_value, if_there, global_value, name_value, or_undefined, typeof_name, assign_cell, assign_import, assign_slot, assign_present, assign_global, name_place};
@@ -78,8 +79,7 @@ impl<'a> World<'a> {
         match slot {
             Slot::Local(number) => {
                 let cell = self.read(number)?;
-                let Cell { value, .. } = cell;
-                Ok(if_set(value))
+                Ok(if_set(cell.into_value()))
             }
             Slot::Imported { source, name } => {
                 let value = self.get_import(source, name)?;
@@ -179,26 +179,33 @@ impl<'a> World<'a> {
         }
     }
 
+    // The cell takes the value, which is given.
+    fn put_value(&mut self, number: usize, value: Value<'a>) -> Result<Reply<'a>, AllocError>
+        ensures does { IfOk result (λ r. at self.old (store number (state_cell false (Some (value_of value.entry))) (give (value_of value.entry))) ≡ at self.new (replies r)) }
+    {
+        let kept = value.copy()?;
+        let constant = false;
+        let value = Some(value);
+        self.store(number, Cell { constant, value })?;
+        Ok(gives(kept))
+    }
+
     // SetMutableBinding (9.1.1.1.5) in strict code.
     fn assign_cell(
         &mut self,
         number: usize,
         value: Value<'a>,
-        cell: Cell<'a>,
+        cell: &Cell<'a>,
     ) -> Result<Reply<'a>, AllocError>
-        ensures does { IfOk result (λ r. at self.old (assign_cell number (value_of value.entry) (cell_of cell.entry)) ≡ at self.new (replies r)) }
+        ensures does { IfOk result (λ r. at self.old (assign_cell number (value_of value.entry) (cell_of cell.now)) ≡ at self.new (replies r)) }
     {
-        match cell.value {
+        match &cell.value {
             None => Ok(unknown()),
             Some(_) => {
                 if cell.constant {
                     self.raises(ErrorKind::TypeError)
                 } else {
-                    let kept = value.copy()?;
-                    let constant = false;
-                    let value = Some(value);
-                    self.store(number, Cell { constant, value })?;
-                    Ok(gives(kept))
+                    self.put_value(number, value)
                 }
             }
         }
@@ -211,7 +218,7 @@ impl<'a> World<'a> {
         match slot {
             Slot::Local(number) => {
                 let cell = self.read(number)?;
-                self.assign_cell(number, value, cell)
+                self.assign_cell(number, value, &cell)
             }
             Slot::Imported { source, name } => {
                 let old = self.get_import(source, name)?;
@@ -224,26 +231,38 @@ impl<'a> World<'a> {
         }
     }
 
+    // The global takes the value, which is given.
+    fn put_global(
+        &mut self,
+        alloc: Global,
+        name: &str,
+        value: Value<'a>,
+    ) -> Result<Reply<'a>, AllocError>
+        ensures does { IfOk result (λ r. at self.old (set_global name.now (Some (value_of value.entry)) (give (value_of value.entry))) ≡ at self.new (replies r)) }
+    {
+        let kept = value.copy()?;
+        let text = String::from_str(alloc, name)?;
+        let text = Rc::new(alloc, text)?;
+        self.set_global(text, Some(value))?;
+        Ok(gives(kept))
+    }
+
     // A global that has to be there still (9.1.1.2.5).
     fn assign_present(
         &mut self,
         alloc: Global,
         name: &str,
         value: Value<'a>,
-        old: Option<Value<'a>>,
+        old: &Option<Value<'a>>,
     ) -> Result<Reply<'a>, AllocError>
-        ensures does { IfOk result (λ r. at self.old (assign_present name.now (value_of value.entry) (maybe_value old.entry)) ≡ at self.new (replies r)) }
+        ensures does { IfOk result (λ r. at self.old (assign_present name.now (value_of value.entry) (maybe_value old.now)) ≡ at self.new (replies r)) }
     {
         match old {
             Some(_) => {
                 let shown = self.show(alloc, &value)?;
                 let text = String::from_str(alloc, name)?;
                 if self.emit(alloc, Act::Write(text, shown))? {
-                    let kept = value.copy()?;
-                    let text = String::from_str(alloc, name)?;
-                    let text = Rc::new(alloc, text)?;
-                    self.set_global(text, Some(value))?;
-                    Ok(gives(kept))
+                    self.put_global(alloc, name, value)
                 } else {
                     Ok(unknown())
                 }
@@ -269,7 +288,7 @@ impl<'a> World<'a> {
             Fixed::Usual => {
                 if there {
                     let old = self.get_global(name)?;
-                    self.assign_present(alloc, name, value, old)
+                    self.assign_present(alloc, name, value, &old)
                 } else {
                     self.raises(ErrorKind::ReferenceError)
                 }

@@ -58,7 +58,7 @@ impl<'a> World<'a> {
     pub fn into_outcome(self, ending: Ending) -> Outcome
         ensures { outcome_of result ≡ record { trace = trace_of self.entry; ending = ending_of ending } }
     {
-        let World { trace, .. } = self;
+        let trace = self.into_trace();
         Outcome { trace, ending }
     }
 }

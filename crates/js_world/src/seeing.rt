@@ -1,5 +1,5 @@
 // What the host is shown, and what it names.
-ghost use Rattle.std.specs.Prelude.{◌≡◌, ◌∷◌, List, map, IfOk, OnOk, codes, if◌then◌else◌};
+ghost use Rattle.std.specs.Prelude.{◌≡◌, List, map, IfOk, OnOk, codes, if◌then◌else◌};
 ghost use Rattle.js_meaning.specs.Value as meant;
 ghost use Rattle.js_meaning.specs.Trace as trace;
 ghost use Rattle.js_meaning.specs.State as state;
@@ -13,51 +13,11 @@ ghost use Rattle.js_world.specs.World.{at, cell_of, maybe_value, values_of, give
 ghost use Rattle.js_world.specs.World as world;
 ghost use Rattle.js_world.specs.Going.{goes_on, goes_on_all, goes_on_shown, if_all};
 
+use crate::acts::in_front;
 use crate::world::{Cell, Export, World};
 use js_show::{Act, Event, Given, Shown, ShownExport, ShownExports, show_value};
 use js_value::{Slot, Value};
 use std::alloc::{AllocError, Global};
-
-fn in_front(alloc: Global, first: Shown, others: Vec<Shown>) -> Result<Vec<Shown>, AllocError>
-    ensures { IfOk result (λ v. v.items ≡ first ∷ others.items) }
-{
-    let mut all = Vec::new(alloc);
-    all.push(first)?;
-    for other in others {
-        all.push(other)?;
-    }
-    Ok(all)
-}
-
-fn export_in_front(
-    alloc: Global,
-    first: ShownExport,
-    others: Vec<ShownExport>,
-) -> Result<Vec<ShownExport>, AllocError>
-    ensures { IfOk result (λ v. v.items ≡ first ∷ others.items) }
-{
-    let mut all = Vec::new(alloc);
-    all.push(first)?;
-    for other in others {
-        all.push(other)?;
-    }
-    Ok(all)
-}
-
-fn value_in_front<'a>(
-    alloc: Global,
-    first: Value<'a>,
-    others: Vec<Value<'a>>,
-) -> Result<Vec<Value<'a>>, AllocError>
-    ensures { IfOk result (λ v. v.items ≡ first.entry ∷ others.entry.items) }
-{
-    let mut all = Vec::new(alloc);
-    all.push(first)?;
-    for other in others {
-        all.push(other)?;
-    }
-    Ok(all)
-}
 
 fn copy_exports<'a>(alloc: Global, exports: &[Export<'a>]) -> Result<Vec<Export<'a>>, AllocError>
     ensures { IfOk result (λ v. v.items ≡ exports.now) }
@@ -119,7 +79,7 @@ impl<'a> World<'a> {
             [first, others @ ..] => {
                 let first = self.show(alloc, first)?;
                 let others = self.show_all(alloc, others)?;
-                in_front(alloc, first, others)
+                in_front(first, others)
             }
             [] => Ok(Vec::new(alloc)),
         }
@@ -186,7 +146,7 @@ impl<'a> World<'a> {
                         let others = self.show_exports(alloc, others)?;
                         match others {
                             Some(others) => {
-                                let all = export_in_front(alloc, first, others)?;
+                                let all = in_front(first, others)?;
                                 Ok(Some(all))
                             }
                             None => Ok(None),
@@ -267,7 +227,7 @@ impl<'a> World<'a> {
                         let others = self.resolve_all(alloc, others)?;
                         match others {
                             Some(others) => {
-                                let all = value_in_front(alloc, first, others)?;
+                                let all = in_front(first, others)?;
                                 Ok(Some(all))
                             }
                             None => Ok(None),

@@ -1,4 +1,6 @@
 // The state of a run.
+ghost use Rattle.std.specs.Prelude.{◌≡◌};
+
 use js_show::{Ending, Event, Given};
 use js_syntax::FunctionKind;
 use js_tree::Node;
@@ -6,32 +8,69 @@ use js_value::{Env, Plain, Slot, Value};
 use std::rc::Rc;
 
 /// Where a name's value stands: whether it is constant, and the value once it is initialised.
-#[derive(Drop)]
 pub struct Cell<'a> {
     pub constant: bool,
     pub value: Option<Value<'a>>,
 }
 
+impl<'a> Drop for Cell<'a> {
+    fn drop(self) {
+        let Cell {
+            constant: _,
+            value: _,
+        } = self;
+    }
+}
+
+impl<'a> Cell<'a> {
+    // The value alone.
+    pub(crate) fn into_value(self) -> Option<Value<'a>>
+        ensures { result ≡ self.entry.value }
+    {
+        let Cell { constant: _, value } = self;
+        value
+    }
+}
+
 /// A cell and its number.
-#[derive(Drop)]
 pub struct Stored<'a> {
     pub(crate) number: usize,
     pub(crate) cell: Cell<'a>,
 }
 
+impl<'a> Drop for Stored<'a> {
+    fn drop(self) {
+        let Stored { number: _, cell: _ } = self;
+    }
+}
+
 /// A global, or that there is none of this name.
-#[derive(Drop)]
 pub struct Named<'a> {
     pub(crate) name: Rc<String>,
     pub(crate) value: Option<Value<'a>>,
 }
 
+impl<'a> Drop for Named<'a> {
+    fn drop(self) {
+        let Named { name: _, value: _ } = self;
+    }
+}
+
 /// What a module exports under a name, or that it is not initialised.
-#[derive(Drop)]
 pub struct Foreign<'a> {
     pub(crate) source: Rc<String>,
     pub(crate) name: Rc<String>,
     pub(crate) value: Option<Value<'a>>,
+}
+
+impl<'a> Drop for Foreign<'a> {
+    fn drop(self) {
+        let Foreign {
+            source: _,
+            name: _,
+            value: _,
+        } = self;
+    }
 }
 
 /// What the module exports under a name.
@@ -42,7 +81,6 @@ pub struct Export<'a> {
 }
 
 /// What the host does.
-#[derive(Drop)]
 pub enum Move {
     /// Calls an own object with a receiver and arguments.
     CallOwn(usize, Given, Vec<Given>),
@@ -54,14 +92,36 @@ pub enum Move {
     Refuse(Given),
 }
 
+impl Drop for Move {
+    fn drop(self) {
+        match self {
+            Move::CallOwn(_, _, _) => {}
+            Move::SetGlobal(_, _) => {}
+            Move::RemoveGlobal(_) => {}
+            Move::SetImport(_, _, _) => {}
+            Move::Answer(_) => {}
+            Move::Refuse(_) => {}
+        }
+    }
+}
+
 /// What is read or written.
-#[derive(Drop)]
 pub enum Place<'a> {
     Slot(Slot<'a>),
     /// A global, and whether it was there.
     Global(&'a str, bool),
     /// A property: object and key.
     Member(Value<'a>, Value<'a>),
+}
+
+impl<'a> Drop for Place<'a> {
+    fn drop(self) {
+        match self {
+            Place::Slot(_) => {}
+            Place::Global(_, _) => {}
+            Place::Member(_, _) => {}
+        }
+    }
 }
 
 /// How a node completes. An expression gives its value, and the receiver for a call of it.
@@ -97,10 +157,18 @@ pub enum Next<'a> {
 }
 
 /// What a run is given: the globals at its start, and what the host does.
-#[derive(Drop)]
 pub struct Script {
     pub globals: Vec<(Rc<String>, Plain)>,
     pub moves: Vec<Move>,
+}
+
+impl Drop for Script {
+    fn drop(self) {
+        let Script {
+            globals: _,
+            moves: _,
+        } = self;
+    }
 }
 
 /// How an act went on: it completed, or the run stops.
@@ -111,7 +179,6 @@ pub enum Reply<'a> {
 }
 
 /// The state of a run, and the events so far. Of the cells, globals and imports the latest stand first.
-#[derive(Drop)]
 pub struct World<'a> {
     pub(crate) budget: u64,
     pub(crate) fresh: usize,
@@ -123,4 +190,42 @@ pub struct World<'a> {
     pub(crate) exports: Vec<Export<'a>>,
     pub(crate) stars: Vec<&'a str>,
     pub(crate) trace: Vec<Event>,
+}
+
+impl<'a> Drop for World<'a> {
+    fn drop(self) {
+        let World {
+            budget: _,
+            fresh: _,
+            cells: _,
+            globals: _,
+            imports: _,
+            seen: _,
+            moves: _,
+            exports: _,
+            stars: _,
+            trace: _,
+        } = self;
+    }
+}
+
+impl<'a> World<'a> {
+    // The events alone.
+    pub(crate) fn into_trace(self) -> Vec<Event>
+        ensures { result ≡ self.entry.trace }
+    {
+        let World {
+            budget: _,
+            fresh: _,
+            cells: _,
+            globals: _,
+            imports: _,
+            seen: _,
+            moves: _,
+            exports: _,
+            stars: _,
+            trace,
+        } = self;
+        trace
+    }
 }

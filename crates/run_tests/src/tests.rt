@@ -33,7 +33,7 @@ enum Seen {
 }
 
 fn look(plan: Plan) -> Seen {
-    let Plan { control, then } = plan;
+    let (control, then) = plan.into_parts();
     let seen = match &control {
         Control::Reply(Reply::Completes(Completion::Normal)) => Seen::Normal,
         Control::Reply(Reply::Completes(Completion::Gives(Value::Plain(Plain::Number(7)), _))) => {

@@ -8,7 +8,7 @@ use std::test::Fail;
 fn a_primitive_is_shown_plainly(rt: HostRuntime) -> Result<(), Fail> {
     let mut seen = Vec::new(rt.alloc());
     let shown = show_value(rt.alloc(), &Value::Plain(Plain::Null), &mut seen)?;
-    assert!(rt; matches!(shown, Shown::Plainly(Plain::Null)));
+    assert!(rt; matches!(&shown, Shown::Plainly(Plain::Null)));
     Ok(())
 }
 
@@ -17,7 +17,7 @@ fn an_error_is_shown_by_its_kind(rt: HostRuntime) -> Result<(), Fail> {
     let mut seen = Vec::new(rt.alloc());
     let error = Value::Error(7, ErrorKind::TypeError);
     let shown = show_value(rt.alloc(), &error, &mut seen)?;
-    assert!(rt; matches!(shown, Shown::First(0, Sort::ATypeError, _)));
+    assert!(rt; matches!(&shown, Shown::First(0, Sort::ATypeError, _)));
     Ok(())
 }
 
@@ -28,7 +28,7 @@ fn an_object_is_known_again(rt: HostRuntime) -> Result<(), Fail> {
     let array = Value::Array(3, Rc::new(rt.alloc(), content)?);
     let _first = show_value(rt.alloc(), &array, &mut seen)?;
     let shown = show_value(rt.alloc(), &array, &mut seen)?;
-    assert!(rt; matches!(shown, Shown::Again(0)));
+    assert!(rt; matches!(&shown, Shown::Again(0)));
     Ok(())
 }
 

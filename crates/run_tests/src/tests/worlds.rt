@@ -32,7 +32,7 @@ fn a_global_is_there(rt: HostRuntime) -> Result<(), Fail> {
     let reply = world.name_value(None, "f")?;
     assert!(rt;
         matches!(
-            reply,
+            &reply,
             Reply::Completes(Completion::Gives(Value::Plain(Plain::Host(1, true)), _))
         )
     );

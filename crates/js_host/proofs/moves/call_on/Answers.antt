@@ -9,6 +9,6 @@ use Rattle.js_host.proofs.moves.call_on.Goals as goal
 pub returns-in-Some : goal.returns-in-Some
 returns-in-Some c =
     IfOk-weaker c.call_with.result _ _ (λ n told E.
-    c.in_ok-this.ensures (λ this. resolve_all (givens_of c.args.arguments.now) (λ vs. call_back E c.args.awaited this vs (value_of c.args.callee)))
-    ∙ ap (λ o. at c.args.world.now (if_some (maybe_value o) (λ this. resolve_all (givens_of c.args.arguments.now) (λ vs. call_back E c.args.awaited this vs (value_of c.args.callee))))) c.in-Some.is
+    c.in_ok-this.ensures (λ this. resolve_all (givens_of c.args.arguments.now) (λ vs. call_back E c.args.awaited this vs (value_of c.args.callee.now)))
+    ∙ ap (λ o. at c.args.world.now (if_some (maybe_value o) (λ this. resolve_all (givens_of c.args.arguments.now) (λ vs. call_back E c.args.awaited this vs (value_of c.args.callee.now))))) c.in-Some.is
     ∙ told E) c.call_with.ensures

@@ -9,10 +9,10 @@ use Rattle.js_operations.proofs.place.put_given.Goals as goal
 
 pub returns-in-Some : goal.returns-in-Some
 returns-in-Some c = record {
-  does = IfOk-weaker c.put_place.result _ _ (λ p h E. ap (λ o. at c.args.world.now (with_value (value.gives o) (put_place E (place_of c.args.place)))) c.in-Some.is ∙ ap (at c.args.world.now) (after_done _ _) ∙ h E) c.put_place.ensures.does;
+  does = IfOk-weaker c.put_place.result _ _ (λ p h E. ap (λ o. at c.args.world.now (with_value (value.gives o) (put_place E (place_of c.args.place.now)))) c.in-Some.is ∙ ap (at c.args.world.now) (after_done _ _) ∙ h E) c.put_place.ensures.does;
 }
 
-pub returns : goal.returns
-returns c = record {
-  does = λ E. ap (λ o. at c.args.world.now (with_value (value.gives o) (put_place E (place_of c.args.place)))) c.in-None.is ∙ ap (at c.args.world.now) (after_stop _ _ ∙ sym (c.uncovered.ensures E));
+pub returns-in-None : goal.returns-in-None
+returns-in-None c = record {
+  does = λ E. ap (λ o. at c.args.world.now (with_value (value.gives o) (put_place E (place_of c.args.place.now)))) c.in-None.is ∙ ap (at c.args.world.now) (after_stop _ _ ∙ sym (c.uncovered.ensures E));
 }

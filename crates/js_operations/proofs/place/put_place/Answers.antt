@@ -7,4 +7,4 @@ use Rattle.js_operations.proofs.place.put_place.Goals as goal
 
 pub returns-clause-follows : goal.returns-clause-follows
 returns-clause-follows c =
-    λ E k. goes_on c.args.world.now c.put.new.world (put_place E (place_of c.args.place) (value_of c.args.value)) (plans E c.in_ok-plan.plan) k (c.in_ok-plan.ensures.does E)
+    λ E k. goes_on c.args.world.now c.put.new.world (put_place E (place_of c.args.place.now) (value_of c.args.value)) (plans E c.in_ok-plan.plan) k (c.in_ok-plan.ensures.does E)
