@@ -1,7 +1,11 @@
 // What a copy holds.
+ghost use Rattle.std.specs.Prelude.{ℕ, Bool};
+ghost use Rattle.js_syntax.specs.Node.{Tree};
+
 use crate::answer::{shown, size};
 use js_clone::try_clone;
 use js_tree::{Node, Program, SPAN};
+use js_walk::{Visit, walk_program};
 use std::alloc::{AllocError, Global};
 
 // The program, whose root has an id.
@@ -17,31 +21,52 @@ fn copy_of(alloc: Global, program: &Program) -> Result<Program, AllocError> {
     try_clone(alloc, &original)
 }
 
-// Appends the spans and ids that nodes have, in order of places.
-fn add_notes(notes: &mut String, node: &Node) -> Result<(), AllocError> {
+// The spans and ids of the nodes that were visited, in order of places, until memory was short.
+#[derive(Drop)]
+struct Notes {
+    text: String,
+    written: Result<(), AllocError>,
+}
+
+fn write_note(text: &mut String, node: &Node) -> Result<(), AllocError> {
     let span = node.span();
     if span != SPAN {
-        write!(notes, " {}-{}", span.start, span.end)?;
+        write!(text, " {}-{}", span.start, span.end)?;
     }
     if let Some(id) = node.id() {
-        write!(notes, " #{id}")?;
-    }
-    for child in node.children() {
-        if let Some(child) = child {
-            add_notes(notes, child)?;
-        }
+        write!(text, " #{id}")?;
     }
     Ok(())
 }
 
+impl Visit for Notes {
+    ghost visits = { λ _ _ _ _. Unit {0} };
+
+    fn visit(&mut self, node: &Node) -> bool {
+        if self.written.is_ok() {
+            self.written = write_note(&mut self.text, node);
+        }
+        true
+    }
+}
+
+fn notes_of(alloc: Global, program: &Program) -> Result<String, AllocError> {
+    let mut notes = Notes {
+        text: String::new(alloc),
+        written: Ok(()),
+    };
+    walk_program(&mut notes, program);
+    let Notes { text, written } = notes;
+    written?;
+    Ok(text)
+}
+
 // What is said of a copy.
 fn said_of(alloc: Global, copy: &Program) -> Result<String, AllocError> {
-    let mut said = size(alloc, copy, 1000)?;
-    add_notes(&mut said, copy.root())?;
-    said.push_str("\n")?;
+    let size = size(alloc, copy, 1000)?;
+    let notes = notes_of(alloc, copy)?;
     let text = shown(alloc, copy)?;
-    said.push_str(text.as_str())?;
-    Ok(said)
+    format!(in alloc; "{size}{notes}\n{text}")
 }
 
 /// What a copy of a program holds, once its root has an id.
