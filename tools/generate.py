@@ -6,12 +6,14 @@ import clones
 import entries
 import equals
 import examples
+import form_rows
 import read_kinds
 import run_table
 import shapes
 import syntax
+import tree_rows
 
-FILES = {**syntax.FILES, **run_table.FILES, **read_kinds.FILES, **entries.FILES, **clones.FILES, **equals.FILES, **shapes.FILES, **examples.FILES}
+FILES = {**syntax.FILES, **run_table.FILES, **read_kinds.FILES, **entries.FILES, **clones.FILES, **equals.FILES, **shapes.FILES, **examples.FILES, **form_rows.FILES, **tree_rows.FILES}
 
 crates = pathlib.Path(__file__).resolve().parent.parent / 'crates'
 for path, text in FILES.items():

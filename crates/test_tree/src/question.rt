@@ -1,0 +1,55 @@
+// What is asked of trees.
+
+/// A question.
+#[derive(Clone, Copy)]
+pub(crate) enum Question {
+    /// How many nodes and levels the tree has, where the operand is the limit.
+    Size,
+    /// What a copy of it holds, once its root has the id 7: its size, the spans and ids of its nodes, and its text.
+    Copied,
+    /// Whether it is the same as the operand, but for spans and ids.
+    Equal,
+    /// What is left where the empty statements of lists go.
+    Cleared,
+    /// Whether a pass that knows of no names changes it, what the pass leaves, and whether another changes that.
+    Passed,
+    /// Whether its first expression is a direct call of `eval`.
+    DirectEval,
+    /// The names that its first declarator declares.
+    BoundNames,
+    /// Whether its first expression, or the first statement where that has none, is silent, of names that have no
+    /// binding.
+    Silent,
+    /// Whether it may do something where the names of the operand are declared.
+    Acts,
+    /// Whether anything in the tree refers to the operand, a name of a scope around it.
+    Refers,
+    /// How many nodes a walk visits that passes by what lies below blocks.
+    Visited,
+    /// Its text.
+    Written,
+}
+
+const QUESTIONS: [(&str, Question); 12] = [
+    ("size", Question::Size),
+    ("copy", Question::Copied),
+    ("equal", Question::Equal),
+    ("clear", Question::Cleared),
+    ("pass", Question::Passed),
+    ("eval", Question::DirectEval),
+    ("names", Question::BoundNames),
+    ("silent", Question::Silent),
+    ("acts", Question::Acts),
+    ("refers", Question::Refers),
+    ("visits", Question::Visited),
+    ("text", Question::Written),
+];
+
+pub(crate) fn question_named(name: &str) -> Option<Question> {
+    for (word, question) in QUESTIONS.iter() {
+        if *word == name {
+            return Some(*question);
+        }
+    }
+    None
+}

@@ -1,0 +1,69 @@
+// The trees of rows: ESTree JSON, or `!` and a number of operators.
+//
+// JSON nests at most 127 arrays and objects. So `!997` stands for the module of one statement, `this` behind 997
+// operators `!`, which has three levels more than these.
+use js_syntax::UnaryOperator;
+use js_tree::{Node, NodeKind, Program, SPAN, SourceType};
+use std::alloc::{AllocError, Global};
+use tree_read::{TreeError, read_tree};
+
+// A node above one other.
+fn above(alloc: Global, kind: NodeKind, child: Node) -> Result<Node, AllocError> {
+    let mut children = Vec::new(alloc);
+    children.push(Some(child))?;
+    Ok(Node::new(kind, SPAN, children))
+}
+
+fn negation(alloc: Global, operand: Node) -> Result<Node, AllocError> {
+    above(
+        alloc,
+        NodeKind::UnaryExpression(UnaryOperator::LogicalNot),
+        operand,
+    )
+}
+
+// `this` behind this many operators `!`.
+fn negations(alloc: Global, operators: usize) -> Result<Node, AllocError> {
+    let mut node = Node::new(NodeKind::ThisExpression, SPAN, Vec::new(alloc));
+    for _ in 0..operators {
+        node = negation(alloc, node)?;
+    }
+    Ok(node)
+}
+
+// The module of this expression.
+fn module_of(alloc: Global, expression: Node) -> Result<Program, AllocError> {
+    let statement = above(alloc, NodeKind::ExpressionStatement, expression)?;
+    let list = above(alloc, NodeKind::Statements, statement)?;
+    let root = above(alloc, NodeKind::Program(SourceType::Module), list)?;
+    Ok(Program::new(root))
+}
+
+fn negated(alloc: Global, operators: usize) -> Result<Program, AllocError> {
+    let expression = negations(alloc, operators)?;
+    module_of(alloc, expression)
+}
+
+/// The tree of a row.
+pub(crate) fn tree_of(alloc: Global, text: &str) -> Result<Program, TreeError> {
+    match text.strip_prefix('!') {
+        Some(number) => {
+            let operators = number.parse::<usize>().unwrap_or(0);
+            Ok(negated(alloc, operators)?)
+        }
+        None => read_tree(alloc, text.as_bytes()),
+    }
+}
+
+/// The node that lies so many levels below a program, lists included, each the first of its row; or the last of them
+/// that is there.
+pub(crate) fn first_below(program: &Program, levels: usize) -> &Node {
+    let mut node = program.root();
+    for _ in 0..levels {
+        match node.children() {
+            [Some(child), ..] => node = child,
+            _ => return node,
+        }
+    }
+    node
+}

@@ -1,0 +1,117 @@
+"""test_tree: what is asked of trees, and the answers, told from the definitions and from ECMA-262, and counted by hand.
+
+Each row is a program in words, the question, the tree and its operand, and the answer. The questions are those of
+crates/test_tree/src/question.rt. A tree is an ESTree program, or a number of operators `!` that stand before `this`: such a
+program has three levels and nodes more than operators, and its text 67 bytes for each and 119 around them.
+"""
+from examples import B, ES, I, L, N, asg, call, fn, mem, prog, prop, text, un, var
+
+EMPTY = N('EmptyStatement')
+THIS = N('ThisExpression')
+NULL = L(None)
+HOLE = None
+
+
+def module(*body): return prog(list(body), 'module')
+def script(*body): return prog(list(body), 'script')
+def arrow(expression): return fn('ArrowFunctionExpression', None, [], expression, True)
+def class_a(parent=None): return N('ClassDeclaration', id=I('A'), superClass=parent, body=N('ClassBody', body=[]))
+def array(*elements): return N('ArrayExpression', elements=list(elements))
+def pattern(*elements): return N('ArrayPattern', elements=list(elements))
+def default(left, right): return N('AssignmentPattern', left=left, right=right)
+def rest(argument): return N('RestElement', argument=argument)
+def label(name, body): return N('LabeledStatement', label=I(name), body=body)
+def catches(param, *body): return N('TryStatement', block=B(), handler=N('CatchClause', param=I(param), body=B(*body)), finalizer=None)
+def let(declared, value): return var('let', (declared, value))
+def eval_of(callee, optional=False): return call(callee, optional=optional)
+def parenthesized(expression): return N('ParenthesizedExpression', expression=expression)
+def new(pure, span=None): return N('NewExpression', callee=I('f'), arguments=[], pure=pure, **(dict(start=span[0], end=span[1]) if span else {}))
+
+
+NAMED = dict(I('a'), start=3, end=9)
+WITH_CLASS = module(class_a(THIS))
+SWITCH = N('SwitchStatement', discriminant=THIS, cases=[N('SwitchCase', test=None, consequent=[B(EMPTY)])])
+LABELED = module(label('l', ES(L(1))))
+LABELED_EMPTY = module(label('l', EMPTY))
+
+GROUPS = [
+ ('how large trees are, up to a limit', [
+  ('the empty module', 'size', module(), '10', 'nodes 1 levels 1'),
+  ('the empty module', 'size', module(), '0', 'nodes 1 levels 1'),
+  ('class A extends this {}: heritage stands two levels down', 'size', WITH_CLASS, '100', 'nodes 5 levels 4'),
+  ('class A extends this {}', 'size', WITH_CLASS, '2', 'nodes 3 levels 3'),
+  ('class A {}', 'size', module(class_a()), '100', 'nodes 4 levels 3'),
+  ('return [,];: a hole is a node', 'size', module(N('ReturnStatement', argument=array(HOLE))), '100', 'nodes 4 levels 4'),
+  ('a thousand levels', 'size', 997, '998', 'nodes 999 levels 999'),
+  ('a thousand levels', 'size', 997, '1000', 'nodes 1000 levels 1000'),
+ ]),
+ ('what copies hold', [
+  ('var a; where the name has a span', 'copy', script(var('var', (NAMED, None))), '', 'nodes 4 levels 4 #7 3-9\n' + text(script(var('var', (I('a'), None))))),
+  ('a thousand levels', 'copy', 997, '', 'nodes 1000 levels 1000 #7\n66918 bytes'),
+ ]),
+ ('which trees are equal', [
+  ('[new f(), ,] with a mark, and itself', 'equal', module(ES(array(new(True), HOLE))), module(ES(array(new(True), HOLE))), 'equal'),
+  ('[new f(), ,] with a span', 'equal', module(ES(array(new(True), HOLE))), module(ES(array(new(True, (1, 8)), HOLE))), 'equal'),
+  ('[new f(), ,] without the mark', 'equal', module(ES(array(new(True), HOLE))), module(ES(array(new(False), HOLE))), 'different'),
+  ('[new f(), ,] and [new f()]', 'equal', module(ES(array(new(True), HOLE))), module(ES(array(new(True)))), 'different'),
+  ('a module and a script', 'equal', module(), script(), 'different'),
+  ('a thousand levels', 'equal', 997, 997, 'equal'),
+  ('a thousand levels and 999', 'equal', 997, 996, 'different'),
+ ]),
+ ('what is left', [
+  ('a thousand levels', 'clear', 997, '', '66918 bytes'),
+  ('l: 1;', 'clear', LABELED, '', text(LABELED)),
+  ('; l: 1; { ; }', 'clear', module(EMPTY, label('l', ES(L(1))), B(EMPTY)), '', text(module(label('l', ES(L(1))), B()))),
+  ('l: 1;: a silent statement that stands alone becomes empty', 'pass', LABELED, '', 'changes\n%s\nchanges nothing' % text(LABELED_EMPTY)),
+  ('l: ;', 'pass', LABELED_EMPTY, '', 'changes nothing\n%s\nchanges nothing' % text(LABELED_EMPTY)),
+  ('1; a;', 'pass', module(ES(L(1)), ES(I('a'))), '', 'changes\n%s\nchanges nothing' % text(module(ES(I('a'))))),
+ ]),
+ ('names', [
+  ('(eval)()', 'eval', module(ES(eval_of(parenthesized(I('eval'))))), '', 'direct eval'),
+  ('(evil)()', 'eval', module(ES(eval_of(parenthesized(I('evil'))))), '', 'no direct eval'),
+  ('eval()', 'eval', module(ES(eval_of(I('eval')))), '', 'direct eval'),
+  ('eval?.()', 'eval', module(ES(eval_of(I('eval'), optional=True))), '', 'no direct eval'),
+  ('let [...[a = b]] = c;', 'names', module(let(pattern(rest(pattern(default(I('a'), I('b'))))), I('c'))), '', 'names a'),
+  ('let { a, [b]: c = d, ...e } = f;', 'names', module(let(N('ObjectPattern', properties=[prop(I('a'), I('a'), shorthand=True), prop(I('b'), default(I('c'), I('d')), computed=True), rest(I('e'))]), I('f'))), '', 'names a c e'),
+  ('let [] = a;', 'names', module(let(pattern(), I('a'))), '', 'names'),
+ ]),
+ ('what is silent', [
+  ('null;', 'silent', module(ES(NULL)), '', 'silent'),
+  ('debugger;', 'silent', module(N('DebuggerStatement')), '', 'not silent'),
+  ('undefined;', 'silent', module(ES(I('undefined'))), '', 'silent'),
+  ('undefine;', 'silent', module(ES(I('undefine'))), '', 'not silent'),
+  ('-1;', 'silent', module(ES(un('-', L(1)))), '', 'not silent'),
+  ('!1;', 'silent', module(ES(un('!', L(1)))), '', 'silent'),
+ ]),
+ ('what may act', [
+  ('a; where b and a are declared', 'acts', module(ES(I('a'))), 'b a', 'does nothing'),
+  ('a; where b is declared', 'acts', module(ES(I('a'))), 'b', 'may act'),
+  ('a(); where a is declared', 'acts', module(ES(call(I('a')))), 'a', 'may act'),
+  ('null;', 'acts', module(ES(NULL)), '', 'does nothing'),
+ ]),
+ ('what refers to a name', [
+  ('() => a', 'refers', module(ES(arrow(I('a')))), 'a', 'refers to it'),
+  ('() => a', 'refers', module(ES(arrow(I('a')))), 'b', 'does not refer to it'),
+  ('try {} catch (a) { a; }: a name that is declared again is another', 'refers', module(catches('a', ES(I('a')))), 'a', 'does not refer to it'),
+  ('try {} catch (a) { b; }', 'refers', module(catches('a', ES(I('b')))), 'b', 'refers to it'),
+  ('a = 1;', 'refers', module(ES(asg('=', I('a'), L(1)))), 'a', 'refers to it'),
+ ]),
+ ('what a walk visits: none below a block', [
+  ('switch (this) { default: { ; } } debugger;', 'visits', script(SWITCH, N('DebuggerStatement')), '', 'visits 6'),
+  ('a.b;', 'visits', module(ES(mem(I('a'), I('b')))), '', 'visits 4'),
+ ]),
+ ('texts', [
+  ('a thousand levels', 'text', 997, '', '66918 bytes'),
+  ('! this;', 'text', 1, '', text(module(ES(un('!', THIS))))),
+ ]),
+]
+
+
+def field(value): return '!%d' % value if isinstance(value, int) else text(value) if isinstance(value, dict) else value
+def row(question, tree, operand): return '\t'.join([question, field(tree)] + ([field(operand)] if operand != '' else []))
+def lines(of_row): return ''.join('// %s\n%s' % (what, ''.join('// %s\n%s\n' % (words, of_row(*rest)) for words, *rest in rows)) for what, rows in GROUPS)
+def given(): return lines(lambda question, tree, operand, answer: row(question, tree, operand))
+def wanted(): return lines(lambda question, tree, operand, answer: answer)
+
+
+FILES = {'test_tree/stdin': given, 'test_tree/stdout': wanted}
