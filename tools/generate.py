@@ -19,6 +19,6 @@ for path, text in FILES.items():
     if sys.argv[1:] and path.split('/')[0] not in sys.argv[1:]: continue
     file = crates / path
     file.parent.mkdir(parents=True, exist_ok=True)
-    file.write_text(text())
+    file.write_bytes(text().encode('utf-8', 'surrogateescape'))
 for crate in sys.argv[1:] or sorted({path.split('/')[0] for path in FILES}):
     subprocess.run(['rt', 'fmt'], cwd=crates / crate, check=True, stdout=subprocess.DEVNULL)
