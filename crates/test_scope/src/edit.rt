@@ -235,15 +235,24 @@ fn add_edited_references<'a>(
     add_reference(alloc, sites, "reference.again", edit, found)
 }
 
+fn add_edited<'a>(
+    alloc: Global,
+    sites: &Found<'a>,
+    edit: &Edit<'a>,
+    found: &mut Found<'a>,
+) -> Result<(), AllocError> {
+    add_scopes(sites.scopes(), edit, found)?;
+    add_edited_declarations(sites.bindings(), edit, found)?;
+    add_edited_references(alloc, sites.references(), edit, found)
+}
+
 /// The sites with this edit.
 pub(crate) fn edited<'a>(
     alloc: Global,
-    found: &Found<'a>,
+    sites: &Found<'a>,
     edit: &Edit<'a>,
 ) -> Result<Found<'a>, AllocError> {
-    let mut new = Found::new(alloc);
-    add_scopes(found.scopes(), edit, &mut new)?;
-    add_edited_declarations(found.bindings(), edit, &mut new)?;
-    add_edited_references(alloc, found.references(), edit, &mut new)?;
-    Ok(new)
+    let mut found = Found::new(alloc);
+    add_edited(alloc, sites, edit, &mut found)?;
+    Ok(found)
 }

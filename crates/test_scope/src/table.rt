@@ -294,6 +294,17 @@ pub(crate) fn append_match(
     writeln!(printed, "matches {matches}")
 }
 
+fn append_built(
+    alloc: Global,
+    scoping: &Scoping,
+    program: &Program,
+    printed: &mut String,
+) -> Result<(), AllocError> {
+    append_scoping(alloc, scoping, printed)?;
+    append_marks(program, printed)?;
+    append_match(alloc, scoping, program, printed)
+}
+
 /// The table of a program, the marks that its nodes have then, and whether they match.
 pub(crate) fn append_table(
     alloc: Global,
@@ -304,7 +315,5 @@ pub(crate) fn append_table(
         return writeln!(printed, "too large");
     }
     let scoping = build(alloc, program)?;
-    append_scoping(alloc, &scoping, printed)?;
-    append_marks(program, printed)?;
-    append_match(alloc, &scoping, program, printed)
+    append_built(alloc, &scoping, program, printed)
 }

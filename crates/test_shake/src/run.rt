@@ -57,6 +57,20 @@ fn words_of(alloc: Global, words: &str) -> Result<Vec<String>, AllocError> {
     Ok(list)
 }
 
+fn append_run_of(
+    alloc: Global,
+    words: &[String],
+    run: Run,
+    bytes: &[u8],
+    printed: &mut Vec<u8>,
+) -> Result<(), AllocError> {
+    let mut source = MemSource::new(alloc, bytes, &[run.failing_read])?;
+    let mut out = MemSink::new(alloc, run.room, &[run.failing_write])?;
+    let mut err = MemSink::new(alloc, 1000, &[])?;
+    let status = shake(alloc, words, &mut source, &mut out, &mut err);
+    append_outcome(status, &out, &err, printed)
+}
+
 /// Appends what a run on these bytes answers, writes and says.
 pub(crate) fn append_run(
     alloc: Global,
@@ -65,11 +79,7 @@ pub(crate) fn append_run(
     printed: &mut Vec<u8>,
 ) -> Result<(), AllocError> {
     let words = words_of(alloc, run.words)?;
-    let mut source = MemSource::new(alloc, bytes, &[run.failing_read])?;
-    let mut out = MemSink::new(alloc, run.room, &[run.failing_write])?;
-    let mut err = MemSink::new(alloc, 1000, &[])?;
-    let status = shake(alloc, words.as_slice(), &mut source, &mut out, &mut err);
-    append_outcome(status, &out, &err, printed)
+    append_run_of(alloc, words.as_slice(), run, bytes, printed)
 }
 
 fn append_code(status: Status, printed: &mut Vec<u8>) -> Result<(), AllocError> {
