@@ -1,7 +1,8 @@
-"""shake_rows: worked rows of reading and writing, with what ESTree and docs/DEFINITIONS.md say of them.
+"""test_shake: worked rows of the program and of its calls, with what ESTree and docs/DEFINITIONS.md say of them.
 
 Each case is a statement, or a program, in its own normal form, which is written as it was read; then inputs with the fault that they
-have, inputs that are written otherwise than they were read, and what passes leave of a program.
+have, inputs that are written otherwise than they were read, and what passes leave of a program. Behind these stand texts that are told
+as they are, words and faults of the outside, and the library call.
 """
 import json
 
@@ -217,23 +218,106 @@ S('export let x = 1; export function f() { let y; }',[export(x_is(L(1))),export(
 S('let x; [x, , !x]; ({ a: x, m() {} }); x ? void x : typeof x;',[x_is(None),ES(N('ArrayExpression',elements=[x,None,un('!',x)])),ES(N('ObjectExpression',properties=[prop(a,x),prop(I('m'),fn('FunctionExpression',None,[],B()),method=True)])),ES(N('ConditionalExpression',test=x,consequent=un('void',x),alternate=un('typeof',x)))],[],2,0)
 S('let x; x && (x, x); (x ?? (() => x)) || (function () {});',[x_is(None),ES(N('LogicalExpression',operator='&&',left=x,right=N('SequenceExpression',expressions=[x,x]))),ES(N('LogicalExpression',operator='||',left=N('ParenthesizedExpression',expression=N('LogicalExpression',operator='??',left=x,right=fn('ArrowFunctionExpression',None,[],x,True))),right=fn('FunctionExpression',None,[],B())))],[],2,0)
 S('let x; [...x]; ({ [x]: 1 }); ({ get a() {} }); -x; f(x), 2;',[x_is(None),ES(N('ArrayExpression',elements=[N('SpreadElement',argument=x)])),ES(N('ObjectExpression',properties=[prop(x,L(1),computed=True)])),ES(N('ObjectExpression',properties=[prop(a,fn('FunctionExpression',None,[],B()),kind='get')])),ES(un('-',x)),ES(N('SequenceExpression',expressions=[call(f,x),L(2)]))],None,0,4)
+S('(function f(f, b = c) { var c; f; b; c; });',[ES(fn('FunctionExpression',f,[f,N('AssignmentPattern',left=b,right=c)],B(var('var',(c,None)),ES(f),ES(b),ES(c))))],[],1,0)
+S('let x;',[var('let',(x,None))],[],1,0)
+S('let x; in a script',[var('let',(x,None))],None,0,0,'script')
 
 
 def text(tree): return json.dumps(tree, sort_keys=True, separators=(',', ':'))
 
 
+# Texts that are told as they are: the text, and the tree that is left, with the passes that changed something.
+def whole_text(items, source='module', extras=''): return '{"type":"Program","sourceType":"%s"%s,"body":[%s]}' % (source, extras, items)
+def stands(items): return whole_text('{"type":"ExpressionStatement","expression":%s}' % items)
+USE_STRICT='{"type":"ExpressionStatement","directive":"use\\\\x20strict","expression":{"type":"Literal","value":"use strict","raw":"\'use\\\\x20strict\'"}}'
+written=[
+ (whole_text(''),prog([]),0),
+ (whole_text('{"type":"EmptyStatement"},{"type":"DebuggerStatement"},{"type":"ExpressionStatement","expression":{"type":"Literal","value":1}}'),prog([DEBUGGER]),1),
+ (' {"body" : [{"type":"EmptyStatement","start":0,"end":1}],\t"sourceType":"script", "type":"Program"}\r',prog([],'script'),0),
+ (whole_text(USE_STRICT+',{"type":"DebuggerStatement"}','commonjs'),prog([N('ExpressionStatement',expression=L('use strict'),directive='use\\x20strict'),DEBUGGER],'commonjs'),0),
+ # a `directive` behind the head is no directive, and of a key that comes twice the last counts
+ ('{"type":"Program","sourceType":"script","sourceType":"module","body":[{"type":"DebuggerStatement"},{"type":"ExpressionStatement","directive":"use strict","expression":{"type":"Literal","value":"use strict"}}]}',prog([DEBUGGER]),1),
+ # the greatest number, null, truth values, and extras that say nothing
+ ('{"type":"Program","sourceType":"module","async":false,"decorators":[],"attributes":null,"options":{},"assertions":"","phase":null,"body":[{"type":"ExpressionStatement","expression":{"type":"Literal","value":-9007199254740991}},{"type":"ExpressionStatement","expression":{"type":"Literal","value":null,"raw":"null"}},{"type":"ExpressionStatement","expression":{"type":"Literal","value":true}}]}',prog([]),1),
+]
+
+# Items of a body, each with what is said of the first fault.
+RANGE='number out of range'
+items=[
+ ('{"type":"ExpressionStatement","expression":{"type":"YieldExpression"}}','unknown node YieldExpression'),
+ ('{"type":"Über-Statement 7_\\u0000"}','unknown node ?ber?Statement?7_?'),
+ ('{"type":""}','unknown node '),
+ ('{"type":"ExpressionStatement","expression":{"type":"Literal","value":9007199254740992}}',RANGE),
+ ('{"type":"ExpressionStatement","expression":{"type":"Literal","value":1.0}}',RANGE),
+ ('{"type":"ExpressionStatement","expression":{"type":"Literal","value":-0}}',RANGE),
+ ('{"type":"ExpressionStatement","expression":{"type":"Literal","value":null,"raw":"1e400"}}',RANGE),
+ ('{"type":"ExpressionStatement","expression":{"type":"Literal","value":1,"bigint":"1"}}','unknown node Literal'),
+ ('{"type":"ExpressionStatement","expression":{"type":"Literal"}}','bad field value in Literal'),
+ ('{"type":"ExpressionStatement","expression":{"type":"Literal","value":[]}}','bad field value in Literal'),
+ ('{"type":"ExpressionStatement"}','bad field expression in ExpressionStatement'),
+ ('{"type":"ExpressionStatement","expression":null}','bad field expression in ExpressionStatement'),
+ ('{"type":"ExpressionStatement","expression":{"type":"EmptyStatement"}}','bad field expression in ExpressionStatement'),
+ ('{"type":"ExpressionStatement","expression":{"value":1}}','bad field type in '),
+ ('{"type":"ExpressionStatement","directive":"a","expression":{"type":"Literal","value":1}}','bad field expression in ExpressionStatement'),
+ ('{"type":"ExpressionStatement","directive":"a","expression":{"type":"Literal","value":9007199254740992}}','bad field expression in ExpressionStatement'),
+ ('{"type":"Literal","value":1}','bad field body in Program'),
+ ('{"type":"Program","sourceType":"module","body":[]}','bad field body in Program'),
+ ('5','bad field body in Program'),
+ ('{"type":"EmptyStatement","async":true}','bad field async in EmptyStatement'),
+ ('{"type":"EmptyStatement","phase":"defer","options":{"a":1}}','bad field options in EmptyStatement'),
+ ('{"type":"DebuggerStatement","phase":false}','bad field phase in DebuggerStatement'),
+ ('{"type":"ExpressionStatement","await":true,"expression":{"type":"Literal","value":1,"decorators":[0]}}','bad field decorators in Literal'),
+ ('{"type":"ExpressionStatement","expression":{"type":"Literal","value":1},"generator":true}','bad field generator in ExpressionStatement'),
+ # the first of two faults
+ ('{"type":"ExpressionStatement"},{"type":"Unknown"}','bad field expression in ExpressionStatement'),
+]
+
+# Texts that are no program, with the code and what is said. A lone byte stands as a surrogate.
+no_programs=[(t,4,'not JSON') for t in ['{"type":"Program"','{"type":"Program"} 1','"\udcff"','"\\ud800"','1e999','['*128]]+[
+ ('[]',5,'bad field type in '),('{}',5,'bad field type in '),('{"type":1}',5,'bad field type in '),('{"type":"Literal","value":1}',5,'bad field type in '),
+ ('{"type":"File"}',5,'unknown node File'),('{"type":"Program"}',5,'bad field sourceType in Program'),
+ ('{"type":"Program","sourceType":"Module","body":[]}',5,'bad field sourceType in Program'),
+ ('{"type":"Program","sourceType":"module","body":{}}',5,'bad field body in Program'),('{"type":"Program","sourceType":"module"}',5,'bad field body in Program'),
+]
+
+# What is answered, written and said for an empty module, where the outside fails.
+LEFT='%s\npasses 0 references 0\n'%text(prog([]))
+outside=[
+ ('room %d'%len(LEFT),'0\n'+LEFT),('read 1','2\nshake: read fault\n'),('read 2','2\nshake: read fault\n'),('write 1','8\nshake: write fault\n'),
+ ('room 10','8\n%s\nshake: write fault\n'%LEFT[:10]),('write 2','0\n'+LEFT),
+]
+refused=['','shake,','dce,','shake,frob,','shake,DCE,','shake,dce,,','shake,dce,--frob,','shake,--help,']
+LET_X=var('let',(x,None))
+
+
 def rows():
-    """What each group of rows shows, and its rows: the words in front of the program, its tree, and what is answered, written and said."""
+    """What each group of rows shows, and its rows: the words in front of the text, the text or its tree, and what is printed."""
     for k, body in cases.items():
         yield '%s: each is written as it was read' % k, [('--tree-only ', whole(s), '0\n%s\n' % text(whole(s))) for s in body]
     yield 'faults: the first one has the line that says why', [('--tree-only ', p, '5\n%s' % line) for _, p, line in faults]
     yield 'forms: what is written otherwise than it was read', [('--tree-only ', p, '0\n%s\n' % text(q)) for _, p, q in others]
     for words, p, q, passes, references in shaken:
         yield words, [('', p, '0\n%s\npasses %d references %d\n' % (text(q), passes, references))]
+    yield 'texts as they are', [('', p, '0\n%s\npasses %d references 0\n' % (text(q), passes)) for p, q, passes in written]
+    yield 'items of a body, and the first fault', [('', whole_text(p), '5\nshake: %s\n' % said) for p, said in items]
+    yield 'nothing', [('--tree-only ', '', '4\nshake: not JSON\n')]
+    yield 'texts that are no program', [('', p, '%d\nshake: %s\n' % (code, said)) for p, code, said in no_programs]
+    yield 'let a; let a; in a script: what is ill formed', [('', prog([var('let', (a, None)), var('let', (a, None))], 'script'), '7\nshake: ill formed: rule 1 at 6\n')]
+    yield 'faults of the outside, for an empty module', [(how + ':', prog([]), want) for how, want in outside]
+    yield 'words that are refused, before anything is read', [('unread %s:' % words, prog([]), '1\nshake: usage: shake COMMAND [--tree-only]\n') for words in refused]
+    yield 'words that are accepted', [('words any name,dce,:', prog([]), '0\n' + LEFT), ('words shake,dce,--tree-only,:', prog([]), '0\n%s\n' % text(prog([])))]
+    yield 'the codes of all answers', [('codes 0:', '', ''.join('%d\n' % code for code in range(10)))]
+    yield 'where a program stands is read, and not written', [('span 0:', '{"type":"Program","start":1,"end":40,"sourceType":"script","body":[{"type":"DebuggerStatement","start":7,"end":4294967296}]}',
+                                                                'at 1 40, children 1\n%s\n' % text(prog([DEBUGGER], 'script')))]
+    yield 'the library call: empty statements leave', [('call dce:', prog([EMPTY]), 'passes 0 scopes 1\n%s\n' % text(prog([])))]
+    yield 'nothing leaves without options', [('call none:', prog([EMPTY]), 'passes 0 scopes 1\n%s\n' % text(prog([EMPTY])))]
+    yield 'what is ill formed stays', [('call smallest:', prog([RETURN(None)]), 'rule 6 of form is broken at 1\n%s\n' % text(prog([RETURN(None)])))]
+    yield 'the scopes are those of what is left: let x; { ; } () => { x; };', [('call dce:', prog([LET_X, B(EMPTY), ES(ARROW(ES(x)))]), 'passes 2 scopes 2\n%s\n' % text(prog([B()])))]
 
 
-def given(): return ''.join('// %s\n%s' % (what, ''.join(words + text(p) + '\n' for words, p, _ in group)) for what, group in rows())
+def line(words, p): return '%s%s\n' % (words, p if isinstance(p, str) else text(p))
+def given(): return ''.join('// %s\n%s' % (what, ''.join(line(words, p) for words, p, _ in group)) for what, group in rows())
 def wanted(): return ''.join('// %s\n%s' % (what, ''.join(want for _, _, want in group)) for what, group in rows())
 
 
-FILES = {'shake_rows/stdin': given, 'shake_rows/stdout': wanted}
+FILES = {'test_shake/stdin': given, 'test_shake/stdout': wanted}

@@ -1,4 +1,4 @@
-"""Writes the files that follow from the node table: python3 tools/generate.py [CRATE ..], at the top of the repository."""
+"""Writes the files that follow from the node table, and the rows of tests: python3 tools/generate.py [CRATE ..], at the top of the repository."""
 import pathlib
 import subprocess
 import sys
@@ -9,17 +9,20 @@ import examples
 import form_rows
 import read_kinds
 import run_table
+import runs
+import scope_examples
 import shapes
 import syntax
 import tree_rows
 
-FILES = {**syntax.FILES, **run_table.FILES, **read_kinds.FILES, **entries.FILES, **clones.FILES, **equals.FILES, **shapes.FILES, **examples.FILES, **form_rows.FILES, **tree_rows.FILES}
+MODULES = [syntax, run_table, read_kinds, entries, clones, equals, shapes, examples, form_rows, tree_rows, scope_examples, runs]
+FILES = {path: text for module in MODULES for path, text in module.FILES.items()}
 
 crates = pathlib.Path(__file__).resolve().parent.parent / 'crates'
 for path, text in FILES.items():
     if sys.argv[1:] and path.split('/')[0] not in sys.argv[1:]: continue
     file = crates / path
     file.parent.mkdir(parents=True, exist_ok=True)
-    file.write_text(text())
+    file.write_bytes(text().encode('utf-8', 'surrogateescape'))
 for crate in sys.argv[1:] or sorted({path.split('/')[0] for path in FILES}):
     subprocess.run(['rt', 'fmt'], cwd=crates / crate, check=True, stdout=subprocess.DEVNULL)

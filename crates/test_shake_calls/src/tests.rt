@@ -1,5 +1,4 @@
 // Programs at the limit of levels.
-use super::above;
 use js_count::depth;
 use js_syntax::UnaryOperator;
 use js_tree::{Ident, Node, NodeKind, Program, SPAN, SourceType};
@@ -7,6 +6,13 @@ use min_driver::{CompressOptions, Minifier, MinifierOptions, MinifyError};
 use std::alloc::{AllocError, Global};
 use std::test::Fail;
 use tree_write::write_tree;
+
+// A node above one other.
+fn above(alloc: Global, kind: NodeKind, child: Node) -> Result<Node, AllocError> {
+    let mut children = Vec::new(alloc);
+    children.push(Some(child))?;
+    Ok(Node::new(kind, SPAN, children))
+}
 
 // The tree of `f()`, of two levels.
 fn call(alloc: Global) -> Result<Node, AllocError> {
@@ -24,8 +30,8 @@ fn call(alloc: Global) -> Result<Node, AllocError> {
     ))
 }
 
-// That call behind this many operators `!`, in a module: four levels more than these.
-fn negated(alloc: Global, operators: usize) -> Result<Program, AllocError> {
+// That call behind this many operators `!`.
+fn negated(alloc: Global, operators: usize) -> Result<Node, AllocError> {
     let mut node = call(alloc)?;
     for _ in 0..operators {
         node = above(
@@ -34,6 +40,12 @@ fn negated(alloc: Global, operators: usize) -> Result<Program, AllocError> {
             node,
         )?;
     }
+    Ok(node)
+}
+
+// That in a module, of four levels more than there are operators.
+fn module(alloc: Global, operators: usize) -> Result<Program, AllocError> {
+    let node = negated(alloc, operators)?;
     let statement = above(alloc, NodeKind::ExpressionStatement, node)?;
     let list = above(alloc, NodeKind::Statements, statement)?;
     let root = above(alloc, NodeKind::Program(SourceType::Module), list)?;
@@ -51,18 +63,22 @@ fn shaken(alloc: Global, program: &mut Program) -> Result<u64, MinifyError> {
 // How many passes changed something, or an error; how many levels are left; and how long their text is.
 type Answer = (Result<u64, MinifyError>, usize, usize);
 
-fn answered(alloc: Global, operators: usize) -> Result<Answer, AllocError> {
-    let mut program = negated(alloc, operators)?;
-    let answer = shaken(alloc, &mut program);
-    let levels = depth(&program, 2000);
-    let text = write_tree(alloc, &program)?;
-    Ok((answer, levels, text.as_str().len()))
+fn answer(alloc: Global, program: &mut Program) -> Result<Answer, AllocError> {
+    let passes = shaken(alloc, program);
+    let levels = depth(program, 2000);
+    let text = write_tree(alloc, program)?;
+    Ok((passes, levels, text.as_str().len()))
+}
+
+fn answer_behind(alloc: Global, operators: usize) -> Result<Answer, AllocError> {
+    let mut program = module(alloc, operators)?;
+    answer(alloc, &mut program)
 }
 
 // Each operator has 67 bytes, and all that stands around them has 193.
 #[test]
 fn a_thousand_levels_are_shaken(rt: HostRuntime) -> Result<(), Fail> {
-    let got = answered(rt.alloc(), 996)?;
+    let got = answer_behind(rt.alloc(), 996)?;
     assert_eq!(rt; got, (Ok(0), 1000, 66_925));
     Ok(())
 }
@@ -73,7 +89,7 @@ fn one_level_more_is_refused(rt: HostRuntime) -> Result<(), Fail> {
         nodes: 1001,
         levels: 1001,
     };
-    let got = answered(rt.alloc(), 997)?;
+    let got = answer_behind(rt.alloc(), 997)?;
     assert_eq!(rt; got, (Err(refused), 1001, 66_992));
     Ok(())
 }

@@ -1,8 +1,0 @@
-// Small programs.
-mod built;
-mod contexts;
-mod faults;
-mod marks;
-mod sites;
-mod told;
-mod walks;
