@@ -8,10 +8,11 @@ import equals
 import examples
 import read_kinds
 import run_table
+import runs
 import shapes
 import syntax
 
-FILES = {**syntax.FILES, **run_table.FILES, **read_kinds.FILES, **entries.FILES, **clones.FILES, **equals.FILES, **shapes.FILES, **examples.FILES}
+FILES = {**syntax.FILES, **run_table.FILES, **read_kinds.FILES, **entries.FILES, **clones.FILES, **equals.FILES, **shapes.FILES, **examples.FILES, **runs.FILES}
 
 crates = pathlib.Path(__file__).resolve().parent.parent / 'crates'
 for path, text in FILES.items():
