@@ -9,7 +9,7 @@ host saw; at first it stands with what it is. Behind an event stand the exports 
 """
 import pathlib
 import re
-from examples import N, I, L, text
+from examples import N, I, L, tmpl, text
 
 ROWS = pathlib.Path(__file__).with_name('runs.txt').read_text()
 
@@ -39,7 +39,7 @@ def function(kind):
 
 def key(word): return lambda key, value: N('Property', kind='init', computed=False, method=False, shorthand=False, key=word, value=value)
 def of_kind(node, **fields): return lambda *children: node(*children) | fields
-def alone(type, *fields): return lambda *children: N(type, **dict(zip(fields, children)))
+def alone(type, *fields): return lambda *children: N(type, **dict(zip(fields, children, strict=True)))
 def listed(type, field, *before): return lambda *children: N(type, **dict(zip(before, children)), **{field: list(children[len(before):])})
 def program(kind): return lambda *body: N('Program', sourceType=kind, body=list(body))
 def declaration(kind): return lambda *items: N('VariableDeclaration', kind=kind, declarations=list(items))
@@ -49,7 +49,6 @@ def member(computed, optional=False): return lambda object, property: N('MemberE
 def meta(of, word): return lambda: N('MetaProperty', meta=I(of), property=I(word))
 def export(source=None): return lambda declaration=None, *specifiers: N('ExportNamedDeclaration', declaration=declaration, specifiers=list(specifiers), source=source)
 def jump(type): return lambda label=None: lambda: N(type, label=label and I(label))
-def template(quasis, expressions): return N('TemplateLiteral', quasis=[N('TemplateElement', value=dict(raw=q, cooked=q), tail=q is quasis[-1]) for q in quasis], expressions=expressions)
 
 
 # by the words of kinds, of what children a node is made
@@ -80,7 +79,7 @@ KINDS = {
     '?': alone('ConditionalExpression', 'test', 'consequent', 'alternate'),
     'call': call(False), 'call?.': call(True), 'chain': alone('ChainExpression', 'expression'),
     'new': listed('NewExpression', 'arguments', 'callee'), 'at': member(True),
-    'quasis': lambda *texts: list(texts), 'expressions': lambda *nodes: list(nodes), 'template': template, 'tagged': alone('TaggedTemplateExpression', 'tag', 'quasi'),
+    'quasis': lambda *texts: list(texts), 'expressions': lambda *nodes: list(nodes), 'template': tmpl, 'tagged': alone('TaggedTemplateExpression', 'tag', 'quasi'),
     'import-call': alone('ImportExpression', 'source'),
     'key-below': lambda key, value: N('Property', kind='init', computed=True, method=False, shorthand=False, key=key, value=value),
 }
