@@ -7,7 +7,7 @@ use std::alloc::{AllocError, Global};
 use std::rc::Rc;
 
 // The globals that are there at the start.
-const GLOBALS: [(&str, &str); 7] = [
+static GLOBALS: [(&str, &str); 7] = [
     ("f", "h1"),
     ("o", "o2"),
     ("g", "h3"),
@@ -77,15 +77,17 @@ fn parts(words: &str) -> Result<(&str, &str), Fault> {
     words.split_once(':').ok_or(Fault("a move lacks a part"))
 }
 
+fn call_with(alloc: Global, callee: usize, this: &str, others: &str) -> Result<Move, Fault> {
+    let arguments = arguments(alloc, others)?;
+    Ok(Move::CallOwn(callee, given(alloc, this)?, arguments))
+}
+
 // An own object is called with a receiver, and with the arguments that may stand behind it.
 fn call(alloc: Global, words: &str) -> Result<Move, Fault> {
     let (callee, rest) = parts(words)?;
     let callee = number(callee)?;
     match rest.split_once(':') {
-        Some((this, others)) => {
-            let arguments = arguments(alloc, others)?;
-            Ok(Move::CallOwn(callee, given(alloc, this)?, arguments))
-        }
+        Some((this, others)) => call_with(alloc, callee, this, others),
         None => Ok(Move::CallOwn(callee, given(alloc, rest)?, Vec::new(alloc))),
     }
 }
@@ -146,7 +148,7 @@ fn global(alloc: Global, name: &str, value: &str) -> Result<(Rc<String>, Plain),
 
 fn globals(alloc: Global) -> Result<Vec<(Rc<String>, Plain)>, Fault> {
     let mut globals = Vec::new(alloc);
-    for (name, value) in GLOBALS {
+    for (name, value) in GLOBALS.as_slice() {
         globals.push(global(alloc, name, value)?)?;
     }
     Ok(globals)

@@ -3,6 +3,7 @@ use js_show::{Act, Ending, Event, Outcome, Parts, Shown, ShownExport, ShownExpor
 use js_value::Plain;
 use std::alloc::{AllocError, Global};
 use std::fmt::Write;
+use std::rc::Rc;
 
 // What is still to be written, the next last.
 #[derive(Clone, Copy)]
@@ -67,6 +68,18 @@ fn push_part<'a>(
     Ok(())
 }
 
+fn push_values<'a>(
+    pieces: &mut Vec<Piece<'a>>,
+    keys: &'a [Rc<String>],
+    values: &'a [Shown],
+) -> Result<(), AllocError> {
+    for (i, value) in values.iter().enumerate().rev() {
+        let key = keys.get(i).map(|key| key.as_str());
+        push_part(pieces, i == 0, key, value)?;
+    }
+    Ok(())
+}
+
 fn push_parts<'a>(
     pieces: &mut Vec<Piece<'a>>,
     sort: Sort,
@@ -75,10 +88,7 @@ fn push_parts<'a>(
     let (opens, closes) = brackets(sort);
     let (keys, values) = parts.parts();
     pieces.push(Piece::Word(closes))?;
-    for (i, value) in values.iter().enumerate().rev() {
-        let key = keys.get(i).map(|key| key.as_str());
-        push_part(pieces, i == 0, key, value)?;
-    }
+    push_values(pieces, keys, values)?;
     pieces.push(Piece::Word(opens))?;
     Ok(())
 }
