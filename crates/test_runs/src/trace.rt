@@ -1,38 +1,35 @@
-// Outcomes as the table writes them.
+// Outcomes as rows write them: the events, each with the exports of that moment, and the ending.
 use js_show::{Act, Ending, Event, Outcome, Parts, Shown, ShownExport, ShownExports, Sort};
 use js_value::Plain;
-use std::alloc::Global;
+use std::alloc::{AllocError, Global};
 use std::fmt::Write;
-use std::test::Fail;
+use std::rc::Rc;
 
 // What is still to be written, the next last.
-#[derive(Drop)]
+#[derive(Clone, Copy)]
 enum Piece<'a> {
     Word(&'a str),
     Value(&'a Shown),
 }
 
-fn print_text(out: &mut String, text: &str) -> Result<(), Fail> {
-    write!(out, "'{text}'")?;
-    Ok(())
+fn print_text(out: &mut String, text: &str) -> Result<(), AllocError> {
+    write!(out, "'{text}'")
 }
 
-fn print_object(out: &mut String, number: u64, callable: bool) -> Result<(), Fail> {
+fn print_object(out: &mut String, number: u64, callable: bool) -> Result<(), AllocError> {
     let sort = if callable { 'h' } else { 'o' };
-    write!(out, "{sort}{number}")?;
-    Ok(())
+    write!(out, "{sort}{number}")
 }
 
-fn print_plain(out: &mut String, plain: &Plain) -> Result<(), Fail> {
+fn print_plain(out: &mut String, plain: &Plain) -> Result<(), AllocError> {
     match plain {
-        Plain::Undefined => out.push_str("undefined")?,
-        Plain::Null => out.push_str("null")?,
-        Plain::Boolean(truth) => write!(out, "{truth}")?,
-        Plain::Number(number) => write!(out, "{number}")?,
-        Plain::Text(text) => print_text(out, text.as_str())?,
-        Plain::Host(number, callable) => print_object(out, *number, *callable)?,
+        Plain::Undefined => out.push_str("undefined"),
+        Plain::Null => out.push_str("null"),
+        Plain::Boolean(truth) => write!(out, "{truth}"),
+        Plain::Number(number) => write!(out, "{number}"),
+        Plain::Text(text) => print_text(out, text.as_str()),
+        Plain::Host(number, callable) => print_object(out, *number, *callable),
     }
-    Ok(())
 }
 
 fn sort_word(sort: Sort) -> &'static str {
@@ -59,7 +56,7 @@ fn push_part<'a>(
     first: bool,
     key: Option<&'a str>,
     value: &'a Shown,
-) -> Result<(), Fail> {
+) -> Result<(), AllocError> {
     pieces.push(Piece::Value(value))?;
     if let Some(key) = key {
         pieces.push(Piece::Word("="))?;
@@ -71,14 +68,27 @@ fn push_part<'a>(
     Ok(())
 }
 
-fn push_parts<'a>(pieces: &mut Vec<Piece<'a>>, sort: Sort, parts: &'a Parts) -> Result<(), Fail> {
-    let (opens, closes) = brackets(sort);
-    let (keys, values) = parts.parts();
-    pieces.push(Piece::Word(closes))?;
+fn push_values<'a>(
+    pieces: &mut Vec<Piece<'a>>,
+    keys: &'a [Rc<String>],
+    values: &'a [Shown],
+) -> Result<(), AllocError> {
     for (i, value) in values.iter().enumerate().rev() {
         let key = keys.get(i).map(|key| key.as_str());
         push_part(pieces, i == 0, key, value)?;
     }
+    Ok(())
+}
+
+fn push_parts<'a>(
+    pieces: &mut Vec<Piece<'a>>,
+    sort: Sort,
+    parts: &'a Parts,
+) -> Result<(), AllocError> {
+    let (opens, closes) = brackets(sort);
+    let (keys, values) = parts.parts();
+    pieces.push(Piece::Word(closes))?;
+    push_values(pieces, keys, values)?;
     pieces.push(Piece::Word(opens))?;
     Ok(())
 }
@@ -87,13 +97,10 @@ fn print_value<'a>(
     out: &mut String,
     pieces: &mut Vec<Piece<'a>>,
     shown: &'a Shown,
-) -> Result<(), Fail> {
+) -> Result<(), AllocError> {
     match shown {
         Shown::Plainly(plain) => print_plain(out, plain),
-        Shown::Again(number) => {
-            write!(out, "#{number}")?;
-            Ok(())
-        }
+        Shown::Again(number) => write!(out, "#{number}"),
         Shown::First(number, sort, parts) => {
             write!(out, "#{number}:")?;
             out.push_str(sort_word(*sort))?;
@@ -102,7 +109,7 @@ fn print_value<'a>(
     }
 }
 
-fn print_shown(alloc: Global, out: &mut String, shown: &Shown) -> Result<(), Fail> {
+fn print_shown(alloc: Global, out: &mut String, shown: &Shown) -> Result<(), AllocError> {
     let mut pieces = Vec::new(alloc);
     pieces.push(Piece::Value(shown))?;
     for _ in 0..u64::MAX {
@@ -115,7 +122,7 @@ fn print_shown(alloc: Global, out: &mut String, shown: &Shown) -> Result<(), Fai
     Ok(())
 }
 
-fn print_one(alloc: Global, out: &mut String, word: &str, shown: &Shown) -> Result<(), Fail> {
+fn print_one(alloc: Global, out: &mut String, word: &str, shown: &Shown) -> Result<(), AllocError> {
     out.push_str(word)?;
     out.push_str(" ")?;
     print_shown(alloc, out, shown)
@@ -127,12 +134,12 @@ fn print_two(
     word: &str,
     first: &Shown,
     second: &Shown,
-) -> Result<(), Fail> {
+) -> Result<(), AllocError> {
     print_one(alloc, out, word, first)?;
     print_one(alloc, out, "", second)
 }
 
-fn print_arguments(alloc: Global, out: &mut String, arguments: &[Shown]) -> Result<(), Fail> {
+fn print_arguments(alloc: Global, out: &mut String, arguments: &[Shown]) -> Result<(), AllocError> {
     out.push_str(" (")?;
     for (i, argument) in arguments.iter().enumerate() {
         if i > 0 {
@@ -140,13 +147,11 @@ fn print_arguments(alloc: Global, out: &mut String, arguments: &[Shown]) -> Resu
         }
         print_shown(alloc, out, argument)?;
     }
-    out.push_str(")")?;
-    Ok(())
+    out.push_str(")")
 }
 
-fn print_named(out: &mut String, word: &str, name: &str) -> Result<(), Fail> {
-    write!(out, "{word} {name}")?;
-    Ok(())
+fn print_named(out: &mut String, word: &str, name: &str) -> Result<(), AllocError> {
+    write!(out, "{word} {name}")
 }
 
 fn print_call(
@@ -155,7 +160,7 @@ fn print_call(
     callee: &Shown,
     this: &Shown,
     arguments: &[Shown],
-) -> Result<(), Fail> {
+) -> Result<(), AllocError> {
     print_two(alloc, out, "call", callee, this)?;
     print_arguments(alloc, out, arguments)
 }
@@ -165,7 +170,7 @@ fn print_new(
     out: &mut String,
     callee: &Shown,
     arguments: &[Shown],
-) -> Result<(), Fail> {
+) -> Result<(), AllocError> {
     print_one(alloc, out, "new", callee)?;
     print_arguments(alloc, out, arguments)
 }
@@ -176,17 +181,22 @@ fn print_set(
     object: &Shown,
     key: &Shown,
     value: &Shown,
-) -> Result<(), Fail> {
+) -> Result<(), AllocError> {
     print_two(alloc, out, "set", object, key)?;
     print_one(alloc, out, "", value)
 }
 
-fn print_write(alloc: Global, out: &mut String, name: &str, value: &Shown) -> Result<(), Fail> {
+fn print_write(
+    alloc: Global,
+    out: &mut String,
+    name: &str,
+    value: &Shown,
+) -> Result<(), AllocError> {
     print_named(out, "write", name)?;
     print_one(alloc, out, "", value)
 }
 
-fn print_act(alloc: Global, out: &mut String, act: &Act) -> Result<(), Fail> {
+fn print_act(alloc: Global, out: &mut String, act: &Act) -> Result<(), AllocError> {
     match act {
         Act::Load(source) => print_named(out, "load", source.as_str()),
         Act::Get(object, key) => print_two(alloc, out, "get", object, key),
@@ -200,46 +210,43 @@ fn print_act(alloc: Global, out: &mut String, act: &Act) -> Result<(), Fail> {
         Act::Write(name, value) => print_write(alloc, out, name.as_str(), value),
         Act::Returned(value) => print_one(alloc, out, "return", value),
         Act::Threw(value) => print_one(alloc, out, "throw", value),
-        Act::Finished => Ok(out.push_str("done")?),
+        Act::Finished => out.push_str("done"),
         Act::Failed(value) => print_one(alloc, out, "failed", value),
     }
 }
 
 // `a=1` has a value, `a?` has none yet, `a<-m.b` is b of the module m.
-fn print_export(alloc: Global, out: &mut String, export: &ShownExport) -> Result<(), Fail> {
+fn print_export(alloc: Global, out: &mut String, export: &ShownExport) -> Result<(), AllocError> {
     match export {
         ShownExport::Value { name, shown } => {
             write!(out, "{name}=")?;
             print_shown(alloc, out, shown)
         }
-        ShownExport::Uninitialised(name) => {
-            write!(out, "{name}?")?;
-            Ok(())
-        }
+        ShownExport::Uninitialised(name) => write!(out, "{name}?"),
         ShownExport::Import {
             name,
             source,
             imported,
-        } => {
-            write!(out, "{name}<-{source}.{imported}")?;
-            Ok(())
-        }
+        } => write!(out, "{name}<-{source}.{imported}"),
     }
 }
 
 // Behind the names stands `*m` for each module m that is exported whole.
-fn print_exports(alloc: Global, out: &mut String, exports: &ShownExports) -> Result<(), Fail> {
+fn print_exports(
+    alloc: Global,
+    out: &mut String,
+    exports: &ShownExports,
+) -> Result<(), AllocError> {
     if exports.names.is_empty() && exports.stars.is_empty() {
         return Ok(());
     }
     out.push_str(" {")?;
     print_names(alloc, out, exports.names.as_slice())?;
     print_stars(out, exports.stars.as_slice())?;
-    out.push_str(" }")?;
-    Ok(())
+    out.push_str(" }")
 }
 
-fn print_names(alloc: Global, out: &mut String, names: &[ShownExport]) -> Result<(), Fail> {
+fn print_names(alloc: Global, out: &mut String, names: &[ShownExport]) -> Result<(), AllocError> {
     for export in names {
         out.push_str(" ")?;
         print_export(alloc, out, export)?;
@@ -247,34 +254,33 @@ fn print_names(alloc: Global, out: &mut String, names: &[ShownExport]) -> Result
     Ok(())
 }
 
-fn print_stars(out: &mut String, stars: &[String]) -> Result<(), Fail> {
+fn print_stars(out: &mut String, stars: &[String]) -> Result<(), AllocError> {
     for source in stars {
         write!(out, " *{source}")?;
     }
     Ok(())
 }
 
-fn print_event(alloc: Global, out: &mut String, event: &Event) -> Result<(), Fail> {
+fn print_event(alloc: Global, out: &mut String, event: &Event) -> Result<(), AllocError> {
     print_act(alloc, out, &event.act)?;
     print_exports(alloc, out, &event.exports)?;
-    out.push_str("; ")?;
-    Ok(())
+    out.push_str("; ")
 }
 
-fn print_ending(alloc: Global, out: &mut String, ending: &Ending) -> Result<(), Fail> {
+fn print_ending(alloc: Global, out: &mut String, ending: &Ending) -> Result<(), AllocError> {
     match ending {
         Ending::Ended(exports) => {
             out.push_str("ended")?;
             print_exports(alloc, out, exports)
         }
-        Ending::HostStopped => Ok(out.push_str("stopped by the host")?),
-        Ending::Out => Ok(out.push_str("out of entries")?),
-        Ending::Uncovered => Ok(out.push_str("uncovered")?),
+        Ending::HostStopped => out.push_str("stopped by the host"),
+        Ending::Out => out.push_str("out of entries"),
+        Ending::Uncovered => out.push_str("uncovered"),
     }
 }
 
 /// The events, each with the exports of that moment, and the ending.
-pub(super) fn print_outcome(alloc: Global, outcome: &Outcome) -> Result<String, Fail> {
+pub(crate) fn print_outcome(alloc: Global, outcome: &Outcome) -> Result<String, AllocError> {
     let mut out = String::new(alloc);
     for event in &outcome.trace {
         print_event(alloc, &mut out, event)?;
