@@ -2,7 +2,7 @@
 """Times the compiled program beside one that only parses and prints JSON, on 10 MB made here, and alone on modules of 1, 2, 4
 and 8 thousand groups of declarations that leave in two passes.
 
-Run at the repository's top, after `./shake.sh build` and `(cd crates/json_echo && rt run < stdin)`
+Run at the repository's top, after `./shake.sh build` and `(cd crates/test_json_echo && rt run < stdin)`
 have built both programs: python3 tools/bench.py
 """
 import json
@@ -13,7 +13,7 @@ import time
 
 PROGRAMS = [
     ("shake dce", ["crates/shake_cli/out/shake_cli", "dce"]),
-    ("json_echo", ["crates/json_echo/out/json_echo"]),
+    ("test_json_echo", ["crates/test_json_echo/out/test_json_echo"]),
 ]
 
 

@@ -1,4 +1,4 @@
-"""js_clone: a copy of a node's kind."""
+"""js_tree_copy: a copy of a node's kind."""
 from table import *
 
 SIGNATURE = """/// A copy of a kind. The only error is want of memory.
@@ -9,19 +9,20 @@ pub fn clone_kind(alloc: Global, kind: &NodeKind) -> Result<NodeKind, AllocError
 """
 
 
-def copied(name, rust): return 'clone_%s(alloc, %s)?' % (OWNED[rust], name) if rust in OWNED else '*' + name
+def attempted(name, rust): return '%s.try_clone(alloc)' % name if rust in ('Ident', 'Text') else 'clone_%s(alloc, %s)' % (OWNED[rust], name)
+def copied(name, rust): return attempted(name, rust) + '?' if rust in OWNED else '*' + name
 
 
 def arm(v):
     names = [n if n != 'kind' else 'how' for n, _ in v.fields]
     types = [t for _, t in v.fields]
-    if len(types) == 1 and types[0] in OWNED: return '        %s => clone_%s(alloc, %s).map(NodeKind::%s),\n' % (v.filled(names), OWNED[types[0]], names[0], v.name)
+    if len(types) == 1 and types[0] in OWNED: return '        %s => %s.map(NodeKind::%s),\n' % (v.filled(names), attempted(names[0], types[0]), v.name)
     return '        %s => Ok(%s),\n' % (v.filled(names), v.filled([copied(n, t) for n, t in zip(names, types)]))
 
 
 def kind_file():
-    uses = ('◌≡◌, IfOk', 'clone', 'use js_syntax::NodeKind;\nuse std::alloc::{AllocError, Global};\n')
+    uses = ('◌≡◌, IfOk', 'clone', ['Option<Ident>', 'Option<Text>'], 'use js_syntax::NodeKind;\nuse std::alloc::{AllocError, Global};\n')
     return over_kinds('A copy of a kind.', uses, SIGNATURE, [arm(v) for v in variants_of_kind().values()])
 
 
-FILES = {'js_clone/src/kind.rt': kind_file}
+FILES = {'js_tree_copy/src/kind.rt': kind_file}

@@ -1,4 +1,4 @@
-"""tree_entries: what is written of a node, key by key in byte order."""
+"""json_entries: what is written of a node, key by key in byte order."""
 import re
 from table import *
 from run_table import bare
@@ -65,8 +65,8 @@ def pattern(kind, names):
 
 
 def table():
-    out = '// The entries of each row.\n// %s\nghost use Rattle.std.specs.Prelude.{◌≡◌, map};\nghost use Rattle.tree_entries.specs.Entry.{entry_view};\nghost use Rattle.tree_entries.specs.Entries.{entries_of};\n\n' % GENERATED
-    out += 'use crate::entry::{Content, Entry};\nuse js_syntax::{ClassKind, FunctionKind, NodeKind, NodeType};\nuse js_table::Hint;\n\n'
+    out = '// The entries of each row.\n// %s\nghost use Rattle.std.specs.Prelude.{◌≡◌, map};\nghost use Rattle.json_entries.specs.Entry.{entry_view};\nghost use Rattle.json_entries.specs.Entries.{entries_of};\n\n' % GENERATED
+    out += 'use crate::entry::{Content, Entry};\nuse js_syntax::{ClassKind, FunctionKind, NodeKind, NodeType};\nuse json_table::Hint;\n\n'
     for r in WRITTEN:
         es = entries(r)
         out += 'static %s: [Entry; %d] = [%s];\n\n' % (static(r), len(es), ', '.join('Entry("%s", Content::%s)' % (n, c) for n, c, _ in es))
@@ -101,7 +101,7 @@ def gathered(codes): return 'Scalars::%s%s' % (COUNT[len(codes)], '(%s)' % ', '.
 
 
 def scalars():
-    out = '// The fields of a node that are no nodes.\n// %s\nghost use Rattle.std.specs.Prelude.{◌≡◌};\nghost use Rattle.js_syntax.specs.Facts.{scalars_of};\nghost use Rattle.tree_entries.specs.Entry.{scalar_list};\n\n' % GENERATED
+    out = '// The fields of a node that are no nodes.\n// %s\nghost use Rattle.std.specs.Prelude.{◌≡◌};\nghost use Rattle.js_syntax.specs.Facts.{scalars_of};\nghost use Rattle.json_entries.specs.Entry.{scalar_list};\n\n' % GENERATED
     out += 'use crate::scalar::{Scalar, Scalars};\nuse js_syntax::NodeKind;\n\n'
     out += '/// The fields of a node that are no nodes, in reading order.\npub fn scalars(kind: &NodeKind) -> Scalars<\'_>\n    ensures { scalar_list result ≡ scalars_of kind.now }\n{\n    match kind {\n'
     for kind, v in VARIANTS.items():
@@ -127,7 +127,7 @@ def entries_spec():
     head = '-- What is written of each kind.\n-- %s\nuse Rattle.std.specs.Prelude.{List, [], ◌∷◌, Some, None, codes}\n' % GENERATED
     head += 'use Rattle.js_syntax.specs.Field.{is_computed, is_expression, is_shorthand}\n' + kind_names(re.sub(r'"\w+"', '', body))
     head += 'use Rattle.js_syntax.specs.declared.kind.FunctionKind.TheVariants as function_kind\nuse Rattle.js_syntax.specs.declared.kind.ClassKind.TheVariants as class_kind\nuse Rattle.js_syntax.specs.declared.node_type.NodeType.TheVariants as type\n'
-    return head + 'use Rattle.tree_entries.specs.Entry.{Entry, entry, the_type, scalar_at, mark_at, node_at, key_at, flag, no, yes, nothing_there, empty, as_word, as_name}\n\n' + body
+    return head + 'use Rattle.json_entries.specs.Entry.{Entry, entry, the_type, scalar_at, mark_at, node_at, key_at, flag, no, yes, nothing_there, empty, as_word, as_name}\n\n' + body
 
 
 def ordered():
@@ -153,12 +153,12 @@ def ordered():
     head += 'use Rattle.serde_json.specs.Data.{Data}\n' + kind_names(body)
     head += 'use Rattle.js_syntax.specs.Node.{Forest}\nuse Rattle.js_syntax.specs.Facts.{row_of}\n'
     head += 'use Rattle.js_syntax.specs.declared.kind.FunctionKind.{FunctionKind}\nuse Rattle.js_syntax.specs.declared.kind.FunctionKind.TheVariants as function_kind\nuse Rattle.js_syntax.specs.declared.kind.ClassKind.{ClassKind}\nuse Rattle.js_syntax.specs.declared.kind.ClassKind.TheVariants as class_kind\n'
-    return head + 'use Rattle.tree_text.specs.Text.{row_data}\nuse Rattle.tree_entries.specs.Members.{by_entries}\n\n' + body
+    return head + 'use Rattle.json_text.specs.Text.{row_data}\nuse Rattle.json_entries.specs.Members.{by_entries}\n\n' + body
 
 
 FILES = {
-    'tree_entries/src/table.rt': table,
-    'tree_entries/src/kept.rt': scalars,
-    'tree_entries/specs/Entries.antt': entries_spec,
-    'tree_entries/proofs/Ordered.antt': ordered,
+    'json_entries/src/table.rt': table,
+    'json_entries/src/kept.rt': scalars,
+    'json_entries/specs/Entries.antt': entries_spec,
+    'json_entries/proofs/Ordered.antt': ordered,
 }

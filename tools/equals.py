@@ -1,4 +1,4 @@
-"""js_equal: whether two kinds are equal."""
+"""js_tree_equal: whether two kinds are equal."""
 from table import *
 
 SIGNATURE = """/// Whether two kinds are equal, with all that they carry.
@@ -20,8 +20,8 @@ def arm(v):
 
 
 def kind_file():
-    uses = ('◌≡◌, ◌↔◌, IsTrue', 'same', 'use js_syntax::NodeKind;\n')
+    uses = ('◌≡◌, ◌↔◌, IsTrue', 'same', ['Ident', 'Option<Ident>', 'Option<Text>', 'Text'], 'use js_syntax::NodeKind;\n')
     return over_kinds('Whether two kinds are equal.', uses, SIGNATURE, [arm(v) for v in variants_of_kind().values()])
 
 
-FILES = {'js_equal/src/kind.rt': kind_file}
+FILES = {'js_tree_equal/src/kind.rt': kind_file}

@@ -1,4 +1,4 @@
-"""tree_kind: the kind of a node of each row."""
+"""json_read: the kind of a node of each row."""
 from table import *
 from run_table import bare, KEPT_NAMES
 
@@ -35,13 +35,13 @@ def simple(row): return all(f.head == 'a_mark' for f in row.kept)
 
 def kinds_file():
     out = '// The kind of a node of each row.\n// %s\n' % GENERATED
-    out += 'ghost use Rattle.serde_json.specs.View.{view};\nghost use Rattle.js_syntax.specs.Table as table;\nghost use Rattle.tree_text.specs.Answer.{Gives};\nghost use Rattle.js_table.specs.View.{row_view};\nghost use Rattle.tree_kind.specs.Kind.{kind_of};\n\n'
+    out += 'ghost use Rattle.serde_json.specs.View.{view};\nghost use Rattle.js_syntax.specs.Table as table;\nghost use Rattle.json_text.specs.Answer.{Gives};\nghost use Rattle.json_table.specs.View.{row_view};\nghost use Rattle.json_read.specs.Kind.{kind_of};\n\n'
     out += 'use crate::owned::{ident, key, module_name, name, optional_module_name, optional_name, reg_exp_text, source, template_text, text, value};\n'
-    out += 'use js_syntax::{ClassKind, FunctionKind, NodeKind, NodeType};\nuse js_table::{Keys, Row};\nuse serde_json::Value;\n'
-    out += 'use tree_scan::{flag_field, is_marked, place_of, %s};\nuse tree_text::TreeError;\n' % ', '.join(WORD_FIELDS.values())
+    out += 'use js_syntax::{ClassKind, FunctionKind, NodeKind, NodeType};\nuse json_table::{Keys, Row};\nuse serde_json::Value;\n'
+    out += 'use json_scan::{flag_field, is_marked, place_of, %s};\nuse json_text::TreeError;\n' % ', '.join(WORD_FIELDS.values())
     for r in ROWS:
         if simple(r): continue
-        out += '\n#[tactic(auto, using(tree_scan::proofs::Steps::fails_bind))]\nfn %s(node: &Value) -> Result<NodeKind, TreeError>\n    ensures { Gives (λ k. k) result (kind_of table.%s (view node.now)) }\n{\n    let node_type = NodeType::%s;\n' % (name_of(r), r.name, r.type)
+        out += '\n#[tactic(auto, using(json_scan::proofs::Steps::fails_bind))]\nfn %s(node: &Value) -> Result<NodeKind, TreeError>\n    ensures { Gives (λ k. k) result (kind_of table.%s (view node.now)) }\n{\n    let node_type = NodeType::%s;\n' % (name_of(r), r.name, r.type)
         for f in r.kept: out += '    let %s = %s;\n' % (variable(f), read_of(r, f))
         out += '    Ok(%s)\n}\n' % made(r, [variable(f) for f in r.kept])
     out += '\n/// The kind of a node of this row.\npub fn node_kind(row: Row, node: &Value) -> Result<NodeKind, TreeError>\n    ensures { Gives (λ k. k) result (kind_of (row_view row) (view node.now)) }\n{\n    match row {\n'
@@ -51,7 +51,7 @@ def kinds_file():
     return out + '    }\n}\n'
 
 
-FILES = {'tree_kind/src/kinds.rt': kinds_file}
+FILES = {'json_read/src/kinds.rt': kinds_file}
 
 
 def numbered(name, i): return name if i == 0 else '%s-%d' % (name, i + 1)
@@ -60,7 +60,7 @@ def numbered(name, i): return name if i == 0 else '%s-%d' % (name, i + 1)
 def answers(row):
     """What `search` leaves open: each fault ends the reading, and what all fields give is the kind."""
     def text():
-        out = '-- %s\nuse Rattle.std.proofs.Common.{refl}\nuse Rattle.std.proofs.lemmas.Result.{err_from_is_err_and}\nuse Rattle.tree_scan.proofs.Steps.{fails_bind}\nuse Rattle.tree_kind.proofs.kinds.%s.Goals as goal\n' % (GENERATED, name_of(row))
+        out = '-- %s\nuse Rattle.std.proofs.Common.{refl}\nuse Rattle.std.proofs.lemmas.Result.{err_from_is_err_and}\nuse Rattle.json_scan.proofs.Steps.{fails_bind}\nuse Rattle.json_read.proofs.kinds.%s.Goals as goal\n' % (GENERATED, name_of(row))
         steps = []
         for i, f in enumerate(row.kept):
             place = numbered('c.place_of', i)
@@ -74,7 +74,7 @@ def answers(row):
 
 
 def dispatch():
-    out = '-- %s\nuse Rattle.std.proofs.Common.{refl}\nuse Rattle.tree_kind.proofs.kinds.node_kind.Goals as goal\n' % GENERATED
+    out = '-- %s\nuse Rattle.std.proofs.Common.{refl}\nuse Rattle.json_read.proofs.kinds.node_kind.Goals as goal\n' % GENERATED
     marks = 0
     for r in ROWS:
         case, goal = 'in-' + bare(r.name), 'returns-in-' + bare(r.name)
@@ -88,5 +88,5 @@ def dispatch():
 
 
 for r in ROWS:
-    if not simple(r) and not any(f.head == 'a_mark' for f in r.kept): FILES['tree_kind/proofs/kinds/%s/Answers.antt' % name_of(r)] = answers(r)
-FILES['tree_kind/proofs/kinds/node_kind/Answers.antt'] = dispatch
+    if not simple(r) and not any(f.head == 'a_mark' for f in r.kept): FILES['json_read/proofs/kinds/%s/Answers.antt' % name_of(r)] = answers(r)
+FILES['json_read/proofs/kinds/node_kind/Answers.antt'] = dispatch

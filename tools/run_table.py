@@ -1,7 +1,7 @@
-"""js_table: the table of node types as code may look things up in it."""
+"""json_table: the table of node types as code may look things up in it."""
 from table import *
 
-TABLE = 'Rattle.js_table.specs.'
+TABLE = 'Rattle.json_table.specs.'
 HEADER = '// %s\n// ' + GENERATED + '\n'
 
 
@@ -139,12 +139,12 @@ pub use wanted::Wanted;
 '''
 
 FILES = {
-    'js_table/src/lib.rt': lambda: LIB,
-    'js_table/src/wanted.rt': wanted,
-    'js_table/src/row.rt': rows,
-    'js_table/src/field.rt': fields_file,
-    'js_table/src/table.rt': table_file,
-    'js_table/src/stand.rt': stand_file,
-    'js_table/specs/Lib.antt': lambda: 'pub mod View\n',
-    'js_table/specs/View.antt': view_spec,
+    'json_table/src/lib.rt': lambda: LIB,
+    'json_table/src/wanted.rt': wanted,
+    'json_table/src/row.rt': rows,
+    'json_table/src/field.rt': fields_file,
+    'json_table/src/table.rt': table_file,
+    'json_table/src/stand.rt': stand_file,
+    'json_table/specs/Lib.antt': lambda: 'pub mod View\n',
+    'json_table/specs/View.antt': view_spec,
 }

@@ -5,7 +5,7 @@ and how it is used. What follows from what is told, as which references a symbol
 """
 from examples import B, DEBUGGER, EMPTY, ES, F_, I, L, N, STRICT, asg, do, exports, fn, mem, prog, text, un, var, a, b, c, f, x
 
-# What a scope is, how a name is declared, and how it is used: the bits of `scope_flags`.
+# What a scope is, how a name is declared, and how it is used: the bits of `scope_table`.
 STRICTLY, TOP, FUNCTION, ARROW, STATIC, CONSTRUCTOR, BLOCK, CATCH, WITH, EVAL = (1 << i for i in range(10))
 VAR, LET, CONSTANT, CLASS, CAUGHT, FUNCTION_NAME, IMPORT = (1 << i for i in range(7))
 CONST = LET + CONSTANT

@@ -1,4 +1,4 @@
-"""tree_shape: what stands in the object that is written of a node of each row."""
+"""json_shape: what stands in the object that is written of a node of each row."""
 from table import *
 
 FACTS = ['type', 'object', 'bigint', 'start', 'ends', 'extras', 'directive', 'scalars']
@@ -60,10 +60,10 @@ text_literal (value.Text s) below nodes chosen exact = %s
     head += 'use Rattle.js_syntax.specs.declared.value.LiteralValue.{LiteralValue as Value}\nuse Rattle.js_syntax.specs.declared.value.LiteralValue.TheVariants as value\n'
     head += 'use Rattle.js_syntax.specs.declared.node_kind.NodeKind.TheVariants.{Literal as literal_kind}\n'
     head += 'use Rattle.js_syntax.specs.Node.{Forest}\nuse Rattle.js_syntax.specs.Table.{Row, %s, fields_of}\n' % ', '.join(r.name for r in ROWS)
-    head += 'use Rattle.tree_text.specs.Plain.{check_extra, check_extras}\nuse Rattle.tree_text.specs.Reading.{is_directive}\n'
-    head += 'use Rattle.tree_shape.specs.Shape.{Values, kind_in, is_text, IsChosen}\nuse Rattle.tree_shape.specs.Exact.{inexact}\nuse Rattle.tree_shape.proofs.Facts.{IsWritten}\n\n'
+    head += 'use Rattle.json_text.specs.Plain.{check_extra, check_extras}\nuse Rattle.json_text.specs.Reading.{is_directive}\n'
+    head += 'use Rattle.json_shape.specs.Shape.{Values, kind_in, is_text, IsChosen}\nuse Rattle.json_shape.specs.Exact.{inexact}\nuse Rattle.json_shape.proofs.Facts.{IsWritten}\n\n'
     head += '-- what computes on the fields of a node that was written\nunfoldable looked_at : Unit {0}\nunfolding check_extra check_extras is_directive\nlooked_at = tt\n\n'
     return head + body
 
 
-FILES = {'tree_shape/proofs/Written.antt': written}
+FILES = {'json_shape/proofs/Written.antt': written}

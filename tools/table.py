@@ -162,11 +162,10 @@ OWNED = {
 
 
 def over_kinds(title, uses, signature, arms):
-    """A file with one function that matches on a kind. `uses`: the ghost names, the prefix of the functions over owned types, other imports."""
-    of_text = ['Ident', 'Option<Ident>', 'Option<Text>', 'Text']
-    of_value = sorted((t for t in OWNED if t not in of_text), key=lambda t: OWNED[t])
+    """A file with one function that matches on a kind. `uses`: the ghost names, the prefix of the functions over owned types, which of them there are on names and texts, other imports."""
+    of_value = sorted((t for t in OWNED if t not in ('Ident', 'Option<Ident>', 'Option<Text>', 'Text')), key=lambda t: OWNED[t])
     names = lambda prefix, types: ', '.join('%s_%s' % (prefix, OWNED[t]) for t in types)
-    ghost, prefix, rest = uses
+    ghost, prefix, of_text, rest = uses
     out = '// %s\n// %s\nghost use Rattle.std.specs.Prelude.{%s};\n\n' % (title, GENERATED, ghost)
     out += 'use crate::text::{%s};\nuse crate::value::{%s};\n%s\n' % (names(prefix, of_text), names(prefix, of_value), rest)
     return out + signature + ''.join(arms) + '    }\n}\n'

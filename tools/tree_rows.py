@@ -4,7 +4,7 @@ Each row is a program in words, the question, the tree and its operand, and the 
 crates/test_tree/src/question.rt. A tree is an ESTree program, or a number of operators `!` that stand before `this`: such a
 program has three levels and nodes more than operators, and its text 67 bytes for each and 119 around them.
 """
-from examples import B, ES, I, L, N, asg, call, fn, mem, prog, prop, text, un, var
+from examples import B, ES, I, L, N, call, mem, prog, prop, text, un, var
 
 EMPTY = N('EmptyStatement')
 THIS = N('ThisExpression')
@@ -14,14 +14,12 @@ HOLE = None
 
 def module(*body): return prog(list(body), 'module')
 def script(*body): return prog(list(body), 'script')
-def arrow(expression): return fn('ArrowFunctionExpression', None, [], expression, True)
 def class_a(parent=None): return N('ClassDeclaration', id=I('A'), superClass=parent, body=N('ClassBody', body=[]))
 def array(*elements): return N('ArrayExpression', elements=list(elements))
 def pattern(*elements): return N('ArrayPattern', elements=list(elements))
 def default(left, right): return N('AssignmentPattern', left=left, right=right)
 def rest(argument): return N('RestElement', argument=argument)
 def label(name, body): return N('LabeledStatement', label=I(name), body=body)
-def catches(param, *body): return N('TryStatement', block=B(), handler=N('CatchClause', param=I(param), body=B(*body)), finalizer=None)
 def let(declared, value): return var('let', (declared, value))
 def eval_of(callee, optional=False): return call(callee, optional=optional)
 def parenthesized(expression): return N('ParenthesizedExpression', expression=expression)
@@ -82,19 +80,6 @@ GROUPS = [
   ('undefine;', 'silent', module(ES(I('undefine'))), '', 'not silent'),
   ('-1;', 'silent', module(ES(un('-', L(1)))), '', 'not silent'),
   ('!1;', 'silent', module(ES(un('!', L(1)))), '', 'silent'),
- ]),
- ('what may act', [
-  ('a; where b and a are declared', 'acts', module(ES(I('a'))), 'b a', 'does nothing'),
-  ('a; where b is declared', 'acts', module(ES(I('a'))), 'b', 'may act'),
-  ('a(); where a is declared', 'acts', module(ES(call(I('a')))), 'a', 'may act'),
-  ('null;', 'acts', module(ES(NULL)), '', 'does nothing'),
- ]),
- ('what refers to a name', [
-  ('() => a', 'refers', module(ES(arrow(I('a')))), 'a', 'refers to it'),
-  ('() => a', 'refers', module(ES(arrow(I('a')))), 'b', 'does not refer to it'),
-  ('try {} catch (a) { a; }: a name that is declared again is another', 'refers', module(catches('a', ES(I('a')))), 'a', 'does not refer to it'),
-  ('try {} catch (a) { b; }', 'refers', module(catches('a', ES(I('b')))), 'b', 'refers to it'),
-  ('a = 1;', 'refers', module(ES(asg('=', I('a'), L(1)))), 'a', 'refers to it'),
  ]),
  ('what a walk visits: none below a block', [
   ('switch (this) { default: { ; } } debugger;', 'visits', script(SWITCH, N('DebuggerStatement')), '', 'visits 6'),

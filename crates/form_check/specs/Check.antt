@@ -1,12 +1,12 @@
 -- What the walk that tests the rules of form answers.
 use Rattle.std.specs.Prelude.{◌≡◌, ℕ, ◌+◌, List, ◌++◌, Some}
 use Rattle.js_syntax.specs.Node.{Forest, Tree}
-use Rattle.js_count.specs.Count.{one_each}
-use Rattle.js_form.specs.declared.rule.Break.{Break}
-use Rattle.js_form.specs.Break.{at_place}
-use Rattle.js_form.specs.Context.{Context, inside}
-use Rattle.js_form.specs.Rules.{broken_at}
-use Rattle.js_form.specs.Form.{broken_in, first_broken}
+use Rattle.js_tree.specs.Count.{one_each}
+use Rattle.form_rules.specs.declared.rule.Break.{Break}
+use Rattle.form_rules.specs.Break.{at_place}
+use Rattle.form_rules.specs.Context.{Context, inside}
+use Rattle.form_rules.specs.Rules.{broken_at}
+use Rattle.form_rules.specs.Form.{broken_in, first_broken}
 use Rattle.form_check.specs.declared.error.FormError.{FormError}
 use Rattle.form_check.specs.declared.error.FormError.TheVariants.{IllFormed, OutOfMemory}
 

@@ -1,17 +1,16 @@
 // The walk that tests the rules of form.
 ghost use Rattle.std.specs.Prelude.{◌≡◌, ◌+◌, ◌^◌, ◌<◌, ◌++◌, IfOk, IfErr};
 ghost use Rattle.js_syntax.specs.Node.{forest_of};
-ghost use Rattle.js_count.specs.Count.{one_each, node_count};
-ghost use Rattle.js_form.specs.Break.{least, merged};
-ghost use Rattle.js_form.specs.Form.{source_of, IsWellFormed};
+ghost use Rattle.js_tree.specs.Count.{one_each, node_count};
+ghost use Rattle.form_rules.specs.Break.{least, merged};
+ghost use Rattle.form_rules.specs.Form.{source_of, IsWellFormed};
 ghost use Rattle.form_check.specs.Check.{broken_below, IsFaultOf};
 
+use crate::broken_at;
 use crate::error::FormError;
 use form_context::{Context, Frame};
-use form_rules::broken_at;
-use js_count::count_of_kind;
-use js_form::{Break, first_of};
-use js_tree::{Node, NodeKind, Program, SourceType};
+use form_rules::{Break, first_of};
+use js_tree::{Node, NodeKind, Program, SourceType, count_of_kind};
 use std::alloc::{AllocError, Global};
 
 // What stands behind a node, and the first break so far.

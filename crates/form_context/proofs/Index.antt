@@ -7,7 +7,7 @@ use Rattle.std.proofs.lemmas.Map.Text.{is_eq-slice_cmp}
 use Rattle.std.specs.Cmp.Lexicographic.{slice_cmp, nat_list_eq_equiv}
 use Rattle.std.specs.Ordering.{nat_cmp, is_eq}
 use Rattle.std.specs.Str.{bytes_eq}
-use Rattle.js_form.specs.Name.{is_among}
+use Rattle.form_rules.specs.Name.{is_among}
 use denote.Bor.{Bor}
 
 or_last : (a b : Bool) → b || false ≡ cond b true false

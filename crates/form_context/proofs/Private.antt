@@ -3,7 +3,7 @@ use Rattle.std.proofs.Common.{◌≡◌, ◌≢◌, ◌∙◌, ◌⊎◌, inl, i
 use Rattle.js_syntax.specs.declared.node_kind.NodeKind.{NodeKind as Kind}
 use Rattle.js_syntax.specs.declared.node_kind.NodeKind.TheVariants.{ClassBody as class_body, Members as members}
 use Rattle.js_syntax.specs.Node.{Forest, node, Note}
-use Rattle.js_form.specs.Context.{private_of, privates_of}
+use Rattle.form_rules.specs.Context.{private_of, privates_of}
 
 -- what is found so far, and what is left to be found
 pub found_so_far : (new old here rest left all : List (List ℕ)) → new ≡ old ++ here → left ≡ here ++ rest → old ++ left ≡ all → new ++ rest ≡ all

@@ -3,7 +3,7 @@ use Rattle.std.specs.Prelude.{ℕ, List, [], ◌∷◌, ◌++◌, Bool, false, �
 use Rattle.js_syntax.specs.declared.node_kind.NodeKind.{NodeKind as Kind}
 use Rattle.js_syntax.specs.declared.node_kind.NodeKind.TheVariants.{Program as program, Function as function, Class as class, LabeledStatement as labeled_statement}
 use Rattle.js_syntax.specs.Node.{Forest, Tree}
-use Rattle.js_form.specs.Context.{Context, Label, is_module, is_strict_list, is_strict_function, privates_of, extends_another, is_loop}
+use Rattle.form_rules.specs.Context.{Context, Label, is_module, is_strict_list, is_strict_function, privates_of, extends_another, is_loop}
 
 pub record Frame : Type 0 where
   pub strict : Bool

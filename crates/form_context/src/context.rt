@@ -1,13 +1,13 @@
 // The context of a node.
 ghost use Rattle.std.specs.Prelude.{◌≡◌, ◌∷◌, ◌++◌, true, map, IfOk, OnOk};
 ghost use Rattle.std.specs.Str.{bytes_eq};
-ghost use Rattle.js_form.specs.Context.{context, below_it, as_role, in_head, as_body, in_loop, in_switch, alone, bordered, in_function, is_method, is_constructor, outermost};
-ghost use Rattle.js_form.specs.Name.{is_among};
-ghost use Rattle.js_form.specs.Rules.{has_label, has_loop};
+ghost use Rattle.form_rules.specs.Context.{context, below_it, as_role, in_head, as_body, in_loop, in_switch, alone, bordered, in_function, is_method, is_constructor, outermost};
+ghost use Rattle.form_rules.specs.Name.{is_among};
+ghost use Rattle.form_rules.specs.Rules.{has_label, has_loop};
 ghost use Rattle.form_context.specs.Name.{all_names, listed, all_listed};
 
 use crate::names::Names;
-use js_form::Role;
+use form_rules::Role;
 use js_syntax::FunctionKind;
 use js_tree::SourceType;
 use std::alloc::{AllocError, Global};
@@ -22,7 +22,7 @@ pub(crate) struct Label<'a> {
 }
 
 impl<'a> Model for Label<'a> {
-    ghost use Rattle.js_form.specs.Context.{Label};
+    ghost use Rattle.form_rules.specs.Context.{Label};
 
     ghost Value = { Label };
 
@@ -169,7 +169,7 @@ impl<'a> Drop for Context<'a> {
 }
 
 impl<'a> Model for Context<'a> {
-    ghost use Rattle.js_form.specs.Context.{Context};
+    ghost use Rattle.form_rules.specs.Context.{Context};
     ghost use Rattle.form_context.specs.Name.{listed, all_listed};
 
     ghost Value = { Context };

@@ -1,6 +1,6 @@
 // What a node makes of its context for its children.
 ghost use Rattle.std.specs.Prelude.{◌≡◌, IfOk};
-ghost use Rattle.js_form.specs.Context.{privates_of};
+ghost use Rattle.form_rules.specs.Context.{privates_of};
 ghost use Rattle.form_context.specs.Frame.{frame_of, strict_in, is_derived_in, labels_in, privates_in};
 ghost use Rattle.form_context.specs.Name.{listed, all_listed};
 

@@ -1,11 +1,11 @@
 // The context of a node's child.
 ghost use Rattle.std.specs.Prelude.{◌≡◌, IfOk};
-ghost use Rattle.js_form.specs.Context.{role_of_method, role_of_property, inside};
+ghost use Rattle.form_rules.specs.Context.{role_of_method, role_of_property, inside};
 ghost use Rattle.form_context.specs.Frame.{frame_of};
 
 use crate::context::Context;
 use crate::frame::Frame;
-use js_form::Role;
+use form_rules::Role;
 use js_syntax::{MethodKind, PropertyKind};
 use js_tree::{Node, NodeKind};
 use std::alloc::AllocError;

@@ -1,12 +1,12 @@
 -- Declared names that clash, by the sorts that each name was declared with.
 use Rattle.std.proofs.Common.{◌≡◌, ◌∙◌, ◌<◌, ◌≤◌, ◌+◌, ℕ, List, [], ◌∷◌, Bool, true, false, not, ◌&&◌, ◌||◌, Option, if◌then◌else◌, length, get_or, drop, drop_of_length-le, refl, sym, ap, subst}
 use Rattle.std.specs.Str.{bytes_eq}
-use Rattle.js_form.specs.declared.rule.Break.{Break}
-use Rattle.js_form.specs.declared.sought.Sort.{Sort}
-use Rattle.js_form.specs.declared.sought.Sort.TheVariants.{Lexical as lexical, Repeatable as repeatable, Hoisted as hoisted, Variable as variable, Parameter as parameter, CatchParameter as catch_parameter}
-use Rattle.js_form.specs.Break.{unless, least, merged}
-use Rattle.js_form.specs.Scope.{Declared, clashes_with_any, later_behind}
-use Rattle.js_form.specs.Rules.{declared_places}
+use Rattle.form_rules.specs.declared.rule.Break.{Break}
+use Rattle.form_rules.specs.declared.sought.Sort.{Sort}
+use Rattle.form_rules.specs.declared.sought.Sort.TheVariants.{Lexical as lexical, Repeatable as repeatable, Hoisted as hoisted, Variable as variable, Parameter as parameter, CatchParameter as catch_parameter}
+use Rattle.form_rules.specs.Break.{unless, least, merged}
+use Rattle.form_rules.specs.Scope.{Declared, clashes_with_any, later_behind}
+use Rattle.form_rules.specs.Rules.{declared_places}
 use Rattle.js_tree.proofs.Rows.{front_of}
 use Rattle.form_names.specs.declared.sorts.Sorts.{Sorts}
 use Rattle.form_names.specs.Sorts.{no_sorts, with_sort, or_if, any_clash}

@@ -1,9 +1,9 @@
 -- The first break of a list of places, one after another.
 use Rattle.std.proofs.Common.{◌≡◌, ◌∙◌, ◌<◌, ◌+◌, ℕ, List, [], ◌∷◌, Bool, true, false, not, Option, Some, if◌then◌else◌, length, get_or, drop, drop-cons, add-one, sym, ap, subst}
-use Rattle.js_form.specs.declared.rule.Break.{Break}
-use Rattle.js_form.specs.Break.{at_place, unless, least, merged}
-use Rattle.js_form.specs.Rules.{each_breaks}
-use Rattle.js_form.proofs.Least.{merged_none, merged_assoc}
+use Rattle.form_rules.specs.declared.rule.Break.{Break}
+use Rattle.form_rules.specs.Break.{at_place, unless, least, merged}
+use Rattle.form_rules.specs.Rules.{each_breaks}
+use Rattle.form_rules.proofs.Least.{merged_none, merged_assoc}
 
 abbrev pub IsFirst : (rule : ℕ) → (so_far whole : Option Break) → (places : List ℕ) → Type 0
 IsFirst rule so_far whole places = merged so_far (least (each_breaks rule places)) ≡ whole

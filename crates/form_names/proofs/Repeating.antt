@@ -1,12 +1,12 @@
 -- Exported names and private names that repeat, and exported names that are not declared.
 use Rattle.std.proofs.Common.{◌≡◌, ◌∙◌, ◌<◌, ◌≤◌, ◌+◌, ℕ, List, [], ◌∷◌, Bool, true, false, not, ◌&&◌, ◌||◌, Option, if◌then◌else◌, length, get_or, drop, drop_of_length-le, refl, sym, ap, subst}
 use Rattle.std.specs.Str.{bytes_eq}
-use Rattle.js_form.specs.declared.rule.Break.{Break}
-use Rattle.js_form.specs.declared.role.Half.{Half}
-use Rattle.js_form.specs.declared.role.Half.TheVariants.{Getter as getter, Setter as setter, Whole as whole_half}
-use Rattle.js_form.specs.Break.{unless, least, merged}
-use Rattle.js_form.specs.Scope.{Declared}
-use Rattle.js_form.specs.Rules.{Exported, is_exported, repeated_exports, is_declared, undeclared, Private, is_repeated, repeated_privates}
+use Rattle.form_rules.specs.declared.rule.Break.{Break}
+use Rattle.form_rules.specs.declared.role.Half.{Half}
+use Rattle.form_rules.specs.declared.role.Half.TheVariants.{Getter as getter, Setter as setter, Whole as whole_half}
+use Rattle.form_rules.specs.Break.{unless, least, merged}
+use Rattle.form_rules.specs.Scope.{Declared}
+use Rattle.form_rules.specs.Rules.{Exported, is_exported, repeated_exports, is_declared, undeclared, Private, is_repeated, repeated_privates}
 use Rattle.js_tree.proofs.Rows.{front_of}
 use Rattle.form_names.specs.declared.halves.Halves.{Halves}
 use Rattle.form_names.specs.Sorts.{or_if}

@@ -1,8 +1,8 @@
 -- As what a private name was declared so far, and whether one more repeats it.
 use Rattle.std.specs.Prelude.{Bool, true, false, not, ◌&&◌}
-use Rattle.js_form.specs.declared.role.Half.{Half}
-use Rattle.js_form.specs.declared.role.Half.TheVariants.{Getter as getter, Setter as setter, Whole as whole}
-use Rattle.js_form.specs.Rules.{other_half, same_flag}
+use Rattle.form_rules.specs.declared.role.Half.{Half}
+use Rattle.form_rules.specs.declared.role.Half.TheVariants.{Getter as getter, Setter as setter, Whole as whole}
+use Rattle.form_rules.specs.Rules.{other_half, same_flag}
 use Rattle.form_names.specs.declared.halves.Halves.{Halves}
 use Rattle.form_names.specs.Sorts.{or_if}
 

@@ -1,7 +1,7 @@
 -- In which ways a name was declared so far, and whether one more clashes with them.
 use Rattle.std.specs.Prelude.{Bool, true, false, ◌&&◌, ◌||◌}
-use Rattle.js_form.specs.declared.sought.Sort.{Sort}
-use Rattle.js_form.specs.declared.sought.Sort.TheVariants.{Lexical as lexical, Repeatable as repeatable, Hoisted as hoisted, Variable as variable, Parameter as parameter, CatchParameter as catch_parameter}
+use Rattle.form_rules.specs.declared.sought.Sort.{Sort}
+use Rattle.form_rules.specs.declared.sought.Sort.TheVariants.{Lexical as lexical, Repeatable as repeatable, Hoisted as hoisted, Variable as variable, Parameter as parameter, CatchParameter as catch_parameter}
 use Rattle.form_names.specs.declared.sorts.Sorts.{Sorts}
 
 abbrev pub no_sorts : Sorts

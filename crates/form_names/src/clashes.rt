@@ -1,13 +1,13 @@
 // Names that a scope declares and that clash (ECMA-262 14.2.1, 15.1.1, 14.15.1).
 ghost use Rattle.std.specs.Prelude.{◌≡◌, not, IfOk};
-ghost use Rattle.js_form.specs.Break.{least, merged, unless};
-ghost use Rattle.js_form.specs.Scope.{later, clash, both_parameters, variable_of_catch};
+ghost use Rattle.form_rules.specs.Break.{least, merged, unless};
+ghost use Rattle.form_rules.specs.Scope.{later, clash, both_parameters, variable_of_catch};
 ghost use Rattle.form_names.specs.Sorts.{any_clash};
-ghost use Rattle.js_form.specs.Rules.{each_breaks, declared_places};
+ghost use Rattle.form_rules.specs.Rules.{each_breaks, declared_places};
 
 use crate::places::first_unless;
 use crate::sorts::{Sorts, declare};
-use js_form::{Break, Declared};
+use form_rules::{Break, Declared};
 use std::alloc::{AllocError, Global};
 use std::collections::BTreeMap;
 

@@ -1,11 +1,11 @@
 // Names that a module exports (ECMA-262 16.2.1.1).
 ghost use Rattle.std.specs.Prelude.{◌≡◌, ℕ, List, [], IfOk};
-ghost use Rattle.js_form.specs.Break.{least};
-ghost use Rattle.js_form.specs.Rules.{each_breaks, repeated_exports, is_declared, undeclared};
+ghost use Rattle.form_rules.specs.Break.{least};
+ghost use Rattle.form_rules.specs.Rules.{each_breaks, repeated_exports, is_declared, undeclared};
 ghost use Rattle.form_names.specs.Names.{has_name};
 
 use crate::places::first_unless;
-use js_form::{Break, Declared, Exported};
+use form_rules::{Break, Declared, Exported};
 use std::alloc::{AllocError, Global};
 use std::collections::BTreeSet;
 

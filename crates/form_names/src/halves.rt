@@ -4,7 +4,7 @@ ghost use Rattle.std.specs.Str.{bytes_eq};
 ghost use Rattle.form_names.specs.Names.{known_at};
 ghost use Rattle.form_names.specs.Halves.{no_halves, with_half, any_repeated};
 
-use js_form::Half;
+use form_rules::Half;
 use std::alloc::AllocError;
 use std::collections::BTreeMap;
 

@@ -1,9 +1,9 @@
 // The first of places that break a rule.
 ghost use Rattle.std.specs.Prelude.{◌≡◌};
-ghost use Rattle.js_form.specs.Break.{least, merged, unless};
-ghost use Rattle.js_form.specs.Rules.{each_breaks};
+ghost use Rattle.form_rules.specs.Break.{least, merged, unless};
+ghost use Rattle.form_rules.specs.Rules.{each_breaks};
 
-use js_form::{Break, first_of};
+use form_rules::{Break, first_of};
 
 /// The first break of a rule that these places break.
 pub fn first_break(rule: u8, places: &[u32]) -> Option<Break>

@@ -1,11 +1,11 @@
 // Private names that a class declares (ECMA-262 15.7.1).
 ghost use Rattle.std.specs.Prelude.{◌≡◌, [], IfOk};
-ghost use Rattle.js_form.specs.Break.{least};
-ghost use Rattle.js_form.specs.Rules.{each_breaks, repeated_privates};
+ghost use Rattle.form_rules.specs.Break.{least};
+ghost use Rattle.form_rules.specs.Rules.{each_breaks, repeated_privates};
 
 use crate::halves::declare_half;
 use crate::places::first_unless;
-use js_form::{Break, Private};
+use form_rules::{Break, Private};
 use std::alloc::{AllocError, Global};
 use std::collections::BTreeMap;
 

@@ -1,11 +1,11 @@
 // In which ways a name was declared so far.
 ghost use Rattle.std.specs.Prelude.{◌≡◌, ℕ, List, IfOk, if◌then◌else◌};
 ghost use Rattle.std.specs.Str.{bytes_eq};
-ghost use Rattle.js_form.specs.Scope.{clash, both_parameters, variable_of_catch};
+ghost use Rattle.form_rules.specs.Scope.{clash, both_parameters, variable_of_catch};
 ghost use Rattle.form_names.specs.Names.{known_at};
 ghost use Rattle.form_names.specs.Sorts.{no_sorts, with_sort, any_clash};
 
-use js_form::Sort;
+use form_rules::Sort;
 use std::alloc::AllocError;
 use std::collections::BTreeMap;
 

@@ -1,1 +1,1 @@
-mod First
+pub mod Least

@@ -1,10 +1,5 @@
 -- Runs that compute.
-use Rattle.std.proofs.Common.{◌≡◌, ℕ, List, [], ◌∷◌, Option, Some, None, refl}
-use Rattle.std.specs.Prelude.{codes, true, false, pos}
-use Rattle.js_syntax.specs.declared.node_kind.NodeKind.{NodeKind as Kind}
-use Rattle.js_syntax.specs.declared.kind.FunctionKind.TheVariants as function_kind
-use Rattle.js_meaning.specs.Value.{plainly, host, number}
-use Rattle.js_meaning.specs.Trace.{Act, answer}
+use Rattle.std.proofs.Common.{ℕ, refl}
 use Rattle.js_meaning.specs.State.{bind, done, stop, choose, alloc, read, store, identity, get_global, set_global, get_import, set_import, spend, with_moves, set_moves, with_exports, set_exports, put_event}
 use Rattle.js_meaning.specs.Show.{show, show_all, show_exports, emit, resolve, resolve_all}
 use Rattle.js_meaning.specs.Operator.{compare}

@@ -23,18 +23,18 @@ use Rattle.js_syntax.specs.declared.operator.AssignmentOperator.{AssignmentOpera
 use Rattle.js_syntax.specs.declared.operator.AssignmentOperator.TheVariants as assignment
 use Rattle.js_meaning.specs.Value.{Text, Slot, local, imported, arguments_object, Env, this_name, Value, Plain, plain, undefined, null, boolean, number, text, host, closure, object, array, error}
 use Rattle.js_meaning.specs.Trace.{Act, Move, call_own, set_global_to, remove_global, set_import_to, answer, refuse, Script, Ending, ended}
-use Rattle.js_meaning.specs.State.{State, Cell, cell, Place, at_slot, at_global, at_member, Completion, normal, gives, gives_all, refers, breaks, continues, returns, throws, Out, goes, stops, M, done, stop, unknown, give, choose, raise, spend_from, spend}
-use Rattle.js_meaning.specs.Operator.{int_eq, is_zero, is_negative, binary_of, unary_of, on_number, on_numbers, updated, truthy, is_object, is_boolean, goes_right, whole, signed, plus_plain, joined, is_text, plain_text, loosely, answer_is, answer_not, is_nullish, same_type, strictly_equal, times, divided, remainder}
-use Rattle.js_meaning.specs.Scope.{look, declare, start, fill}
+use Rattle.js_meaning.specs.State.{State, Cell, cell, Place, at_slot, at_global, at_member, Completion, normal, gives, gives_all, refers, breaks, continues, returns, throws, Out, goes, stops, M, stop, spend_from, spend}
+use Rattle.js_meaning.specs.Operator.{is_negative, binary_of, unary_of, on_number, on_numbers, updated, truthy, is_object, is_boolean, whole, signed, plus_plain, joined, is_text, plain_text, loosely, answer_is, answer_not}
+use Rattle.js_meaning.specs.Scope.{look}
 use Rattle.js_meaning.specs.Host.{Loop, while_loop, do_loop, for_loop, Task, body, turn, called_back, Enter, call_back, moves_end, answered, play, host_moves, consult, only, report}
 use Rattle.js_meaning.specs.Reference.{Global, the_undefined, no_whole_number, usual, global_named, if_set, cell_value, slot_value, if_there, global_value, name_value, or_undefined, typeof_name, assign_cell, assign_import, assign_slot, assign_present, assign_global, name_place, get_member, set_member, get_place, put_place}
-use Rattle.js_meaning.specs.Node.{Wanted, itself, to_call, for_typeof, Ask, run, value, place, take, take_all, declares, collect, entry, matches, now, Meaning, Parts, need, may, each, values, all_values, value_or_undefined, ask_maybe, first_ask}
+use Rattle.js_meaning.specs.Node.{itself, to_call, for_typeof, Ask, run, value, place, take, take_all, declares, collect, entry, matches, now, Meaning, Parts, need, may, each, values, all_values, value_or_undefined, ask_maybe}
 use Rattle.js_meaning.specs.Expression.{call_value, construct_value, binary_value, logical_value, member_key, member_place, then_put, compound, short, assign, update_gives, update_place, fill_own, function_value, in_turn}
-use Rattle.js_meaning.specs.Statement.{after_label, declarator, after_turn, has_label, enter_if, test_for, test_then, turn_does, after_init, for_does, case_is, choose_case, case_test, after_switch, after_block, after_finally, try_does, take_maybe, catch_does}
+use Rattle.js_meaning.specs.Statement.{after_label, declarator, after_turn, enter_if, test_for, test_then, turn_does, after_init, for_does, case_is, choose_case, case_test, after_switch, after_block, after_finally, try_does, take_maybe, catch_does}
 use Rattle.js_meaning.specs.Module.{load_all}
 use Rattle.js_meaning.specs.Meaning.{take_each, default_does, does, if_core, eval, take_this, run_code, after_call, enter_body, task_does, enter}
 use Rattle.js_meaning.specs.Run.{finish, finally, module_does, program_does, first_state, seen, run_within, run as run_of}
-use Rattle.js_meaning.proofs.Same.{Leaves, Alike, Same, same_done, same_stop, same_bind, same_choose, same_seq, same_receiver, same_value, same_all, same_place, same_alloc, same_read, same_store, same_identity, same_raise, same_get_global, same_set_global, same_get_import, same_set_import, same_with_moves, same_set_moves, same_compare, same_show, same_show_all, same_shown_exports, same_emit, same_resolve, same_resolve_all, same_resolve_maybe, same_declare, same_fill, same_start, same_copy, same_entries, same_set_exports}
+use Rattle.js_meaning.proofs.Same.{Leaves, Alike, Same, same_done, same_stop, same_bind, same_choose, same_seq, same_receiver, same_value, same_all, same_place, same_read, same_store, same_identity, same_raise, same_get_global, same_set_global, same_get_import, same_set_import, same_with_moves, same_set_moves, same_compare, same_show, same_show_all, same_shown_exports, same_emit, same_resolve, same_resolve_all, same_resolve_maybe, same_declare, same_fill, same_start, same_copy, same_entries, same_set_exports}
 
 -- what says nothing of an entry does the same as itself
 

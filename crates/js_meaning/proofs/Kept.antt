@@ -1,11 +1,11 @@
 -- Keeping runs: it composes, and refinement gives it in both directions.
-use Rattle.std.proofs.Common.{◌≡◌, ℕ, List, [], ◌++◌, ◌⊎◌, inl, inr, refl, sym, ◌∙◌, ap, subst, append_assoc}
+use Rattle.std.proofs.Common.{◌≡◌, List, [], ◌++◌, ◌⊎◌, inl, inr, refl, sym, ◌∙◌, ap, subst, append_assoc}
 use Rattle.std.proofs.lemmas.List.{append-nil}
 use Rattle.js_syntax.specs.Node.{Forest}
-use Rattle.js_meaning.specs.Trace.{Event, Script, Ending, ended, host_stopped, out, uncovered, Run}
+use Rattle.js_meaning.specs.Trace.{Event, Ending, ended, host_stopped, out, uncovered, Run}
 use Rattle.js_meaning.specs.State.{State, Completion, Out, goes, stops, M, more, go_on, bind}
 use Rattle.js_meaning.specs.Run.{run, seen}
-use Rattle.js_meaning.specs.Kept.{Prefix, keeps, Keeps, Kept, comes_back, ComesBack, KeptBack, refines, Refines, Refined}
+use Rattle.js_meaning.specs.Kept.{Prefix, keeps, Keeps, Kept, comes_back, KeptBack, refines, Refines, Refined}
 
 prefix_of_same : (es fs : List Event) → fs ≡ es → Prefix es fs
 prefix_of_same es fs h = ([], h ∙ sym (append-nil es))

@@ -1,15 +1,14 @@
 -- Two computations that do the same from every state with a budget of at most `b`, and leave no more than that. The
 -- acts keep it.
-use Rattle.std.proofs.Common.{◌≡◌, ℕ, zero, suc, ◌≤◌, List, [], ◌∷◌, ◌++◌, Option, Some, None, refl, ap, ◌∙◌, arith}
+use Rattle.std.proofs.Common.{◌≡◌, ℕ, ◌≤◌, List, [], ◌∷◌, Option, Some, None, refl, ap, ◌∙◌}
 use Rattle.std.specs.Prelude.{Bool, true, false}
 use Rattle.js_syntax.specs.declared.node_kind.NodeKind.{NodeKind as Kind}
 use Rattle.js_syntax.specs.Node.{Forest, nothing, node, absent}
-use Rattle.js_syntax.specs.declared.kind.FunctionKind.{FunctionKind}
 use Rattle.js_syntax.specs.declared.kind.FunctionKind.TheVariants as function_kind
-use Rattle.js_meaning.specs.Value.{Text, Slot, local, imported, arguments_object, Bound, bound, Env, Value, plain, closure, object, array, error, Content, no_content, element, property, ErrorKind, Given, given, given_own, Sort, Shown, Parts, shows, shows_at}
+use Rattle.js_meaning.specs.Value.{Text, Slot, local, imported, arguments_object, bound, Env, Value, plain, closure, object, array, error, Content, no_content, element, property, ErrorKind, Given, Sort, Shown, Parts, shows, shows_at}
 use Rattle.js_meaning.specs.Trace.{Act, ShownExport, ShownExports, Event, Move, Ending}
-use Rattle.js_meaning.specs.State.{State, Cell, cell, Export, export, Place, Completion, normal, gives, gives_all, refers, breaks, continues, returns, throws, Out, goes, stops, M, more, go_on, bind, done, stop, unknown, give, choose, if_normal, seq, if_gives, with_receiver, with_value, if_gives_all, with_all, if_refers, with_place, alloc, read, store, identity, raise, get_global, set_global, get_import, set_import, with_moves, set_moves, with_exports, set_exports, put_event}
-use Rattle.js_meaning.specs.Show.{After, number_of, show_own, holds_nothing, error_sort, show_in, show_content, show, show_all, show_cell, show_export, show_exports, with_shown_exports, emit, named, if_some, resolve, resolve_all, resolve_maybe}
+use Rattle.js_meaning.specs.State.{State, Cell, cell, Export, export, Place, Completion, normal, gives, gives_all, refers, breaks, continues, returns, throws, Out, goes, stops, M, more, go_on, bind, done, stop, choose, if_normal, seq, if_gives, with_receiver, with_value, if_gives_all, with_all, if_refers, with_place, alloc, read, store, identity, raise, get_global, set_global, get_import, set_import, with_moves, set_moves, with_exports, set_exports, put_event}
+use Rattle.js_meaning.specs.Show.{After, number_of, show_own, show_in, show_content, show, show_all, show_cell, show_export, show_exports, with_shown_exports, emit, named, if_some, resolve, resolve_all, resolve_maybe}
 use Rattle.js_meaning.specs.Operator.{compare}
 use Rattle.js_meaning.specs.Scope.{Way, waiting, ready, linked, left_out, Decl, decl, first_name, name_or_default, look, with_slot, declare, initialised, fill, start_function, start_default, start_item, start, copy_slot, copy}
 use Rattle.js_meaning.specs.Module.{Entry, entry_local, entry_import, if_bound, resolve_entries}

@@ -1,9 +1,7 @@
 -- Programs with the runs that ECMA-262 gives them.
-use Rattle.std.specs.Prelude.{◌≡◌, ℕ, pos, Bool, true, false, List, [], ◌∷◌, ◌++◌, Option, Some, None, codes}
+use Rattle.std.specs.Prelude.{◌≡◌, ℕ, true, false, List, [], ◌∷◌, None, codes}
 use Rattle.js_syntax.specs.declared.node_kind.NodeKind.{NodeKind as Kind}
-use Rattle.js_syntax.specs.Node.{Forest, nothing}
-use Rattle.js_syntax.specs.declared.value.LiteralValue.{LiteralValue as Literal}
-use Rattle.js_syntax.specs.declared.value.Key.{Key}
+use Rattle.js_syntax.specs.Node.{Forest}
 use Rattle.js_syntax.specs.declared.value.Key.TheVariants.{Name as key_name}
 use Rattle.js_syntax.specs.declared.kind.VariableKind.TheVariants as variable
 use Rattle.js_syntax.specs.declared.kind.FunctionKind.TheVariants as function_kind
@@ -11,7 +9,7 @@ use Rattle.js_syntax.specs.declared.kind.PropertyKind.TheVariants as property_ki
 use Rattle.js_syntax.specs.declared.operator.BinaryOperator.TheVariants as binary
 use Rattle.js_syntax.specs.declared.operator.UnaryOperator.TheVariants as unary
 use Rattle.js_syntax.specs.declared.operator.UpdateOperator.TheVariants as update
-use Rattle.js_meaning.specs.Value.{Text, Plain, undefined, number, text, host, Given, given, Shown, plainly, again, first, Sort, Parts}
+use Rattle.js_meaning.specs.Value.{Text, undefined, text, host, given, plainly, first, Sort, Parts}
 use Rattle.js_meaning.specs.Trace.{Act, ShownExport, ShownExports, Event, Move, answer, call_own, Script, Ending, ended, Run}
 use Rattle.js_meaning.specs.Run.{run}
 use Rattle.js_meaning.specs.Samples as sample

@@ -1,5 +1,5 @@
 -- What expressions do (ECMA-262 13).
-use Rattle.std.specs.Prelude.{ℕ, Bool, true, false, List, [], ◌∷◌, Option, Some, None, codes, decimal, if◌then◌else◌}
+use Rattle.std.specs.Prelude.{Bool, true, false, List, [], ◌∷◌, Option, Some, None, decimal, if◌then◌else◌}
 use Rattle.std.specs.Str.{bytes_eq}
 use Rattle.js_syntax.specs.declared.node_kind.NodeKind.{NodeKind as Kind}
 use Rattle.js_syntax.specs.Node.{Forest, nothing, node, absent}
@@ -15,15 +15,15 @@ use Rattle.js_syntax.specs.declared.operator.LogicalOperator.{LogicalOperator}
 use Rattle.js_syntax.specs.declared.operator.LogicalOperator.TheVariants as logical
 use Rattle.js_syntax.specs.declared.operator.AssignmentOperator.{AssignmentOperator}
 use Rattle.js_syntax.specs.declared.operator.AssignmentOperator.TheVariants as assignment
-use Rattle.js_meaning.specs.Value.{Text, Slot, Env, Value, plain, closure, object, array, error, undefined, number, text, host, undef, type_error, Content, no_content, element, property}
+use Rattle.js_meaning.specs.Value.{Text, Env, Value, plain, closure, text, host, undef, type_error, Content, no_content, element, property}
 use Rattle.js_meaning.specs.Trace.{Act}
-use Rattle.js_meaning.specs.State.{M, Place, at_member, gives, refers, done, unknown, choose, give, with_value, with_place, identity, raise}
+use Rattle.js_meaning.specs.State.{M, Place, unknown, choose, give, with_value, identity, raise}
 use Rattle.js_meaning.specs.Show.{show, show_all}
-use Rattle.js_meaning.specs.Operator.{is_object, is_boolean, is_zero, on_number, updated, binary_of, goes_right}
+use Rattle.js_meaning.specs.Operator.{is_object, is_boolean, on_number, updated, binary_of, goes_right}
 use Rattle.js_meaning.specs.Scope.{waiting, named_so, own_name, declare, fill, look}
 use Rattle.js_meaning.specs.Host.{Enter, body, consult, only}
 use Rattle.js_meaning.specs.Reference.{get_place, put_place}
-use Rattle.js_meaning.specs.Node.{Wanted, itself, to_call, for_typeof, Ask, value, now, Meaning, Parts, need}
+use Rattle.js_meaning.specs.Node.{Wanted, itself, to_call, for_typeof, now, Parts, need}
 
 -- Calls (13.3.6.2): an own function is entered; a host's is the host's; nothing else can be called.
 abbrev pub call_value : Enter → Value → Value → List Value → M

@@ -1,10 +1,10 @@
 -- What costs an entry, and how the host is asked and answers.
-use Rattle.std.specs.Prelude.{ℕ, Bool, true, false, List, [], ◌∷◌, Option, Some, None}
+use Rattle.std.specs.Prelude.{Bool, true, false, List, [], ◌∷◌, Some, None}
 use Rattle.js_syntax.specs.Node.{Forest}
 use Rattle.js_syntax.specs.declared.kind.FunctionKind.{FunctionKind}
-use Rattle.js_meaning.specs.Value.{Text, Env, Value, plain, closure, error, host, undef, Given, given_own}
+use Rattle.js_meaning.specs.Value.{Text, Env, Value, closure, undef, given_own}
 use Rattle.js_meaning.specs.Trace.{Act, Move, call_own, set_global_to, remove_global, set_import_to, answer, refuse, Ending}
-use Rattle.js_meaning.specs.State.{M, Completion, normal, gives, returns, throws, done, stop, unknown, choose, give, with_value, set_global, set_import, with_moves, set_moves}
+use Rattle.js_meaning.specs.State.{M, Completion, normal, gives, throws, done, stop, unknown, choose, give, with_value, set_global, set_import, with_moves, set_moves}
 use Rattle.js_meaning.specs.Show.{show, emit, resolve, resolve_all, resolve_maybe}
 
 pub data Loop : Type 0 where

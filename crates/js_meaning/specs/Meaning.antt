@@ -1,19 +1,19 @@
 -- What each node does: a line for each kind and what it may be asked. Whatever has no line stands where it can't, and
 -- is unknown; so is a kind that isn't core.
-use Rattle.std.specs.Prelude.{ℕ, zero, suc, Bool, true, false, List, [], ◌∷◌, Option, Some, None}
+use Rattle.std.specs.Prelude.{ℕ, zero, suc, Bool, true, false, List, [], ◌∷◌, Some, None}
 use Rattle.js_syntax.specs.declared.node_kind.NodeKind.{NodeKind as Kind}
 use Rattle.js_syntax.specs.Facts.{is_core}
 use Rattle.js_syntax.specs.Node.{Forest, nothing, node, absent, below_of}
 use Rattle.js_syntax.specs.declared.kind.FunctionKind.{FunctionKind}
 use Rattle.js_syntax.specs.declared.kind.FunctionKind.TheVariants as function_kind
-use Rattle.js_meaning.specs.Value.{Text, Env, this_name, Value, object, array, no_content, undef, literal_value}
-use Rattle.js_meaning.specs.State.{M, Completion, normal, gives, gives_all, refers, breaks, continues, returns, throws, Place, at_member, bind, done, stop, unknown, choose, give, seq, with_value, with_receiver, with_all, with_place, identity, spend}
+use Rattle.js_meaning.specs.Value.{Env, this_name, Value, object, array, no_content, undef, literal_value}
+use Rattle.js_meaning.specs.State.{M, Completion, normal, gives, refers, breaks, continues, returns, throws, at_member, bind, done, stop, unknown, choose, give, seq, with_value, with_receiver, with_all, with_place, identity, spend}
 use Rattle.js_meaning.specs.Trace.{Ending}
 use Rattle.js_meaning.specs.Operator.{truthy, unary_of}
-use Rattle.js_meaning.specs.Scope.{first_of, behind, scope, declare, start, fill, look, function_decls, default_name, first_name}
-use Rattle.js_meaning.specs.Host.{Loop, while_loop, do_loop, for_loop, Task, body, turn, called_back, Enter, host_moves, report}
+use Rattle.js_meaning.specs.Scope.{behind, scope, declare, start, fill, look, function_decls, default_name}
+use Rattle.js_meaning.specs.Host.{while_loop, do_loop, Task, body, turn, called_back, Enter, host_moves, report}
 use Rattle.js_meaning.specs.Reference.{name_value, typeof_name, name_place, get_place}
-use Rattle.js_meaning.specs.Node.{Wanted, itself, to_call, for_typeof, Ask, run, value, place, take, take_all, declares, collect, entry, matches, now, Meaning, Parts, need, may, each, values, all_values, value_or_undefined, ask_maybe, first_ask}
+use Rattle.js_meaning.specs.Node.{to_call, for_typeof, Ask, run, value, place, take, take_all, declares, collect, entry, matches, now, Meaning, Parts, need, may, each, all_values, value_or_undefined, ask_maybe, first_ask}
 use Rattle.js_meaning.specs.Expression.{call_value, construct_value, binary_value, wanted_by, logical_value, member_place, receiver_of, assign, update_place, function_value, object_content, array_content, in_turn}
 use Rattle.js_meaning.specs.Statement.{after_label, declarator, test_then, turn_does, for_does, choose_case, case_test, after_switch, try_does, catch_does}
 

@@ -1,10 +1,10 @@
 -- What a node is asked for, and how what lies below it is used.
-use Rattle.std.specs.Prelude.{ℕ, Bool, true, false, List, [], ◌∷◌, Option, Some, None}
+use Rattle.std.specs.Prelude.{Bool, true, false, List, [], ◌∷◌, Option, Some, None}
 use Rattle.js_syntax.specs.declared.node_kind.NodeKind.{NodeKind as Kind}
 use Rattle.js_syntax.specs.Node.{Forest, nothing, node, absent}
 use Rattle.js_syntax.specs.declared.kind.VariableKind.{VariableKind}
 use Rattle.js_meaning.specs.Value.{Text, Env, Value, undef}
-use Rattle.js_meaning.specs.State.{M, Completion, normal, done, unknown, seq, with_value, gives_all}
+use Rattle.js_meaning.specs.State.{M, normal, done, unknown, seq, with_value, gives_all}
 
 -- what an expression's value is wanted for: itself; to be called, with the receiver that it is called on; as the
 -- operand of `typeof`

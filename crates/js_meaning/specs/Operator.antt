@@ -1,9 +1,9 @@
 -- Operators on values (ECMA-262 13.5 to 13.12). Numbers are whole: what would leave 2^53 - 1, or give a fraction, a
 -- negative zero, NaN or an infinity, is unknown; so is arithmetic on other than numbers.
-use Rattle.std.specs.Prelude.{ℕ, zero, suc, ◌+◌, ◌*◌, ℤ, pos, negsuc, ◌+ℤ◌, ◌-ℤ◌, ◌*ℤ◌, neg_ℤ, unsigned_abs, int_lt, int_le, int_div, int_rem, nat_eq, nat_le, Bool, true, false, not, ◌&&◌, ◌||◌, List, [], ◌∷◌, ◌++◌, Option, Some, None, codes, decimal}
+use Rattle.std.specs.Prelude.{ℕ, zero, suc, ℤ, pos, negsuc, ◌+ℤ◌, ◌-ℤ◌, ◌*ℤ◌, neg_ℤ, unsigned_abs, int_lt, int_le, int_div, int_rem, nat_eq, nat_le, Bool, true, false, not, ◌&&◌, ◌||◌, [], ◌∷◌, ◌++◌, Option, Some, None, codes, decimal}
 use Rattle.std.specs.Str.{bytes_eq}
 use Rattle.js_meaning.specs.Value.{Text, Plain, undefined, null, boolean, number, text, host, Value, plain, closure, object, array, error, undef}
-use Rattle.js_meaning.specs.State.{M, done, unknown, give, choose}
+use Rattle.js_meaning.specs.State.{M, unknown, give, choose}
 use Rattle.js_meaning.specs.Show.{has_identity}
 use Rattle.js_syntax.specs.declared.operator.UnaryOperator.{UnaryOperator}
 use Rattle.js_syntax.specs.declared.operator.UnaryOperator.TheVariants as unary

@@ -1,5 +1,5 @@
 -- Reading and writing names and properties (ECMA-262 6.2.5, 9.1, 13.1, 13.3).
-use Rattle.std.specs.Prelude.{ℕ, Bool, true, false, List, [], ◌∷◌, Option, Some, None, is_some, ◌||◌, codes, if◌then◌else◌}
+use Rattle.std.specs.Prelude.{ℕ, Bool, true, false, Option, Some, None, is_some, ◌||◌, codes, if◌then◌else◌}
 use Rattle.std.specs.Str.{bytes_eq}
 use Rattle.js_meaning.specs.Value.{Text, Slot, local, imported, arguments_object, Value, undef, type_error, reference_error}
 use Rattle.js_meaning.specs.Trace.{Act}

@@ -1,9 +1,9 @@
 -- The run of a module (ECMA-262 16.2.1.6.5): what `run` gives is what users are promised something about.
-use Rattle.std.specs.Prelude.{ℕ, List, [], ◌∷◌, Bool, true, false, Option, Some, None}
+use Rattle.std.specs.Prelude.{ℕ, [], true, false, Option, Some, None}
 use Rattle.js_syntax.specs.declared.node_kind.NodeKind.{NodeKind as Kind}
-use Rattle.js_syntax.specs.Node.{Forest, nothing, node, absent}
+use Rattle.js_syntax.specs.Node.{Forest, nothing, node}
 use Rattle.js_syntax.specs.declared.scalar.SourceType.TheVariants as source_type
-use Rattle.js_meaning.specs.Value.{Text, Plain, Value, plain}
+use Rattle.js_meaning.specs.Value.{Plain, Value, plain}
 use Rattle.js_meaning.specs.Trace.{Act, Script, Ending, ended, Run}
 use Rattle.js_meaning.specs.State.{State, Cell, cell, M, Out, goes, stops, Completion, normal, throws, bind, stop, unknown, seq}
 use Rattle.js_meaning.specs.Show.{show, emit, with_shown_exports}

@@ -1,5 +1,5 @@
 -- Small programs, scripts and the traces that ECMA-262 gives them, for examples that compute.
-use Rattle.std.specs.Prelude.{ℕ, ℤ, pos, negsuc, Bool, true, false, List, [], ◌∷◌, ◌++◌, Option, Some, None, codes, if◌then◌else◌}
+use Rattle.std.specs.Prelude.{ℕ, pos, true, false, List, [], ◌∷◌, ◌++◌, Option, Some, None, codes, if◌then◌else◌}
 use Rattle.std.specs.Str.{bytes_eq}
 use Rattle.js_syntax.specs.declared.node_kind.NodeKind.{NodeKind as Kind}
 use Rattle.js_syntax.specs.Node.{Forest, nothing, node, absent, nowhere, joined}
@@ -7,13 +7,11 @@ use Rattle.js_syntax.specs.declared.value.LiteralValue.{LiteralValue as Literal}
 use Rattle.js_syntax.specs.declared.value.Key.TheVariants.{Name as key_name}
 use Rattle.js_syntax.specs.declared.scalar.SourceType.TheVariants as source_type
 use Rattle.js_syntax.specs.declared.kind.VariableKind.{VariableKind}
-use Rattle.js_syntax.specs.declared.kind.VariableKind.TheVariants as variable
 use Rattle.js_syntax.specs.declared.kind.FunctionKind.{FunctionKind}
-use Rattle.js_syntax.specs.declared.kind.FunctionKind.TheVariants as function_kind
 use Rattle.js_syntax.specs.declared.operator.AssignmentOperator.TheVariants as assignment
 use Rattle.js_syntax.specs.declared.operator.BinaryOperator.{BinaryOperator}
-use Rattle.js_meaning.specs.Value.{Text, Plain, undefined, number, text, host, Given, given, Shown, plainly}
-use Rattle.js_meaning.specs.Trace.{Act, ShownExport, ShownExports, Event, Move, answer, Script, Ending, ended, Run}
+use Rattle.js_meaning.specs.Value.{Text, Plain, undefined, number, host, given, Shown, plainly}
+use Rattle.js_meaning.specs.Trace.{Act, ShownExports, Event, Move, answer, Script, ended, Run}
 
 -- trees
 

@@ -1,8 +1,8 @@
 -- How values, exports and events are shown to the host, and how the host names values.
-use Rattle.std.specs.Prelude.{ℕ, zero, suc, Bool, true, false, List, [], ◌∷◌, ◌++◌, Option, Some, None, length, nat_eq, if◌then◌else◌}
+use Rattle.std.specs.Prelude.{ℕ, zero, suc, Bool, false, List, [], ◌∷◌, ◌++◌, Option, Some, None, length, nat_eq, if◌then◌else◌}
 use Rattle.js_meaning.specs.Value.{Text, Slot, local, imported, arguments_object, Value, plain, closure, object, array, error, Content, no_content, element, property, ErrorKind, type_error, reference_error, Given, given, given_own, Sort, a_function, an_object, an_array, a_type_error, a_reference_error, Shown, plainly, again, first, Parts, no_parts, shows, shows_at}
-use Rattle.js_meaning.specs.Trace.{Act, ShownExport, exports_value, exports_uninitialised, exports_import, ShownExports, Event, Ending}
-use Rattle.js_meaning.specs.State.{State, M, Out, Cell, cell, Export, export, read, with_exports, put_event, stop, unknown}
+use Rattle.js_meaning.specs.Trace.{Act, ShownExport, exports_value, exports_uninitialised, exports_import, ShownExports, Ending}
+use Rattle.js_meaning.specs.State.{M, Out, Cell, cell, Export, export, read, with_exports, put_event, stop, unknown}
 
 abbrev pub has_identity : Value → ℕ → Bool
 has_identity (plain p) i = false

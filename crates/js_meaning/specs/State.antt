@@ -1,7 +1,7 @@
 -- What a computation is, and the acts that all others are made of.
-use Rattle.std.specs.Prelude.{ℕ, zero, suc, Bool, true, false, List, [], ◌∷◌, ◌++◌, Option, Some, None, nat_eq, ◌&&◌, if◌then◌else◌}
+use Rattle.std.specs.Prelude.{ℕ, zero, suc, Bool, true, false, List, [], ◌∷◌, ◌++◌, Option, nat_eq, ◌&&◌, if◌then◌else◌}
 use Rattle.std.specs.Str.{bytes_eq}
-use Rattle.js_meaning.specs.Value.{Text, Slot, Value, plain, error, ErrorKind, undef}
+use Rattle.js_meaning.specs.Value.{Text, Slot, Value, error, ErrorKind, undef}
 use Rattle.js_meaning.specs.Trace.{Event, Move, Ending}
 
 -- Where a name's value stands: whether it is constant, and the value once it is initialised (9.1.1.1).

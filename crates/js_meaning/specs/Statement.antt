@@ -1,15 +1,15 @@
 -- What statements do (ECMA-262 14).
-use Rattle.std.specs.Prelude.{ℕ, Bool, true, false, List, [], ◌∷◌, Option, Some, None, if◌then◌else◌}
+use Rattle.std.specs.Prelude.{Bool, true, false, List, [], ◌∷◌, Option, Some, None, if◌then◌else◌}
 use Rattle.std.specs.Str.{bytes_eq}
-use Rattle.js_syntax.specs.Node.{Forest, nothing}
+use Rattle.js_syntax.specs.Node.{Forest}
 use Rattle.js_syntax.specs.declared.kind.VariableKind.{VariableKind}
 use Rattle.js_syntax.specs.declared.kind.VariableKind.TheVariants as variable
 use Rattle.js_meaning.specs.Value.{Text, Env, Value, plain, boolean, undef}
-use Rattle.js_meaning.specs.State.{M, Completion, normal, gives, gives_all, refers, breaks, continues, returns, throws, bind, done, unknown, choose, give, seq, with_value}
+use Rattle.js_meaning.specs.State.{M, Completion, normal, gives, breaks, continues, returns, throws, bind, done, unknown, choose, give, seq, with_value}
 use Rattle.js_meaning.specs.Operator.{truthy, compare}
 use Rattle.js_meaning.specs.Scope.{first_of, lexical, copy, declare, waiting, all_so, bound_names}
 use Rattle.js_meaning.specs.Host.{Loop, while_loop, do_loop, for_loop, Enter, turn}
-use Rattle.js_meaning.specs.Node.{Ask, run, take, matches, now, Meaning, Parts, need, may, each, value_or_undefined, ask_maybe, first_ask}
+use Rattle.js_meaning.specs.Node.{run, take, matches, now, Meaning, Parts, need, may, each, value_or_undefined, ask_maybe, first_ask}
 
 -- Labels (14.13). They reach a loop through blocks and `if` too: where each `continue` names a label of a loop that it
 -- stands in, none can tell.

@@ -1,5 +1,5 @@
 -- What a run shows to the host, and what the host does in it.
-use Rattle.std.specs.Prelude.{ℕ, List, Bool, Option}
+use Rattle.std.specs.Prelude.{ℕ, List, Option}
 use Rattle.js_meaning.specs.Value.{Text, Plain, Given, Shown}
 
 -- What happens where the host can see it.

@@ -1,5 +1,5 @@
 -- What programs compute with (ECMA-262 6.1), and how the host sees it.
-use Rattle.std.specs.Prelude.{ℕ, ℤ, List, [], ◌∷◌, Bool, Option, codes}
+use Rattle.std.specs.Prelude.{ℕ, ℤ, List, Bool, codes}
 use Rattle.js_syntax.specs.Node.{Forest}
 use Rattle.js_syntax.specs.declared.value.LiteralValue.{LiteralValue as Literal}
 use Rattle.js_syntax.specs.declared.kind.FunctionKind.{FunctionKind}

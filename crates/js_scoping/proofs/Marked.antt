@@ -5,8 +5,8 @@ use Rattle.scope_rules.specs.Table.{Scoping, symbols_declared}
 use Rattle.scope_rules.specs.Mark.{marked, first_marks}
 use Rattle.scope_laws.specs.Exact.{Exact}
 use Rattle.scope_laws.proofs.Exact.{exact}
-use Rattle.scoping_match.specs.Matches.{Matches}
-use Rattle.scoping_match.proofs.Fresh.{fresh_matches}
+use Rattle.scope_match.specs.Matches.{Matches}
+use Rattle.scope_match.proofs.Fresh.{fresh_matches}
 use Rattle.js_scoping.specs.Build.{found_of, table_of}
 
 pub exact_now : (s : Scoping) (t u : Forest) (symbols : List ℕ) → s ≡ table_of t → symbols ≡ symbols_declared (found_of t).bindings → u ≡ marked (first_marks symbols) t → Exact s u

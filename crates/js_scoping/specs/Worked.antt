@@ -4,7 +4,7 @@ use Rattle.js_syntax.specs.declared.node_kind.NodeKind.{NodeKind as Kind}
 use Rattle.js_syntax.specs.declared.kind.FunctionKind.TheVariants as function_kind
 use Rattle.js_syntax.specs.declared.operator.AssignmentOperator.TheVariants as assignment
 use Rattle.js_syntax.specs.Node.{Forest, nowhere}
-use Rattle.js_form.specs.Samples.{over, row, listed, a_module, a_script, a, binds, reads, one, does, var_, function_of, function_a, catches}
+use Rattle.form_rules.specs.Samples.{over, row, listed, a_module, a_script, a, binds, reads, one, does, var_, function_of, function_a, catches}
 use Rattle.scope_rules.specs.Samples.{b, writes, assigns}
 use Rattle.scope_rules.specs.Table.{Named, Scope, Symbol, Reference, Redeclaration, Unresolved, Scoping}
 use Rattle.js_scoping.specs.Build.{table_of}

@@ -3,13 +3,15 @@
 //!
 //! `build` makes the table of a program and marks its nodes with their numbers, and the table is exact then
 //! (`scope_laws/specs/Exact.antt`). Its reading calls are those of `Scoping`, and `scoping_matches` answers
-//! whether a table still says what the rules say at every node (`scoping_match/specs/Matches.antt`).
+//! whether a table still says what the rules say at every node (`scope_match/specs/Matches.antt`).
 #![tactic(auto)]
 
 pub mod rows;
 mod table;
 
-pub use scope_flags::{ReferenceFlags, ScopeFlags, SymbolFlags};
-pub use scoping_match::scoping_matches;
-pub use scoping_table::{Redeclaration, Reference, Scope, Scoping, Symbol, Unresolved};
+pub use scope_match::scoping_matches;
+pub use scope_table::{
+    Redeclaration, Reference, ReferenceFlags, Scope, ScopeFlags, Scoping, Symbol, SymbolFlags,
+    Unresolved,
+};
 pub use table::build;

@@ -2,17 +2,16 @@
 ghost use Rattle.std.specs.Prelude.{◌≡◌, ◌^◌, ◌<◌, IfOk, IfErr, is_some};
 ghost use Rattle.std.specs.List.{count_by};
 ghost use Rattle.js_syntax.specs.Node.{forest_of};
-ghost use Rattle.js_count.specs.Count.{node_count};
+ghost use Rattle.js_tree.specs.Count.{node_count};
 ghost use Rattle.scope_rules.specs.Binding.{resolved_references};
 ghost use Rattle.scope_rules.specs.Table.{symbols_declared};
 ghost use Rattle.scope_laws.specs.Exact.{Exact};
-ghost use Rattle.scoping_match.specs.Matches.{Matches};
+ghost use Rattle.scope_match.specs.Matches.{Matches};
 ghost use Rattle.js_scoping.specs.Build.{found_of, table_of, numbered};
 
 use js_tree::Program;
-use scope_marks::mark_nodes;
-use scope_walk::find_sites;
-use scoping_table::{Scoped, Scoping, table};
+use scope_table::{Scoped, Scoping, table};
+use scope_walk::{find_sites, mark_nodes};
 use std::alloc::{AllocError, Global};
 
 // The table, and the symbols of the declarations.

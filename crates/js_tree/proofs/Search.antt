@@ -4,10 +4,6 @@ use Rattle.std.proofs.lemmas.List.{drop_all}
 use Rattle.js_syntax.specs.Node.{Forest, Tree, row}
 use Rattle.js_tree.proofs.Rows.{front_of}
 
-pub or_false : (b : Bool) → b || false ≡ b
-or_false true = refl
-or_false false = refl
-
 or_true : (a : Bool) → a || true ≡ true
 or_true true = refl
 or_true false = refl

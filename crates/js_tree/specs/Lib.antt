@@ -1,1 +1,5 @@
+pub mod Count
+pub mod Names
+pub mod Parts
 pub mod Weight
+pub mod Walk

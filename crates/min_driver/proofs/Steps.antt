@@ -2,13 +2,13 @@
 use Rattle.std.proofs.Common.{◌≡◌, true, Option, Some, None, sym, subst}
 use Rattle.js_syntax.specs.Class.{root}
 use Rattle.js_syntax.specs.Node.{Forest}
-use Rattle.js_form.specs.Form.{IsWellFormed}
+use Rattle.form_rules.specs.Form.{IsWellFormed}
 use Rattle.js_scoping.specs.Build.{numbered}
-use Rattle.removals.specs.Removes.{Removals, no_removal}
-use Rattle.tree_shape.specs.Shape.{Fits}
-use Rattle.shaken_runs.specs.Headline.{Kept, KeptBack, is_core_module}
-use Rattle.shaken_runs.proofs.Passes.{numbered_same}
-use Rattle.shaken_runs.proofs.Headline.{numbered_comes, kept_by, back_by}
+use Rattle.steps_allowed.specs.Removes.{Removals, no_removal}
+use Rattle.json_shape.specs.Shape.{Fits}
+use Rattle.headline.specs.Headline.{Kept, KeptBack, is_core_module}
+use Rattle.headline.proofs.Passes.{numbered_same}
+use Rattle.headline.proofs.Headline.{numbered_comes, kept_by, back_by}
 use Rattle.min_driver.specs.Minify.{left_of}
 use Rattle.min_driver.specs.declared.options.CompressOptions.{CompressOptions}
 

@@ -1,7 +1,7 @@
 -- How large a program may be.
 use Rattle.std.specs.Prelude.{ℕ, ◌≤◌, ◌^◌}
 use Rattle.js_syntax.specs.Node.{Forest}
-use Rattle.js_count.specs.Count.{node_count, levels}
+use Rattle.js_tree.specs.Count.{node_count, levels}
 
 abbrev pub max_nodes : ℕ
 max_nodes = 2 ^ 24

@@ -1,11 +1,11 @@
 -- What the library call makes of a program, and why it refuses one.
 use Rattle.std.specs.Prelude.{◌≡◌, ◌+◌, ℕ, Option, Some, None, min}
 use Rattle.js_syntax.specs.Node.{Forest}
-use Rattle.js_count.specs.Count.{node_count, levels}
-use Rattle.passes.specs.Passes.{shaken, passes_of, IsClean}
+use Rattle.js_tree.specs.Count.{node_count, levels}
+use Rattle.min_passes.specs.Passes.{shaken, passes_of, IsClean}
 use Rattle.scope_rules.specs.Table.{Scoping}
-use Rattle.js_form.specs.Break.{at_place}
-use Rattle.js_form.specs.Form.{first_broken}
+use Rattle.form_rules.specs.Break.{at_place}
+use Rattle.form_rules.specs.Form.{first_broken}
 use Rattle.min_driver.specs.Limit.{IsWithinLimits, IsTooLarge, max_nodes, max_levels}
 use Rattle.min_driver.specs.declared.options.CompressOptions.{CompressOptions}
 use Rattle.min_driver.specs.declared.error.MinifyError.{MinifyError}

@@ -3,26 +3,25 @@ ghost use Rattle.std.specs.Prelude.{◌≡◌, IfOk, IfErr, IsSomeAnd, is_some, 
 ghost use Rattle.std.specs.List.{count_by};
 ghost use Rattle.js_syntax.specs.Class.{root};
 ghost use Rattle.js_syntax.specs.Node.{forest_of};
-ghost use Rattle.js_form.specs.Form.{IsWellFormed};
+ghost use Rattle.form_rules.specs.Form.{IsWellFormed};
 ghost use Rattle.js_scoping.specs.Build.{table_of, numbered};
 ghost use Rattle.min_driver.specs.Limit.{IsWithinLimits};
 ghost use Rattle.min_driver.specs.Minify.{left_of, passes_by, IsCleanBy, IsCause};
 ghost use Rattle.min_driver.specs.Options.{IsSmallest};
-ghost use Rattle.passes.specs.Passes.{shaken, passes_of, IsClean};
+ghost use Rattle.min_passes.specs.Passes.{shaken, passes_of, IsClean};
 ghost use Rattle.scope_laws.specs.Exact.{Exact};
 ghost use Rattle.scope_rules.specs.Binding.{resolved_references};
-ghost use Rattle.scoping_match.specs.Matches.{Matches};
-ghost use Rattle.shaken_runs.specs.Headline.{Removals, Kept, KeptBack, is_core_module};
-ghost use Rattle.tree_shape.specs.Shape.{Fits};
+ghost use Rattle.scope_match.specs.Matches.{Matches};
+ghost use Rattle.headline.specs.Headline.{Removals, Kept, KeptBack, is_core_module};
+ghost use Rattle.json_shape.specs.Shape.{Fits};
 
 use crate::error::MinifyError;
 use crate::options::CompressOptions;
 use form_check::{FormError, well_formed};
-use js_clone::try_clone;
-use js_count::{count_nodes, depth};
 use js_scoping::{Scoping, build};
-use js_tree::Program;
-use passes::{Shaken, shake_program};
+use js_tree::{Program, count_nodes, depth};
+use js_tree_copy::try_clone;
+use min_passes::{Shaken, shake_program};
 use std::alloc::{AllocError, Global};
 
 // How many nodes and levels a program may have.

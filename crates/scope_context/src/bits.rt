@@ -1,17 +1,16 @@
 // The bits of scopes and references.
 ghost use Rattle.std.specs.Prelude.{◌≡◌, ◌≤◌, is_some};
 ghost use Rattle.js_syntax.specs.Node.{row};
-ghost use Rattle.js_form.specs.Context.{behind_first};
-ghost use Rattle.js_names.specs.Names.{eval_of_call};
+ghost use Rattle.form_rules.specs.Context.{behind_first};
+ghost use Rattle.js_tree.specs.Names.{eval_of_call};
 ghost use Rattle.scope_rules.specs.Context.{opens, is_there};
 ghost use Rattle.scope_rules.specs.Site.{has_eval, scope_row, function_bits, form_bits, bit, scope_bits, target_bits, read_bits};
 ghost use Rattle.scope_context.specs.Frame.{frame_of};
 
 use crate::context::Context;
 use crate::frame::Frame;
-use js_names::as_direct_eval_call;
 use js_syntax::FunctionKind;
-use js_tree::{Node, NodeKind};
+use js_tree::{Node, NodeKind, as_direct_eval_call};
 use scope_rules::Role;
 
 fn behind_first(nodes: &[Option<Node>]) -> &[Option<Node>]

@@ -1,7 +1,7 @@
 // The context of a node.
 ghost use Rattle.std.specs.Prelude.{◌≡◌, ◌∷◌, ◌++◌, IfOk, OnOk};
 ghost use Rattle.scope_rules.specs.Context.{body_of, parameters_of, own_name_of, entered, declares, used, below_it, as_constructor, outermost};
-ghost use Rattle.scope_sites.specs.Listed.{listed};
+ghost use Rattle.scope_context.specs.Listed.{listed};
 
 use scope_rules::{Layer, Part, Role};
 use std::alloc::{AllocError, Global};
@@ -102,7 +102,7 @@ impl Drop for Context {
 
 impl Model for Context {
     ghost use Rattle.scope_rules.specs.Context.{Context};
-    ghost use Rattle.scope_sites.specs.Listed.{listed};
+    ghost use Rattle.scope_context.specs.Listed.{listed};
 
     ghost Value = { Context };
 

@@ -2,7 +2,7 @@
 ghost use Rattle.std.specs.Prelude.{◌≡◌, ◌∷◌, IfOk};
 ghost use Rattle.js_syntax.specs.Node.{row};
 ghost use Rattle.scope_rules.specs.Context.{strict_in, layers_of_parameters, layers_in};
-ghost use Rattle.scope_sites.specs.Listed.{listed};
+ghost use Rattle.scope_context.specs.Listed.{listed};
 ghost use Rattle.scope_context.specs.Frame.{frame_of, body_behind, layers_within};
 
 use crate::bits::opens;
@@ -36,7 +36,7 @@ impl Drop for Frame {
 
 impl Model for Frame {
     ghost use Rattle.scope_context.specs.Frame.{Frame};
-    ghost use Rattle.scope_sites.specs.Listed.{listed};
+    ghost use Rattle.scope_context.specs.Listed.{listed};
 
     ghost Value = { Frame };
 

@@ -3,7 +3,7 @@ use Rattle.std.proofs.Common.{◌≡◌, ◌<◌, ◌∙◌, ◌↔◌, ◌+◌,
 use Rattle.js_syntax.specs.declared.node_kind.NodeKind.{NodeKind as Kind}
 use Rattle.js_syntax.specs.declared.node_kind.NodeKind.TheVariants.{PropertyDefinition as property_definition}
 use Rattle.js_syntax.specs.Node.{Forest, Tree, Note, nothing, node, absent, total}
-use Rattle.js_form.specs.Context.{behind_first}
+use Rattle.form_rules.specs.Context.{behind_first}
 use Rattle.scope_rules.specs.Context.{Context, is_there, has_second, opens, inside, outermost}
 use Rattle.scope_rules.specs.Site.{Site, scope_site, binding_site, reference_site, ScopeSite, BindingSite, ReferenceSite, own_sites, opens_one, scope_bits, scope_count, sites, sites_of, bindings_among, references_among}
 use Rattle.scope_rules.specs.Binding.{declared_by, binding_of}
@@ -188,7 +188,7 @@ declarations_move a x y edit =
 
 -- ---- references
 
-both : {P Q R : Type 0} → P ↔ Q → Q ↔ R → P ↔ R
+pub both : {P Q R : Type 0} → P ↔ Q → Q ↔ R → P ↔ R
 both f g = (λ p. g.0 (f.0 p), λ r. f.1 (g.1 r))
 
 pub keeps : (a : Around) (x y : Option Tree) → IsEdit a x y → (r : ReferenceSite) → Spares a x (moved_reference (former a x) r) → KeepsAt a x y r

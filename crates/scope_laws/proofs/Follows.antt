@@ -10,9 +10,7 @@ use Rattle.scope_laws.specs.Kept.{Unlists}
 use Rattle.scope_laws.specs.Follows.{Change, stayed, Follows}
 use Rattle.scope_laws.proofs.Numbers.{among_map}
 use Rattle.scope_laws.proofs.Declared.{image, binding_is, binding_moves, names_move, Left, binding_left, names_left}
-
-both : {P Q R : Type 0} → P ↔ Q → Q ↔ R → P ↔ R
-both f g = (λ p. g.0 (f.0 p), λ r. f.1 (g.1 r))
+use Rattle.scope_laws.proofs.Around.{both}
 
 pub follows_keep : (c : Change) → Follows c → (r : ReferenceSite) → Among r c.references_now → Keeps c.former c.declarations c.declarations_now r
 follows_keep c f r h =

@@ -11,7 +11,7 @@ use Rattle.js_syntax.specs.declared.kind.MethodKind.{MethodKind}
 use Rattle.js_syntax.specs.declared.kind.MethodKind.TheVariants as method_kind
 use Rattle.js_syntax.specs.declared.kind.VariableKind.{VariableKind}
 use Rattle.js_syntax.specs.declared.kind.VariableKind.TheVariants as variable_kind
-use Rattle.js_form.specs.Context.{is_strict_function}
+use Rattle.form_rules.specs.Context.{is_strict_function}
 use Rattle.scope_rules.specs.Context.{Context, has_second, opens, in_block, below_it, used, role_of, role_of_object, of_method, declares, body_of, in_variables, at_function_name, at_class_name, at_parameters, in_function, inside, outermost}
 use Rattle.std.proofs.lemmas.List.{map-append}
 use Rattle.scope_rules.specs.declared.layer.Role.{Role}

@@ -5,8 +5,8 @@ use Rattle.std.specs.Prelude.{codes}
 use Rattle.js_syntax.specs.declared.node_kind.NodeKind.{NodeKind as Kind}
 use Rattle.js_syntax.specs.declared.node_kind.NodeKind.TheVariants.{Program as program, Function as function, PropertyDefinition as property_definition, WithStatement as with_statement, SwitchStatement as switch_statement, CallExpression as call_expression, ParenthesizedExpression as parenthesized_expression, ReferenceName as reference_name, Directive as directive, Statements as statements, FunctionBody as function_body}
 use Rattle.js_syntax.specs.Node.{Forest, nothing, node, absent, Tree, bare, total}
-use Rattle.js_form.specs.Context.{is_module, has_use_strict, is_strict_list, is_strict_function, behind_first}
-use Rattle.js_names.specs.Names.{eval_name, eval_of_call}
+use Rattle.form_rules.specs.Context.{is_module, has_use_strict, is_strict_list, is_strict_function, behind_first}
+use Rattle.js_tree.specs.Names.{eval_name, eval_of_call}
 use Rattle.scope_rules.specs.Context.{Context, is_there, has_second, opens, strict_in, in_body, in_block, below_it, of_function, inside}
 use Rattle.scope_rules.specs.Site.{has_eval, scope_row, scope_bits, scope_count, bit, form_bits}
 

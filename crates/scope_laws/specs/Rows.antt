@@ -3,7 +3,7 @@ use Rattle.std.specs.Prelude.{ℕ, List, [], ◌∷◌, map, Option, Some}
 use Rattle.js_syntax.specs.declared.node_kind.NodeKind.{NodeKind as Kind}
 use Rattle.js_syntax.specs.declared.scalar.SourceType.TheVariants as source_type
 use Rattle.js_syntax.specs.Node.{Forest, Tree, nothing, node, nowhere}
-use Rattle.js_form.specs.Samples.{over, listed, block, a_module, a, let_, reads, does}
+use Rattle.form_rules.specs.Samples.{over, listed, block, a_module, a, let_, reads, does}
 use Rattle.scope_rules.specs.Site.{BindingSite, sites_of, found_in, bindings_among}
 use Rattle.scope_rules.specs.Table.{Symbol, Scoping, scoping_of, symbols_declared}
 use Rattle.scope_rules.specs.Mark.{marked, first_marks}

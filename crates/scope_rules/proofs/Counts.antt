@@ -1,9 +1,9 @@
 -- A tree has no more scopes, declarations and references than nodes.
-use Rattle.std.proofs.Common.{◌≤◌, ◌+◌, ℕ, Bool, true, false, arith, if◌then◌else◌}
+use Rattle.std.proofs.Common.{◌≤◌, Bool, true, false, arith, if◌then◌else◌}
 use Rattle.js_syntax.specs.declared.node_kind.NodeKind.{NodeKind as Kind}
 use Rattle.js_syntax.specs.declared.node_kind.NodeKind.TheVariants.{Program as program, Function as function, Class as class, PropertyDefinition as property_definition, StaticBlock as static_block, BlockStatement as block_statement, WithStatement as with_statement, SwitchStatement as switch_statement, CatchClause as catch_clause, ForStatement as for_statement, ForInStatement as for_in_statement, ForOfStatement as for_of_statement, BindingName as binding_name, ReferenceName as reference_name, TargetName as target_name}
 use Rattle.js_syntax.specs.Node.{Forest, nothing, node, absent, total}
-use Rattle.js_count.specs.Count.{one_each, node_count}
+use Rattle.js_tree.specs.Count.{one_each, node_count}
 use Rattle.scope_rules.specs.Context.{has_second}
 use Rattle.scope_rules.specs.Site.{opens_one, scope_count}
 use Rattle.scope_rules.specs.Mark.{own_binding, own_reference}

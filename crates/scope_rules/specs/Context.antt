@@ -2,7 +2,7 @@
 use Rattle.std.specs.Prelude.{ℕ, List, [], ◌∷◌, Bool, ◌&&◌, true, false, ◌||◌, ◌==◌, Option, Some, None, if◌then◌else◌}
 use Rattle.js_syntax.specs.declared.node_kind.NodeKind.{NodeKind as Kind}
 use Rattle.js_syntax.specs.declared.node_kind.NodeKind.TheVariants.{Program as program, Function as function, Class as class, MethodDefinition as method_definition, PropertyDefinition as property_definition, StaticBlock as static_block, BlockStatement as block_statement, WithStatement as with_statement, SwitchStatement as switch_statement, CatchClause as catch_clause, ForStatement as for_statement, ForInStatement as for_in_statement, ForOfStatement as for_of_statement, VariableDeclaration as variable_declaration, ImportDeclaration as import_declaration, AssignmentExpression as assignment_expression, UpdateExpression as update_expression, MemberExpression as member_expression, ParenthesizedExpression as parenthesized_expression, TargetArray as target_array, TargetObject as target_object, TargetProperty as target_property, TargetDefault as target_default, TargetRest as target_rest, Elements as elements, Properties as properties}
-use Rattle.js_syntax.specs.Node.{Forest, node, absent}
+use Rattle.js_syntax.specs.Node.{Forest, node}
 use Rattle.js_syntax.specs.declared.kind.FunctionKind.{FunctionKind}
 use Rattle.js_syntax.specs.declared.kind.FunctionKind.TheVariants as function_kind
 use Rattle.js_syntax.specs.declared.kind.ClassKind.{ClassKind}
@@ -13,7 +13,7 @@ use Rattle.js_syntax.specs.declared.kind.VariableKind.{VariableKind}
 use Rattle.js_syntax.specs.declared.kind.VariableKind.TheVariants as variable_kind
 use Rattle.js_syntax.specs.declared.operator.AssignmentOperator.{AssignmentOperator}
 use Rattle.js_syntax.specs.declared.operator.AssignmentOperator.TheVariants as assignment
-use Rattle.js_form.specs.Context.{is_module, is_strict_list, is_strict_function, behind_first}
+use Rattle.form_rules.specs.Context.{is_module, is_strict_list, is_strict_function, behind_first}
 use Rattle.scope_rules.specs.declared.layer.Layer.{Layer}
 use Rattle.scope_rules.specs.declared.layer.Part.TheVariants.{OwnName as own_name, Parameters as parameters, Body as body}
 use Rattle.scope_rules.specs.declared.layer.Role.{Role}

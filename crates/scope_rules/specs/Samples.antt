@@ -5,7 +5,7 @@ use Rattle.js_syntax.specs.declared.value.Key.TheVariants.{Name as key_name}
 use Rattle.js_syntax.specs.declared.kind.ClassKind.TheVariants as class_kind
 use Rattle.js_syntax.specs.declared.operator.AssignmentOperator.{AssignmentOperator}
 use Rattle.js_syntax.specs.Node.{Forest, joined}
-use Rattle.js_form.specs.Samples.{over, leaf, row, listed, no, binds, one}
+use Rattle.form_rules.specs.Samples.{over, leaf, row, listed, no, binds, one}
 use Rattle.scope_rules.specs.declared.layer.Part.{Part}
 use Rattle.scope_rules.specs.Site.{Site, ScopeSite, BindingSite, ReferenceSite, sites_of, scopes_among, bindings_among, references_among}
 use Rattle.scope_rules.specs.Binding.{Binding, binding_of}

@@ -6,8 +6,8 @@ use Rattle.js_syntax.specs.Node.{Forest, nothing, node, absent, Note}
 use Rattle.js_syntax.specs.declared.kind.FunctionKind.{FunctionKind}
 use Rattle.js_syntax.specs.declared.kind.FunctionKind.TheVariants as function_kind
 use Rattle.js_syntax.specs.declared.scalar.Span.{Span}
-use Rattle.js_form.specs.Context.{behind_first}
-use Rattle.js_names.specs.Names.{eval_of_call}
+use Rattle.form_rules.specs.Context.{behind_first}
+use Rattle.js_tree.specs.Names.{eval_of_call}
 use Rattle.scope_rules.specs.declared.layer.Layer.{Layer}
 use Rattle.scope_rules.specs.declared.layer.Role.{Role}
 use Rattle.scope_rules.specs.declared.layer.Role.TheVariants.{ReadAndWrite as read_and_write, Object as object}

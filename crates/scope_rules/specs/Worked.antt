@@ -7,7 +7,7 @@ use Rattle.js_syntax.specs.declared.kind.MethodKind.TheVariants as method_kind
 use Rattle.js_syntax.specs.declared.operator.AssignmentOperator.TheVariants as assignment
 use Rattle.js_syntax.specs.declared.operator.UpdateOperator.TheVariants as update
 use Rattle.js_syntax.specs.Node.{joined}
-use Rattle.js_form.specs.Samples.{over, leaf, row, listed, no, a_module, a_script, a, binds, reads, one, does, declares, let_, var_, block, function_of, function_a, use_strict, class_of, method_b, static_block, catches, calls, exports}
+use Rattle.form_rules.specs.Samples.{over, leaf, row, listed, no, a_module, a_script, a, binds, reads, one, does, declares, let_, var_, block, function_of, function_a, use_strict, class_of, method_b, static_block, catches, calls, exports}
 use Rattle.scope_rules.specs.declared.layer.Part.TheVariants.{OwnName as own_name, Parameters as parameters, Body as body}
 use Rattle.scope_rules.specs.Samples.{Row, named, uses, program_of, inside_of, bound, bound_to_own, b, writes, assigns, member, defaults, class_expression, field, switches, imports}
 

@@ -6,7 +6,7 @@ use Rattle.scope_rules.specs.Context.{Context, outermost}
 use Rattle.scope_rules.specs.Site.{Site, scope_site, binding_site, reference_site, scopes_among, bindings_among, references_among, scope_count, sites, sites_of, Found, added, found_in}
 use Rattle.scope_walk.specs.Walk.{node_sites}
 
-scopes_append : (xs ys : List Site) → scopes_among (xs ++ ys) ≡ scopes_among xs ++ scopes_among ys
+pub scopes_append : (xs ys : List Site) → scopes_among (xs ++ ys) ≡ scopes_among xs ++ scopes_among ys
 scopes_append [] ys = refl
 scopes_append (scope_site s ∷ xs) ys = ap (λ zs. s ∷ zs) (scopes_append xs ys)
 scopes_append (binding_site s ∷ xs) ys = scopes_append xs ys

@@ -1,14 +1,16 @@
 // The walk.
 ghost use Rattle.std.specs.Prelude.{◌≡◌, ◌+◌, ◌^◌, ◌<◌, IfOk, OnOk};
 ghost use Rattle.js_syntax.specs.Node.{forest_of};
-ghost use Rattle.js_count.specs.Count.{node_count};
+ghost use Rattle.js_tree.specs.Count.{node_count};
 ghost use Rattle.scope_rules.specs.Site.{name_sites, scope_sites, own_sites, opens_one, number_or_first, scope_count, added, found_in, sites_of};
 ghost use Rattle.scope_context.specs.Frame.{frame_of};
 ghost use Rattle.scope_walk.specs.Walk.{node_sites};
 
 use js_tree::{Node, NodeKind, Program};
-use scope_context::{Context, Frame, opens, read_bits, scope_bits, target_bits};
-use scope_sites::{BindingSite, Found, ReferenceSite, ScopeSite};
+use scope_context::{
+    BindingSite, Context, Found, Frame, ReferenceSite, ScopeSite, opens, read_bits, scope_bits,
+    target_bits,
+};
 use std::alloc::{AllocError, Global};
 
 fn number_or_first(scope: Option<u32>) -> u32

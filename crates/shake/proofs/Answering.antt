@@ -1,15 +1,15 @@
 -- From what was read to the answer.
 use Rattle.std.proofs.Common.{◌≡◌, ◌⊎◌, inl, inr, ◌++◌, ◌∙◌, ℕ, List, [], Option, Some, None, Ok, refl, subst, append-nil, ap₂}
-use Rattle.outside.specs.Moves.{HasFailed, Known, SendsFront}
+use Rattle.shake_streams.specs.Moves.{HasFailed, Known, SendsFront}
 use Rattle.js_syntax.specs.Node.{Forest}
-use Rattle.words.specs.declared.answer.Command.{Command}
-use Rattle.tree_text.specs.Answer.{IsCauseOf, IsReadAs}
-use Rattle.tree_text.specs.Fault.{out_of_range}
-use Rattle.tree_text.specs.declared.error.TreeError.{TreeError}
-use Rattle.tree_text.specs.declared.error.TreeError.TheVariants as error
-use Rattle.passes.specs.Passes.{shaken}
+use Rattle.shake_words.specs.declared.answer.Command.{Command}
+use Rattle.json_text.specs.Answer.{IsCauseOf, IsReadAs}
+use Rattle.json_text.specs.Fault.{out_of_range}
+use Rattle.json_text.specs.declared.error.TreeError.{TreeError}
+use Rattle.json_text.specs.declared.error.TreeError.TheVariants as error
+use Rattle.min_passes.specs.Passes.{shaken}
 use Rattle.shake.specs.Answer.{TreeAnswers, IsTreeLineFor, Answers, IsLineFor}
-use Rattle.js_form.specs.Break.{at_place}
+use Rattle.form_rules.specs.Break.{at_place}
 use Rattle.min_driver.specs.Minify.{IsCause}
 use Rattle.min_driver.specs.declared.error.MinifyError.{MinifyError}
 use Rattle.min_driver.specs.declared.error.MinifyError.TheVariants as minify

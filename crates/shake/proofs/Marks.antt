@@ -1,16 +1,16 @@
 -- Marks are not written.
 use Rattle.std.proofs.Common.{◌≡◌, ◌++◌, ◌∙◌, ℕ, List, Option, Some, Ok, true, false, sym, subst, ap, codes}
 use Rattle.js_syntax.specs.Node.{Forest, bare}
-use Rattle.passes.specs.Passes.{shaken, passes_of}
+use Rattle.min_passes.specs.Passes.{shaken, passes_of}
 use Rattle.scope_rules.specs.Binding.{resolved_references}
 use Rattle.scope_laws.proofs.Marking.{bare_marked}
 use Rattle.js_scoping.specs.Build.{numbered}
 use Rattle.serde_json.specs.Written.{compact_text}
-use Rattle.tree_text.specs.Text.{text_of}
-use Rattle.tree_text.specs.Answer.{IsReadAs}
-use Rattle.bare_shape.proofs.Same.{same_data, readable}
-use Rattle.words.specs.declared.answer.Command.{Command}
-use Rattle.words.specs.declared.answer.Command.TheVariants.{Dce}
+use Rattle.json_text.specs.Text.{text_of}
+use Rattle.json_text.specs.Answer.{IsReadAs}
+use Rattle.json_shape.proofs.Same.{same_data, readable}
+use Rattle.shake_words.specs.declared.answer.Command.{Command}
+use Rattle.shake_words.specs.declared.answer.Command.TheVariants.{Dce}
 use Rattle.min_driver.specs.Minify.{left_of, passes_by}
 use Rattle.min_driver.specs.declared.options.CompressOptions.{CompressOptions}
 use Rattle.shake.specs.Run.{counts_of, command_output, shaken_output, IsReadBack}

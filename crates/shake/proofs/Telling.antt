@@ -1,15 +1,15 @@
 -- From the bytes that were read to the bytes that the source told.
 use Rattle.std.proofs.Common.{◌≡◌, ◌≤◌, ℕ, List, [], length, Option, Some, None, Ok, subst}
-use Rattle.outside.specs.Reading.{Ends}
+use Rattle.shake_streams.specs.Reading.{Ends}
 use Rattle.js_syntax.specs.Class.{root}
 use Rattle.js_syntax.specs.Node.{Forest}
-use Rattle.tree_text.specs.Answer.{IsReadAs}
-use Rattle.tree_text.specs.Fault.{untyped}
-use Rattle.tree_shape.specs.Shape.{Fits}
-use Rattle.tree_shape.proofs.FittingNodes.{nodes_fit}
-use Rattle.shaken_runs.proofs.Headline.{headline_of}
-use Rattle.words.specs.Meaning.{command_of}
-use Rattle.words.specs.declared.answer.Command.{Command}
+use Rattle.json_text.specs.Answer.{IsReadAs}
+use Rattle.json_text.specs.Fault.{untyped}
+use Rattle.json_shape.specs.Shape.{Fits}
+use Rattle.json_shape.proofs.FittingNodes.{nodes_fit}
+use Rattle.headline.proofs.Headline.{headline_of}
+use Rattle.shake_words.specs.Meaning.{command_of}
+use Rattle.shake_words.specs.declared.answer.Command.{Command}
 use Rattle.shake.specs.Answer.{Answers}
 use Rattle.shake.specs.Line.{Told}
 use Rattle.shake.specs.Run.{max_input, IsTreeOf, Shakes}

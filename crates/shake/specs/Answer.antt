@@ -1,10 +1,10 @@
 -- What the program does with the bytes that it read.
 use Rattle.std.specs.Prelude.{◌≡◌, ◌≢◌, ℕ, List, Option, Ok, Err}
-use Rattle.outside.specs.Moves.{HasFailed}
+use Rattle.shake_streams.specs.Moves.{HasFailed}
 use Rattle.js_syntax.specs.Node.{Forest}
-use Rattle.words.specs.declared.answer.Command.{Command}
-use Rattle.tree_text.specs.Answer.{IsReadAs, IsNoJson}
-use Rattle.tree_text.specs.Fault.{Fault, too_deep}
+use Rattle.shake_words.specs.declared.answer.Command.{Command}
+use Rattle.json_text.specs.Answer.{IsReadAs, IsNoJson}
+use Rattle.json_text.specs.Fault.{Fault, too_deep}
 use Rattle.shake.specs.Line.{fault_line, too_large_line, IsBreakLine, status_line}
 use Rattle.min_driver.specs.Limit.{IsTooLarge}
 use Rattle.shake.specs.Run.{IsSound, IsIllFormed, IsSent, IsFrontSent}

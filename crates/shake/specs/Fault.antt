@@ -1,8 +1,8 @@
 -- The fault that an error of reading is, and the answers for errors.
 use Rattle.std.specs.Prelude.{◌≡◌, ◌⊎◌, ℕ, List, string_bytes}
-use Rattle.tree_text.specs.Fault.{Fault, too_deep, unknown_node, bad_field, out_of_range}
-use Rattle.tree_text.specs.declared.error.TreeError.{TreeError}
-use Rattle.tree_text.specs.declared.error.TreeError.TheVariants as error
+use Rattle.json_text.specs.Fault.{Fault, too_deep, unknown_node, bad_field, out_of_range}
+use Rattle.json_text.specs.declared.error.TreeError.{TreeError}
+use Rattle.json_text.specs.declared.error.TreeError.TheVariants as error
 use Rattle.min_driver.specs.declared.error.MinifyError.{MinifyError}
 use Rattle.min_driver.specs.declared.error.MinifyError.TheVariants as minify
 use Rattle.shake.specs.Line.{fault_line, large_line, ill_formed_line, status_line}

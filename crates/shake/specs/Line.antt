@@ -1,12 +1,12 @@
 -- What the program says on standard error.
 use Rattle.std.specs.Prelude.{◌≡◌, ◌≢◌, ◌⊎◌, ◌&&◌, ◌||◌, ◌==◌, ℕ, List, [], ◌∷◌, ◌++◌, flat_map, Bool, nat_le, nat_lt, Option, Some, None, Ok, Err, codes, decimal, min, ◌+◌, if◌then◌else◌}
-use Rattle.outside.specs.Moves.{HasFailed, Known, SendsFront}
-use Rattle.tree_text.specs.Fault.{Fault, too_deep, unknown_node, bad_field, out_of_range}
-use Rattle.tree_text.specs.Answer.{IsReadAs}
+use Rattle.shake_streams.specs.Moves.{HasFailed, Known, SendsFront}
+use Rattle.json_text.specs.Fault.{Fault, too_deep, unknown_node, bad_field, out_of_range}
+use Rattle.json_text.specs.Answer.{IsReadAs}
 use Rattle.js_syntax.specs.Node.{Forest}
-use Rattle.js_count.specs.Count.{node_count, levels}
-use Rattle.js_form.specs.declared.rule.Break.{Break}
-use Rattle.js_form.specs.Form.{first_broken}
+use Rattle.js_tree.specs.Count.{node_count, levels}
+use Rattle.form_rules.specs.declared.rule.Break.{Break}
+use Rattle.form_rules.specs.Form.{first_broken}
 use Rattle.min_driver.specs.Limit.{max_nodes, max_levels}
 use Rattle.shake.specs.declared.status.Status.{Status}
 use Rattle.shake.specs.declared.status.Status.TheVariants as status

@@ -1,18 +1,18 @@
 -- What a run of the program leaves behind.
 use Rattle.std.specs.Prelude.{◌≡◌, ◌⊎◌, ◌^◌, ◌≤◌, ℕ, List, [], ◌++◌, Bool, true, false, length, Option, Some, Ok, codes, decimal}
-use Rattle.outside.specs.Moves.{HasFailed, Known, SendsFront}
+use Rattle.shake_streams.specs.Moves.{HasFailed, Known, SendsFront}
 use Rattle.js_syntax.specs.Node.{Forest, bare}
-use Rattle.tree_text.specs.Answer.{IsReadAs, IsNoJson}
-use Rattle.tree_text.specs.Fault.{Fault}
-use Rattle.tree_text.specs.Text.{text_of}
-use Rattle.tree_shape.specs.Readable.{IsReadable}
-use Rattle.words.specs.Meaning.{command_of}
-use Rattle.words.specs.declared.answer.Command.{Command}
-use Rattle.words.specs.declared.answer.Command.TheVariants.{Dce}
-use Rattle.passes.specs.Passes.{shaken, passes_of}
-use Rattle.shaken_runs.specs.Headline.{Headline}
+use Rattle.json_text.specs.Answer.{IsReadAs, IsNoJson}
+use Rattle.json_text.specs.Fault.{Fault}
+use Rattle.json_text.specs.Text.{text_of}
+use Rattle.json_shape.specs.Readable.{IsReadable}
+use Rattle.shake_words.specs.Meaning.{command_of}
+use Rattle.shake_words.specs.declared.answer.Command.{Command}
+use Rattle.shake_words.specs.declared.answer.Command.TheVariants.{Dce}
+use Rattle.min_passes.specs.Passes.{shaken, passes_of}
+use Rattle.headline.specs.Headline.{Headline}
 use Rattle.scope_rules.specs.Binding.{resolved_references}
-use Rattle.js_form.specs.Form.{IsWellFormed}
+use Rattle.form_rules.specs.Form.{IsWellFormed}
 use Rattle.min_driver.specs.Limit.{IsWithinLimits, IsTooLarge}
 use Rattle.shake.specs.Line.{Told, HasFault}
 use Rattle.shake.specs.declared.status.Status.{Status}

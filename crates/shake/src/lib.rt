@@ -3,7 +3,7 @@
 //! `shake` reads one program from a source, as ESTree JSON, refuses it where it is too large or breaks
 //! a rule of form, takes out of it what does nothing, and writes what is left and a line of counts to a sink. Its contract, with the definitions of
 //! `specs/Run.antt`, says for each answer exactly when it comes and what was written then; memory may
-//! be short at any time. It stands on `outside` (sources and sinks), `tree_read` and `tree_write`
+//! be short at any time. It stands on `shake_streams` (sources and sinks), `json_read` and `json_write`
 //! (from bytes to trees and back) and `min_driver` (the limits, the rules of form and the pass).
 #![tactic(auto)]
 
@@ -15,15 +15,15 @@ mod status;
 pub use form_check::{FormError, well_formed};
 pub use js_scoping::Scoping;
 pub use js_tree::{Program, Text};
+pub use json_read::{TreeError, read_tree};
+pub use json_write::write_tree;
 pub use min_driver::{
     CompressOptions, CompressOptionsKeepNames, CompressOptionsUnused, Minifier, MinifierOptions,
     MinifierReturn, MinifyError, PropertyReadSideEffects, TreeShakeOptions,
 };
-pub use outside::{
+pub use run::shake;
+pub use shake_streams::{
     Failed, MemSink, MemSource, ReadAllError, Sink, Source, StdErr, StdSink, StdSource, SureSink,
     SureSource, read_all,
 };
-pub use run::shake;
 pub use status::Status;
-pub use tree_read::{TreeError, read_tree};
-pub use tree_write::write_tree;

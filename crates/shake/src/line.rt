@@ -1,14 +1,14 @@
 // What the program says on standard error.
 ghost use Rattle.std.specs.Prelude.{◌≡◌, ◌≤◌, ◌++◌, IfOk, OnOk, string_bytes};
-ghost use Rattle.tree_text.specs.Fault.{unknown_node, bad_field};
+ghost use Rattle.json_text.specs.Fault.{unknown_node, bad_field};
 ghost use Rattle.shake.specs.Line as spec;
 ghost use Rattle.shake.specs.Line.{Says, shown, fault_line};
 ghost use Rattle.shake.specs.Fault.{fault_of, minify_text};
 
+use json_text::TreeError;
 use min_driver::MinifyError;
-use outside::{Sink, write_all};
+use shake_streams::{Sink, write_all};
 use std::alloc::{AllocError, Global};
-use tree_text::TreeError;
 
 /// Says a line. A fault of the sink ends it, and changes no answer.
 pub fn say<E: Sink>(err: &mut E, line: &str)

@@ -4,9 +4,9 @@ ghost use Rattle.js_syntax.specs.Node.{forest_of};
 ghost use Rattle.shake.specs.Run.{command_output, counts_of, IsReadBack};
 
 use js_tree::Program;
+use json_write::write_tree;
+use shake_words::Command;
 use std::alloc::{AllocError, Global};
-use tree_write::write_tree;
-use words::Command;
 
 // The text, and behind it a newline.
 fn with_newline(mut text: String) -> Result<String, AllocError>

@@ -1,13 +1,13 @@
 // The program, over any source and sinks.
 ghost use Rattle.std.specs.Prelude.{◌≡◌, ◌≤◌, ◌⊎◌, ◌++◌, ℕ, IfOk, IfErr, false, true, map, string_bytes};
 ghost use Rattle.js_syntax.specs.Node.{forest_of};
-ghost use Rattle.passes.specs.Passes.{shaken};
+ghost use Rattle.min_passes.specs.Passes.{shaken};
 ghost use Rattle.min_driver.specs.Minify.{IsCause};
 ghost use Rattle.shake.specs.Fault.{IsMinifyAnswer, minify_line};
-ghost use Rattle.outside.specs.Moves.{HasFailed, Known, SendsFront};
-ghost use Rattle.outside.specs.Reading.{IsLonger};
-ghost use Rattle.tree_text.specs.Answer.{IsCauseOf};
-ghost use Rattle.words.specs.Meaning.{accepts};
+ghost use Rattle.shake_streams.specs.Moves.{HasFailed, Known, SendsFront};
+ghost use Rattle.shake_streams.specs.Reading.{IsLonger};
+ghost use Rattle.json_text.specs.Answer.{IsCauseOf};
+ghost use Rattle.shake_words.specs.Meaning.{accepts};
 ghost use Rattle.shake.specs.Line.{Says, IsLineOf, status_line};
 ghost use Rattle.shake.specs.Fault.{IsAnswerTo, refusal_line};
 ghost use Rattle.shake.specs.Answer.{TreeAnswers, IsTreeLineFor, Answers, IsLineFor};
@@ -17,11 +17,11 @@ use crate::line::{fault_text, minify_text, say};
 use crate::output::output;
 use crate::status::Status;
 use js_tree::Program;
+use json_read::{TreeError, read_tree};
 use min_driver::{CompressOptions, Minifier, MinifierOptions, MinifyError};
-use outside::{ReadAllError, Sink, Source, read_all, write_all};
+use shake_streams::{ReadAllError, Sink, Source, read_all, write_all};
+use shake_words::{Command, WordsError, parse};
 use std::alloc::{AllocError, Global};
-use tree_read::{TreeError, read_tree};
-use words::{Command, WordsError, parse};
 
 // How many bytes are read at most: 2^28.
 const MAX_INPUT: u64 = 268_435_456;
@@ -173,7 +173,7 @@ fn answer<K: Sink, E: Sink>(
     }
 }
 
-/// Runs the program: `words` are the program's name and the words behind it, `source` the input, `out`
+/// Runs the program: `shake_words` are the program's name and the words behind it, `source` the input, `out`
 /// where the output goes, and `err` where a refusal says its reason, in one line.
 ///
 /// The only command is `dce`. It reads one program as ESTree JSON, tests that it is well formed, takes out what does nothing, and

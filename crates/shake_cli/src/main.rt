@@ -5,7 +5,7 @@
 
 ghost use Rattle.std.specs.Prelude.{◌≡◌, false, map, string_bytes};
 ghost use Rattle.shake.specs.Run.{Shakes};
-ghost use Rattle.words.specs.Meaning.{accepts};
+ghost use Rattle.shake_words.specs.Meaning.{accepts};
 
 use shake::{Sink, Source, Status, StdErr, StdSink, StdSource, shake};
 use std::alloc::Global;

@@ -7,12 +7,11 @@
 #![tactic(auto)]
 
 use form_check::well_formed;
-use js_count::count_nodes;
-use js_tree::Program;
-use outside::{StdSink, StdSource, read_all, write_all};
+use js_tree::{Program, count_nodes};
+use json_read::read_tree;
+use shake_streams::{StdSink, StdSource, read_all, write_all};
 use std::alloc::{AllocError, Global};
 use std::process::ExitCode;
-use tree_read::read_tree;
 
 // What is said of a program.
 fn said_of(alloc: Global, program: &Program) -> Result<String, AllocError> {

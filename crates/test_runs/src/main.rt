@@ -1,4 +1,4 @@
-//! Does `js_run` run programs as ECMA-262 says? Prints the trace of each row of standard input.
+//! Does `run_core` run programs as ECMA-262 says? Prints the trace of each row of standard input.
 //!
 //! A line is a row, or a comment behind `//`, as the text of the program in the row after it, and is printed as it
 //! is. A row is what the host does (`script`), a tab, and the ESTree JSON of a program, or words for a tree that no
@@ -14,16 +14,16 @@ mod script;
 mod trace;
 
 use fault::Fault;
-use js_run::run;
 use js_tree::Program;
-use js_world::Script;
+use json_read::read_tree;
 use misplaced::misplaced;
-use outside::{StdSink, StdSource, read_all, write_all};
+use run_core::run;
+use run_world::Script;
 use script::{read_bound, read_script};
+use shake_streams::{StdSink, StdSource, read_all, write_all};
 use std::alloc::{AllocError, Global};
 use std::process::ExitCode;
 use trace::print_outcome;
-use tree_read::read_tree;
 
 fn trace_with(
     alloc: Global,

@@ -1,8 +1,7 @@
 // Hosts as rows write them: how many entries there may be, and then the host's moves, each behind a space.
 use crate::fault::Fault;
-use js_show::Given;
-use js_value::Plain;
-use js_world::{Move, Script};
+use run_value::{Given, Plain};
+use run_world::{Move, Script};
 use std::alloc::{AllocError, Global};
 use std::rc::Rc;
 

@@ -1,6 +1,7 @@
 // Outcomes as rows write them: the events, each with the exports of that moment, and the ending.
-use js_show::{Act, Ending, Event, Outcome, Parts, Shown, ShownExport, ShownExports, Sort};
-use js_value::Plain;
+use run_value::{
+    Act, Ending, Event, Outcome, Parts, Plain, Shown, ShownExport, ShownExports, Sort,
+};
 use std::alloc::{AllocError, Global};
 use std::fmt::Write;
 use std::rc::Rc;

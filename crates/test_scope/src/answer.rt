@@ -4,9 +4,9 @@ use crate::marks::append_marked;
 use crate::sites::{append_sites, name_of_part};
 use crate::table::append_table;
 use js_tree::Program;
+use json_read::read_tree;
 use scope_context::Context;
 use std::alloc::{AllocError, Global};
-use tree_read::read_tree;
 
 /// No program of a row has more nodes.
 pub(crate) const MOST: u32 = 1000;

@@ -1,6 +1,6 @@
 // Sites with one edit.
+use scope_context::{BindingSite, Found, ReferenceSite, ScopeSite};
 use scope_rules::Layer;
-use scope_sites::{BindingSite, Found, ReferenceSite, ScopeSite};
 use std::alloc::{AllocError, Global};
 use std::rc::Rc;
 

@@ -3,12 +3,11 @@ use crate::answer::MOST;
 use crate::edit::{Edit, edited};
 use crate::marks::mark_at;
 use crate::table::append_match;
-use js_count::count_nodes;
 use js_scoping::build;
-use js_tree::Program;
-use scope_sites::Found;
+use js_tree::{Program, count_nodes};
+use scope_context::Found;
+use scope_table::table;
 use scope_walk::find_sites;
-use scoping_table::table;
 use std::alloc::{AllocError, Global};
 
 fn edits_of<'a>(alloc: Global, words: &'a str) -> Result<Vec<Edit<'a>>, AllocError> {

@@ -23,7 +23,7 @@ mod sites;
 mod table;
 
 use crate::answer::{append_answer, append_outermost};
-use outside::{StdSink, StdSource, read_all, write_all};
+use shake_streams::{StdSink, StdSource, read_all, write_all};
 use std::alloc::{AllocError, Global};
 use std::process::ExitCode;
 

@@ -1,9 +1,8 @@
 // The marks of nodes.
 use crate::answer::{MOST, append_number};
 use crate::sites::append_sites;
-use js_count::count_nodes;
-use js_tree::{Node, NodeKind, Program, SPAN};
-use scope_marks::mark_nodes;
+use js_tree::{Node, NodeKind, Program, SPAN, count_nodes};
+use scope_walk::mark_nodes;
 use std::alloc::{AllocError, Global};
 use std::mem::replace;
 

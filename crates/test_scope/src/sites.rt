@@ -1,9 +1,8 @@
 // The sites of a program.
 use crate::answer::{MOST, append_number};
-use js_count::count_nodes;
-use js_tree::Program;
+use js_tree::{Program, count_nodes};
+use scope_context::{BindingSite, ReferenceSite, ScopeSite};
 use scope_rules::{Layer, Part};
-use scope_sites::{BindingSite, ReferenceSite, ScopeSite};
 use scope_walk::find_sites;
 use std::alloc::{AllocError, Global};
 

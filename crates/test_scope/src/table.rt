@@ -4,10 +4,9 @@ ghost use Rattle.std.specs.Prelude.{◌<◌, length};
 use crate::answer::{MOST, append_number};
 use crate::marks::append_marks;
 use bitflags::Flags;
-use js_count::count_nodes;
 use js_scoping::{Redeclaration, Reference, Scoping, Unresolved, build, scoping_matches};
 use js_syntax::{ReferenceId, ScopeId, SymbolId};
-use js_tree::Program;
+use js_tree::{Program, count_nodes};
 use std::alloc::{AllocError, Global};
 
 fn append_references(ids: &[ReferenceId], printed: &mut String) -> Result<(), AllocError> {

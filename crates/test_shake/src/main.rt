@@ -21,7 +21,7 @@ mod row;
 mod run;
 
 use crate::row::append_row;
-use outside::{StdSink, StdSource, read_all, write_all};
+use shake_streams::{StdSink, StdSource, read_all, write_all};
 use std::alloc::{AllocError, Global};
 use std::process::ExitCode;
 

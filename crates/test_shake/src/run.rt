@@ -1,6 +1,6 @@
 // Runs of the program.
-use outside::{MemSink, MemSource};
 use shake::{Status, shake};
+use shake_streams::{MemSink, MemSource};
 use std::alloc::{AllocError, Global};
 
 /// A run: its words, each with a comma behind it, which calls of its source and its sink fail, where 0 is none, and how

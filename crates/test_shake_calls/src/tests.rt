@@ -1,11 +1,10 @@
 // Programs at the limit of levels.
-use js_count::depth;
 use js_syntax::UnaryOperator;
-use js_tree::{Ident, Node, NodeKind, Program, SPAN, SourceType};
+use js_tree::{Ident, Node, NodeKind, Program, SPAN, SourceType, depth};
+use json_write::write_tree;
 use min_driver::{CompressOptions, Minifier, MinifierOptions, MinifyError};
 use std::alloc::{AllocError, Global};
 use std::test::Fail;
-use tree_write::write_tree;
 
 // A node above one other.
 fn above(alloc: Global, kind: NodeKind, child: Node) -> Result<Node, AllocError> {

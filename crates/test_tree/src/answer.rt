@@ -1,15 +1,14 @@
 // The answers.
 use crate::copied::copied;
-use crate::expression::{acts, bound, evaluates, is_silent, refers_to};
+use crate::expression::{bound, evaluates, is_silent};
 use crate::left::{cleared, passed};
 use crate::question::{Question, question_named};
 use crate::tree::tree_of;
 use crate::visited::visited;
-use js_count::{count_nodes, depth};
-use js_equal::content_eq;
-use js_tree::Program;
+use js_tree::{Program, count_nodes, depth};
+use js_tree_equal::content_eq;
+use json_write::write_tree;
 use std::alloc::{AllocError, Global};
-use tree_write::write_tree;
 
 /// One of two texts.
 pub(crate) fn either(
@@ -61,8 +60,6 @@ fn answer_of(
         Question::DirectEval => evaluates(alloc, program),
         Question::BoundNames => bound(alloc, program),
         Question::Silent => is_silent(alloc, program),
-        Question::Acts => acts(alloc, program, operand),
-        Question::Refers => refers_to(alloc, program, operand),
         Question::Visited => visited(alloc, program),
         Question::Written => shown(alloc, program),
     }

@@ -3,9 +3,8 @@ ghost use Rattle.std.specs.Prelude.{ℕ, Bool};
 ghost use Rattle.js_syntax.specs.Node.{Tree};
 
 use crate::answer::{shown, size};
-use js_clone::try_clone;
-use js_tree::{Node, Program, SPAN};
-use js_walk::{Visit, walk_program};
+use js_tree::{Node, Program, SPAN, Visit, walk_program};
+use js_tree_copy::try_clone;
 use std::alloc::{AllocError, Global};
 
 // The program, whose root has an id.

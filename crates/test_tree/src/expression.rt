@@ -1,10 +1,8 @@
 // What is asked of a program's first expression, pattern and names.
 use crate::answer::either;
 use crate::tree::first_below;
-use js_names::{as_direct_eval_call, bound_names};
-use js_steps::{may_act, refers};
-use js_tree::{Node, Program};
-use silence::may_have_side_effects;
+use js_effects::may_have_side_effects;
+use js_tree::{Node, Program, as_direct_eval_call, bound_names};
 use std::alloc::{AllocError, Global};
 
 // Of the list of statements the first one's expression, or that statement where it has none.
@@ -35,22 +33,4 @@ pub(crate) fn bound(alloc: Global, program: &Program) -> Result<String, AllocErr
 pub(crate) fn is_silent(alloc: Global, program: &Program) -> Result<String, AllocError> {
     let has_effects = may_have_side_effects(expression(program), &[], false);
     either(alloc, has_effects, "not silent", "silent")
-}
-
-pub(crate) fn acts(alloc: Global, program: &Program, declared: &str) -> Result<String, AllocError> {
-    let mut names = Vec::new(alloc);
-    for name in declared.split_whitespace() {
-        names.push(name)?;
-    }
-    let acts = may_act(names.as_slice(), expression(program));
-    either(alloc, acts, "may act", "does nothing")
-}
-
-pub(crate) fn refers_to(
-    alloc: Global,
-    program: &Program,
-    name: &str,
-) -> Result<String, AllocError> {
-    let refers = refers(alloc, name, program.root())?;
-    either(alloc, refers, "refers to it", "does not refer to it")
 }

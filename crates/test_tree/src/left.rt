@@ -1,8 +1,8 @@
 // What passes leave.
 use crate::answer::shown;
-use js_clone::try_clone;
-use js_pass::{Names, changes, clear_program, run_pass};
 use js_tree::Program;
+use js_tree_copy::try_clone;
+use min_pass::{Names, changes, clear_program, run_pass};
 use std::alloc::{AllocError, Global};
 
 fn no_names(alloc: Global) -> Names {

@@ -17,7 +17,7 @@ mod tree;
 mod visited;
 
 use answer::answer;
-use outside::{StdSink, StdSource, read_all, write_all};
+use shake_streams::{StdSink, StdSource, read_all, write_all};
 use std::alloc::{AllocError, Global};
 use std::process::ExitCode;
 

@@ -20,17 +20,13 @@ pub(crate) enum Question {
     /// Whether its first expression, or the first statement where that has none, is silent, of names that have no
     /// binding.
     Silent,
-    /// Whether it may do something where the names of the operand are declared.
-    Acts,
-    /// Whether anything in the tree refers to the operand, a name of a scope around it.
-    Refers,
     /// How many nodes a walk visits that passes by what lies below blocks.
     Visited,
     /// Its text.
     Written,
 }
 
-const QUESTIONS: [(&str, Question); 12] = [
+const QUESTIONS: [(&str, Question); 10] = [
     ("size", Question::Size),
     ("copy", Question::Copied),
     ("equal", Question::Equal),
@@ -39,8 +35,6 @@ const QUESTIONS: [(&str, Question); 12] = [
     ("eval", Question::DirectEval),
     ("names", Question::BoundNames),
     ("silent", Question::Silent),
-    ("acts", Question::Acts),
-    ("refers", Question::Refers),
     ("visits", Question::Visited),
     ("text", Question::Written),
 ];

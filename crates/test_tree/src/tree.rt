@@ -4,8 +4,8 @@
 // operators `!`, which has three levels more than these.
 use js_syntax::UnaryOperator;
 use js_tree::{Node, NodeKind, Program, SPAN, SourceType};
+use json_read::{TreeError, read_tree};
 use std::alloc::{AllocError, Global};
-use tree_read::{TreeError, read_tree};
 
 // A node above one other.
 fn above(alloc: Global, kind: NodeKind, child: Node) -> Result<Node, AllocError> {

@@ -2,8 +2,7 @@
 ghost use Rattle.std.specs.Prelude.{ℕ, Bool};
 ghost use Rattle.js_syntax.specs.Node.{Tree};
 
-use js_tree::{Node, NodeKind, Program};
-use js_walk::{Visit, walk_program};
+use js_tree::{Node, NodeKind, Program, Visit, walk_program};
 use std::alloc::{AllocError, Global};
 
 // Counts what it visits, and walks into all but blocks.

@@ -1,5 +1,5 @@
 use Rattle.std.proofs.Common.{◌≡◌, drop}
-use Rattle.js_form.specs.Rules.{has_label}
+use Rattle.form_rules.specs.Rules.{has_label}
 use Rattle.form_context.proofs.context.has_label.Given as goal
 
 abbrev pub invariant-loop-label : goal.invariant-loop-label

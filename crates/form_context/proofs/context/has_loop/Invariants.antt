@@ -1,5 +1,5 @@
 use Rattle.std.proofs.Common.{◌≡◌, drop}
-use Rattle.js_form.specs.Rules.{has_loop}
+use Rattle.form_rules.specs.Rules.{has_loop}
 use Rattle.form_context.proofs.context.has_loop.Given as goal
 
 abbrev pub invariant-loop-label : goal.invariant-loop-label

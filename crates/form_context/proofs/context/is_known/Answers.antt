@@ -1,5 +1,5 @@
 use Rattle.std.proofs.Common.{◌∙◌, sym, ap}
-use Rattle.js_form.specs.Name.{is_among}
+use Rattle.form_rules.specs.Name.{is_among}
 use Rattle.form_context.proofs.Index.{names_at, known_here, not_known_here}
 use Rattle.form_context.proofs.context.is_known.Goals as goal
 

@@ -1,5 +1,5 @@
 use Rattle.std.proofs.Common.{◌≡◌, drop, map}
-use Rattle.js_form.specs.Name.{is_among}
+use Rattle.form_rules.specs.Name.{is_among}
 use Rattle.form_context.specs.Name.{all_names}
 use Rattle.form_context.proofs.context.is_known.Given as goal
 

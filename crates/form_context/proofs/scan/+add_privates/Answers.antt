@@ -3,7 +3,7 @@ use Rattle.js_syntax.specs.Node.{row}
 use Rattle.js_tree.specs.Weight.{size_of, tree_size}
 use Rattle.js_tree.proofs.Children.{child_at, none_at}
 use Rattle.js_tree.proofs.Sizes.{item_smaller}
-use Rattle.js_form.specs.Context.{private_of, privates_of}
+use Rattle.form_rules.specs.Context.{private_of, privates_of}
 use Rattle.form_context.specs.Name.{optional}
 use Rattle.form_context.proofs.Index.{bytes_of, bytes_push}
 use Rattle.form_context.proofs.Private.{found_so_far, of_member, of_list}

@@ -1,7 +1,7 @@
 use Rattle.std.proofs.Common.{◌≡◌, ◌++◌, drop, map}
 use Rattle.js_syntax.specs.Node.{row}
 use Rattle.js_tree.specs.Weight.{size_of}
-use Rattle.js_form.specs.Context.{privates_of}
+use Rattle.form_rules.specs.Context.{privates_of}
 use Rattle.form_context.proofs.scan.+add_privates.Given as goal
 
 abbrev pub decreases-add_privates : goal.decreases-add_privates

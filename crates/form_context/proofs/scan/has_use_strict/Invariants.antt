@@ -1,6 +1,6 @@
 use Rattle.std.proofs.Common.{◌≡◌, drop}
 use Rattle.js_syntax.specs.Node.{row}
-use Rattle.js_form.specs.Context.{has_use_strict}
+use Rattle.form_rules.specs.Context.{has_use_strict}
 use Rattle.form_context.proofs.scan.has_use_strict.Given as goal
 
 abbrev pub invariant-loop-node : goal.invariant-loop-node

@@ -1,6 +1,6 @@
 use Rattle.std.proofs.Common.{◌≡◌, drop}
 use Rattle.js_syntax.specs.Node.{row}
-use Rattle.js_form.specs.Context.{is_strict_function}
+use Rattle.form_rules.specs.Context.{is_strict_function}
 use Rattle.form_context.proofs.scan.is_strict_function.Given as goal
 
 abbrev pub invariant-loop-node : goal.invariant-loop-node

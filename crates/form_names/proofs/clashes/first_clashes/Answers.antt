@@ -1,5 +1,5 @@
 use Rattle.std.proofs.Common.{◌≡◌, ◌∙◌, ◌∷◌, ap}
-use Rattle.js_form.specs.Scope.{clash, both_parameters, variable_of_catch}
+use Rattle.form_rules.specs.Scope.{clash, both_parameters, variable_of_catch}
 use Rattle.form_names.proofs.Clashing.{sorts_of, clashing_more, clashing_none}
 use Rattle.form_names.proofs.clashes.first_clashes.Goals as goal
 

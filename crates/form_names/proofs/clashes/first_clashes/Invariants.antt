@@ -1,7 +1,7 @@
 use Rattle.std.proofs.Common.{◌≡◌, ℕ, List, [], drop}
-use Rattle.js_form.specs.Break.{least}
-use Rattle.js_form.specs.Scope.{Declared, clash, both_parameters, variable_of_catch}
-use Rattle.js_form.specs.Rules.{each_breaks}
+use Rattle.form_rules.specs.Break.{least}
+use Rattle.form_rules.specs.Scope.{Declared, clash, both_parameters, variable_of_catch}
+use Rattle.form_rules.specs.Rules.{each_breaks}
 use Rattle.form_names.specs.Names.{known_at}
 use Rattle.form_names.specs.Sorts.{no_sorts}
 use Rattle.form_names.proofs.Firsts.{IsFirst}

@@ -1,5 +1,5 @@
 use Rattle.std.proofs.Common.{◌≡◌, ◌||◌, ℕ, List, drop}
-use Rattle.js_form.specs.Rules.{is_declared}
+use Rattle.form_rules.specs.Rules.{is_declared}
 use Rattle.form_names.specs.Names.{has_name}
 use Rattle.form_names.proofs.exports.declared_names.Given as goal
 

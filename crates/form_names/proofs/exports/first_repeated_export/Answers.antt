@@ -1,6 +1,6 @@
 use Rattle.std.proofs.Common.{◌≡◌, ◌∙◌, ◌∷◌, true, not, if◌then◌else◌, drop_of_length-le, ap}
 use Rattle.std.specs.Str.{bytes_eq}
-use Rattle.js_form.specs.Rules.{is_exported, repeated_exports}
+use Rattle.form_rules.specs.Rules.{is_exported, repeated_exports}
 use Rattle.form_names.specs.Names.{has_name}
 use Rattle.form_names.proofs.Firsts.{first_of_none}
 use Rattle.form_names.proofs.Known.{has_name_after}

@@ -1,6 +1,6 @@
 use Rattle.std.proofs.Common.{◌≡◌, ℕ, List, [], drop}
-use Rattle.js_form.specs.Break.{least}
-use Rattle.js_form.specs.Rules.{Exported, each_breaks, is_exported, repeated_exports}
+use Rattle.form_rules.specs.Break.{least}
+use Rattle.form_rules.specs.Rules.{Exported, each_breaks, is_exported, repeated_exports}
 use Rattle.form_names.specs.Names.{has_name}
 use Rattle.form_names.proofs.Firsts.{IsFirst}
 use Rattle.form_names.proofs.exports.first_repeated_export.Given as goal

@@ -1,5 +1,5 @@
 use Rattle.std.proofs.Common.{◌≡◌, ◌∙◌, ap, drop_of_length-le}
-use Rattle.js_form.specs.Rules.{is_declared, undeclared}
+use Rattle.form_rules.specs.Rules.{is_declared, undeclared}
 use Rattle.form_names.proofs.Firsts.{first_of_none}
 use Rattle.form_names.proofs.Repeating.{undeclared_more}
 use Rattle.form_names.proofs.exports.first_undeclared.Goals as goal

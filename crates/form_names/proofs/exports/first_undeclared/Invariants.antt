@@ -1,6 +1,6 @@
 use Rattle.std.proofs.Common.{drop}
-use Rattle.js_form.specs.Break.{least}
-use Rattle.js_form.specs.Rules.{each_breaks, undeclared}
+use Rattle.form_rules.specs.Break.{least}
+use Rattle.form_rules.specs.Rules.{each_breaks, undeclared}
 use Rattle.form_names.proofs.Firsts.{IsFirst}
 use Rattle.form_names.proofs.exports.first_undeclared.Given as goal
 

@@ -1,5 +1,5 @@
 use Rattle.std.proofs.Common.{◌≡◌, ◌∙◌, ◌∷◌, ap, drop_of_length-le}
-use Rattle.js_form.specs.Rules.{repeated_privates}
+use Rattle.form_rules.specs.Rules.{repeated_privates}
 use Rattle.form_names.proofs.Firsts.{first_of_none}
 use Rattle.form_names.proofs.Repeating.{privates_more, halves_of}
 use Rattle.form_names.proofs.privates.first_repeated_private.Goals as goal

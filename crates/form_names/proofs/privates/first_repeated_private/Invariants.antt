@@ -1,6 +1,6 @@
 use Rattle.std.proofs.Common.{◌≡◌, ℕ, List, [], drop}
-use Rattle.js_form.specs.Break.{least}
-use Rattle.js_form.specs.Rules.{Private, each_breaks, repeated_privates}
+use Rattle.form_rules.specs.Break.{least}
+use Rattle.form_rules.specs.Rules.{Private, each_breaks, repeated_privates}
 use Rattle.form_names.specs.Names.{known_at}
 use Rattle.form_names.specs.Halves.{no_halves}
 use Rattle.form_names.proofs.Firsts.{IsFirst}

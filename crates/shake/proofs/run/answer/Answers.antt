@@ -1,5 +1,5 @@
 use Rattle.std.proofs.Common.{List, ℕ, subst}
-use Rattle.tree_text.specs.Answer.{IsCauseOf}
+use Rattle.json_text.specs.Answer.{IsCauseOf}
 use Rattle.shake.proofs.Answering.{refused, tree_answers, tree_says}
 use Rattle.shake.proofs.run.answer.Goals as goal
 

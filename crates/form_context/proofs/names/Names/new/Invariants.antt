@@ -2,7 +2,7 @@ use Rattle.std.proofs.Common.{◌≡◌, ℕ, List, map, take}
 use Rattle.std.specs.Ordering.{nat_cmp}
 use Rattle.std.specs.Cmp.Lexicographic.{slice_cmp}
 use Rattle.std.specs.BTreeSet.{contains_by}
-use Rattle.js_form.specs.Name.{is_among}
+use Rattle.form_rules.specs.Name.{is_among}
 use Rattle.form_context.proofs.names.Names.new.Given as goal
 
 abbrev pub invariant-loop-name : goal.invariant-loop-name

@@ -1,3 +1,0 @@
-pub mod Clear
-pub mod Hoisted
-pub mod Catches

@@ -1,6 +1,0 @@
-use Rattle.core_steps.proofs.Sound.{module_refines}
-use Rattle.core_steps.proofs.Known.{known}
-use Rattle.core_steps.proofs.laws.steps_refine_core_modules.Goals as goal
-
-pub returns : goal.returns
-returns c n m a u s f w e = module_refines known n m a u s (record { fits = f; well_formed = w; core = e })

@@ -1,5 +1,0 @@
-use Rattle.declared_names.proofs.Keys.{has_after}
-use Rattle.declared_names.proofs.places.add.Goals as goal
-
-pub returns : goal.returns
-returns c = λ s q. has_after (c.args.scope, c.args.name) c.args.places.now c.insert.new.self c.in_ok-insert.ensures.updates s q

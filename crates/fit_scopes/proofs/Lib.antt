@@ -1,3 +1,0 @@
-pub mod Shut
-pub mod Sets
-pub mod Enclosing

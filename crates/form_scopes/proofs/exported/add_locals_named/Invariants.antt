@@ -1,7 +1,0 @@
-use Rattle.std.proofs.Common.{◌≡◌, ◌++◌, drop}
-use Rattle.js_syntax.specs.Node.{row}
-use Rattle.js_form.specs.Rules.{locals_named}
-use Rattle.form_scopes.proofs.exported.add_locals_named.Given as goal
-
-abbrev pub invariant-loop-specifier : goal.invariant-loop-specifier
-invariant-loop-specifier l = l.found.items ++ locals_named l.place (row (drop l.specifier-index l.specifiers)) ≡ l.fn.found.items ++ locals_named l.place (row l.specifiers)

@@ -1,9 +1,0 @@
-pub mod Fewer
-pub mod Names
-pub mod Rows
-pub mod Exports
-pub mod Seen
-pub mod Parts
-pub mod Contexts
-pub mod Rules
-pub mod Form

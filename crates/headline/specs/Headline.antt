@@ -1,0 +1,32 @@
+-- What shaking promises: the definitions that the contracts of `shake` and `Minifier::dce` speak of.
+--
+-- A program is its tree (`Forest`, js_syntax/specs/Node). A host runs it by a script, with a bound on entries of functions and
+-- loops; a run is what the host sees, event by event, and how it ends (js_meaning/specs/Run, Trace, docs/MEANING.md).
+use Rattle.std.specs.Prelude.{◌≡◌, Bool, true, false}
+use Rattle.js_syntax.specs.declared.node_kind.NodeKind.{NodeKind as Kind}
+use Rattle.js_syntax.specs.declared.scalar.SourceType.TheVariants as source_type
+use Rattle.js_syntax.specs.Node.{Forest, node}
+-- each run of the first is one of the second: the same where it ends or the host stops it, else a front of it; and the way back
+pub use Rattle.js_meaning.specs.Kept.{Kept, KeptBack}
+-- changes one after the other, each at one place and allowed on the tree as it is then
+pub use Rattle.steps_allowed.specs.Removes.{Removals}
+-- a pass over the tree would change something
+pub use Rattle.min_passes.specs.Passes.{has_next}
+-- whether all nodes are of the core of the language, for which runs are defined (js_syntax/specs/Facts)
+pub use Rattle.steps.specs.Steps.{all_core}
+
+abbrev pub is_core_module : Forest → Bool
+is_core_module (node (Kind.Program source_type.Module) n a r) = all_core (node (Kind.Program source_type.Module) n a r)
+is_core_module t = false
+
+-- Of two programs the second is the first without its dead code.
+pub record Headline (t u : Forest) : Type 0 where
+  -- changes lead from the one to the other: nothing else is done to the tree, whatever its nodes and its source type
+  pub steps : Removals t u
+  -- of a core module every run is kept: for every script and bound
+  pub kept : is_core_module t ≡ true → Kept t u
+  -- where a run of what is left ends or is stopped by the host, the old one was the same within the same bound, unless it was
+  -- uncovered
+  pub back : is_core_module t ≡ true → KeptBack t u
+  -- nothing is left that may go
+  pub clean : has_next u ≡ false

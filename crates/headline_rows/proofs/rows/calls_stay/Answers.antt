@@ -1,6 +1,0 @@
-use Rattle.std.proofs.Common.{refl}
-use Rattle.headline_rows.proofs.Refused.{call_shown}
-use Rattle.headline_rows.proofs.rows.calls_stay.Goals as goal
-
-pub returns : goal.returns
-returns c = record { kept = call_shown; refused = λ h. call_shown (h.kept refl) }

@@ -1,6 +1,0 @@
-use Rattle.std.proofs.Common.{refl}
-use Rattle.headline_rows.proofs.Refused.{export_shown}
-use Rattle.headline_rows.proofs.rows.exports_stay.Goals as goal
-
-pub returns : goal.returns
-returns c = record { kept = export_shown; refused = λ h. export_shown (h.kept refl) }

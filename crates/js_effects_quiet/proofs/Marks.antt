@@ -1,0 +1,62 @@
+-- What may have no effects by its marks is silent where the marks are true.
+use Rattle.std.proofs.Common.{◌≡◌, ◌⊎◌, inl, inr, List, Bool, true, false, not, ◌&&◌, ◌||◌, if◌then◌else◌, bytes_eq, codes, refl, sym, true≢false}
+use Rattle.js_syntax.specs.declared.node_kind.NodeKind.{NodeKind as Kind}
+use Rattle.js_syntax.specs.Node.{Forest, nothing, node, absent, Note}
+use Rattle.js_effects.specs.Silence.{is_value, runs_its_parts, is_marked, is_known, has_effect, may_have_effects}
+use Rattle.js_meaning.specs.Value.{Text, Env}
+use Rattle.js_effects_quiet.specs.Silent.{HasBinding, IsFound, IsSilent, SilentRow, HoldsAt, HoldsOfBound, Known}
+use Rattle.js_syntax.proofs.Truth.{first_of_neither, second_of_neither}
+
+-- what has no effect is a value, or a name that is known outside of `with`, or runs its parts
+pub by_sort : (v w k r b : Bool) → (if v || (not w && k) then false else not r || b) ≡ false → (v ≡ true) ⊎ (((w ≡ false) × (k ≡ true)) ⊎ ((r ≡ true) × (b ≡ false)))
+by_sort true w k r b e = inl refl
+by_sort false false true r b e = inr (inl (refl, refl))
+by_sort false true k true b e = inr (inr (refl, e))
+by_sort false false false true b e = inr (inr (refl, e))
+by_sort false true k false b e = absurd (true≢false e)
+by_sort false false false false b e = absurd (true≢false e)
+
+pub found : (env : Env) (x : Text) (b c : Bool) → (b || c) ≡ true → (b ≡ true → HasBinding env x) → HasBinding env x ⊎ (c ≡ true)
+found env x true c e h = inl (h refl)
+found env x false c e h = inr e
+
+pub known_found : (bound : List Bool) (env : Env) (k : Kind) (n : Note) (below : Type 0) → is_known bound k n ≡ true → HoldsAt (HasBinding env) bound k n below → IsFound env k
+known_found bound env (Kind.ReferenceName x) n below e h = found env x (is_marked bound n.id) (bytes_eq x (codes "undefined")) e h
+known_found bound env k n below e h = absurd (true≢false (sym e))
+
+-- what runs its parts asks for the names below it
+pub holds_below : (Holds : Text → Type 0) (bound : List Bool) (k : Kind) (n : Note) (below : Type 0) → runs_its_parts k ≡ true → HoldsAt Holds bound k n below → below
+holds_below Holds bound (Kind.ReferenceName x) n below e h = absurd (true≢false (sym e))
+holds_below Holds bound (Kind.Function f pure) n below e h = absurd (true≢false (sym e))
+holds_below Holds bound k n below e h = h
+
+silent_node : (bound : List Bool) (in_with : Bool) (env : Env) (k : Kind) (n : Note) (a : Forest)
+    → has_effect bound in_with k n (may_have_effects bound in_with a) ≡ false → (in_with ≡ false → HoldsAt (HasBinding env) bound k n (Known bound env a))
+    → (may_have_effects bound in_with a ≡ false → (in_with ≡ false → Known bound env a) → SilentRow env a) → IsSilent env k (SilentRow env a)
+silent_node bound in_with env k n a e h below = by (by_sort (is_value k) in_with (is_known bound k n) (runs_its_parts k) (may_have_effects bound in_with a) e)
+  where
+    by : ((is_value k ≡ true) ⊎ (((in_with ≡ false) × (is_known bound k n ≡ true)) ⊎ ((runs_its_parts k ≡ true) × (may_have_effects bound in_with a ≡ false)))) → IsSilent env k (SilentRow env a)
+    by (inl v) = inl v
+    by (inr (inl v)) = inr (inl (known_found bound env k n (Known bound env a) v.1 (h v.0)))
+    by (inr (inr v)) = inr (inr (v.0, below v.1 (λ w. holds_below (HasBinding env) bound k n (Known bound env a) v.0 (h w))))
+
+-- inside of `with` no name is known, so nothing is asked of names there
+pub silent_row : (bound : List Bool) (in_with : Bool) (env : Env) (t : Forest) → may_have_effects bound in_with t ≡ false → (in_with ≡ false → Known bound env t) → SilentRow env t
+silent_row bound in_with env nothing e h = tt
+silent_row bound in_with env (absent r) e h = silent_row bound in_with env r e h
+silent_row bound in_with env (node k n a r) e h = (
+  silent_node bound in_with env k n a (first_of_neither _ _ e) (λ w. (h w).0) (silent_row bound in_with env a),
+  silent_row bound in_with env r (second_of_neither (has_effect bound in_with k n (may_have_effects bound in_with a)) _ e) (λ w. (h w).1),
+)
+
+-- names
+
+holds_at : {P Q : Text → Type 0} {A B : Type 0} (bound : List Bool) → ((x : Text) → P x → Q x) → (A → B) → (k : Kind) (n : Note) → HoldsAt P bound k n A → HoldsAt Q bound k n B
+holds_at bound f g (Kind.ReferenceName x) n h = λ e. f x (h e)
+holds_at bound f g (Kind.Function how pure) n h = tt
+holds_at bound f g k n h = g h
+
+pub holds_too : (P Q : Text → Type 0) (bound : List Bool) → ((x : Text) → P x → Q x) → (t : Forest) → HoldsOfBound P bound t → HoldsOfBound Q bound t
+holds_too P Q bound f nothing h = tt
+holds_too P Q bound f (absent r) h = holds_too P Q bound f r h
+holds_too P Q bound f (node k n a r) h = (holds_at bound f (holds_too P Q bound f a) k n h.0, holds_too P Q bound f r h.1)

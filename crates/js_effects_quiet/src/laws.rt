@@ -1,0 +1,69 @@
+// The laws of silence. Each is a contract, so that the check proves it.
+ghost use Rattle.std.specs.Prelude.{◌≡◌, ◌⊎◌, List, [], Bool, true, false};
+ghost use Rattle.js_syntax.specs.declared.node_kind.NodeKind.{NodeKind as Kind};
+ghost use Rattle.js_syntax.specs.Node.{Forest, Note, alone};
+ghost use Rattle.js_effects.specs.Silence.{may_have_effects};
+ghost use Rattle.js_meaning.specs.Value.{Text, Env, this_name, Value};
+ghost use Rattle.js_meaning.specs.Trace.{Ending};
+ghost use Rattle.js_meaning.specs.State.{State, gives, goes, stops, M};
+ghost use Rattle.js_meaning.specs.Host.{Enter};
+ghost use Rattle.js_meaning.specs.Node.{run};
+ghost use Rattle.js_meaning.specs.Meaning.{eval};
+ghost use Rattle.js_effects_quiet.specs.Quiet.{OnlyAllocates, Quietly, IsNormal, Quiet};
+ghost use Rattle.js_effects_quiet.specs.Forms.{acts};
+ghost use Rattle.js_effects_quiet.specs.Silent.{HasBinding, SilentRow, HoldsOfBound, Known, QuietNode, QuietRow, meaning};
+
+/// What is silent in an environment is quiet there, whatever it is asked.
+pub fn silent_rows_are_quiet()
+    ensures { (env : Env) (E : Enter) (t : Forest) → SilentRow env t → QuietRow env (eval E t) }
+{}
+
+/// What has no effects is quiet, whatever it is asked, where the names that are marked as bound have
+/// bindings.
+pub fn silence_is_quiet()
+    ensures { (bound : List Bool) (env : Env) (E : Enter) (t : Forest) → may_have_effects bound false t ≡ false → Known bound env t → QuietRow env (eval E t) }
+{}
+
+/// What has no effects inside of `with`, where no name is known, is quiet in every environment.
+pub fn silence_inside_with_is_quiet()
+    ensures { (bound : List Bool) (env : Env) (E : Enter) (t : Forest) → may_have_effects bound true t ≡ false → QuietRow env (eval E t) }
+{}
+
+/// The same of one node: asked for its value, it is quiet.
+pub fn a_silent_node_is_quiet()
+    ensures { (bound : List Bool) (env : Env) (E : Enter) (k : Kind) (n : Note) (a : Forest) →
+        may_have_effects bound false (alone k n a) ≡ false → Known bound env (alone k n a) → QuietNode env (meaning E k a) }
+{}
+
+/// A statement of a silent expression completes normally, and that is all.
+pub fn a_silent_statement_is_quiet()
+    ensures { (bound : List Bool) (env : Env) (E : Enter) (a : Forest) (ls : List Text) →
+        may_have_effects bound false a ≡ false → Known bound env a → Quietly IsNormal (meaning E Kind.ExpressionStatement a (run ls) env) }
+{}
+
+/// All silent forms of core nodes are quiet, whatever they are asked, where the names that are marked as
+/// bound have bindings, and `this` has one.
+pub fn silent_forms_are_quiet()
+    ensures row { (bound : List Bool) (env : Env) (E : Enter) → HasBinding env this_name → (t : Forest) → acts bound t ≡ false → Known bound env t → QuietRow env (eval E t) }
+    ensures statement { (bound : List Bool) (env : Env) (E : Enter) → HasBinding env this_name → (a : Forest) (ls : List Text) →
+        acts bound a ≡ false → Known bound env a → Quietly IsNormal (meaning E Kind.ExpressionStatement a (run ls) env) }
+{}
+
+/// What the remover takes out as silent is one of these forms.
+pub fn what_is_taken_is_a_silent_form()
+    ensures { (bound : List Bool) (t : Forest) → may_have_effects bound false t ≡ false → acts bound t ≡ false }
+{}
+
+/// What quiet says: from every state the computation gives a value without an event, by allocation
+/// only, or meets an uncovered act without an event.
+pub fn quiet_only_allocates()
+    ensures { (m : M) → Quiet m → (s : State) →
+        (m s ≡ stops [] Ending.uncovered) ⊎ ((v r : Value) × (z : State) × (m s ≡ goes [] z (gives v r)) × OnlyAllocates s z) }
+{}
+
+/// In an environment that binds all names that a scope is said to declare, the marks are true where
+/// they mark no other names.
+pub fn declared_names_are_known()
+    ensures { (declares : Text → Bool) (bound : List Bool) (env : Env) → ((x : Text) → declares x ≡ true → HasBinding env x) →
+        (t : Forest) → HoldsOfBound (λ x. declares x ≡ true) bound t → Known bound env t }
+{}

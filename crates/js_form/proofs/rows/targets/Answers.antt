@@ -1,7 +1,0 @@
-use Rattle.std.proofs.Common.{refl}
-use Rattle.tree_text.specs.Text.{is_identifier_name}
-use Rattle.js_form.proofs.rows.targets.Goals as goal
-
-pub returns : goal.returns
-unfolding is_identifier_name
-returns c = (refl, (refl, (refl, (refl, (refl, (refl, (refl, (refl, (refl, (refl, tt))))))))))

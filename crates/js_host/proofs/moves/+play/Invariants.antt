@@ -1,5 +1,0 @@
-use Rattle.std.proofs.Common.{length}
-use Rattle.js_host.proofs.moves.+play.Given as goal
-
-abbrev pub decreases-play : goal.decreases-play
-decreases-play l = length l.moves.now

@@ -1,5 +1,0 @@
-use Rattle.std.proofs.Common.{length}
-use Rattle.js_instantiate.proofs.exports.+insert.Given as goal
-
-abbrev pub decreases-insert : goal.decreases-insert
-decreases-insert l = length l.others.now

@@ -1,5 +1,0 @@
-use Rattle.std.proofs.Common.{length}
-use Rattle.js_instantiate.proofs.exports.+resolve.Given as goal
-
-abbrev pub decreases-resolve : goal.decreases-resolve
-decreases-resolve l = length l.entries.now

@@ -1,5 +1,0 @@
-use Rattle.std.proofs.Common.{◌≡◌, ◌++◌, drop}
-use Rattle.js_instantiate.proofs.exports.copy_all.Given as goal
-
-abbrev pub invariant-loop-export : goal.invariant-loop-export
-invariant-loop-export l = l.copies.items ++ drop l.export-index l.exports ≡ l.exports

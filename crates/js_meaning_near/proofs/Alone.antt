@@ -1,0 +1,181 @@
+-- What the old run does alone: it ends in a state that is related to the same state of the new run, or is uncovered.
+use Rattle.std.proofs.Common.{◌≡◌, ℕ, [], Option, Some, None, refl, sym, ◌∙◌, subst}
+use Rattle.std.specs.Prelude.{Bool, true, false}
+use Rattle.js_syntax.specs.declared.node_kind.NodeKind.{NodeKind as Kind}
+use Rattle.js_syntax.specs.declared.kind.VariableKind.{VariableKind}
+use Rattle.js_syntax.specs.declared.kind.VariableKind.TheVariants as variable
+use Rattle.js_syntax.specs.Node.{Forest, nothing, node, absent}
+use Rattle.js_meaning.specs.Value.{Text, Slot, Env, Value, undef}
+use Rattle.js_meaning.specs.Trace.{Ending}
+use Rattle.js_meaning.specs.State.{State, Cell, Completion, normal, gives, Out, goes, stops, M, more, go_on, bind, done, stop, unknown, if_normal, seq, if_gives, with_value, read, store}
+use Rattle.js_meaning.specs.Scope.{initialised, fill}
+use Rattle.js_meaning.specs.Host.{Enter}
+use Rattle.js_meaning.specs.Node.{Ask, run, declares, now, Meaning, Parts, need, may, each}
+use Rattle.js_meaning.specs.Statement.{declarator}
+use Rattle.js_meaning.specs.Meaning.{eval}
+use Rattle.js_meaning_near.specs.Quiet.{OnlyAllocates, EndsQuietly, gives_quietly, stops_quietly, Quiet}
+use Rattle.js_meaning_near.specs.Names.{Status, Lone, Names}
+use Rattle.js_meaning_near.specs.Near.{meaning, Silent, NoField, Idle, idle_empty, idle_expression, idle_no_expression, idle_function, idle_declarator, idle_bare_declarator, idle_cut_declarator, idle_declaration, AllIdle, all_idle, one_idle}
+use Rattle.js_meaning_near.proofs.Worlds.{Rule, left, both, World, In, Sub, same, later, links_up}
+use Rattle.js_meaning_near.proofs.Relations.{LeftSlot, left_local, left_import, left_arguments, At, at_nowhere, at_live, at_known, at_dead, at_unread, Envs, SameOpt, SameAll, SameCell, same_normal, Obeys, SameExports, States, trace, Follows, both_go, old_stops, Acts}
+use Rattle.js_meaning_near.proofs.Acts.{acts_later, follows_back, nothing_more, stored_left}
+use Rattle.js_meaning_near.proofs.Scopes.{envs_bind}
+
+-- how it ends: true: as a statement that is over; false: as an expression with its value
+pub data Ends : Bool → Completion → Type 0 where
+  ends_normal : Ends true normal
+  ends_gives : {v r : Value} → Ends false (gives v r)
+
+pub data Still (w : World) (b : Bool) (z : State) : Out → Type 0 where
+  still : {s : State} {w2 : World} {c : Completion} → Sub w w2 → States w2 s z → Ends b c → Still w b z (goes [] s c)
+  stopped : Still w b z (stops [] Ending.uncovered)
+
+pub record Alone (w : World) (b : Bool) (m : M) : Type 0 where
+  pub alone : (w2 : World) → Sub w w2 → (s z : State) → States w2 s z → Still w2 b z (m s)
+
+alone_later : {w w2 : World} {b : Bool} {m : M} → Sub w w2 → Alone w b m → Alone w2 b m
+alone_later g a = record { alone = λ w3 h s z r. a.alone w3 (later g h) s z r }
+
+still_back : {w w2 : World} {b : Bool} {z : State} {o : Out} → Sub w w2 → Still w2 b z o → Still w b z o
+still_back g (still h r e) = still (later g h) r e
+still_back g stopped = stopped
+
+still_more : {w : World} {b : Bool} {z : State} {o : Out} → Still w b z o → Still w b z (more [] o)
+still_more (still h r e) = still h r e
+still_more stopped = stopped
+
+alone_done : {w : World} {b : Bool} {c : Completion} → Ends b c → Alone w b (done c)
+unfolding done
+alone_done e = record { alone = λ w2 h s z r. still (same w2) r e }
+
+alone_unknown : {w : World} {b : Bool} → Alone w b unknown
+unfolding stop
+alone_unknown = record { alone = λ w2 h s z r. stopped }
+
+-- a quiet expression
+
+allocated_states : {w : World} {s t z : State} → OnlyAllocates s t → States w s z → States w t z
+allocated_states {w = w} {s = s} {t = t} {z = z} o r = record {
+  budget = o.budget ∙ r.budget;
+  links = links_up t.fresh o.fresh r.links;
+  cells = record { linked = λ a b p k u. subst (λ c. SameCell w c (z.store b)) (sym (kept a b p k)) (r.cells.linked a b p k u); obeyed = λ a b p k. subst (Obeys p) (sym (kept a b p k)) (r.cells.obeyed a b p k) };
+  globals = λ x. subst (λ g. SameOpt w g (z.globals x)) (sym (o.globals x)) (r.globals x);
+  imports = λ source x. subst (λ g. SameOpt w g (z.imports source x)) (sym (o.imports source x)) (r.imports source x);
+  shown = subst (λ g. SameAll w g z.shown) (sym o.shown) r.shown;
+  moves = o.moves ∙ r.moves;
+  exports = subst (λ g. SameExports w g z.exports) (sym o.exports) r.exports;
+  stars = o.stars ∙ r.stars;
+}
+  where
+    kept : (a b : ℕ) (p : Rule) → In (both a b p) w → t.store a ≡ s.store a
+    kept a b p k = o.store a (r.links.below a b p k).0
+
+quiet_still : {w : World} {s z : State} {p : Out} → EndsQuietly s p → States w s z → Still w false z p
+quiet_still {w = w} (gives_quietly o) r = still (same w) (allocated_states o r) ends_gives
+quiet_still stops_quietly r = stopped
+
+pub quiet_alone : {w : World} {m : M} → Quiet m → Alone w false m
+quiet_alone q = record { alone = λ w2 h s z r. quiet_still (q.quiet s) r }
+
+-- one after the other
+
+still_value : {w : World} {b : Bool} {z : State} {o : Out} (f : Value → M) → ((v : Value) → Alone w b (f v)) → Still w false z o → Still w b z (go_on o (if_gives (λ v r. f v)))
+still_value f a (still {w2 = w2} h r (ends_gives {v = v})) = still_more (still_back h ((a v).alone w2 h _ _ r))
+still_value f a stopped = stopped
+
+pub alone_value : {w : World} {b : Bool} {m : M} {f : Value → M} → Alone w false m → ((v : Value) → Alone w b (f v)) → Alone w b (with_value m f)
+unfolding bind
+alone_value {f = f} a c = record { alone = λ w2 h s z r. still_value f (λ v. alone_later h (c v)) (a.alone w2 h s z r) }
+
+still_seq : {w : World} {z : State} {o : Out} (n : M) → Alone w true n → Still w true z o → Still w true z (go_on o (if_normal n))
+still_seq n a (still {w2 = w2} h r ends_normal) = still_more (still_back h (a.alone w2 h _ _ r))
+still_seq n a stopped = stopped
+
+alone_seq : {w : World} {m n : M} → Alone w true m → Alone w true n → Alone w true (seq m n)
+unfolding bind
+alone_seq {n = n} a b = record { alone = λ w2 h s z r. still_seq n (alone_later h b) (a.alone w2 h s z r) }
+
+-- then both go on alike
+
+follows_seq : {w : World} {z : State} {o : Out} (n k : M) → Acts w n k → Still w true z o → Follows w (go_on o (if_normal n)) (k z)
+follows_seq n k a (still {w2 = w2} h r ends_normal) = nothing_more (n _) (follows_back h (a.act w2 h _ _ r))
+follows_seq {z = z} n k a stopped = old_stops (trace (k z), refl)
+
+pub seq_alone : {w : World} {m n k : M} → Alone w true m → Acts w n k → Acts w (seq m n) k
+unfolding bind
+seq_alone {n = n} {k = k} a b = record { act = λ w2 h s z r. follows_seq n k (acts_later h b) (a.alone w2 h s z r) }
+
+follows_done : {w : World} {z : State} {o : Out} → Still w true z o → Follows w o (goes [] z normal)
+follows_done (still h r ends_normal) = both_go h r same_normal
+follows_done {z = z} stopped = old_stops ([], refl)
+
+-- the new run does nothing in its place
+pub alone_nothing : {w : World} {m : M} → Alone w true m → Acts w m (done normal)
+unfolding done
+alone_nothing a = record { act = λ w2 h s z r. follows_done (a.alone w2 h s z r) }
+
+-- names that only the old run knows
+
+alone_read : {w : World} {b : Bool} {f : Cell → M} (i : ℕ) → ((c : Cell) → Alone w b (f c)) → Alone w b (read i f)
+unfolding read
+alone_read i a = record { alone = λ w2 h s z r. (a (s.store i)).alone w2 h s z r }
+
+alone_store : {w : World} {b : Bool} {m : M} (i : ℕ) (c : Cell) → In (left i) w → Alone w b m → Alone w b (store i c m)
+unfolding store
+alone_store i c l a = record { alone = λ w2 h s z r. a.alone w2 h _ z (stored_left i c (h _ l) r) }
+
+alone_slot : {w : World} {s : Slot} (v : Value) → LeftSlot w s → Alone w true (fill (Some s) v (done normal))
+alone_slot v (left_local {c = c} l) = alone_read c (λ old. alone_store c (initialised old v) l (alone_done ends_normal))
+alone_slot v left_import = alone_unknown
+alone_slot v left_arguments = alone_unknown
+
+alone_fill : {w : World} {t : Status} {o p : Option Slot} (v : Value) → Lone t → At w t o p → Alone w true (fill o v (done normal))
+alone_fill v y (at_dead l) = alone_slot v l
+alone_fill v y (at_unread l n) = alone_slot v l
+alone_fill v y at_nowhere = absurd y
+alone_fill v y (at_live l) = absurd y
+alone_fill v y (at_known l) = absurd y
+
+-- items that may leave
+
+silent_alone : {w : World} {st : Names} {k : Kind} {a : Forest} {e f : Env} (E : Enter) → Silent st k a → Envs w st e f → Alone w false (meaning E k a now e)
+silent_alone {e = e} E q r = quiet_alone (q.silent E e (envs_bind r))
+
+pub silent_statement : {w : World} {st : Names} {k : Kind} {a : Forest} {e f : Env} (E : Enter) → Silent st k a → Envs w st e f → Alone w true (with_value (meaning E k a now e) (λ v. done normal))
+silent_statement E q r = alone_value (silent_alone E q r) (λ v. alone_done ends_normal)
+
+bare_declarator : {w : World} {st : Names} {e f : Env} (E : Enter) (x : Text) (a : Forest) (how : VariableKind) → Lone (st x) → Envs w st e f → Alone w true (declarator how (meaning E (Kind.BindingName x) a) None e)
+bare_declarator E x a variable.Var d r = alone_done ends_normal
+bare_declarator E x a variable.Let d r = alone_fill undef d (r.at x)
+bare_declarator E x a variable.Const d r = alone_fill undef d (r.at x)
+
+pub no_expression : {w : World} {b : Bool} (E : Enter) (a : Forest) (k : Meaning → Parts → M) → NoField a → Alone w b (need (eval E a) k)
+unfolding need eval
+no_expression E nothing j y = alone_unknown
+no_expression E (absent r) j y = alone_unknown
+no_expression E (node k n a r) j y = absurd y
+
+mutual
+  unfolding need may eval each
+
+  pub idle_alone : {w : World} {st : Names} {k : Kind} {a : Forest} {e f : Env} (E : Enter) (q : Ask) → Idle st k a → Envs w st e f → Alone w true (meaning E k a q e)
+  idle_alone E (run ls) idle_empty r = alone_done ends_normal
+  idle_alone E (run ls) (idle_expression x) r = silent_statement E x r
+  idle_alone E (run ls) (idle_no_expression {a = a} y) r = no_expression E a _ y
+  idle_alone E (run ls) (idle_function d) r = alone_done ends_normal
+  idle_alone E (run ls) (idle_declaration {how = how} x) r = all_alone E (declares how) x r
+  idle_alone E (declares how) (idle_declarator {x = x} d y) r = alone_value (silent_alone E y r) (λ v. alone_fill v d (r.at x))
+  idle_alone E (declares how) (idle_bare_declarator {x = x} {a = a} d) r = bare_declarator E x a how d r
+  idle_alone E _ (idle_no_expression y) r = alone_unknown
+  idle_alone E (declares how) idle_cut_declarator r = alone_unknown
+  idle_alone E _ idle_cut_declarator r = alone_unknown
+  idle_alone E _ idle_empty r = alone_unknown
+  idle_alone E _ (idle_expression x) r = alone_unknown
+  idle_alone E _ (idle_function d) r = alone_unknown
+  idle_alone E _ (idle_declaration x) r = alone_unknown
+  idle_alone E _ (idle_declarator d y) r = alone_unknown
+  idle_alone E _ (idle_bare_declarator d) r = alone_unknown
+
+  all_alone : {w : World} {st : Names} {a : Forest} {e f : Env} (E : Enter) (q : Ask) → AllIdle st a → Envs w st e f → Alone w true (each q (eval E a) e)
+  all_alone E q all_idle r = alone_done ends_normal
+  all_alone E q (one_idle x y) r = alone_seq (idle_alone E q x r) (all_alone E q y r)

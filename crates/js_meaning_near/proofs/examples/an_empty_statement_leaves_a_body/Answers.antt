@@ -1,0 +1,5 @@
+use Rattle.js_meaning_near.proofs.Instances.{empty_leaves_body}
+use Rattle.js_meaning_near.proofs.examples.an_empty_statement_leaves_a_body.Goals as goal
+
+pub returns : goal.returns
+returns c = empty_leaves_body

@@ -1,0 +1,6 @@
+use Rattle.js_meaning_near.specs.Fit.{whole}
+use Rattle.js_meaning_near.proofs.Fit.{fit}
+use Rattle.js_meaning_near.proofs.laws.what_fits_is_near_itself.Goals as goal
+
+pub returns : goal.returns
+returns c = fit whole

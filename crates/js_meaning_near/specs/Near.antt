@@ -1,0 +1,156 @@
+-- Which rows of nodes are near one another: the new one is the old one, but for changes that no run shows.
+use Rattle.std.specs.Prelude.{Bool, true, false, List, [], ◌∷◌, Option, Some, None, ◌≡◌}
+use Rattle.js_syntax.specs.declared.node_kind.NodeKind.{NodeKind as Kind}
+use Rattle.js_syntax.specs.declared.kind.FunctionKind.{FunctionKind}
+use Rattle.js_syntax.specs.declared.kind.FunctionKind.TheVariants as function_kind
+use Rattle.js_syntax.specs.declared.kind.VariableKind.{VariableKind}
+use Rattle.js_syntax.specs.declared.scalar.SourceType.TheVariants as source_type
+use Rattle.js_syntax.specs.Node.{Note, Forest, nothing, node, absent, below_of}
+use Rattle.js_syntax.specs.Facts.{is_core}
+use Rattle.js_syntax.specs.declared.value.LiteralValue.{LiteralValue as Literal}
+use Rattle.js_meaning.specs.Value.{Text, Env, this_name, Plain, plain, literal_value}
+use Rattle.js_meaning.specs.Scope.{waiting, named_so, first_of, behind, first_name, lexical, function_decls, own_name, default_name, module_decls}
+use Rattle.js_meaning.specs.Host.{Enter}
+use Rattle.js_meaning.specs.Module.{Entry, entry_local, entry_import, entries, stars, requests}
+use Rattle.js_meaning.specs.Node.{Meaning, now}
+use Rattle.js_meaning.specs.Expression.{static_key}
+use Rattle.js_meaning.specs.Meaning.{does, if_core, eval}
+use Rattle.js_meaning_near.specs.Quiet.{Quiet}
+use Rattle.js_meaning_near.specs.Names.{Names, no_names, unread, known, Lone, Usable, Writable, Fillable, FillableIf, Binds, Decls, Copied, declared, names_below}
+
+-- what a node does in a row
+abbrev pub meaning : Enter → Kind → Forest → Meaning
+meaning E k a = if_core (is_core k) (does E k a (eval E a))
+
+-- An expression that does nothing but give a value, wherever the declared names are bound.
+pub record Silent (st : Names) (k : Kind) (a : Forest) : Type 0 where
+  pub silent : (E : Enter) (env : Env) → Binds st env → Quiet (meaning E k a now env)
+
+-- a row without a node in front: where an expression should stand there, the node is uncovered
+abbrev pub NoField : Forest → Type 0
+NoField (node k n a r) = ⊥
+NoField _ = Unit {0}
+
+-- An item that may leave a list: of statements, or of declarators.
+mutual
+  pub data Idle (st : Names) : Kind → Forest → Type 0 where
+    idle_empty : {a : Forest} → Idle st Kind.EmptyStatement a
+    idle_expression : {k : Kind} {n : Note} {a r : Forest} → Silent st k a → Idle st Kind.ExpressionStatement (node k n a r)
+    idle_no_expression : {a : Forest} → NoField a → Idle st Kind.ExpressionStatement a
+    idle_function : {pure : Bool} {x : Text} {n : Note} {a r : Forest} → Lone (st x) → Idle st (Kind.Function function_kind.Declaration pure) (node (Kind.BindingName x) n a r)
+    idle_declarator : {x : Text} {k : Kind} {n m : Note} {a b r : Forest} → Lone (st x) → Silent st k b → Idle st Kind.VariableDeclarator (node (Kind.BindingName x) n a (node k m b r))
+    idle_bare_declarator : {x : Text} {n : Note} {a r : Forest} → Lone (st x) → Idle st Kind.VariableDeclarator (node (Kind.BindingName x) n a (absent r))
+    idle_cut_declarator : {x : Text} {n : Note} {a : Forest} → Idle st Kind.VariableDeclarator (node (Kind.BindingName x) n a nothing)
+    idle_declaration : {how : VariableKind} {n : Note} {a r : Forest} → AllIdle st a → Idle st (Kind.VariableDeclaration how) (node Kind.Declarators n a r)
+
+  pub data AllIdle (st : Names) : Forest → Type 0 where
+    all_idle : AllIdle st nothing
+    one_idle : {k : Kind} {n : Note} {a r : Forest} → Idle st k a → AllIdle st r → AllIdle st (node k n a r)
+
+-- A node, and what may stand in its place.
+pub data Change (st : Names) : Kind → Forest → Kind → Forest → Type 0 where
+  -- a statement that nobody can tell becomes empty
+  statement_emptied : {k : Kind} {n : Note} {a r b : Forest} → Silent st k a → Change st Kind.ExpressionStatement (node k n a r) Kind.EmptyStatement b
+  no_statement_emptied : {a b : Forest} → NoField a → Change st Kind.ExpressionStatement a Kind.EmptyStatement b
+  -- a read of a name that holds a known value
+  value_read : {x : Text} {p : Plain} {v : Literal} {a b : Forest} → st x ≡ known p → literal_value v ≡ plain p → Change st (Kind.ReferenceName x) a (Kind.Literal v) b
+
+-- How the nodes of a row stand: in a field each; in the fields of a switch; or in a list that items may leave.
+pub data Row : Type 0 where
+  fields switch_fields items : Row
+
+abbrev pub row_below : Kind → Row
+row_below Kind.Statements = items
+row_below Kind.Declarators = items
+row_below Kind.SwitchStatement = switch_fields
+row_below _ = fields
+
+-- cases have a scope of their own only where they stand in a switch
+abbrev pub HoldsCases : Row → Type 0
+HoldsCases switch_fields = Unit {0}
+HoldsCases _ = ⊥
+
+-- what is asked of the names that a node itself looks up
+abbrev pub Okay : Row → Names → Kind → Type 0
+Okay p st (Kind.ReferenceName x) = Usable (st x)
+Okay p st Kind.ThisExpression = Usable (st this_name)
+Okay p st (Kind.BindingName x) = Fillable (st x)
+Okay p st (Kind.TargetName x) = Writable (st x)
+Okay p st Kind.ExportDefaultDeclaration = Fillable (st default_name)
+Okay p st (Kind.Function f pure) = ⊥
+Okay p st Kind.Cases = HoldsCases p
+Okay p st _ = Unit {0}
+
+-- the keys of an object literal's properties
+abbrev pub key_of : Kind → Option Text
+key_of (Kind.Property how method key) = Some (static_key key)
+key_of _ = None
+
+abbrev pub keys : Forest → List (Option Text)
+keys nothing = []
+keys (absent r) = []
+keys (node k n a r) = key_of k ∷ keys r
+
+-- what else a node reads off the row below it
+abbrev pub Heads : Kind → Names → Forest → Forest → Type 0
+Heads Kind.ForStatement within a b = Copied within (lexical (first_of a)) (lexical (first_of b))
+Heads Kind.ObjectExpression within a b = keys (below_of a) ≡ keys (below_of b)
+Heads _ within a b = Unit {0}
+
+abbrev pub ReceiverOk : FunctionKind → Names → Type 0
+ReceiverOk function_kind.Arrow st = Unit {0}
+ReceiverOk _ st = Fillable (st this_name)
+
+abbrev pub IsClosure : FunctionKind → Type 0
+IsClosure function_kind.Declaration = ⊥
+IsClosure _ = Unit {0}
+
+abbrev pub is_row : Forest → Bool
+is_row nothing = false
+is_row _ = true
+
+mutual
+  pub data Near : Row → Names → Forest → Forest → Type 0 where
+    near_nothing : {p : Row} {st : Names} → Near p st nothing nothing
+    near_absent : {p : Row} {st : Names} {c d : Forest} → Near p st c d → Near p st (absent c) (absent d)
+    near_node : {p : Row} {st t : Names} {k : Kind} {n m : Note} {a b c d : Forest} → Okay p st k → Decls st (declared k a) (declared k b) t → Heads k t a b → Near (row_below k) (names_below k st t) a b → Near p st c d
+        → Near p st (node k n a c) (node k m b d)
+    -- a function that an expression gives; its own name lies in a scope around it
+    near_closure : {p : Row} {st t : Names} {f : FunctionKind} {pure : Bool} {n m : Note} {a b c d : Forest} → IsClosure f → own_name f a ≡ own_name f b
+        → Decls st (named_so (waiting true) (own_name f a)) (named_so (waiting true) (own_name f b)) t → FillableIf t (own_name f a) → Code t f a b → Near p st c d
+        → Near p st (node (Kind.Function f pure) n a c) (node (Kind.Function f pure) m b d)
+    -- a function that a declaration gives, where its scope is entered
+    near_hoisted : {p : Row} {st : Names} {pure : Bool} {n m : Note} {a b c d : Forest} → first_name a ≡ first_name b → FillableIf st (first_name a) → Code st function_kind.Declaration a b → Near p st c d
+        → Near p st (node (Kind.Function function_kind.Declaration pure) n a c) (node (Kind.Function function_kind.Declaration pure) m b d)
+    -- a function that nothing looks up, with any code
+    near_unread : {p : Row} {st : Names} {x : Text} {pure also : Bool} {n m : Note} {a b c d : Forest} → st x ≡ unread → first_name a ≡ Some x → first_name b ≡ Some x → Near p st c d
+        → Near p st (node (Kind.Function function_kind.Declaration pure) n a c) (node (Kind.Function function_kind.Declaration also) m b d)
+    -- a declarator that gives a known value
+    near_known : {q : Row} {st : Names} {x : Text} {p : Plain} {v : Literal} {n m i j k l : Note} {a b e f r s c d : Forest} → st x ≡ known p → literal_value v ≡ plain p → Near q st c d
+        → Near q st (node Kind.VariableDeclarator n (node (Kind.BindingName x) i a (node (Kind.Literal v) k e r)) c) (node Kind.VariableDeclarator m (node (Kind.BindingName x) j b (node (Kind.Literal v) l f s)) d)
+    -- nothing is said of what a node does that isn't core
+    near_uncovered : {p : Row} {st : Names} {k : Kind} {n m : Note} {a b c d : Forest} → is_core k ≡ false → Near p st c d → Near p st (node k n a c) (node k m b d)
+    -- a node for another
+    changed : {p : Row} {st : Names} {k l : Kind} {n m : Note} {a b c d : Forest} → Change st k a l b → Near p st c d → Near p st (node k n a c) (node l m b d)
+    -- an item that the new list doesn't have
+    leaves : {st : Names} {k : Kind} {n : Note} {a c d : Forest} → Idle st k a → Near items st c d → Near items st (node k n a c) d
+
+  -- what lies below a function, by the names around it
+  pub data Code : Names → FunctionKind → Forest → Forest → Type 0 where
+    near_code : {st t : Names} {f : FunctionKind} {a b : Forest} → Decls st (function_decls f a) (function_decls f b) t → ReceiverOk f t → is_row a ≡ is_row b → Near fields t (behind a) (behind b)
+        → Code st f a b
+
+-- what the host sees under each exported name has to be there in both
+abbrev pub ExportsOk : Names → List Entry → Type 0
+ExportsOk st [] = Unit {0}
+ExportsOk st (entry_local x y ∷ es) = Usable (st y) × ExportsOk st es
+ExportsOk st (entry_import x source name ∷ es) = ExportsOk st es
+
+-- Two modules, by their statements: these are near, the exports and the requests are the same.
+pub data NearModule : Forest → Forest → Type 0 where
+  near_module : {t : Names} {a b : Forest} → Decls no_names (module_decls a) (module_decls b) t
+      → entries a ≡ entries b → ExportsOk t (entries a) → stars a ≡ stars b → requests a ≡ requests b → Near items t a b → NearModule a b
+
+-- a module's tree, by its statements
+abbrev pub module_of : Note → Note → Forest → Forest
+module_of n m a = node (Kind.Program source_type.Module) n (node Kind.Statements m a nothing) nothing

@@ -1,0 +1,62 @@
+// What the laws give for some modules. Each is a contract, so that the check proves it.
+ghost use Rattle.std.specs.Prelude.{◌≡◌, Bool, true, false, not};
+ghost use Rattle.std.specs.Str.{bytes_eq};
+ghost use Rattle.js_syntax.specs.declared.node_kind.NodeKind.{NodeKind as Kind};
+ghost use Rattle.js_syntax.specs.declared.kind.FunctionKind.TheVariants as function_kind;
+ghost use Rattle.js_syntax.specs.declared.kind.VariableKind.TheVariants as variable;
+ghost use Rattle.js_syntax.specs.declared.value.LiteralValue.{LiteralValue as Literal};
+ghost use Rattle.js_syntax.specs.Node.{Note, Forest, nothing, node, absent};
+ghost use Rattle.js_meaning.specs.Value.{Text, this_name, Plain, plain, literal_value};
+ghost use Rattle.js_meaning.specs.Scope.{lexical, function_decls, module_decls};
+ghost use Rattle.js_meaning.specs.Module.{entries};
+ghost use Rattle.js_meaning.specs.Kept.{Refined};
+ghost use Rattle.js_meaning_near.specs.Near.{fields, items, module_of};
+ghost use Rattle.js_meaning_near.specs.Fit.{whole};
+ghost use Rattle.js_meaning_near.specs.Avoid.{declares, HasCells, ExportsAvoid, InPlace, Avoids};
+ghost use Rattle.js_meaning_near.specs.Examples.{block_of, behind_name, function_of, declaration_of, expression_statement, literal_statement, empty_statement, if_of};
+
+/// An empty statement leaves a list of statements.
+pub fn an_empty_statement_leaves()
+    ensures { (n : Note) (a : Forest) → InPlace whole items a → Refined (module_of n n (empty_statement n a)) (module_of n n a) }
+{}
+
+/// So it does further in.
+pub fn an_empty_statement_leaves_a_body()
+    ensures { (n : Note) (f : Text) (ps a c : Forest) → InPlace whole fields ps → InPlace whole items a → InPlace whole items c →
+        Refined (module_of n n (function_of n f ps (empty_statement n a) c)) (module_of n n (function_of n f ps a c)) }
+{}
+
+/// A silent statement becomes empty where no list stands.
+pub fn a_silent_statement_empties()
+    ensures { (n : Note) (k : Kind) (a c : Forest) (v : Literal) → InPlace whole fields (node k n a nothing) → InPlace whole items c →
+        Refined (module_of n n (if_of n k a (literal_statement n v (absent nothing)) c)) (module_of n n (if_of n k a (empty_statement n (absent nothing)) c)) }
+{}
+
+/// A function that nothing refers to leaves. Where another declaration of its name stays, its bindings may stay too.
+pub fn an_unused_function_leaves()
+    ensures { (n : Note) (x : Text) (ps body r : Forest) → Avoids (not (declares (module_decls r) x)) x whole items r → HasCells x (module_decls r) → ExportsAvoid x (entries r) →
+        Refined (module_of n n (function_of n x ps body r)) (module_of n n r) }
+{}
+
+/// A `let` of a name that nothing refers to leaves its block.
+pub fn an_unused_declaration_leaves()
+    ensures { (n : Note) (x : Text) (v : Literal) (r c : Forest) →
+        Avoids (not (declares (lexical (node Kind.Statements n r nothing)) x)) x whole items r → HasCells x (lexical (node Kind.Statements n r nothing)) → InPlace whole items c →
+        Refined (module_of n n (block_of n (declaration_of n variable.Let x v r) c)) (module_of n n (block_of n r c)) }
+{}
+
+/// A `var` of a name that nothing refers to leaves a function's body, even where another declares the name again.
+pub fn an_unused_variable_leaves()
+    ensures { (n : Note) (f x : Text) (v : Literal) (ps r c : Forest) → bytes_eq this_name x ≡ false →
+        Avoids (not (declares (function_decls function_kind.Declaration (behind_name n f ps r)) x)) x whole fields ps →
+        Avoids (not (declares (function_decls function_kind.Declaration (behind_name n f ps r)) x)) x whole items r →
+        HasCells x (function_decls function_kind.Declaration (behind_name n f ps r)) → InPlace whole items c →
+        Refined (module_of n n (function_of n f ps (declaration_of n variable.Var x v r) c)) (module_of n n (function_of n f ps r c)) }
+{}
+
+/// A constant that holds a literal is read as the literal.
+pub fn a_constant_is_read()
+    ensures { (n : Note) (x : Text) (p : Plain) (v : Literal) (c : Forest) → literal_value v ≡ plain p → declares (lexical c) x ≡ false → Avoids true x whole items c → ExportsAvoid x (entries c) →
+        Refined (module_of n n (declaration_of n variable.Const x v (expression_statement n (Kind.ReferenceName x) c)))
+        (module_of n n (declaration_of n variable.Const x v (expression_statement n (Kind.Literal v) c))) }
+{}

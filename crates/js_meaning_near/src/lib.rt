@@ -1,0 +1,18 @@
+//! When do two modules run alike, though their trees differ? The law of contexts: near modules do.
+//!
+//! `specs/Near.antt` says which rows of nodes are near: the new one is the old one, but for changes that
+//! no run shows; one constructor for all kinds of nodes but functions, one each for what may change. What
+//! is known of a name where code stands is its status (`specs/Names.antt`); so that something declared may
+//! go, it is enough that its name is dead or unread where its scope is entered. `specs/Fit.antt` and
+//! `specs/Avoid.antt` say which rows stay as they are under such names, `specs/Once.antt` what a change at one place is.
+//! Silence comes in as a premise on runs (`specs/Quiet.antt`).
+//!
+//! `laws` has what is proved: a near module refines the old one (js_meaning's `Refined`), so it keeps its runs,
+//! and the way back. `notes`: runs don't see the notes of nodes, their spans and ids. `examples` has what the laws give
+//! for some modules. The proof puts two runs side by side (`proofs/Worlds.antt`, `proofs/Relations.antt`): cells and
+//! objects of one with those of the other. It stands on js_meaning's definitions alone. The code is empty.
+#![tactic(auto)]
+
+pub mod examples;
+pub mod laws;
+pub mod notes;

@@ -1,9 +1,0 @@
-use Rattle.js_meaning.specs.Reference.{get_place}
-use Rattle.js_world.specs.World.{place_of}
-use Rattle.js_plan.specs.Frame.{plans}
-use Rattle.js_plan.proofs.Law.{goes_on}
-use Rattle.js_operations.proofs.place.get_place.Goals as goal
-
-pub returns-clause-follows : goal.returns-clause-follows
-returns-clause-follows c =
-    λ E k. goes_on c.args.world.now c.get.new.world (get_place E (place_of c.args.place.now)) (plans E c.in_ok-plan.plan) k (c.in_ok-plan.ensures.does E)

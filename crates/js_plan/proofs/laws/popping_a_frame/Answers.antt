@@ -1,5 +1,0 @@
-use Rattle.js_plan.proofs.Law.{pops}
-use Rattle.js_plan.proofs.laws.popping_a_frame.Goals as goal
-
-pub returns : goal.returns
-returns c = pops

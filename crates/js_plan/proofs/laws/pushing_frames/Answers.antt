@@ -1,5 +1,0 @@
-use Rattle.js_plan.proofs.Law.{pushes}
-use Rattle.js_plan.proofs.laws.pushing_frames.Goals as goal
-
-pub returns : goal.returns
-returns c = pushes

@@ -1,5 +1,0 @@
-use Rattle.js_plan.proofs.Law.{stops_all}
-use Rattle.js_plan.proofs.laws.stopping.Goals as goal
-
-pub returns : goal.returns
-returns c = stops_all

@@ -1,4 +1,0 @@
-pub mod Ask
-pub mod Frame
-pub mod Held
-pub mod Law

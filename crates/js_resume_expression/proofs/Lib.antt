@@ -1,2 +1,0 @@
-mod Objects
-mod Pushed

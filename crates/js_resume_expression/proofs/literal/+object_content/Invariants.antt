@@ -1,5 +1,0 @@
-use Rattle.std.proofs.Common.{length}
-use Rattle.js_resume_expression.proofs.literal.+object_content.Given as goal
-
-abbrev pub decreases-object_content : goal.decreases-object_content
-decreases-object_content l = length l.values.now

@@ -1,3 +1,0 @@
-pub mod Otherwise
-pub mod Truth
-pub mod Sources

@@ -1,5 +1,0 @@
-use Rattle.std.proofs.Common.{length}
-use Rattle.js_scope.proofs.module.+distinct.Given as goal
-
-abbrev pub decreases-distinct : goal.decreases-distinct
-decreases-distinct l = length l.sources.now

@@ -1,5 +1,0 @@
-use Rattle.js_steps.proofs.Steps.{step_core}
-use Rattle.js_steps.proofs.laws.a_step_keeps_core.Goals as goal
-
-pub returns : goal.returns
-returns c w t u s e = step_core s e

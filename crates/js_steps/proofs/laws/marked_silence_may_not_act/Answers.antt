@@ -1,5 +1,0 @@
-use Rattle.js_steps.proofs.Silent.{marked_idle}
-use Rattle.js_steps.proofs.laws.marked_silence_may_not_act.Goals as goal
-
-pub returns : goal.returns
-returns c = marked_idle

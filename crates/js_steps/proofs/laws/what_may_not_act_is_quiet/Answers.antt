@@ -1,6 +1,0 @@
-use Rattle.silent_runs.proofs.Silent.{quiet_row}
-use Rattle.js_steps.proofs.Silent.{silent_row}
-use Rattle.js_steps.proofs.laws.what_may_not_act_is_quiet.Goals as goal
-
-pub returns : goal.returns
-returns c names env h E t e = quiet_row env E t (silent_row names env t h e)

@@ -1,8 +1,0 @@
-pub mod Code
-pub mod Given
-pub mod Name
-pub mod Place
-pub mod Plain
-pub mod Size
-pub mod View
-pub mod Weight

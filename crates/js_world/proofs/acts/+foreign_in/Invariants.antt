@@ -1,5 +1,0 @@
-use Rattle.std.proofs.Common.{length}
-use Rattle.js_world.proofs.acts.+foreign_in.Given as goal
-
-abbrev pub decreases-foreign_in : goal.decreases-foreign_in
-decreases-foreign_in l = length l.foreign.now

@@ -1,5 +1,0 @@
-use Rattle.std.proofs.Common.{length}
-use Rattle.js_world.proofs.acts.+stored.Given as goal
-
-abbrev pub decreases-stored : goal.decreases-stored
-decreases-stored l = length l.cells.now

@@ -1,5 +1,0 @@
-use Rattle.std.proofs.Common.{length}
-use Rattle.js_world.proofs.script.+named_from.Given as goal
-
-abbrev pub decreases-named_from : goal.decreases-named_from
-decreases-named_from l = length l.globals.now

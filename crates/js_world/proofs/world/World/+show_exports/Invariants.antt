@@ -1,5 +1,0 @@
-use Rattle.std.proofs.Common.{length}
-use Rattle.js_world.proofs.world.World.+show_exports.Given as goal
-
-abbrev pub decreases-show_exports : goal.decreases-show_exports
-decreases-show_exports l = length l.exports.now

@@ -1,0 +1,71 @@
+// What every node has, whatever its type.
+ghost use Rattle.std.specs.Prelude.{◌≡◌, Some};
+ghost use Rattle.serde_json.specs.Find.{get};
+ghost use Rattle.serde_json.specs.View.{view};
+ghost use Rattle.json_text.specs.Answer.{Gives};
+ghost use Rattle.json_text.specs.Fault.{fault_of};
+ghost use Rattle.json_text.specs.Plain as reading;
+ghost use Rattle.json_scan.specs.Scalar.{extra_view};
+
+use js_syntax::NodeType;
+use json_text::TreeError;
+use serde_json::Value;
+
+// How a field may say more of a node than the table has.
+#[derive(Clone, Copy)]
+enum Extra {
+    TrueIsRefused,
+    FullIsRefused,
+    ValueIsRefused,
+}
+
+// Whether the node has this field, and it says something.
+#[tactic(auto, unfolding(json_text::specs::Plain::check_extra))]
+fn check_extra(
+    node: &Value,
+    kind: NodeType,
+    field: &'static str,
+    extra: Extra,
+) -> Result<(), TreeError>
+    ensures { Gives (λ u. u) result
+        (reading.check_extra (extra_view extra) (fault_of kind field.now) (get field.now (view node.now))) }
+{
+    match node.get(field) {
+        Some(value) if !says_nothing(value, extra) => Err(TreeError::BadField {
+            kind: kind.name(),
+            field,
+        }),
+        _ => Ok(()),
+    }
+}
+
+fn says_nothing(value: &Value, extra: Extra) -> bool
+    ensures { result ≡ reading.says_nothing (extra_view extra) (Some (view value.now)) }
+{
+    match extra {
+        Extra::TrueIsRefused => !matches!(value, Value::Bool(true)),
+        Extra::FullIsRefused => match value {
+            Value::Null => true,
+            Value::String(text) => text.is_empty(),
+            Value::Array(items) => items.is_empty(),
+            Value::Object(members) => members.is_empty(),
+            _ => false,
+        },
+        Extra::ValueIsRefused => value.is_null(),
+    }
+}
+
+/// Every node has none of the fields that say more than the table has.
+#[tactic(auto, unfolding(json_text::specs::Plain::check_extras), using(crate::proofs::Steps::fails_bind))]
+pub fn check_extras(node: &Value, kind: NodeType) -> Result<(), TreeError>
+    ensures { Gives (λ u. u) result (reading.check_extras kind (view node.now)) }
+{
+    check_extra(node, kind, "async", Extra::TrueIsRefused)?;
+    check_extra(node, kind, "generator", Extra::TrueIsRefused)?;
+    check_extra(node, kind, "await", Extra::TrueIsRefused)?;
+    check_extra(node, kind, "decorators", Extra::FullIsRefused)?;
+    check_extra(node, kind, "attributes", Extra::FullIsRefused)?;
+    check_extra(node, kind, "assertions", Extra::FullIsRefused)?;
+    check_extra(node, kind, "options", Extra::FullIsRefused)?;
+    check_extra(node, kind, "phase", Extra::ValueIsRefused)
+}

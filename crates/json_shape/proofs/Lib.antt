@@ -1,0 +1,15 @@
+pub mod NotesWritten
+pub mod Standing
+pub mod Same
+pub mod Booleans
+pub mod Facts
+pub mod Written
+pub mod Values
+pub mod Choice
+pub mod Reading
+pub mod Plain
+pub mod PlainTrees
+pub mod Texts
+pub mod Decided
+pub mod Fitting
+pub mod FittingNodes

@@ -1,5 +1,0 @@
-use Rattle.note_runs.proofs.Near.{refines_without_notes}
-use Rattle.note_runs.proofs.laws.modules_refine_without_notes.Goals as goal
-
-pub returns : goal.returns
-returns c = λ n m a y. refines_without_notes n m a y

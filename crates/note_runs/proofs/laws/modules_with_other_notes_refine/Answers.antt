@@ -1,5 +1,0 @@
-use Rattle.note_runs.proofs.Near.{refines_with_other_notes}
-use Rattle.note_runs.proofs.laws.modules_with_other_notes_refine.Goals as goal
-
-pub returns : goal.returns
-returns c = λ n m i j a b y e. refines_with_other_notes n m i j a b y e

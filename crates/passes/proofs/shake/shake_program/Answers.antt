@@ -1,9 +1,0 @@
-use Rattle.js_syntax.specs.Node.{forest_of}
-use Rattle.passes.proofs.Clean.{small_cleared, clean_left}
-use Rattle.passes.proofs.shake.shake_program.Goals as goal
-
-pub settle-requires : goal.settle-requires
-settle-requires c = record { small = small_cleared (forest_of c.args.program) (forest_of c.in_ok-cleared.cleared) c.requires.small c.in_ok-cleared.ensures.left }
-
-pub returns-clause-clean : goal.returns-clause-clean
-returns-clause-clean c = clean_left (forest_of c.in_ok-cleared.cleared) (forest_of c.in_ok-left.left.program) c.in_ok-left.left.scoping c.in_ok-left.ensures.left c.in_ok-left.ensures.scoping

@@ -1,5 +1,0 @@
-use Rattle.removals.proofs.Tried.{variable_goes, function_goes}
-use Rattle.removals.proofs.rows.what_is_free_goes.Goals as goal
-
-pub returns : goal.returns
-returns c = record { variable = variable_goes; function = function_goes }

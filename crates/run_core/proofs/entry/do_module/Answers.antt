@@ -1,0 +1,14 @@
+use Rattle.std.proofs.Common.{◌∙◌, sym, ap}
+use Rattle.std.proofs.lemmas.Result.{IfOk-weaker}
+use Rattle.js_meaning.specs.Run.{module_does}
+use Rattle.run_world.specs.World.{at}
+use Rattle.run_plan.proofs.Law.{goes_on}
+use Rattle.run_core.proofs.entry.do_module.Goals as goal
+
+pub returns : goal.returns
+unfolding module_does
+returns c = record {
+  does = IfOk-weaker c.then_completion.result _ _ (λ p made E.
+      goes_on c.args.world.now c.finish_module.new.world _ _ _ (c.in_ok-plan.ensures.does E)
+      ∙ ap (λ m. at c.finish_module.new.world m) (sym (made E))) c.then_completion.ensures;
+}

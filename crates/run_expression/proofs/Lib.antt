@@ -1,0 +1,3 @@
+pub mod Operands
+mod Objects
+mod Pushed

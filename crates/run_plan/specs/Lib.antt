@@ -1,0 +1,7 @@
+pub mod Ask
+pub mod Frame
+pub mod Held
+pub mod Law
+pub mod Taken
+pub mod First
+pub mod Front

@@ -1,0 +1,12 @@
+use Rattle.std.proofs.Common.{◌∙◌, ap, sym}
+use Rattle.std.proofs.lemmas.Result.{IfOk-weaker}
+use Rattle.js_syntax.specs.declared.node_kind.NodeKind.{NodeKind as Kind}
+use Rattle.js_meaning.specs.Node.{run, need}
+use Rattle.js_meaning.specs.Meaning.{does, eval}
+use Rattle.run_plan.specs.Front.{front_of}
+use Rattle.run_statement.proofs.branch.enter_if.Goals as goal
+
+pub returns-in-Node : goal.returns-in-Node
+unfolding need eval
+returns-in-Node c =
+    IfOk-weaker c.if_behind_test.result _ _ (λ p made E. made E ∙ ap (λ t. does E Kind.IfStatement t (eval E t) (run c.args.labels) c.args.env) (sym (sym c.first_field.ensures ∙ ap front_of c.in-Node.is))) c.if_behind_test.ensures

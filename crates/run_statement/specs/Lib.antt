@@ -1,0 +1,4 @@
+pub mod Default
+pub mod Otherwise
+pub mod Truth
+pub mod Sources

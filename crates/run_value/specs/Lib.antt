@@ -1,0 +1,14 @@
+pub mod ShownCode
+pub mod Showing
+pub mod ShownSize
+pub mod Trace
+pub mod ShownView
+pub mod ShownWeight
+pub mod Code
+pub mod Given
+pub mod Name
+pub mod Place
+pub mod Plain
+pub mod Size
+pub mod View
+pub mod Weight

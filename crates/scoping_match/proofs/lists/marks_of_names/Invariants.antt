@@ -1,8 +1,0 @@
-use Rattle.std.proofs.Common.{◌≡◌, ◌++◌, map}
-use Rattle.scoping_table.specs.Named.{named}
-use Rattle.scoping_match.specs.Matches.{named_by}
-use Rattle.scoping_match.specs.Keys.{named_key}
-use Rattle.scoping_match.proofs.lists.marks_of_names.Given as goal
-
-abbrev pub invariant-loop-name : goal.invariant-loop-name
-invariant-loop-name l = map named_key l.names.items ++ map (named_by l.marks) (map named l.name-iterator) ≡ map (named_by l.marks) (map named l.bindings.entries)

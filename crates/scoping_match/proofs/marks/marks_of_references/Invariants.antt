@@ -1,6 +1,0 @@
-use Rattle.std.proofs.Common.{◌≡◌, map, take}
-use Rattle.scope_rules.specs.Table.{number_or_none}
-use Rattle.scoping_match.proofs.marks.marks_of_references.Given as goal
-
-abbrev pub invariant-loop-site : goal.invariant-loop-site
-invariant-loop-site l = l.marks.items ≡ map (λ s. number_or_none s.id) (take l.site-index l.sites)

@@ -1,7 +1,0 @@
-use Rattle.std.proofs.Common.{below_more}
-use Rattle.scoping_match.specs.Matches.{SameScope}
-use Rattle.scoping_match.proofs.scope.same_scopes.Goals as goal
-
-pub loop-i-preserved : goal.loop-i-preserved
-loop-i-preserved c = λ n less.
-    below_more (SameScope c.args.marks.now c.args.scoping.now c.args.table.now) c.loop-i.i c.loop-i.invariant (c.in_ok-same_scope.ensures.0 c.if-not-branch.false) n less

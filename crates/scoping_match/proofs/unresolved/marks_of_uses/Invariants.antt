@@ -1,7 +1,0 @@
-use Rattle.std.proofs.Common.{◌≡◌, map, take}
-use Rattle.scoping_match.specs.Matches.{use_by}
-use Rattle.scoping_match.specs.Keys.{use_key}
-use Rattle.scoping_match.proofs.unresolved.marks_of_uses.Given as goal
-
-abbrev pub invariant-loop-used : goal.invariant-loop-used
-invariant-loop-used l = map use_key l.marked.items ≡ map (use_by l.marks) (map use_key (take l.used-index l.uses))

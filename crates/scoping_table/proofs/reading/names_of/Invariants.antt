@@ -1,6 +1,0 @@
-use Rattle.std.proofs.Common.{◌≡◌, map, take}
-use Rattle.scoping_table.specs.Kept.{told}
-use Rattle.scoping_table.proofs.reading.names_of.Given as goal
-
-abbrev pub invariant-loop-symbol : goal.invariant-loop-symbol
-invariant-loop-symbol l = map (λ s. s.now) l.names.items ≡ map (λ s. s.name) (map told (take l.symbol-index l.symbols))

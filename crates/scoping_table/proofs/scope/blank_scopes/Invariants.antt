@@ -1,6 +1,0 @@
-use Rattle.std.proofs.Common.{◌≡◌, map, take}
-use Rattle.scoping_table.specs.Named.{blank_scope}
-use Rattle.scoping_table.proofs.scope.blank_scopes.Given as goal
-
-abbrev pub invariant-loop-site : goal.invariant-loop-site
-invariant-loop-site l = l.scopes.items ≡ map blank_scope (take l.site-index l.sites)

@@ -1,6 +1,0 @@
-use Rattle.std.proofs.Common.{◌≡◌, map, take}
-use Rattle.scoping_table.specs.Kept.{blank}
-use Rattle.scoping_table.proofs.symbol.blank_symbols.Given as goal
-
-abbrev pub invariant-loop-first : goal.invariant-loop-first
-invariant-loop-first l = l.symbols.items ≡ map blank (take l.first-index l.firsts)

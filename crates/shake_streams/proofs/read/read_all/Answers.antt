@@ -1,0 +1,10 @@
+use Rattle.std.proofs.Common.{◌+◌, ◌≤◌, length, arith}
+use Rattle.std.proofs.lemmas.Grind.{common_steps}
+use Rattle.shake_streams.proofs.Taking.{rest_after}
+use Rattle.shake_streams.proofs.read.read_all.Goals as goal
+
+pub returns-in_err-extend_from_slice-clause-rest : goal.returns-in_err-extend_from_slice-clause-rest
+returns-in_err-extend_from_slice-clause-rest g c =
+    let within = c.in-Ok.ensures.within in
+    let fits : length c.pieces.bytes.items + c.in-Ok.n ≤ c.args.limit + 1 = grind (arith, common_steps) in
+    rest_after c.in-Ok.n _ c.pieces.bytes.items _ _ _ _ _ c.pieces.invariant.taken c.in-Ok.ensures.came c.in-Ok.ensures.left fits

@@ -1,0 +1,13 @@
+use Rattle.std.proofs.Common.{length, take, ◌-◌, ◌≤◌, ◌++◌}
+use Rattle.shake_streams.specs.Moves.{Known}
+use Rattle.shake_streams.proofs.write.write_all.Given as goal
+
+abbrev pub invariant-pieces : goal.invariant-pieces
+invariant-pieces g l = record {
+  within : l.sent ≤ length l.text;
+  sent : Known (λ bytes. bytes ++ take l.sent l.text) (g.K.Sink.written l.initial.sink) (g.K.Sink.written l.sink);
+  later : g.K.Sink.faults l.initial.sink ≤ g.K.Sink.faults l.sink;
+}
+
+abbrev pub decreases-pieces : goal.decreases-pieces
+decreases-pieces g l = length l.text - l.sent

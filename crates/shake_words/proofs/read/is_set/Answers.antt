@@ -1,0 +1,12 @@
+use Rattle.std.proofs.Common.{◌∙◌, ap, codes, false}
+use Rattle.std.specs.Option.{option_map_or}
+use Rattle.std.specs.Str.{bytes_eq}
+use Rattle.clap.specs.Matches.{found_of}
+use Rattle.clap.proofs.WalkLemmas.{one_text-rows}
+use Rattle.shake_words.proofs.Flag.{read_flag}
+use Rattle.shake_words.proofs.read.is_set.Goals as goal
+
+pub returns : goal.returns
+returns c =
+    c.unwrap_or.ensures ∙ read_flag _ _ c.get_one.result c.get_one.ensures.none c.get_one.ensures.value
+    ∙ ap (λ found. option_map_or (λ t. bytes_eq t (codes "true")) found false) (one_text-rows (found_of c.args.matches.now) c.args.flag.now)

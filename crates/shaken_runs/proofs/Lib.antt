@@ -1,6 +1,0 @@
-pub mod Bare
-pub mod Passes
-pub mod Modules
-pub mod Notes
-pub mod Refining
-pub mod Headline

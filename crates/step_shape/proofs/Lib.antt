@@ -1,4 +1,0 @@
-pub mod Rows
-pub mod Planned
-pub mod Emptied
-pub mod Stepped

@@ -1,0 +1,38 @@
+// The laws of steps. Each is a contract, so that the check proves it.
+ghost use Rattle.std.specs.Prelude.{◌≡◌, List, Bool, true, false};
+ghost use Rattle.js_syntax.specs.Node.{Forest};
+ghost use Rattle.js_meaning.specs.Value.{Text, Env};
+ghost use Rattle.js_meaning.specs.Host.{Enter};
+ghost use Rattle.js_meaning.specs.Meaning.{eval};
+ghost use Rattle.js_effects.specs.Silence.{may_have_effects};
+ghost use Rattle.js_effects_quiet.specs.Silent.{HasBinding, HoldsOfBound, QuietRow};
+ghost use Rattle.steps.specs.Names.{is_among, may_act};
+ghost use Rattle.steps.specs.Steps.{Step, Steps, Around, all_core};
+
+/// A step leaves a core tree core.
+pub fn a_step_keeps_core()
+    ensures { (w : Around) (t u : Forest) → Step w t u → all_core t ≡ true → all_core u ≡ true }
+{}
+
+/// So do steps one after the other.
+pub fn steps_keep_core()
+    ensures { (t u : Forest) → Steps t u → all_core t ≡ true → all_core u ≡ true }
+{}
+
+/// Steps after steps are steps.
+pub fn steps_compose()
+    ensures { (t u v : Forest) → Steps t u → Steps u v → Steps t v }
+{}
+
+/// What may not act where certain names are declared is quiet in every environment that binds them.
+pub fn what_may_not_act_is_quiet()
+    ensures { (names : List Text) (env : Env) → ((x : Text) → is_among names x ≡ true → HasBinding env x) →
+        (E : Enter) (t : Forest) → may_act names t ≡ false → QuietRow env (eval E t) }
+{}
+
+/// What has no effects by its marks may not act, where these mark no other names than those that are
+/// declared.
+pub fn marked_silence_may_not_act()
+    ensures { (names : List Text) (bound : List Bool) (in_with : Bool) (t : Forest) →
+        HoldsOfBound (λ x. is_among names x ≡ true) bound t → may_have_effects bound in_with t ≡ false → may_act names t ≡ false }
+{}

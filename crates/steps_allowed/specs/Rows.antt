@@ -1,0 +1,38 @@
+-- Small programs that the definitions are tried on.
+use Rattle.std.specs.Prelude.{List, [], ◌∷◌, false, None}
+use Rattle.js_syntax.specs.declared.node_kind.NodeKind.{NodeKind as Kind}
+use Rattle.js_syntax.specs.declared.scalar.SourceType.TheVariants as source_type
+use Rattle.js_syntax.specs.declared.kind.VariableKind.TheVariants as variable
+use Rattle.js_syntax.specs.Node.{Forest, nothing, nowhere, joined}
+use Rattle.form_rules.specs.Samples.{over, leaf, row, listed, no, a_module, a, binds, reads, one, does, declares, let_, var_}
+use Rattle.scope_laws.specs.Place.{Around, first, under}
+
+-- a place in a module's list: in front of these statements, and behind these
+abbrev pub in_list : Around → Around
+in_list place = under (Kind.Program source_type.Module) nowhere (under Kind.Statements nowhere place nothing) nothing
+
+abbrev pub before : List Forest → Around
+before items = in_list (first (row items))
+
+-- a();
+abbrev pub call_of_a : Forest
+call_of_a = over (Kind.CallExpression false false) (joined (reads a) (listed Kind.Arguments []))
+
+-- if (1) { body }
+abbrev pub if_one : Forest → Forest
+if_one body = over Kind.IfStatement (joined one (joined body no))
+
+-- export d
+abbrev pub exports_declaration : Forest → Forest
+exports_declaration d = over (Kind.ExportNamedDeclaration None) (joined d (listed Kind.Specifiers []))
+
+abbrev pub empty : Forest
+empty = leaf Kind.EmptyStatement
+
+-- let a; a;
+abbrev pub a_is_read : Forest
+a_is_read = a_module (let_ a ∷ does (reads a) ∷ [])
+
+-- export var a; var a = 1;
+abbrev pub a_is_exported : Forest
+a_is_exported = a_module (exports_declaration (var_ a) ∷ declares variable.Var (binds a) one ∷ [])

@@ -1,0 +1,54 @@
+-- Which expressions are silent where they stand: the forms are those of silence, and of names those are silent that some
+-- declaration of the tree binds, and `undefined`.
+use Rattle.std.specs.Prelude.{◌≡◌, ◌⊎◌, ℕ, suc, ◌+◌, List, Bool, true, false, ◌&&◌, ◌||◌, is_some, codes, Option}
+use Rattle.std.specs.Str.{bytes_eq}
+use Rattle.js_syntax.specs.declared.node_kind.NodeKind.{NodeKind as Kind}
+use Rattle.js_syntax.specs.declared.node_kind.NodeKind.TheVariants.{ReferenceName as reference_name, VariableDeclarator as variable_declarator}
+use Rattle.js_syntax.specs.Node.{Forest, Tree, Note, nothing, node, absent}
+use Rattle.js_effects.specs.Silence.{is_value, runs_its_parts}
+use Rattle.min_pass.specs.Around.{is_with}
+use Rattle.min_pass.specs.Pass.{is_given}
+use Rattle.scope_rules.specs.Context.{Context, inside}
+use Rattle.scope_rules.specs.Site.{BindingSite, ReferenceSite, number_or_first, read_bits, opens_one, scope_count}
+use Rattle.scope_rules.specs.Binding.{binding_of}
+use Rattle.scope_laws.specs.Place.{Around, first, behind, behind_none, under, plug}
+
+-- a name that is read in this context
+abbrev pub read_in : Context → Note → List ℕ → ReferenceSite
+read_in c n x = record { id = n.id; name = x; scope = number_or_first c.scope; layers = c.layers; flags = read_bits c.role }
+
+abbrev pub IsFound : List BindingSite → Context → Kind → Note → Type 0
+IsFound bs c (reference_name x) n = (is_some (binding_of bs (read_in c n x)) ≡ true) ⊎ (bytes_eq x (codes "undefined") ≡ true)
+IsFound bs c k n = ⊥
+
+-- Inside of a `with` statement no name is known (ECMA-262 9.1.1.2).
+abbrev pub IsSilentNode : List BindingSite → (in_with : Bool) → Context → Kind → Note → (parts : Type 0) → Type 0
+IsSilentNode bs in_with c k n parts = (is_value k ≡ true) ⊎ (((in_with ≡ false) × IsFound bs c k n) ⊎ ((runs_its_parts k ≡ true) × parts))
+
+-- each node of a row
+abbrev pub IsSilent : List BindingSite → (in_with : Bool) → (contexts : ℕ → Context) → (at next : ℕ) → Forest → Type 0
+IsSilent bs in_with contexts at next nothing = Unit {0}
+IsSilent bs in_with contexts at next (absent rest) = IsSilent bs in_with contexts (suc at) next rest
+IsSilent bs in_with contexts at next (node k n below rest) =
+    IsSilentNode bs in_with (contexts at) k n (IsSilent bs in_with (inside (contexts at) next k below) 0 (next + opens_one k below) below)
+    × IsSilent bs in_with contexts (suc at) (next + scope_count (node k n below nothing)) rest
+
+-- what lies below a node, which stands in this context
+abbrev pub IsSilentBelow : List BindingSite → (in_with : Bool) → Context → (next : ℕ) → Kind → (below : Forest) → Type 0
+IsSilentBelow bs in_with c next k below = IsSilent bs in_with (inside c next k below) 0 (next + opens_one k below) below
+
+-- what stands behind the name in a declarator. Inside of a `with` statement it may set a property of its object.
+abbrev pub IsSilentDeclarator : List BindingSite → (in_with : Bool) → Context → (next : ℕ) → (below : Forest) → Type 0
+IsSilentDeclarator bs in_with c next (node k n inner value) =
+    ((in_with && is_given value) ≡ false)
+    × IsSilent bs in_with (inside c next variable_declarator (node k n inner value)) 1 (next + opens_one variable_declarator (node k n inner value) + scope_count (node k n inner nothing)) value
+IsSilentDeclarator bs in_with c next below = ⊥
+
+-- What holds at a place: whether a `with` statement stands around it, in which context it lies, and how many scopes stand
+-- before it.
+abbrev pub HoldsThere : (in_with : Bool) → (contexts : ℕ → Context) → (at next : ℕ) → Around → Option Tree → (Bool → Context → ℕ → Type 0) → Type 0
+HoldsThere in_with contexts at next (first rest) x holds = holds in_with (contexts at) next
+HoldsThere in_with contexts at next (behind k n below a) x holds = HoldsThere in_with contexts (suc at) (next + scope_count (node k n below nothing)) a x holds
+HoldsThere in_with contexts at next (behind_none a) x holds = HoldsThere in_with contexts (suc at) next a x holds
+HoldsThere in_with contexts at next (under k n a rest) x holds =
+    HoldsThere (in_with || is_with k) (inside (contexts at) next k (plug a x)) 0 (next + opens_one k (plug a x)) a x holds

@@ -1,0 +1,4 @@
+pub mod Clear
+pub mod Hoisted
+pub mod Catches
+pub mod Enclosed

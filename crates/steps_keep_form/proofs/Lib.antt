@@ -1,0 +1,17 @@
+pub mod Fewer
+pub mod ShedNames
+pub mod Rows
+pub mod Exports
+pub mod Seen
+pub mod Parts
+pub mod Contexts
+pub mod Rules
+pub mod Form
+pub mod Laid
+pub mod Kept
+pub mod Names
+pub mod Steps
+pub mod Order
+pub mod Several
+pub mod Planned
+pub mod Fitting

@@ -1,0 +1,2 @@
+pub mod Sheds
+pub mod Layout

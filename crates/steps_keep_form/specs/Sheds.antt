@@ -1,0 +1,97 @@
+-- What a program may lose so that no rule of form is broken by it: items of lists of statements, declarators of such items,
+-- and expressions that are statements.
+use Rattle.std.specs.Prelude.{◌≡◌, List, [], ◌∷◌, Bool, true, false, not, ◌&&◌, ◌||◌, ◌==◌, if◌then◌else◌}
+use Rattle.js_syntax.specs.declared.node_kind.NodeKind.{NodeKind as Kind}
+use Rattle.js_syntax.specs.declared.node_kind.NodeKind.TheVariants.{Program as program, Statements as statements, FunctionBody as function_body, BlockStatement as block_statement, StaticBlock as static_block, SwitchCase as switch_case, LabeledStatement as labeled_statement, IfStatement as if_statement, WithStatement as with_statement, WhileStatement as while_statement, DoWhileStatement as do_while_statement, ForStatement as for_statement, ForInStatement as for_in_statement, ForOfStatement as for_of_statement, ExpressionStatement as expression_statement, EmptyStatement as empty_statement, VariableDeclaration as variable_declaration, Declarators as declarators}
+use Rattle.js_syntax.specs.Node.{Note, Forest, nothing, node, absent, alone}
+use Rattle.form_rules.specs.declared.sought.Sought.{Sought}
+use Rattle.form_rules.specs.declared.sought.Sought.TheVariants.{Nothing as none, Scope as scope}
+use Rattle.form_rules.specs.Context.{has_use_strict}
+use Rattle.form_rules.specs.Scope.{Declared, sought_below, declared}
+use Rattle.form_rules.specs.Rules.{Exported, first_below, length_of, at_top, locals_among, is_exported}
+
+-- The row in which a node stands: the parts of a node that has statements or a list of them; such a list; what lies below a
+-- variable declaration that is an item of one, and its declarators; what lies below one elsewhere, as in the head of a loop;
+-- any other.
+pub data Row : Type 0 where
+  parts items of_item of_declarators of_head other : Row
+
+-- nodes below which a statement stands, or a list of them
+abbrev pub has_statements : Kind → Bool
+has_statements (program source) = true
+has_statements function_body = true
+has_statements block_statement = true
+has_statements static_block = true
+has_statements switch_case = true
+has_statements (labeled_statement label) = true
+has_statements if_statement = true
+has_statements with_statement = true
+has_statements while_statement = true
+has_statements do_while_statement = true
+has_statements for_statement = true
+has_statements for_in_statement = true
+has_statements for_of_statement = true
+has_statements k = false
+
+abbrev pub row_below : Row → Kind → Row
+row_below parts statements = items
+row_below items (variable_declaration how) = of_item
+row_below row (variable_declaration how) = of_head
+row_below of_item declarators = of_declarators
+row_below of_item k = other
+row_below of_head k = other
+row_below row k = if has_statements k then parts else other
+
+-- rows that nodes leave, and rows in which statements become empty
+abbrev pub may_leave : Row → Bool
+may_leave items = true
+may_leave of_declarators = true
+may_leave row = false
+
+abbrev pub may_empty : Row → Bool
+may_empty parts = true
+may_empty items = true
+may_empty row = false
+
+-- What stands around a place: its row, the names that the program around exports without declaring them there, and what is
+-- sought at the place for the names that are declared at the top of that program.
+pub record Around : Type 0 where
+  pub row : Row
+  pub exported : List Exported
+  pub sought : Sought
+
+abbrev pub exported_below : List Exported → Kind → (below : Forest) → List Exported
+exported_below es (program source) below = locals_among 0 (first_below below)
+exported_below es k below = es
+
+abbrev pub sought_inside : Sought → Kind → Sought
+sought_inside s (program source) = scope (at_top source)
+sought_inside s k = sought_below s k
+
+abbrev pub entered : Around → Kind → (below : Forest) → Around
+entered w k below = record { row = row_below w.row k; exported = exported_below w.exported k below; sought = sought_inside w.sought k }
+
+abbrev pub outermost : Around
+outermost = record { row = other; exported = []; sought = none }
+
+-- none of these declares a name that is exported
+abbrev pub exports_none : List Exported → List Declared → Bool
+exports_none es [] = true
+exports_none es (d ∷ ds) = not (is_exported d.name es) && exports_none es ds
+
+-- a declaration that has declarators keeps one
+abbrev pub keeps_one : Row → (before after : Forest) → Bool
+keeps_one of_declarators a b = length_of a == 0 || not (length_of b == 0)
+keeps_one row a b = true
+
+-- What is left of a row, by what stands around it.
+pub data Sheds : Around → (t u : Forest) → Type 0 where
+  ends : {w : Around} → Sheds w nothing nothing
+  keeps_absent : {w : Around} {r s : Forest} → Sheds w r s → Sheds w (absent r) (absent s)
+  -- a node is kept
+  keeps : {w : Around} {k : Kind} {n m : Note} {a b r s : Forest} → keeps_one (row_below w.row k) a b ≡ true → Sheds (entered w k a) a b → Sheds w r s → Sheds w (node k n a r) (node k m b s)
+  -- a node leaves that declares no exported name, and without which code is as strict as with it
+  leaves : {w : Around} {k : Kind} {n : Note} {a r s : Forest} → may_leave w.row ≡ true → exports_none w.exported (declared w.sought 0 (alone k n a)) ≡ true → has_use_strict r ≡ has_use_strict (node k n a r) → Sheds w r s
+      → Sheds w (node k n a r) s
+  -- a statement of an expression becomes empty
+  empties : {w : Around} {n m : Note} {a r s : Forest} → may_empty w.row ≡ true → Sheds w r s → Sheds w (node expression_statement n a r) (node empty_statement m nothing s)

@@ -1,0 +1,40 @@
+-- Which declaration a step takes away.
+use Rattle.js_syntax.specs.declared.node_kind.NodeKind.{NodeKind as Kind}
+use Rattle.js_syntax.specs.Node.{Forest}
+use Rattle.js_syntax.specs.declared.kind.VariableKind.{VariableKind}
+use Rattle.js_syntax.specs.declared.kind.VariableKind.TheVariants as variable
+use Rattle.js_meaning.specs.Value.{Text}
+use Rattle.steps.specs.Steps.{Around, Step, empty_statement_leaves, unused_function_leaves, unused_declarator_leaves, unused_declaration_leaves, silent_statement_empties, inside, behind_node, behind_absent}
+
+-- none; one of the innermost scope; one of the innermost function, or of the module
+pub data Drop : Type 0 where
+  no_drop : Drop
+  of_block of_function : Text → Drop
+
+abbrev pub declared_so : VariableKind → Text → Drop
+declared_so variable.Var x = of_function x
+declared_so how x = of_block x
+
+abbrev pub out_of_block : Drop → Drop
+out_of_block (of_block x) = no_drop
+out_of_block d = d
+
+-- what is seen of it outside of a node
+abbrev pub outside : Kind → Drop → Drop
+outside (Kind.Program source) d = no_drop
+outside (Kind.Function f pure) d = no_drop
+outside Kind.BlockStatement d = out_of_block d
+outside Kind.Cases d = out_of_block d
+outside Kind.ForStatement d = out_of_block d
+outside Kind.CatchClause d = out_of_block d
+outside k d = d
+
+abbrev pub dropped : {w : Around} {t u : Forest} → Step w t u → Drop
+dropped (empty_statement_leaves h) = no_drop
+dropped (unused_function_leaves {x = x} h g) = of_block x
+dropped (unused_declarator_leaves {how = how} {x = x} h g f) = declared_so how x
+dropped (unused_declaration_leaves {how = how} {x = x} h g f) = declared_so how x
+dropped (silent_statement_empties h) = no_drop
+dropped (inside {k = k} s) = outside k (dropped s)
+dropped (behind_node s) = dropped s
+dropped (behind_absent s) = dropped s

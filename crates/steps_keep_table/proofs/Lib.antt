@@ -1,0 +1,5 @@
+pub mod Swept
+pub mod Rows
+pub mod Planned
+pub mod Emptied
+pub mod Stepped

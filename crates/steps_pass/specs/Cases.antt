@@ -1,0 +1,41 @@
+-- What leaves a tree declares nothing that is seen, and no export is of what has no mark.
+use Rattle.std.specs.Prelude.{◌≡◌, ◌⊎◌, List, Bool, true, not, ◌&&◌, if◌then◌else◌, Option, Some}
+use Rattle.js_syntax.specs.declared.node_kind.NodeKind.{NodeKind as Kind}
+use Rattle.js_syntax.specs.Node.{Forest, Tree, Note, nothing, node, absent}
+use Rattle.js_effects.specs.Silence.{is_marked}
+use Rattle.scope_rules.specs.Site.{BindingSite, ReferenceSite, sites_of, bindings_among, references_among}
+use Rattle.scope_rules.specs.Binding.{declared_by, binding_of}
+use Rattle.scope_laws.specs.Exact.{Among}
+use Rattle.scope_laws.specs.Place.{Around, plug, sites_there}
+use Rattle.scope_laws.specs.Keeping.{IsWithin}
+use Rattle.min_passes.specs.Unused.{is_export, has_own_names}
+use Rattle.steps_fit.specs.Enclosed.{is_binding}
+
+-- no reference has the binding of the declaration
+abbrev pub IsUnreferred : Forest → BindingSite → Type 0
+IsUnreferred t b = (r : ReferenceSite) → Among r (references_among (sites_of t)) → binding_of (bindings_among (sites_of t)) r ≡ Some (declared_by b) → ⊥
+
+-- each name that is declared there lies within a scope that stands there, or is unreferred
+abbrev pub IsUnseen : Around → Option Tree → Type 0
+IsUnseen a x = (b : BindingSite) → Among b (bindings_among (sites_there a x)) → IsWithin a x b ⊎ IsUnreferred (plug a x) b
+
+-- ---- names without marks
+
+abbrev pub name_unmarked : List Bool → Kind → Note → Bool
+name_unmarked marks k n = not (is_binding k && is_marked marks n.id)
+
+abbrev pub first_unmarked : List Bool → Forest → Bool
+first_unmarked marks (node k n below rest) = name_unmarked marks k n
+first_unmarked marks t = true
+
+-- those that a declaration in the row declares
+abbrev pub declared_unmarked : List Bool → Forest → Bool
+declared_unmarked marks nothing = true
+declared_unmarked marks (absent rest) = declared_unmarked marks rest
+declared_unmarked marks (node k n below rest) = (if has_own_names k then first_unmarked marks below else name_unmarked marks k n && declared_unmarked marks below) && declared_unmarked marks rest
+
+-- those that exported declarations declare
+abbrev pub exports_unmarked : List Bool → Forest → Bool
+exports_unmarked marks nothing = true
+exports_unmarked marks (absent rest) = exports_unmarked marks rest
+exports_unmarked marks (node k n below rest) = (if is_export k then declared_unmarked marks below else exports_unmarked marks below) && exports_unmarked marks rest

@@ -1,0 +1,64 @@
+-- What the headline refuses of the small modules.
+use Rattle.std.proofs.Common.{◌≡◌, ◌∙◌, ◌⊎◌, inl, inr, Bool, true, false, true≢false, List, [], ◌∷◌, refl, sym, ap, subst}
+use Rattle.js_meaning.specs.Trace.{Act, ShownExport, Event, Ending, ended, Run}
+use Rattle.js_meaning.specs.Kept.{Kept, KeptBack, Keeps, ComesBack}
+use Rattle.headline.specs.Headline.{Headline}
+use Rattle.test_headline.specs.Rows as row
+use Rattle.test_headline.proofs.Runs.{answers, empty_runs, export_runs, call_runs, own_call_runs, no_call_runs, loop_runs}
+
+-- what is asked of two runs is asked of what they compute to
+keeps_computed : (p q r s : Run) → p ≡ r → q ≡ s → Keeps p q → Keeps r s
+keeps_computed p q r s old new k = subst (λ x. Keeps r x) new (subst (λ x. Keeps x q) old k)
+
+back_computed : (p q r s : Run) → p ≡ r → q ≡ s → ComesBack p q → ComesBack r s
+back_computed p q r s old new k = subst (λ x. ComesBack r x) new (subst (λ x. ComesBack x q) old k)
+
+-- how runs are told apart
+
+has_some : List ShownExport → Bool
+has_some [] = false
+has_some (e ∷ es) = true
+
+shows_exports : Ending → Bool
+shows_exports (ended exports) = has_some exports.names
+shows_exports e = false
+
+is_out : Ending → Bool
+is_out Ending.out = true
+is_out e = false
+
+is_alone : List Event → Bool
+is_alone (e ∷ []) = true
+is_alone es = false
+
+is_done : Act → Bool
+is_done Act.finished = true
+is_done act = false
+
+begins_done : List Event → Bool
+begins_done [] = false
+begins_done (e ∷ es) = is_done e.act
+
+pub export_shown : Kept row.exports_one row.empty → ⊥
+unfolding shows_exports has_some
+export_shown k = true≢false (sym (ap (λ r. shows_exports r.ending) (keeps_computed _ _ _ _ export_runs (empty_runs 0) (k answers 0))))
+
+pub call_shown : Kept row.calls_host row.empty → ⊥
+unfolding is_alone
+call_shown k = true≢false (ap (λ r. is_alone r.trace) (keeps_computed _ _ _ _ call_runs (empty_runs 0) (k answers 0)))
+
+pub function_called : Kept row.calls_own row.calls_nothing → ⊥
+unfolding begins_done is_done
+function_called k = true≢false (sym (ap (λ r. begins_done r.trace) (keeps_computed _ _ _ _ own_call_runs no_call_runs (k answers 1))))
+
+out_or_same : (new : Run) → is_out new.ending ≡ false → (Ending.out ≡ Ending.uncovered) ⊎ (record { trace = []; ending = Ending.out } ≡ new) → ⊥
+unfolding is_out
+out_or_same new e (inl h) = true≢false (ap is_out h)
+out_or_same new e (inr h) = true≢false (ap (λ r. is_out r.ending) h ∙ e)
+
+pub loop_stays : KeptBack row.never_ends row.empty → ⊥
+unfolding is_out
+loop_stays k = out_or_same _ refl (back_computed _ _ _ _ loop_runs (empty_runs 0) (k answers 0))
+
+pub dead_goes : Headline row.dead row.dead → ⊥
+dead_goes h = true≢false h.clean

@@ -1,0 +1,43 @@
+// Small modules that the headline is tried on. Each is a contract, so that the check computes it.
+ghost use Rattle.std.specs.Prelude.{◌≡◌};
+ghost use Rattle.js_syntax.specs.Node.{bare};
+ghost use Rattle.js_meaning.specs.Kept.{Kept, KeptBack};
+ghost use Rattle.min_passes.specs.Passes.{shaken};
+ghost use Rattle.headline.specs.Headline.{Headline};
+ghost use Rattle.test_headline.specs.Rows as row;
+
+/// `export let g = 1;` doesn't become empty: at its end the host sees an export less.
+pub fn exports_stay()
+    ensures kept { Kept row.exports_one row.empty → ⊥ }
+    ensures refused { Headline row.exports_one row.empty → ⊥ }
+{}
+
+/// Nor does `f(1);`: the host is called once less.
+pub fn calls_stay()
+    ensures kept { Kept row.calls_host row.empty → ⊥ }
+    ensures refused { Headline row.calls_host row.empty → ⊥ }
+{}
+
+/// `function g() {} g();` doesn't become `g();`, which throws.
+pub fn called_functions_stay()
+    ensures kept { Kept row.calls_own row.calls_nothing → ⊥ }
+    ensures refused { Headline row.calls_own row.calls_nothing → ⊥ }
+{}
+
+/// `for (;;) ;` doesn't become empty. No run of it ends, so that all that its runs show is kept; but the empty program comes to an end,
+/// which is what the way back refuses.
+pub fn endless_loops_stay()
+    ensures back { KeptBack row.never_ends row.empty → ⊥ }
+    ensures refused { Headline row.never_ends row.empty → ⊥ }
+{}
+
+/// `1;` doesn't stay.
+pub fn dead_code_goes()
+    ensures { Headline row.dead row.dead → ⊥ }
+{}
+
+/// `f(1); 2;` becomes `f(1);`.
+pub fn what_is_left()
+    ensures shaken { bare (shaken row.with_dead) ≡ row.calls_host }
+    ensures headline { Headline row.with_dead (shaken row.with_dead) }
+{}

@@ -1,0 +1,64 @@
+-- Rows of the table, computed.
+use Rattle.std.proofs.Common.{ℕ, refl}
+use Rattle.js_meaning.specs.State.{bind, done, stop, choose, alloc, read, store, identity, get_global, set_global, get_import, set_import, spend, with_moves, set_moves, with_exports, set_exports, put_event}
+use Rattle.js_meaning.specs.Show.{show, show_all, show_exports, emit, resolve, resolve_all}
+use Rattle.js_meaning.specs.Operator.{compare}
+use Rattle.js_meaning.specs.Scope.{declare, start, copy}
+use Rattle.js_meaning.specs.Host.{play}
+use Rattle.js_meaning.specs.Node.{need, may, each, values}
+use Rattle.js_meaning.specs.Expression.{in_turn}
+use Rattle.js_meaning.specs.Statement.{choose_case}
+use Rattle.js_meaning.specs.Module.{load_all, resolve_entries}
+use Rattle.js_meaning.specs.Meaning.{take_each, eval, task_does, enter}
+use Rattle.js_meaning.specs.Run.{module_does, run_within, run}
+use Rattle.js_meaning.specs.Examples.{Holds}
+use Rattle.test_run_definitions.specs.Worked as row
+
+-- opens every act, so that a run computes
+computes : ℕ
+unfolding bind done stop choose alloc read store identity get_global set_global get_import set_import spend with_moves set_moves with_exports set_exports put_event show show_all show_exports emit resolve resolve_all compare declare start copy play need may each values in_turn choose_case load_all resolve_entries take_each eval task_does enter module_does run_within run
+computes = 0
+
+pub continue_through_finally : Holds row.continue_through_finally
+unfolding computes
+continue_through_finally = refl
+
+pub break_over_return : Holds row.break_over_return
+unfolding computes
+break_over_return = refl
+
+pub constant_not_written : Holds row.constant_not_written
+unfolding computes
+constant_not_written = refl
+
+pub old_value_first : Holds row.old_value_first
+unfolding computes
+old_value_first = refl
+
+pub own_name_written : Holds row.own_name_written
+unfolding computes
+own_name_written = refl
+
+pub import_changes : Holds row.import_changes
+unfolding computes
+import_changes = refl
+
+pub host_asked : Holds row.host_asked
+unfolding computes
+host_asked = refl
+
+pub no_truth_value : Holds row.no_truth_value
+unfolding computes
+no_truth_value = refl
+
+pub call_back_throws : Holds row.call_back_throws
+unfolding computes
+call_back_throws = refl
+
+pub global_comes_too_late : Holds row.global_comes_too_late
+unfolding computes
+global_comes_too_late = refl
+
+pub cells_of_the_head : Holds row.cells_of_the_head
+unfolding computes
+cells_of_the_head = refl

@@ -1,6 +1,0 @@
-use Rattle.tree_write.proofs.Appending.{one, ◌then◌}
-use Rattle.tree_write.proofs.name.write_whole_number.Goals as goal
-
-pub returns : goal.returns
-returns c =
-    one c.in_ok-begin_object.ensures then c.in_ok-write_word.ensures then one c.in_ok-key.ensures then one c.in_ok-u64.ensures then one c.in_ok-end_object.ensures

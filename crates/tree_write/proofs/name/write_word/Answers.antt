@@ -1,6 +1,0 @@
-use Rattle.tree_write.proofs.Appending.{one, ◌then◌}
-use Rattle.tree_write.proofs.name.write_word.Goals as goal
-
-pub returns : goal.returns
-returns c =
-    one c.in_ok-key.ensures then one c.in_ok-string.ensures
