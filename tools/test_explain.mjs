@@ -3,7 +3,7 @@
 // behind it that breaks rule 3, each that is accepted: both must tell the same first fault, and the same place.
 import { spawnSync } from 'node:child_process';
 import { readFileSync } from 'node:fs';
-import { parseJson } from './json.mjs';
+import { JsonFault, parseJson } from './json.mjs';
 import { Tree, TreeFault } from './tree.mjs';
 
 const program = process.argv[2];
@@ -20,6 +20,7 @@ function fault(row) {
   try {
     return { tree: new Tree(parseJson(Buffer.from(row)).value), line: '' };
   } catch (error) {
+    if (error instanceof JsonFault) return { line: '' };
     if (!(error instanceof TreeFault)) throw error;
     return { line: error.message.trimEnd() };
   }
