@@ -270,7 +270,7 @@ same_in_turn : {b : ℕ} {ms ns : Parts} (env : Env) → SameParts b ms ns → S
 unfolding in_turn
 same_in_turn env no_more = same_stop _
 same_in_turn env (one_more neither r) = same_stop _
-same_in_turn env (one_more (both m) no_more) = same_value (m.asked now env) (λ v. same_done _)
+same_in_turn env (one_more (both m) no_more) = m.asked now env
 same_in_turn env (one_more (both m) (one_more o r)) = same_value (m.asked now env) (λ v. same_in_turn env (one_more o r))
 
 same_take_each : {b : ℕ} {ms ns : Parts} (vs : List Value) (env : Env) → SameParts b ms ns → Same b (take_each ms vs env) (take_each ns vs env)
@@ -573,7 +573,7 @@ same_does e Kind.Expressions a c (value w) env = same_in_turn env c
 same_does e (Kind.UnaryExpression o) a c (value w) env = same_need c (λ _ _ _ _ m r. same_value (m.asked _ env) (same_unary o))
 same_does e (Kind.UpdateExpression o prefix) a c (value w) env = same_need c (λ _ _ _ _ t r. same_place (t.asked _ env) (same_update e o prefix))
 same_does e (Kind.BinaryExpression o) a c (value w) env = same_need c (λ _ _ _ _ l r. same_need r (λ _ _ _ _ m r. same_value (l.asked now env) (λ v. same_value (m.asked now env) (same_binary_value e o v))))
-same_does e (Kind.LogicalExpression o) a c (value w) env = same_need c (λ _ _ _ _ l r. same_need r (λ _ _ _ _ m r. same_value (l.asked now env) (λ v. same_logical o v (same_value (m.asked now env) (λ u. same_done _)))))
+same_does e (Kind.LogicalExpression o) a c (value w) env = same_need c (λ _ _ _ _ l r. same_need r (λ _ _ _ _ m r. same_value (l.asked now env) (λ v. same_logical o v (m.asked now env))))
 same_does e (Kind.AssignmentExpression o) a c (value w) env = same_need c (λ _ _ _ _ t r. same_need r (λ _ _ _ _ m r. same_place (t.asked _ env) (λ p. same_assign e o p (m.asked now env))))
 same_does e Kind.ConditionalExpression a c (value w) env = same_need c (λ _ _ _ _ t r. same_need r (λ _ _ _ _ m r. same_need r (λ _ _ _ _ d r. same_value (t.asked now env) (λ v. same_choose _ (m.asked now env) (d.asked now env)))))
 same_does e (Kind.CallExpression false pure) a c (value w) env = same_need c (λ _ _ _ _ m r. same_need r (λ _ _ _ _ args r. same_receiver (m.asked _ env) (λ f this. same_all (args.asked collect env) (same_call e f this))))

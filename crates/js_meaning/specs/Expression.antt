@@ -138,5 +138,5 @@ array_content (v ∷ vs) = element v (array_content vs)
 unfoldable pub in_turn : Parts → Env → M
 in_turn [] env = unknown
 in_turn (None ∷ ms) env = unknown
-in_turn (Some m ∷ []) env = with_value (m now env) give
+in_turn (Some m ∷ []) env = m now env
 in_turn (Some m ∷ o ∷ ms) env = with_value (m now env) (λ v. in_turn (o ∷ ms) env)

@@ -7,8 +7,8 @@ use Rattle.js_meaning.specs.Value.{Text, Value, ErrorKind}
 use Rattle.js_meaning.specs.Trace.{Ending, Event, Move}
 use Rattle.js_meaning.specs.State.{State, Cell, Export, Place, Completion, Out, goes, stops, M, more, go_on, bind, done, stop, unknown, give, choose, if_normal, seq, if_gives, with_receiver, with_value, if_gives_all, with_all, if_refers, with_place, put, alloc, read, store, identity, raise, get_global, set_global, get_import, set_import, spend_from, spend, with_moves, set_moves, with_exports, set_exports, put_event}
 use Rattle.js_meaning.specs.Kept.{Prefix}
-use Rattle.js_meaning_near.proofs.Worlds.{Rule, any_value, an_object, both, left, right, World, In, here, Sub, same, later, grown, Links, new, old, BothNew, both_split, behind_left, behind_right, links_up, links_up_right, right_links, left_links, both_links, not_eq, ids_same}
-use Rattle.js_meaning_near.proofs.Relations.{HoldsCell, Same, same_plain, same_error, SameOpt, SameAll, SameCell, SamePlace, SameCompletion, same_normal, same_gives, same_gives_all, same_refers, same_breaks, same_continues, same_returns, same_throws, Obeys, Cells, SameExports, States, trace, Follows, both_go, both_stop, old_stops, Acts, opt_later, all_later, cell_later, completion_later, exports_later}
+use Rattle.js_meaning_near.proofs.Worlds.{Rule, any_value, an_object, both, left, right, slack, World, In, here, Sub, same, later, grown, Links, new, old, BothNew, both_split, behind_left, behind_right, links_up, links_up_right, right_links, left_links, both_links, not_eq, ids_same}
+use Rattle.js_meaning_near.proofs.Relations.{HoldsCell, Same, same_plain, same_error, SameOpt, SameAll, SameCell, SamePlace, SameCompletion, same_normal, same_gives, same_gives_all, same_refers, same_breaks, same_continues, same_returns, same_throws, Obeys, Cells, SameExports, States, trace, Follows, both_go, both_stop, old_stops, old_out, Budgets, as_many, no_more, budgets_later, Acts, opt_later, all_later, cell_later, completion_later, exports_later}
 
 pub acts_later : {w w2 : World} {m k : M} → Sub w w2 → Acts w m k → Acts w2 m k
 acts_later g a = record { act = λ w3 h s z r. a.act w3 (later g h) s z r }
@@ -17,6 +17,7 @@ pub follows_back : {w w2 : World} {o p : Out} → Sub w w2 → Follows w2 o p �
 follows_back g (both_go h r c) = both_go (later g h) r c
 follows_back g both_stop = both_stop
 follows_back g (old_stops p) = old_stops p
+follows_back g (old_out i p) = old_out (g.slack_kept i) p
 
 -- events
 
@@ -31,6 +32,7 @@ pub more_follows : {w : World} {o p : Out} (es : List Event) → Follows w o p �
 more_follows es (both_go h r c) = both_go h r c
 more_follows es both_stop = both_stop
 more_follows es (old_stops {es = fs} {o = p} x) = old_stops (more_prefix es fs p x)
+more_follows es (old_out {es = fs} {o = p} i x) = old_out i (more_prefix es fs p x)
 
 -- no events more
 pub nothing_more : {w : World} {p : Out} (o : Out) → Follows w o p → Follows w (more [] o) p
@@ -51,6 +53,7 @@ on_follows j k (both_go {es = es} {s = s} {z = z} {c = c} {d = d} {w2 = w2} h r 
     more_follows es (follows_back h ((f w2 h c d e).act w2 (same w2) s z r))
 on_follows j k both_stop f = both_stop
 on_follows j k (old_stops {es = es} {o = o} x) f = old_stops (prefix_on es o k x)
+on_follows j k (old_out {es = es} {o = o} i x) f = old_out i (prefix_on es o k x)
 
 pub bind_acts : {w : World} {m k : M} {f g : Completion → M} → Acts w m k → ((w2 : World) (c d : Completion) → Sub w w2 → SameCompletion w2 c d → Acts w2 (f c) (g d)) → Acts w (bind m f) (bind k g)
 unfolding bind
@@ -194,10 +197,10 @@ new_cells : {w : World} {s z : ℕ → Cell} {m n : ℕ} (q : Rule) → Links w 
 new_cells {w = w} {s = s} {z = z} {m = m} {n = n} q g r c d o e = record { linked = λ a b p k u. go a b p (both_split a b p m n q w k) u; obeyed = λ a b p k. stay a b p (both_split a b p m n q w k) }
   where
     go : (a b : ℕ) (p : Rule) → BothNew a b p m n q w → HoldsCell p → SameCell (both m n q ∷ w) (put s m c a) (put z n d b)
-    go a b p (new x) u = if_first (s a) (z b) (nat_eq a m) (nat_eq b n) (eq-eqb a m x.0) (eq-eqb b n x.1) (cell_later (grown _ w) e)
+    go a b p (new x) u = if_first (s a) (z b) (nat_eq a m) (nat_eq b n) (eq-eqb a m x.0) (eq-eqb b n x.1) (cell_later (grown _ w tt) e)
     go a b p (old k) u =
         let x = g.below a b p k in let y = x.0 in let t = x.1 in
-        if_second c d (nat_eq a m) (nat_eq b n) (not_eq a m (λ e. omega arith)) (not_eq b n (λ e. omega arith)) (cell_later (grown _ w) (r.linked a b p k u))
+        if_second c d (nat_eq a m) (nat_eq b n) (not_eq a m (λ e. omega arith)) (not_eq b n (λ e. omega arith)) (cell_later (grown _ w tt) (r.linked a b p k u))
 
     stay : (a b : ℕ) (p : Rule) → BothNew a b p m n q w → Obeys p (put s m c a)
     stay a b p (new x) = rw (x.2, eq-eqb a m x.0) o
@@ -208,7 +211,7 @@ new_object {w = w} {s = s} {z = z} {m = m} {n = n} r = record { linked = λ a b 
   where
     go : (a b : ℕ) (p : Rule) → BothNew a b p m n an_object w → HoldsCell p → SameCell (both m n an_object ∷ w) (s a) (z b)
     go a b p (new x) u = absurd (subst HoldsCell x.2 u)
-    go a b p (old k) u = cell_later (grown _ w) (r.linked a b p k u)
+    go a b p (old k) u = cell_later (grown _ w tt) (r.linked a b p k u)
 
     stay : (a b : ℕ) (p : Rule) → BothNew a b p m n an_object w → Obeys p (s a)
     stay a b p (new x) = rw x.2 tt
@@ -220,7 +223,7 @@ left_cells {w = w} {s = s} {z = z} {m = m} {n = n} g r c = record { linked = λ 
     go : (a b : ℕ) (p : Rule) → In (both a b p) w → HoldsCell p → SameCell (left m ∷ w) (put s m c a) (z b)
     go a b p k u =
         let y = (g.below a b p k).0 in
-        if_not c (nat_eq a m) (not_eq a m (λ e. omega arith)) (cell_later (grown _ w) (r.linked a b p k u))
+        if_not c (nat_eq a m) (not_eq a m (λ e. omega arith)) (cell_later (grown _ w tt) (r.linked a b p k u))
 
     stay : (a b : ℕ) (p : Rule) → In (both a b p) w → Obeys p (put s m c a)
     stay a b p k = let y = (g.below a b p k).0 in rw (not_eq a m (λ e. omega arith)) (r.obeyed a b p k)
@@ -229,14 +232,14 @@ right_cells : {w : World} {s z : ℕ → Cell} {m n : ℕ} → Links w m n → C
 right_cells {w = w} {s = s} {z = z} {m = m} {n = n} g r c = record { linked = λ a b p k u. go a b p (behind_right a b p n w k) u; obeyed = λ a b p k. r.obeyed a b p (behind_right a b p n w k) }
   where
     go : (a b : ℕ) (p : Rule) → In (both a b p) w → HoldsCell p → SameCell (right n ∷ w) (s a) (put z n c b)
-    go a b p k u = let y = (g.below a b p k).1 in if_not_right c (nat_eq b n) (not_eq b n (λ e. omega arith)) (cell_later (grown _ w) (r.linked a b p k u))
+    go a b p k u = let y = (g.below a b p k).1 in if_not_right c (nat_eq b n) (not_eq b n (λ e. omega arith)) (cell_later (grown _ w tt) (r.linked a b p k u))
 
 -- states
 
 -- all but the counter and the cells, in a world that grew
 other_states : {w w2 : World} {s z : State} {m n : ℕ} {f g : ℕ → Cell} → Sub w w2 → States w s z → Links w2 m n → Cells w2 f g → States w2 (record s { fresh = m; store = f }) (record z { fresh = n; store = g })
 other_states h r l c = record {
-  budget = r.budget;
+  budget = budgets_later h r.budget;
   links = l;
   cells = c;
   globals = λ x. opt_later h (r.globals x);
@@ -251,13 +254,13 @@ stored_states : {w : World} {s z : State} {f g : ℕ → Cell} → States w s z 
 stored_states {w = w} r c = other_states (same w) r r.links c
 
 pub left_states : {w : World} {s z : State} (c : Cell) → States w s z → States (left s.fresh ∷ w) (record s { fresh = suc s.fresh; store = put s.store s.fresh c }) z
-left_states {w = w} c r = other_states (grown _ w) r (left_links r.links) (left_cells r.links r.cells c)
+left_states {w = w} c r = other_states (grown _ w tt) r (left_links r.links) (left_cells r.links r.cells c)
 
 pub stored_left : {w : World} {s z : State} (i : ℕ) (c : Cell) → In (left i) w → States w s z → States w (record s { store = put s.store i c }) z
 stored_left i c l r = stored_states r (put_left i c r.links r.cells l)
 
 right_states : {w : World} {s z : State} (c : Cell) → States w s z → States (right z.fresh ∷ w) s (record z { fresh = suc z.fresh; store = put z.store z.fresh c })
-right_states {w = w} c r = other_states (grown _ w) r (right_links r.links) (right_cells r.links r.cells c)
+right_states {w = w} c r = other_states (grown _ w tt) r (right_links r.links) (right_cells r.links r.cells c)
 
 -- a number that nothing stands for
 pub skipped_states : {w : World} {s z : State} → States w s z → States w (record s { fresh = suc s.fresh }) z
@@ -270,22 +273,22 @@ skipped_right {w = w} {z = z} r = other_states (same w) r (links_up_right (suc z
 
 pub alloc_rule : {w : World} {c d : Cell} {f g : ℕ → M} (q : Rule) → Obeys q c → SameCell w c d → ((w2 : World) (i j : ℕ) → Sub w w2 → In (both i j q) w2 → Acts w2 (f i) (g j)) → Acts w (alloc c f) (alloc d g)
 unfolding alloc
-alloc_rule {c = c} {d = d} q o e b = record { act = λ w2 h s z r. let l = both s.fresh z.fresh q in let x = b (l ∷ w2) _ _ (later h (grown l w2)) here in follows_back (grown l w2) (x.act (l ∷ w2) (same (l ∷ w2)) _ _ (other_states (grown l w2) r (both_links q r.links) (new_cells q r.links r.cells c d o (cell_later h e)))) }
+alloc_rule {c = c} {d = d} q o e b = record { act = λ w2 h s z r. let l = both s.fresh z.fresh q in let x = b (l ∷ w2) _ _ (later h (grown l w2 tt)) here in follows_back (grown l w2 tt) (x.act (l ∷ w2) (same (l ∷ w2)) _ _ (other_states (grown l w2 tt) r (both_links q r.links) (new_cells q r.links r.cells c d o (cell_later h e)))) }
 
 pub alloc_acts : {w : World} {c d : Cell} {f g : ℕ → M} → SameCell w c d → ((w2 : World) (i j : ℕ) → Sub w w2 → In (both i j any_value) w2 → Acts w2 (f i) (g j)) → Acts w (alloc c f) (alloc d g)
 alloc_acts e b = alloc_rule any_value tt e b
 
 pub alloc_left : {w : World} {f : ℕ → M} {k : M} (c : Cell) → ((w2 : World) (i : ℕ) → Sub w w2 → In (left i) w2 → Acts w2 (f i) k) → Acts w (alloc c f) k
 unfolding alloc
-alloc_left c b = record { act = λ w2 h s z r. let l = left s.fresh in let x = b (l ∷ w2) _ (later h (grown l w2)) here in follows_back (grown l w2) (x.act (l ∷ w2) (same (l ∷ w2)) _ _ (left_states c r)) }
+alloc_left c b = record { act = λ w2 h s z r. let l = left s.fresh in let x = b (l ∷ w2) _ (later h (grown l w2 tt)) here in follows_back (grown l w2 tt) (x.act (l ∷ w2) (same (l ∷ w2)) _ _ (left_states c r)) }
 
 pub alloc_right : {w : World} {m : M} {f : ℕ → M} (c : Cell) → ((w2 : World) (i : ℕ) → Sub w w2 → In (right i) w2 → Acts w2 m (f i)) → Acts w m (alloc c f)
 unfolding alloc
-alloc_right c b = record { act = λ w2 h s z r. let l = right z.fresh in let x = b (l ∷ w2) _ (later h (grown l w2)) here in follows_back (grown l w2) (x.act (l ∷ w2) (same (l ∷ w2)) _ _ (right_states c r)) }
+alloc_right c b = record { act = λ w2 h s z r. let l = right z.fresh in let x = b (l ∷ w2) _ (later h (grown l w2 tt)) here in follows_back (grown l w2 tt) (x.act (l ∷ w2) (same (l ∷ w2)) _ _ (right_states c r)) }
 
 pub identity_acts : {w : World} {f g : ℕ → M} → ((w2 : World) (i j : ℕ) → Sub w w2 → In (both i j an_object) w2 → Acts w2 (f i) (g j)) → Acts w (identity f) (identity g)
 unfolding identity
-identity_acts b = record { act = λ w2 h s z r. let l = both s.fresh z.fresh an_object in let x = b (l ∷ w2) _ _ (later h (grown l w2)) here in follows_back (grown l w2) (x.act (l ∷ w2) (same (l ∷ w2)) _ _ (other_states (grown l w2) r (both_links an_object r.links) (new_object r.cells))) }
+identity_acts b = record { act = λ w2 h s z r. let l = both s.fresh z.fresh an_object in let x = b (l ∷ w2) _ _ (later h (grown l w2 tt)) here in follows_back (grown l w2 tt) (x.act (l ∷ w2) (same (l ∷ w2)) _ _ (other_states (grown l w2 tt) r (both_links an_object r.links) (new_object r.cells))) }
 
 pub identity_left : {w : World} {f : ℕ → M} {k : M} → ((i : ℕ) → Acts w (f i) k) → Acts w (identity f) k
 unfolding identity
@@ -300,7 +303,7 @@ raise_acts e = identity_acts (λ w2 i j h l. done_acts (same_throws (same_error 
 
 pub read_rule : {w : World} {i j : ℕ} {p : Rule} {f g : Cell → M} → HoldsCell p → In (both i j p) w → ((w2 : World) (c d : Cell) → Sub w w2 → Obeys p c → SameCell w2 c d → Acts w2 (f c) (g d)) → Acts w (read i f) (read j g)
 unfolding read
-read_rule {i = i} {j = j} {p = p} u l b = record { act = λ w2 h s z r. (b w2 _ _ h (r.cells.obeyed i j p (h _ l)) (r.cells.linked i j p (h _ l) u)).act w2 (same w2) s z r }
+read_rule {i = i} {j = j} {p = p} u l b = record { act = λ w2 h s z r. (b w2 _ _ h (r.cells.obeyed i j p (h.kept _ l)) (r.cells.linked i j p (h.kept _ l) u)).act w2 (same w2) s z r }
 
 pub read_acts : {w : World} {i j : ℕ} {p : Rule} {f g : Cell → M} → HoldsCell p → In (both i j p) w → ((w2 : World) (c d : Cell) → Sub w w2 → SameCell w2 c d → Acts w2 (f c) (g d)) → Acts w (read i f) (read j g)
 read_acts u l b = read_rule u l (λ w2 c d h o e. b w2 c d h e)
@@ -316,22 +319,22 @@ read_right i b = record { act = λ w2 h s z r. (b (z.store i)).act w2 h s z r }
 -- what the old run reads in a cell with a rule
 pub read_obeyed : {w : World} {i j : ℕ} {p : Rule} {f : Cell → M} {k : M} → In (both i j p) w → ((c : Cell) → Obeys p c → Acts w (f c) k) → Acts w (read i f) k
 unfolding read
-read_obeyed {i = i} {j = j} {p = p} l b = record { act = λ w2 h s z r. (b (s.store i) (r.cells.obeyed i j p (h _ l))).act w2 h s z r }
+read_obeyed {i = i} {j = j} {p = p} l b = record { act = λ w2 h s z r. (b (s.store i) (r.cells.obeyed i j p (h.kept _ l))).act w2 h s z r }
 
 pub store_rule : {w : World} {i j : ℕ} {p : Rule} {c d : Cell} {m k : M} → In (both i j p) w → Obeys p c → SameCell w c d → Acts w m k → Acts w (store i c m) (store j d k)
 unfolding store
-store_rule {i = i} {j = j} {c = c} {d = d} l o e a = record { act = λ w2 h s z r. a.act w2 h _ _ (stored_states r (put_cells i j c d r.links r.cells (h _ l) o (cell_later h e))) }
+store_rule {i = i} {j = j} {c = c} {d = d} l o e a = record { act = λ w2 h s z r. a.act w2 h _ _ (stored_states r (put_cells i j c d r.links r.cells (h.kept _ l) o (cell_later h e))) }
 
 pub store_acts : {w : World} {i j : ℕ} {c d : Cell} {m k : M} → In (both i j any_value) w → SameCell w c d → Acts w m k → Acts w (store i c m) (store j d k)
 store_acts l e a = store_rule l tt e a
 
 pub store_left : {w : World} {i : ℕ} {m k : M} (c : Cell) → In (left i) w → Acts w m k → Acts w (store i c m) k
 unfolding store
-store_left {i = i} c l a = record { act = λ w2 h s z r. a.act w2 h _ _ (stored_left i c (h _ l) r) }
+store_left {i = i} c l a = record { act = λ w2 h s z r. a.act w2 h _ _ (stored_left i c (h.kept _ l) r) }
 
 pub store_right : {w : World} {i : ℕ} {m k : M} (c : Cell) → In (right i) w → Acts w m k → Acts w m (store i c k)
 unfolding store
-store_right {i = i} c l a = record { act = λ w2 h s z r. a.act w2 h _ _ (stored_states r (put_right i c r.links r.cells (h _ l))) }
+store_right {i = i} c l a = record { act = λ w2 h s z r. a.act w2 h _ _ (stored_states r (put_right i c r.links r.cells (h.kept _ l))) }
 
 -- globals and imports
 
@@ -385,11 +388,23 @@ set_exports_acts stars e a = record { act = λ w2 h s z r. a.act w2 h _ _ (recor
 
 -- an entry costs both one
 
-spend_follows : {w : World} {m k : M} {s z : State} (n o : ℕ) → n ≡ o → States w s z → Acts w m k → Follows w (spend_from n m s) (spend_from o k z)
+fewer_budgets : {w : World} {m n : ℕ} → Budgets w (suc m) (suc n) → Budgets w m n
+fewer_budgets (as_many e) = as_many (omega arith)
+fewer_budgets (no_more i l) = no_more i (omega arith)
+
+none_left : {w : World} {o : ℕ} (p : Out) → Budgets w zero (suc o) → Follows w (stops [] Ending.out) p
+none_left p (as_many e) = absurd (omega arith)
+none_left p (no_more i l) = old_out i (trace p, refl)
+
+not_fewer : {w : World} {n : ℕ} → Budgets w (suc n) zero → ⊥
+not_fewer (as_many e) = omega arith
+not_fewer (no_more i l) = omega arith
+
+spend_follows : {w : World} {m k : M} {s z : State} (n o : ℕ) → Budgets w n o → States w s z → Acts w m k → Follows w (spend_from n m s) (spend_from o k z)
 spend_follows zero zero e r a = both_stop
-spend_follows zero (suc o) e r a = absurd (omega arith)
-spend_follows (suc n) zero e r a = absurd (omega arith)
-spend_follows {w = w} (suc n) (suc o) e r a = let b : n ≡ o = omega arith in a.act w (same w) _ _ (record { budget = b; links = r.links; cells = r.cells; globals = r.globals; imports = r.imports; shown = r.shown; moves = r.moves; exports = r.exports; stars = r.stars })
+spend_follows {k = k} {z = z} zero (suc o) e r a = none_left (k (record z { budget = o })) e
+spend_follows (suc n) zero e r a = absurd (not_fewer e)
+spend_follows {w = w} (suc n) (suc o) e r a = a.act w (same w) _ _ (record { budget = fewer_budgets e; links = r.links; cells = r.cells; globals = r.globals; imports = r.imports; shown = r.shown; moves = r.moves; exports = r.exports; stars = r.stars })
 
 pub spend_acts : {w : World} {m k : M} → Acts w m k → Acts w (spend m) (spend k)
 unfolding spend

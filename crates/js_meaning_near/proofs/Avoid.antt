@@ -11,7 +11,7 @@ use Rattle.js_syntax.specs.Node.{Forest, nothing, node, absent}
 use Rattle.js_meaning.specs.Value.{Text, this_name}
 use Rattle.js_meaning.specs.Scope.{Way, waiting, Decl, decl, named_so, first_name, own_name, function_decls, module_decls, default_name}
 use Rattle.js_meaning.specs.Module.{Entry, entry_local, entry_import, entries, stars, requests}
-use Rattle.js_meaning_near.specs.Names.{Status, no_names, undeclared, live, dead, unread, known, Names, with_name, Usable, Writable, Fillable, FillableIf, Lone, no_decls, in_both, in_both_unread, in_old_again, in_old, declared, names_below, Plainly, AllPlain, PlainBut}
+use Rattle.js_meaning_near.specs.Names.{Status, no_names, undeclared, loose, live, dead, unread, known, Names, with_name, Usable, Writable, Fillable, FillableIf, Lone, no_decls, in_both, in_both_unread, in_old_again, in_old, declared, names_below, Plainly, AllPlain, PlainBut}
 use Rattle.js_meaning_near.specs.Near.{Row, fields, items, row_below, Okay, ReceiverOk, Near, ExportsOk, NearModule, near_module}
 use Rattle.js_meaning_near.specs.Fit.{names_after, around_code, within_code, FunctionOk, Part, whole, others, NodeFits, IfCore, Fits}
 use Rattle.js_meaning_near.specs.Avoid.{declares, Dropping, Fewer, fewer_end, fewer_same, fewer_gone, Dropped, dropped_here, dropped_later, CellIf, HasCells, ExportsAvoid, CasesOk, NodeInPlace, InPlace, IsOther, IsOtherIf, Binding, NameAvoids, HoistedAvoids, code_declares, Unless, NodeAvoids, Avoids}
@@ -24,15 +24,17 @@ same_text x y e = (bytes_eq-Decides x y).0 e
 pub itself : (x : Text) → bytes_eq x x ≡ true
 itself x = (bytes_eq-Decides x x).1 refl
 
-usable_plain : (s : Status) → Plainly s → Usable s
+pub usable_plain : (s : Status) → Plainly s → Usable s
 usable_plain undeclared y = tt
+usable_plain loose y = tt
 usable_plain live y = tt
 usable_plain dead y = y
 usable_plain unread y = y
 usable_plain (known p) y = tt
 
-writable_plain : (s : Status) → Plainly s → Writable s
+pub writable_plain : (s : Status) → Plainly s → Writable s
 writable_plain undeclared y = tt
+writable_plain loose y = tt
 writable_plain live y = tt
 writable_plain dead y = y
 writable_plain unread y = y
@@ -40,6 +42,7 @@ writable_plain (known p) y = y
 
 pub fillable_plain : (s : Status) → Plainly s → Fillable s
 fillable_plain undeclared y = tt
+fillable_plain loose y = tt
 fillable_plain live y = tt
 fillable_plain dead y = y
 fillable_plain unread y = tt
@@ -74,7 +77,7 @@ after_other (decl y way ∷ ds) st x e = go (bytes_eq y x) refl (after_other ds 
     go true p h e = absurd (false_true (sym e))
     go false p h e = h e ∙ ap (λ b. if b then live else st x) p
 
-after_both : (ds es : List Decl) (st : Names) → names_after (names_after st ds) es ≡ names_after st (ds ++ es)
+pub after_both : (ds es : List Decl) (st : Names) → names_after (names_after st ds) es ≡ names_after st (ds ++ es)
 after_both [] es st = refl
 after_both (decl y way ∷ ds) es st = after_both ds es (with_name st y live)
 
@@ -168,6 +171,7 @@ lone_is : (s : Status) → Lone s → IsLone s
 lone_is dead y = is_dead
 lone_is unread y = is_unread
 lone_is undeclared y = absurd y
+lone_is loose y = absurd y
 lone_is live y = absurd y
 lone_is (known p) y = absurd y
 
@@ -214,7 +218,7 @@ below_plain Kind.ForStatement st t g h = h
 below_plain Kind.CatchClause st t g h = h
 below_plain _ st t g h = g
 
-abbrev NotFunction : Kind → Type 0
+abbrev pub NotFunction : Kind → Type 0
 NotFunction (Kind.Function f pure) = ⊥
 NotFunction _ = Unit {0}
 
@@ -228,7 +232,7 @@ okay_clear p st Kind.Cases n g c = c
 okay_clear p st (Kind.Function f pure) n g c = n
 okay_clear p st _ n g c = tt
 
-own_fillable : (st : Names) (o : Option Text) → FillableIf (names_after st (named_so (waiting true) o)) o
+pub own_fillable : (st : Names) (o : Option Text) → FillableIf (names_after st (named_so (waiting true) o)) o
 own_fillable st None = tt
 own_fillable st (Some x) = subst Fillable (sym (with_same st x x live (itself x))) tt
 
@@ -264,7 +268,7 @@ fits_clear whole p st (node k n a c) g y = (clear_node p st k a (is_core k) g (�
 
 -- rows that don't mention the one name that isn't plain
 
-unless : {H S : Type 0} {R : Type 0} (b : Bool) → (b ≡ true → H → R) → (b ≡ false → S → R) → Unless b H S → R
+pub unless : {H S : Type 0} {R : Type 0} (b : Bool) → (b ≡ true → H → R) → (b ≡ false → S → R) → Unless b H S → R
 unless true f g y = f refl y
 unless false f g y = g refl y
 
@@ -286,7 +290,7 @@ okay_avoiding b x p st Kind.Cases n g h e c = c
 okay_avoiding b x p st (Kind.Function f pure) n g h e c = n
 okay_avoiding b x p st _ n g h e c = tt
 
-other_if : (b : Bool) (x : Text) (st : Names) (o : Option Text) → PlainBut x st → (b ≡ false → Fillable (st x)) → Binding b (IsOtherIf x o) → FillableIf st o
+pub other_if : (b : Bool) (x : Text) (st : Names) (o : Option Text) → PlainBut x st → (b ≡ false → Fillable (st x)) → Binding b (IsOtherIf x o) → FillableIf st o
 other_if b x st None g h e = tt
 other_if b x st (Some y) g h e = fill_avoiding b x st y g h e
 
@@ -314,14 +318,14 @@ below_avoiding b x Kind.CatchClause st t g h = h
 below_avoiding b x _ st t g h = g
 
 -- behind a declaration of the name all names below a node are plain, if the node has declared it
-below_all : (x : Text) (k : Kind) (a : Forest) (st : Names) → PlainBut x st → declares (declared k a) x ≡ true → AllPlain (names_below k st (names_after st (declared k a)))
+pub below_all : (x : Text) (k : Kind) (a : Forest) (st : Names) → PlainBut x st → declares (declared k a) x ≡ true → AllPlain (names_below k st (names_after st (declared k a)))
 below_all x Kind.BlockStatement a st g e = after_all x _ st g e
 below_all x Kind.Cases a st g e = after_all x _ st g e
 below_all x Kind.ForStatement a st g e = after_all x _ st g e
 below_all x Kind.CatchClause a st g e = after_all x _ st g e
 below_all x _ a st g e = absurd (false_true e)
 
-code_all : (x : Text) (f : FunctionKind) (a : Forest) (st : Names) → PlainBut x st → declares (code_declares f a) x ≡ true → AllPlain (within_code st f a)
+pub code_all : (x : Text) (f : FunctionKind) (a : Forest) (st : Names) → PlainBut x st → declares (code_declares f a) x ≡ true → AllPlain (within_code st f a)
 code_all x f a st g e = subst AllPlain (sym (after_both (named_so (waiting true) (own_name f a)) (function_decls f a) st)) (after_all x (code_declares f a) st g e)
 
 code_avoiding : (b : Bool) (x : Text) (f : FunctionKind) (a : Forest) (st : Names) → Avoiding b x st → declares (code_declares f a) x ≡ false → Avoiding b x (within_code st f a)
@@ -349,7 +353,7 @@ fits_avoiding b x q p st a g h y = avoiding_fits b x q p st a (record { plain = 
 
 -- exports
 
-exports_plain : (st : Names) (es : List Entry) → AllPlain st → ExportsOk st es
+pub exports_plain : (st : Names) (es : List Entry) → AllPlain st → ExportsOk st es
 exports_plain st [] g = tt
 exports_plain st (entry_local x y ∷ es) g = (usable_plain (st y) (g y), exports_plain st es g)
 exports_plain st (entry_import x source name ∷ es) g = exports_plain st es g

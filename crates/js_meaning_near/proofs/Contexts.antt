@@ -9,24 +9,26 @@ use Rattle.js_syntax.specs.Facts.{is_core}
 use Rattle.js_syntax.specs.Node.{Note, Forest, nothing, node, absent}
 use Rattle.js_meaning.specs.Value.{Text, Slot, Env, this_name, Plain, Value, plain, literal_value}
 use Rattle.js_meaning.specs.Trace.{Act, Script, Ending, ended, Run}
-use Rattle.js_meaning.specs.State.{Export, export, Completion, normal, Out, M, done, seq, set_exports}
-use Rattle.js_meaning.specs.Scope.{behind, look, fill, start}
-use Rattle.js_meaning.specs.Host.{Task, Enter}
+use Rattle.js_meaning.specs.State.{State, Export, export, Completion, normal, Out, M, done, seq, set_exports, stop, spend, spend_from}
+use Rattle.js_meaning.specs.Scope.{behind, look, fill, start, module_decls}
+use Rattle.js_meaning_near.specs.Quiet.{EndsQuietly, gives_quietly, stops_quietly, Quiet}
+use Rattle.js_meaning.specs.Host.{Task, body, Enter}
 use Rattle.js_meaning.specs.Module.{Entry, entry_local, entry_import, entries, stars, requests, distinct, load_all, before, insert, sorted, if_bound, resolve_entries, exporting}
-use Rattle.js_meaning.specs.Node.{itself, to_call, for_typeof, Ask, take_all, Meaning, Parts, need, may, each, first_ask}
+use Rattle.js_meaning.specs.Node.{itself, to_call, for_typeof, run as run_under, Ask, take_all, Meaning, Parts, need, may, each, first_ask}
 use Rattle.js_meaning.specs.Meaning.{does, if_core, eval, take_this, run_code, enter_body, task_does, enter}
 use Rattle.js_meaning.specs.Run.{finish, finally, module_does, as_value, first_state, seen, run_within, run}
-use Rattle.js_meaning.specs.Kept.{refines, Refines, Refined}
-use Rattle.js_meaning_near.specs.Names.{Status, known, Names, Usable}
-use Rattle.js_meaning_near.specs.Near.{meaning, Silent, NoField, Change, statement_emptied, no_statement_emptied, value_read, Row, fields, ReceiverOk, is_row, Near, near_nothing, near_absent, near_node, near_closure, near_hoisted, near_unread, near_known, near_uncovered, changed, leaves, Code, near_code, ExportsOk, NearModule, near_module, module_of}
-use Rattle.js_meaning_near.proofs.Worlds.{any_value, only_value, Rule, World, same, no_links, not_in}
-use Rattle.js_meaning_near.proofs.Relations.{HoldsCell, SameSlot, same_local, same_import, At, at_nowhere, at_live, at_known, at_dead, at_unread, Envs, Same, same_plain, SameOpt, same_none, same_some, SameAll, all_nil, SameCompletion, same_normal, same_gives, same_gives_all, same_refers, same_breaks, same_continues, same_returns, same_throws, SameExports, no_exports, an_export, SameAsk, same_run, same_value, same_take_all, same_declares, States, Follows, both_go, both_stop, old_stops, Acts, Means, Tasks, same_body, same_turn, same_back, Enters, same_later, all_later}
+use Rattle.js_meaning.specs.Kept.{keeps, Keeps, Kept, refines, Refines, Refined}
+use Rattle.js_meaning_near.specs.Names.{Status, loose, known, exactly, silent_function, Decls, Names, Usable}
+use Rattle.js_meaning_near.specs.Near.{ComesTo, comes_to, meaning, Silent, NoField, Change, statement_emptied, no_statement_emptied, near_silent, SameEffects, same_effects, LooseModule, loose_module, value_read, Row, fields, items, ReceiverOk, is_row, Near, near_nothing, near_absent, near_node, near_closure, near_hoisted, near_unread, near_known, near_uncovered, changed, leaves, Code, near_code, ExportsOk, NearModule, near_module, module_of}
+use Rattle.js_meaning_near.proofs.Worlds.{any_value, only_value, both, slack, In, here, Links, Rule, World, same, no_links, slack_links, no_both, not_in}
+use Rattle.js_meaning_near.proofs.Relations.{HoldsCell, SameSlot, same_local, same_import, as_many, CallEnds, call_gives, call_uncovered, call_out, At, at_nowhere, at_loose, at_live, at_known, at_dead, at_unread, Envs, Same, same_plain, SameOpt, same_none, same_some, SameAll, all_nil, SameCompletion, same_normal, same_gives, same_gives_all, same_refers, same_breaks, same_continues, same_returns, same_throws, SameExports, no_exports, an_export, SameAsk, same_run, same_value, same_take_all, same_declares, States, Follows, both_go, both_stop, old_stops, old_out, Acts, Means, envs_later, Tasks, same_body, same_turn, same_back, Enters, same_later, all_later}
 use Rattle.js_meaning_near.proofs.Acts.{bind_acts, give_both, stop_acts, unknown_acts, normal_acts, value_acts, seq_acts, set_exports_acts, spend_acts}
 use Rattle.js_meaning_near.proofs.Showing.{show_acts, shown_exports_acts, emit_acts}
-use Rattle.js_meaning_near.proofs.Scopes.{no_envs, declare_acts, fill_acts, fill_known, known_value_acts, known_typeof_acts}
-use Rattle.js_meaning_near.proofs.Rows.{no_part, part, Fields, Rows, rows_nil, rows_more, need_acts, after_call_acts}
+use Rattle.js_meaning_near.proofs.Scopes.{envs_bind, no_envs, loose_envs, declare_acts, fill_acts, fill_known, known_value_acts, known_typeof_acts}
+use Rattle.js_meaning_near.specs.Wasted.{drops, Wastes, wastes_nothing, wastes_part, wastes_silent, wastes_known, wastes_call}
+use Rattle.js_meaning_near.proofs.Rows.{same_now, no_part, part, Fields, fields_end, fields_more, Rows, rows_nil, rows_more, need_acts, after_call_acts}
 use Rattle.js_meaning_near.proofs.Hosted.{report_acts, host_acts, consult_acts, turn_acts}
-use Rattle.js_meaning_near.proofs.Alone.{no_expression, silent_statement, idle_alone, seq_alone, alone_nothing}
+use Rattle.js_meaning_near.proofs.Alone.{quiet_alone, leads_acts, soon_alone, alone_first, call_alone, known_first, no_expression, silent_statement, idle_alone, seq_alone, alone_nothing}
 use Rattle.js_meaning_near.proofs.Nodes.{true_false, start_acts, first_ask_same, closure_acts, hoisted_does, does_acts}
 use Rattle.js_meaning_near.proofs.Avoid.{false_true}
 
@@ -44,13 +46,13 @@ unfolding need eval
 emptied_acts E n c b x r same_run = alone_nothing (silent_statement E x r)
 emptied_acts E n c b x r _ = unknown_acts
 
-read_acts : {w : World} {p : Plain} {q z : Ask} (x : Text) (v : Literal) (e f : Env) (E : Enter) (a b : Forest) → At w (known p) (look e x) (look f x) → literal_value v ≡ plain p → SameAsk w q z → Acts w (meaning E (Kind.ReferenceName x) a q e) (meaning E (Kind.Literal v) b z f)
+read_acts : {w : World} {p : Plain} {q z : Ask} (x : Text) (v : Literal) (e f : Env) (E : Enter) (a b : Forest) → At w (known (exactly p)) (look e x) (look f x) → literal_value v ≡ plain p → SameAsk w q z → Acts w (meaning E (Kind.ReferenceName x) a q e) (meaning E (Kind.Literal v) b z f)
 read_acts x v e f E a b l g (same_value {x = for_typeof}) = known_typeof_acts x l g
 read_acts x v e f E a b l g (same_value {x = itself}) = known_value_acts x l g
 read_acts x v e f E a b l g (same_value {x = to_call}) = known_value_acts x l g
 read_acts x v e f E a b l g _ = unknown_acts
 
-known_does : {w : World} {p : Plain} {q z : Ask} (x : Text) (v : Literal) (e f : Env) (E : Enter) (i j k l : Note) (a b c d r s : Forest) → At w (known p) (look e x) (look f x) → literal_value v ≡ plain p → SameAsk w q z
+known_does : {w : World} {p : Plain} {q z : Ask} (x : Text) (v : Literal) (e f : Env) (E : Enter) (i j k l : Note) (a b c d r s : Forest) → At w (known (exactly p)) (look e x) (look f x) → literal_value v ≡ plain p → SameAsk w q z
     → Acts w (meaning E Kind.VariableDeclarator (node (Kind.BindingName x) i a (node (Kind.Literal v) k c r)) q e) (meaning E Kind.VariableDeclarator (node (Kind.BindingName x) j b (node (Kind.Literal v) l d s)) z f)
 unfolding need may eval
 known_does x v e f E i j k l a b c d r s y g same_declares = give_both (λ v. fill (look e x) v (done normal)) (λ v. fill (look f x) v (done normal)) (literal_value v) (literal_value v) (fill_known (literal_value v) y g normal_acts)
@@ -65,6 +67,28 @@ change_means E (value_read {x = x} {v = v} {a = a} {b = b} y g) = record { mean 
 change_means E (no_statement_emptied {a = a} {b = b} x) = record { mean = λ {w} {e} {f} r s. no_statement_acts E e f a b x s }
 change_means E (statement_emptied {n = n} {r = c} {b = b} x) = record { mean = λ r s. emptied_acts E n c b x r s }
 
+only_part : {st : Names} {m k : Meaning} → Fields st (Some m ∷ []) (Some k ∷ []) → Means st m k
+only_part (fields_more (part x) c) = x
+
+part_means : {st : Names} (E : Enter) (l : Kind) (i j : Note) (b : Forest) → Fields st (eval E (node l i b nothing)) (eval E (node l j b nothing)) → Means st (meaning E l b) (meaning E l b)
+unfolding eval
+part_means E l i j b x = only_part x
+
+comes_acts : {w : World} {st : Names} {k l : Kind} {a b : Forest} {e f : Env} {q z : Ask} (E : Enter) → ComesTo st k a l b → Means st (meaning E l b) (meaning E l b) → Envs w st e f → SameAsk w q z → Acts w (meaning E k a q e) (meaning E l b z f)
+comes_acts {e = e} {q = q} E x m r s = leads_acts (x.comes E e (envs_bind r) q) (m.mean r s)
+
+drops_acts : {st : Names} {e : Env} (E : Enter) → Enters E → {m : M} {ms : Parts} → Wastes E st e m ms → {w : World} {f : Env} {ks : Parts} → Fields st ms ks → Envs w st e f → Acts w m (drops ks f)
+unfolding drops
+drops_acts E n (wastes_nothing q) fields_end r = alone_nothing (soon_alone q)
+drops_acts E n (wastes_part g) (fields_more (part x) c) r = value_acts (x.mean r same_now) (λ w2 v u h o. drops_acts E n (g v) c (envs_later h r))
+drops_acts E n (wastes_silent q g) c r = alone_first (quiet_alone q) (λ v. drops_acts E n (g v) c r)
+drops_acts {e = e} E n (wastes_known {x = x} k q g) {w = w} {f = f} c r = known_first x k (subst (λ t. At w t (look e x) (look f x)) q (r.at x)) (λ v y. drops_acts E n (g v y) c r)
+drops_acts {e = e} E n (wastes_call {x = x} v this vs q y g) {w = w} {f = f} c r = alone_first (call_alone E n (subst (λ t. At w t (look e x) (look f x)) q (r.at x)) v this vs y) (λ u. drops_acts E n (g u) c r)
+
+effects_act : {w : World} {st : Names} {l : Kind} {e f : Env} {q z : Ask} (E : Enter) → Enters E → (a b ps qs : Forest) → SameEffects st a l b ps qs → Fields st (eval E ps) (eval E qs) → Envs w st e f → SameAsk w q z → Acts w (meaning E Kind.ExpressionStatement a q e) (meaning E l b z f)
+effects_act {w = w} {e = e} {f = f} E n a b ps qs x c r (same_run {ls = ls}) = subst (λ m. Acts w (meaning E Kind.ExpressionStatement a (run_under ls) e) m) (x.drops_all E f ls) (drops_acts E n (x.wastes E e (envs_bind r) ls) c r)
+effects_act E n a b ps qs x c r _ = unknown_acts
+
 pub near_rows : (E : Enter) → Enters E → {p : Row} {st : Names} {a b : Forest} → Near p st a b → Rows p st (eval E a) (eval E b)
 unfolding eval each
 near_rows E n (near_nothing {p = p} {st = st}) = rows_nil p st
@@ -75,9 +99,12 @@ near_rows E n (near_node {p = p} {k = k} y d h a c) =
 near_rows E n (near_closure {p = p} {f = k} {pure = pure} i x d y a c) = rows_more p _ _ (part (core_means (is_core (Kind.Function k pure)) (record { mean = λ r s. closure_acts E _ _ pure k i x d y a r s }))) (near_rows E n c)
 near_rows E n (near_hoisted {p = p} {pure = pure} {a = a} {b = b} x y d c) = rows_more p _ _ (part (core_means (is_core (Kind.Function function_kind.Declaration pure)) (record { mean = λ r s. hoisted_does E a b (eval E a) (eval E b) pure pure _ _ s }))) (near_rows E n c)
 near_rows E n (near_unread {p = p} {pure = pure} {also = also} {a = a} {b = b} q g h c) = rows_more p _ _ (part (record { mean = λ r s. hoisted_does E a b (eval E a) (eval E b) pure also _ _ s })) (near_rows E n c)
+near_rows E n (near_silent {p = p} {pure = pure} {a = a} {b = b} q g h u d c) = rows_more p _ _ (part (record { mean = λ r s. hoisted_does E a b (eval E a) (eval E b) pure pure _ _ s })) (near_rows E n c)
 near_rows E n (near_known {q = q} {x = x} {v = v} {i = i} {j = j} {k = k} {l = l} {a = a} {b = b} {e = c1} {f = d1} {r = r1} {s = s1} y g c) = rows_more q _ _ (part (record { mean = λ {w} {e} {f} r s. known_does x v e f E i j k l a b c1 d1 r1 s1 (subst (λ t. At w t (look e x) (look f x)) y (r.at x)) g s })) (near_rows E n c)
 near_rows E n (near_uncovered {p = p} {k = k} {a = a} {b = b} y c) = rows_more p _ _ (part (uncovered_means (does E k a (eval E a)) (does E k b (eval E b)) (is_core k) y)) (near_rows E n c)
 near_rows E n (changed {p = p} q c) = rows_more p _ _ (part (change_means E q)) (near_rows E n c)
+near_rows E n (same_effects {p = p} {a = a} {b = b} {ps = ps} {qs = qs} q t c) = rows_more p _ _ (part (record { mean = λ r s. effects_act E n a b ps qs q (near_rows E n t) r s })) (near_rows E n c)
+near_rows E n (comes_to {p = p} {l = l} {i = i} {j = j} {b = b} q t c) = rows_more p _ _ (part (record { mean = λ r s. comes_acts E q (part_means E l i j b (near_rows E n t)) r s })) (near_rows E n c)
 near_rows E n (leaves i c) = record { listed = λ {w} {e} {f} {q} r s. seq_alone (idle_alone E q i r) ((near_rows E n c).listed r s) }
 
 -- functions
@@ -89,9 +116,12 @@ near_behind (near_node y d h a c) = c
 near_behind (near_closure i x d y a c) = c
 near_behind (near_hoisted x y d c) = c
 near_behind (near_unread q g h c) = c
+near_behind (near_silent q g h u d c) = c
 near_behind (near_known q v c) = c
 near_behind (near_uncovered y c) = c
 near_behind (changed q c) = c
+near_behind (same_effects q t c) = c
+near_behind (comes_to q t c) = c
 
 this_acts : {w : World} {st : Names} {e f : Env} {v u : Value} {m k : M} (t : FunctionKind) → ReceiverOk t st → Envs w st e f → Same w v u → Acts w m k → Acts w (take_this t v e m) (take_this t u f k)
 this_acts function_kind.Arrow y r q a = a
@@ -126,10 +156,28 @@ module _ (d : ℕ) (enters : Enters (enter d)) where
   task_acts (same_turn {l = l} {ls = ls} h n r) = turn_acts (enter d) enters l ls h n (near_rows (enter d) enters n) r
   task_acts (same_back {k = k} c r o q) = bind_acts (body_acts c r o q) (λ w2 c e h z. report_acts z (host_acts (enter d) enters k))
 
+-- a call whose code does nothing but give a value
+call_ends : (s : State) (n : ℕ) → s.budget ≡ suc n → (o : Out) → EndsQuietly (record s { budget = n }) o → CallEnds s o
+call_ends s n e _ (gives_quietly a) = call_gives e a
+call_ends s n e _ stops_quietly = call_uncovered
+
+spends_one : (m : M) (s : State) → Quiet m → CallEnds s (spend m s)
+unfolding spend
+spends_one m s q = go s.budget refl
+  where
+    go : (n : ℕ) → s.budget ≡ n → CallEnds s (spend_from n m s)
+    go zero e = call_out
+    go (suc n) e = call_ends s n e _ (q.quiet (record s { budget = n }))
+
+called_in : (d : ℕ) (f : FunctionKind) (a : Forest) (env : Env) → ((F : Enter) (this : Value) (vs : List Value) → Quiet (enter_body F f a env this vs)) → (this : Value) (vs : List Value) (s : State) → CallEnds s (enter d (body f a env this vs) s)
+unfolding enter task_does stop
+called_in zero f a env q this vs s = call_out
+called_in (suc d) f a env q this vs s = spends_one (enter_body (enter d) f a env this vs) s (q (enter d) this vs)
+
 pub enter_enters : (d : ℕ) → Enters (enter d)
 unfolding enter
-enter_enters zero = record { entered = λ x. stop_acts Ending.out }
-enter_enters (suc d) = record { entered = λ x. spend_acts (task_acts d (enter_enters d) x) }
+enter_enters zero = record { called = called_in zero; entered = λ x. stop_acts Ending.out }
+enter_enters (suc d) = record { called = called_in (suc d); entered = λ x. spend_acts (task_acts d (enter_enters d) x) }
 
 -- exports
 
@@ -147,8 +195,9 @@ sorted_same (an_export {x = x} {p = p} h l r) = insert_same x p h l (sorted_same
 
 bound_acts : {w : World} {t : Status} {o p : Option Slot} {j k : Slot → M} → At w t o p → Usable t → ((s z : Slot) → ((x : Text) (es fs : List Export) → SameExports w es fs → SameExports w (export x s ∷ es) (export x z ∷ fs)) → Acts w (j s) (k z)) → Acts w (if_bound o j) (if_bound p k)
 bound_acts at_nowhere y b = unknown_acts
+bound_acts (at_loose i) y b = unknown_acts
 bound_acts (at_live l) y b = b _ _ (λ x es fs r. an_export tt l r)
-bound_acts (at_known {p = p} l) y b = b _ _ (λ x es fs r. an_export {p = only_value p} tt (same_local l) r)
+bound_acts (at_known {p = p} i l) y b = b _ _ (λ x es fs r. an_export {p = only_value p} tt (same_local l) r)
 bound_acts (at_dead l) y b = absurd y
 bound_acts (at_unread l i) y b = absurd y
 
@@ -191,23 +240,29 @@ finally_acts same_breaks = unknown_acts
 finally_acts same_continues = unknown_acts
 finally_acts (same_returns q) = unknown_acts
 
-pub module_acts : {a b : Forest} (E : Enter) → Enters E → NearModule a b → Acts [] (module_does E a) (module_does E b)
+modules_act : {w : World} {st t : Names} {a b : Forest} (E : Enter) → Enters E → Envs w st [] [] → Decls st (module_decls a) (module_decls b) t → entries a ≡ entries b → ExportsOk t (entries a) → stars a ≡ stars b → requests a ≡ requests b → Near items t a b → Acts w (module_does E a) (module_does E b)
 unfolding module_does
-module_acts {a = a} {b = b} E n (near_module d x y s q c) =
+modules_act {a = a} {b = b} E n env d x y s q c =
     let load : (w : World) → Acts w (load_all E (distinct (requests a))) (load_all E (distinct (requests b))) = λ w. subst (λ xs. Acts w (load_all E (distinct (requests a))) (load_all E (distinct xs))) q (load_acts E n (distinct (requests a))) in
     bind_acts (bind_acts
-    (declare_acts d no_envs (λ w e f h r. exporting_acts a b x s y r (start_acts tt c r (seq_acts (load w) ((near_rows E n c).listed r same_run)))))
+    (declare_acts d env (λ w e f h r. exporting_acts a b x s y r (start_acts tt c r (seq_acts (load w) ((near_rows E n c).listed r same_run)))))
     (λ w c d h z. finish_acts E n z)) (λ w c d h z. finally_acts z)
+
+pub module_acts : {a b : Forest} (E : Enter) → Enters E → NearModule a b → Acts [] (module_does E a) (module_does E b)
+module_acts E n (near_module d x y s q c) = modules_act E n no_envs d x y s q c
+
+pub loose_acts : {a b : Forest} (E : Enter) → Enters E → LooseModule a b → Acts (slack ∷ []) (module_does E a) (module_does E b)
+loose_acts E n (loose_module d x y s q c) = modules_act E n (loose_envs here) d x y s q c
 
 plain_same : {w : World} (o : Option Plain) → SameOpt w (as_value o) (as_value o)
 plain_same None = same_none
 plain_same (Some p) = same_some same_plain
 
-first_states : (script : Script) (n : ℕ) → States [] (first_state script n) (first_state script n)
-first_states script n = record {
-  budget = refl;
-  links = no_links;
-  cells = record { linked = λ a b p i. absurd (not_in i); obeyed = λ a b p i. absurd (not_in i) };
+first_states : {w : World} (script : Script) (n : ℕ) → Links w 0 0 → ((a b : ℕ) (p : Rule) → In (both a b p) w → ⊥) → States w (first_state script n) (first_state script n)
+first_states script n l f = record {
+  budget = as_many refl;
+  links = l;
+  cells = record { linked = λ a b p i. absurd (f a b p i); obeyed = λ a b p i. absurd (f a b p i) };
   globals = λ x. plain_same (script.globals x);
   imports = λ source x. same_none;
   shown = all_nil;
@@ -222,11 +277,29 @@ refines_itself Ending.host_stopped r = refl
 refines_itself Ending.out r = refl
 refines_itself Ending.uncovered r = ([], sym (append-nil r.trace))
 
-follows_refines : {w : World} {o p : Out} → Follows w o p → Refines (seen o) (seen p)
-follows_refines (both_go {es = es} h r c) = refines_itself Ending.uncovered (record { trace = es; ending = Ending.uncovered })
-follows_refines (both_stop {es = es} {e = e}) = refines_itself e (record { trace = es; ending = e })
-follows_refines (old_stops x) = x
+follows_refines : {w : World} {o p : Out} → (In slack w → ⊥) → Follows w o p → Refines (seen o) (seen p)
+follows_refines f (both_go {es = es} h r c) = refines_itself Ending.uncovered (record { trace = es; ending = Ending.uncovered })
+follows_refines f (both_stop {es = es} {e = e}) = refines_itself e (record { trace = es; ending = e })
+follows_refines f (old_stops x) = x
+follows_refines f (old_out i x) = absurd (f i)
+
+keeps_itself : (e : Ending) (r : Run) → keeps e r r
+keeps_itself (ended exports) r = refl
+keeps_itself Ending.host_stopped r = refl
+keeps_itself Ending.out r = ([], sym (append-nil r.trace))
+keeps_itself Ending.uncovered r = ([], sym (append-nil r.trace))
+
+follows_keeps : {w : World} {o p : Out} → Follows w o p → Keeps (seen o) (seen p)
+follows_keeps (both_go {es = es} h r c) = keeps_itself Ending.uncovered (record { trace = es; ending = Ending.uncovered })
+follows_keeps (both_stop {es = es} {e = e}) = keeps_itself e (record { trace = es; ending = e })
+follows_keeps (old_stops x) = x
+follows_keeps (old_out i x) = x
 
 pub near_refines : {a b : Forest} (n m i j : Note) → NearModule a b → Refined (module_of n m a) (module_of i j b)
 unfolding run run_within
-near_refines n m i j c script bound = follows_refines ((module_acts (enter bound) (enter_enters bound) c).act [] (same []) _ _ (first_states script bound))
+near_refines n m i j c script bound = follows_refines not_in ((module_acts (enter bound) (enter_enters bound) c).act [] (same []) _ _ (first_states script bound no_links (λ a b p i. not_in i)))
+
+-- the new one may make fewer entries
+pub loose_keeps : {a b : Forest} (n m i j : Note) → LooseModule a b → Kept (module_of n m a) (module_of i j b)
+unfolding run run_within
+loose_keeps n m i j c script bound = follows_keeps ((loose_acts (enter bound) (enter_enters bound) c).act (slack ∷ []) (same (slack ∷ [])) _ _ (first_states script bound slack_links no_both))

@@ -19,7 +19,7 @@ same_decls st (decl x way ∷ ds) = in_both (same_decls (with_name st x live) ds
 pub decls_both : {st t u : Names} {ds es fs gs : List Decl} → Decls st ds es t → Decls t fs gs u → Decls st (ds ++ fs) (es ++ gs) u
 decls_both no_decls f = f
 decls_both (in_both d) f = in_both (decls_both d f)
-decls_both (in_both_known p d) f = in_both_known p (decls_both d f)
+decls_both (in_both_known p y d) f = in_both_known p y (decls_both d f)
 decls_both (in_both_unread y d) f = in_both_unread y (decls_both d f)
 decls_both (in_old_again y d) f = in_old_again y (decls_both d f)
 decls_both (in_old d) f = in_old (decls_both d f)

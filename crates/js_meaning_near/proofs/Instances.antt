@@ -1,5 +1,5 @@
 -- What the laws give for some modules.
-use Rattle.std.proofs.Common.{◌≡◌, List, ◌∷◌, refl, ◌∙◌, arith}
+use Rattle.std.proofs.Common.{◌≡◌, List, ◌∷◌, refl, sym, subst, ◌∙◌, arith}
 use Rattle.std.specs.Prelude.{true, false, not}
 use Rattle.std.specs.Str.{bytes_eq}
 use Rattle.js_syntax.specs.declared.node_kind.NodeKind.{NodeKind as Kind}
@@ -10,20 +10,22 @@ use Rattle.js_syntax.specs.Node.{Note, Forest, nothing, node, absent}
 use Rattle.js_meaning.specs.Value.{Text, this_name, Plain, Value, plain, literal_value}
 use Rattle.js_meaning.specs.State.{done, give}
 use Rattle.js_meaning.specs.Scope.{Decl, decl, ready, all_so, var_names, lexical, function_decls, module_decls}
-use Rattle.js_meaning.specs.Module.{entries}
+use Rattle.js_meaning.specs.Module.{entries, stars, requests}
 use Rattle.js_meaning.specs.Kept.{Refined}
 use Rattle.js_meaning_near.specs.Quiet.{gives_quietly, Quiet}
-use Rattle.js_meaning_near.specs.Names.{known, Names, no_names, with_name, no_decls, in_both_known, Fillable, AllPlain, PlainBut}
+use Rattle.js_meaning_near.specs.Names.{Decls, known, exactly, Names, no_names, with_name, no_decls, in_both_known, Fillable, AllPlain, PlainBut}
 use Rattle.js_meaning_near.specs.Near.{Silent, idle_empty, idle_function, idle_declarator, idle_declaration, all_idle, one_idle, statement_emptied, value_read, fields, items, Near, near_node, near_known, changed, leaves, near_nothing, near_absent, near_module, module_of}
 use Rattle.js_meaning_near.specs.Fit.{names_after, whole}
 use Rattle.js_meaning_near.specs.Once.{Once, at_place, in_rest, in_node, in_declaration, same_node_first}
 use Rattle.js_meaning_near.specs.Avoid.{declares, Dropping, dropped_here, dropped_later, HasCells, ExportsAvoid, InPlace, Avoids}
 use Rattle.js_meaning_near.specs.Examples.{block_of, behind_name, function_of, declaration_of, expression_statement, literal_statement, empty_statement, if_of}
+use Rattle.js_meaning_near.specs.Local.{Local}
+use Rattle.js_meaning_near.proofs.Local.{local_near, module_decls_stay}
 use Rattle.js_meaning_near.proofs.Contexts.{near_refines}
 use Rattle.js_meaning_near.proofs.Fit.{same_decls, decls_both, fit}
 use Rattle.js_meaning_near.proofs.Nodes.{true_false}
 use Rattle.js_meaning_near.proofs.Once.{once_near}
-use Rattle.js_meaning_near.proofs.Avoid.{after_other, with_same, itself, plain_with, exports_avoiding, filled_if_declared, fillable_plain, after_plain, receiver_ok, dropped_decls, fits_clear, fits_avoiding, same_module, dropped_module, fewer_itself, dropped_second}
+use Rattle.js_meaning_near.proofs.Avoid.{exports_plain, after_other, with_same, itself, plain_with, exports_avoiding, filled_if_declared, fillable_plain, after_plain, receiver_ok, dropped_decls, fits_clear, fits_avoiding, same_module, dropped_module, fewer_itself, dropped_second}
 
 -- a literal is silent
 
@@ -97,8 +99,17 @@ pub constant_read : (n : Note) (x : Text) (p : Plain) (v : Literal) (c : Forest)
     → Refined (module_of n n (declaration_of n variable.Const x v (expression_statement n (Kind.ReferenceName x) c))) (module_of n n (declaration_of n variable.Const x v (expression_statement n (Kind.Literal v) c)))
 constant_read n x p v c e f y z =
     let before : Names = names_after no_names (decl this_name ready ∷ all_so ready (var_names c)) in
-    let st : Names = names_after (with_name before x (known p)) (lexical c) in
-    let k : st x ≡ known p = after_other (lexical c) (with_name before x (known p)) x f ∙ with_same before x x (known p) (itself x) in
-    let g : PlainBut x st = λ w h. after_plain (lexical c) (with_name before x (known p)) w (plain_with before x x w (known p) (itself x) h (after_plain (decl this_name ready ∷ all_so ready (var_names c)) no_names w tt)) in
-    near_refines n n n n (near_module (decls_both (same_decls no_names (decl this_name ready ∷ all_so ready (var_names c))) (in_both_known p (same_decls (with_name before x (known p)) (lexical c)))) refl (exports_avoiding x st (entries c) g z) refl refl
+    let st : Names = names_after (with_name before x (known (exactly p))) (lexical c) in
+    let k : st x ≡ known (exactly p) = after_other (lexical c) (with_name before x (known (exactly p))) x f ∙ with_same before x x (known (exactly p)) (itself x) in
+    let g : PlainBut x st = λ w h. after_plain (lexical c) (with_name before x (known (exactly p))) w (plain_with before x x w (known (exactly p)) (itself x) h (after_plain (decl this_name ready ∷ all_so ready (var_names c)) no_names w tt)) in
+    near_refines n n n n (near_module (decls_both (same_decls no_names (decl this_name ready ∷ all_so ready (var_names c))) (in_both_known (exactly p) tt (same_decls (with_name before x (known (exactly p))) (lexical c)))) refl (exports_avoiding x st (entries c) g z) refl refl
     (near_node tt no_decls tt (near_node tt no_decls tt (near_known k e near_nothing) near_nothing) (near_node tt no_decls tt (changed (value_read k e) near_nothing) (fit whole items st c (fits_avoiding true x whole items st c g (λ h. absurd (true_false h)) y)))))
+
+-- an expression comes to one of its parts
+
+pub local_change : (n m : Note) (a b : Forest) → Local a b → InPlace whole items b → entries a ≡ entries b → stars a ≡ stars b → requests a ≡ requests b → Refined (module_of n m a) (module_of n m b)
+local_change n m a b s y e t r = near_refines n m n m (near_module (subst (λ ds. Decls no_names ds (module_decls b) (names_after no_names (module_decls b))) (sym (module_decls_stay s)) (same_decls no_names (module_decls b))) e (exports_plain _ (entries a) plain) t r
+    (local_near whole items _ s (fits_clear whole items _ b plain y)))
+  where
+    plain : AllPlain (names_after no_names (module_decls b))
+    plain = λ x. after_plain (module_decls b) no_names x tt

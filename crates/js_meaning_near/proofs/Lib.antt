@@ -16,3 +16,10 @@ pub mod Instances
 pub mod Alike
 pub mod Names
 pub mod Near
+pub mod Branches
+pub mod Local
+pub mod Rewritten
+pub mod Known
+pub mod Empty
+pub mod Unused
+pub mod Steady

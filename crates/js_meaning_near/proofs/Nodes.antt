@@ -1,9 +1,9 @@
 -- What the nodes do, in both runs, where what lies below them does the same.
-use Rattle.std.proofs.Common.{◌≡◌, List, [], ◌∷◌, Option, Some, None, refl, ap, ◌∙◌, subst}
+use Rattle.std.proofs.Common.{◌≡◌, List, [], ◌∷◌, Option, Some, None, refl, sym, ap, ◌∙◌, subst}
 use Rattle.std.specs.Prelude.{Bool, true, false, if◌then◌else◌}
 use Rattle.std.specs.Str.{bytes_eq}
 use Rattle.js_syntax.specs.declared.node_kind.NodeKind.{NodeKind as Kind}
-use Rattle.js_syntax.specs.Node.{Forest, nothing, node, absent, below_of}
+use Rattle.js_syntax.specs.Node.{Note, Forest, nothing, node, absent, below_of}
 use Rattle.js_syntax.specs.declared.kind.FunctionKind.{FunctionKind}
 use Rattle.js_syntax.specs.declared.kind.FunctionKind.TheVariants as function_kind
 use Rattle.js_syntax.specs.declared.value.LiteralValue.{LiteralValue as Literal}
@@ -15,12 +15,12 @@ use Rattle.js_meaning.specs.Node.{Wanted, itself, to_call, for_typeof, Ask, now,
 use Rattle.js_meaning.specs.Expression.{receiver_of, fill_own, function_value, with_property, add_property, object_content, array_content}
 use Rattle.js_meaning.specs.Statement.{for_does, catch_does}
 use Rattle.js_meaning.specs.Meaning.{default_does, does}
-use Rattle.js_meaning_near.specs.Names.{unread, Names, Fillable, FillableIf, Decls, Copied, declared, names_below}
-use Rattle.js_meaning_near.specs.Near.{Idle, idle_empty, idle_expression, idle_no_expression, idle_function, idle_declarator, idle_bare_declarator, idle_cut_declarator, idle_declaration, statement_emptied, no_statement_emptied, value_read, Row, fields, switch_fields, items, row_below, HoldsCases, Okay, key_of, keys, Heads, IsClosure, Near, near_nothing, near_absent, near_node, near_closure, near_hoisted, near_unread, near_known, near_uncovered, changed, leaves, Code}
+use Rattle.js_meaning_near.specs.Names.{known, silent_function, unread, Names, Fillable, FillableIf, Decls, Copied, declared, names_below}
+use Rattle.js_meaning_near.specs.Near.{Idle, idle_empty, idle_expression, idle_no_expression, idle_function, idle_declarator, idle_bare_declarator, idle_cut_declarator, idle_declaration, statement_emptied, no_statement_emptied, value_read, SilentCode, near_silent, Row, fields, switch_fields, items, row_below, HoldsCases, Okay, key_of, keys, Heads, IsClosure, is_calm, Near, comes_to, near_nothing, near_absent, near_node, near_closure, near_hoisted, near_unread, near_known, near_uncovered, changed, same_effects, leaves, Code}
 use Rattle.js_meaning_near.proofs.Worlds.{World}
 use Rattle.js_meaning_near.proofs.Relations.{At, Envs, Same, same_plain, same_closure, same_object, same_array, SameContent, same_empty, same_element, same_property, SameAll, all_nil, all_cons, same_gives, same_refers, same_at_member, same_breaks, same_continues, same_returns, same_throws, SameAsk, same_run, same_value, same_place, same_take, same_take_all, same_declares, same_collect, same_entry, same_matches, Acts, Means, same_turn, Enters, envs_later, same_later, all_later}
 use Rattle.js_meaning_near.proofs.Acts.{acts_later, bind_acts, done_acts, unknown_acts, choose_acts, give_acts, normal_acts, seq_acts, receiver_acts, value_acts, all_acts, place_acts, identity_acts, identity_left, identity_right}
-use Rattle.js_meaning_near.proofs.Scopes.{declare_acts, fill_acts, fill_old, fill_unread, name_value_acts, typeof_name_acts, name_place_acts, copy_acts}
+use Rattle.js_meaning_near.proofs.Scopes.{envs_bind, declare_acts, fill_acts, fill_old, fill_meeting, fill_unread, name_value_acts, typeof_name_acts, name_place_acts, copy_acts}
 use Rattle.js_meaning_near.proofs.Operators.{truthy_same, unary_of_acts}
 use Rattle.js_meaning_near.proofs.Rows.{same_now, Fields, Rows, need_acts, may_acts, all_values_acts, or_undefined_acts, ask_maybe_acts, take_maybe_acts, in_turn_acts, take_each_acts, member_place_acts, after_init_acts, after_label_acts, after_switch_acts, try_acts, choose_case_acts, case_test_acts, declarator_acts}
 use Rattle.js_meaning_near.proofs.Hosted.{logical_acts, call_acts, construct_acts, binary_acts, get_place_acts, assign_acts, update_acts, test_then_acts}
@@ -41,12 +41,40 @@ hoisted_acts {w = w} {st = st} {a = a} {b = b} {e = e} {f = f} {m = m} {k = k} o
 unread_acts : {w : World} {st : Names} {e f : Env} {m k : M} (x : Text) (a b : Forest) (o p : Option Text) → st x ≡ unread → o ≡ Some x → p ≡ Some x → Envs w st e f → Acts w m k → Acts w (start_function o a e m) (start_function p b f k)
 unread_acts {w = w} {st = st} {e = e} {f = f} {m = m} {k = k} x a b o p y g h r z = rw (g, h) (identity_left (λ i. identity_right (λ j. fill_unread _ _ (subst (λ t. At w t (look e x) (look f x)) y (r.at x)) z)))
 
+-- one whose calls do nothing but give a value, where that is known of its name
+silent_acts : {w : World} {st : Names} {a b : Forest} {e f : Env} {m k : M} (x : Text) (o p : Option Text) → st x ≡ known silent_function → o ≡ Some x → p ≡ Some x → SilentCode st a → Code st function_kind.Declaration a b → Envs w st e f → Acts w m k → Acts w (start_function o a e m) (start_function p b f k)
+silent_acts {st = st} {a = a} {e = e} {f = f} x o p y g h q d r z = rw (g, h) (identity_acts (λ w2 i j n l. fill_meeting (subst (λ t. At w2 t (look e x) (look f x)) y ((envs_later n r).at x)) (λ E this vs. q.silent_code E e (envs_bind r) this vs) (same_closure l d (envs_later n r)) (acts_later n z)))
+
 fillable_default : (st : Names) (o : Option Text) → FillableIf st o → Fillable (st default_name) → Fillable (st (name_or_default o))
 fillable_default st None x y = y
 fillable_default st (Some n) x y = x
 
 named_default : (o : Option Text) (x : Text) → o ≡ Some x → Some (name_or_default o) ≡ Some x
 named_default o x e = rw e refl
+
+-- what calm nodes neither start nor give by default
+calm_item : (k : Kind) (a : Forest) (i : M → M) (e : Env) (m : M) → is_calm k ≡ true → start_item k a i e m ≡ m
+calm_item (Kind.Function g pure) a i e m h = absurd (true_false (sym h))
+calm_item (Kind.ExportNamedDeclaration None) a i e m h = absurd (true_false (sym h))
+calm_item Kind.ExportDefaultDeclaration a i e m h = absurd (true_false (sym h))
+calm_item Kind.FunctionBody a i e m h = absurd (true_false (sym h))
+calm_item Kind.Statements a i e m h = absurd (true_false (sym h))
+calm_item Kind.Cases a i e m h = absurd (true_false (sym h))
+calm_item Kind.SwitchCase a i e m h = absurd (true_false (sym h))
+calm_item k a i e m h = refl
+
+calm_default : (k : Kind) (n : Note) (a c : Forest) (i : M → M) (e : Env) (m : M) → is_calm k ≡ true → start_default (node k n a c) i e m ≡ i m
+calm_default (Kind.Function g pure) n a c i e m h = absurd (true_false (sym h))
+calm_default k n a c i e m h = refl
+
+calm_does : (k : Kind) (n : Note) (a c : Forest) (m : Meaning) (e : Env) → is_calm k ≡ true → default_does (node k n a c) m e ≡ with_value (m now e) (λ v. fill (look e default_name) v (done normal))
+calm_does (Kind.Function g pure) n a c m e h = absurd (true_false (sym h))
+calm_does k n a c m e h = refl
+
+pub calm_ask : (k : Kind) → is_calm k ≡ true → is_statement k ≡ false
+calm_ask (Kind.VariableDeclaration how) h = absurd (true_false (sym h))
+calm_ask Kind.FunctionBody h = absurd (true_false (sym h))
+calm_ask k h = refl
 
 -- `export default` of a function starts it under its name or the default one; of anything else what lies inside
 default_starts : {w : World} {st : Names} {a b : Forest} {e f : Env} {m k : M} (i j : M → M) → Near fields st a b → Fillable (st default_name) → Envs w st e f → Acts w (i m) (j k) → Acts w m k → Acts w (start_default a i e m) (start_default b j f k)
@@ -59,6 +87,7 @@ default_starts i j (near_closure {f = function_kind.Expression} n q d o a c) y r
 default_starts i j (near_closure {f = function_kind.Arrow} n q d o a c) y r x z = x
 default_starts {st = st} i j (near_hoisted {a = a} {b = b} q o d c) y r x z = hoisted_acts (Some (name_or_default (first_name a))) (Some (name_or_default (first_name b))) (ap (λ o. Some (name_or_default o)) q) (fillable_default st (first_name a) o y) d r z
 default_starts i j (near_unread {x = n} {a = a} {b = b} q g h c) y r x z = unread_acts n a b _ _ q (named_default (first_name a) n g) (named_default (first_name b) n h) r z
+default_starts i j (near_silent {x = n} {a = a} {b = b} q g h u d c) y r x z = silent_acts n _ _ q (named_default (first_name a) n g) (named_default (first_name b) n h) u d r z
 default_starts i j (near_known q v c) y r x z = x
 default_starts i j (near_uncovered {k = Kind.Function function_kind.Declaration pure} o c) y r x z = absurd (true_false o)
 default_starts i j (near_uncovered {k = Kind.Function function_kind.Expression pure} o c) y r x z = absurd (true_false o)
@@ -67,6 +96,8 @@ default_starts i j (near_uncovered o c) y r x z = x
 default_starts i j (changed (statement_emptied q) c) y r x z = x
 default_starts i j (changed (no_statement_emptied q) c) y r x z = x
 default_starts i j (changed (value_read q v) c) y r x z = x
+default_starts {f = f} {k = k} i j (same_effects {l = l} {m = o} {b = b} {d = d} q t u) y r x z = rw (calm_default l o b d j f k q.new_calm) x
+default_starts {e = e} {f = f} {m = m} {k = k} i j (comes_to {k = g} {l = l} {n = n} {m = o} {a = a} {b = b} {c = c} {d = d} q t u) y r x z = rw (calm_default g n a c i e m q.old_calm, calm_default l o b d j f k q.new_calm) x
 
 -- a switch's cases start in a scope of their own
 abbrev pub Starts : Row → Type 0
@@ -105,6 +136,7 @@ start_acts s (near_closure {f = function_kind.Expression} i q d o a c) r x = sta
 start_acts s (near_closure {f = function_kind.Arrow} i q d o a c) r x = start_acts s c r x
 start_acts s (near_hoisted q o d c) r x = hoisted_acts _ _ q o d r (start_acts s c r x)
 start_acts s (near_unread {x = n} {a = a} {b = b} q g h c) r x = unread_acts n a b _ _ q g h r (start_acts s c r x)
+start_acts s (near_silent {x = n} q g h u d c) r x = silent_acts n _ _ q g h u d r (start_acts s c r x)
 start_acts s (near_known q v c) r x = start_acts s c r x
 start_acts s (near_uncovered {k = Kind.Statements} y c) r x = absurd (true_false y)
 start_acts s (near_uncovered {k = Kind.FunctionBody} y c) r x = absurd (true_false y)
@@ -117,6 +149,8 @@ start_acts s (near_uncovered y c) r x = start_acts s c r x
 start_acts s (changed (statement_emptied q) c) r x = start_acts s c r x
 start_acts s (changed (no_statement_emptied q) c) r x = start_acts s c r x
 start_acts s (changed (value_read q v) c) r x = start_acts s c r x
+start_acts {e = e} {f = f} {m = m} {k = k} s (same_effects {l = l} {b = b} {d = d} q t u) r x = rw (calm_item l b (start b f) f (start d f k) q.new_calm) (start_acts s u r x)
+start_acts {e = e} {f = f} {m = m} {k = k} s (comes_to {k = g} {l = l} {a = a} {b = b} {c = c} {d = d} q t u) r x = rw (calm_item g a (start a e) e (start c e m) q.old_calm, calm_item l b (start b f) f (start d f k) q.new_calm) (start_acts s u r x)
 start_acts s (leaves i c) r x = idle_starts i r (start_acts s c r x)
 
 -- what a node is asked that may be a statement or an expression
@@ -132,11 +166,14 @@ first_ask_same (near_node {k = k} y d h a c) = ask_by_same (is_statement k)
 first_ask_same (near_closure i q d o a c) = same_now
 first_ask_same (near_hoisted q o d c) = same_now
 first_ask_same (near_unread q g h c) = same_now
+first_ask_same (near_silent q g h u d c) = same_now
 first_ask_same (near_known q v c) = same_now
 first_ask_same (near_uncovered {k = k} y c) = ask_by_same (is_statement k)
 first_ask_same (changed (statement_emptied q) c) = same_now
 first_ask_same (changed (no_statement_emptied q) c) = same_now
 first_ask_same (changed (value_read q v) c) = same_now
+first_ask_same (same_effects {l = l} q t u) = rw (calm_ask l q.new_calm) same_now
+first_ask_same (comes_to {k = k} {l = l} q t u) = rw (calm_ask k q.old_calm, calm_ask l q.new_calm) same_now
 
 -- what literals hold
 
@@ -232,6 +269,7 @@ default_acts (near_closure {f = function_kind.Expression} i q d o a c) y x r = d
 default_acts (near_closure {f = function_kind.Arrow} i q d o a c) y x r = default_value y x r
 default_acts (near_hoisted q o d c) y x r = normal_acts
 default_acts (near_unread q g h c) y x r = normal_acts
+default_acts (near_silent q g h u d c) y x r = normal_acts
 default_acts (near_known q v c) y x r = default_value y x r
 default_acts (near_uncovered {k = Kind.Function function_kind.Declaration pure} o c) y x r = absurd (true_false o)
 default_acts (near_uncovered {k = Kind.Function function_kind.Expression pure} o c) y x r = absurd (true_false o)
@@ -240,6 +278,8 @@ default_acts (near_uncovered o c) y x r = default_value y x r
 default_acts (changed (statement_emptied q) c) y x r = default_value y x r
 default_acts (changed (no_statement_emptied q) c) y x r = default_value y x r
 default_acts (changed (value_read q v) c) y x r = default_value y x r
+default_acts {m = m} {k = k} {e = e} {f = f} (same_effects {l = l} {m = o} {b = b} {d = d} q t u) y x r = rw (calm_does l o b d k f q.new_calm) (default_value y x r)
+default_acts {m = m} {k = k} {e = e} {f = f} (comes_to {k = g} {l = l} {n = n} {m = o} {a = a} {b = b} {c = c} {d = d} q t u) y x r = rw (calm_does g n a c m e q.old_calm, calm_does l o b d k f q.new_calm) (default_value y x r)
 
 catch_acts : {w : World} {s t : Names} {ms ks : Parts} {e f : Env} {v u : Value} (a b : Forest) → Decls s (declared Kind.CatchClause a) (declared Kind.CatchClause b) t → Fields t ms ks → Envs w s e f → Same w v u → Acts w (catch_does a ms v e) (catch_does b ks u f)
 catch_acts a b d c r q = declare_acts d r (λ w2 e2 f2 i r2. may_acts c (λ m k ns us x c. need_acts c (λ m k ns us y c. seq_acts (take_maybe_acts x r2 (same_later i q)) (y.mean r2 same_run))))
@@ -300,7 +340,7 @@ module _ (E : Enter) (enters : Enters E) where
   does_acts p ms ks (Kind.UnaryExpression o) y d h n c r same_value = need_acts c (λ m k ns ls x c. value_acts (x.mean r same_value) (λ w2 v u i q. unary_of_acts o q))
   does_acts p ms ks (Kind.UpdateExpression o prefix) y d h n c r same_value = need_acts c (λ m k ns ls x c. place_acts (x.mean r same_place) (λ w2 p q i l. update_acts E enters o prefix l))
   does_acts p ms ks (Kind.BinaryExpression o) y d h n c r same_value = need_acts c (λ m k ns ls x c. need_acts c (λ m k ns ls t c. value_acts (x.mean r same_now) (λ w2 v u i q. value_acts (t.mean (envs_later i r) same_now) (λ w3 v u j p. binary_acts E enters o (same_later j q) p))))
-  does_acts p ms ks (Kind.LogicalExpression o) y d h n c r same_value = need_acts c (λ m k ns ls x c. need_acts c (λ m k ns ls t c. value_acts (x.mean r same_now) (λ w2 v u i q. logical_acts o q (value_acts (t.mean (envs_later i r) same_now) (λ w3 v u j p. give_acts p)))))
+  does_acts p ms ks (Kind.LogicalExpression o) y d h n c r same_value = need_acts c (λ m k ns ls x c. need_acts c (λ m k ns ls t c. value_acts (x.mean r same_now) (λ w2 v u i q. logical_acts o q (t.mean (envs_later i r) same_now))))
   does_acts p ms ks (Kind.AssignmentExpression o) y d h n c r same_value = need_acts c (λ m k ns ls x c. need_acts c (λ m k ns ls t c. place_acts (x.mean r same_place) (λ w2 p q i l. assign_acts E enters o l (t.mean (envs_later i r) same_now))))
   does_acts p ms ks Kind.ConditionalExpression y d h n c r same_value = need_acts c (λ m k ns ls t c. need_acts c (λ m k ns ls x c. need_acts c (λ m k ns ls o c. value_acts (t.mean r same_now) (λ w2 v u i q. choose_acts (truthy_same q) (x.mean (envs_later i r) same_now) (o.mean (envs_later i r) same_now)))))
   does_acts p ms ks (Kind.CallExpression false pure) y d h n c r same_value = need_acts c (λ m k ns ls x c. need_acts c (λ m k ns ls t c. receiver_acts (x.mean r same_value) (λ w2 v u o p i q s. all_acts (t.mean (envs_later i r) same_collect) (λ w3 vs us j qs. call_acts E enters (same_later j q) (same_later j s) qs))))

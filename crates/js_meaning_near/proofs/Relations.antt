@@ -1,5 +1,5 @@
 -- What is related in two runs side by side: environments, values, completions, states, and what they do.
-use Rattle.std.proofs.Common.{◌≡◌, ℕ, List, [], ◌∷◌, Option, Some, None}
+use Rattle.std.proofs.Common.{◌≡◌, ◌≤◌, ℕ, suc, List, [], ◌∷◌, Option, Some, None}
 use Rattle.std.specs.Prelude.{Bool}
 use Rattle.js_syntax.specs.Node.{Forest}
 use Rattle.js_syntax.specs.declared.kind.FunctionKind.{FunctionKind}
@@ -10,11 +10,14 @@ use Rattle.js_meaning.specs.State.{State, Cell, cell, Export, export, Place, at_
 use Rattle.js_meaning.specs.Scope.{look, first_of, lexical}
 use Rattle.js_meaning.specs.Host.{Loop, for_loop, Task, body, turn, called_back, Enter}
 use Rattle.js_meaning.specs.Node.{Wanted, Ask, run, value, place, take, take_all, declares, collect, entry, matches, Meaning}
+use Rattle.js_meaning.specs.Meaning.{enter_body}
 use Rattle.js_meaning.specs.Run.{seen}
 use Rattle.js_meaning.specs.Kept.{Prefix}
-use Rattle.js_meaning_near.specs.Names.{Status, undeclared, live, dead, unread, known, Names, Copied}
+use Rattle.js_meaning_near.specs.Names.{Status, undeclared, loose, live, dead, unread, Fact, exactly, silent_function, known, Names, Copied}
+use Rattle.js_meaning_near.specs.Quiet.{OnlyAllocates, Quiet}
+use Rattle.js_meaning_near.specs.Wasted.{Meets}
 use Rattle.js_meaning_near.specs.Near.{fields, Near, Code}
-use Rattle.js_meaning_near.proofs.Worlds.{Rule, any_value, only_value, an_object, both, left, right, World, In, Sub, Links}
+use Rattle.js_meaning_near.proofs.Worlds.{Rule, any_value, only_value, an_object, both, left, right, slack, World, In, Sub, Links}
 
 abbrev pub HoldsCell : Rule → Type 0
 HoldsCell an_object = ⊥
@@ -35,11 +38,17 @@ pub data LeftSlot (w : World) : Slot → Type 0 where
 pub data RightSlot (w : World) : Slot → Type 0 where
   right_local : {c : ℕ} → In (right c) w → RightSlot w (local c)
 
+-- where a fact lets calls go, the new run may have more entries left
+abbrev pub Spare : Fact → World → Type 0
+Spare (exactly p) w = Unit {0}
+Spare silent_function w = In slack w
+
 -- what a name of this status is bound to in the one and in the other
 pub data At (w : World) : Status → Option Slot → Option Slot → Type 0 where
   at_nowhere : At w undeclared None None
+  at_loose : In slack w → At w loose None None
   at_live : {s z : Slot} → SameSlot w any_value s z → At w live (Some s) (Some z)
-  at_known : {p : Plain} {c d : ℕ} → In (both c d (only_value p)) w → At w (known p) (Some (local c)) (Some (local d))
+  at_known : {p : Fact} {c d : ℕ} → Spare p w → In (both c d (only_value p)) w → At w (known p) (Some (local c)) (Some (local d))
   at_dead : {s : Slot} {o : Option Slot} → LeftSlot w s → At w dead (Some s) o
   at_unread : {s z : Slot} → LeftSlot w s → RightSlot w z → At w unread (Some s) (Some z)
 
@@ -88,7 +97,7 @@ pub data SameCompletion (w : World) : Completion → Completion → Type 0 where
 
 -- what is known of a cell's content
 abbrev pub Obeys : Rule → Cell → Type 0
-Obeys (only_value p) (cell b (Some v)) = v ≡ plain p
+Obeys (only_value p) (cell b (Some v)) = Meets p v
 Obeys _ c = Unit {0}
 
 pub record Cells (w : World) (s z : ℕ → Cell) : Type 0 where
@@ -111,8 +120,13 @@ pub data SameAsk (w : World) : Ask → Ask → Type 0 where
   same_entry : SameAsk w entry entry
   same_matches : {v u : Value} → Same w v u → SameAsk w (matches v) (matches u)
 
+-- how many entries there may be yet: as many; or the new run has at least as many left
+pub data Budgets (w : World) (m n : ℕ) : Type 0 where
+  as_many : m ≡ n → Budgets w m n
+  no_more : In slack w → m ≤ n → Budgets w m n
+
 pub record States (w : World) (s z : State) : Type 0 where
-  pub budget : s.budget ≡ z.budget
+  pub budget : Budgets w s.budget z.budget
   pub links : Links w s.fresh z.fresh
   pub cells : Cells w s.store z.store
   pub globals : (x : Text) → SameOpt w (s.globals x) (z.globals x)
@@ -125,11 +139,13 @@ pub record States (w : World) (s z : State) : Type 0 where
 abbrev pub trace : Out → List Event
 trace o = (seen o).trace
 
--- the new run did what the old one did, or the old one was uncovered before
+-- the new run did what the old one did; or the old one was uncovered before, or had no entry left where the new one may
+-- have had one
 pub data Follows (w : World) : Out → Out → Type 0 where
   both_go : {es : List Event} {s z : State} {c d : Completion} {w2 : World} → Sub w w2 → States w2 s z → SameCompletion w2 c d → Follows w (goes es s c) (goes es z d)
   both_stop : {es : List Event} {e : Ending} → Follows w (stops es e) (stops es e)
   old_stops : {es : List Event} {o : Out} → Prefix es (trace o) → Follows w (stops es Ending.uncovered) o
+  old_out : {es : List Event} {o : Out} → In slack w → Prefix es (trace o) → Follows w (stops es Ending.out) o
 
 pub record Acts (w : World) (m k : M) : Type 0 where
   pub act : (w2 : World) → Sub w w2 → (s z : State) → States w2 s z → Follows w2 (m s) (k z)
@@ -148,29 +164,45 @@ pub data Tasks (w : World) : Task → Task → Type 0 where
   same_turn : {st : Names} {l : Loop} {ls : List Text} {a b : Forest} {e f : Env} → LoopHead l st a b → Near fields st a b → Envs w st e f → Tasks w (turn l a ls e) (turn l b ls f)
   same_back : {k : Bool} {st : Names} {t : FunctionKind} {a b : Forest} {e f : Env} {v u : Value} {vs us : List Value} → Code st t a b → Envs w st e f → Same w v u → SameAll w vs us → Tasks w (called_back k t a e v vs) (called_back k t b f u us)
 
+-- how a call ends whose code does nothing but give a value
+pub data CallEnds (s : State) : Out → Type 0 where
+  call_gives : {b : ℕ} {z : State} {v r : Value} → s.budget ≡ suc b → OnlyAllocates (record s { budget = b }) z → CallEnds s (goes [] z (gives v r))
+  call_uncovered : CallEnds s (stops [] Ending.uncovered)
+  call_out : CallEnds s (stops [] Ending.out)
+
 -- entering keeps the relation
 pub record Enters (E : Enter) : Type 0 where
+  pub called : (f : FunctionKind) (a : Forest) (env : Env) → ((F : Enter) (this : Value) (vs : List Value) → Quiet (enter_body F f a env this vs)) → (this : Value) (vs : List Value) (s : State) → CallEnds s (E (body f a env this vs) s)
   pub entered : {w : World} {t u : Task} → Tasks w t u → Acts w (E t) (E u)
 
 -- all of it stays where the world grows
 
+pub budgets_later : {w w2 : World} {m n : ℕ} → Sub w w2 → Budgets w m n → Budgets w2 m n
+budgets_later h (as_many e) = as_many e
+budgets_later h (no_more i l) = no_more (h.kept _ i) l
+
 pub slot_later : {w w2 : World} {p : Rule} {s z : Slot} → Sub w w2 → SameSlot w p s z → SameSlot w2 p s z
-slot_later g (same_local i) = same_local (g _ i)
+slot_later g (same_local i) = same_local (g.kept _ i)
 slot_later g same_import = same_import
 slot_later g same_arguments = same_arguments
 
 pub left_later : {w w2 : World} {s : Slot} → Sub w w2 → LeftSlot w s → LeftSlot w2 s
-left_later g (left_local i) = left_local (g _ i)
+left_later g (left_local i) = left_local (g.kept _ i)
 left_later g left_import = left_import
 left_later g left_arguments = left_arguments
 
 pub right_later : {w w2 : World} {s : Slot} → Sub w w2 → RightSlot w s → RightSlot w2 s
-right_later g (right_local i) = right_local (g _ i)
+right_later g (right_local i) = right_local (g.kept _ i)
+
+pub spare_later : (p : Fact) {w w2 : World} → Sub w w2 → Spare p w → Spare p w2
+spare_later (exactly p) g y = y
+spare_later silent_function g y = g.kept _ y
 
 pub at_later : {w w2 : World} {s : Status} {o p : Option Slot} → Sub w w2 → At w s o p → At w2 s o p
 at_later g at_nowhere = at_nowhere
+at_later g (at_loose i) = at_loose (g.kept _ i)
 at_later g (at_live i) = at_live (slot_later g i)
-at_later g (at_known i) = at_known (g _ i)
+at_later g (at_known {p = p} y i) = at_known (spare_later p g y) (g.kept _ i)
 at_later g (at_dead i) = at_dead (left_later g i)
 at_later g (at_unread i k) = at_unread (left_later g i) (right_later g k)
 
@@ -180,10 +212,10 @@ envs_later g r = record { at = λ x. at_later g (r.at x) }
 mutual
   pub same_later : {w w2 : World} {v u : Value} → Sub w w2 → Same w v u → Same w2 v u
   same_later g same_plain = same_plain
-  same_later g (same_closure i b r) = same_closure (g _ i) b (envs_later g r)
-  same_later g (same_object i c) = same_object (g _ i) (content_later g c)
-  same_later g (same_array i c) = same_array (g _ i) (content_later g c)
-  same_later g (same_error i) = same_error (g _ i)
+  same_later g (same_closure i b r) = same_closure (g.kept _ i) b (envs_later g r)
+  same_later g (same_object i c) = same_object (g.kept _ i) (content_later g c)
+  same_later g (same_array i c) = same_array (g.kept _ i) (content_later g c)
+  same_later g (same_error i) = same_error (g.kept _ i)
 
   pub content_later : {w w2 : World} {c d : Content} → Sub w w2 → SameContent w c d → SameContent w2 c d
   content_later g same_empty = same_empty

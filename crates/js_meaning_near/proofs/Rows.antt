@@ -97,7 +97,7 @@ pub in_turn_acts : {st : Names} {w : World} {ms ks : Parts} {e f : Env} → Fiel
 unfolding in_turn
 in_turn_acts fields_end r = unknown_acts
 in_turn_acts (fields_more no_part c) r = unknown_acts
-in_turn_acts (fields_more (part m) fields_end) r = value_acts (m.mean r same_now) (λ w2 v u h x. give_acts x)
+in_turn_acts (fields_more (part m) fields_end) r = m.mean r same_now
 in_turn_acts (fields_more (part m) (fields_more o c)) r = value_acts (m.mean r same_now) (λ w2 v u h x. in_turn_acts (fields_more o c) (envs_later h r))
 
 pub take_each_acts : {st : Names} {w : World} {ms ks : Parts} {e f : Env} {vs us : List Value} → Fields st ms ks → SameAll w vs us → Envs w st e f → Acts w (take_each ms vs e) (take_each ks us f)

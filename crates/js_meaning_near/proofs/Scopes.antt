@@ -8,9 +8,10 @@ use Rattle.js_meaning.specs.Trace.{Act}
 use Rattle.js_meaning.specs.State.{M, Cell, cell, done, give, refers, at_global}
 use Rattle.js_meaning.specs.Scope.{Way, waiting, ready, linked, left_out, Decl, look, with_slot, declare, initialised, fill, copy_slot, copy}
 use Rattle.js_meaning.specs.Reference.{Global, the_undefined, no_whole_number, usual, global_named, if_set, cell_value, slot_value, if_there, global_value, name_value, or_undefined, typeof_name, assign_cell, assign_import, assign_slot, assign_present, assign_global, name_place}
-use Rattle.js_meaning_near.specs.Names.{Status, undeclared, live, dead, unread, known, Names, with_name, Usable, Writable, Fillable, HasCell, Lone, Declared, IsBound, Binds, Decls, no_decls, in_both, in_both_known, in_both_unread, in_old_again, in_old, Copied, copied_end, copied_both, copied_old}
-use Rattle.js_meaning_near.proofs.Worlds.{Rule, any_value, only_value, both, World, In, Sub, same, later}
-use Rattle.js_meaning_near.proofs.Relations.{HoldsCell, SameSlot, same_local, same_import, same_arguments, LeftSlot, left_local, left_import, left_arguments, RightSlot, right_local, At, at_nowhere, at_live, at_known, at_dead, at_unread, Envs, Same, same_plain, SameOpt, same_none, same_some, SameCell, same_cell, same_refers, same_at_slot, same_at_global, Obeys, Acts, left_later, right_later, envs_later, same_later}
+use Rattle.js_meaning_near.specs.Names.{Status, undeclared, loose, live, dead, unread, Fact, exactly, silent_function, known, Names, with_name, Usable, Writable, Fillable, HasCell, Lone, Allowed, Declared, IsBound, Binds, Decls, no_decls, in_both, in_both_known, in_both_unread, in_old_again, in_old, Copied, copied_end, copied_both, copied_old}
+use Rattle.js_meaning_near.specs.Wasted.{Meets}
+use Rattle.js_meaning_near.proofs.Worlds.{Rule, any_value, only_value, both, slack, World, In, Sub, same, later}
+use Rattle.js_meaning_near.proofs.Relations.{HoldsCell, SameSlot, same_local, same_import, same_arguments, LeftSlot, left_local, left_import, left_arguments, RightSlot, right_local, At, at_nowhere, at_live, at_loose, Spare, spare_later, at_known, at_dead, at_unread, Envs, Same, same_plain, SameOpt, same_none, same_some, SameCell, same_cell, same_refers, same_at_slot, same_at_global, Obeys, Acts, left_later, right_later, envs_later, same_later}
 use Rattle.js_meaning_near.proofs.Acts.{acts_later, done_acts, unknown_acts, choose_acts, give_acts, raise_acts, alloc_rule, alloc_acts, alloc_left, alloc_right, read_rule, read_acts, read_obeyed, read_left, read_right, store_rule, store_acts, store_left, store_right, get_global_acts, set_global_acts, get_import_acts}
 use Rattle.js_meaning_near.proofs.Showing.{show_acts, emit_acts}
 
@@ -27,8 +28,8 @@ at_if_old false l y = y
 env_both : {w : World} {st : Names} {e f : Env} {x : Text} {s z : Slot} → SameSlot w any_value s z → Envs w st e f → Envs w (with_name st x live) (bound x s ∷ e) (bound x z ∷ f)
 env_both {x = x} l r = record { at = λ y. at_if (bytes_eq x y) (at_live l) (r.at y) }
 
-env_known : {w : World} {st : Names} {e f : Env} {x : Text} {c d : ℕ} {p : Plain} → In (both c d (only_value p)) w → Envs w st e f → Envs w (with_name st x (known p)) (bound x (local c) ∷ e) (bound x (local d) ∷ f)
-env_known {x = x} l r = record { at = λ y. at_if (bytes_eq x y) (at_known l) (r.at y) }
+env_known : {w : World} {st : Names} {e f : Env} {x : Text} {c d : ℕ} {p : Fact} → Spare p w → In (both c d (only_value p)) w → Envs w st e f → Envs w (with_name st x (known p)) (bound x (local c) ∷ e) (bound x (local d) ∷ f)
+env_known {x = x} i l r = record { at = λ y. at_if (bytes_eq x y) (at_known i l) (r.at y) }
 
 env_unread : {w : World} {st : Names} {e f : Env} {x : Text} {s z : Slot} → LeftSlot w s → RightSlot w z → Envs w st e f → Envs w (with_name st x unread) (bound x s ∷ e) (bound x z ∷ f)
 env_unread {x = x} l k r = record { at = λ y. at_if (bytes_eq x y) (at_unread l k) (r.at y) }
@@ -39,10 +40,21 @@ env_old {x = x} l r = record { at = λ y. at_if_old (bytes_eq x y) l (r.at y) }
 pub no_envs : {w : World} → Envs w (λ x. undeclared) [] []
 no_envs = record { at = λ x. at_nowhere }
 
+pub loose_envs : {w : World} → In slack w → Envs w (λ x. loose) [] []
+loose_envs i = record { at = λ x. at_loose i }
+
+loose_slack : {w : World} {o p : Option Slot} → At w loose o p → In slack w
+loose_slack (at_loose i) = i
+
+spare_of : {w : World} {st : Names} {e f : Env} (p : Fact) → Allowed p st → Envs w st e f → Spare p w
+spare_of (exactly p) y r = tt
+spare_of {w = w} {e = e} {f = f} silent_function (y, q) r = loose_slack (subst (λ t. At w t (look e y) (look f y)) q (r.at y))
+
 bound_at : {w : World} {s : Status} {o p : Option Slot} → At w s o p → Declared s → IsBound o
 bound_at at_nowhere d = d
+bound_at (at_loose i) d = d
 bound_at (at_live l) d = tt
-bound_at (at_known l) d = tt
+bound_at (at_known i l) d = tt
 bound_at (at_dead l) d = tt
 bound_at (at_unread l k) d = tt
 
@@ -76,8 +88,9 @@ lone_with : {w w2 : World} {t : Status} {o p : Option Slot} {s : Slot} → Sub w
 lone_with h y (at_dead l) k = at_dead k
 lone_with h y (at_unread l n) k = at_unread k (right_later h n)
 lone_with h y at_nowhere k = absurd y
+lone_with h y (at_loose i) k = absurd y
 lone_with h y (at_live l) k = absurd y
-lone_with h y (at_known l) k = absurd y
+lone_with h y (at_known i l) k = absurd y
 
 -- what an entry declares
 
@@ -103,7 +116,7 @@ pub declare_acts : {w : World} {st t : Names} {ds es : List Decl} {e f : Env} {j
 unfolding declare
 declare_acts {w = w} no_decls r b = b w _ _ (same w) r
 declare_acts {w = w} (in_both {way = way} d) r b = slot_acts way (λ w2 s z h l. declare_acts {w = w2} d (env_both l (envs_later h r)) (λ w3 e f g q. b w3 e f (later h g) q))
-declare_acts {w = w} (in_both_known p d) r b = alloc_rule (only_value p) tt (same_cell same_none) (λ w2 i j h l. declare_acts {w = w2} d (env_known l (envs_later h r)) (λ w3 e f g q. b w3 e f (later h g) q))
+declare_acts {w = w} (in_both_known p q d) r b = alloc_rule (only_value p) tt (same_cell same_none) (λ w2 i j h l. declare_acts {w = w2} d (env_known (spare_of p q (envs_later h r)) l (envs_later h r)) (λ w3 e f g q. b w3 e f (later h g) q))
 declare_acts {w = w} (in_both_unread {way = way} {way2 = way2} y d) r b = slot_left way (λ w2 s h l. slot_right way2 y (λ w3 z g k. declare_acts {w = w3} d (env_unread (left_later g l) k (envs_later (later h g) r)) (λ w4 e f n q. b w4 e f (later (later h g) n) q)))
 declare_acts {w = w} {st = st} (in_old_again {x = x} {way = way} y d) r b = slot_left way (λ w2 s h l. declare_acts {w = w2} d (env_again_old x (lone_with h (subst Lone (sym y) tt) (r.at x) l) (envs_later h r)) (λ w3 e f g q. b w3 e f (later h g) q))
 declare_acts {w = w} (in_old {way = way} d) r b = slot_left way (λ w2 s h l. declare_acts {w = w2} d (env_old l (envs_later h r)) (λ w3 e f g q. b w3 e f (later h g) q))
@@ -114,7 +127,7 @@ initialised_same : {w : World} {c d : Cell} {v u : Value} → SameCell w c d →
 initialised_same (same_cell q) r = same_cell (same_some r)
 
 fill_slot : {w : World} {s z : Slot} {v u : Value} {m k : M} → SameSlot w any_value s z → Same w v u → Acts w m k → Acts w (fill (Some s) v m) (fill (Some z) u k)
-fill_slot (same_local l) q a = read_acts tt l (λ w2 c d h r. store_acts (h _ l) (initialised_same r (same_later h q)) (acts_later h a))
+fill_slot (same_local l) q a = read_acts tt l (λ w2 c d h r. store_acts (h.kept _ l) (initialised_same r (same_later h q)) (acts_later h a))
 fill_slot same_import q a = unknown_acts
 fill_slot same_arguments q a = unknown_acts
 
@@ -131,15 +144,19 @@ pub fill_old : {w : World} {t : Status} {o p : Option Slot} {m k : M} (v : Value
 fill_old v y (at_dead l) a = fill_slot_old v l a
 fill_old v y (at_unread l i) a = fill_slot_old v l a
 fill_old v y at_nowhere a = absurd y
+fill_old v y (at_loose i) a = absurd y
 fill_old v y (at_live l) a = absurd y
-fill_old v y (at_known l) a = absurd y
+fill_old v y (at_known i l) a = absurd y
 
-filled_obeys : (p : Plain) (v : Value) (c : Cell) → v ≡ plain p → Obeys (only_value p) (initialised c v)
+filled_obeys : (p : Fact) (v : Value) (c : Cell) → Meets p v → Obeys (only_value p) (initialised c v)
 filled_obeys p v (cell b o) e = e
 
--- a name that holds this value
-pub fill_known : {w : World} {p : Plain} {o q : Option Slot} {m k : M} (v : Value) → At w (known p) o q → v ≡ plain p → Acts w m k → Acts w (fill o v m) (fill q v k)
-fill_known {p = p} v (at_known l) e a = read_acts tt l (λ w2 c d h r. store_rule (h _ l) (filled_obeys p v c e) (initialised_same r (subst (λ u. Same w2 u u) (sym e) same_plain)) (acts_later h a))
+-- a name of whose value this is known
+pub fill_meeting : {w : World} {p : Fact} {o q : Option Slot} {v u : Value} {m k : M} → At w (known p) o q → Meets p v → Same w v u → Acts w m k → Acts w (fill o v m) (fill q u k)
+fill_meeting {p = p} {v = v} (at_known i l) e s a = read_acts tt l (λ w2 c d h r. store_rule (h.kept _ l) (filled_obeys p v c e) (initialised_same r (same_later h s)) (acts_later h a))
+
+pub fill_known : {w : World} {p : Plain} {o q : Option Slot} {m k : M} (v : Value) → At w (known (exactly p)) o q → v ≡ plain p → Acts w m k → Acts w (fill o v m) (fill q v k)
+fill_known {w = w} v i e a = fill_meeting i e (subst (λ u. Same w u u) (sym e) same_plain) a
 
 -- a name that nothing reads may take one value here and another there
 pub fill_unread : {w : World} {o p : Option Slot} {m k : M} (v u : Value) → At w unread o p → Acts w m k → Acts w (fill o v m) (fill p u k)
@@ -147,8 +164,9 @@ fill_unread v u (at_unread l i) a = fill_slot_old v l (fill_slot_new u i a)
 
 pub fill_acts : {w : World} {x : Status} {o p : Option Slot} {v u : Value} {m k : M} → At w x o p → Fillable x → Same w v u → Acts w m k → Acts w (fill o v m) (fill p u k)
 fill_acts at_nowhere y q a = unknown_acts
+fill_acts (at_loose i) y q a = unknown_acts
 fill_acts (at_live l) y q a = fill_slot l q a
-fill_acts (at_known l) y q a = absurd y
+fill_acts (at_known i l) y q a = absurd y
 fill_acts (at_dead l) y q a = absurd y
 fill_acts (at_unread l i) y q a = fill_unread _ _ (at_unread l i) a
 
@@ -180,8 +198,9 @@ global_there_acts x = global_value_acts (global_named x) x (λ w2 o p h q. if_th
 
 pub name_value_acts : {w : World} {s : Status} {o p : Option Slot} (x : Text) → At w s o p → Usable s → Acts w (name_value o x) (name_value p x)
 name_value_acts x at_nowhere y = global_there_acts x
+name_value_acts x (at_loose i) y = global_there_acts x
 name_value_acts x (at_live l) y = slot_value_acts tt l
-name_value_acts x (at_known {p = p} l) y = slot_value_acts {p = only_value p} tt (same_local l)
+name_value_acts x (at_known {p = p} i l) y = slot_value_acts {p = only_value p} tt (same_local l)
 name_value_acts x (at_dead l) y = absurd y
 name_value_acts x (at_unread l i) y = absurd y
 
@@ -191,24 +210,25 @@ or_undefined_acts (same_some q) = give_acts q
 
 pub typeof_name_acts : {w : World} {s : Status} {o p : Option Slot} (x : Text) → At w s o p → Usable s → Acts w (typeof_name o x) (typeof_name p x)
 typeof_name_acts x at_nowhere y = global_value_acts (global_named x) x (λ w2 o p h q. or_undefined_acts q)
+typeof_name_acts x (at_loose i) y = global_value_acts (global_named x) x (λ w2 o p h q. or_undefined_acts q)
 typeof_name_acts x (at_live l) y = slot_value_acts tt l
-typeof_name_acts x (at_known {p = p} l) y = slot_value_acts {p = only_value p} tt (same_local l)
+typeof_name_acts x (at_known {p = p} i l) y = slot_value_acts {p = only_value p} tt (same_local l)
 typeof_name_acts x (at_dead l) y = absurd y
 typeof_name_acts x (at_unread l i) y = absurd y
 
 -- a name that holds a known value, and that value
 
-known_cell : {w : World} {p : Plain} {u : Value} (c : Cell) → u ≡ plain p → Obeys (only_value p) c → Acts w (cell_value c) (give u)
+known_cell : {w : World} {p : Plain} {u : Value} (c : Cell) → u ≡ plain p → Obeys (only_value (exactly p)) c → Acts w (cell_value c) (give u)
 known_cell (cell b None) e y = unknown_acts
 known_cell {w = w} {p = p} {u = u} (cell b (Some v)) e y = subst (λ v. Acts w (give v) (give u)) (e ∙ sym y) (give_acts (subst (λ u. Same w u u) (sym e) same_plain))
 
-known_slot : {w : World} {p : Plain} {o q : Option Slot} {u : Value} (j : Option Slot → M) → At w (known p) o q → ((s : Slot) → j (Some s) ≡ slot_value s) → u ≡ plain p → Acts w (j o) (give u)
-known_slot {w = w} {u = u} j (at_known {c = c} l) f e = subst (λ m. Acts w m (give u)) (sym (f (local c))) (read_obeyed l (λ c y. known_cell c e y))
+known_slot : {w : World} {p : Plain} {o q : Option Slot} {u : Value} (j : Option Slot → M) → At w (known (exactly p)) o q → ((s : Slot) → j (Some s) ≡ slot_value s) → u ≡ plain p → Acts w (j o) (give u)
+known_slot {w = w} {u = u} j (at_known {c = c} i l) f e = subst (λ m. Acts w m (give u)) (sym (f (local c))) (read_obeyed l (λ c y. known_cell c e y))
 
-pub known_value_acts : {w : World} {p : Plain} {o q : Option Slot} {u : Value} (x : Text) → At w (known p) o q → u ≡ plain p → Acts w (name_value o x) (give u)
+pub known_value_acts : {w : World} {p : Plain} {o q : Option Slot} {u : Value} (x : Text) → At w (known (exactly p)) o q → u ≡ plain p → Acts w (name_value o x) (give u)
 known_value_acts x a e = known_slot (λ o. name_value o x) a (λ s. refl) e
 
-pub known_typeof_acts : {w : World} {p : Plain} {o q : Option Slot} {u : Value} (x : Text) → At w (known p) o q → u ≡ plain p → Acts w (typeof_name o x) (give u)
+pub known_typeof_acts : {w : World} {p : Plain} {o q : Option Slot} {u : Value} (x : Text) → At w (known (exactly p)) o q → u ≡ plain p → Acts w (typeof_name o x) (give u)
 known_typeof_acts x a e = known_slot (λ o. typeof_name o x) a (λ s. refl) e
 
 -- writing
@@ -223,7 +243,7 @@ assign_import_acts same_none = unknown_acts
 assign_import_acts (same_some q) = raise_acts type_error
 
 pub assign_slot_acts : {w : World} {s z : Slot} {v u : Value} → SameSlot w any_value s z → Same w v u → Acts w (assign_slot s v) (assign_slot z u)
-assign_slot_acts (same_local l) r = read_acts tt l (λ w2 c d h q. assign_cell_acts (h _ l) (same_later h r) q)
+assign_slot_acts (same_local l) r = read_acts tt l (λ w2 c d h q. assign_cell_acts (h.kept _ l) (same_later h r) q)
 assign_slot_acts (same_import {source = source} {x = x}) r = get_import_acts source x (λ w2 o p h q. assign_import_acts q)
 assign_slot_acts same_arguments r = unknown_acts
 
@@ -245,8 +265,9 @@ there_same (same_some q) = refl
 
 pub name_place_acts : {w : World} {s : Status} {o p : Option Slot} (x : Text) → At w s o p → Writable s → Acts w (name_place o x) (name_place p x)
 name_place_acts x at_nowhere y = get_global_acts x (λ w2 o p h q. there_acts x _ _ (there_same q))
+name_place_acts x (at_loose i) y = get_global_acts x (λ w2 o p h q. there_acts x _ _ (there_same q))
 name_place_acts x (at_live l) y = done_acts (same_refers (same_at_slot l))
-name_place_acts x (at_known l) y = absurd y
+name_place_acts x (at_known i l) y = absurd y
 name_place_acts x (at_dead l) y = absurd y
 name_place_acts x (at_unread l i) y = absurd y
 
@@ -275,8 +296,8 @@ copy_both x y (same_local l) r b = read_acts tt l (λ w2 c d h q. alloc_acts q (
 copy_both {w = w} x y same_import r b = b w _ _ (same w) r
 copy_both {w = w} x y same_arguments r b = b w _ _ (same w) r
 
-copy_known : {w : World} {st : Names} {e f : Env} {j k : Env → M} {c d : ℕ} {p : Plain} (x : Text) → st x ≡ known p → In (both c d (only_value p)) w → Envs w st e f → Further w st j k → Acts w (copy_slot (Some (local c)) x e j) (copy_slot (Some (local d)) x f k)
-copy_known {p = p} x y l r b = read_rule tt l (λ w2 c d h o q. alloc_rule (only_value p) o q (λ w3 i j g m. b w3 _ _ (later h g) (env_again x (subst (λ t. At w3 t (Some (local i)) (Some (local j))) (sym y) (at_known m)) (envs_later (later h g) r))))
+copy_known : {w : World} {st : Names} {e f : Env} {j k : Env → M} {c d : ℕ} {p : Fact} (x : Text) → st x ≡ known p → Spare p w → In (both c d (only_value p)) w → Envs w st e f → Further w st j k → Acts w (copy_slot (Some (local c)) x e j) (copy_slot (Some (local d)) x f k)
+copy_known {p = p} x y n l r b = read_rule tt l (λ w2 c d h o q. alloc_rule (only_value p) o q (λ w3 i j g m. b w3 _ _ (later h g) (env_again x (subst (λ t. At w3 t (Some (local i)) (Some (local j))) (sym y) (at_known (spare_later p (later h g) n) m)) (envs_later (later h g) r))))
 
 dead_with : {w : World} (t : Status) {o p : Option Slot} (q : Option Slot) → t ≡ dead → At w t o p → At w t o q
 dead_with {w = w} t {o = o} {p = p} q y a = subst (λ t. At w t o q) (sym y) (go o p (subst (λ t. At w t o p) y a))
@@ -303,8 +324,9 @@ copy_unread {w = w} {st = st} {e = e} {f = f} {j = j} {k = k} {z = z} x y q l n 
 
 copy_one : {w : World} {st : Names} {e f : Env} {j k : Env → M} {s : Status} {o p : Option Slot} (x : Text) → st x ≡ s → p ≡ look f x → At w s o p → Envs w st e f → Further w st j k → Acts w (copy_slot o x e j) (copy_slot p x f k)
 copy_one {w = w} x y q at_nowhere r b = b w _ _ (same w) r
+copy_one {w = w} x y q (at_loose i) r b = b w _ _ (same w) r
 copy_one x y q (at_live l) r b = copy_both x y l r b
-copy_one x y q (at_known l) r b = copy_known x y l r b
+copy_one x y q (at_known i l) r b = copy_known x y i l r b
 copy_one {w = w} {st = st} {f = f} {k = k} x y q (at_dead {o = p} l) r b =
     copy_dead x y l r (λ w2 e h r. copy_right k p x f (λ w3 u g m. b w3 _ _ (later h g) (env_again_new x (dead_with (st x) (Some u) y ((envs_later g r).at x)) (envs_later g r))) (b w2 e f h r))
 copy_one x y q (at_unread l n) r b = copy_unread x y q l n r b
@@ -314,8 +336,9 @@ copy_one_old x d y q (at_dead l) r b = copy_dead x y l r b
 copy_one_old {w = w} {st = st} {e = e} {f = f} {j = j} x d y q (at_unread {z = z} l n) r b =
     copy_left j x e l (λ w2 t h k. b w2 _ h (env_again_old x (subst (λ s. At w2 s (Some t) (look f x)) (sym y) (subst (λ p. At w2 unread (Some t) p) q (at_unread k (right_later h n)))) (envs_later h r))) (b w e (same w) r)
 copy_one_old x d y q at_nowhere r b = absurd d
+copy_one_old x d y q (at_loose i) r b = absurd d
 copy_one_old x d y q (at_live l) r b = absurd d
-copy_one_old x d y q (at_known l) r b = absurd d
+copy_one_old x d y q (at_known i l) r b = absurd d
 
 pub copy_acts : {st : Names} {w : World} {ds es : List Decl} {e f : Env} {j k : Env → M} → Copied st ds es → Envs w st e f → Further w st j k → Acts w (copy ds e j) (copy es f k)
 unfolding copy

@@ -8,15 +8,16 @@ use Rattle.js_syntax.specs.declared.scalar.SourceType.TheVariants as source_type
 use Rattle.js_syntax.specs.Node.{Note, Forest, nothing, node, absent, below_of}
 use Rattle.js_syntax.specs.Facts.{is_core}
 use Rattle.js_syntax.specs.declared.value.LiteralValue.{LiteralValue as Literal}
-use Rattle.js_meaning.specs.Value.{Text, Env, this_name, Plain, plain, literal_value}
+use Rattle.js_meaning.specs.Value.{Text, Env, this_name, Plain, Value, plain, literal_value}
 use Rattle.js_meaning.specs.Scope.{waiting, named_so, first_of, behind, first_name, lexical, function_decls, own_name, default_name, module_decls}
 use Rattle.js_meaning.specs.Host.{Enter}
 use Rattle.js_meaning.specs.Module.{Entry, entry_local, entry_import, entries, stars, requests}
-use Rattle.js_meaning.specs.Node.{Meaning, now}
+use Rattle.js_meaning.specs.Node.{Ask, run, Meaning, now}
 use Rattle.js_meaning.specs.Expression.{static_key}
-use Rattle.js_meaning.specs.Meaning.{does, if_core, eval}
-use Rattle.js_meaning_near.specs.Quiet.{Quiet}
-use Rattle.js_meaning_near.specs.Names.{Names, no_names, unread, known, Lone, Usable, Writable, Fillable, FillableIf, Binds, Decls, Copied, declared, names_below}
+use Rattle.js_meaning.specs.Meaning.{does, if_core, enter_body, eval}
+use Rattle.js_meaning_near.specs.Quiet.{Quiet, Leads}
+use Rattle.js_meaning_near.specs.Wasted.{Wastes, drops}
+use Rattle.js_meaning_near.specs.Names.{Names, no_names, loose_names, unread, known, exactly, silent_function, Lone, Usable, Writable, Fillable, FillableIf, Binds, Decls, Copied, declared, names_below}
 
 -- what a node does in a row
 abbrev pub meaning : Enter → Kind → Forest → Meaning
@@ -30,6 +31,10 @@ pub record Silent (st : Names) (k : Kind) (a : Forest) : Type 0 where
 abbrev pub NoField : Forest → Type 0
 NoField (node k n a r) = ⊥
 NoField _ = Unit {0}
+
+-- a function's code of which a call does nothing but give a value
+pub record SilentCode (st : Names) (a : Forest) : Type 0 where
+  pub silent_code : (E : Enter) (env : Env) → Binds st env → (this : Value) (vs : List Value) → Quiet (enter_body E function_kind.Declaration a env this vs)
 
 -- An item that may leave a list: of statements, or of declarators.
 mutual
@@ -53,7 +58,55 @@ pub data Change (st : Names) : Kind → Forest → Kind → Forest → Type 0 wh
   statement_emptied : {k : Kind} {n : Note} {a r b : Forest} → Silent st k a → Change st Kind.ExpressionStatement (node k n a r) Kind.EmptyStatement b
   no_statement_emptied : {a b : Forest} → NoField a → Change st Kind.ExpressionStatement a Kind.EmptyStatement b
   -- a read of a name that holds a known value
-  value_read : {x : Text} {p : Plain} {v : Literal} {a b : Forest} → st x ≡ known p → literal_value v ≡ plain p → Change st (Kind.ReferenceName x) a (Kind.Literal v) b
+  value_read : {x : Text} {p : Plain} {v : Literal} {a b : Forest} → st x ≡ known (exactly p) → literal_value v ≡ plain p → Change st (Kind.ReferenceName x) a (Kind.Literal v) b
+
+-- expressions that start nothing and declare nothing, and that don't ask what they are wanted for
+abbrev pub is_blunt : Kind → Bool
+is_blunt (Kind.Literal v) = true
+is_blunt Kind.ThisExpression = true
+is_blunt Kind.ArrayExpression = true
+is_blunt Kind.ObjectExpression = true
+is_blunt Kind.SequenceExpression = true
+is_blunt (Kind.UnaryExpression o) = true
+is_blunt (Kind.UpdateExpression o prefix) = true
+is_blunt (Kind.BinaryExpression o) = true
+is_blunt (Kind.LogicalExpression o) = true
+is_blunt (Kind.AssignmentExpression o) = true
+is_blunt Kind.ConditionalExpression = true
+is_blunt (Kind.CallExpression optional pure) = true
+is_blunt (Kind.NewExpression pure) = true
+is_blunt k = false
+
+-- nodes that start nothing and declare nothing outside of `var`
+abbrev pub is_calm : Kind → Bool
+is_calm Kind.EmptyStatement = true
+is_calm Kind.ExpressionStatement = true
+is_calm Kind.BlockStatement = true
+is_calm Kind.IfStatement = true
+is_calm (Kind.LabeledStatement l) = true
+is_calm (Kind.BreakStatement l) = true
+is_calm (Kind.ContinueStatement l) = true
+is_calm Kind.ReturnStatement = true
+is_calm Kind.ThrowStatement = true
+is_calm Kind.WhileStatement = true
+is_calm Kind.DoWhileStatement = true
+is_calm Kind.ForStatement = true
+is_calm Kind.SwitchStatement = true
+is_calm Kind.TryStatement = true
+is_calm k = is_blunt k
+
+-- A node, and one that may stand for it: where the names are bound, it comes to what that one does.
+pub record ComesTo (st : Names) (k : Kind) (a : Forest) (l : Kind) (b : Forest) : Type 0 where
+  pub old_calm : is_calm k ≡ true
+  pub new_calm : is_calm l ≡ true
+  pub comes : (E : Enter) (env : Env) → Binds st env → (q : Ask) → Leads (meaning E k a q env) (meaning E l b q env)
+
+-- A statement of an expression, and a statement that may stand for it: the new one evaluates these parts, and the old one
+-- these others, and nothing that anybody can tell else.
+pub record SameEffects (st : Names) (a : Forest) (l : Kind) (b ps qs : Forest) : Type 0 where
+  pub new_calm : is_calm l ≡ true
+  pub wastes : (E : Enter) (env : Env) → Binds st env → (ls : List Text) → Wastes E st env (meaning E Kind.ExpressionStatement a (run ls) env) (eval E ps)
+  pub drops_all : (E : Enter) (env : Env) (ls : List Text) → drops (eval E qs) env ≡ meaning E l b (run ls) env
 
 -- How the nodes of a row stand: in a field each; in the fields of a switch; or in a list that items may leave.
 pub data Row : Type 0 where
@@ -126,12 +179,19 @@ mutual
     near_unread : {p : Row} {st : Names} {x : Text} {pure also : Bool} {n m : Note} {a b c d : Forest} → st x ≡ unread → first_name a ≡ Some x → first_name b ≡ Some x → Near p st c d
         → Near p st (node (Kind.Function function_kind.Declaration pure) n a c) (node (Kind.Function function_kind.Declaration also) m b d)
     -- a declarator that gives a known value
-    near_known : {q : Row} {st : Names} {x : Text} {p : Plain} {v : Literal} {n m i j k l : Note} {a b e f r s c d : Forest} → st x ≡ known p → literal_value v ≡ plain p → Near q st c d
+    near_known : {q : Row} {st : Names} {x : Text} {p : Plain} {v : Literal} {n m i j k l : Note} {a b e f r s c d : Forest} → st x ≡ known (exactly p) → literal_value v ≡ plain p → Near q st c d
         → Near q st (node Kind.VariableDeclarator n (node (Kind.BindingName x) i a (node (Kind.Literal v) k e r)) c) (node Kind.VariableDeclarator m (node (Kind.BindingName x) j b (node (Kind.Literal v) l f s)) d)
+    -- a function whose calls do nothing but give a value, where that is known of its name
+    near_silent : {p : Row} {st : Names} {x : Text} {pure : Bool} {n m : Note} {a b c d : Forest} → st x ≡ known silent_function → first_name a ≡ Some x → first_name b ≡ Some x → SilentCode st a
+        → Code st function_kind.Declaration a b → Near p st c d → Near p st (node (Kind.Function function_kind.Declaration pure) n a c) (node (Kind.Function function_kind.Declaration pure) m b d)
     -- nothing is said of what a node does that isn't core
     near_uncovered : {p : Row} {st : Names} {k : Kind} {n m : Note} {a b c d : Forest} → is_core k ≡ false → Near p st c d → Near p st (node k n a c) (node k m b d)
     -- a node for another
     changed : {p : Row} {st : Names} {k l : Kind} {n m : Note} {a b c d : Forest} → Change st k a l b → Near p st c d → Near p st (node k n a c) (node l m b d)
+    -- a part for the expression that comes to it
+    comes_to : {p : Row} {st : Names} {k l : Kind} {n m i j : Note} {a b c d : Forest} → ComesTo st k a l b → Near fields st (node l i b nothing) (node l j b nothing) → Near p st c d → Near p st (node k n a c) (node l m b d)
+    -- a statement for one that wastes more
+    same_effects : {p : Row} {st : Names} {l : Kind} {n m : Note} {a b c d ps qs : Forest} → SameEffects st a l b ps qs → Near fields st ps qs → Near p st c d → Near p st (node Kind.ExpressionStatement n a c) (node l m b d)
     -- an item that the new list doesn't have
     leaves : {st : Names} {k : Kind} {n : Note} {a c d : Forest} → Idle st k a → Near items st c d → Near items st (node k n a c) d
 
@@ -150,6 +210,11 @@ ExportsOk st (entry_import x source name ∷ es) = ExportsOk st es
 pub data NearModule : Forest → Forest → Type 0 where
   near_module : {t : Names} {a b : Forest} → Decls no_names (module_decls a) (module_decls b) t
       → entries a ≡ entries b → ExportsOk t (entries a) → stars a ≡ stars b → requests a ≡ requests b → Near items t a b → NearModule a b
+
+-- The same, where the new module may make fewer entries.
+pub data LooseModule : Forest → Forest → Type 0 where
+  loose_module : {t : Names} {a b : Forest} → Decls loose_names (module_decls a) (module_decls b) t
+      → entries a ≡ entries b → ExportsOk t (entries a) → stars a ≡ stars b → requests a ≡ requests b → Near items t a b → LooseModule a b
 
 -- a module's tree, by its statements
 abbrev pub module_of : Note → Note → Forest → Forest

@@ -1,11 +1,23 @@
 // The laws of nearness. Each is a contract, so that the check proves it.
-ghost use Rattle.std.specs.Prelude.{◌≡◌, Bool, false, List};
-ghost use Rattle.js_syntax.specs.Node.{Note, Forest};
-ghost use Rattle.js_meaning.specs.Value.{Text};
-ghost use Rattle.js_meaning.specs.Scope.{Decl};
+ghost use Rattle.std.specs.Prelude.{◌≡◌, Bool, true, false, List};
+ghost use Rattle.js_syntax.specs.declared.node_kind.NodeKind.{NodeKind as Kind};
+ghost use Rattle.js_syntax.specs.declared.value.LiteralValue.{LiteralValue as Literal};
+ghost use Rattle.js_syntax.specs.Node.{Note, Forest, nothing, node};
+ghost use Rattle.js_meaning.specs.Value.{Text, Plain, literal_value};
+ghost use Rattle.js_meaning.specs.Operator.{truthy, goes_right};
+ghost use Rattle.js_meaning.specs.Scope.{Decl, module_decls};
 ghost use Rattle.js_meaning.specs.Kept.{Kept, KeptBack, Refined};
-ghost use Rattle.js_meaning_near.specs.Names.{Names, Fillable, AllPlain, PlainBut};
-ghost use Rattle.js_meaning_near.specs.Near.{Row, Near, NearModule, module_of};
+ghost use Rattle.js_meaning_near.specs.Names.{Fact, exactly, known, silent_function, Names, Fillable, AllPlain, PlainBut};
+ghost use Rattle.js_meaning.specs.Module.{entries, stars, requests};
+ghost use Rattle.js_meaning_near.specs.Local.{Local, IsField};
+ghost use Rattle.js_meaning_near.specs.Near.{is_blunt, is_calm, ComesTo, Silent, SameEffects, Row, items, Near, NearModule, LooseModule, module_of};
+ghost use Rattle.js_meaning_near.specs.Rewritten.{Rewritten};
+ghost use Rattle.js_meaning_near.specs.Unused.{Needed, kind_of, below_of};
+ghost use Rattle.js_syntax.specs.declared.operator.LogicalOperator.{LogicalOperator};
+ghost use Rattle.js_syntax.specs.declared.operator.BinaryOperator.TheVariants as binary;
+ghost use Rattle.js_syntax.specs.declared.operator.UnaryOperator.TheVariants as unary;
+ghost use Rattle.js_meaning_near.specs.Known.{Knows, Steady, DeclaredOnce, empty_code};
+ghost use Rattle.js_syntax.specs.declared.kind.FunctionKind.TheVariants as function_kind;
 ghost use Rattle.js_meaning_near.specs.Fit.{Part, whole, Fits};
 ghost use Rattle.js_meaning_near.specs.Once.{Once};
 ghost use Rattle.js_meaning_near.specs.Avoid.{Dropped, HasCells, Dropping, InPlace, Avoids};
@@ -47,4 +59,78 @@ pub fn what_is_in_place_fits()
 pub fn what_avoids_a_name_fits()
     ensures { (bindings : Bool) (x : Text) (q : Part) (p : Row) (st : Names) (a : Forest) →
         PlainBut x st → (bindings ≡ false → Fillable (st x)) → Avoids bindings x q p a → Fits q p st a }
+{}
+
+/// A module in which an expression comes to one of its parts, anywhere, refines the one before.
+pub fn a_local_change_refines()
+    ensures { (n m : Note) (a b : Forest) → Local a b → InPlace whole items b → entries a ≡ entries b → stars a ≡ stars b → requests a ≡ requests b → Refined (module_of n m a) (module_of n m b) }
+{}
+
+/// A conditional and an `if` on a literal come to the branch that is taken.
+pub fn a_choice_comes_to_its_branch()
+    ensures conditional { (st : Names) (v : Literal) (n i j : Note) (l z : Kind) (b c : Forest) → truthy (literal_value v) ≡ true → is_blunt l ≡ true → is_calm l ≡ true →
+        ComesTo st Kind.ConditionalExpression (node (Kind.Literal v) n nothing (node l i b (node z j c nothing))) l b }
+    ensures statement { (st : Names) (v : Literal) (n i : Note) (l : Kind) (b r : Forest) → truthy (literal_value v) ≡ true → is_calm l ≡ true → IsField r →
+        ComesTo st Kind.IfStatement (node (Kind.Literal v) n nothing (node l i b r)) l b }
+{}
+
+/// Where the new module may make fewer entries it keeps every run of the old one.
+pub fn loose_modules_keep_runs()
+    ensures { (n m i j : Note) (a b : Forest) → LooseModule a b → Kept (module_of n m a) (module_of i j b) }
+{}
+
+/// Rows with changes that are right where this is known of a name are near.
+pub fn what_is_rewritten_is_near()
+    ensures { (x : Text) (f : Fact) (p : Row) (st : Names) (a b : Forest) → Knows x f st → Rewritten (Knows x f) whole p a b → Near p st a b }
+{}
+
+/// Where a name of the module has one value from its initialisation on, reads of it, wherever they
+/// stand, may be that value.
+pub fn a_constant_may_be_read()
+    ensures { (n m : Note) (x : Text) (p : Plain) (a b : Forest) → DeclaredOnce x (module_decls b) → Rewritten (Knows x (exactly p)) whole items a b → entries a ≡ entries b → stars a ≡ stars b → requests a ≡ requests b → Refined (module_of n m a) (module_of n m b) }
+{}
+
+/// Calls of a function with an empty body may go, wherever they stand.
+pub fn calls_of_an_empty_function_leave()
+    ensures { (n m o i j k l : Note) (pure : Bool) (x : Text) (r s : Forest) →
+        DeclaredOnce x (module_decls (node (Kind.Function function_kind.Declaration pure) o (empty_code i j k l x) s)) → Rewritten (Knows x silent_function) whole items r s →
+        entries (node (Kind.Function function_kind.Declaration pure) o (empty_code i j k l x) r) ≡ entries (node (Kind.Function function_kind.Declaration pure) o (empty_code i j k l x) s) →
+        stars (node (Kind.Function function_kind.Declaration pure) o (empty_code i j k l x) r) ≡ stars (node (Kind.Function function_kind.Declaration pure) o (empty_code i j k l x) s) →
+        requests (node (Kind.Function function_kind.Declaration pure) o (empty_code i j k l x) r) ≡ requests (node (Kind.Function function_kind.Declaration pure) o (empty_code i j k l x) s) →
+        Kept (module_of n m (node (Kind.Function function_kind.Declaration pure) o (empty_code i j k l x) r)) (module_of n m (node (Kind.Function function_kind.Declaration pure) o (empty_code i j k l x) s)) }
+{}
+
+/// A logical expression whose left side is a literal comes to its right side, or to the literal.
+pub fn a_known_left_side_goes()
+    ensures right { (st : Names) (o : LogicalOperator) (v : Literal) (n i : Note) (l : Kind) (b : Forest) → goes_right o (literal_value v) ≡ true → is_blunt l ≡ true → is_calm l ≡ true →
+        ComesTo st (Kind.LogicalExpression o) (node (Kind.Literal v) n nothing (node l i b nothing)) l b }
+    ensures left { (st : Names) (o : LogicalOperator) (v : Literal) (n i : Note) (l : Kind) (b c : Forest) → goes_right o (literal_value v) ≡ false →
+        ComesTo st (Kind.LogicalExpression o) (node (Kind.Literal v) n nothing (node l i b nothing)) (Kind.Literal v) c }
+{}
+
+/// A silent part in front leaves a sequence. What would come out bare stands behind another part.
+pub fn a_silent_part_leaves_a_sequence()
+    ensures blunt { (st : Names) (k l : Kind) (a b : Forest) (n i j : Note) → Silent st k a → is_blunt l ≡ true → is_calm l ≡ true →
+        ComesTo st Kind.SequenceExpression (node Kind.Expressions n (node k i a (node l j b nothing)) nothing) l b }
+    ensures bare { (st : Names) (v z : Literal) (n i j m o p : Note) (l y : Kind) (b c : Forest) → truthy (literal_value v) ≡ true →
+        ComesTo st Kind.ConditionalExpression (node (Kind.Literal v) n nothing (node l i b (node y j c nothing))) Kind.SequenceExpression (node Kind.Expressions m (node (Kind.Literal z) o nothing (node l p b nothing)) nothing) }
+{}
+
+/// A call of a function that does nothing comes to its arguments that aren't silent.
+pub fn a_silent_call_wastes_its_arguments()
+    ensures { (st : Names) (x : Text) (pure : Bool) (n m i j : Note) (es ps : Forest) → st x ≡ known silent_function → Needed st es ps →
+        SameEffects st (node (Kind.CallExpression false pure) n (node (Kind.ReferenceName x) m nothing (node Kind.Arguments i es nothing)) nothing) (kind_of ps) (below_of j ps) ps ps }
+{}
+
+/// An array literal of which nobody takes the value comes to its parts that aren't silent; a negated
+/// comparison with a literal to its other side.
+pub fn unused_values_waste_their_parts()
+    ensures array { (st : Names) (n m i : Note) (es ps : Forest) → Needed st es ps → SameEffects st (node Kind.ArrayExpression n (node Kind.Elements m es nothing) nothing) (kind_of ps) (below_of i ps) ps ps }
+    ensures comparison { (st : Names) (k : Kind) (a : Forest) (v : Literal) (n m i j : Note) →
+        SameEffects st (node (Kind.UnaryExpression unary.LogicalNot) n (node (Kind.BinaryExpression binary.StrictEquality) m (node k i a (node (Kind.Literal v) j nothing nothing)) nothing) nothing) Kind.ExpressionStatement (node k i a nothing) (node k i a nothing) (node k i a nothing) }
+{}
+
+/// What only reads a name of which something is known stays.
+pub fn what_is_steady_fits()
+    ensures { (x : Text) (f : Fact) (q : Part) (p : Row) (st : Names) (a : Forest) → Knows x f st → Steady x q p a → Fits q p st a }
 {}

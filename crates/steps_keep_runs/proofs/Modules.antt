@@ -9,7 +9,7 @@ use Rattle.js_meaning.specs.Value.{Text, this_name}
 use Rattle.js_meaning.specs.Scope.{Decl, decl, ready, all_so, var_names, lexical, module_decls}
 use Rattle.js_meaning.specs.Module.{Entry, entry_local, entry_import, entries, names_in}
 use Rattle.js_meaning.specs.Kept.{Refined}
-use Rattle.js_meaning_near.specs.Names.{Status, undeclared, live, dead, unread, known, Names, no_names, Usable, Plainly, AllPlain, PlainBut}
+use Rattle.js_meaning_near.specs.Names.{Status, undeclared, loose, live, dead, unread, known, Names, no_names, Usable, Plainly, AllPlain, PlainBut}
 use Rattle.js_meaning_near.specs.Near as near
 use Rattle.js_meaning_near.specs.Near.{fields, ExportsOk, NearModule, near_module, module_of}
 use Rattle.js_meaning_near.specs.Fit.{Part, whole, others, IfCore}
@@ -37,6 +37,7 @@ module_lists (of_function x) xs ys ds es v l = subst (λ m. Dropped x (decl this
 
 usable : (s : Status) → Plainly s → Usable s
 usable undeclared y = tt
+usable loose y = tt
 usable live y = tt
 usable dead y = y
 usable unread y = y

@@ -128,7 +128,7 @@ pub decls_declare : {st t : Names} {ds es : List Decl} → Decls st ds es t → 
 decls_declare no_decls y (inl e) = absurd (true≢false (sym e))
 decls_declare no_decls y (inr h) = h
 decls_declare (in_both {st = st} {x = x} {ds = ds} d) y h = decls_declare d y (on y x live st ds tt h)
-decls_declare (in_both_known {st = st} {x = x} {ds = ds} p d) y h = decls_declare d y (on y x (known p) st ds tt h)
+decls_declare (in_both_known {st = st} {x = x} {ds = ds} p q d) y h = decls_declare d y (on y x (known p) st ds tt h)
 decls_declare (in_both_unread {st = st} {x = x} {ds = ds} c d) y h = decls_declare d y (on y x unread st ds tt h)
 decls_declare (in_old_again {st = st} {x = x} {ds = ds} u d) y h = decls_declare d y (again y x st ds u h)
 decls_declare (in_old {st = st} {x = x} {ds = ds} d) y h = decls_declare d y (on y x dead st ds tt h)

@@ -1,0 +1,214 @@
+-- An expression that comes to one of its parts, anywhere in a row: all around it stays, and declares the same.
+use Rattle.std.proofs.Common.{◌≡◌, ◌∙◌, ◌⊎◌, inl, inr, List, [], ◌∷◌, ◌++◌, Option, Some, None, refl, sym, ap, ap₂, subst}
+use Rattle.std.specs.Prelude.{Bool, true, false}
+use Rattle.js_syntax.specs.declared.node_kind.NodeKind.{NodeKind as Kind}
+use Rattle.js_syntax.specs.declared.kind.FunctionKind.{FunctionKind}
+use Rattle.js_syntax.specs.declared.kind.FunctionKind.TheVariants as function_kind
+use Rattle.js_syntax.specs.declared.kind.VariableKind.TheVariants as variable
+use Rattle.js_syntax.specs.declared.kind.ClassKind.TheVariants as class_kind
+use Rattle.js_syntax.specs.Facts.{is_core}
+use Rattle.js_syntax.specs.Node.{Note, Forest, nothing, node, absent, below_of}
+use Rattle.js_meaning.specs.Value.{Text, this_name}
+use Rattle.js_meaning.specs.Scope.{Decl, waiting, ready, all_so, named_so, first_of, behind, declared_name, first_name, names_of, bound_names, vars_of, var_names, specifier_decls, import_decls, or_default, item_decls, lexical, receiver_decls, function_decls, own_name, decl, module_decls}
+use Rattle.js_meaning_near.specs.Names.{Names, Decls, Copied, declared, names_below, FillableIf}
+use Rattle.js_meaning_near.specs.Near.{Row, fields, row_below, is_calm, ComesTo, keys, Heads, IsClosure, is_row, Near, near_nothing, near_absent, near_node, near_closure, near_hoisted, near_uncovered, comes_to, Code, near_code, Okay}
+use Rattle.js_meaning_near.specs.Fit.{names_after, around_code, within_code, FunctionOk, Part, whole, others, part_of, NodeFits, IfCore, Fits}
+use Rattle.js_meaning_near.specs.Local.{Plainly, KeysStay, Local, at_place, in_below, in_rest, in_absent}
+use Rattle.js_meaning_near.proofs.Fit.{same_decls, same_copied, same_node, fits_near, fit}
+use Rattle.js_meaning_near.proofs.Once.{node_stays}
+
+true_false : true ≡ false → ⊥
+true_false e = cc
+
+-- what a blunt expression declares
+
+calm_names : (k : Kind) (l : List Text) → is_calm k ≡ true → names_of k l ≡ l
+calm_names (Kind.BindingName x) l h = absurd (true_false (sym h))
+calm_names (Kind.Function f pure) l h = absurd (true_false (sym h))
+calm_names (Kind.Class c) l h = absurd (true_false (sym h))
+calm_names k l h = refl
+
+calm_vars : (k : Kind) (a : Forest) (l : List Text) → is_calm k ≡ true → vars_of k a l ≡ l
+calm_vars (Kind.VariableDeclaration how) a l h = absurd (true_false (sym h))
+calm_vars (Kind.Function f pure) a l h = absurd (true_false (sym h))
+calm_vars (Kind.Class c) a l h = absurd (true_false (sym h))
+calm_vars k a l h = refl
+
+calm_items : (k : Kind) (a : Forest) (l : List Decl) → is_calm k ≡ true → item_decls k a l ≡ []
+calm_items (Kind.VariableDeclaration how) a l h = absurd (true_false (sym h))
+calm_items (Kind.Function f pure) a l h = absurd (true_false (sym h))
+calm_items (Kind.Class c) a l h = absurd (true_false (sym h))
+calm_items (Kind.ImportDeclaration source) a l h = absurd (true_false (sym h))
+calm_items (Kind.ExportNamedDeclaration source) a l h = absurd (true_false (sym h))
+calm_items Kind.ExportDefaultDeclaration a l h = absurd (true_false (sym h))
+calm_items Kind.FunctionBody a l h = absurd (true_false (sym h))
+calm_items Kind.Statements a l h = absurd (true_false (sym h))
+calm_items Kind.Cases a l h = absurd (true_false (sym h))
+calm_items Kind.SwitchCase a l h = absurd (true_false (sym h))
+calm_items k a l h = refl
+
+calm_specifier : (source : Text) (k : Kind) (a : Forest) (l : List Decl) → is_calm k ≡ true → specifier_decls source k a l ≡ l
+calm_specifier source (Kind.ImportSpecifier name) a l h = absurd (true_false (sym h))
+calm_specifier source Kind.ImportDefaultSpecifier a l h = absurd (true_false (sym h))
+calm_specifier source Kind.ImportNamespaceSpecifier a l h = absurd (true_false (sym h))
+calm_specifier source k a l h = refl
+
+calm_name : (k : Kind) → is_calm k ≡ true → declared_name k ≡ None
+calm_name (Kind.BindingName x) h = absurd (true_false (sym h))
+calm_name k h = refl
+
+-- what stays
+
+same_name : {t u : Forest} → Local t u → first_name t ≡ first_name u
+same_name (at_place {k = k} {l = l} c x y p) = calm_name k x ∙ sym (calm_name l y)
+same_name (in_below q s) = refl
+same_name (in_rest s) = refl
+same_name (in_absent s) = refl
+
+same_bound : {t u : Forest} → Local t u → bound_names t ≡ bound_names u
+same_bound (at_place {k = k} {l = l} {a = a} {b = b} {r = r} c x y p) = ap (λ v. v ++ bound_names r) (calm_names k (bound_names a) x ∙ p.bound ∙ sym (calm_names l (bound_names b) y))
+same_bound (in_below {k = k} {r = r} q s) = ap (λ v. names_of k v ++ bound_names r) (same_bound s)
+same_bound (in_rest {k = k} {a = a} s) = ap (λ v. names_of k (bound_names a) ++ v) (same_bound s)
+same_bound (in_absent s) = same_bound s
+
+vars_stay : (k : Kind) (a b : Forest) (l : List Text) → bound_names a ≡ bound_names b → vars_of k a l ≡ vars_of k b l
+vars_stay (Kind.VariableDeclaration variable.Var) a b l e = ap (λ v. v ++ l) e
+vars_stay (Kind.VariableDeclaration variable.Let) a b l e = refl
+vars_stay (Kind.VariableDeclaration variable.Const) a b l e = refl
+vars_stay k a b l e = refl
+
+same_vars : {t u : Forest} → Local t u → var_names t ≡ var_names u
+same_vars (at_place {k = k} {l = l} {a = a} {b = b} {r = r} c x y p) = ap (λ v. v ++ var_names r) (calm_vars k a (var_names a) x ∙ p.vars ∙ sym (calm_vars l b (var_names b) y))
+same_vars (in_below {k = k} {a = a} {b = b} {r = r} q s) = ap (λ v. v ++ var_names r) (ap (vars_of k a) (same_vars s) ∙ vars_stay k a b (var_names b) (same_bound s))
+same_vars (in_rest {k = k} {a = a} s) = ap (λ v. vars_of k a (var_names a) ++ v) (same_vars s)
+same_vars (in_absent s) = same_vars s
+
+specifier_stays : (source : Text) (k : Kind) (a b : Forest) (l : List Decl) → first_name a ≡ first_name b → specifier_decls source k a l ≡ specifier_decls source k b l
+specifier_stays source (Kind.ImportSpecifier name) a b l e = ap (named_so _) e
+specifier_stays source Kind.ImportDefaultSpecifier a b l e = ap (named_so _) e
+specifier_stays source Kind.ImportNamespaceSpecifier a b l e = ap (named_so _) e
+specifier_stays source k a b l e = refl
+
+same_imports : {t u : Forest} (source : Text) → Local t u → import_decls source t ≡ import_decls source u
+same_imports source (at_place {k = k} {l = l} {a = a} {b = b} {r = r} c x y p) = ap (λ v. v ++ import_decls source r) (calm_specifier source k a (import_decls source a) x ∙ p.imports source ∙ sym (calm_specifier source l b (import_decls source b) y))
+same_imports source (in_below {k = k} {a = a} {b = b} {r = r} q s) = ap (λ v. v ++ import_decls source r) (ap (specifier_decls source k a) (same_imports source s) ∙ specifier_stays source k a b (import_decls source b) (same_name s))
+same_imports source (in_rest {k = k} {a = a} s) = ap (λ v. specifier_decls source k a (import_decls source a) ++ v) (same_imports source s)
+same_imports source (in_absent s) = same_imports source s
+
+items_stay : (k : Kind) (a b : Forest) (l : List Decl) → Local a b → item_decls k a l ≡ item_decls k b l
+items_stay (Kind.VariableDeclaration variable.Let) a b l s = ap (all_so (waiting false)) (same_bound s)
+items_stay (Kind.VariableDeclaration variable.Const) a b l s = ap (all_so (waiting true)) (same_bound s)
+items_stay (Kind.VariableDeclaration variable.Var) a b l s = refl
+items_stay (Kind.Function function_kind.Declaration pure) a b l s = ap (named_so (waiting false)) (same_name s)
+items_stay (Kind.Class class_kind.Declaration) a b l s = ap (named_so (waiting false)) (same_name s)
+items_stay (Kind.ImportDeclaration source) a b l s = same_imports source s
+items_stay (Kind.ExportNamedDeclaration None) a b l s = refl
+items_stay k a b l s = refl
+
+pub same_lexical : {t u : Forest} → Local t u → lexical t ≡ lexical u
+same_lexical (at_place {k = k} {l = l} {a = a} {b = b} {r = r} c x y p) = ap (λ v. v ++ lexical r) (calm_items k a (lexical a) x ∙ sym (calm_items l b (lexical b) y))
+same_lexical (in_below {k = k} {a = a} {b = b} {r = r} q s) = ap (λ v. v ++ lexical r) (ap (item_decls k a) (same_lexical s) ∙ items_stay k a b (lexical b) s)
+same_lexical (in_rest {k = k} {a = a} s) = ap (λ v. item_decls k a (lexical a) ++ v) (same_lexical s)
+same_lexical (in_absent s) = same_lexical s
+
+-- of the first field, and behind it
+
+first_bound : {t u : Forest} → Local t u → bound_names (first_of t) ≡ bound_names (first_of u)
+first_bound (at_place {n = n} {m = m} c x y p) = same_bound (at_place {n = n} {m = m} {r = nothing} c x y p)
+first_bound (in_below {n = n} q s) = same_bound (in_below {n = n} {r = nothing} q s)
+first_bound (in_rest s) = refl
+first_bound (in_absent s) = refl
+
+first_lexical : {t u : Forest} → Local t u → lexical (first_of t) ≡ lexical (first_of u)
+first_lexical (at_place {n = n} {m = m} c x y p) = same_lexical (at_place {n = n} {m = m} {r = nothing} c x y p)
+first_lexical (in_below {n = n} q s) = same_lexical (in_below {n = n} {r = nothing} q s)
+first_lexical (in_rest s) = refl
+first_lexical (in_absent s) = refl
+
+-- whatever is read off a row that stays is read off what stands behind
+behind_same : {A : Type 0} (f : Forest → A) → ((t u : Forest) → Local t u → f t ≡ f u) → (t u : Forest) → Local t u → f (behind t) ≡ f (behind u)
+behind_same f g _ _ (at_place c x y p) = refl
+behind_same f g _ _ (in_below q s) = refl
+behind_same f g _ _ (in_rest s) = g _ _ s
+behind_same f g _ _ (in_absent s) = g _ _ s
+
+vars_both : (t u : Forest) → Local t u → var_names t ≡ var_names u
+vars_both t u s = same_vars s
+
+lexical_both : (t u : Forest) → Local t u → lexical t ≡ lexical u
+lexical_both t u s = same_lexical s
+
+bound_both : (t u : Forest) → Local t u → bound_names (first_of t) ≡ bound_names (first_of u)
+bound_both t u s = first_bound s
+
+code_decls : FunctionKind → List Text → List Text → List Decl → List Decl
+code_decls f vs bs ds = receiver_decls f ++ all_so ready vs ++ all_so ready bs ++ ds
+
+decls_stay : (f : FunctionKind) {t u : Forest} → Local t u → function_decls f t ≡ function_decls f u
+unfolding code_decls
+decls_stay f {t} {u} s =
+    ap (λ vs. code_decls f vs (bound_names (first_of (behind t))) (lexical (behind (behind t)))) (behind_same (λ x. var_names (behind x)) (behind_same var_names vars_both) t u s)
+    ∙ ap (λ bs. code_decls f (var_names (behind (behind u))) bs (lexical (behind (behind t)))) (behind_same (λ x. bound_names (first_of x)) bound_both t u s)
+    ∙ ap (λ ds. code_decls f (var_names (behind (behind u))) (bound_names (first_of (behind u))) ds) (behind_same (λ x. lexical (behind x)) (behind_same lexical lexical_both) t u s)
+
+declared_stay : (k : Kind) {a b : Forest} → Local a b → declared k a ≡ declared k b
+declared_stay Kind.BlockStatement s = same_lexical s
+declared_stay Kind.Cases s = same_lexical s
+declared_stay Kind.ForStatement s = first_lexical s
+declared_stay Kind.CatchClause s = ap (all_so (waiting false)) (first_bound s)
+declared_stay k s = refl
+
+-- ---- nearness
+
+calm_fits : (p : Row) (st : Names) (l : Kind) (b : Forest) (core : Bool) → is_calm l ≡ true → IfCore core (NodeFits p st l b (λ q r t. Fits q r t b)) → IfCore core (NodeFits fields st l b (λ q r t. Fits q r t b))
+calm_fits p st l b false h y = tt
+calm_fits p st (Kind.Function f pure) b true h y = absurd (true_false (sym h))
+calm_fits p st Kind.Cases b true h y = absurd (true_false (sym h))
+calm_fits p st l b true h y = y
+
+heads_stay : (k : Kind) (t : Names) (a b : Forest) → KeysStay k a b → Local a b → Heads k t a b
+heads_stay Kind.ForStatement t a b q s = subst (Copied t (lexical (first_of a))) (first_lexical s) (same_copied t (lexical (first_of a)))
+heads_stay Kind.ObjectExpression t a b q s = q
+heads_stay k t a b q s = tt
+
+decls_from : {ds es : List Decl} (st : Names) → ds ≡ es → Decls st ds es (names_after st es)
+decls_from {ds = ds} {es = es} st e = subst (λ l. Decls st l es (names_after st es)) (sym e) (same_decls st es)
+
+rows_stay : {t u : Forest} → Local t u → is_row t ≡ is_row u
+rows_stay (at_place c x y p) = refl
+rows_stay (in_below q s) = refl
+rows_stay (in_rest s) = refl
+rows_stay (in_absent s) = refl
+
+code_stays : (st : Names) (f : FunctionKind) (a b : Forest) → Local a b → FunctionOk st f b → Near fields (within_code st f b) (behind a) (behind b) → Code (around_code st f b) f a b
+code_stays st function_kind.Declaration a b s y n = near_code (decls_from _ (decls_stay function_kind.Declaration s)) y.1 (rows_stay s) n
+code_stays st function_kind.Expression a b s y n = near_code (decls_from _ (decls_stay function_kind.Expression s)) y.1 (rows_stay s) n
+code_stays st function_kind.Arrow a b s y n = near_code (decls_from _ (decls_stay function_kind.Arrow s)) y.1 (rows_stay s) n
+
+inside : {p : Row} {st : Names} {n : Note} {a b r : Forest} (k : Kind) (core : Bool) → is_core k ≡ core → KeysStay k a b → Local a b → IfCore core (NodeFits p st k b (λ q r t. Near r t (part_of q a) (part_of q b))) → Near p st r r → Near p st (node k n a r) (node k n b r)
+inside k false e q s y o = near_uncovered e o
+inside {st = st} {a = a} {b = b} (Kind.Function function_kind.Declaration pure) true e q s y o = near_hoisted (same_name s) (subst (FillableIf st) (sym (same_name s)) y.0.0) (code_stays st function_kind.Declaration a b s y.0 y.1) o
+inside {st = st} {a = a} {b = b} (Kind.Function function_kind.Expression pure) true e q s y o =
+    near_closure tt (same_name s) (decls_from st (ap (named_so (waiting true)) (same_name s))) (subst (FillableIf (around_code st function_kind.Expression b)) (sym (same_name s)) y.0.0) (code_stays st function_kind.Expression a b s y.0 y.1) o
+inside {st = st} {a = a} {b = b} (Kind.Function function_kind.Arrow pure) true e q s y o = near_closure tt refl (same_decls st []) y.0.0 (code_stays st function_kind.Arrow a b s y.0 y.1) o
+inside {st = st} {a = a} {b = b} k true e q s y o = near_node y.0 (decls_from st (declared_stay k s)) (heads_stay k (names_after st (declared k b)) a b q s) y.1 o
+
+fits_with : {F G : Part → Row → Names → Type 0} (p : Row) (st : Names) (k : Kind) (b : Forest) (core : Bool) → ((q : Part) (r : Row) (t : Names) → F q r t → G q r t) → IfCore core (NodeFits p st k b F) → IfCore core (NodeFits p st k b G)
+fits_with p st k b false g y = tt
+fits_with p st (Kind.Function f pure) b true g y = (y.0, g _ _ _ y.1)
+fits_with p st k b true g y = (y.0, g _ _ _ y.1)
+
+-- the old row is near the new one where the new one stays near itself
+pub local_near : (q : Part) (p : Row) (st : Names) {t u : Forest} → Local t u → Fits q p st u → Near p st (part_of q t) (part_of q u)
+local_near whole p st (at_place {k = k} {l = l} {n = n} {m = m} {a = a} {b = b} {r = r} c x y z) f =
+    comes_to {i = m} {j = m} (c st) (same_node l m b (is_core l) refl (fits_near fields st l b (is_core l) (calm_fits p st l b (is_core l) y f.0)) near_nothing) (fit whole p st r f.1)
+local_near whole p st (in_below {k = k} {n = n} {a = a} {b = b} {r = r} q s) f = inside k (is_core k) refl q s (fits_with p st k b (is_core k) (λ q r t z. local_near q r t s z) f.0) (fit whole p st r f.1)
+local_near whole p st (in_rest {k = k} {n = n} {a = a} s) f = node_stays p st k n a f.0 (local_near whole p st s f.1)
+local_near whole p st (in_absent s) f = near_absent (local_near whole p st s f)
+local_near others p st (at_place {r = r} c x y z) f = fit whole p st r f
+local_near others p st (in_below {r = r} q s) f = fit whole p st r f
+local_near others p st (in_rest s) f = local_near whole p st s f
+local_near others p st (in_absent s) f = local_near whole p st s f
+
+pub module_decls_stay : {t u : Forest} → Local t u → module_decls t ≡ module_decls u
+module_decls_stay s = ap₂ (λ (v : List Text) (w : List Decl). decl this_name ready ∷ all_so ready v ++ w) (same_vars s) (same_lexical s)

@@ -1,0 +1,8 @@
+use Rattle.js_meaning_near.proofs.Branches.{condition_holds, if_holds}
+use Rattle.js_meaning_near.proofs.laws.a_choice_comes_to_its_branch.Goals as goal
+
+pub returns-clause-conditional : goal.returns-clause-conditional
+returns-clause-conditional c = λ st v n i j l z b d t h g. condition_holds st v n i j l z b d t h g
+
+pub returns-clause-statement : goal.returns-clause-statement
+returns-clause-statement c = λ st v n i l b r t g h. if_holds st v n i l b r t g h
