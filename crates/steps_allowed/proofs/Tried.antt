@@ -36,10 +36,10 @@ name_acts (inr (inl (w, inr named)), rest) = absurd (true≢false (sym named))
 name_acts (inr (inr (parts, below)), rest) = absurd (true≢false (sym parts))
 
 pub variable_goes : Removes (a_module (let_ a ∷ [])) (a_module [])
-variable_goes = unused_declaration_leaves (before []) variable.Let nowhere nowhere nowhere nowhere a (absent nothing) refl (refl, tt) (record { unreferred = λ r h e. h; unexported = λ e h s d. h })
+variable_goes = unused_declaration_leaves (before []) variable.Let nowhere nowhere nowhere nowhere a (absent nothing) refl refl (refl, tt) (record { unreferred = λ r h e. h; unexported = λ e h s d. h })
 
 pub function_goes : Removes (a_module (function_a [] [] ∷ [])) (a_module [])
-function_goes = unused_function_leaves (before []) false nowhere nowhere a _ refl (record { unreferred = λ r h e. h; unexported = λ e h s d. h })
+function_goes = unused_function_leaves (before []) false nowhere nowhere a _ refl refl (record { unreferred = λ r h e. h; unexported = λ e h s d. h })
 
 pub read_stays : IsFree a_is_read (named_in a (body_of 0)) → ⊥
 read_stays h = h.unreferred _ (inl refl) refl

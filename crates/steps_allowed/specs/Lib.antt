@@ -1,4 +1,5 @@
 pub mod Silent
+pub mod Exposure
 pub mod Removes
 pub mod Arranged
 pub mod Rows

@@ -17,6 +17,7 @@ use Rattle.scope_laws.specs.Place.{Around, first, behind, behind_none, under, pl
 use Rattle.scope_laws.specs.Lists.{without}
 use Rattle.steps_names.specs.Standing.{layer_of, exported_declarations}
 use Rattle.steps_allowed.specs.Silent.{IsSilentBelow, IsSilentDeclarator, HoldsThere}
+use Rattle.steps_allowed.specs.Exposure.{IsOwnFunction, IsOwnDeclarator, IsOwnDeclaration}
 
 abbrev pub a_node : Kind → Note → (below : Forest) → Option Tree
 a_node k n below = Some (record { kind = k; note = n; below = below })
@@ -108,15 +109,15 @@ pub data Removes : (t u : Forest) → Type 0 where
   -- a statement of a silent expression becomes empty, wherever it stands
   silent_statement_empties : (a : Around) (n m l : Note) (k : Kind) (inner : Forest) → At a (a_statement n l k inner) (SilentStatement (plug a (a_statement n l k inner)) (alone k l inner))
       → Removes (plug a (a_statement n l k inner)) (plug a (a_node empty_statement m nothing))
-  -- a function declaration that nothing refers to leaves a list of statements
-  unused_function_leaves : (a : Around) (pure : Bool) (n m : Note) (x : List ℕ) (rest : Forest) → IsItem a → At a (a_function pure n m x rest) (Free (plug a (a_function pure n m x rest)) variable.Let x)
+  -- a function declaration that nothing refers to, and that no other code may use, leaves a list of statements
+  unused_function_leaves : (a : Around) (pure : Bool) (n m : Note) (x : List ℕ) (rest : Forest) → IsItem a → IsOwnFunction a (a_function pure n m x rest) → At a (a_function pure n m x rest) (Free (plug a (a_function pure n m x rest)) variable.Let x)
       → Removes (plug a (a_function pure n m x rest)) (without a)
-  -- a declarator of a name that nothing refers to, with a silent initialiser or none, leaves the others of an item
-  unused_declarator_leaves : (a : Around) (n m : Note) (x : List ℕ) (value : Forest) → IsDeclarator a → has_other false a ≡ true
+  -- so does a declarator of such a name, with a silent initialiser or none, the others of an item
+  unused_declarator_leaves : (a : Around) (n m : Note) (x : List ℕ) (value : Forest) → IsDeclarator a → has_other false a ≡ true → IsOwnDeclarator a (a_declarator n m x value)
       → At a (a_declarator n m x value) (SilentDeclarator (plug a (a_declarator n m x value)) (node (binding_name x) m nothing value)) → At a (a_declarator n m x value) (FreeDeclarator (plug a (a_declarator n m x value)) x)
       → Removes (plug a (a_declarator n m x value)) (without a)
   -- the item leaves where it is the only one
-  unused_declaration_leaves : (a : Around) (how : VariableKind) (n m l j : Note) (x : List ℕ) (value : Forest) → IsItem a
+  unused_declaration_leaves : (a : Around) (how : VariableKind) (n m l j : Note) (x : List ℕ) (value : Forest) → IsItem a → IsOwnDeclaration how a (a_declaration how n m l j x value)
       → At a (a_declaration how n m l j x value) (SilentDeclaration (plug a (a_declaration how n m l j x value)) how m l (node (binding_name x) j nothing value))
       → At a (a_declaration how n m l j x value) (Free (plug a (a_declaration how n m l j x value)) how x) → Removes (plug a (a_declaration how n m l j x value)) (without a)
 

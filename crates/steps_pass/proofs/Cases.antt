@@ -20,7 +20,11 @@ use Rattle.scope_laws.proofs.Around.{stands_there}
 use Rattle.min_passes.specs.Unused.{names_of}
 use Rattle.steps_names.proofs.Sites.{binding_second}
 use Rattle.steps_allowed.specs.Removes.{a_node, asked_at, IsItem, IsDeclarator, has_other, IsFree, Free, FreeDeclarator, SilentDeclarator, SilentDeclaration, one_declarator, a_statement, a_function, a_declarator, a_declaration, Removes, silent_statement_empties, unused_function_leaves, unused_declarator_leaves, unused_declaration_leaves, RemovesMany, no_change, one_change}
-use Rattle.steps_pass.specs.Kept.{IsKept, is_program}
+use Rattle.steps_pass.specs.Kept.{IsKept, is_program, TellsScopes}
+use Rattle.steps_pass.specs.Exposed.{IsUnexposed}
+use Rattle.steps_pass.proofs.Exposed.{program_unexposed}
+use Rattle.steps_pass.proofs.Unexposed.{first_hidden}
+use Rattle.steps_pass.proofs.Standing.{function_own, declarator_own, declaration_own}
 use Rattle.steps_fit.specs.Enclosed.{is_enclosed}
 use Rattle.steps_pass.specs.Cases.{IsUnreferred, exports_unmarked}
 use Rattle.scope_laws.specs.Exact.{Exact}
@@ -53,12 +57,13 @@ pub record Holds (s : Scoping) (names : Names) (v : Forest) : Type 0 where
   pub kept : IsKept s v
   pub variables : exports_unmarked names.variables v ≡ true
   pub functions : exports_unmarked names.functions v ≡ true
+  pub unexposed : IsUnexposed names v
 
 pub holds_after : (s : Scoping) (names : Names) (t u : Forest) → Removes t u → Holds s names t → Holds s names u
 holds_after s names t u one h =
     let l = change_loses t u one in
     let g = change_stays t u one s (record { program = h.program; enclosed = h.enclosed; kept = h.kept }) in
-    record { program = g.program; enclosed = g.enclosed; kept = g.kept; variables = exports_stay names.variables false t u l h.variables; functions = exports_stay names.functions false t u l h.functions }
+    record { program = g.program; enclosed = g.enclosed; kept = g.kept; variables = exports_stay names.variables false t u l h.variables; functions = exports_stay names.functions false t u l h.functions; unexposed = program_unexposed names t u l h.unexposed }
 
 pub holds_after_many : (s : Scoping) (names : Names) (t u : Forest) → RemovesMany t u → Holds s names t → Holds s names u
 holds_after_many s names t u (no_change v) h = h
@@ -67,8 +72,8 @@ holds_after_many s names t u (one_change v w z one more) h = holds_after_many s 
 pub kept_at_first : (s : Scoping) (t : Forest) → Exact s t → IsKept s t
 kept_at_first s t exact = record { table = s; shortens = record { same_entries = refl; symbols = λ n y e. record { symbol = y; stood = e; listed = λ id h. h } }; exact = exact }
 
-pub holds_at_first : (s : Scoping) (t : Forest) → is_program t ≡ true → is_enclosed t ≡ true → Exact s t → Holds s (names_of s t) t
-holds_at_first s t p e exact = record { program = p; enclosed = e; kept = kept_at_first s t exact; variables = exports_unmarks t _; functions = exports_unmarks t _ }
+pub holds_at_first : (s : Scoping) (t : Forest) → is_program t ≡ true → is_enclosed t ≡ true → Exact s t → TellsScopes s t → Holds s (names_of s t) t
+holds_at_first s t p e exact told = record { program = p; enclosed = e; kept = kept_at_first s t exact; variables = exports_unmarks t _; functions = exports_unmarks t _; unexposed = first_hidden s t p told }
 
 free_function : (s : Scoping) (t v : Forest) → Holds s (names_of s t) v → (d : BindingSite) → Among d (bindings_among (sites_of v)) → is_marked (names_of s t).functions d.id ≡ true → IsFree v (declared_by d)
 free_function s t v h d stands marked = record {
@@ -101,7 +106,7 @@ function_may_leave s t a pure n m x rest h item e =
     let y = a_function pure n m x rest in
     let v = plug a y in
     let below = node (binding_name x) m nothing rest in
-    unused_function_leaves a pure n m x rest item
+    unused_function_leaves a pure n m x rest item (function_own (names_of s t) a pure n m x rest h.unexposed e)
     (holds_of_declared (bindings_among (sites_of v)) y (Free v variable.Let x) false (λ at. outermost) 0 0 a (all_declared a y)
     (λ w cs place next all_of.
     let fs = inside (cs place) next (function function_kind.Declaration pure) below in
@@ -137,7 +142,7 @@ declarator_may_leave s t a n m x value h declarator other_stays e quiet =
     let y = a_declarator n m x value in
     let v = plug a y in
     let below = node (binding_name x) m nothing value in
-    unused_declarator_leaves a n m x value declarator other_stays
+    unused_declarator_leaves a n m x value declarator other_stays (declarator_own (names_of s t) a n m x value h.unexposed e)
     (holds_there s t v h.kept y (SilentDeclarator v below) (asked_of_program true) (λ at. outermost) 0 0 a (all_there a y)
     (λ cs at next all_of. silent_behind s t v h.kept (asked_at (asked_of_program true) a).in_with cs at next n m x value all_of quiet))
     (holds_of_declared (bindings_among (sites_of v)) y (FreeDeclarator v x) false (λ at. outermost) 0 0 a (all_declared a y)
@@ -155,7 +160,7 @@ declaration_may_leave s t a how n m l j x value h item e quiet =
     let below = node (binding_name x) j nothing value in
     let ds = node variable_declarator l below nothing in
     let whole = one_declarator m l below in
-    unused_declaration_leaves a how n m l j x value item
+    unused_declaration_leaves a how n m l j x value item (declaration_own (names_of s t) a how n m l j x value h.unexposed e)
     (holds_there s t v h.kept y (SilentDeclaration v how m l below) (asked_of_program true) (λ at. outermost) 0 0 a (all_there a y)
     (λ cs at next all_of.
     let place = next + opens_one (variable_declaration how) whole in

@@ -78,11 +78,11 @@ declarator_listed a declarator = stands_in_list a item_declarators declarator re
 
 -- what a change takes away
 pub change_loses : (t u : Forest) → Removes t u → Loses false t u
-change_loses t u (empty_statement_leaves a n item) = without_loses false a empty_statement n nothing (item_listed a item)
+change_loses t u (empty_statement_leaves a n item) = without_loses false a empty_statement n nothing refl (item_listed a item)
 change_loses t u (silent_statement_empties a n m l k inner silent) = emptied_loses false a n m (alone k l inner)
-change_loses t u (unused_function_leaves a pure n m x rest item free) = without_loses false a (function function_kind.Declaration pure) n (node (binding_name x) m nothing rest) (item_listed a item)
-change_loses t u (unused_declarator_leaves a n m x value declarator other_stays silent free) = without_loses false a variable_declarator n (node (binding_name x) m nothing value) (declarator_listed a declarator)
-change_loses t u (unused_declaration_leaves a how n m l j x value item silent free) = without_loses false a (variable_declaration how) n (one_declarator m l (node (binding_name x) j nothing value)) (item_listed a item)
+change_loses t u (unused_function_leaves a pure n m x rest item own free) = without_loses false a (function function_kind.Declaration pure) n (node (binding_name x) m nothing rest) refl (item_listed a item)
+change_loses t u (unused_declarator_leaves a n m x value declarator other_stays own silent free) = without_loses false a variable_declarator n (node (binding_name x) m nothing value) refl (declarator_listed a declarator)
+change_loses t u (unused_declaration_leaves a how n m l j x value item own silent free) = without_loses false a (variable_declaration how) n (one_declarator m l (node (binding_name x) j nothing value)) refl (item_listed a item)
 
 left : (a : Around) (x : Option Tree) → is_listed false a ≡ true → ((rest : Forest) → is_program (plug (first rest) x) ≡ false) → IsUnseen a x → is_program (plug a x) ≡ true → (s : Scoping) → IsKept s (plug a x) → IsKept s (without a)
 left a x listed no_own unseen e s kept = kept_without a x listed (within_program a x e no_own) unseen s kept
@@ -92,10 +92,10 @@ change_keeps t u (empty_statement_leaves a n item) e w s kept = left a (a_node e
 change_keeps t u (silent_statement_empties a n m l k inner silent) e w s kept =
     let x : Tree = record { kind = expression_statement; note = n; below = alone k l inner } in
     kept_emptied a x m (within_program a (Some x) e (λ rest. refl)) (unseen_statement a n l k inner w silent) s kept
-change_keeps t u (unused_function_leaves a pure n m x rest item free) e w s kept = left a (a_function pure n m x rest) (item_listed a item) (λ r. refl) (unseen_function a pure n m x rest w free) e s kept
-change_keeps t u (unused_declarator_leaves a n m x value declarator other_stays silent free) e w s kept =
+change_keeps t u (unused_function_leaves a pure n m x rest item own free) e w s kept = left a (a_function pure n m x rest) (item_listed a item) (λ r. refl) (unseen_function a pure n m x rest w free) e s kept
+change_keeps t u (unused_declarator_leaves a n m x value declarator other_stays own silent free) e w s kept =
     left a (a_declarator n m x value) (declarator_listed a declarator) (λ r. refl) (unseen_declarator a n m x value w silent free) e s kept
-change_keeps t u (unused_declaration_leaves a how n m l j x value item silent free) e w s kept =
+change_keeps t u (unused_declaration_leaves a how n m l j x value item own silent free) e w s kept =
     left a (a_declaration how n m l j x value) (item_listed a item) (λ r. refl) (unseen_declaration a how n m l j x value w silent free) e s kept
 
 -- a program, with its table

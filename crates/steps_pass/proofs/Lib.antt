@@ -7,6 +7,9 @@ pub mod Silent
 pub mod Parts
 pub mod Exported
 pub mod Losing
+pub mod Exposed
+pub mod Unexposed
+pub mod Standing
 pub mod Unseen
 pub mod Changes
 pub mod Cases

@@ -16,9 +16,13 @@ use Rattle.steps_pass.proofs.Parts.{name_leaf}
 use Rattle.steps_pass.proofs.Marks.{both_ways, either_way}
 use Rattle.steps_pass.proofs.Exported.{enclosed_here, enclosed_below, enclosed_rest}
 
+abbrev pub is_directive : Kind → Bool
+is_directive (Kind.Directive written) = true
+is_directive k = false
+
 -- `listed` says whether the row is a list
 pub data Loses : (listed : Bool) → (t u : Forest) → Type 0 where
-  leaves : (k : Kind) (n : Note) (below rest : Forest) → Loses true (node k n below rest) rest
+  leaves : (k : Kind) (n : Note) (below rest : Forest) → is_directive k ≡ false → Loses true (node k n below rest) rest
   empties : (listed : Bool) (n m : Note) (below rest : Forest) → Loses listed (node Kind.ExpressionStatement n below rest) (node Kind.EmptyStatement m nothing rest)
   inside : (listed : Bool) (k : Kind) (n : Note) (below now rest : Forest) → Loses (is_list k) below now → Loses listed (node k n below rest) (node k n now rest)
   behind : (listed : Bool) (k : Kind) (n : Note) (below rest now : Forest) → Loses listed rest now → Loses listed (node k n below rest) (node k n below now)
@@ -26,11 +30,11 @@ pub data Loses : (listed : Bool) → (t u : Forest) → Type 0 where
 
 -- ---- at a place
 
-pub without_loses : (row : Bool) (a : Around) (k : Kind) (n : Note) (below : Forest) → is_listed row a ≡ true → Loses row (plug a (a_node k n below)) (without a)
-without_loses row (first rest) k n below e = subst (λ (r : Bool). Loses r (node k n below rest) rest) (sym e) (leaves k n below rest)
-without_loses row (behind_node j m b a) k n below e = behind row j m b (plug a (a_node k n below)) (without a) (without_loses row a k n below e)
-without_loses row (behind_absent a) k n below e = behind_none row (plug a (a_node k n below)) (without a) (without_loses row a k n below e)
-without_loses row (under j m a rest) k n below e = inside row j m (plug a (a_node k n below)) (without a) rest (without_loses (is_list j) a k n below e)
+pub without_loses : (row : Bool) (a : Around) (k : Kind) (n : Note) (below : Forest) → is_directive k ≡ false → is_listed row a ≡ true → Loses row (plug a (a_node k n below)) (without a)
+without_loses row (first rest) k n below apart e = subst (λ (r : Bool). Loses r (node k n below rest) rest) (sym e) (leaves k n below rest apart)
+without_loses row (behind_node j m b a) k n below apart e = behind row j m b (plug a (a_node k n below)) (without a) (without_loses row a k n below apart e)
+without_loses row (behind_absent a) k n below apart e = behind_none row (plug a (a_node k n below)) (without a) (without_loses row a k n below apart e)
+without_loses row (under j m a rest) k n below apart e = inside row j m (plug a (a_node k n below)) (without a) rest (without_loses (is_list j) a k n below apart e)
 
 pub emptied_loses : (row : Bool) (a : Around) (n m : Note) (below : Forest) → Loses row (plug a (a_node Kind.ExpressionStatement n below)) (plug a (a_node Kind.EmptyStatement m nothing))
 emptied_loses row (first rest) n m below = empties row n m below rest
@@ -41,7 +45,7 @@ emptied_loses row (under j i a rest) n m below = inside row j i (plug a (a_node 
 -- ---- programs
 
 pub something : (listed : Bool) (t u : Forest) → Loses listed t u → is_nothing t ≡ true → ⊥
-something listed t u (leaves k n below rest) e = true≢false (sym e)
+something listed t u (leaves k n below rest apart) e = true≢false (sym e)
 something listed t u (empties l n m below rest) e = true≢false (sym e)
 something listed t u (inside l k n below now rest h) e = true≢false (sym e)
 something listed t u (behind l k n below rest now h) e = true≢false (sym e)
@@ -52,7 +56,7 @@ program_so (Kind.Program source) n t u v w e = refl
 program_so k n t u v w e = absurd (true≢false (sym e))
 
 pub program_stays : (listed : Bool) (t u : Forest) → Loses listed t u → listed ≡ false → is_program t ≡ true → is_program u ≡ true
-program_stays listed t u (leaves k n below rest) l e = absurd (true≢false l)
+program_stays listed t u (leaves k n below rest apart) l e = absurd (true≢false l)
 program_stays listed t u (empties r n m below rest) l e = absurd (true≢false (sym e))
 program_stays listed t u (inside r k n below now rest h) l e = program_so k n below now rest rest e
 program_stays listed t u (behind r k n below rest now h) l e = program_so k n below below rest now e
@@ -61,7 +65,7 @@ program_stays listed t u (behind_none r rest now h) l e = absurd (true≢false (
 -- ---- names
 
 begins_stays : (listed : Bool) (t u : Forest) → Loses listed t u → listed ≡ false → begins_with_name t ≡ true → begins_with_name u ≡ true
-begins_stays listed t u (leaves k n below rest) l e = absurd (true≢false l)
+begins_stays listed t u (leaves k n below rest apart) l e = absurd (true≢false l)
 begins_stays listed t u (empties r n m below rest) l e = absurd (true≢false (sym e))
 begins_stays listed t u (inside r k n below now rest h) l e = absurd (something (is_list k) below now h (name_leaf k below e))
 begins_stays listed t u (behind r k n below rest now h) l e = e
@@ -100,7 +104,7 @@ closed_back vars names v w at (node k n below rest) h =
     (closed_back vars names v w (suc at) rest (closed_rest vars names (suc at) k n below rest h))
 
 closed_stays : (listed : Bool) (t u : Forest) → Loses listed t u → (vars names : ℕ → Bool) (at : ℕ) → (listed ≡ true → IsConstant vars) → (listed ≡ true → IsConstant names) → closed vars names at t ≡ true → closed vars names at u ≡ true
-closed_stays listed t u (leaves k n below rest) vars names at v w h = closed_back vars names (v refl) (w refl) at rest (closed_rest vars names at k n below rest h)
+closed_stays listed t u (leaves k n below rest apart) vars names at v w h = closed_back vars names (v refl) (w refl) at rest (closed_rest vars names at k n below rest h)
 closed_stays listed t u (empties r n m below rest) vars names at v w h =
     closed_from vars names at Kind.EmptyStatement m nothing rest (closed_name vars names at Kind.ExpressionStatement n below rest h) (closed_var vars names at Kind.ExpressionStatement n below rest h) refl
     (closed_rest vars names at Kind.ExpressionStatement n below rest h)
@@ -131,7 +135,7 @@ here_stays (Kind.ReferenceName x) below now l h = absurd (something false below 
 here_stays k below now l h = refl
 
 pub enclosed_stays : (listed : Bool) (t u : Forest) → Loses listed t u → is_enclosed t ≡ true → is_enclosed u ≡ true
-enclosed_stays listed t u (leaves k n below rest) h = enclosed_rest k n below rest h
+enclosed_stays listed t u (leaves k n below rest apart) h = enclosed_rest k n below rest h
 enclosed_stays listed t u (empties r n m below rest) h = enclosed_rest Kind.ExpressionStatement n below rest h
 enclosed_stays listed t u (inside r k n below now rest l) h =
     and_from (is_enclosed_at k now) _ (here_stays k below now l (enclosed_here k n below rest h)) (and_from (is_enclosed now) (is_enclosed rest) (enclosed_stays (is_list k) below now l (enclosed_below k n below rest h)) (enclosed_rest k n below rest h))
@@ -142,8 +146,8 @@ enclosed_stays listed t u (behind_none r rest now l) h = enclosed_stays r rest n
 -- ---- exports
 
 module _ (marks : List Bool) where
-  first_stays : (listed : Bool) (t u : Forest) → Loses listed t u → listed ≡ false → first_unmarked marks t ≡ true → first_unmarked marks u ≡ true
-  first_stays listed t u (leaves k n below rest) l e = absurd (true≢false l)
+  pub first_stays : (listed : Bool) (t u : Forest) → Loses listed t u → listed ≡ false → first_unmarked marks t ≡ true → first_unmarked marks u ≡ true
+  first_stays listed t u (leaves k n below rest apart) l e = absurd (true≢false l)
   first_stays listed t u (empties r n m below rest) l e = refl
   first_stays listed t u (inside r k n below now rest h) l e = e
   first_stays listed t u (behind r k n below rest now h) l e = e
@@ -156,7 +160,7 @@ module _ (marks : List Bool) where
   own_stays k n below now l inner e = both_ways (name_unmarked marks k n) (name_unmarked marks k n) (declared_unmarked marks below) (declared_unmarked marks now) (λ g. g) inner e
 
   declared_stays : (listed : Bool) (t u : Forest) → Loses listed t u → declared_unmarked marks t ≡ true → declared_unmarked marks u ≡ true
-  declared_stays listed t u (leaves k n below rest) e = (and_parts _ (declared_unmarked marks rest) e).1
+  declared_stays listed t u (leaves k n below rest apart) e = (and_parts _ (declared_unmarked marks rest) e).1
   declared_stays listed t u (empties r n m below rest) e = (and_parts _ (declared_unmarked marks rest) e).1
   declared_stays listed t u (inside r k n below now rest l) e =
       both_ways (if has_own_names k then first_unmarked marks below else name_unmarked marks k n && declared_unmarked marks below) (if has_own_names k then first_unmarked marks now else name_unmarked marks k n && declared_unmarked marks now)
@@ -167,7 +171,7 @@ module _ (marks : List Bool) where
   declared_stays listed t u (behind_none r rest now l) e = declared_stays r rest now l e
 
   pub exports_stay : (listed : Bool) (t u : Forest) → Loses listed t u → exports_unmarked marks t ≡ true → exports_unmarked marks u ≡ true
-  exports_stay listed t u (leaves k n below rest) e = (and_parts _ (exports_unmarked marks rest) e).1
+  exports_stay listed t u (leaves k n below rest apart) e = (and_parts _ (exports_unmarked marks rest) e).1
   exports_stay listed t u (empties r n m below rest) e = (and_parts _ (exports_unmarked marks rest) e).1
   exports_stay listed t u (inside r k n below now rest l) e =
       both_ways (if is_export k then declared_unmarked marks below else exports_unmarked marks below) (if is_export k then declared_unmarked marks now else exports_unmarked marks now) (exports_unmarked marks rest) (exports_unmarked marks rest)

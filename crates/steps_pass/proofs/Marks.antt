@@ -196,6 +196,13 @@ no_items (x ∷ xs) e = absurd (Prim.omega (arith, eqb-true (length (x ∷ xs)) 
 unlisted_at : (s : Scoping) (n : ℕ) → (length (symbol_at s n).references == 0) ≡ true → IsUnlisted s n
 unlisted_at s n e = record { is_empty = λ y h. no_items y.references (subst (λ (z : Symbol). (length z.references == 0) ≡ true) (get_or_from_slice_get s.symbols n y no_symbol h) e) }
 
+-- what is marked was said to be unused
+pub variable_told : (s : Scoping) (t : Forest) (n : ℕ) → is_marked (names_of s t).variables (Some n) ≡ true → variable_is_unused s (is_script t) (symbol_at s n) ≡ true
+variable_told s t n e = answered (λ y. variable_is_unused s (is_script t) (symbol_at s y)) (length s.symbols) n (exported_before t _ n e)
+
+pub function_told : (s : Scoping) (t : Forest) (n : ℕ) → is_marked (names_of s t).functions (Some n) ≡ true → function_is_unused s (is_script t) (symbol_at s n) ≡ true
+function_told s t n e = answered (λ y. function_is_unused s (is_script t) (symbol_at s y)) (length s.symbols) n (exported_before t _ n e)
+
 pub variable_unlisted : (s : Scoping) (t : Forest) (n : ℕ) → is_marked (names_of s t).variables (Some n) ≡ true → IsUnlisted s n
 variable_unlisted s t n e =
     unlisted_at s n (and_parts (length (symbol_at s n).references == 0) _ (answered (λ y. variable_is_unused s (is_script t) (symbol_at s y)) (length s.symbols) n (exported_before t _ n e))).0

@@ -2,7 +2,9 @@
 use Rattle.std.specs.Prelude.{◌≡◌, ℕ, slice_get, Bool, true, false, Some}
 use Rattle.js_syntax.specs.declared.node_kind.NodeKind.TheVariants.{Program as program}
 use Rattle.js_syntax.specs.Node.{Forest, node}
+use Rattle.scope_rules.specs.Site.{ScopeSite, BindingSite, sites_of, scopes_among, bindings_among}
 use Rattle.scope_rules.specs.Table.{Symbol, Scoping}
+use Rattle.scope_table.specs.Reading.{scope_at, symbol_at}
 use Rattle.scope_laws.specs.Exact.{Among, Exact}
 
 -- a tree of a program
@@ -26,3 +28,8 @@ pub record IsKept (s : Scoping) (t : Forest) : Type 0 where
   pub table : Scoping
   pub shortens : Shortens s table
   pub exact : Exact table t
+
+-- the table tells the flags of each scope, and in which scope each declaration's symbol lies
+pub record TellsScopes (s : Scoping) (t : Forest) : Type 0 where
+  pub flags : (n : ℕ) (x : ScopeSite) → slice_get (scopes_among (sites_of t)) n ≡ Some x → (scope_at s n).flags ≡ x.flags
+  pub scopes : (b : BindingSite) → Among b (bindings_among (sites_of t)) → (id : ℕ) → b.id ≡ Some id → (symbol_at s id).scope ≡ b.layer.scope

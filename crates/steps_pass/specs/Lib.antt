@@ -1,3 +1,4 @@
 pub mod Kept
 pub mod Cases
+pub mod Exposed
 pub mod Samples

@@ -13,7 +13,7 @@ ghost use Rattle.scope_laws.specs.Lists.{is_listed, without};
 ghost use Rattle.min_passes.specs.Unused.{names_of};
 ghost use Rattle.steps_allowed.specs.Arranged.{is_arranged};
 ghost use Rattle.steps_allowed.specs.Removes.{Removes, RemovesMany};
-ghost use Rattle.steps_pass.specs.Kept.{IsKept, is_program};
+ghost use Rattle.steps_pass.specs.Kept.{IsKept, TellsScopes, is_program};
 ghost use Rattle.steps_fit.specs.Enclosed.{is_enclosed};
 ghost use Rattle.steps_pass.specs.Samples.{all_enclosed, misplaced_table, misplaced_marked, without_number};
 ghost use Rattle.steps_pass.specs.Cases.{IsUnreferred, IsUnseen};
@@ -57,7 +57,7 @@ pub fn names_let_go_what_is_unreferred()
 
 /// What a pass leaves of a program, by the names of its table, comes by single changes.
 pub fn what_a_pass_leaves_comes_by_changes()
-    ensures { (s : Scoping) (t : Forest) → is_program t ≡ true → is_arranged t ≡ true → is_enclosed t ≡ true → Exact s t → RemovesMany t (passed (names_of s t) t) }
+    ensures { (s : Scoping) (t : Forest) → is_program t ≡ true → is_arranged t ≡ true → is_enclosed t ≡ true → Exact s t → TellsScopes s t → RemovesMany t (passed (names_of s t) t) }
 {}
 
 /// So does a tree without the empty statements of its lists.
