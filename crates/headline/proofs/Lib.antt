@@ -12,6 +12,7 @@ pub mod Sound
 pub mod Catches
 pub mod Known
 pub mod Bare
+pub mod Telling
 pub mod Passes
 pub mod Modules
 pub mod Notes

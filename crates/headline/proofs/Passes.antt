@@ -19,6 +19,7 @@ use Rattle.steps_pass.proofs.Changes.{change_loses}
 use Rattle.steps_pass.proofs.Passing.{pass_comes}
 use Rattle.steps_pass.proofs.Clearing.{clearing_comes}
 use Rattle.steps_pass.proofs.Arranging.{arranged_left}
+use Rattle.headline.proofs.Telling.{tells_scopes}
 use Rattle.headline.proofs.Bare.{arranged_as, enclosed_as, program_as, program_left}
 
 pub numbered_same : (t : Forest) → bare (numbered t) ≡ bare t
@@ -46,7 +47,7 @@ many_enclosed (one_change t v u one more) h = many_enclosed more (enclosed_stays
 next_by_changes : (t : Forest) → IsReady t → RemovesMany (numbered t) (next t)
 next_by_changes t r =
     let ready = numbered_ready t r in
-    pass_comes (table_of t) (numbered t) ready.program ready.arranged ready.enclosed (exact t)
+    pass_comes (table_of t) (numbered t) ready.program ready.arranged ready.enclosed (exact t) (tells_scopes t)
 
 next_comes : (t : Forest) → IsReady t → Removals t (next t)
 next_comes t r = removals_follow (no_removal t (numbered t) (sym (numbered_same t))) (many_are_removals (next_by_changes t r))

@@ -151,6 +151,6 @@ module _ (a : Place) where
 pub removal_steps : (t u : Forest) → Removes t u → is_well_placed t ≡ true → Good t → Step steps.outermost t u
 removal_steps t u (removes.empty_statement_leaves a n item) w good = empty_step a n w good item
 removal_steps t u (removes.silent_statement_empties a n m l k inner silent) w good = statement_step a n m l k inner w good silent
-removal_steps t u (removes.unused_function_leaves a pure n m x rest item free) w good = function_step a pure n m x rest w good item free
-removal_steps t u (removes.unused_declarator_leaves a n m x value item others silent free) w good = declarator_step a n m x value w good item others silent free
-removal_steps t u (removes.unused_declaration_leaves a how n m l j x value item silent free) w good = declaration_step a how n m l j x value w good item silent free
+removal_steps t u (removes.unused_function_leaves a pure n m x rest item own free) w good = function_step a pure n m x rest w good item free
+removal_steps t u (removes.unused_declarator_leaves a n m x value item others own silent free) w good = declarator_step a n m x value w good item others silent free
+removal_steps t u (removes.unused_declaration_leaves a how n m l j x value item own silent free) w good = declaration_step a how n m l j x value w good item silent free

@@ -46,12 +46,12 @@ ids_once next (a ∷ rs) = (λ h. Prim.omega (arith, later (next + 1) next rs h)
 
 -- ---- its declarations
 
-record Declaration (f : BindingSite → ℕ) (bs : List BindingSite) (b : BindingSite) : Type 0 where
-  before : BindingSite
-  stands : Among before bs
-  is : b ≡ binding_with (Some (f before)) before
+pub record Declaration (f : BindingSite → ℕ) (bs : List BindingSite) (b : BindingSite) : Type 0 where
+  pub before : BindingSite
+  pub stands : Among before bs
+  pub is : b ≡ binding_with (Some (f before)) before
 
-declaration : (f : BindingSite → ℕ) (bs : List BindingSite) (b : BindingSite) → Among b (bindings_with (map f bs) bs) → Declaration f bs b
+pub declaration : (f : BindingSite → ℕ) (bs : List BindingSite) (b : BindingSite) → Among b (bindings_with (map f bs) bs) → Declaration f bs b
 declaration f [] b h = absurd h
 declaration f (a ∷ bs) b (inl e) = record { before = a; stands = inl refl; is = sym e }
 declaration f (a ∷ bs) b (inr h) = let x = declaration f bs b h in record { before = x.before; stands = inr x.stands; is = x.is }
@@ -63,13 +63,13 @@ among_bindings f (a ∷ bs) b (inr h) = inr (among_bindings f bs b h)
 
 -- ---- symbols
 
-abbrev number : List BindingSite → BindingSite → ℕ
+abbrev pub number : List BindingSite → BindingSite → ℕ
 number bs b = number_or_none (symbol_of bs (declared_by b))
 
-number_is : (bs : List BindingSite) (b : BindingSite) → Among b bs → symbol_of bs (declared_by b) ≡ Some (number bs b)
+pub number_is : (bs : List BindingSite) (b : BindingSite) → Among b bs → symbol_of bs (declared_by b) ≡ Some (number bs b)
 number_is bs b h = let n = has_symbol bs b h in n.is ∙ ap (λ o. Some (number_or_none o)) (sym n.is)
 
-abbrev marked_bindings : List BindingSite → List BindingSite
+abbrev pub marked_bindings : List BindingSite → List BindingSite
 marked_bindings bs = bindings_with (symbols_declared bs) bs
 
 -- the symbol that the table gives to a reference is the one that it names
