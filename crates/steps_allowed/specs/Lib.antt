@@ -2,3 +2,4 @@ pub mod Silent
 pub mod Removes
 pub mod Arranged
 pub mod Rows
+pub mod Calls
