@@ -2,6 +2,7 @@
 use Rattle.std.specs.Prelude.{ℕ, zero, suc, ◌==◌, List, [], ◌∷◌, Bool, false, Option, Some, None, if◌then◌else◌, length, slice_index_or}
 use Rattle.std.specs.Int.RustNames.{bit_and}
 use Rattle.std.specs.Str.{bytes_eq}
+use Rattle.scope_rules.specs.ReferenceFlags as reference_flag
 use Rattle.scope_rules.specs.Table.{Named, Scope, Symbol, Reference, Scoping}
 
 -- ---- what a number names; nothing, past the last
@@ -25,7 +26,7 @@ abbrev pub reference_at : Scoping → ℕ → Reference
 reference_at s n = slice_index_or s.references n no_reference
 
 abbrev pub is_write : Reference → Bool
-is_write r = bit_and r.flags 2 == 2
+is_write r = bit_and r.flags reference_flag.write == reference_flag.write
 
 -- ---- names, from a scope up
 
