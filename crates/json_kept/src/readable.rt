@@ -1,0 +1,19 @@
+// Which trees are read back from their text.
+ghost use Rattle.std.specs.Prelude.{ℕ, List, Ok};
+ghost use Rattle.js_syntax.specs.Node.{Forest};
+ghost use Rattle.json_text.specs.Answer.{IsReadAs};
+ghost use Rattle.json_shape.specs.Readable.{IsReadable};
+ghost use Rattle.min_pass.specs.Pass.{Names, passed, cleared};
+ghost use Rattle.json_kept.specs.Respelled.{IsWrittenAsItIs};
+
+/// Law: a tree that was read is readable, where each of its values is written as what it is.
+pub fn what_was_read_is_readable()
+    ensures { (bytes : List ℕ) (t : Forest) → IsReadAs bytes (Ok t) → IsWrittenAsItIs t → IsReadable t }
+{}
+
+/// Law: what a pass leaves of a readable tree is readable, whatever is known of its names, and so is a readable tree
+/// without the empty statements of its lists.
+pub fn passes_leave_readable_trees()
+    ensures passed { (names : Names) (t : Forest) → IsReadable t → IsReadable (passed names t) }
+    ensures cleared { (t : Forest) → IsReadable t → IsReadable (cleared t) }
+{}
