@@ -29,7 +29,7 @@ number_sign i nothing = is_number
 number_sign i (absent r) = is_other (λ n rest. refl)
 number_sign i (node k m b r) = is_other (λ n rest. refl)
 
-sign_of : (k : Kind) (a : Forest) → Sign k a
+pub sign_of : (k : Kind) (a : Forest) → Sign k a
 sign_of (Kind.Literal (value.Number (negsuc i))) a = number_sign i a
 sign_of (Kind.Literal v) a = is_other (λ n rest. refl)
 sign_of k a = is_other (λ n rest. refl)

@@ -5,3 +5,6 @@ pub mod Narrow
 pub mod Swept
 pub mod Exact
 pub mod Left
+pub mod SignsWritten
+pub mod SignsFit
+pub mod Signable

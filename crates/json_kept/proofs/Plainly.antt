@@ -27,6 +27,7 @@ use Rattle.json_kept.proofs.Depths.{IsCheckShallow}
 
 abbrev pub is_ranged : Scalar → Bool
 is_ranged (the_value (value.Number (pos n))) = is_exact_number n
+is_ranged (the_value (value.Number (negsuc n))) = is_exact_number (suc n)
 is_ranged (the_key (key_number n)) = is_exact_number n
 is_ranged (the_property (key_number n)) = is_exact_number n
 is_ranged s = true
@@ -35,15 +36,10 @@ ranged_at : (b : Bool) (v w : Value) → (is_ranged (the_value v) ≡ b) → (if
 ranged_at true v w is h = subst (λ (x : Value). is_ranged (the_value x) ≡ true) (ok_is v w h) is
 ranged_at false v w is h = absurd cc
 
--- a negative one is no matter here
-signed_at : (b : Bool) (n : ℕ) (w : Value) → (if b then Ok (value.Number (negsuc n)) else Err out_of_range) ≡ Ok w → is_ranged (the_value w) ≡ true
-signed_at true n w h = subst (λ (x : Value). is_ranged (the_value x) ≡ true) (ok_is (value.Number (negsuc n)) w h) refl
-signed_at false n w h = absurd cc
-
 number_ranged : (n : Num) (v : Value) → read_number n ≡ Ok v → is_ranged (the_value v) ≡ true
 number_ranged (unsigned n) v h = ranged_at (nat_lt n 9007199254740992) (value.Number (pos n)) v refl h
 number_ranged (negative (pos n)) v h = ranged_at (nat_lt n 9007199254740992) (value.Number (pos n)) v refl h
-number_ranged (negative (negsuc n)) v h = signed_at (nat_lt (suc n) 9007199254740992) n v h
+number_ranged (negative (negsuc n)) v h = ranged_at (nat_lt (suc n) 9007199254740992) (value.Number (negsuc n)) v refl h
 number_ranged (float x) v h = absurd cc
 
 null_at : (b : Bool) (v : Value) → (if b then Ok value.Null else Err out_of_range) ≡ Ok v → is_ranged (the_value v) ≡ true

@@ -32,7 +32,7 @@ use Rattle.json_kept.specs.Respelled.{is_negative, count_among, negative}
 use Rattle.json_kept.proofs.Depths.{IsCheckShallow, deepest, items_deep, deepest_joined, total_joined, put_deep, AreShallow, AreChecksShallow, members_deep}
 use Rattle.json_kept.proofs.Plainly.{name_one, is_ranged, value_ranged, key_ranged, typed_nests, Fitting, IsUnreadShallow, kept_fits, check_fits}
 
--- how many numbers of a kind aren't exact, negative ones aside
+-- how many numbers of a kind aren't exact in their magnitudes
 abbrev pub unranged : Kind → ℕ
 unranged k = count_among (λ s. not (is_ranged s)) (scalars_of k)
 
