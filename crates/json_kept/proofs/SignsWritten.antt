@@ -1,5 +1,5 @@
 -- What is written of a tree doesn't depend on whether its negative numbers are unary minus on their magnitudes.
-use Rattle.std.proofs.Common.{◌≡◌, ◌∙◌, ℕ, suc, pos, negsuc, List, [], ◌∷◌, Bool, false, ◌&&◌, ◌||◌, not, Option, Some, None, refl, sym, ap, ap₂, codes}
+use Rattle.std.proofs.Common.{◌≡◌, ◌∙◌, ℕ, suc, pos, negsuc, List, [], ◌∷◌, Bool, false, ◌&&◌, ◌||◌, not, Option, Some, None, refl, sym, ap, ap₂, codes, arith}
 use Rattle.serde_json.specs.Data.{Data, null, string, object, put}
 use Rattle.js_syntax.specs.declared.node_kind.NodeKind.{NodeKind as Kind}
 use Rattle.js_syntax.specs.declared.node_kind.NodeKind.TheVariants.{Literal as literal, UnaryExpression as unary_expression, Hole as hole, Property as property, BindingProperty as binding_property, TargetProperty as target_property}
@@ -9,12 +9,13 @@ use Rattle.js_syntax.specs.declared.value.Key.TheVariants.{Name as key_name}
 use Rattle.js_syntax.specs.declared.value.LiteralValue.TheVariants as tree
 use Rattle.js_syntax.specs.Field.{Hint, is_computed, is_expression, is_shorthand, Check, hint, keeps, checks, a_key, Field, field}
 use Rattle.js_syntax.specs.Hint.{has, is_private, is_function_body, has_key_below, is_arrow, is_default, is_name, first_is, has_value_named, is_named_by, is_short, says}
-use Rattle.js_syntax.specs.Node.{Note, Forest, nothing, node, absent, alone, nowhere}
+use Rattle.js_syntax.specs.Node.{Note, Forest, nothing, node, absent, alone, nowhere, total}
 use Rattle.js_syntax.specs.Scalar.{Scalar}
 use Rattle.js_syntax.specs.Table.{Row, fields_of, type_of}
 use Rattle.js_syntax.specs.Name.{type_name}
 use Rattle.js_syntax.specs.Facts.{row_of, scalars_of}
 use Rattle.json_text.specs.Text.{check_scalar, scalar_data, put_scalar, key_beside, first_scalar, first_or_null, others, members_of, row_data, node_data, row_datas, data_of}
+use Rattle.json_kept.specs.Respelled.{negative}
 use Rattle.js_meaning_near.specs.Signed.{signed}
 use Rattle.js_meaning_near.proofs.Signed.{Sign, is_number, is_other, sign_of}
 
@@ -104,3 +105,14 @@ rows_signed (node k n a rest) = one_signed k a (sign_of k a) n rest (rows_signed
 
 pub data_signed : (t : Forest) → data_of (signed t) ≡ data_of t
 data_signed t = ap first_or_null (rows_signed t)
+
+-- ---- where no number is negative
+
+itself : (k : Kind) (a : Forest) → Sign k a → (n : Note) (rest : Forest) → total negative (node k n a rest) ≡ 0 → signed a ≡ a → signed rest ≡ rest → signed (node k n a rest) ≡ node k n a rest
+itself _ _ (is_number {i = i}) n rest none below later = absurd (omega (arith, none))
+itself k a (is_other is) n rest none below later = is n rest ∙ ap₂ (λ (b r : Forest). node k n b r) below later
+
+pub signed_itself : (t : Forest) → total negative t ≡ 0 → signed t ≡ t
+signed_itself nothing none = refl
+signed_itself (absent rest) none = ap absent (signed_itself rest none)
+signed_itself (node k n a rest) none = itself k a (sign_of k a) n rest none (signed_itself a (omega (arith, none))) (signed_itself rest (omega (arith, none)))

@@ -8,13 +8,18 @@ ghost use Rattle.json_text.specs.Text.{data_of, text_of};
 ghost use Rattle.json_shape.specs.Readable.{IsReadable};
 ghost use Rattle.min_pass.specs.Pass.{Names, passed, cleared};
 ghost use Rattle.js_meaning_near.specs.Signed.{signed, MayBeSigned};
-ghost use Rattle.json_kept.specs.Respelled.{misnamed};
+ghost use Rattle.json_kept.specs.Respelled.{misnamed, negative};
 ghost use Rattle.json_kept.specs.Signs.{IsSignable};
 
 /// Law: a tree and what it is with unary minus on its magnitude in the place of each negative number have one text.
 pub fn signs_are_written_alike()
     ensures values { (t : Forest) → data_of (signed t) ≡ data_of t }
     ensures text { (t : Forest) → text_of (signed t) ≡ text_of t }
+{}
+
+/// Law: where no number of a tree is negative, that is the tree.
+pub fn without_negative_numbers_no_sign_is_applied()
+    ensures { (t : Forest) → total negative t ≡ 0 → signed t ≡ t }
 {}
 
 /// Law: of a tree that was read the latter is readable, and runs as the tree does (`signs_may_be_applied` of
