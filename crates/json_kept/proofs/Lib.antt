@@ -8,3 +8,4 @@ pub mod Left
 pub mod SignsWritten
 pub mod SignsFit
 pub mod Signable
+pub mod Texts

@@ -14,5 +14,5 @@ mod readable;
 mod signs;
 
 pub use nesting::{passes_nest_no_deeper, texts_nest_as_read};
-pub use readable::{passes_leave_readable_trees, what_was_read_is_readable};
+pub use readable::{passes_leave_readable_trees, texts_are_read_back, what_was_read_is_readable};
 pub use signs::{passes_leave_signable_trees, signs_are_written_alike, what_was_read_is_signable};
