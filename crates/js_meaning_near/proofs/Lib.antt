@@ -16,3 +16,4 @@ pub mod Instances
 pub mod Alike
 pub mod Names
 pub mod Near
+pub mod Signed

@@ -1,5 +1,5 @@
 -- Which rows of nodes are near one another: the new one is the old one, but for changes that no run shows.
-use Rattle.std.specs.Prelude.{Bool, true, false, List, [], ◌∷◌, Option, Some, None, ◌≡◌}
+use Rattle.std.specs.Prelude.{Bool, true, false, ℕ, suc, pos, negsuc, nat_le, List, [], ◌∷◌, Option, Some, None, ◌≡◌}
 use Rattle.js_syntax.specs.declared.node_kind.NodeKind.{NodeKind as Kind}
 use Rattle.js_syntax.specs.declared.kind.FunctionKind.{FunctionKind}
 use Rattle.js_syntax.specs.declared.kind.FunctionKind.TheVariants as function_kind
@@ -8,11 +8,13 @@ use Rattle.js_syntax.specs.declared.scalar.SourceType.TheVariants as source_type
 use Rattle.js_syntax.specs.Node.{Note, Forest, nothing, node, absent, below_of}
 use Rattle.js_syntax.specs.Facts.{is_core}
 use Rattle.js_syntax.specs.declared.value.LiteralValue.{LiteralValue as Literal}
+use Rattle.js_syntax.specs.declared.operator.UnaryOperator.{UnaryOperator}
 use Rattle.js_meaning.specs.Value.{Text, Env, this_name, Plain, plain, literal_value}
 use Rattle.js_meaning.specs.Scope.{waiting, named_so, first_of, behind, first_name, lexical, function_decls, own_name, default_name, module_decls}
 use Rattle.js_meaning.specs.Host.{Enter}
 use Rattle.js_meaning.specs.Module.{Entry, entry_local, entry_import, entries, stars, requests}
 use Rattle.js_meaning.specs.Node.{Meaning, now}
+use Rattle.js_meaning.specs.Operator.{largest}
 use Rattle.js_meaning.specs.Expression.{static_key}
 use Rattle.js_meaning.specs.Meaning.{does, if_core, eval}
 use Rattle.js_meaning_near.specs.Quiet.{Quiet}
@@ -54,6 +56,8 @@ pub data Change (st : Names) : Kind → Forest → Kind → Forest → Type 0 wh
   no_statement_emptied : {a b : Forest} → NoField a → Change st Kind.ExpressionStatement a Kind.EmptyStatement b
   -- a read of a name that holds a known value
   value_read : {x : Text} {p : Plain} {v : Literal} {a b : Forest} → st x ≡ known p → literal_value v ≡ plain p → Change st (Kind.ReferenceName x) a (Kind.Literal v) b
+  -- a negative number as unary minus on its magnitude (13.5.5), where arithmetic covers it
+  sign_applied : {i : ℕ} {m : Note} {a b r : Forest} → nat_le (suc i) largest ≡ true → Change st (Kind.Literal (Literal.Number (negsuc i))) a (Kind.UnaryExpression UnaryOperator.UnaryNegation) (node (Kind.Literal (Literal.Number (pos (suc i)))) m b r)
 
 -- How the nodes of a row stand: in a field each; in the fields of a switch; or in a list that items may leave.
 pub data Row : Type 0 where
