@@ -14,6 +14,7 @@
 #![tactic(auto)]
 
 mod front;
+mod history;
 mod memory;
 mod read;
 mod standard;
@@ -21,6 +22,7 @@ mod sure;
 mod traits;
 mod write;
 
+pub use history::{History, Note};
 pub use memory::{MemSink, MemSource};
 pub use read::{ReadAllError, read_all};
 pub use standard::{StdErr, StdSink, StdSource};
