@@ -10,6 +10,7 @@ ghost use Rattle.shake_words.specs.Meaning.{accepts};
 use shake::{Sink, Source, Status, StdErr, StdSink, StdSource, shake};
 use std::alloc::Global;
 use std::env;
+use std::io;
 use std::process::ExitCode;
 
 // The exit status of a run.
@@ -37,7 +38,7 @@ fn main(rt: HostRuntime) -> ExitCode {
         }
     }
     let mut source = StdSource::new(rt.reader());
-    let mut out = StdSink::new(&rt);
+    let mut out = StdSink::new(io::writer(&rt));
     let mut err = StdErr::new(rt.stderr());
     ExitCode::from(exit_status(
         rt.alloc(),

@@ -1,8 +1,8 @@
 // What the calls of a stream have answered so far. It takes no memory, and its methods do nothing when
 // they run: only proofs read it.
-ghost use Rattle.std.specs.Prelude.{◌≡◌, []};
+ghost use Rattle.std.specs.Prelude.{◌≡◌, ◌≤◌, [], length, Ok};
 ghost use Rattle.std.specs.Borrow.{ftrue};
-ghost use Rattle.shake_streams.specs.Past.{Past};
+ghost use Rattle.shake_streams.specs.Past.{Past, with_pull};
 
 use std::marker::Model;
 
@@ -44,5 +44,16 @@ impl History {
         ensures { result.past ≡ noted self.now.past _note.now }
     {
         History {}
+    }
+
+    /// This one, and behind it a pull that put so many bytes at the front of the piece.
+    pub(crate) fn then_pulled(&self, piece: &[u8], count: usize) -> History
+        requires { count ≤ length piece.now }
+        ensures { result.past ≡ with_pull self.now.past (Ok count) (length piece.now) piece.now }
+    {
+        if count == 0 && !piece.is_empty() {
+            return self.then(&Note::End);
+        }
+        self.then(&Note::Bytes(&piece[..count]))
     }
 }

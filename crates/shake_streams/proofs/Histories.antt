@@ -1,0 +1,25 @@
+-- A history that grows piece by piece.
+use Rattle.std.proofs.Common.{◌≡◌, ◌∙◌, ℕ, ◌+◌, ◌-◌, List, [], ◌++◌, map, length, take, drop, sym, ap, append_assoc, append-nil, length-drop, arith}
+use Rattle.std.proofs.Math.Seq.{take-add}
+use Rattle.std.proofs.lemmas.List.{take-append-drop, take_all, map-append}
+use Rattle.shake_streams.specs.Past.{Past, byte, with_bytes, with_fault}
+use Rattle.shake_streams.specs.Moves.{TakesFront}
+
+pub none_more : (p : Past) → with_bytes p [] ≡ p
+none_more p = append-nil p
+
+pub more_twice : (p : Past) (first second : List ℕ) → with_bytes (with_bytes p first) second ≡ with_bytes p (first ++ second)
+more_twice p first second = append_assoc p (map byte first) (map byte second) ∙ ap (λ (es : Past). p ++ es) (sym (map-append byte first second))
+
+rest_of : (text : List ℕ) (sent : ℕ) → take (length text - sent) (drop sent text) ≡ drop sent text
+rest_of text sent = take_all _ _ (omega (arith, length-drop sent text))
+
+pub took_more : (p q r : Past) (text : List ℕ) (sent n : ℕ) → q ≡ with_bytes p (take sent text)
+    → r ≡ with_bytes q (take n (take (length text - sent) (drop sent text))) → r ≡ with_bytes p (take (sent + n) text)
+took_more p q r text sent n so more =
+    more ∙ ap (λ (b : List ℕ). with_bytes q (take n b)) (rest_of text sent)
+    ∙ ap (λ (old : Past). with_bytes old (take n (drop sent text))) so
+    ∙ more_twice p (take sent text) (take n (drop sent text)) ∙ ap (with_bytes p) (sym (take-add sent n text))
+
+pub took_front : (p q r : Past) (text : List ℕ) (sent : ℕ) → q ≡ with_bytes p (take sent text) → r ≡ with_fault q → TakesFront text p r
+took_front p q r text sent so failed = (take sent text, (drop sent text, sym (take-append-drop sent text)), failed ∙ ap with_fault so)
