@@ -1,9 +1,11 @@
 -- A history that grows piece by piece.
-use Rattle.std.proofs.Common.{◌≡◌, ◌∙◌, ℕ, ◌+◌, ◌-◌, List, [], ◌++◌, map, length, take, drop, sym, ap, append_assoc, append-nil, length-drop, arith}
+use Rattle.std.proofs.Common.{◌≡◌, ◌∙◌, ◌≤◌, ◌==◌, ℕ, ◌+◌, ◌-◌, Bool, false, Ok, List, [], ◌++◌, map, length, take, drop, sym, ap, append_assoc, append-nil, length-drop, length-append, length-take, arith}
 use Rattle.std.proofs.Math.Seq.{take-add}
 use Rattle.std.proofs.lemmas.List.{take-append-drop, take_all, map-append}
-use Rattle.shake_streams.specs.Past.{Past, byte, with_bytes, with_fault}
+use Rattle.shake_streams.specs.Past.{Past, byte, with_bytes, with_fault, with_pull}
 use Rattle.shake_streams.specs.Moves.{TakesFront}
+use Rattle.shake_streams.specs.Reading.{GivesNot}
+use Rattle.shake_streams.specs.declared.read.ReadAllError.TheVariants.{OutOfMemory}
 
 pub none_more : (p : Past) → with_bytes p [] ≡ p
 none_more p = append-nil p
@@ -23,3 +25,10 @@ took_more p q r text sent n so more =
 
 pub took_front : (p q r : Past) (text : List ℕ) (sent : ℕ) → q ≡ with_bytes p (take sent text) → r ≡ with_fault q → TakesFront text p r
 took_front p q r text sent so failed = (take sent text, (drop sent text, sym (take-append-drop sent text)), failed ∙ ap with_fault so)
+
+-- a piece that came and isn't kept was given too
+pub gave_unkept : (old now next : Past) (bytes piece : List ℕ) (n room limit : ℕ) → now ≡ with_bytes old bytes → next ≡ with_pull now (Ok n) room piece → n == 0 ≡ false
+    → length bytes + n ≤ limit + 1 → GivesNot OutOfMemory old next limit
+gave_unkept old now next bytes piece n room limit so more some fits =
+    let more : next ≡ with_bytes now (take n piece) = rw some at more in
+    (bytes ++ take n piece, omega (arith, length-append bytes (take n piece), length-take n piece), more ∙ ap (λ (p : Past). with_bytes p (take n piece)) so ∙ more_twice old bytes (take n piece))
