@@ -1,5 +1,5 @@
 -- What the calls of a stream have answered so far.
-use Rattle.std.specs.Prelude.{◌≡◌, ◌⊎◌, ◌==◌, ◌&&◌, if◌then◌else◌, nat_lt, ℕ, List, [], ◌∷◌, ◌++◌, map, length, take, Result, Ok, Err}
+use Rattle.std.specs.Prelude.{◌≡◌, ◌⊎◌, ◌==◌, ◌&&◌, if◌then◌else◌, nat_lt, ℕ, List, [], ◌∷◌, ◌++◌, map, take, Result, Ok, Err}
 use Rattle.shake_streams.specs.declared.traits.Failed.{Failed}
 
 -- a byte that went by, the end that was told, or a call that failed

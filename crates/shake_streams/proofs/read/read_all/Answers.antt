@@ -1,6 +1,6 @@
 use Rattle.std.proofs.Common.{◌≡◌, ◌==◌, ◌+◌, ◌≤◌, false, length, arith, rules}
 use Rattle.std.proofs.lemmas.Grind.{common_steps}
-use Rattle.shake_streams.proofs.Histories.{gave_unkept}
+use Rattle.shake_streams.proofs.Histories.{gave_unkept, gave_fault}
 use Rattle.shake_streams.proofs.Taking.{rest_after}
 use Rattle.shake_streams.proofs.read.read_all.Goals as goal
 
@@ -17,3 +17,8 @@ returns-in_err-extend_from_slice-clause-gave_not g c =
     let some : c.in-Ok.n == 0 ≡ false = grind arith in
     let given = gave_unkept _ _ _ c.pieces.bytes.items _ c.in-Ok.n _ c.args.limit c.pieces.invariant.gave c.in-Ok.ensures.given some fits in
     search (rules, given)
+
+pub returns-in_default-clause-gave_not : goal.returns-in_default-clause-gave_not
+returns-in_default-clause-gave_not g c =
+    let fits : length c.pieces.bytes.items ≤ c.args.limit = grind (arith, common_steps) in
+    gave_fault _ _ _ c.pieces.bytes.items c.args.limit c.pieces.invariant.gave c.in_default.ensures.given fits
