@@ -1,5 +1,5 @@
 -- From what the streams answered to what a run says of them.
-use Rattle.std.proofs.Common.{◌≡◌, ◌⊎◌, inl, inr, ◌∙◌, ◌≤◌, ℕ, zero_le, List, [], length, Option, Some, None, Ok, refl, sym, subst}
+use Rattle.std.proofs.Common.{◌≡◌, ◌⊎◌, inl, inr, ◌∙◌, ◌≤◌, ℕ, List, [], length, Option, Some, None, Ok, refl, sym, subst, arith}
 use Rattle.shake_streams.specs.Past.{Past, with_bytes, StopsAtOnce}
 use Rattle.shake_streams.specs.Moves.{TakesFront}
 use Rattle.shake_streams.specs.Reading.{GivesAll, LeavesRest}
@@ -112,12 +112,12 @@ tells_given s given given_now bytes taken now gave told = (told.0, line_given s 
 -- ---- nothing behind the end or a fault
 
 pub follows_stops : (command : Command) (s : Status) (bytes : List ℕ) (taken now : Past) → Follows command s bytes taken now → StopsAtOnce taken now
-follows_stops command status.Ok bytes taken now f = took_stops taken now _ f.2.2.2.2
-follows_stops command status.WriteFault bytes taken now f = front_stops taken now _ f.2.2
+follows_stops command status.Ok bytes taken now f = took_stops taken now _ f.5
+follows_stops command status.WriteFault bytes taken now f = front_stops taken now _ f.3
 follows_stops command status.Syntax bytes taken now f = rw f.1 (stays_stops taken)
-follows_stops command status.Tree bytes taken now f = rw f.2.2 (stays_stops taken)
-follows_stops command status.TooLarge bytes taken now f = rw f.2.2 (stays_stops taken)
-follows_stops command status.IllFormed bytes taken now f = rw f.2.2 (stays_stops taken)
+follows_stops command status.Tree bytes taken now f = rw f.3 (stays_stops taken)
+follows_stops command status.TooLarge bytes taken now f = rw f.3 (stays_stops taken)
+follows_stops command status.IllFormed bytes taken now f = rw f.3 (stays_stops taken)
 follows_stops command status.OutOfMemory bytes taken now f = rw f (stays_stops taken)
 follows_stops command status.Usage bytes taken now f = absurd f
 follows_stops command status.ReadFault bytes taken now f = absurd f
@@ -132,4 +132,4 @@ still_stops p = stays_stops p
 
 pub still_rests : (left : Option (List ℕ)) (most : ℕ) → LeavesRest left left most
 still_rests None most = tt
-still_rests (Some bytes) most = ([], bytes, refl, zero_le most, refl)
+still_rests (Some bytes) most = ([], bytes, refl, omega arith, refl)

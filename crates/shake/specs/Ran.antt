@@ -12,6 +12,7 @@ use Rattle.min_passes.specs.Passes.{shaken}
 use Rattle.min_driver.specs.Limit.{IsTooLarge}
 use Rattle.headline.specs.Headline.{Headline}
 use Rattle.shake.specs.Answer.{IsLineFor}
+use Rattle.shake.specs.Code.{code_of}
 use Rattle.shake.specs.Line.{status_line}
 use Rattle.shake.specs.Run.{max_input, IsSound, IsIllFormed, IsReadBack, shaken_output}
 use Rattle.shake.specs.declared.status.Status.{Status}
@@ -60,3 +61,8 @@ IsLineGiven status.Tree given given_now line = (bytes : List ℕ) × GivesAll gi
 IsLineGiven status.TooLarge given given_now line = (bytes : List ℕ) × GivesAll given given_now bytes × IsLineFor status.TooLarge bytes line
 IsLineGiven status.IllFormed given given_now line = (bytes : List ℕ) × GivesAll given given_now bytes × IsLineFor status.IllFormed bytes line
 IsLineGiven s given given_now line = line ≡ status_line s
+
+-- the run has an answer of this code: what the source gave, what the sink of the output took, and what standard error was told
+abbrev pub RanWithCode : (words : List (List ℕ)) (code : ℕ) (given given_now taken taken_now told told_now : Past) → Type 0
+RanWithCode words code given given_now taken taken_now told told_now =
+    (s : Status) × (code ≡ code_of s) × Ran words s given given_now taken taken_now × Tells (IsLineGiven s given given_now) told told_now

@@ -43,7 +43,7 @@ fn next_size(had: usize, limit: u64) -> usize
 }
 
 /// All the bytes that the source has, of which there are at most `limit`. It reads one byte past the
-/// limit where there is one.
+/// limit where there is one, and makes no call behind one that failed or told the end.
 pub fn read_all<S: Source>(
     alloc: Global,
     source: &mut S,

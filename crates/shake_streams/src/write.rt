@@ -5,7 +5,8 @@ ghost use Rattle.shake_streams.specs.Moves.{Known, SendsFront, TakesFront, HasFa
 
 use crate::traits::{Failed, Sink};
 
-/// Sends the whole text. A fault ends it, and then some front of the text went out.
+/// Sends the whole text. A fault ends it, and then some front of the text went out and no call comes
+/// behind.
 pub fn write_all<K: Sink>(sink: &mut K, text: &[u8]) -> Result<(), Failed>
     ensures ok { OnOk result
         (Known (λ bytes. bytes ++ text.now) (K.written sink.old) (K.written sink.new)) }
