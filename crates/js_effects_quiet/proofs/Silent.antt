@@ -48,7 +48,7 @@ quiet_in_turn : (env : Env) (ms : Parts) → QuietRow env ms → Quiet (in_turn 
 unfolding in_turn
 quiet_in_turn env [] rows = quiet_unknown
 quiet_in_turn env (None ∷ ms) rows = quiet_unknown
-quiet_in_turn env (Some m ∷ []) rows = quiet_value (rows.0 now) quiet_give
+quiet_in_turn env (Some m ∷ []) rows = rows.0 now
 quiet_in_turn env (Some m ∷ o ∷ ms) rows = quiet_value (rows.0 now) (λ v. quiet_in_turn env (o ∷ ms) rows.1)
 
 -- names
@@ -137,7 +137,7 @@ pub quiet_parts : (E : Enter) (env : Env) (a : Forest) (ms : Parts) (k : Kind) �
 quiet_parts E env a ms (Kind.UnaryExpression o) e rows (value w) = quiet_need env ms rows (λ m r h hs. quiet_value (h (value (wanted_by o))) (λ v. quiet_unary o v e))
 quiet_parts E env a ms Kind.ParenthesizedExpression e rows (value w) = quiet_need env ms rows (λ m r h hs. h (value w))
 quiet_parts E env a ms Kind.ParenthesizedExpression e rows place = quiet_need env ms rows (λ m r h hs. h place)
-quiet_parts E env a ms (Kind.LogicalExpression o) e rows (value w) = quiet_need env ms rows (λ l r h hs. quiet_need env r hs (λ m r g gs. quiet_value (h now) (λ v. quiet_choose (goes_right o v) (quiet_value (g now) quiet_give) (quiet_give v))))
+quiet_parts E env a ms (Kind.LogicalExpression o) e rows (value w) = quiet_need env ms rows (λ l r h hs. quiet_need env r hs (λ m r g gs. quiet_value (h now) (λ v. quiet_choose (goes_right o v) (g now) (quiet_give v))))
 quiet_parts E env a ms Kind.ConditionalExpression e rows (value w) = quiet_need env ms rows (λ t r h hs. quiet_need env r hs (λ c r g gs. quiet_need env r gs (λ d r f fs. quiet_value (h now) (λ v. quiet_choose (truthy v) (g now) (f now)))))
 quiet_parts E env a ms Kind.SequenceExpression e rows (value w) = quiet_need env ms rows (λ m r h hs. h now)
 quiet_parts E env a ms Kind.Expressions e rows (value w) = quiet_in_turn env ms rows

@@ -304,7 +304,7 @@ module _ (E : Enter) (enters : Enters E) where
   does_acts p ms ks (Kind.UnaryExpression o) y d h n c r same_value = need_acts c (λ m k ns ls x c. value_acts (x.mean r same_value) (λ w2 v u i q. unary_of_acts o q))
   does_acts p ms ks (Kind.UpdateExpression o prefix) y d h n c r same_value = need_acts c (λ m k ns ls x c. place_acts (x.mean r same_place) (λ w2 p q i l. update_acts E enters o prefix l))
   does_acts p ms ks (Kind.BinaryExpression o) y d h n c r same_value = need_acts c (λ m k ns ls x c. need_acts c (λ m k ns ls t c. value_acts (x.mean r same_now) (λ w2 v u i q. value_acts (t.mean (envs_later i r) same_now) (λ w3 v u j p. binary_acts E enters o (same_later j q) p))))
-  does_acts p ms ks (Kind.LogicalExpression o) y d h n c r same_value = need_acts c (λ m k ns ls x c. need_acts c (λ m k ns ls t c. value_acts (x.mean r same_now) (λ w2 v u i q. logical_acts o q (value_acts (t.mean (envs_later i r) same_now) (λ w3 v u j p. give_acts p)))))
+  does_acts p ms ks (Kind.LogicalExpression o) y d h n c r same_value = need_acts c (λ m k ns ls x c. need_acts c (λ m k ns ls t c. value_acts (x.mean r same_now) (λ w2 v u i q. logical_acts o q (t.mean (envs_later i r) same_now))))
   does_acts p ms ks (Kind.AssignmentExpression o) y d h n c r same_value = need_acts c (λ m k ns ls x c. need_acts c (λ m k ns ls t c. place_acts (x.mean r same_place) (λ w2 p q i l. assign_acts E enters o l (t.mean (envs_later i r) same_now))))
   does_acts p ms ks Kind.ConditionalExpression y d h n c r same_value = need_acts c (λ m k ns ls t c. need_acts c (λ m k ns ls x c. need_acts c (λ m k ns ls o c. value_acts (t.mean r same_now) (λ w2 v u i q. choose_acts (truthy_same q) (x.mean (envs_later i r) same_now) (o.mean (envs_later i r) same_now)))))
   does_acts p ms ks (Kind.CallExpression false pure) y d h n c r same_value = need_acts c (λ m k ns ls x c. need_acts c (λ m k ns ls t c. receiver_acts (x.mean r same_value) (λ w2 v u o p i q s. all_acts (t.mean (envs_later i r) same_collect) (λ w3 vs us j qs. call_acts E enters (same_later j q) (same_later j s) qs))))
