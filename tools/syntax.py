@@ -86,7 +86,7 @@ def node_kind():
         else: out += '    /// A list of nodes: a field of the node above it.\n'
         out += '    %s,\n' % v.declared()
     out += '}\n\n// By hand, and so a call in each function that lets a kind go, where a derived one is all of its arms.\nimpl Drop for NodeKind {\n    fn drop(self) {\n        match self {\n'
-    return out + ''.join('            %s => {}\n' % v.ignored() for v in variants_of_kind().values()) + '        }\n    }\n}\n'
+    return out + '            %s => {}\n        }\n    }\n}\n' % ' | '.join(v.ignored() for v in variants_of_kind().values())
 
 
 def classes():
