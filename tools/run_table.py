@@ -28,10 +28,13 @@ def rows():
     out += 'ghost use Rattle.std.specs.Prelude.{◌≡◌};\nghost use Rattle.js_syntax.specs.Table as table;\nghost use %sView.{row_view};\n\nuse js_syntax::NodeType;\n' % TABLE
     out += '\n/// A way in which a type of ESTree stands in a tree.\n#[derive(Clone, Copy)]\npub enum Row {\n'
     out += ''.join('    %s,\n' % bare(r.name) for r in ROWS) + '}\n\nimpl Row {\n'
-    out += "    /// ESTree's type of the row.\n    pub fn node_type(self) -> NodeType\n        ensures { result ≡ table.type_of (row_view self) }\n    {\n        match self {\n"
-    for t in types():
-        out += '            %s => NodeType::%s,\n' % (' | '.join('Row::' + bare(r.name) for r in ROWS if r.type == t), t)
-    return out + '        }\n    }\n}\n'
+    out += "    /// ESTree's type of the row.\n    pub fn node_type(self) -> NodeType\n        ensures { result ≡ table.type_of (row_view self) }\n    {\n        NODE_TYPES[self as usize]\n    }\n}\n"
+    return out + table_of('NODE_TYPES', 'NodeType', ['NodeType::' + r.type for r in ROWS], 'The type of each row, in the order of the rows.')
+
+
+def table_of(name, type, entries, doc):
+    """A table with an entry for each of an enum's variants. It is looked up in one step, where a match would be proved arm by arm."""
+    return '\n/// %s\nstatic %s: [%s; %d] = [\n%s];\n' % (doc, name, type, len(entries), ''.join('    %s,\n' % e for e in entries))
 
 
 def fields_file():
@@ -65,32 +68,127 @@ def sort_code(f):
 def table_file():
     out = HEADER % 'The fields of each row.'
     out += 'ghost use Rattle.std.specs.Prelude.{◌≡◌, map};\nghost use Rattle.js_syntax.specs.Table.{fields_of};\nghost use %sView.{row_view, field_view};\n\nuse crate::field::{Check, Field, Hint, Kept, Keys, List, Sort, Unread, Words};\nuse crate::row::Row;\nuse crate::wanted::Wanted;\n' % TABLE
+    table_name = lambda r: re.sub(r'^AN?_', '', r.name.upper())
     lists = {}
     for r in ROWS:
         key = ', '.join('Field { name: "%s", sort: %s }' % (f.name, sort_code(f)) for f in r.fields)
         lists.setdefault(key, []).append(r)
     for key, rs in lists.items():
-        n = len(rs[0].fields)
-        out += '\nstatic %s: [Field; %d] = [%s];\n' % (re.sub(r'^AN?_', '', rs[0].name.upper()), n, key)
+        out += '\nstatic %s: [Field; %d] = [%s];\n' % (table_name(rs[0]), len(rs[0].fields), key)
     out += '\nimpl Row {\n    /// The fields, in reading order.\n    pub fn fields(self) -> &\'static [Field]\n        ensures { map field_view result.now ≡ fields_of (row_view self) }\n    {\n        match self {\n'
-    for key, rs in lists.items():
-        out += '            %s => &%s,\n' % (' | '.join('Row::' + bare(r.name) for r in rs), re.sub(r'^AN?_', '', rs[0].name.upper()))
+    for rs in lists.values():
+        out += '            %s => &%s,\n' % (' | '.join('Row::' + bare(r.name) for r in rs), table_name(rs[0]))
     return out + '        }\n    }\n}\n'
+
+
+def rows_at(c):
+    """The rows that stand where a class is wanted: its own, and behind them those of the class that it goes on with."""
+    _, _, _, base, rs = next(w for w in WANTED if w[1] == c)
+    return rs + (rows_at(base) if base else [])
 
 
 def stand_file():
     out = HEADER % 'Which row stands where.'
-    out += 'ghost use Rattle.std.specs.Prelude.{◌≡◌};\nghost use Rattle.std.specs.Option.{option_map};\nghost use Rattle.js_syntax.specs.Table as table;\nghost use Rattle.js_syntax.specs.Class as class;\nghost use %sView.{row_view, class_view};\n\nuse crate::row::Row;\nuse crate::wanted::Wanted;\nuse js_syntax::NodeType;\n' % TABLE
-    def body(c, base, rs):
-        text = '    match kind {\n' + ''.join('        NodeType::%s => Some(Row::%s),\n' % (ROW[r].type, bare(r)) for r in rs)
-        return text + '        _ => %s,\n    }\n' % ('%s_row(kind)' % base if base else 'None')
+    out += 'ghost use Rattle.std.specs.Prelude.{◌≡◌};\nghost use Rattle.std.specs.Option.{option_map};\nghost use Rattle.js_syntax.specs.Table as table;\nghost use %sStanding.{row_among, rows_standing};\nghost use %sView.{row_view, class_view};\n\nuse crate::row::Row;\nuse crate::wanted::Wanted;\nuse js_syntax::NodeType;\n' % (TABLE, TABLE)
     for w, c, what, base, rs in WANTED:
-        if not rs: continue
-        out += '\n// %s\nfn %s_row(kind: NodeType) -> Option<Row>\n    ensures { option_map row_view result ≡ table.stands class.%s kind }\n{\n%s}\n' % (what[0].upper() + what[1:] + '.', c, c, body(c, base, rs))
-    out += '\n/// The row of a type where a node of this class is wanted, if it may stand there.\npub fn row_of(wanted: Wanted, kind: NodeType) -> Option<Row>\n    ensures { option_map row_view result ≡ table.stands (class_view wanted) kind }\n{\n    match wanted {\n'
-    for w, c, what, base, rs in WANTED:
-        out += '        Wanted::%s => %s,\n' % (w, '%s_row(kind)' % c if rs else 'None')
-    return out + '    }\n}\n'
+        out += '\n// %s\nconst %s: &[Row] = &[%s];\n' % (what[0].upper() + what[1:] + '.', c.upper(), ', '.join('Row::' + bare(r) for r in rows_at(c)))
+    out += table_of('STANDING', '&[Row]', [c.upper() for _, c, _, _, _ in WANTED], 'The rows that stand where each class is wanted, in the order of the classes.')
+    return out + '''
+/// The row of a type where a node of this class is wanted, if it may stand there.
+pub fn row_of(wanted: Wanted, kind: NodeType) -> Option<Row>
+    ensures { option_map row_view result ≡ table.stands (class_view wanted) kind }
+{
+    among(standing(wanted), kind)
+}
+
+/// The rows that stand where a node of this class is wanted.
+fn standing(wanted: Wanted) -> &'static [Row]
+    ensures { result.now ≡ rows_standing wanted }
+{
+    STANDING[wanted as usize]
+}
+
+/// The first of these rows that is of this type.
+fn among(rows: &[Row], kind: NodeType) -> Option<Row>
+    ensures { result ≡ row_among kind rows.now }
+{
+    for row in rows {
+        if row.node_type() == kind {
+            return Some(*row);
+        }
+    }
+    None
+}
+'''
+
+
+def standing_spec():
+    D = TABLE + 'declared.'
+    out = '-- The rows that stand where a class is wanted, and the search for the one of a type among them.\n-- ' + GENERATED + '''
+use Rattle.std.specs.Prelude.{List, [], ◌∷◌, Option, Some, None, if◌then◌else◌}
+use Rattle.js_syntax.specs.declared.node_type.NodeType.{NodeType}
+use Rattle.js_syntax.specs.contracts.node_type.NodeTypePartialEq.TheImpl as type_eq
+use Rattle.js_syntax.specs.Table.{type_of}
+'''
+    out += 'use %swanted.Wanted as code_wanted\nuse %swanted.Wanted.TheVariants as in_wanted\nuse %srow.Row as code_row\nuse %srow.Row.TheVariants as in_row\nuse %sView.{row_view}\n' % (D, D, D, D, TABLE)
+    out += '\n-- the rows of a class, in the order in which they are looked through\nabbrev pub rows_standing : code_wanted.Wanted → List code_row.Row\n'
+    out += ''.join('rows_standing in_wanted.%s = %s[]\n' % (w, ''.join('in_row.%s ∷ ' % bare(r) for r in rows_at(c))) for w, c, _, _, _ in WANTED)
+    return out + '''
+-- the first of these rows that is of this type
+abbrev pub row_among : NodeType → List code_row.Row → Option code_row.Row
+row_among t [] = None
+row_among t (r ∷ rs) = if type_eq.ghosts.eq (type_of (row_view r)) t then Some r else row_among t rs
+'''
+
+
+def search_proof():
+    out = '-- The search for the row of a type, and what it finds where each class is wanted.\n-- ' + GENERATED + '''
+use Rattle.std.proofs.Common.{◌≡◌, ℕ, ◌+◌, ◌<◌, List, drop, length, Bool, true, false, Some, slice_index_or, if◌then◌else◌, refl, ap, ◌∙◌, sym, drop-cons, add-one}
+use Rattle.std.specs.Option.{option_map}
+use Rattle.js_syntax.specs.declared.node_type.NodeType.{NodeType}
+use Rattle.js_syntax.specs.declared.node_type.NodeType.TheVariants as type
+use Rattle.js_syntax.specs.contracts.node_type.NodeTypePartialEq.TheImpl as type_eq
+use Rattle.js_syntax.specs.Table.{type_of, stands}
+use Rattle.json_table.specs.declared.wanted.Wanted.{Wanted}
+use Rattle.json_table.specs.declared.wanted.Wanted.TheVariants as in_wanted
+use Rattle.json_table.specs.declared.row.Row.{Row}
+use Rattle.json_table.specs.View.{row_view, class_view}
+use Rattle.json_table.specs.Standing.{row_among, rows_standing}
+
+first : (b : Bool) {A : Type 0} (x r : A) → b ≡ true → (if b then x else r) ≡ x
+first true x r e = refl
+first false x r e = cc
+
+second : (b : Bool) {A : Type 0} (x r : A) → b ≡ false → (if b then x else r) ≡ r
+second true x r e = cc
+second false x r e = refl
+
+-- where this row is of the type, it is the first of those that are left
+pub row_found : (t : NodeType) (rs : List Row) (i : ℕ) (d : Row) → i < length rs → type_eq.ghosts.eq (type_of (row_view (slice_index_or rs i d))) t ≡ true → row_among t (drop i rs) ≡ Some (slice_index_or rs i d)
+row_found t rs i d h e = ap (row_among t) (drop-cons rs i d h) ∙ first _ _ _ e
+
+-- where it is of another, the row is among the others
+pub row_passed : (t : NodeType) (rs : List Row) (i : ℕ) (d : Row) → i < length rs → type_eq.ghosts.eq (type_of (row_view (slice_index_or rs i d))) t ≡ false → row_among t (drop i rs) ≡ row_among t (drop (i + 1) rs)
+row_passed t rs i d h e = ap (row_among t) (drop-cons rs i d h) ∙ second _ _ _ e ∙ ap (λ k. row_among t (drop k rs)) (sym (add-one i))
+
+-- Each type in each class, by computing: the first clause of a class has the others of it taken by cases.
+pub standing_is : (w : Wanted) (t : NodeType) → option_map row_view (row_among t (rows_standing w)) ≡ stands (class_view w) t
+'''
+    return out + ''.join('standing_is in_wanted.%s type.%s = refl\n' % (w, types()[0]) for w, _, _, _, _ in WANTED) + 'standing_is _ _ = refl\n'
+
+
+ROW_OF = HEADER.replace('//', '--') % 'What stands where, by the search of its rows.' + '''use Rattle.std.proofs.Common.{◌∙◌, ap}
+use Rattle.std.specs.Option.{option_map}
+use Rattle.json_table.specs.View.{row_view}
+use Rattle.json_table.specs.Standing.{row_among}
+use Rattle.json_table.proofs.Search.{standing_is}
+use Rattle.json_table.proofs.stand.row_of.Goals as goal
+
+pub returns : goal.returns
+returns c =
+    ap (option_map row_view) (c.among.ensures ∙ ap (row_among c.args.kind) c.standing.ensures)
+    ∙ standing_is c.args.wanted c.args.kind
+'''
 
 
 def view_spec():
@@ -101,7 +199,8 @@ def view_spec():
     out += 'use Rattle.js_syntax.specs.Class.{Class}\nuse Rattle.js_syntax.specs.Class as class\nuse Rattle.js_syntax.specs.Word.{Words}\nuse Rattle.js_syntax.specs.Word as words\n'
     out += 'use Rattle.js_syntax.specs.Field.{Kept, Hint, Check, Keys, Sort, Field}\nuse Rattle.js_syntax.specs.Field as syntax\nuse Rattle.js_syntax.specs.Table.{Row}\nuse Rattle.js_syntax.specs.Table as table\n'
     for f, n in [('wanted', 'Wanted'), ('row', 'Row')] + [('field', n) for n in ('Words', 'Kept', 'Hint', 'Unread', 'Check', 'Keys', 'List', 'Sort')]:
-        out += 'use %s%s.%s as code_%s\nuse %s%s.%s.TheVariants as in_%s\n' % (D, f, n, snake(n), D, f, n, snake(n))
+        if n != 'Unread': out += 'use %s%s.%s as code_%s\n' % (D, f, n, snake(n))
+        out += 'use %s%s.%s.TheVariants as in_%s\n' % (D, f, n, snake(n))
     out += 'use %sfield.Field as code_field\n' % D
     def view(name, n, target, lines): return '\nabbrev pub %s : code_%s.%s → %s\n' % (name, snake(n), n, target) + ''.join('%s %s = %s\n' % (name, a, b) for a, b in lines)
     out += view('class_view', 'Wanted', 'Class', [('in_wanted.' + w, 'class.' + c) for w, c, _, _, _ in WANTED])
@@ -145,6 +244,10 @@ FILES = {
     'json_table/src/field.rt': fields_file,
     'json_table/src/table.rt': table_file,
     'json_table/src/stand.rt': stand_file,
-    'json_table/specs/Lib.antt': lambda: 'pub mod View\n',
+    'json_table/specs/Lib.antt': lambda: 'pub mod Standing\npub mod View\n',
+    'json_table/specs/Standing.antt': standing_spec,
+    'json_table/proofs/Lib.antt': lambda: 'mod Search\n',
+    'json_table/proofs/Search.antt': search_proof,
+    'json_table/proofs/stand/row_of/Answers.antt': lambda: ROW_OF,
     'json_table/specs/View.antt': view_spec,
 }

@@ -86,7 +86,7 @@ def node_kind():
         else: out += '    /// A list of nodes: a field of the node above it.\n'
         out += '    %s,\n' % v.declared()
     out += '}\n\n// By hand, and so a call in each function that lets a kind go, where a derived one is all of its arms.\nimpl Drop for NodeKind {\n    fn drop(self) {\n        match self {\n'
-    return out + ''.join('            %s => {}\n' % v.ignored() for v in variants_of_kind().values()) + '        }\n    }\n}\n'
+    return out + '            %s => {}\n        }\n    }\n}\n' % ' | '.join(v.ignored() for v in variants_of_kind().values())
 
 
 def classes():
@@ -160,17 +160,18 @@ def facts():
     return out + 'is_core hole = false\n' + ''.join('is_core %s = true\n' % k for k in LISTS)
 
 
-def rust_enum(name, vs, doc=''):
-    return '%s#[derive(Clone, Copy, Debug, PartialEq, Eq)]\npub enum %s {\n%s}\n' % (doc, name, ''.join('    %s,\n' % v for v in vs))
+def rust_enum(name, vs, doc='', debug=', Debug'):
+    return '%s#[derive(Clone, Copy%s, PartialEq, Eq)]\npub enum %s {\n%s}\n' % (doc, debug, name, ''.join('    %s,\n' % v for v in vs))
 
 
 def node_type():
     out = '// The types of nodes. %s\n' % GENERATED
     out += 'ghost use Rattle.std.specs.Prelude.{◌≡◌};\nghost use Rattle.js_syntax.specs.Name.{type_among, type_name, type_named};\n\n'
-    out += rust_enum('NodeType', types(), "/// A type of node, by ESTree's name for it.\n")
-    out += '\nimpl NodeType {\n    /// The text of the node\'s field `type`.\n    pub fn name(self) -> &\'static str\n        ensures { result.now ≡ type_name self }\n    {\n        match self {\n'
-    out += ''.join('            NodeType::%s => "%s",\n' % (t, t) for t in types()) + '        }\n    }\n'
+    out += 'use std::fmt;\n\n' + rust_enum('NodeType', types(), "/// A type of node, by ESTree's name for it.\n", '')
+    out += '\nimpl NodeType {\n    /// The text of the node\'s field `type`.\n    pub fn name(self) -> &\'static str\n        ensures { result.now ≡ type_name self }\n    {\n        NAMES[self as usize]\n    }\n'
     out += '\n    /// The type of this name, where the table has it.\n    pub fn named(name: &str) -> Option<NodeType>\n        ensures { result ≡ type_named name.now }\n    {\n        among(TYPES.as_slice(), name)\n    }\n}\n'
+    out += '\n// By hand, as what a derived one prints is the name.\nimpl fmt::Debug for NodeType {\n    fn fmt<W: fmt::Write>(&self, f: &mut fmt::Formatter<W>) -> fmt::Result {\n        f.write_str(self.name())\n    }\n}\n'
+    out += texts('NAMES', types(), 'The name of each type, in the order of the types.')
     out += static('TYPES', 'NodeType', types(), 'The types, in the order of the definitions.')
     return out + search('among', 'NodeType', 'node_type', 'types', 'name', 'name', 'type_among name.now types.now', 'The first of these types that has this name.')
 
@@ -178,6 +179,11 @@ def node_type():
 def static(name, enum, vs, doc):
     """A table of all the variants of an enum."""
     return '\n/// %s\nstatic %s: [%s; %d] = [\n%s];\n' % (doc, name, enum, len(vs), ''.join('    %s::%s,\n' % (enum, v) for v in vs))
+
+
+def texts(name, listed, doc):
+    """A table of the texts of an enum's variants, which is looked up in one step, where a match would be proved arm by arm."""
+    return '\n/// %s\nstatic %s: [&str; %d] = [\n%s];\n' % (doc, name, len(listed), ''.join('    "%s",\n' % t for t in listed))
 
 
 def search(function, enum, item, items, text, method, found, doc):
@@ -209,10 +215,12 @@ def rust_words(file, what):
     out += 'ghost use Rattle.std.specs.Prelude.{◌≡◌};\nghost use Rattle.js_syntax.specs.Word.{%s%sword_named, %s};\n' % (''.join('%s_name, ' % snake(e) for _, e, _ in listed), among_word, ', '.join(w for w, _, _ in listed))
     for w, e, vs in listed:
         out += '\n' + rust_enum(e, [v for v, _ in vs], '/// %s\n' % DOCS[e])
-        out += '\nimpl %s {\n    /// The word as it is written.\n    pub fn as_str(self) -> &\'static str\n        ensures { result.now ≡ %s_name self }\n    {\n        match self {\n' % (e, snake(e))
-        out += ''.join('            %s::%s => "%s",\n' % (e, v, t) for v, t in vs) + '        }\n    }\n'
+        out += '\nimpl %s {\n    /// The word as it is written.\n    pub fn as_str(self) -> &\'static str\n        ensures { result.now ≡ %s_name self }\n    {\n' % (e, snake(e))
+        if w in SEARCHED: out += '        %s_TEXTS[self as usize]\n    }\n' % snake(e).upper()
+        else: out += '        match self {\n' + ''.join('            %s::%s => "%s",\n' % (e, v, t) for v, t in vs) + '        }\n    }\n'
         if w in SEARCHED:
             out += '\n    /// The word of this text.\n    pub fn named(text: &str) -> Option<%s>\n        ensures { result ≡ word_named %s text.now }\n    {\n        %s(%s.as_slice(), text)\n    }\n}\n' % (e, w, among(w), w.upper())
+            out += texts(snake(e).upper() + '_TEXTS', [t for _, t in vs], 'How each operator is written, in the order of the operators.')
             out += static(w.upper(), e, [v for v, _ in vs], 'The %s, in the order of the definitions.' % w.replace('_', ' '))
             out += search(among(w), e, 'operator', 'operators', 'text', 'as_str', 'word_among %s text.now operators.now' % w, 'The first of these operators that is written so.')
             continue

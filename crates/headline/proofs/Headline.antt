@@ -17,7 +17,7 @@ use Rattle.steps_fit.proofs.Arranged.{fits_arranged}
 use Rattle.steps_fit.proofs.Enclosing.{fits_enclosed}
 use Rattle.headline.specs.Headline.{is_core_module, Headline}
 use Rattle.headline.proofs.Modules.{fits_listed, fits_program}
-use Rattle.headline.proofs.Refining.{removals_refine}
+use Rattle.headline.proofs.Refining.{removals_refine, Ended, removals_end}
 use Rattle.headline.proofs.Passes.{numbered_same, shaken_comes}
 
 pub comes : (t : Forest) → Fits root t → IsWellFormed t → Removals t (shaken t)
@@ -34,6 +34,13 @@ module_refined (node (Kind.Program source_type.Module) n a r) fits form core u s
     let listed = fits_listed source_type.Module n a r fits in
     removals_refine steps (record { note = n; list_note = listed.list_note; items = listed.items; is = listed.is }) (record { fits = fits; well_formed = form; core = core })
 module_refined t fits form core u steps = absurd (true≢false (sym core))
+
+-- what is left is a sound module
+pub module_ended : (t : Forest) → Fits root t → IsWellFormed t → is_core_module t ≡ true → (u : Forest) → Removals t u → Ended u
+module_ended (node (Kind.Program source_type.Module) n a r) fits form core u steps =
+    let listed = fits_listed source_type.Module n a r fits in
+    removals_end steps (record { note = n; list_note = listed.list_note; items = listed.items; is = listed.is }) (record { fits = fits; well_formed = form; core = core })
+module_ended t fits form core u steps = absurd (true≢false (sym core))
 
 pub kept_by : (t u : Forest) → Fits root t → IsWellFormed t → Removals t u → is_core_module t ≡ true → Kept t u
 kept_by t u fits form steps core = refined_kept t u (module_refined t fits form core u steps)

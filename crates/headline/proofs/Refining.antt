@@ -67,3 +67,15 @@ removals_refine (one_removal t v w u e step rest) h s =
     let g : IsModule v = module_renoted t v e h in
     let after = stepped v w step g (sound_renoted t v e s) in
     refined_joined t v u (renoted t v e h g s) (refined_joined v w u after.refined (removals_refine rest after.is_module after.is_sound))
+
+-- ---- what they lead to is sound
+
+pub record Ended (u : Forest) : Type 0 where
+  pub is_module : IsModule u
+  pub is_sound : IsSound u
+
+pub removals_end : {t u : Forest} → Removals t u → IsModule t → IsSound t → Ended u
+removals_end (no_removal t u e) h s = record { is_module = module_renoted t u e h; is_sound = sound_renoted t u e s }
+removals_end (one_removal t v w u e step rest) h s =
+    let after = stepped v w step (module_renoted t v e h) (sound_renoted t v e s) in
+    removals_end rest after.is_module after.is_sound

@@ -7,7 +7,7 @@ use Rattle.js_syntax.specs.declared.operator.BinaryOperator.{BinaryOperator}
 use Rattle.js_syntax.specs.declared.operator.BinaryOperator.TheVariants as binary
 use Rattle.js_meaning.specs.Value.{Text, Plain, number, Value, plain, undef}
 use Rattle.js_meaning.specs.State.{Completion, M, get_global}
-use Rattle.js_meaning.specs.Operator.{is_negative, whole, signed, times, divided, remainder, on_numbers, on_number, plain_text, joined, plus_plain, plus, strictly_equal, compare, same_type, loosely, answer_is, answer_not, unary_of}
+use Rattle.js_meaning.specs.Operator.{is_negative, whole, signed, times, divided, remainder, on_numbers, on_number, plain_text, joined, plus_plain, plus, strictly_equal, compare, same_type, loosely, answer_is, answer_not, known_binary, binary_of, unary_of}
 use Rattle.js_meaning.specs.Host.{Enter}
 use Rattle.js_meaning.specs.Reference.{Global, the_undefined, no_whole_number, usual, global_value, or_undefined}
 use Rattle.js_meaning.specs.Expression.{binary_value}
@@ -73,23 +73,29 @@ quiet_unary_of unary.Typeof v = quiet_give _
 quiet_unary_of unary.Void v = quiet_give undef
 quiet_unary_of o v = quiet_unknown
 
+quiet_known : (o : BinaryOperator) (v u : Value) → Quiet (known_binary o v u)
+quiet_known binary.Equality v u = quiet_loosely {k = answer_is} v u quiet_answer
+quiet_known binary.Inequality v u = quiet_loosely {k = answer_not} v u (λ b. quiet_answer (not b))
+quiet_known binary.StrictEquality v u = quiet_compare v u quiet_answer
+quiet_known binary.StrictInequality v u = quiet_compare v u (λ b. quiet_answer (not b))
+quiet_known binary.LessThan v u = quiet_on_numbers _ (λ a b. quiet_give _) v u
+quiet_known binary.LessEqualThan v u = quiet_on_numbers _ (λ a b. quiet_give _) v u
+quiet_known binary.GreaterThan v u = quiet_on_numbers _ (λ a b. quiet_give _) v u
+quiet_known binary.GreaterEqualThan v u = quiet_on_numbers _ (λ a b. quiet_give _) v u
+quiet_known binary.Addition v u = quiet_plus v u
+quiet_known binary.Subtraction v u = quiet_on_numbers _ (λ a b. quiet_whole (a -ℤ b)) v u
+quiet_known binary.Multiplication v u = quiet_on_numbers times (λ a b. quiet_signed (is_negative a || is_negative b) (a *ℤ b)) v u
+quiet_known binary.Division v u = quiet_on_numbers divided quiet_divided v u
+quiet_known binary.Remainder v u = quiet_on_numbers remainder quiet_remainder v u
+quiet_known o v u = quiet_unknown
+
+quiet_binary_of : (o : BinaryOperator) (v u : Value) → Quiet (binary_of o v u)
+quiet_binary_of o v u = quiet_choose _ quiet_unknown (quiet_known o v u)
+
 pub quiet_binary_value : (E : Enter) (o : BinaryOperator) (v u : Value) → asks_the_host o ≡ false → Quiet (binary_value E o v u)
-quiet_binary_value E binary.Equality v u e = quiet_loosely {k = answer_is} v u quiet_answer
-quiet_binary_value E binary.Inequality v u e = quiet_loosely {k = answer_not} v u (λ b. quiet_answer (not b))
-quiet_binary_value E binary.StrictEquality v u e = quiet_compare v u quiet_answer
-quiet_binary_value E binary.StrictInequality v u e = quiet_compare v u (λ b. quiet_answer (not b))
-quiet_binary_value E binary.LessThan v u e = quiet_on_numbers _ (λ a b. quiet_give _) v u
-quiet_binary_value E binary.LessEqualThan v u e = quiet_on_numbers _ (λ a b. quiet_give _) v u
-quiet_binary_value E binary.GreaterThan v u e = quiet_on_numbers _ (λ a b. quiet_give _) v u
-quiet_binary_value E binary.GreaterEqualThan v u e = quiet_on_numbers _ (λ a b. quiet_give _) v u
-quiet_binary_value E binary.Addition v u e = quiet_plus v u
-quiet_binary_value E binary.Subtraction v u e = quiet_on_numbers _ (λ a b. quiet_whole (a -ℤ b)) v u
-quiet_binary_value E binary.Multiplication v u e = quiet_on_numbers times (λ a b. quiet_signed (is_negative a || is_negative b) (a *ℤ b)) v u
-quiet_binary_value E binary.Division v u e = quiet_on_numbers divided quiet_divided v u
-quiet_binary_value E binary.Remainder v u e = quiet_on_numbers remainder quiet_remainder v u
 quiet_binary_value E binary.In v u e = absurd (true≢false e)
 quiet_binary_value E binary.Instanceof v u e = absurd (true≢false e)
-quiet_binary_value E o v u e = quiet_unknown
+quiet_binary_value E o v u e = quiet_binary_of o v u
 
 -- `typeof` of a name that has no binding
 

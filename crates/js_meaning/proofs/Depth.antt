@@ -21,10 +21,10 @@ use Rattle.js_syntax.specs.declared.operator.LogicalOperator.{LogicalOperator}
 use Rattle.js_syntax.specs.declared.operator.LogicalOperator.TheVariants as logical
 use Rattle.js_syntax.specs.declared.operator.AssignmentOperator.{AssignmentOperator}
 use Rattle.js_syntax.specs.declared.operator.AssignmentOperator.TheVariants as assignment
-use Rattle.js_meaning.specs.Value.{Text, Slot, local, imported, arguments_object, Env, this_name, Value, Plain, plain, undefined, null, boolean, number, text, host, closure, object, array, error}
+use Rattle.js_meaning.specs.Value.{Text, Slot, local, imported, arguments_object, Env, this_name, Value, Plain, plain, undefined, null, boolean, number, text, host, other, closure, object, array, error}
 use Rattle.js_meaning.specs.Trace.{Act, Move, call_own, set_global_to, remove_global, set_import_to, answer, refuse, Script, Ending, ended}
 use Rattle.js_meaning.specs.State.{State, Cell, cell, Place, at_slot, at_global, at_member, Completion, normal, gives, gives_all, refers, breaks, continues, returns, throws, Out, goes, stops, M, stop, spend_from, spend}
-use Rattle.js_meaning.specs.Operator.{is_negative, binary_of, unary_of, on_number, on_numbers, updated, truthy, is_object, is_boolean, whole, signed, plus_plain, joined, is_text, plain_text, loosely, answer_is, answer_not}
+use Rattle.js_meaning.specs.Operator.{is_negative, known_binary, binary_of, unary_of, on_number, on_numbers, updated, truthy, is_object, is_boolean, whole, signed, plus_plain, joined, is_text, plain_text, loosely, answer_is, answer_not}
 use Rattle.js_meaning.specs.Scope.{look}
 use Rattle.js_meaning.specs.Host.{Loop, while_loop, do_loop, for_loop, Task, body, turn, called_back, Enter, call_back, moves_end, answered, play, host_moves, consult, only, report}
 use Rattle.js_meaning.specs.Reference.{Global, the_undefined, no_whole_number, usual, global_named, if_set, cell_value, slot_value, if_there, global_value, name_value, or_undefined, typeof_name, assign_cell, assign_import, assign_slot, assign_present, assign_global, name_place, get_member, set_member, get_place, put_place}
@@ -70,22 +70,25 @@ same_answer_is t = same_done _
 same_answer_not : {b : ℕ} (t : Bool) → Same b (answer_not t) (answer_not t)
 same_answer_not t = same_done _
 
+same_known : {b : ℕ} (o : BinaryOperator) (v u : Value) → Same b (known_binary o v u) (known_binary o v u)
+same_known binary.Equality v u = same_loosely v u same_answer_is
+same_known binary.Inequality v u = same_loosely v u same_answer_not
+same_known binary.StrictEquality v u = same_compare v u (λ t. same_done _)
+same_known binary.StrictInequality v u = same_compare v u (λ t. same_done _)
+same_known binary.LessThan v u = same_numbers v u (λ x y. same_done _)
+same_known binary.LessEqualThan v u = same_numbers v u (λ x y. same_done _)
+same_known binary.GreaterThan v u = same_numbers v u (λ x y. same_done _)
+same_known binary.GreaterEqualThan v u = same_numbers v u (λ x y. same_done _)
+same_known binary.Addition (plain p) (plain q) = same_plus_plain p q
+same_known binary.Addition _ _ = same_stop _
+same_known binary.Subtraction v u = same_numbers v u (λ x y. same_whole (x -ℤ y))
+same_known binary.Multiplication v u = same_numbers v u (λ x y. same_signed (is_negative x || is_negative y) (x *ℤ y))
+same_known binary.Division v u = same_numbers v u (λ x y. same_choose _ (same_stop _) (same_signed (is_negative y) (int_div x y)))
+same_known binary.Remainder v u = same_numbers v u (λ x y. same_choose _ (same_stop _) (same_signed (is_negative x) (int_rem x y)))
+same_known _ v u = same_stop _
+
 same_binary : {b : ℕ} (o : BinaryOperator) (v u : Value) → Same b (binary_of o v u) (binary_of o v u)
-same_binary binary.Equality v u = same_loosely v u same_answer_is
-same_binary binary.Inequality v u = same_loosely v u same_answer_not
-same_binary binary.StrictEquality v u = same_compare v u (λ t. same_done _)
-same_binary binary.StrictInequality v u = same_compare v u (λ t. same_done _)
-same_binary binary.LessThan v u = same_numbers v u (λ x y. same_done _)
-same_binary binary.LessEqualThan v u = same_numbers v u (λ x y. same_done _)
-same_binary binary.GreaterThan v u = same_numbers v u (λ x y. same_done _)
-same_binary binary.GreaterEqualThan v u = same_numbers v u (λ x y. same_done _)
-same_binary binary.Addition (plain p) (plain q) = same_plus_plain p q
-same_binary binary.Addition _ _ = same_stop _
-same_binary binary.Subtraction v u = same_numbers v u (λ x y. same_whole (x -ℤ y))
-same_binary binary.Multiplication v u = same_numbers v u (λ x y. same_signed (is_negative x || is_negative y) (x *ℤ y))
-same_binary binary.Division v u = same_numbers v u (λ x y. same_choose _ (same_stop _) (same_signed (is_negative y) (int_div x y)))
-same_binary binary.Remainder v u = same_numbers v u (λ x y. same_choose _ (same_stop _) (same_signed (is_negative x) (int_rem x y)))
-same_binary _ v u = same_stop _
+same_binary o v u = same_choose _ (same_stop _) (same_known o v u)
 
 same_unary : {b : ℕ} (o : UnaryOperator) (v : Value) → Same b (unary_of o v) (unary_of o v)
 same_unary unary.LogicalNot v = same_done _
@@ -296,6 +299,7 @@ same_case_is (plain null) h g f = f
 same_case_is (plain (number z)) h g f = f
 same_case_is (plain (text s)) h g f = f
 same_case_is (plain (host i c)) h g f = f
+same_case_is (plain (other i c t)) h g f = f
 same_case_is (closure i k a env) h g f = f
 same_case_is (object i c) h g f = f
 same_case_is (array i c) h g f = f
@@ -310,7 +314,7 @@ same_choose_case v env (one_more (both m) r) h =
 
 same_case_test : {b : ℕ} {o p : Option Meaning} (v : Value) (env : Env) → SameMaybe b o p → Same b (case_test v o env) (case_test v p env)
 same_case_test v env neither = same_done _
-same_case_test v env (both m) = same_value (m.asked now env) (λ u. same_compare v u (λ t. same_done _))
+same_case_test v env (both m) = same_value (m.asked now env) (λ u. same_binary binary.StrictEquality v u)
 
 same_declarator : {b : ℕ} {m n : Meaning} {o p : Option Meaning} (how : VariableKind) (env : Env) → SameMeaning b m n → SameMaybe b o p → Same b (declarator how m o env) (declarator how n p env)
 same_declarator how env m (both i) = same_value (i.asked now env) (λ v. m.asked _ env)
@@ -344,7 +348,7 @@ same_test_for env neither h = h _
 same_test_for env (both m) h = same_value (m.asked now env) h
 
 same_key : {b : ℕ} {ms ns : Parts} {k l : Value → M} (key : Key) (env : Env) → SameParts b ms ns → ((v : Value) → Same b (k v) (l v)) → Same b (member_key key ms env k) (member_key key ns env l)
-same_key key_below env r h = same_need r (λ _ _ _ _ m r. same_value (m.asked now env) h)
+same_key key_below env r h = same_need r (λ _ _ _ _ m r. same_value (m.asked now env) (λ v. same_choose _ (same_stop _) (h v)))
 same_key (key_name s) env r h = h _
 same_key (key_text s) env r h = h _
 same_key (key_number n) env r h = h _
@@ -444,30 +448,18 @@ same_call e (plain null) this vs = same_raise _
 same_call e (plain (boolean t)) this vs = same_raise _
 same_call e (plain (number z)) this vs = same_raise _
 same_call e (plain (text s)) this vs = same_raise _
+same_call e (plain (other i c t)) this vs = same_raise _
 same_call e (object i c) this vs = same_raise _
 same_call e (array i c) this vs = same_raise _
 same_call e (error i c) this vs = same_raise _
 
 same_construct : {b : ℕ} {E F : Enter} → Enters b E F → (f : Value) (vs : List Value) → Same b (construct_value E f vs) (construct_value F f vs)
-same_construct e f vs = same_show f (λ x. same_show_all vs (λ xs. same_only is_object (same_consult e _)))
+same_construct e f vs = same_choose _ (same_stop _) (same_show f (λ x. same_show_all vs (λ xs. same_only is_object (same_consult e _))))
 
 same_binary_value : {b : ℕ} {E F : Enter} → Enters b E F → (o : BinaryOperator) (v u : Value) → Same b (binary_value E o v u) (binary_value F o v u)
-same_binary_value e binary.In v u = same_show v (λ x. same_show u (λ y. same_only is_boolean (same_consult e _)))
-same_binary_value e binary.Instanceof v u = same_show v (λ x. same_show u (λ y. same_only is_boolean (same_consult e _)))
-same_binary_value e binary.Equality v u = same_binary binary.Equality v u
-same_binary_value e binary.Inequality v u = same_binary binary.Inequality v u
-same_binary_value e binary.StrictEquality v u = same_binary binary.StrictEquality v u
-same_binary_value e binary.StrictInequality v u = same_binary binary.StrictInequality v u
-same_binary_value e binary.LessThan v u = same_binary binary.LessThan v u
-same_binary_value e binary.LessEqualThan v u = same_binary binary.LessEqualThan v u
-same_binary_value e binary.GreaterThan v u = same_binary binary.GreaterThan v u
-same_binary_value e binary.GreaterEqualThan v u = same_binary binary.GreaterEqualThan v u
-same_binary_value e binary.Addition v u = same_binary binary.Addition v u
-same_binary_value e binary.Subtraction v u = same_binary binary.Subtraction v u
-same_binary_value e binary.Multiplication v u = same_binary binary.Multiplication v u
-same_binary_value e binary.Division v u = same_binary binary.Division v u
-same_binary_value e binary.Remainder v u = same_binary binary.Remainder v u
-same_binary_value e _ v u = same_stop _
+same_binary_value e binary.In v u = same_choose _ (same_stop _) (same_show v (λ x. same_show u (λ y. same_only is_boolean (same_consult e _))))
+same_binary_value e binary.Instanceof v u = same_choose _ (same_stop _) (same_show v (λ x. same_show u (λ y. same_only is_boolean (same_consult e _))))
+same_binary_value e o v u = same_binary o v u
 
 same_put : {b : ℕ} {E F : Enter} {m n : M} → Enters b E F → (p : Place) → Same b m n → Same b (then_put E p m) (then_put F p n)
 same_put e p h = same_value h (same_put_place e p)

@@ -1,5 +1,5 @@
 -- What expressions do (ECMA-262 13).
-use Rattle.std.specs.Prelude.{Bool, true, false, List, [], ◌∷◌, Option, Some, None, decimal, if◌then◌else◌}
+use Rattle.std.specs.Prelude.{Bool, true, false, ◌||◌, List, [], ◌∷◌, Option, Some, None, decimal, if◌then◌else◌}
 use Rattle.std.specs.Str.{bytes_eq}
 use Rattle.js_syntax.specs.declared.node_kind.NodeKind.{NodeKind as Kind}
 use Rattle.js_syntax.specs.Node.{Forest, nothing, node, absent}
@@ -15,11 +15,11 @@ use Rattle.js_syntax.specs.declared.operator.LogicalOperator.{LogicalOperator}
 use Rattle.js_syntax.specs.declared.operator.LogicalOperator.TheVariants as logical
 use Rattle.js_syntax.specs.declared.operator.AssignmentOperator.{AssignmentOperator}
 use Rattle.js_syntax.specs.declared.operator.AssignmentOperator.TheVariants as assignment
-use Rattle.js_meaning.specs.Value.{Text, Env, Value, plain, closure, text, host, undef, type_error, Content, no_content, element, property}
+use Rattle.js_meaning.specs.Value.{Text, Env, Value, plain, closure, text, host, undef, type_error, Shown, Content, no_content, element, property}
 use Rattle.js_meaning.specs.Trace.{Act}
 use Rattle.js_meaning.specs.State.{M, Place, unknown, choose, give, with_value, identity, raise}
 use Rattle.js_meaning.specs.Show.{show, show_all}
-use Rattle.js_meaning.specs.Operator.{is_object, is_boolean, on_number, updated, binary_of, goes_right}
+use Rattle.js_meaning.specs.Operator.{is_object, is_boolean, is_other, on_number, updated, binary_of, goes_right}
 use Rattle.js_meaning.specs.Scope.{waiting, named_so, own_name, declare, fill, look}
 use Rattle.js_meaning.specs.Host.{Enter, body, consult, only}
 use Rattle.js_meaning.specs.Reference.{get_place, put_place}
@@ -33,12 +33,19 @@ call_value E (plain (host h true)) this vs =
 call_value E _ this vs = raise type_error
 
 -- `new` (13.3.5) is the host's, which answers with an object
+abbrev pub construct_shown : Enter → Value → List Value → M
+construct_shown E v vs = show v (λ x. show_all vs (λ xs. only is_object (consult E (Act.construct x xs))))
+
 abbrev pub construct_value : Enter → Value → List Value → M
-construct_value E v vs = show v (λ x. show_all vs (λ xs. only is_object (consult E (Act.construct x xs))))
+construct_value E v vs = choose (is_other v) unknown (construct_shown E v vs)
+
+-- `in` and `instanceof` are the host's too, which answers with a truth value
+abbrev pub ask_host : Enter → (Shown → Shown → Act) → Value → Value → M
+ask_host E act v u = show v (λ x. show u (λ y. only is_boolean (consult E (act x y))))
 
 abbrev pub binary_value : Enter → BinaryOperator → Value → Value → M
-binary_value E binary.In v u = show v (λ x. show u (λ y. only is_boolean (consult E (Act.asks_in x y))))
-binary_value E binary.Instanceof v u = show v (λ x. show u (λ y. only is_boolean (consult E (Act.asks_instanceof x y))))
+binary_value E binary.In v u = choose (is_other v || is_other u) unknown (ask_host E Act.asks_in v u)
+binary_value E binary.Instanceof v u = choose (is_other v || is_other u) unknown (ask_host E Act.asks_instanceof v u)
 binary_value E o v u = binary_of o v u
 
 -- `typeof` wants its operand even where that is a name without binding
@@ -59,8 +66,11 @@ static_key (key_number n) = decimal n
 static_key key_below = []
 
 -- a computed key is evaluated, and is shown to the host as it is (13.3.3)
+abbrev pub known_key : (Value → M) → Value → M
+known_key k v = choose (is_other v) unknown (k v)
+
 abbrev pub member_key : Key → Parts → Env → (Value → M) → M
-member_key key_below r env k = need r (λ m r. with_value (m now env) k)
+member_key key_below r env k = need r (λ m r. with_value (m now env) (known_key k))
 member_key key r env k = k (plain (text (static_key key)))
 
 abbrev pub receiver_of : Wanted → Value → Value

@@ -1,8 +1,9 @@
 -- Operators on values (ECMA-262 13.5 to 13.12). Numbers are whole: what would leave 2^53 - 1, or give a fraction, a
--- negative zero, NaN or an infinity, is unknown; so is arithmetic on other than numbers.
+-- negative zero, NaN or an infinity, is unknown; so is arithmetic on other than numbers. Of another primitive value of
+-- the host `typeof` and tests alone are known.
 use Rattle.std.specs.Prelude.{ℕ, zero, suc, ℤ, pos, negsuc, ◌+ℤ◌, ◌-ℤ◌, ◌*ℤ◌, neg_ℤ, unsigned_abs, int_lt, int_le, int_div, int_rem, nat_eq, nat_le, Bool, true, false, not, ◌&&◌, ◌||◌, [], ◌∷◌, ◌++◌, Option, Some, None, codes, decimal}
 use Rattle.std.specs.Str.{bytes_eq}
-use Rattle.js_meaning.specs.Value.{Text, Plain, undefined, null, boolean, number, text, host, Value, plain, closure, object, array, error, undef}
+use Rattle.js_meaning.specs.Value.{Text, PrimitiveKind, a_number, a_bigint, a_symbol, a_string, Plain, undefined, null, boolean, number, text, host, other, Value, plain, closure, object, array, error, undef}
 use Rattle.js_meaning.specs.State.{M, unknown, give, choose}
 use Rattle.js_meaning.specs.Show.{has_identity}
 use Rattle.js_syntax.specs.declared.operator.UnaryOperator.{UnaryOperator}
@@ -30,6 +31,10 @@ is_nullish (plain undefined) = true
 is_nullish (plain null) = true
 is_nullish _ = false
 
+abbrev pub is_other : Value → Bool
+is_other (plain (other i kind t)) = true
+is_other _ = false
+
 abbrev pub is_zero : ℤ → Bool
 is_zero (pos zero) = true
 is_zero _ = false
@@ -49,9 +54,16 @@ truthy (plain null) = false
 truthy (plain (boolean b)) = b
 truthy (plain (number z)) = not (is_zero z)
 truthy (plain (text s)) = not (is_empty s)
+truthy (plain (other i kind t)) = t
 truthy _ = true
 
 -- 13.5.3
+abbrev pub kind_name : PrimitiveKind → Text
+kind_name a_number = codes "number"
+kind_name a_bigint = codes "bigint"
+kind_name a_symbol = codes "symbol"
+kind_name a_string = codes "string"
+
 abbrev pub type_name : Value → Text
 type_name (plain undefined) = codes "undefined"
 type_name (plain null) = codes "object"
@@ -60,6 +72,7 @@ type_name (plain (number z)) = codes "number"
 type_name (plain (text s)) = codes "string"
 type_name (plain (host h true)) = codes "function"
 type_name (plain (host h false)) = codes "object"
+type_name (plain (other i kind t)) = kind_name kind
 type_name (closure i f a env) = codes "function"
 type_name _ = codes "object"
 
@@ -111,6 +124,7 @@ plain_text (boolean b) = Some (boolean_text b)
 plain_text (number z) = Some (integer_text z)
 plain_text (text s) = Some s
 plain_text (host h callable) = None
+plain_text (other i kind t) = None
 
 abbrev pub is_text : Plain → Bool
 is_text (text s) = true
@@ -180,22 +194,26 @@ answer_is b = give (plain (boolean b))
 abbrev pub answer_not : Bool → M
 answer_not b = give (plain (boolean (not b)))
 
+-- where no operand is another primitive value of the host
+abbrev pub known_binary : BinaryOperator → Value → Value → M
+known_binary binary.Equality v u = loosely v u answer_is
+known_binary binary.Inequality v u = loosely v u answer_not
+known_binary binary.StrictEquality v u = compare v u answer_is
+known_binary binary.StrictInequality v u = compare v u answer_not
+known_binary binary.LessThan v u = on_numbers (λ a b. answer_is (int_lt a b)) v u
+known_binary binary.LessEqualThan v u = on_numbers (λ a b. answer_is (int_le a b)) v u
+known_binary binary.GreaterThan v u = on_numbers (λ a b. answer_is (int_lt b a)) v u
+known_binary binary.GreaterEqualThan v u = on_numbers (λ a b. answer_is (int_le b a)) v u
+known_binary binary.Addition v u = plus v u
+known_binary binary.Subtraction v u = on_numbers (λ a b. whole (a -ℤ b)) v u
+known_binary binary.Multiplication v u = on_numbers times v u
+known_binary binary.Division v u = on_numbers divided v u
+known_binary binary.Remainder v u = on_numbers remainder v u
+known_binary _ v u = unknown
+
 -- the binary operators that show nothing to the host; `in` and `instanceof` do
 abbrev pub binary_of : BinaryOperator → Value → Value → M
-binary_of binary.Equality v u = loosely v u answer_is
-binary_of binary.Inequality v u = loosely v u answer_not
-binary_of binary.StrictEquality v u = compare v u answer_is
-binary_of binary.StrictInequality v u = compare v u answer_not
-binary_of binary.LessThan v u = on_numbers (λ a b. answer_is (int_lt a b)) v u
-binary_of binary.LessEqualThan v u = on_numbers (λ a b. answer_is (int_le a b)) v u
-binary_of binary.GreaterThan v u = on_numbers (λ a b. answer_is (int_lt b a)) v u
-binary_of binary.GreaterEqualThan v u = on_numbers (λ a b. answer_is (int_le b a)) v u
-binary_of binary.Addition v u = plus v u
-binary_of binary.Subtraction v u = on_numbers (λ a b. whole (a -ℤ b)) v u
-binary_of binary.Multiplication v u = on_numbers times v u
-binary_of binary.Division v u = on_numbers divided v u
-binary_of binary.Remainder v u = on_numbers remainder v u
-binary_of _ v u = unknown
+binary_of o v u = choose (is_other v || is_other u) unknown (known_binary o v u)
 
 -- 13.5.2 to 13.5.7; `typeof` asks its operand in its own way
 abbrev pub unary_of : UnaryOperator → Value → M

@@ -4,9 +4,10 @@ use Rattle.std.specs.Str.{bytes_eq}
 use Rattle.js_syntax.specs.Node.{Forest}
 use Rattle.js_syntax.specs.declared.kind.VariableKind.{VariableKind}
 use Rattle.js_syntax.specs.declared.kind.VariableKind.TheVariants as variable
+use Rattle.js_syntax.specs.declared.operator.BinaryOperator.TheVariants as binary
 use Rattle.js_meaning.specs.Value.{Text, Env, Value, plain, boolean, undef}
 use Rattle.js_meaning.specs.State.{M, Completion, normal, gives, breaks, continues, returns, throws, bind, done, unknown, choose, give, seq, with_value}
-use Rattle.js_meaning.specs.Operator.{truthy, compare}
+use Rattle.js_meaning.specs.Operator.{truthy, binary_of}
 use Rattle.js_meaning.specs.Scope.{first_of, lexical, copy, declare, waiting, all_so, bound_names}
 use Rattle.js_meaning.specs.Host.{Loop, while_loop, do_loop, for_loop, Enter, turn}
 use Rattle.js_meaning.specs.Node.{run, take, matches, now, Meaning, Parts, need, may, each, value_or_undefined, ask_maybe, first_ask}
@@ -88,7 +89,7 @@ choose_case (Some m ∷ ms) v env default =
 -- whether a case is the one (CaseClauseIsSelected, 14.12.3); the default says undefined
 abbrev pub case_test : Value → Option Meaning → Env → M
 case_test v None env = give undef
-case_test v (Some t) env = with_value (t now env) (λ u. compare v u (λ b. give (plain (boolean b))))
+case_test v (Some t) env = with_value (t now env) (binary_of binary.StrictEquality v)
 
 abbrev pub after_switch : Completion → M
 after_switch (breaks None) = done normal

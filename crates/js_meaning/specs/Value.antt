@@ -28,6 +28,10 @@ Env = List Bound
 abbrev pub this_name : Text
 this_name = codes "this"
 
+-- which primitive values have no content here but what `typeof` says of them (13.5.3)
+pub data PrimitiveKind : Type 0 where
+  a_number a_bigint a_symbol a_string : PrimitiveKind
+
 -- A value that is no object of the program's own: a primitive value, whose numbers are whole (and within 2^53 - 1
 -- wherever an operator gives them), or an object of the host, with its number and whether it can be called.
 pub data Plain : Type 0 where
@@ -36,6 +40,9 @@ pub data Plain : Type 0 where
   number : ℤ → Plain
   text : Text → Plain
   host : ℕ → Bool → Plain
+  -- any other primitive value of the host, as a fraction, NaN, a bigint or a symbol: a number that names it, its kind, and
+  -- whether it is true in a test
+  other : ℕ → PrimitiveKind → Bool → Plain
 
 pub data ErrorKind : Type 0 where
   type_error reference_error : ErrorKind

@@ -147,6 +147,11 @@ pub give_both : {w : World} (f g : Value → M) (v u : Value) → Acts w (f v) (
 unfolding bind done
 give_both f g v u a = record { act = λ w2 h s z r. nothing_more (f v s) (nothing_more_right (g u z) (a.act w2 h s z r)) }
 
+-- a value that the new run alone goes on with
+pub give_right : {w : World} {m : M} (g : Value → M) (u : Value) → Acts w m (g u) → Acts w m (with_value (give u) g)
+unfolding bind done
+give_right g u a = record { act = λ w2 h s z r. nothing_more_right (g u z) (a.act w2 h s z r) }
+
 pub place_acts : {w : World} {m k : M} {f g : Place → M} → Acts w m k → ((w2 : World) (p q : Place) → Sub w w2 → SamePlace w2 p q → Acts w2 (f p) (g q)) → Acts w (with_place m f) (with_place k g)
 place_acts a b = bind_acts a (if_refers_acts b)
 

@@ -1,18 +1,26 @@
 -- Rows that differ in notes alone.
 use Rattle.std.proofs.Common.{◌≡◌, subst}
-use Rattle.std.specs.Prelude.{Bool, true, false}
+use Rattle.std.specs.Prelude.{Bool, true, false, ℕ, suc, pos, negsuc, nat_le}
 use Rattle.js_syntax.specs.declared.node_kind.NodeKind.{NodeKind as Kind}
+use Rattle.js_syntax.specs.declared.operator.UnaryOperator.{UnaryOperator}
+use Rattle.js_syntax.specs.declared.value.LiteralValue.{LiteralValue as Literal}
 use Rattle.js_syntax.specs.Facts.{is_core}
 use Rattle.js_syntax.specs.Node.{Note, Forest, nothing, node, absent, bare, nowhere}
+use Rattle.js_meaning.specs.Operator.{largest}
 use Rattle.js_meaning_near.specs.Near.{Row, fields, row_below}
 use Rattle.js_meaning_near.specs.Fit.{Part, whole, others, IfCore}
 use Rattle.js_meaning_near.specs.Avoid.{NodeInPlace, InPlace}
 
--- two rows of the same kinds, in the same places
-pub data Alike : Forest → Forest → Type 0 where
-  alike_nothing : Alike nothing nothing
-  alike_absent : {c d : Forest} → Alike c d → Alike (absent c) (absent d)
-  alike_node : {k : Kind} {n m : Note} {a b c d : Forest} → Alike a b → Alike c d → Alike (node k n a c) (node k m b d)
+-- two rows of the same kinds, in the same places; where signs may differ, unary minus on a number may stand for a negative one
+pub data Like : (signs : Bool) → Forest → Forest → Type 0 where
+  alike_nothing : {g : Bool} → Like g nothing nothing
+  alike_absent : {g : Bool} {c d : Forest} → Like g c d → Like g (absent c) (absent d)
+  alike_node : {g : Bool} {k : Kind} {n m : Note} {a b c d : Forest} → Like g a b → Like g c d → Like g (node k n a c) (node k m b d)
+  alike_signed : {i : ℕ} {n m l : Note} {c d : Forest} → nat_le (suc i) largest ≡ true → Like true c d
+      → Like true (node (Kind.Literal (Literal.Number (negsuc i))) n nothing c) (node (Kind.UnaryExpression UnaryOperator.UnaryNegation) m (node (Kind.Literal (Literal.Number (pos (suc i)))) l nothing nothing) d)
+
+abbrev pub Alike : Forest → Forest → Type 0
+Alike = Like false
 
 -- a row and what it is without its notes are alike
 pub alike_bare : (a : Forest) → Alike a (bare a)

@@ -1,28 +1,30 @@
 -- The law of contexts: near rows do the same, at any depth; and near modules run alike.
-use Rattle.std.proofs.Common.{append-nil, ◌≡◌, ℕ, zero, suc, List, [], ◌∷◌, Option, Some, None, refl, sym, subst}
-use Rattle.std.specs.Prelude.{Bool, true, false, if◌then◌else◌}
+use Rattle.std.proofs.Common.{append-nil, ◌≡◌, ℕ, zero, suc, pos, negsuc, List, [], ◌∷◌, Option, Some, None, refl, sym, subst}
+use Rattle.std.specs.Prelude.{Bool, true, false, nat_le, if◌then◌else◌}
 use Rattle.js_syntax.specs.declared.node_kind.NodeKind.{NodeKind as Kind}
 use Rattle.js_syntax.specs.declared.kind.FunctionKind.{FunctionKind}
 use Rattle.js_syntax.specs.declared.kind.FunctionKind.TheVariants as function_kind
 use Rattle.js_syntax.specs.declared.value.LiteralValue.{LiteralValue as Literal}
+use Rattle.js_syntax.specs.declared.operator.UnaryOperator.{UnaryOperator}
 use Rattle.js_syntax.specs.Facts.{is_core}
 use Rattle.js_syntax.specs.Node.{Note, Forest, nothing, node, absent}
-use Rattle.js_meaning.specs.Value.{Text, Slot, Env, this_name, Plain, Value, plain, literal_value}
+use Rattle.js_meaning.specs.Value.{Text, Slot, Env, this_name, Plain, number, Value, plain, literal_value}
 use Rattle.js_meaning.specs.Trace.{Act, Script, Ending, ended, Run}
-use Rattle.js_meaning.specs.State.{State, Export, export, Completion, normal, Out, M, done, seq, set_exports, stop, spend, spend_from}
+use Rattle.js_meaning.specs.State.{State, Export, export, Completion, normal, Out, M, done, seq, set_exports, stop, spend, spend_from, unknown, choose, give}
 use Rattle.js_meaning.specs.Scope.{behind, look, fill, start, module_decls}
 use Rattle.js_meaning_near.specs.Quiet.{EndsQuietly, gives_quietly, stops_quietly, Quiet}
 use Rattle.js_meaning.specs.Host.{Task, body, Enter}
+use Rattle.js_meaning.specs.Operator.{largest, unary_of}
 use Rattle.js_meaning.specs.Module.{Entry, entry_local, entry_import, entries, stars, requests, distinct, load_all, before, insert, sorted, if_bound, resolve_entries, exporting}
 use Rattle.js_meaning.specs.Node.{itself, to_call, for_typeof, run as run_under, Ask, take_all, Meaning, Parts, need, may, each, first_ask}
 use Rattle.js_meaning.specs.Meaning.{does, if_core, eval, take_this, run_code, enter_body, task_does, enter}
 use Rattle.js_meaning.specs.Run.{finish, finally, module_does, as_value, first_state, seen, run_within, run}
 use Rattle.js_meaning.specs.Kept.{keeps, Keeps, Kept, refines, Refines, Refined}
 use Rattle.js_meaning_near.specs.Names.{Status, loose, known, exactly, silent_function, Decls, Names, Usable}
-use Rattle.js_meaning_near.specs.Near.{ComesTo, comes_to, meaning, Silent, NoField, Change, statement_emptied, no_statement_emptied, near_silent, SameEffects, same_effects, LooseModule, loose_module, value_read, Row, fields, items, ReceiverOk, is_row, Near, near_nothing, near_absent, near_node, near_closure, near_hoisted, near_unread, near_known, near_uncovered, changed, leaves, Code, near_code, ExportsOk, NearModule, near_module, module_of}
+use Rattle.js_meaning_near.specs.Near.{ComesTo, comes_to, meaning, Silent, NoField, Change, statement_emptied, no_statement_emptied, near_silent, SameEffects, same_effects, LooseModule, loose_module, value_read, Row, fields, items, ReceiverOk, is_row, Near, near_nothing, near_absent, near_node, near_closure, near_hoisted, near_unread, near_known, near_uncovered, changed, leaves, Code, near_code, ExportsOk, NearModule, near_module, module_of, sign_applied}
 use Rattle.js_meaning_near.proofs.Worlds.{any_value, only_value, both, slack, In, here, Links, Rule, World, same, no_links, slack_links, no_both, not_in}
 use Rattle.js_meaning_near.proofs.Relations.{HoldsCell, SameSlot, same_local, same_import, as_many, CallEnds, call_gives, call_uncovered, call_out, At, at_nowhere, at_loose, at_live, at_known, at_dead, at_unread, Envs, Same, same_plain, SameOpt, same_none, same_some, SameAll, all_nil, SameCompletion, same_normal, same_gives, same_gives_all, same_refers, same_breaks, same_continues, same_returns, same_throws, SameExports, no_exports, an_export, SameAsk, same_run, same_value, same_take_all, same_declares, States, Follows, both_go, both_stop, old_stops, old_out, Acts, Means, envs_later, Tasks, same_body, same_turn, same_back, Enters, same_later, all_later}
-use Rattle.js_meaning_near.proofs.Acts.{bind_acts, give_both, stop_acts, unknown_acts, normal_acts, value_acts, seq_acts, set_exports_acts, spend_acts}
+use Rattle.js_meaning_near.proofs.Acts.{bind_acts, give_both, stop_acts, unknown_acts, normal_acts, value_acts, seq_acts, set_exports_acts, spend_acts, give_acts, give_right}
 use Rattle.js_meaning_near.proofs.Showing.{show_acts, shown_exports_acts, emit_acts}
 use Rattle.js_meaning_near.proofs.Scopes.{envs_bind, no_envs, loose_envs, declare_acts, fill_acts, fill_known, known_value_acts, known_typeof_acts}
 use Rattle.js_meaning_near.specs.Wasted.{drops, Wastes, wastes_nothing, wastes_part, wastes_silent, wastes_known, wastes_call}
@@ -58,12 +60,25 @@ unfolding need may eval
 known_does x v e f E i j k l a b c d r s y g same_declares = give_both (λ v. fill (look e x) v (done normal)) (λ v. fill (look f x) v (done normal)) (literal_value v) (literal_value v) (fill_known (literal_value v) y g normal_acts)
 known_does x v e f E i j k l a b c d r s y g _ = unknown_acts
 
+-- on a positive number that arithmetic covers unary minus gives the negative one
+minus_acts : {w : World} (i : ℕ) (b : Bool) → b ≡ true → Acts w (give (plain (number (negsuc i)))) (choose b (give (plain (number (negsuc i)))) unknown)
+unfolding choose
+minus_acts i true covered = give_acts same_plain
+minus_acts i false covered = absurd cc
+
+sign_acts : {w : World} {q z : Ask} (i : ℕ) (E : Enter) (e f : Env) (m : Note) (a b r : Forest) → nat_le (suc i) largest ≡ true → SameAsk w q z
+    → Acts w (meaning E (Kind.Literal (Literal.Number (negsuc i))) a q e) (meaning E (Kind.UnaryExpression UnaryOperator.UnaryNegation) (node (Kind.Literal (Literal.Number (pos (suc i)))) m b r) z f)
+unfolding need eval choose
+sign_acts i E e f m a b r covered same_value = give_right (unary_of UnaryOperator.UnaryNegation) (plain (number (pos (suc i)))) (minus_acts i (nat_le (suc i) largest) covered)
+sign_acts i E e f m a b r covered _ = unknown_acts
+
 no_statement_acts : {w : World} {q z : Ask} (E : Enter) (e f : Env) (a b : Forest) → NoField a → SameAsk w q z → Acts w (meaning E Kind.ExpressionStatement a q e) (meaning E Kind.EmptyStatement b z f)
 no_statement_acts E e f a b x same_run = alone_nothing (no_expression E a _ x)
 no_statement_acts E e f a b x _ = unknown_acts
 
 change_means : {st : Names} {k l : Kind} {a b : Forest} (E : Enter) → Change st k a l b → Means st (meaning E k a) (meaning E l b)
 change_means E (value_read {x = x} {v = v} {a = a} {b = b} y g) = record { mean = λ {w} {e} {f} r s. read_acts x v e f E a b (subst (λ t. At w t (look e x) (look f x)) y (r.at x)) g s }
+change_means E (sign_applied {i = i} {m = m} {a = a} {b = b} {r = c} y) = record { mean = λ {w} {e} {f} r s. sign_acts i E e f m a b c y s }
 change_means E (no_statement_emptied {a = a} {b = b} x) = record { mean = λ {w} {e} {f} r s. no_statement_acts E e f a b x s }
 change_means E (statement_emptied {n = n} {r = c} {b = b} x) = record { mean = λ r s. emptied_acts E n c b x r s }
 

@@ -9,14 +9,14 @@ use Rattle.js_syntax.specs.declared.operator.LogicalOperator.TheVariants as logi
 use Rattle.js_syntax.specs.declared.operator.UpdateOperator.{UpdateOperator}
 use Rattle.js_syntax.specs.declared.operator.AssignmentOperator.{AssignmentOperator}
 use Rattle.js_syntax.specs.declared.operator.AssignmentOperator.TheVariants as assignment
-use Rattle.js_meaning.specs.Value.{Text, Env, Value, plain, host, type_error, given_own}
+use Rattle.js_meaning.specs.Value.{Text, Env, Value, plain, host, type_error, given_own, Shown}
 use Rattle.js_meaning.specs.Trace.{Act, Move, call_own, set_global_to, remove_global, set_import_to, answer, refuse, Ending}
 use Rattle.js_meaning.specs.State.{M, Completion, Place}
 use Rattle.js_meaning.specs.Operator.{is_object, is_boolean}
 use Rattle.js_meaning.specs.Host.{Loop, while_loop, do_loop, for_loop, Enter, call_back, moves_end, answered, play, host_moves, consult, only, report}
 use Rattle.js_meaning.specs.Reference.{global_named, get_member, set_member, get_place, put_place}
 use Rattle.js_meaning.specs.Node.{Meaning, Parts}
-use Rattle.js_meaning.specs.Expression.{call_value, construct_value, binary_value, logical_value, then_put, compound, short, assign, update_gives, update_place}
+use Rattle.js_meaning.specs.Expression.{call_value, construct_value, ask_host, binary_value, logical_value, then_put, compound, short, assign, update_gives, update_place}
 use Rattle.js_meaning.specs.Statement.{enter_if, test_for, test_then, turn_does}
 use Rattle.js_meaning_near.specs.Names.{Names}
 use Rattle.js_meaning_near.specs.Near.{fields, Near}
@@ -25,7 +25,7 @@ use Rattle.js_meaning_near.proofs.Relations.{Envs, Same, same_plain, same_closur
 use Rattle.js_meaning_near.proofs.Acts.{acts_later, bind_acts, done_acts, stop_acts, unknown_acts, choose_acts, give_acts, normal_acts, value_acts, raise_acts, set_global_acts, set_import_acts, moves_acts, set_moves_acts}
 use Rattle.js_meaning_near.proofs.Showing.{show_acts, show_all_acts, emit_acts, resolve_acts, resolve_all_acts, resolve_maybe_acts}
 use Rattle.js_meaning_near.proofs.Scopes.{slot_value_acts, global_there_acts, assign_slot_acts, assign_global_acts, copy_acts}
-use Rattle.js_meaning_near.proofs.Operators.{truthy_same, object_same, boolean_same, goes_right_same, number_acts, binary_of_acts, updated_acts}
+use Rattle.js_meaning_near.proofs.Operators.{truthy_same, object_same, boolean_same, other_same, either_other, goes_right_same, number_acts, binary_of_acts, updated_acts}
 use Rattle.js_meaning_near.proofs.Rows.{same_now, SomeMeans, no_part, part, Fields, need_acts, may_acts, or_undefined_acts, after_turn_acts}
 
 pub only_acts : {w : World} {m k : M} (test : Value → Bool) → ((w2 : World) (v u : Value) → Same w2 v u → test v ≡ test u) → Acts w m k → Acts w (only test m) (only test k)
@@ -97,11 +97,14 @@ module _ (E : Enter) (enters : Enters E) where
   call_acts (same_error l) o q = raise_acts type_error
 
   pub construct_acts : {w : World} {v u : Value} {vs us : List Value} → Same w v u → SameAll w vs us → Acts w (construct_value E v vs) (construct_value E u us)
-  construct_acts q qs = show_acts q (λ x. show_all_acts qs (λ xs. only_acts is_object (λ w2 v u q. object_same q) (consult_acts (Act.construct x xs))))
+  construct_acts q qs = choose_acts (other_same q) unknown_acts (show_acts q (λ x. show_all_acts qs (λ xs. only_acts is_object (λ w2 v u q. object_same q) (consult_acts (Act.construct x xs)))))
+
+  ask_host_acts : {w : World} {v u x y : Value} (act : Shown → Shown → Act) → Same w v u → Same w x y → Acts w (ask_host E act v x) (ask_host E act u y)
+  ask_host_acts act p q = show_acts p (λ x. show_acts q (λ y. only_acts is_boolean (λ w2 v u q. boolean_same q) (consult_acts (act x y))))
 
   pub binary_acts : {w : World} {v u x y : Value} (o : BinaryOperator) → Same w v u → Same w x y → Acts w (binary_value E o v x) (binary_value E o u y)
-  binary_acts binary.In p q = show_acts p (λ x. show_acts q (λ y. only_acts is_boolean (λ w2 v u q. boolean_same q) (consult_acts (Act.asks_in x y))))
-  binary_acts binary.Instanceof p q = show_acts p (λ x. show_acts q (λ y. only_acts is_boolean (λ w2 v u q. boolean_same q) (consult_acts (Act.asks_instanceof x y))))
+  binary_acts binary.In p q = choose_acts (either_other p q) unknown_acts (ask_host_acts Act.asks_in p q)
+  binary_acts binary.Instanceof p q = choose_acts (either_other p q) unknown_acts (ask_host_acts Act.asks_instanceof p q)
   binary_acts o p q = binary_of_acts o p q
 
   -- places

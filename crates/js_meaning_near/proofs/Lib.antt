@@ -23,3 +23,4 @@ pub mod Known
 pub mod Empty
 pub mod Unused
 pub mod Steady
+pub mod Signed

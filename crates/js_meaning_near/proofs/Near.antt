@@ -15,7 +15,7 @@ use Rattle.js_meaning_near.specs.Avoid.{InPlace}
 use Rattle.js_meaning_near.proofs.Contexts.{near_refines}
 use Rattle.js_meaning_near.proofs.Fit.{decls_to, same_copied, fits_map}
 use Rattle.js_meaning_near.proofs.Avoid.{fits_clear, same_module}
-use Rattle.js_meaning_near.proofs.Alike.{Alike, alike_nothing, alike_absent, alike_node, alike_bare, alike_back, same_alike, place_alike}
+use Rattle.js_meaning_near.proofs.Alike.{Alike, Like, alike_nothing, alike_absent, alike_node, alike_bare, alike_back, same_alike, place_alike}
 use Rattle.js_meaning_near.proofs.Names.{first_alike, below_alike, row_alike, name_alike, own_alike, lexical_alike, declared_alike, function_alike, module_alike, keys_alike, entries_alike, stars_alike, requests_alike}
 
 -- what a node reads off the row below it
@@ -27,22 +27,22 @@ heads_alike _ t s = tt
 
 -- functions
 
-code_alike : (st : Names) (f : FunctionKind) {a b : Forest} → Alike a b → FunctionOk st f a → Near fields (within_code st f a) (behind a) (behind b) → Code (around_code st f a) f a b
+pub code_alike : {g : Bool} (st : Names) (f : FunctionKind) {a b : Forest} → Like g a b → FunctionOk st f a → Near fields (within_code st f a) (behind a) (behind b) → Code (around_code st f a) f a b
 code_alike st function_kind.Declaration s y n = near_code (decls_to _ (function_alike function_kind.Declaration s)) y.1 (row_alike s) n
 code_alike st function_kind.Expression s y n = near_code (decls_to _ (function_alike function_kind.Expression s)) y.1 (row_alike s) n
 code_alike st function_kind.Arrow s y n = near_code (decls_to _ (function_alike function_kind.Arrow s)) y.1 (row_alike s) n
 
 -- nodes of one kind, where what lies below is near and what follows is
 
-near_alike : {p : Row} {st : Names} {a b c d : Forest} (k : Kind) (n m : Note) (core : Bool) → is_core k ≡ core → Alike a b
+pub near_alike : {g : Bool} {p : Row} {st : Names} {a b c d : Forest} (k : Kind) (n m : Note) (core : Bool) → is_core k ≡ core → Like g a b → ((t : Names) → Heads k t a b)
     → IfCore core (NodeFits p st k a (λ q r t. Near r t (part_of q a) (part_of q b))) → Near p st c d → Near p st (node k n a c) (node k m b d)
-near_alike k n m false e s y o = near_uncovered e o
-near_alike {st = st} (Kind.Function function_kind.Declaration pure) n m true e s y o = near_hoisted (name_alike s) y.0.0 (code_alike st function_kind.Declaration s y.0 y.1) o
-near_alike {st = st} (Kind.Function function_kind.Expression pure) n m true e s y o =
+near_alike k n m false e s heads y o = near_uncovered e o
+near_alike {st = st} (Kind.Function function_kind.Declaration pure) n m true e s heads y o = near_hoisted (name_alike s) y.0.0 (code_alike st function_kind.Declaration s y.0 y.1) o
+near_alike {st = st} (Kind.Function function_kind.Expression pure) n m true e s heads y o =
     near_closure tt (own_alike function_kind.Expression s) (decls_to st (ap (named_so (waiting true)) (own_alike function_kind.Expression s))) y.0.0 (code_alike st function_kind.Expression s y.0 y.1) o
-near_alike {st = st} (Kind.Function function_kind.Arrow pure) n m true e s y o =
+near_alike {st = st} (Kind.Function function_kind.Arrow pure) n m true e s heads y o =
     near_closure tt (own_alike function_kind.Arrow s) (decls_to st (ap (named_so (waiting true)) (own_alike function_kind.Arrow s))) y.0.0 (code_alike st function_kind.Arrow s y.0 y.1) o
-near_alike {st = st} {a = a} k n m true e s y o = near_node y.0 (decls_to st (declared_alike k s)) (heads_alike k (names_after st (declared k a)) s) y.1 o
+near_alike {st = st} {a = a} k n m true e s heads y o = near_node y.0 (decls_to st (declared_alike k s)) (heads (names_after st (declared k a))) y.1 o
 
 -- rows
 
@@ -53,7 +53,7 @@ rows_near others p st (alike_absent r) y = rows_near whole p st r y
 rows_near others p st (alike_node o r) y = rows_near whole p st r y
 rows_near whole p st (alike_absent r) y = near_absent (rows_near whole p st r y)
 rows_near whole p st (alike_node {k = k} {n = n} {m = m} {a = a} o r) y =
-    near_alike k n m (is_core k) refl o (fits_map p st a k (is_core k) (λ q t u z. rows_near q t u o z) y.0) (rows_near whole p st r y.1)
+    near_alike k n m (is_core k) refl o (λ t. heads_alike k t o) (fits_map p st a k (is_core k) (λ q t u z. rows_near q t u o z) y.0) (rows_near whole p st r y.1)
 
 -- modules, by their statements
 

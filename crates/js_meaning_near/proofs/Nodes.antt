@@ -16,7 +16,7 @@ use Rattle.js_meaning.specs.Expression.{receiver_of, fill_own, function_value, w
 use Rattle.js_meaning.specs.Statement.{for_does, catch_does}
 use Rattle.js_meaning.specs.Meaning.{default_does, does}
 use Rattle.js_meaning_near.specs.Names.{known, silent_function, unread, Names, Fillable, FillableIf, Decls, Copied, declared, names_below}
-use Rattle.js_meaning_near.specs.Near.{Idle, idle_empty, idle_expression, idle_no_expression, idle_function, idle_declarator, idle_bare_declarator, idle_cut_declarator, idle_declaration, statement_emptied, no_statement_emptied, value_read, SilentCode, near_silent, Row, fields, switch_fields, items, row_below, HoldsCases, Okay, key_of, keys, Heads, IsClosure, is_calm, Near, comes_to, near_nothing, near_absent, near_node, near_closure, near_hoisted, near_unread, near_known, near_uncovered, changed, same_effects, leaves, Code}
+use Rattle.js_meaning_near.specs.Near.{Idle, idle_empty, idle_expression, idle_no_expression, idle_function, idle_declarator, idle_bare_declarator, idle_cut_declarator, idle_declaration, statement_emptied, no_statement_emptied, value_read, SilentCode, near_silent, Row, fields, switch_fields, items, row_below, HoldsCases, Okay, key_of, keys, Heads, IsClosure, is_calm, Near, comes_to, near_nothing, near_absent, near_node, near_closure, near_hoisted, near_unread, near_known, near_uncovered, changed, same_effects, leaves, Code, sign_applied}
 use Rattle.js_meaning_near.proofs.Worlds.{World}
 use Rattle.js_meaning_near.proofs.Relations.{At, Envs, Same, same_plain, same_closure, same_object, same_array, SameContent, same_empty, same_element, same_property, SameAll, all_nil, all_cons, same_gives, same_refers, same_at_member, same_breaks, same_continues, same_returns, same_throws, SameAsk, same_run, same_value, same_place, same_take, same_take_all, same_declares, same_collect, same_entry, same_matches, Acts, Means, same_turn, Enters, envs_later, same_later, all_later}
 use Rattle.js_meaning_near.proofs.Acts.{acts_later, bind_acts, done_acts, unknown_acts, choose_acts, give_acts, normal_acts, seq_acts, receiver_acts, value_acts, all_acts, place_acts, identity_acts, identity_left, identity_right}
@@ -98,6 +98,7 @@ default_starts i j (changed (no_statement_emptied q) c) y r x z = x
 default_starts i j (changed (value_read q v) c) y r x z = x
 default_starts {f = f} {k = k} i j (same_effects {l = l} {m = o} {b = b} {d = d} q t u) y r x z = rw (calm_default l o b d j f k q.new_calm) x
 default_starts {e = e} {f = f} {m = m} {k = k} i j (comes_to {k = g} {l = l} {n = n} {m = o} {a = a} {b = b} {c = c} {d = d} q t u) y r x z = rw (calm_default g n a c i e m q.old_calm, calm_default l o b d j f k q.new_calm) x
+default_starts i j (changed (sign_applied q) c) y r x z = x
 
 -- a switch's cases start in a scope of their own
 abbrev pub Starts : Row → Type 0
@@ -151,6 +152,7 @@ start_acts s (changed (no_statement_emptied q) c) r x = start_acts s c r x
 start_acts s (changed (value_read q v) c) r x = start_acts s c r x
 start_acts {e = e} {f = f} {m = m} {k = k} s (same_effects {l = l} {b = b} {d = d} q t u) r x = rw (calm_item l b (start b f) f (start d f k) q.new_calm) (start_acts s u r x)
 start_acts {e = e} {f = f} {m = m} {k = k} s (comes_to {k = g} {l = l} {a = a} {b = b} {c = c} {d = d} q t u) r x = rw (calm_item g a (start a e) e (start c e m) q.old_calm, calm_item l b (start b f) f (start d f k) q.new_calm) (start_acts s u r x)
+start_acts s (changed (sign_applied q) c) r x = start_acts s c r x
 start_acts s (leaves i c) r x = idle_starts i r (start_acts s c r x)
 
 -- what a node is asked that may be a statement or an expression
@@ -174,6 +176,7 @@ first_ask_same (changed (no_statement_emptied q) c) = same_now
 first_ask_same (changed (value_read q v) c) = same_now
 first_ask_same (same_effects {l = l} q t u) = rw (calm_ask l q.new_calm) same_now
 first_ask_same (comes_to {k = k} {l = l} q t u) = rw (calm_ask k q.old_calm, calm_ask l q.new_calm) same_now
+first_ask_same (changed (sign_applied q) c) = same_now
 
 -- what literals hold
 
@@ -280,6 +283,7 @@ default_acts (changed (no_statement_emptied q) c) y x r = default_value y x r
 default_acts (changed (value_read q v) c) y x r = default_value y x r
 default_acts {m = m} {k = k} {e = e} {f = f} (same_effects {l = l} {m = o} {b = b} {d = d} q t u) y x r = rw (calm_does l o b d k f q.new_calm) (default_value y x r)
 default_acts {m = m} {k = k} {e = e} {f = f} (comes_to {k = g} {l = l} {n = n} {m = o} {a = a} {b = b} {c = c} {d = d} q t u) y x r = rw (calm_does g n a c m e q.old_calm, calm_does l o b d k f q.new_calm) (default_value y x r)
+default_acts (changed (sign_applied q) c) y x r = default_value y x r
 
 catch_acts : {w : World} {s t : Names} {ms ks : Parts} {e f : Env} {v u : Value} (a b : Forest) → Decls s (declared Kind.CatchClause a) (declared Kind.CatchClause b) t → Fields t ms ks → Envs w s e f → Same w v u → Acts w (catch_does a ms v e) (catch_does b ks u f)
 catch_acts a b d c r q = declare_acts d r (λ w2 e2 f2 i r2. may_acts c (λ m k ns us x c. need_acts c (λ m k ns us y c. seq_acts (take_maybe_acts x r2 (same_later i q)) (y.mean r2 same_run))))

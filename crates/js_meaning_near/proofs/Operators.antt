@@ -9,9 +9,9 @@ use Rattle.js_syntax.specs.declared.operator.BinaryOperator.{BinaryOperator}
 use Rattle.js_syntax.specs.declared.operator.BinaryOperator.TheVariants as binary
 use Rattle.js_syntax.specs.declared.operator.LogicalOperator.{LogicalOperator}
 use Rattle.js_syntax.specs.declared.operator.LogicalOperator.TheVariants as logical
-use Rattle.js_meaning.specs.Value.{Text, Plain, undefined, null, boolean, number, text, host, Value, plain}
+use Rattle.js_meaning.specs.Value.{Text, Plain, undefined, null, boolean, number, text, host, other, Value, plain}
 use Rattle.js_meaning.specs.State.{M, give}
-use Rattle.js_meaning.specs.Operator.{is_object, is_boolean, is_nullish, is_negative, truthy, type_name, whole, signed, on_numbers, on_number, plain_text, joined, plus_plain, plus, strictly_equal, compare, same_type, loosely, answer_is, answer_not, binary_of, unary_of, updated, goes_right}
+use Rattle.js_meaning.specs.Operator.{is_object, is_boolean, is_nullish, is_other, is_negative, truthy, type_name, whole, signed, on_numbers, on_number, plain_text, joined, plus_plain, plus, strictly_equal, compare, same_type, loosely, answer_is, answer_not, known_binary, binary_of, unary_of, updated, goes_right}
 use Rattle.js_meaning_near.proofs.Worlds.{World, Links}
 use Rattle.js_meaning_near.proofs.Relations.{Same, same_plain, same_closure, same_object, same_array, same_error, Follows, Acts, same_later}
 use Rattle.js_meaning_near.proofs.Acts.{unknown_acts, choose_acts, give_acts}
@@ -46,6 +46,13 @@ nullish_same (same_closure l d r) = refl
 nullish_same (same_object l c) = refl
 nullish_same (same_array l c) = refl
 nullish_same (same_error l) = refl
+
+pub other_same : {w : World} {v u : Value} → Same w v u → is_other v ≡ is_other u
+other_same same_plain = refl
+other_same (same_closure l d r) = refl
+other_same (same_object l c) = refl
+other_same (same_array l c) = refl
+other_same (same_error l) = refl
 
 type_name_same : {w : World} {v u : Value} → Same w v u → type_name v ≡ type_name u
 type_name_same same_plain = refl
@@ -124,6 +131,7 @@ plain_type : {w : World} {x y : Value} (p : Plain) → Same w x y → same_type 
 plain_type undefined q = refl
 plain_type null q = refl
 plain_type (host h c) q = object_same q
+plain_type (other i c t) q = refl
 plain_type (boolean a) same_plain = refl
 plain_type (boolean a) (same_closure l d r) = refl
 plain_type (boolean a) (same_object l c) = refl
@@ -153,21 +161,27 @@ at_answer {w = w} {f = f} a b e k = subst (λ c. Acts w (f a) (f c)) e (k a)
 loosely_acts : {w : World} {v u x y : Value} (f : Bool → M) → Same w v u → Same w x y → ((b : Bool) → Acts w (f b) (f b)) → Acts w (loosely v x f) (loosely u y f)
 loosely_acts f p q k = choose_acts (or_same (nullish_same p) (nullish_same q)) (at_answer _ _ (and_same (nullish_same p) (nullish_same q)) k) (choose_acts (same_type_same p q) (compare_acts p q k) unknown_acts)
 
+known_acts : {w : World} {v u x y : Value} (o : BinaryOperator) → Same w v u → Same w x y → Acts w (known_binary o v x) (known_binary o u y)
+known_acts binary.Equality p q = loosely_acts answer_is p q answer_is_acts
+known_acts binary.Inequality p q = loosely_acts answer_not p q answer_not_acts
+known_acts binary.StrictEquality p q = compare_acts p q answer_is_acts
+known_acts binary.StrictInequality p q = compare_acts p q answer_not_acts
+known_acts binary.LessThan p q = numbers_acts p q (λ a b. answer_is_acts (int_lt a b))
+known_acts binary.LessEqualThan p q = numbers_acts p q (λ a b. answer_is_acts (int_le a b))
+known_acts binary.GreaterThan p q = numbers_acts p q (λ a b. answer_is_acts (int_lt b a))
+known_acts binary.GreaterEqualThan p q = numbers_acts p q (λ a b. answer_is_acts (int_le b a))
+known_acts binary.Addition p q = plus_acts p q
+known_acts binary.Subtraction p q = numbers_acts p q (λ a b. whole_acts (a -ℤ b))
+known_acts binary.Multiplication p q = numbers_acts p q (λ a b. signed_acts (is_negative a || is_negative b) (a *ℤ b))
+known_acts binary.Division p q = numbers_acts p q (λ a b. choose_acts refl unknown_acts (signed_acts (is_negative b) (int_div a b)))
+known_acts binary.Remainder p q = numbers_acts p q (λ a b. choose_acts refl unknown_acts (signed_acts (is_negative a) (int_rem a b)))
+known_acts _ p q = unknown_acts
+
+pub either_other : {w : World} {v u x y : Value} → Same w v u → Same w x y → (is_other v || is_other x) ≡ (is_other u || is_other y)
+either_other p q = or_same (other_same p) (other_same q)
+
 pub binary_of_acts : {w : World} {v u x y : Value} (o : BinaryOperator) → Same w v u → Same w x y → Acts w (binary_of o v x) (binary_of o u y)
-binary_of_acts binary.Equality p q = loosely_acts answer_is p q answer_is_acts
-binary_of_acts binary.Inequality p q = loosely_acts answer_not p q answer_not_acts
-binary_of_acts binary.StrictEquality p q = compare_acts p q answer_is_acts
-binary_of_acts binary.StrictInequality p q = compare_acts p q answer_not_acts
-binary_of_acts binary.LessThan p q = numbers_acts p q (λ a b. answer_is_acts (int_lt a b))
-binary_of_acts binary.LessEqualThan p q = numbers_acts p q (λ a b. answer_is_acts (int_le a b))
-binary_of_acts binary.GreaterThan p q = numbers_acts p q (λ a b. answer_is_acts (int_lt b a))
-binary_of_acts binary.GreaterEqualThan p q = numbers_acts p q (λ a b. answer_is_acts (int_le b a))
-binary_of_acts binary.Addition p q = plus_acts p q
-binary_of_acts binary.Subtraction p q = numbers_acts p q (λ a b. whole_acts (a -ℤ b))
-binary_of_acts binary.Multiplication p q = numbers_acts p q (λ a b. signed_acts (is_negative a || is_negative b) (a *ℤ b))
-binary_of_acts binary.Division p q = numbers_acts p q (λ a b. choose_acts refl unknown_acts (signed_acts (is_negative b) (int_div a b)))
-binary_of_acts binary.Remainder p q = numbers_acts p q (λ a b. choose_acts refl unknown_acts (signed_acts (is_negative a) (int_rem a b)))
-binary_of_acts _ p q = unknown_acts
+binary_of_acts o p q = choose_acts (either_other p q) unknown_acts (known_acts o p q)
 
 not_acts : {w : World} (a b : Bool) → a ≡ b → Acts w (answer_not a) (answer_not b)
 not_acts a b e = at_answer a b e answer_not_acts

@@ -5,6 +5,7 @@ use Rattle.js_syntax.specs.declared.kind.VariableKind.{VariableKind}
 use Rattle.js_syntax.specs.declared.kind.VariableKind.TheVariants as variable
 use Rattle.js_syntax.specs.declared.value.Key.{Key}
 use Rattle.js_syntax.specs.declared.value.Key.TheVariants.{Name as key_name, Text as key_text, Number as key_number, Below as key_below}
+use Rattle.js_syntax.specs.declared.operator.BinaryOperator.TheVariants as binary
 use Rattle.js_meaning.specs.Value.{Text, Env, Value, boolean}
 use Rattle.js_meaning.specs.State.{M, Completion}
 use Rattle.js_meaning.specs.Node.{Ask, now, Meaning, Parts, need, may, each, values, all_values, value_or_undefined, ask_maybe}
@@ -16,7 +17,7 @@ use Rattle.js_meaning_near.specs.Near.{Row, fields, switch_fields, items}
 use Rattle.js_meaning_near.proofs.Worlds.{World, Sub, same, later}
 use Rattle.js_meaning_near.proofs.Relations.{Envs, Same, same_plain, same_closure, same_object, same_array, same_error, SameAll, all_nil, all_cons, SameCompletion, same_normal, same_gives, same_gives_all, same_refers, same_breaks, same_continues, same_returns, same_throws, SameAsk, same_run, same_value, same_take, same_matches, Acts, Means, envs_later, same_later, completion_later, ask_later}
 use Rattle.js_meaning_near.proofs.Acts.{acts_later, bind_acts, done_acts, unknown_acts, choose_acts, give_acts, normal_acts, seq_acts, value_acts}
-use Rattle.js_meaning_near.proofs.Operators.{compare_acts}
+use Rattle.js_meaning_near.proofs.Operators.{other_same, binary_of_acts}
 
 pub same_now : {w : World} → SameAsk w now now
 same_now = same_value
@@ -110,7 +111,7 @@ take_each_acts (fields_more (part m) c) (all_cons q qs) r = seq_acts (m.mean r (
 -- keys
 
 key_acts : {w : World} {st : Names} {ms ks : Parts} {e f : Env} {j k : Value → M} (key : Key) → Fields st ms ks → Envs w st e f → ((w2 : World) (v u : Value) → Sub w w2 → Same w2 v u → Acts w2 (j v) (k u)) → Acts w (member_key key ms e j) (member_key key ks f k)
-key_acts key_below c r b = need_acts c (λ m k ns ls x c. value_acts (x.mean r same_now) b)
+key_acts key_below c r b = need_acts c (λ m k ns ls x c. value_acts (x.mean r same_now) (λ w2 v u h q. choose_acts (other_same q) unknown_acts (b w2 v u h q)))
 key_acts {w = w} (key_name s) c r b = b w _ _ (same w) same_plain
 key_acts {w = w} (key_text s) c r b = b w _ _ (same w) same_plain
 key_acts {w = w} (key_number n) c r b = b w _ _ (same w) same_plain
@@ -221,7 +222,7 @@ choose_case_acts {w = w} (fields_more (part m) c) q r a =
 
 pub case_test_acts : {w : World} {st : Names} {o p : Option Meaning} {e f : Env} {v u : Value} → Same w v u → SomeMeans st o p → Envs w st e f → Acts w (case_test v o e) (case_test u p f)
 case_test_acts q no_part r = give_acts same_plain
-case_test_acts q (part m) r = value_acts (m.mean r same_now) (λ w2 v u h x. compare_acts (same_later h q) x (λ b. give_acts same_plain))
+case_test_acts q (part m) r = value_acts (m.mean r same_now) (λ w2 v u h x. binary_of_acts binary.StrictEquality (same_later h q) x)
 
 -- declarators
 

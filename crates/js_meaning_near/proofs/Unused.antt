@@ -1,6 +1,6 @@
 -- Statements whose values nobody takes: they do no more than their parts.
 use Rattle.std.proofs.Common.{◌≡◌, List, [], ◌∷◌, ◌++◌, Option, Some, None, refl, sym, ap, subst, ◌∙◌, arith, append_assoc}
-use Rattle.std.specs.Prelude.{Bool, true, false}
+use Rattle.std.specs.Prelude.{Bool, true, false, ◌||◌}
 use Rattle.js_syntax.specs.declared.node_kind.NodeKind.{NodeKind as Kind}
 use Rattle.js_syntax.specs.declared.operator.BinaryOperator.{BinaryOperator}
 use Rattle.js_syntax.specs.declared.operator.BinaryOperator.TheVariants as binary
@@ -9,8 +9,8 @@ use Rattle.js_syntax.specs.declared.value.LiteralValue.{LiteralValue as Literal}
 use Rattle.js_syntax.specs.Node.{Note, Forest, nothing, node, absent}
 use Rattle.js_meaning.specs.Value.{Text, Env, Value, undef, array, literal_value}
 use Rattle.js_meaning.specs.Trace.{Event}
-use Rattle.js_meaning.specs.State.{State, Completion, normal, gives, gives_all, refers, breaks, continues, returns, throws, Out, goes, stops, M, more, go_on, bind, done, stop, give, if_gives, with_receiver, with_value, if_gives_all, with_all, identity}
-use Rattle.js_meaning.specs.Operator.{compare, unary_of}
+use Rattle.js_meaning.specs.State.{State, Completion, normal, gives, gives_all, refers, breaks, continues, returns, throws, Out, goes, stops, M, more, go_on, bind, done, stop, unknown, choose, give, if_gives, with_receiver, with_value, if_gives_all, with_all, identity}
+use Rattle.js_meaning.specs.Operator.{is_other, answer_is, compare, unary_of}
 use Rattle.js_meaning.specs.Host.{Enter}
 use Rattle.js_meaning.specs.Node.{run, now, Meaning, Parts, need, values}
 use Rattle.js_meaning.specs.Expression.{in_turn, array_content, binary_value, call_value}
@@ -171,9 +171,22 @@ unfolding eval
 one_part E k n a f h = wastes_part h
 
 -- S3, S28: a comparison with a literal, negated, of which nobody takes the value
+
+-- with a primitive of the host nothing is said of it
+abbrev compares_if : Bool → Value → Value → M
+compares_if b u v = choose b unknown (compare u v answer_is)
+
+if_soon : (b : Bool) (u v : Value) (s : State) → EndsSoon s (with_value (with_value (compares_if b u v) (unary_of unary.LogicalNot)) over s)
+unfolding bind done over compare choose stop
+if_soon true u v s = stops_soon
+if_soon false u v s = ends_soon (record { budget = refl; fresh = omega arith; store = λ i h. refl; globals = λ x. refl; imports = λ x y. refl; shown = refl; moves = refl; exports = refl; stars = refl })
+
 compared_soon : (E : Enter) (v : Literal) (u : Value) (s : State) → EndsSoon s (with_value (with_value (with_value (give (literal_value v)) (binary_value E binary.StrictEquality u)) (unary_of unary.LogicalNot)) over s)
-unfolding bind done over compare
-compared_soon E v u s = ends_soon (record { budget = refl; fresh = omega arith; store = λ i h. refl; globals = λ x. refl; imports = λ x y. refl; shown = refl; moves = refl; exports = refl; stars = refl })
+unfolding bind done
+compared_soon E v u s =
+    let b = is_other u || is_other (literal_value v) in
+    let x = compares_if b u (literal_value v) s in
+    subst (λ o. EndsSoon s (with_value (with_value (λ r. o) (unary_of unary.LogicalNot)) over s)) (sym (more_nothing x)) (if_soon b u (literal_value v) s)
 
 compared : (E : Enter) (env : Env) (k : Kind) (a : Forest) (v : Literal) (n m i j : Note) (ls : List Text)
     → with_value (meaning E k a now env) (λ u. with_value (with_value (with_value (give (literal_value v)) (binary_value E binary.StrictEquality u)) (unary_of unary.LogicalNot)) over)

@@ -1,5 +1,5 @@
 -- Which rows of nodes are near one another: the new one is the old one, but for changes that no run shows.
-use Rattle.std.specs.Prelude.{Bool, true, false, List, [], ◌∷◌, Option, Some, None, ◌≡◌}
+use Rattle.std.specs.Prelude.{Bool, true, false, ℕ, suc, pos, negsuc, nat_le, List, [], ◌∷◌, Option, Some, None, ◌≡◌}
 use Rattle.js_syntax.specs.declared.node_kind.NodeKind.{NodeKind as Kind}
 use Rattle.js_syntax.specs.declared.kind.FunctionKind.{FunctionKind}
 use Rattle.js_syntax.specs.declared.kind.FunctionKind.TheVariants as function_kind
@@ -13,6 +13,8 @@ use Rattle.js_meaning.specs.Scope.{waiting, named_so, first_of, behind, first_na
 use Rattle.js_meaning.specs.Host.{Enter}
 use Rattle.js_meaning.specs.Module.{Entry, entry_local, entry_import, entries, stars, requests}
 use Rattle.js_meaning.specs.Node.{Ask, run, Meaning, now}
+use Rattle.js_syntax.specs.declared.operator.UnaryOperator.{UnaryOperator}
+use Rattle.js_meaning.specs.Operator.{largest}
 use Rattle.js_meaning.specs.Expression.{static_key}
 use Rattle.js_meaning.specs.Meaning.{does, if_core, enter_body, eval}
 use Rattle.js_meaning_near.specs.Quiet.{Quiet, Leads}
@@ -59,6 +61,8 @@ pub data Change (st : Names) : Kind → Forest → Kind → Forest → Type 0 wh
   no_statement_emptied : {a b : Forest} → NoField a → Change st Kind.ExpressionStatement a Kind.EmptyStatement b
   -- a read of a name that holds a known value
   value_read : {x : Text} {p : Plain} {v : Literal} {a b : Forest} → st x ≡ known (exactly p) → literal_value v ≡ plain p → Change st (Kind.ReferenceName x) a (Kind.Literal v) b
+  -- a negative number as unary minus on its magnitude (13.5.5), where arithmetic covers it
+  sign_applied : {i : ℕ} {m : Note} {a b r : Forest} → nat_le (suc i) largest ≡ true → Change st (Kind.Literal (Literal.Number (negsuc i))) a (Kind.UnaryExpression UnaryOperator.UnaryNegation) (node (Kind.Literal (Literal.Number (pos (suc i)))) m b r)
 
 -- expressions that start nothing and declare nothing, and that don't ask what they are wanted for
 abbrev pub is_blunt : Kind → Bool

@@ -8,7 +8,8 @@
 //! Silence comes in as a premise on runs (`specs/Quiet.antt`).
 //!
 //! `laws` has what is proved: a near module refines the old one (js_meaning's `Refined`), so it keeps its runs,
-//! and the way back. `notes`: runs don't see the notes of nodes, their spans and ids. `examples` has what the laws give
+//! and the way back. `notes`: runs don't see the notes of nodes, their spans and ids. `signs`: nor whether a negative number
+//! is a literal or unary minus on its magnitude. `examples` has what the laws give
 //! for some modules. The proof puts two runs side by side (`proofs/Worlds.antt`, `proofs/Relations.antt`): cells and
 //! objects of one with those of the other. It stands on js_meaning's definitions alone. The code is empty.
 #![tactic(auto)]
@@ -16,3 +17,4 @@
 pub mod examples;
 pub mod laws;
 pub mod notes;
+pub mod signs;

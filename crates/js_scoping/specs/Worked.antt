@@ -1,10 +1,13 @@
 -- Small programs with their tables, told by hand.
-use Rattle.std.specs.Prelude.{◌≡◌, ℕ, List, [], ◌∷◌, true, false, Option, Some, None, codes}
+use Rattle.std.specs.Prelude.{◌≡◌, ℕ, ◌+◌, List, [], ◌∷◌, true, false, Option, Some, None, codes}
 use Rattle.js_syntax.specs.declared.node_kind.NodeKind.{NodeKind as Kind}
 use Rattle.js_syntax.specs.declared.kind.FunctionKind.TheVariants as function_kind
 use Rattle.js_syntax.specs.declared.operator.AssignmentOperator.TheVariants as assignment
 use Rattle.js_syntax.specs.Node.{Forest, nowhere}
 use Rattle.form_rules.specs.Samples.{over, row, listed, a_module, a_script, a, binds, reads, one, does, var_, function_of, function_a, catches}
+use Rattle.scope_rules.specs.ScopeFlags as scope_flag
+use Rattle.scope_rules.specs.SymbolFlags as symbol_flag
+use Rattle.scope_rules.specs.ReferenceFlags as reference_flag
 use Rattle.scope_rules.specs.Samples.{b, writes, assigns}
 use Rattle.scope_rules.specs.Table.{Named, Scope, Symbol, Reference, Redeclaration, Unresolved, Scoping}
 use Rattle.js_scoping.specs.Build.{table_of}
@@ -50,35 +53,35 @@ rows =
     record {
       tree = a_module (function_a (binds b ∷ []) (var_ b ∷ does (reads b) ∷ does (reads c) ∷ does (assigns assignment.Assign (writes b) one) ∷ []) ∷ []);
       table = record {
-        scopes = scope None 3 (named a 0 ∷ []) ∷ scope (Some 0) 5 (named b 1 ∷ []) ∷ [];
-        symbols = symbol a 0 32 [] ∷ record { name = b; flags = 1; scope = 1; redeclarations = declared_as 1 ∷ declared_as 1 ∷ []; references = 0 ∷ 2 ∷ []; is_pure = false } ∷ [];
-        references = reference 1 (Some 1) 1 ∷ reference 1 None 1 ∷ reference 1 (Some 1) 2 ∷ [];
+        scopes = scope None (scope_flag.strict_mode + scope_flag.top) (named a 0 ∷ []) ∷ scope (Some 0) (scope_flag.strict_mode + scope_flag.function) (named b 1 ∷ []) ∷ [];
+        symbols = symbol a 0 symbol_flag.function [] ∷ record { name = b; flags = symbol_flag.function_scoped_variable; scope = 1; redeclarations = declared_as symbol_flag.function_scoped_variable ∷ declared_as symbol_flag.function_scoped_variable ∷ []; references = 0 ∷ 2 ∷ []; is_pure = false } ∷ [];
+        references = reference 1 (Some 1) reference_flag.read ∷ reference 1 None reference_flag.read ∷ reference 1 (Some 1) reference_flag.write ∷ [];
         unresolved = unresolved c (1 ∷ []) ∷ [];
       };
     }
     ∷ record {
       tree = a_module (does (function_of function_kind.Expression (binds a) (binds a ∷ []) (does (reads a) ∷ [])) ∷ []);
       table = record {
-        scopes = scope None 3 [] ∷ scope (Some 0) 5 (named a 1 ∷ []) ∷ [];
-        symbols = symbol a 1 32 [] ∷ symbol a 1 1 (0 ∷ []) ∷ [];
-        references = reference 1 (Some 1) 1 ∷ [];
+        scopes = scope None (scope_flag.strict_mode + scope_flag.top) [] ∷ scope (Some 0) (scope_flag.strict_mode + scope_flag.function) (named a 1 ∷ []) ∷ [];
+        symbols = symbol a 1 symbol_flag.function [] ∷ symbol a 1 symbol_flag.function_scoped_variable (0 ∷ []) ∷ [];
+        references = reference 1 (Some 1) reference_flag.read ∷ [];
         unresolved = [];
       };
     }
     ∷ record {
       tree = a_module (does (function_of function_kind.Expression (binds a) [] (does (reads a) ∷ [])) ∷ []);
       table = record {
-        scopes = scope None 3 [] ∷ scope (Some 0) 5 (named a 0 ∷ []) ∷ [];
-        symbols = symbol a 1 32 (0 ∷ []) ∷ [];
-        references = reference 1 (Some 0) 1 ∷ [];
+        scopes = scope None (scope_flag.strict_mode + scope_flag.top) [] ∷ scope (Some 0) (scope_flag.strict_mode + scope_flag.function) (named a 0 ∷ []) ∷ [];
+        symbols = symbol a 1 symbol_flag.function (0 ∷ []) ∷ [];
+        references = reference 1 (Some 0) reference_flag.read ∷ [];
         unresolved = [];
       };
     }
     ∷ record {
       tree = a_script (over (Kind.Function function_kind.Declaration true) (row (binds a ∷ listed Kind.Parameters [] ∷ over Kind.FunctionBody (listed Kind.Statements []) ∷ [])) ∷ []);
       table = record {
-        scopes = scope None 2 (named a 0 ∷ []) ∷ scope (Some 0) 4 [] ∷ [];
-        symbols = record { name = a; flags = 32; scope = 0; redeclarations = []; references = []; is_pure = true } ∷ [];
+        scopes = scope None scope_flag.top (named a 0 ∷ []) ∷ scope (Some 0) scope_flag.function [] ∷ [];
+        symbols = record { name = a; flags = symbol_flag.function; scope = 0; redeclarations = []; references = []; is_pure = true } ∷ [];
         references = [];
         unresolved = [];
       };
@@ -86,9 +89,9 @@ rows =
     ∷ record {
       tree = a_module (catches (binds a) (var_ a ∷ does (reads a) ∷ []) ∷ does (reads b) ∷ does (reads b) ∷ []);
       table = record {
-        scopes = scope None 3 (named a 1 ∷ []) ∷ scope (Some 0) 65 [] ∷ scope (Some 0) 129 (named a 0 ∷ []) ∷ scope (Some 2) 65 [] ∷ [];
-        symbols = symbol a 2 16 (0 ∷ []) ∷ symbol a 0 1 [] ∷ [];
-        references = reference 3 (Some 0) 1 ∷ reference 0 None 1 ∷ reference 0 None 1 ∷ [];
+        scopes = scope None (scope_flag.strict_mode + scope_flag.top) (named a 1 ∷ []) ∷ scope (Some 0) (scope_flag.strict_mode + scope_flag.block) [] ∷ scope (Some 0) (scope_flag.strict_mode + scope_flag.catch) (named a 0 ∷ []) ∷ scope (Some 2) (scope_flag.strict_mode + scope_flag.block) [] ∷ [];
+        symbols = symbol a 2 symbol_flag.catch_variable (0 ∷ []) ∷ symbol a 0 symbol_flag.function_scoped_variable [] ∷ [];
+        references = reference 3 (Some 0) reference_flag.read ∷ reference 0 None reference_flag.read ∷ reference 0 None reference_flag.read ∷ [];
         unresolved = unresolved b (1 ∷ 2 ∷ []) ∷ [];
       };
     }

@@ -2,8 +2,10 @@
 ghost use Rattle.std.specs.Prelude.{◌≡◌};
 ghost use Rattle.js_syntax.specs.Name.{type_among, type_name, type_named};
 
+use std::fmt;
+
 /// A type of node, by ESTree's name for it.
-#[derive(Clone, Copy, Debug, PartialEq, Eq)]
+#[derive(Clone, Copy, PartialEq, Eq)]
 pub enum NodeType {
     Program,
     ExpressionStatement,
@@ -82,78 +84,7 @@ impl NodeType {
     pub fn name(self) -> &'static str
         ensures { result.now ≡ type_name self }
     {
-        match self {
-            NodeType::Program => "Program",
-            NodeType::ExpressionStatement => "ExpressionStatement",
-            NodeType::BlockStatement => "BlockStatement",
-            NodeType::EmptyStatement => "EmptyStatement",
-            NodeType::DebuggerStatement => "DebuggerStatement",
-            NodeType::WithStatement => "WithStatement",
-            NodeType::ReturnStatement => "ReturnStatement",
-            NodeType::LabeledStatement => "LabeledStatement",
-            NodeType::BreakStatement => "BreakStatement",
-            NodeType::ContinueStatement => "ContinueStatement",
-            NodeType::IfStatement => "IfStatement",
-            NodeType::SwitchStatement => "SwitchStatement",
-            NodeType::SwitchCase => "SwitchCase",
-            NodeType::ThrowStatement => "ThrowStatement",
-            NodeType::TryStatement => "TryStatement",
-            NodeType::CatchClause => "CatchClause",
-            NodeType::WhileStatement => "WhileStatement",
-            NodeType::DoWhileStatement => "DoWhileStatement",
-            NodeType::ForStatement => "ForStatement",
-            NodeType::ForInStatement => "ForInStatement",
-            NodeType::ForOfStatement => "ForOfStatement",
-            NodeType::FunctionDeclaration => "FunctionDeclaration",
-            NodeType::FunctionExpression => "FunctionExpression",
-            NodeType::ArrowFunctionExpression => "ArrowFunctionExpression",
-            NodeType::VariableDeclaration => "VariableDeclaration",
-            NodeType::VariableDeclarator => "VariableDeclarator",
-            NodeType::ClassDeclaration => "ClassDeclaration",
-            NodeType::ClassExpression => "ClassExpression",
-            NodeType::ClassBody => "ClassBody",
-            NodeType::MethodDefinition => "MethodDefinition",
-            NodeType::PropertyDefinition => "PropertyDefinition",
-            NodeType::StaticBlock => "StaticBlock",
-            NodeType::Identifier => "Identifier",
-            NodeType::PrivateIdentifier => "PrivateIdentifier",
-            NodeType::Literal => "Literal",
-            NodeType::ThisExpression => "ThisExpression",
-            NodeType::Super => "Super",
-            NodeType::ArrayExpression => "ArrayExpression",
-            NodeType::ObjectExpression => "ObjectExpression",
-            NodeType::Property => "Property",
-            NodeType::SequenceExpression => "SequenceExpression",
-            NodeType::UnaryExpression => "UnaryExpression",
-            NodeType::UpdateExpression => "UpdateExpression",
-            NodeType::BinaryExpression => "BinaryExpression",
-            NodeType::LogicalExpression => "LogicalExpression",
-            NodeType::AssignmentExpression => "AssignmentExpression",
-            NodeType::ConditionalExpression => "ConditionalExpression",
-            NodeType::CallExpression => "CallExpression",
-            NodeType::NewExpression => "NewExpression",
-            NodeType::MemberExpression => "MemberExpression",
-            NodeType::ChainExpression => "ChainExpression",
-            NodeType::ParenthesizedExpression => "ParenthesizedExpression",
-            NodeType::TemplateLiteral => "TemplateLiteral",
-            NodeType::TemplateElement => "TemplateElement",
-            NodeType::TaggedTemplateExpression => "TaggedTemplateExpression",
-            NodeType::SpreadElement => "SpreadElement",
-            NodeType::RestElement => "RestElement",
-            NodeType::ObjectPattern => "ObjectPattern",
-            NodeType::ArrayPattern => "ArrayPattern",
-            NodeType::AssignmentPattern => "AssignmentPattern",
-            NodeType::MetaProperty => "MetaProperty",
-            NodeType::ImportExpression => "ImportExpression",
-            NodeType::ImportDeclaration => "ImportDeclaration",
-            NodeType::ImportSpecifier => "ImportSpecifier",
-            NodeType::ImportDefaultSpecifier => "ImportDefaultSpecifier",
-            NodeType::ImportNamespaceSpecifier => "ImportNamespaceSpecifier",
-            NodeType::ExportNamedDeclaration => "ExportNamedDeclaration",
-            NodeType::ExportSpecifier => "ExportSpecifier",
-            NodeType::ExportDefaultDeclaration => "ExportDefaultDeclaration",
-            NodeType::ExportAllDeclaration => "ExportAllDeclaration",
-        }
+        NAMES[self as usize]
     }
 
     /// The type of this name, where the table has it.
@@ -163,6 +94,87 @@ impl NodeType {
         among(TYPES.as_slice(), name)
     }
 }
+
+// By hand, as what a derived one prints is the name.
+impl fmt::Debug for NodeType {
+    fn fmt<W: fmt::Write>(&self, f: &mut fmt::Formatter<W>) -> fmt::Result {
+        f.write_str(self.name())
+    }
+}
+
+/// The name of each type, in the order of the types.
+static NAMES: [&str; 70] = [
+    "Program",
+    "ExpressionStatement",
+    "BlockStatement",
+    "EmptyStatement",
+    "DebuggerStatement",
+    "WithStatement",
+    "ReturnStatement",
+    "LabeledStatement",
+    "BreakStatement",
+    "ContinueStatement",
+    "IfStatement",
+    "SwitchStatement",
+    "SwitchCase",
+    "ThrowStatement",
+    "TryStatement",
+    "CatchClause",
+    "WhileStatement",
+    "DoWhileStatement",
+    "ForStatement",
+    "ForInStatement",
+    "ForOfStatement",
+    "FunctionDeclaration",
+    "FunctionExpression",
+    "ArrowFunctionExpression",
+    "VariableDeclaration",
+    "VariableDeclarator",
+    "ClassDeclaration",
+    "ClassExpression",
+    "ClassBody",
+    "MethodDefinition",
+    "PropertyDefinition",
+    "StaticBlock",
+    "Identifier",
+    "PrivateIdentifier",
+    "Literal",
+    "ThisExpression",
+    "Super",
+    "ArrayExpression",
+    "ObjectExpression",
+    "Property",
+    "SequenceExpression",
+    "UnaryExpression",
+    "UpdateExpression",
+    "BinaryExpression",
+    "LogicalExpression",
+    "AssignmentExpression",
+    "ConditionalExpression",
+    "CallExpression",
+    "NewExpression",
+    "MemberExpression",
+    "ChainExpression",
+    "ParenthesizedExpression",
+    "TemplateLiteral",
+    "TemplateElement",
+    "TaggedTemplateExpression",
+    "SpreadElement",
+    "RestElement",
+    "ObjectPattern",
+    "ArrayPattern",
+    "AssignmentPattern",
+    "MetaProperty",
+    "ImportExpression",
+    "ImportDeclaration",
+    "ImportSpecifier",
+    "ImportDefaultSpecifier",
+    "ImportNamespaceSpecifier",
+    "ExportNamedDeclaration",
+    "ExportSpecifier",
+    "ExportDefaultDeclaration",
+    "ExportAllDeclaration",
+];
 
 /// The types, in the order of the definitions.
 static TYPES: [NodeType; 70] = [

@@ -22,7 +22,6 @@ use Rattle.json_table.specs.declared.field.Kept as code_kept
 use Rattle.json_table.specs.declared.field.Kept.TheVariants as in_kept
 use Rattle.json_table.specs.declared.field.Hint as code_hint
 use Rattle.json_table.specs.declared.field.Hint.TheVariants as in_hint
-use Rattle.json_table.specs.declared.field.Unread as code_unread
 use Rattle.json_table.specs.declared.field.Unread.TheVariants as in_unread
 use Rattle.json_table.specs.declared.field.Check as code_check
 use Rattle.json_table.specs.declared.field.Check.TheVariants as in_check

@@ -3,7 +3,7 @@
 ghost use Rattle.std.specs.Prelude.{◌≡◌};
 ghost use Rattle.std.specs.Option.{option_map};
 ghost use Rattle.js_syntax.specs.Table as table;
-ghost use Rattle.js_syntax.specs.Class as class;
+ghost use Rattle.json_table.specs.Standing.{row_among, rows_standing};
 ghost use Rattle.json_table.specs.View.{row_view, class_view};
 
 use crate::row::Row;
@@ -11,523 +11,484 @@ use crate::wanted::Wanted;
 use js_syntax::NodeType;
 
 // A whole program.
-fn root_row(kind: NodeType) -> Option<Row>
-    ensures { option_map row_view result ≡ table.stands class.root kind }
-{
-    match kind {
-        NodeType::Program => Some(Row::Program),
-        _ => None,
-    }
-}
+const ROOT: &[Row] = &[Row::Program];
 
 // A directive at the head of a body.
-fn a_prologue_row(kind: NodeType) -> Option<Row>
-    ensures { option_map row_view result ≡ table.stands class.a_prologue kind }
-{
-    match kind {
-        NodeType::ExpressionStatement => Some(Row::Directive),
-        _ => None,
-    }
-}
+const A_PROLOGUE: &[Row] = &[Row::Directive];
 
 // An item of the program's body.
-fn module_item_row(kind: NodeType) -> Option<Row>
-    ensures { option_map row_view result ≡ table.stands class.module_item kind }
-{
-    match kind {
-        NodeType::ImportDeclaration => Some(Row::ImportDeclaration),
-        NodeType::ExportNamedDeclaration => Some(Row::ExportList),
-        NodeType::ExportDefaultDeclaration => Some(Row::ExportDefaultDeclaration),
-        NodeType::ExportAllDeclaration => Some(Row::ExportAllDeclaration),
-        _ => statement_row(kind),
-    }
-}
+const MODULE_ITEM: &[Row] = &[
+    Row::ImportDeclaration,
+    Row::ExportList,
+    Row::ExportDefaultDeclaration,
+    Row::ExportAllDeclaration,
+    Row::ExpressionStatement,
+    Row::BlockStatement,
+    Row::EmptyStatement,
+    Row::DebuggerStatement,
+    Row::WithStatement,
+    Row::ReturnStatement,
+    Row::LabeledStatement,
+    Row::BreakStatement,
+    Row::ContinueStatement,
+    Row::IfStatement,
+    Row::SwitchStatement,
+    Row::ThrowStatement,
+    Row::TryStatement,
+    Row::WhileStatement,
+    Row::DoWhileStatement,
+    Row::ForStatement,
+    Row::ForInStatement,
+    Row::ForOfStatement,
+    Row::FunctionDeclaration,
+    Row::VariableDeclaration,
+    Row::ClassDeclaration,
+];
 
 // A statement or declaration.
-fn statement_row(kind: NodeType) -> Option<Row>
-    ensures { option_map row_view result ≡ table.stands class.statement kind }
-{
-    match kind {
-        NodeType::ExpressionStatement => Some(Row::ExpressionStatement),
-        NodeType::BlockStatement => Some(Row::BlockStatement),
-        NodeType::EmptyStatement => Some(Row::EmptyStatement),
-        NodeType::DebuggerStatement => Some(Row::DebuggerStatement),
-        NodeType::WithStatement => Some(Row::WithStatement),
-        NodeType::ReturnStatement => Some(Row::ReturnStatement),
-        NodeType::LabeledStatement => Some(Row::LabeledStatement),
-        NodeType::BreakStatement => Some(Row::BreakStatement),
-        NodeType::ContinueStatement => Some(Row::ContinueStatement),
-        NodeType::IfStatement => Some(Row::IfStatement),
-        NodeType::SwitchStatement => Some(Row::SwitchStatement),
-        NodeType::ThrowStatement => Some(Row::ThrowStatement),
-        NodeType::TryStatement => Some(Row::TryStatement),
-        NodeType::WhileStatement => Some(Row::WhileStatement),
-        NodeType::DoWhileStatement => Some(Row::DoWhileStatement),
-        NodeType::ForStatement => Some(Row::ForStatement),
-        NodeType::ForInStatement => Some(Row::ForInStatement),
-        NodeType::ForOfStatement => Some(Row::ForOfStatement),
-        NodeType::FunctionDeclaration => Some(Row::FunctionDeclaration),
-        NodeType::VariableDeclaration => Some(Row::VariableDeclaration),
-        NodeType::ClassDeclaration => Some(Row::ClassDeclaration),
-        _ => None,
-    }
-}
+const STATEMENT: &[Row] = &[
+    Row::ExpressionStatement,
+    Row::BlockStatement,
+    Row::EmptyStatement,
+    Row::DebuggerStatement,
+    Row::WithStatement,
+    Row::ReturnStatement,
+    Row::LabeledStatement,
+    Row::BreakStatement,
+    Row::ContinueStatement,
+    Row::IfStatement,
+    Row::SwitchStatement,
+    Row::ThrowStatement,
+    Row::TryStatement,
+    Row::WhileStatement,
+    Row::DoWhileStatement,
+    Row::ForStatement,
+    Row::ForInStatement,
+    Row::ForOfStatement,
+    Row::FunctionDeclaration,
+    Row::VariableDeclaration,
+    Row::ClassDeclaration,
+];
 
 // A block.
-fn block_row(kind: NodeType) -> Option<Row>
-    ensures { option_map row_view result ≡ table.stands class.block kind }
-{
-    match kind {
-        NodeType::BlockStatement => Some(Row::BlockStatement),
-        _ => None,
-    }
-}
+const BLOCK: &[Row] = &[Row::BlockStatement];
 
 // A function's body.
-fn function_block_row(kind: NodeType) -> Option<Row>
-    ensures { option_map row_view result ≡ table.stands class.function_block kind }
-{
-    match kind {
-        NodeType::BlockStatement => Some(Row::FunctionBody),
-        _ => None,
-    }
-}
+const FUNCTION_BLOCK: &[Row] = &[Row::FunctionBody];
 
 // An arrow's body.
-fn arrow_body_row(kind: NodeType) -> Option<Row>
-    ensures { option_map row_view result ≡ table.stands class.arrow_body kind }
-{
-    match kind {
-        NodeType::BlockStatement => Some(Row::FunctionBody),
-        _ => expression_row(kind),
-    }
-}
+const ARROW_BODY: &[Row] = &[
+    Row::FunctionBody,
+    Row::ReferenceName,
+    Row::Literal,
+    Row::ThisExpression,
+    Row::ArrayExpression,
+    Row::ObjectExpression,
+    Row::FunctionExpression,
+    Row::ArrowFunction,
+    Row::ClassExpression,
+    Row::UnaryExpression,
+    Row::UpdateExpression,
+    Row::BinaryExpression,
+    Row::LogicalExpression,
+    Row::AssignmentExpression,
+    Row::ConditionalExpression,
+    Row::CallExpression,
+    Row::NewExpression,
+    Row::MemberExpression,
+    Row::ChainExpression,
+    Row::ParenthesizedExpression,
+    Row::SequenceExpression,
+    Row::TemplateLiteral,
+    Row::TaggedTemplateExpression,
+    Row::NewTarget,
+    Row::ImportExpression,
+];
 
 // A catch clause.
-fn handler_row(kind: NodeType) -> Option<Row>
-    ensures { option_map row_view result ≡ table.stands class.handler kind }
-{
-    match kind {
-        NodeType::CatchClause => Some(Row::CatchClause),
-        _ => None,
-    }
-}
+const HANDLER: &[Row] = &[Row::CatchClause];
 
 // A case of a switch.
-fn case_item_row(kind: NodeType) -> Option<Row>
-    ensures { option_map row_view result ≡ table.stands class.case_item kind }
-{
-    match kind {
-        NodeType::SwitchCase => Some(Row::SwitchCase),
-        _ => None,
-    }
-}
+const CASE_ITEM: &[Row] = &[Row::SwitchCase];
 
 // A declarator.
-fn declarator_item_row(kind: NodeType) -> Option<Row>
-    ensures { option_map row_view result ≡ table.stands class.declarator_item kind }
-{
-    match kind {
-        NodeType::VariableDeclarator => Some(Row::VariableDeclarator),
-        _ => None,
-    }
-}
+const DECLARATOR_ITEM: &[Row] = &[Row::VariableDeclarator];
 
 // What stands first in the head of `for`.
-fn for_init_row(kind: NodeType) -> Option<Row>
-    ensures { option_map row_view result ≡ table.stands class.for_init kind }
-{
-    match kind {
-        NodeType::VariableDeclaration => Some(Row::VariableDeclaration),
-        _ => expression_row(kind),
-    }
-}
+const FOR_INIT: &[Row] = &[
+    Row::VariableDeclaration,
+    Row::ReferenceName,
+    Row::Literal,
+    Row::ThisExpression,
+    Row::ArrayExpression,
+    Row::ObjectExpression,
+    Row::FunctionExpression,
+    Row::ArrowFunction,
+    Row::ClassExpression,
+    Row::UnaryExpression,
+    Row::UpdateExpression,
+    Row::BinaryExpression,
+    Row::LogicalExpression,
+    Row::AssignmentExpression,
+    Row::ConditionalExpression,
+    Row::CallExpression,
+    Row::NewExpression,
+    Row::MemberExpression,
+    Row::ChainExpression,
+    Row::ParenthesizedExpression,
+    Row::SequenceExpression,
+    Row::TemplateLiteral,
+    Row::TaggedTemplateExpression,
+    Row::NewTarget,
+    Row::ImportExpression,
+];
 
 // What stands first in the head of `for`-`in` and `for`-`of`.
-fn for_left_row(kind: NodeType) -> Option<Row>
-    ensures { option_map row_view result ≡ table.stands class.for_left kind }
-{
-    match kind {
-        NodeType::VariableDeclaration => Some(Row::VariableDeclaration),
-        _ => target_row(kind),
-    }
-}
+const FOR_LEFT: &[Row] = &[
+    Row::VariableDeclaration,
+    Row::TargetObject,
+    Row::TargetArray,
+    Row::TargetName,
+    Row::MemberExpression,
+    Row::ParenthesizedTarget,
+];
 
 // What `export` stands before.
-fn declaration_row(kind: NodeType) -> Option<Row>
-    ensures { option_map row_view result ≡ table.stands class.declaration kind }
-{
-    match kind {
-        NodeType::VariableDeclaration => Some(Row::VariableDeclaration),
-        NodeType::FunctionDeclaration => Some(Row::FunctionDeclaration),
-        NodeType::ClassDeclaration => Some(Row::ClassDeclaration),
-        _ => None,
-    }
-}
+const DECLARATION: &[Row] = &[
+    Row::VariableDeclaration,
+    Row::FunctionDeclaration,
+    Row::ClassDeclaration,
+];
 
 // What `export default` stands before.
-fn default_export_row(kind: NodeType) -> Option<Row>
-    ensures { option_map row_view result ≡ table.stands class.default_export kind }
-{
-    match kind {
-        NodeType::FunctionDeclaration => Some(Row::DefaultFunction),
-        NodeType::ClassDeclaration => Some(Row::DefaultClass),
-        _ => expression_row(kind),
-    }
-}
+const DEFAULT_EXPORT: &[Row] = &[
+    Row::DefaultFunction,
+    Row::DefaultClass,
+    Row::ReferenceName,
+    Row::Literal,
+    Row::ThisExpression,
+    Row::ArrayExpression,
+    Row::ObjectExpression,
+    Row::FunctionExpression,
+    Row::ArrowFunction,
+    Row::ClassExpression,
+    Row::UnaryExpression,
+    Row::UpdateExpression,
+    Row::BinaryExpression,
+    Row::LogicalExpression,
+    Row::AssignmentExpression,
+    Row::ConditionalExpression,
+    Row::CallExpression,
+    Row::NewExpression,
+    Row::MemberExpression,
+    Row::ChainExpression,
+    Row::ParenthesizedExpression,
+    Row::SequenceExpression,
+    Row::TemplateLiteral,
+    Row::TaggedTemplateExpression,
+    Row::NewTarget,
+    Row::ImportExpression,
+];
 
 // A class's body.
-fn class_block_row(kind: NodeType) -> Option<Row>
-    ensures { option_map row_view result ≡ table.stands class.class_block kind }
-{
-    match kind {
-        NodeType::ClassBody => Some(Row::ClassBody),
-        _ => None,
-    }
-}
+const CLASS_BLOCK: &[Row] = &[Row::ClassBody];
 
 // A member of a class.
-fn class_item_row(kind: NodeType) -> Option<Row>
-    ensures { option_map row_view result ≡ table.stands class.class_item kind }
-{
-    match kind {
-        NodeType::MethodDefinition => Some(Row::MethodDefinition),
-        NodeType::PropertyDefinition => Some(Row::PropertyDefinition),
-        NodeType::StaticBlock => Some(Row::StaticBlock),
-        _ => None,
-    }
-}
+const CLASS_ITEM: &[Row] = &[
+    Row::MethodDefinition,
+    Row::PropertyDefinition,
+    Row::StaticBlock,
+];
 
 // The function of a method.
-fn method_value_row(kind: NodeType) -> Option<Row>
-    ensures { option_map row_view result ≡ table.stands class.method_value kind }
-{
-    match kind {
-        NodeType::FunctionExpression => Some(Row::FunctionExpression),
-        _ => None,
-    }
-}
+const METHOD_VALUE: &[Row] = &[Row::FunctionExpression];
 
 // A name that is declared.
-fn declared_name_row(kind: NodeType) -> Option<Row>
-    ensures { option_map row_view result ≡ table.stands class.declared_name kind }
-{
-    match kind {
-        NodeType::Identifier => Some(Row::BindingName),
-        _ => None,
-    }
-}
+const DECLARED_NAME: &[Row] = &[Row::BindingName];
 
 // A name that is read.
-fn read_name_row(kind: NodeType) -> Option<Row>
-    ensures { option_map row_view result ≡ table.stands class.read_name kind }
-{
-    match kind {
-        NodeType::Identifier => Some(Row::ReferenceName),
-        _ => None,
-    }
-}
+const READ_NAME: &[Row] = &[Row::ReferenceName];
 
 // A private name.
-fn private_key_row(kind: NodeType) -> Option<Row>
-    ensures { option_map row_view result ≡ table.stands class.private_key kind }
-{
-    match kind {
-        NodeType::PrivateIdentifier => Some(Row::PrivateName),
-        _ => None,
-    }
-}
+const PRIVATE_KEY: &[Row] = &[Row::PrivateName];
 
 // An expression.
-fn expression_row(kind: NodeType) -> Option<Row>
-    ensures { option_map row_view result ≡ table.stands class.expression kind }
-{
-    match kind {
-        NodeType::Identifier => Some(Row::ReferenceName),
-        NodeType::Literal => Some(Row::Literal),
-        NodeType::ThisExpression => Some(Row::ThisExpression),
-        NodeType::ArrayExpression => Some(Row::ArrayExpression),
-        NodeType::ObjectExpression => Some(Row::ObjectExpression),
-        NodeType::FunctionExpression => Some(Row::FunctionExpression),
-        NodeType::ArrowFunctionExpression => Some(Row::ArrowFunction),
-        NodeType::ClassExpression => Some(Row::ClassExpression),
-        NodeType::UnaryExpression => Some(Row::UnaryExpression),
-        NodeType::UpdateExpression => Some(Row::UpdateExpression),
-        NodeType::BinaryExpression => Some(Row::BinaryExpression),
-        NodeType::LogicalExpression => Some(Row::LogicalExpression),
-        NodeType::AssignmentExpression => Some(Row::AssignmentExpression),
-        NodeType::ConditionalExpression => Some(Row::ConditionalExpression),
-        NodeType::CallExpression => Some(Row::CallExpression),
-        NodeType::NewExpression => Some(Row::NewExpression),
-        NodeType::MemberExpression => Some(Row::MemberExpression),
-        NodeType::ChainExpression => Some(Row::ChainExpression),
-        NodeType::ParenthesizedExpression => Some(Row::ParenthesizedExpression),
-        NodeType::SequenceExpression => Some(Row::SequenceExpression),
-        NodeType::TemplateLiteral => Some(Row::TemplateLiteral),
-        NodeType::TaggedTemplateExpression => Some(Row::TaggedTemplateExpression),
-        NodeType::MetaProperty => Some(Row::NewTarget),
-        NodeType::ImportExpression => Some(Row::ImportExpression),
-        _ => None,
-    }
-}
+const EXPRESSION: &[Row] = &[
+    Row::ReferenceName,
+    Row::Literal,
+    Row::ThisExpression,
+    Row::ArrayExpression,
+    Row::ObjectExpression,
+    Row::FunctionExpression,
+    Row::ArrowFunction,
+    Row::ClassExpression,
+    Row::UnaryExpression,
+    Row::UpdateExpression,
+    Row::BinaryExpression,
+    Row::LogicalExpression,
+    Row::AssignmentExpression,
+    Row::ConditionalExpression,
+    Row::CallExpression,
+    Row::NewExpression,
+    Row::MemberExpression,
+    Row::ChainExpression,
+    Row::ParenthesizedExpression,
+    Row::SequenceExpression,
+    Row::TemplateLiteral,
+    Row::TaggedTemplateExpression,
+    Row::NewTarget,
+    Row::ImportExpression,
+];
 
 // What stands left of `in`.
-fn expression_or_private_row(kind: NodeType) -> Option<Row>
-    ensures { option_map row_view result ≡ table.stands class.expression_or_private kind }
-{
-    match kind {
-        NodeType::PrivateIdentifier => Some(Row::PrivateName),
-        _ => expression_row(kind),
-    }
-}
+const EXPRESSION_OR_PRIVATE: &[Row] = &[
+    Row::PrivateName,
+    Row::ReferenceName,
+    Row::Literal,
+    Row::ThisExpression,
+    Row::ArrayExpression,
+    Row::ObjectExpression,
+    Row::FunctionExpression,
+    Row::ArrowFunction,
+    Row::ClassExpression,
+    Row::UnaryExpression,
+    Row::UpdateExpression,
+    Row::BinaryExpression,
+    Row::LogicalExpression,
+    Row::AssignmentExpression,
+    Row::ConditionalExpression,
+    Row::CallExpression,
+    Row::NewExpression,
+    Row::MemberExpression,
+    Row::ChainExpression,
+    Row::ParenthesizedExpression,
+    Row::SequenceExpression,
+    Row::TemplateLiteral,
+    Row::TaggedTemplateExpression,
+    Row::NewTarget,
+    Row::ImportExpression,
+];
 
 // What is called, or whose member is taken.
-fn callee_row(kind: NodeType) -> Option<Row>
-    ensures { option_map row_view result ≡ table.stands class.callee kind }
-{
-    match kind {
-        NodeType::Super => Some(Row::Super),
-        _ => expression_row(kind),
-    }
-}
+const CALLEE: &[Row] = &[
+    Row::Super,
+    Row::ReferenceName,
+    Row::Literal,
+    Row::ThisExpression,
+    Row::ArrayExpression,
+    Row::ObjectExpression,
+    Row::FunctionExpression,
+    Row::ArrowFunction,
+    Row::ClassExpression,
+    Row::UnaryExpression,
+    Row::UpdateExpression,
+    Row::BinaryExpression,
+    Row::LogicalExpression,
+    Row::AssignmentExpression,
+    Row::ConditionalExpression,
+    Row::CallExpression,
+    Row::NewExpression,
+    Row::MemberExpression,
+    Row::ChainExpression,
+    Row::ParenthesizedExpression,
+    Row::SequenceExpression,
+    Row::TemplateLiteral,
+    Row::TaggedTemplateExpression,
+    Row::NewTarget,
+    Row::ImportExpression,
+];
 
 // An argument or an element.
-fn argument_row(kind: NodeType) -> Option<Row>
-    ensures { option_map row_view result ≡ table.stands class.argument kind }
-{
-    match kind {
-        NodeType::SpreadElement => Some(Row::SpreadElement),
-        _ => expression_row(kind),
-    }
-}
+const ARGUMENT: &[Row] = &[
+    Row::SpreadElement,
+    Row::ReferenceName,
+    Row::Literal,
+    Row::ThisExpression,
+    Row::ArrayExpression,
+    Row::ObjectExpression,
+    Row::FunctionExpression,
+    Row::ArrowFunction,
+    Row::ClassExpression,
+    Row::UnaryExpression,
+    Row::UpdateExpression,
+    Row::BinaryExpression,
+    Row::LogicalExpression,
+    Row::AssignmentExpression,
+    Row::ConditionalExpression,
+    Row::CallExpression,
+    Row::NewExpression,
+    Row::MemberExpression,
+    Row::ChainExpression,
+    Row::ParenthesizedExpression,
+    Row::SequenceExpression,
+    Row::TemplateLiteral,
+    Row::TaggedTemplateExpression,
+    Row::NewTarget,
+    Row::ImportExpression,
+];
 
 // A property of an object.
-fn object_item_row(kind: NodeType) -> Option<Row>
-    ensures { option_map row_view result ≡ table.stands class.object_item kind }
-{
-    match kind {
-        NodeType::Property => Some(Row::Property),
-        NodeType::SpreadElement => Some(Row::SpreadElement),
-        _ => None,
-    }
-}
+const OBJECT_ITEM: &[Row] = &[Row::Property, Row::SpreadElement];
 
 // What an optional chain is.
-fn chain_part_row(kind: NodeType) -> Option<Row>
-    ensures { option_map row_view result ≡ table.stands class.chain_part kind }
-{
-    match kind {
-        NodeType::CallExpression => Some(Row::CallExpression),
-        NodeType::MemberExpression => Some(Row::MemberExpression),
-        _ => None,
-    }
-}
+const CHAIN_PART: &[Row] = &[Row::CallExpression, Row::MemberExpression];
 
 // The template behind a tag.
-fn template_row(kind: NodeType) -> Option<Row>
-    ensures { option_map row_view result ≡ table.stands class.template kind }
-{
-    match kind {
-        NodeType::TemplateLiteral => Some(Row::TemplateLiteral),
-        _ => None,
-    }
-}
+const TEMPLATE: &[Row] = &[Row::TemplateLiteral];
 
 // A text of a template.
-fn quasi_item_row(kind: NodeType) -> Option<Row>
-    ensures { option_map row_view result ≡ table.stands class.quasi_item kind }
-{
-    match kind {
-        NodeType::TemplateElement => Some(Row::TemplateElement),
-        _ => None,
-    }
-}
+const QUASI_ITEM: &[Row] = &[Row::TemplateElement];
 
 // The literal of a directive.
-fn directive_text_row(kind: NodeType) -> Option<Row>
-    ensures { option_map row_view result ≡ table.stands class.directive_text kind }
-{
-    match kind {
-        NodeType::Literal => Some(Row::TextLiteral),
-        _ => None,
-    }
-}
+const DIRECTIVE_TEXT: &[Row] = &[Row::TextLiteral];
 
 // What is declared.
-fn binding_row(kind: NodeType) -> Option<Row>
-    ensures { option_map row_view result ≡ table.stands class.binding kind }
-{
-    match kind {
-        NodeType::Identifier => Some(Row::BindingName),
-        NodeType::ObjectPattern => Some(Row::BindingObject),
-        NodeType::ArrayPattern => Some(Row::BindingArray),
-        _ => None,
-    }
-}
+const BINDING: &[Row] = &[Row::BindingName, Row::BindingObject, Row::BindingArray];
 
 // What is declared, with or without a default.
-fn binding_value_row(kind: NodeType) -> Option<Row>
-    ensures { option_map row_view result ≡ table.stands class.binding_value kind }
-{
-    match kind {
-        NodeType::AssignmentPattern => Some(Row::BindingDefault),
-        _ => binding_row(kind),
-    }
-}
+const BINDING_VALUE: &[Row] = &[
+    Row::BindingDefault,
+    Row::BindingName,
+    Row::BindingObject,
+    Row::BindingArray,
+];
 
 // A parameter, or an element of a pattern.
-fn binding_element_row(kind: NodeType) -> Option<Row>
-    ensures { option_map row_view result ≡ table.stands class.binding_element kind }
-{
-    match kind {
-        NodeType::RestElement => Some(Row::BindingRest),
-        _ => binding_value_row(kind),
-    }
-}
+const BINDING_ELEMENT: &[Row] = &[
+    Row::BindingRest,
+    Row::BindingDefault,
+    Row::BindingName,
+    Row::BindingObject,
+    Row::BindingArray,
+];
 
 // A property of a pattern.
-fn binding_item_row(kind: NodeType) -> Option<Row>
-    ensures { option_map row_view result ≡ table.stands class.binding_item kind }
-{
-    match kind {
-        NodeType::Property => Some(Row::BindingProperty),
-        NodeType::RestElement => Some(Row::BindingRest),
-        _ => None,
-    }
-}
+const BINDING_ITEM: &[Row] = &[Row::BindingProperty, Row::BindingRest];
 
 // A name or member that is assigned.
-fn simple_target_row(kind: NodeType) -> Option<Row>
-    ensures { option_map row_view result ≡ table.stands class.simple_target kind }
-{
-    match kind {
-        NodeType::Identifier => Some(Row::TargetName),
-        NodeType::MemberExpression => Some(Row::MemberExpression),
-        NodeType::ParenthesizedExpression => Some(Row::ParenthesizedTarget),
-        _ => None,
-    }
-}
+const SIMPLE_TARGET: &[Row] = &[
+    Row::TargetName,
+    Row::MemberExpression,
+    Row::ParenthesizedTarget,
+];
 
 // What is assigned.
-fn target_row(kind: NodeType) -> Option<Row>
-    ensures { option_map row_view result ≡ table.stands class.target kind }
-{
-    match kind {
-        NodeType::ObjectPattern => Some(Row::TargetObject),
-        NodeType::ArrayPattern => Some(Row::TargetArray),
-        _ => simple_target_row(kind),
-    }
-}
+const TARGET: &[Row] = &[
+    Row::TargetObject,
+    Row::TargetArray,
+    Row::TargetName,
+    Row::MemberExpression,
+    Row::ParenthesizedTarget,
+];
 
 // What is assigned, with or without a default.
-fn target_value_row(kind: NodeType) -> Option<Row>
-    ensures { option_map row_view result ≡ table.stands class.target_value kind }
-{
-    match kind {
-        NodeType::AssignmentPattern => Some(Row::TargetDefault),
-        _ => target_row(kind),
-    }
-}
+const TARGET_VALUE: &[Row] = &[
+    Row::TargetDefault,
+    Row::TargetObject,
+    Row::TargetArray,
+    Row::TargetName,
+    Row::MemberExpression,
+    Row::ParenthesizedTarget,
+];
 
 // An element of a pattern that is assigned.
-fn target_element_row(kind: NodeType) -> Option<Row>
-    ensures { option_map row_view result ≡ table.stands class.target_element kind }
-{
-    match kind {
-        NodeType::RestElement => Some(Row::TargetRest),
-        _ => target_value_row(kind),
-    }
-}
+const TARGET_ELEMENT: &[Row] = &[
+    Row::TargetRest,
+    Row::TargetDefault,
+    Row::TargetObject,
+    Row::TargetArray,
+    Row::TargetName,
+    Row::MemberExpression,
+    Row::ParenthesizedTarget,
+];
 
 // A property of a pattern that is assigned.
-fn target_item_row(kind: NodeType) -> Option<Row>
-    ensures { option_map row_view result ≡ table.stands class.target_item kind }
-{
-    match kind {
-        NodeType::Property => Some(Row::TargetProperty),
-        NodeType::RestElement => Some(Row::TargetRest),
-        _ => None,
-    }
-}
+const TARGET_ITEM: &[Row] = &[Row::TargetProperty, Row::TargetRest];
 
 // What an import names.
-fn import_item_row(kind: NodeType) -> Option<Row>
-    ensures { option_map row_view result ≡ table.stands class.import_item kind }
-{
-    match kind {
-        NodeType::ImportSpecifier => Some(Row::ImportSpecifier),
-        NodeType::ImportDefaultSpecifier => Some(Row::ImportDefaultSpecifier),
-        NodeType::ImportNamespaceSpecifier => Some(Row::ImportNamespaceSpecifier),
-        _ => None,
-    }
-}
+const IMPORT_ITEM: &[Row] = &[
+    Row::ImportSpecifier,
+    Row::ImportDefaultSpecifier,
+    Row::ImportNamespaceSpecifier,
+];
 
 // What an export names.
-fn export_item_row(kind: NodeType) -> Option<Row>
-    ensures { option_map row_view result ≡ table.stands class.export_item kind }
-{
-    match kind {
-        NodeType::ExportSpecifier => Some(Row::ExportSpecifier),
-        _ => None,
-    }
-}
+const EXPORT_ITEM: &[Row] = &[Row::ExportSpecifier];
 
 // What an export from a source names.
-fn foreign_item_row(kind: NodeType) -> Option<Row>
-    ensures { option_map row_view result ≡ table.stands class.foreign_item kind }
-{
-    match kind {
-        NodeType::ExportSpecifier => Some(Row::ForeignSpecifier),
-        _ => None,
-    }
-}
+const FOREIGN_ITEM: &[Row] = &[Row::ForeignSpecifier];
+
+// Nothing: whatever stands there is wrong.
+const NO_NODE: &[Row] = &[];
+
+/// The rows that stand where each class is wanted, in the order of the classes.
+static STANDING: [&[Row]; 42] = [
+    ROOT,
+    A_PROLOGUE,
+    MODULE_ITEM,
+    STATEMENT,
+    BLOCK,
+    FUNCTION_BLOCK,
+    ARROW_BODY,
+    HANDLER,
+    CASE_ITEM,
+    DECLARATOR_ITEM,
+    FOR_INIT,
+    FOR_LEFT,
+    DECLARATION,
+    DEFAULT_EXPORT,
+    CLASS_BLOCK,
+    CLASS_ITEM,
+    METHOD_VALUE,
+    DECLARED_NAME,
+    READ_NAME,
+    PRIVATE_KEY,
+    EXPRESSION,
+    EXPRESSION_OR_PRIVATE,
+    CALLEE,
+    ARGUMENT,
+    OBJECT_ITEM,
+    CHAIN_PART,
+    TEMPLATE,
+    QUASI_ITEM,
+    DIRECTIVE_TEXT,
+    BINDING,
+    BINDING_VALUE,
+    BINDING_ELEMENT,
+    BINDING_ITEM,
+    SIMPLE_TARGET,
+    TARGET,
+    TARGET_VALUE,
+    TARGET_ELEMENT,
+    TARGET_ITEM,
+    IMPORT_ITEM,
+    EXPORT_ITEM,
+    FOREIGN_ITEM,
+    NO_NODE,
+];
 
 /// The row of a type where a node of this class is wanted, if it may stand there.
 pub fn row_of(wanted: Wanted, kind: NodeType) -> Option<Row>
     ensures { option_map row_view result ≡ table.stands (class_view wanted) kind }
 {
-    match wanted {
-        Wanted::Root => root_row(kind),
-        Wanted::Prologue => a_prologue_row(kind),
-        Wanted::ModuleItem => module_item_row(kind),
-        Wanted::Statement => statement_row(kind),
-        Wanted::Block => block_row(kind),
-        Wanted::FunctionBlock => function_block_row(kind),
-        Wanted::ArrowBody => arrow_body_row(kind),
-        Wanted::Handler => handler_row(kind),
-        Wanted::CaseItem => case_item_row(kind),
-        Wanted::DeclaratorItem => declarator_item_row(kind),
-        Wanted::ForInit => for_init_row(kind),
-        Wanted::ForLeft => for_left_row(kind),
-        Wanted::Declaration => declaration_row(kind),
-        Wanted::DefaultExport => default_export_row(kind),
-        Wanted::ClassBlock => class_block_row(kind),
-        Wanted::ClassItem => class_item_row(kind),
-        Wanted::MethodValue => method_value_row(kind),
-        Wanted::DeclaredName => declared_name_row(kind),
-        Wanted::ReadName => read_name_row(kind),
-        Wanted::PrivateKey => private_key_row(kind),
-        Wanted::Expression => expression_row(kind),
-        Wanted::ExpressionOrPrivate => expression_or_private_row(kind),
-        Wanted::Callee => callee_row(kind),
-        Wanted::Argument => argument_row(kind),
-        Wanted::ObjectItem => object_item_row(kind),
-        Wanted::ChainPart => chain_part_row(kind),
-        Wanted::Template => template_row(kind),
-        Wanted::QuasiItem => quasi_item_row(kind),
-        Wanted::DirectiveText => directive_text_row(kind),
-        Wanted::Binding => binding_row(kind),
-        Wanted::BindingValue => binding_value_row(kind),
-        Wanted::BindingElement => binding_element_row(kind),
-        Wanted::BindingItem => binding_item_row(kind),
-        Wanted::SimpleTarget => simple_target_row(kind),
-        Wanted::Target => target_row(kind),
-        Wanted::TargetValue => target_value_row(kind),
-        Wanted::TargetElement => target_element_row(kind),
-        Wanted::TargetItem => target_item_row(kind),
-        Wanted::ImportItem => import_item_row(kind),
-        Wanted::ExportItem => export_item_row(kind),
-        Wanted::ForeignItem => foreign_item_row(kind),
-        Wanted::NoNode => None,
+    among(standing(wanted), kind)
+}
+
+/// The rows that stand where a node of this class is wanted.
+fn standing(wanted: Wanted) -> &'static [Row]
+    ensures { result.now ≡ rows_standing wanted }
+{
+    STANDING[wanted as usize]
+}
+
+/// The first of these rows that is of this type.
+fn among(rows: &[Row], kind: NodeType) -> Option<Row>
+    ensures { result ≡ row_among kind rows.now }
+{
+    for row in rows {
+        if row.node_type() == kind {
+            return Some(*row);
+        }
     }
+    None
 }

@@ -1,25 +1,14 @@
 -- Where passes stand.
-use Rattle.std.proofs.Common.{◌≡◌, ◌∙◌, ℕ, zero, suc, ◌+◌, ◌≤◌, ◌<◌, ◌^◌, Bool, true, false, if◌then◌else◌, refl, sym, subst, ap, ap₂, arith, is_some}
-use Rattle.std.specs.List.{count_by}
+use Rattle.std.proofs.Common.{◌≡◌, ◌∙◌, ℕ, zero, suc, ◌+◌, ◌≤◌, ◌<◌, ◌^◌, Bool, true, false, if◌then◌else◌, refl, sym, subst, ap, ap₂, arith}
 use Rattle.js_syntax.specs.Node.{Forest}
 use Rattle.js_tree.specs.Count.{node_count}
 use Rattle.scope_rules.specs.Table.{Scoping}
-use Rattle.scope_rules.specs.Binding.{resolved_references}
-use Rattle.scope_laws.specs.Exact.{Exact}
-use Rattle.scope_match.specs.Matches.{Matches}
 use Rattle.js_scoping.specs.Build.{table_of, numbered}
 use Rattle.min_pass.specs.Pass.{passed, changes}
+use Rattle.min_passes.specs.Built.{Built}
 use Rattle.min_passes.specs.Unused.{names_of}
 use Rattle.min_passes.specs.Passes.{next, has_next, settled, passes_within, most_passes}
 use Rattle.min_passes.proofs.Clean.{next_no_more}
-
--- a tree with the table that was made of `u`, whose marks it has
-pub record Built (left : Forest) (s : Scoping) (u : Forest) : Type 0 where
-  pub marked : left ≡ numbered u
-  pub table : s ≡ table_of u
-  pub exact : Exact s left
-  pub matches : Matches s left
-  pub resolved : count_by (λ r. is_some r.symbol) s.references ≡ resolved_references u
 
 -- of `most` passes over a tree, these are done and those are left
 pub record Left (most : ℕ) (t : Forest) (done rest : ℕ) (u : Forest) : Type 0 where
@@ -33,12 +22,8 @@ Stands most t done left s = (u : Forest) × Built left s u × (rest : ℕ) × Le
 
 -- what holds behind the last
 pub record Ends (most : ℕ) (t : Forest) (done : ℕ) (left : Forest) (s : Scoping) : Type 0 where
-  pub trees : left ≡ numbered (settled most t)
-  pub table : s ≡ table_of (settled most t)
+  pub built : Built left s (settled most t)
   pub passes : done ≡ passes_within most t
-  pub exact : Exact s left
-  pub matches : Matches s left
-  pub resolved : count_by (λ r. is_some r.symbol) s.references ≡ resolved_references (settled most t)
 
 pub begins : (most : ℕ) (t left : Forest) (s : Scoping) → Built left s t → Stands most t 0 left s
 begins most t left s b = (t, b, most, record { all = Prim.omega arith; small = Prim.omega arith; trees = refl; passes = Prim.omega arith })
@@ -60,14 +45,7 @@ no_passes zero u h = refl
 no_passes (suc rest) u h = ap (λ (b : Bool). if b then suc (passes_within rest (next u)) else zero) h
 
 ends_at : (most : ℕ) (t : Forest) (done : ℕ) (left : Forest) (s : Scoping) (u : Forest) → Built left s u → settled most t ≡ u → passes_within most t ≡ done → Ends most t done left s
-ends_at most t done left s u b trees passes = record {
-  trees = b.marked ∙ ap numbered (sym trees);
-  table = b.table ∙ ap table_of (sym trees);
-  passes = sym passes;
-  exact = b.exact;
-  matches = b.matches;
-  resolved = b.resolved ∙ ap resolved_references (sym trees);
-}
+ends_at most t done left s u b trees passes = record { built = subst (Built left s) (sym trees) b; passes = sym passes }
 
 pub ended : (most : ℕ) (t : Forest) (done : ℕ) (left : Forest) (s : Scoping) → Stands most t done left s → changes (names_of s left) left ≡ false → Ends most t done left s
 ended most t done left s (u, b, rest, l) h =

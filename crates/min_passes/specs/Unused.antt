@@ -5,6 +5,7 @@ use Rattle.js_syntax.specs.declared.node_kind.NodeKind.{NodeKind as Kind}
 use Rattle.js_syntax.specs.declared.node_kind.NodeKind.TheVariants.{Program as program, Function as function, Class as class, BindingName as binding_name, ExportNamedDeclaration as export_named_declaration, ExportDefaultDeclaration as export_default_declaration}
 use Rattle.js_syntax.specs.declared.scalar.SourceType.TheVariants as source_type
 use Rattle.js_syntax.specs.Node.{Forest, nothing, node, absent, Note}
+use Rattle.scope_rules.specs.ScopeFlags as scope_flag
 use Rattle.scope_rules.specs.Table.{Symbol, Scoping}
 use Rattle.scope_table.specs.Reading.{scope_at, symbol_at, reference_at}
 use Rattle.min_pass.specs.Pass.{Names}
@@ -18,7 +19,7 @@ scope_has s scope bits = has_bits (scope_at s scope).flags bits
 -- A block of code that is not strict: a function that is declared there is a variable of the function around as well
 -- (ECMA-262 B.3.2).
 abbrev pub is_sloppy_block : Scoping → (scope : ℕ) → Bool
-is_sloppy_block s scope = not (scope_has s scope 1 || scope_has s scope 2 || scope_has s scope 4 || scope_has s scope 16)
+is_sloppy_block s scope = not (scope_has s scope scope_flag.strict_mode || scope_has s scope scope_flag.top || scope_has s scope scope_flag.function || scope_has s scope scope_flag.class_static_block)
 
 -- The names of a script's own scope are global: other scripts may use them (16.1.7).
 abbrev pub is_global : (is_script : Bool) → Symbol → Bool
@@ -26,11 +27,11 @@ is_global is_script y = is_script && y.scope == 0
 
 -- A variable that nothing refers to, in a program without direct calls of `eval`, which may use any name (19.2.1.1).
 abbrev pub variable_is_unused : Scoping → (is_script : Bool) → Symbol → Bool
-variable_is_unused s is_script y = length y.references == 0 && not (is_global is_script y || scope_has s 0 512)
+variable_is_unused s is_script y = length y.references == 0 && not (is_global is_script y || scope_has s 0 scope_flag.direct_eval)
 
 -- A function that nothing refers to, in a scope that no direct call of `eval` sees.
 abbrev pub function_is_unused : Scoping → (is_script : Bool) → Symbol → Bool
-function_is_unused s is_script y = length y.references == 0 && not (is_global is_script y || scope_has s y.scope 512 || is_sloppy_block s y.scope)
+function_is_unused s is_script y = length y.references == 0 && not (is_global is_script y || scope_has s y.scope scope_flag.direct_eval || is_sloppy_block s y.scope)
 
 -- ---- exports
 

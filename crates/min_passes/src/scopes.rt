@@ -1,5 +1,6 @@
 // What the flags of a scope say.
 ghost use Rattle.std.specs.Prelude.{◌≡◌, ◌==◌};
+ghost use Rattle.scope_rules.specs.ScopeFlags as scope_flag;
 ghost use Rattle.scope_table.specs.Reading.{scope_at};
 ghost use Rattle.min_passes.specs.Unused.{scope_has, is_sloppy_block};
 
@@ -19,31 +20,31 @@ fn flags_at(scoping: &Scoping, scope: u32) -> ScopeFlags
 }
 
 pub(crate) fn sees_eval(scoping: &Scoping, scope: u32) -> bool
-    ensures { result ≡ scope_has scoping.now scope 512 }
+    ensures { result ≡ scope_has scoping.now scope scope_flag.direct_eval }
 {
     flags_at(scoping, scope).contains(ScopeFlags::DirectEval)
 }
 
 fn is_strict(scoping: &Scoping, scope: u32) -> bool
-    ensures { result ≡ scope_has scoping.now scope 1 }
+    ensures { result ≡ scope_has scoping.now scope scope_flag.strict_mode }
 {
     flags_at(scoping, scope).contains(ScopeFlags::StrictMode)
 }
 
 fn is_top(scoping: &Scoping, scope: u32) -> bool
-    ensures { result ≡ scope_has scoping.now scope 2 }
+    ensures { result ≡ scope_has scoping.now scope scope_flag.top }
 {
     flags_at(scoping, scope).contains(ScopeFlags::Top)
 }
 
 fn is_function(scoping: &Scoping, scope: u32) -> bool
-    ensures { result ≡ scope_has scoping.now scope 4 }
+    ensures { result ≡ scope_has scoping.now scope scope_flag.function }
 {
     flags_at(scoping, scope).contains(ScopeFlags::Function)
 }
 
 fn is_static_block(scoping: &Scoping, scope: u32) -> bool
-    ensures { result ≡ scope_has scoping.now scope 16 }
+    ensures { result ≡ scope_has scoping.now scope scope_flag.class_static_block }
 {
     flags_at(scoping, scope).contains(ScopeFlags::ClassStaticBlock)
 }

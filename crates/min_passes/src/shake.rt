@@ -1,12 +1,8 @@
 // Passes until one changes nothing.
-ghost use Rattle.std.specs.Prelude.{◌≡◌, ◌<◌, ◌≤◌, ◌^◌, IfOk, is_some};
-ghost use Rattle.std.specs.List.{count_by};
-ghost use Rattle.js_syntax.specs.Node.{Forest, forest_of};
+ghost use Rattle.std.specs.Prelude.{◌≡◌, ◌<◌, ◌^◌, IfOk};
+ghost use Rattle.js_syntax.specs.Node.{forest_of};
 ghost use Rattle.js_tree.specs.Count.{node_count};
-ghost use Rattle.js_scoping.specs.Build.{table_of, numbered};
-ghost use Rattle.scope_laws.specs.Exact.{Exact};
-ghost use Rattle.scope_rules.specs.Binding.{resolved_references};
-ghost use Rattle.scope_match.specs.Matches.{Matches};
+ghost use Rattle.min_passes.specs.Built.{Built};
 ghost use Rattle.min_passes.specs.Passes.{settled, passes_within, most_passes, shaken, passes_of, IsClean};
 
 use crate::next::next_pass;
@@ -28,12 +24,8 @@ pub struct Shaken {
 
 fn settle(alloc: Global, program: Program) -> Result<Shaken, AllocError>
     requires small { node_count (forest_of program) < 2 ^ 32 }
-    ensures left { IfOk result (λ s. forest_of s.program ≡ numbered (settled (most_passes (forest_of program)) (forest_of program))) }
-    ensures scoping { IfOk result (λ s. s.scoping ≡ table_of (settled (most_passes (forest_of program)) (forest_of program))) }
+    ensures built { IfOk result (λ s. Built (forest_of s.program) s.scoping (settled (most_passes (forest_of program)) (forest_of program))) }
     ensures iterations { IfOk result (λ s. s.iterations ≡ passes_within (most_passes (forest_of program)) (forest_of program)) }
-    ensures exact { IfOk result (λ s. Exact s.scoping (forest_of s.program)) }
-    ensures matches { IfOk result (λ s. Matches s.scoping (forest_of s.program)) }
-    ensures resolved { IfOk result (λ s. count_by (λ r. is_some r.symbol) s.scoping.references ≡ resolved_references (settled (most_passes (forest_of program)) (forest_of program))) }
 {
     let nodes = count_nodes(&program, u32::MAX);
     let most = 2 * nodes;
@@ -58,17 +50,13 @@ fn settle(alloc: Global, program: Program) -> Result<Shaken, AllocError>
     })
 }
 
-/// What is left of a program behind the last pass that changes something, marked, with its table. The
-/// recursion goes as deep as the tree.
+/// What is left of a program behind the last pass that changes something, marked, with the table that is made of
+/// it (`Built`): the table is exact, matches, and by it nothing more may go. The recursion goes as deep as the tree.
 pub fn shake_program(alloc: Global, program: Program) -> Result<Shaken, AllocError>
     requires small { node_count (forest_of program) < 2 ^ 32 }
-    ensures left { IfOk result (λ s. forest_of s.program ≡ numbered (shaken (forest_of program))) }
-    ensures scoping { IfOk result (λ s. s.scoping ≡ table_of (shaken (forest_of program))) }
+    ensures built { IfOk result (λ s. Built (forest_of s.program) s.scoping (shaken (forest_of program))) }
     ensures iterations { IfOk result (λ s. s.iterations ≡ passes_of (forest_of program)) }
     ensures clean { IfOk result (λ s. IsClean s.scoping (forest_of s.program)) }
-    ensures exact { IfOk result (λ s. Exact s.scoping (forest_of s.program)) }
-    ensures matches { IfOk result (λ s. Matches s.scoping (forest_of s.program)) }
-    ensures resolved { IfOk result (λ s. count_by (λ r. is_some r.symbol) s.scoping.references ≡ resolved_references (shaken (forest_of program))) }
 {
     let cleared = clear_program(alloc, program)?;
     let left = settle(alloc, cleared)?;

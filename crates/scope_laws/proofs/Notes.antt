@@ -7,6 +7,7 @@ use Rattle.js_syntax.specs.declared.node_kind.NodeKind.TheVariants.{Program as p
 use Rattle.js_syntax.specs.Node.{Forest, nothing, node, absent, Tree, bare, total}
 use Rattle.form_rules.specs.Context.{is_module, has_use_strict, is_strict_list, is_strict_function, behind_first}
 use Rattle.js_tree.specs.Names.{eval_name, eval_of_call}
+use Rattle.scope_rules.specs.ScopeFlags as scope_flag
 use Rattle.scope_rules.specs.Context.{Context, is_there, has_second, opens, strict_in, in_body, in_block, below_it, of_function, inside}
 use Rattle.scope_rules.specs.Site.{has_eval, scope_row, scope_bits, scope_count, bit, form_bits}
 
@@ -88,7 +89,7 @@ scope_row_bare (property_definition is_static key) t = behind_first_bare t
 scope_row_bare k t = refl
 
 pub scope_bits_bare : (c : Context) (k : Kind) (t : Forest) → scope_bits c k (bare t) ≡ scope_bits c k t
-scope_bits_bare c k t = ap₂ (λ a b. bit a 1 + form_bits k c.constructs + bit b 512) (strict_bare c k t) (ap has_eval (scope_row_bare k t) ∙ has_eval_bare (scope_row k t))
+scope_bits_bare c k t = ap₂ (λ a b. bit a scope_flag.strict_mode + form_bits k c.constructs + bit b scope_flag.direct_eval) (strict_bare c k t) (ap has_eval (scope_row_bare k t) ∙ has_eval_bare (scope_row k t))
 
 -- ---- what stands around
 

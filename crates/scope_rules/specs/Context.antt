@@ -1,5 +1,5 @@
 -- What stands around a node, as far as names ask.
-use Rattle.std.specs.Prelude.{ℕ, List, [], ◌∷◌, Bool, ◌&&◌, true, false, ◌||◌, ◌==◌, Option, Some, None, if◌then◌else◌}
+use Rattle.std.specs.Prelude.{ℕ, ◌+◌, List, [], ◌∷◌, Bool, ◌&&◌, true, false, ◌||◌, ◌==◌, Option, Some, None, if◌then◌else◌}
 use Rattle.js_syntax.specs.declared.node_kind.NodeKind.{NodeKind as Kind}
 use Rattle.js_syntax.specs.declared.node_kind.NodeKind.TheVariants.{Program as program, Function as function, Class as class, MethodDefinition as method_definition, PropertyDefinition as property_definition, StaticBlock as static_block, BlockStatement as block_statement, WithStatement as with_statement, SwitchStatement as switch_statement, CatchClause as catch_clause, ForStatement as for_statement, ForInStatement as for_in_statement, ForOfStatement as for_of_statement, VariableDeclaration as variable_declaration, ImportDeclaration as import_declaration, AssignmentExpression as assignment_expression, UpdateExpression as update_expression, MemberExpression as member_expression, ParenthesizedExpression as parenthesized_expression, TargetArray as target_array, TargetObject as target_object, TargetProperty as target_property, TargetDefault as target_default, TargetRest as target_rest, Elements as elements, Properties as properties}
 use Rattle.js_syntax.specs.Node.{Forest, node}
@@ -18,6 +18,7 @@ use Rattle.scope_rules.specs.declared.layer.Layer.{Layer}
 use Rattle.scope_rules.specs.declared.layer.Part.TheVariants.{OwnName as own_name, Parameters as parameters, Body as body}
 use Rattle.scope_rules.specs.declared.layer.Role.{Role}
 use Rattle.scope_rules.specs.declared.layer.Role.TheVariants.{Read as read, Write as write, ReadAndWrite as read_and_write, Object as object}
+use Rattle.scope_rules.specs.SymbolFlags as symbol_flag
 
 -- what a binding name declares: where, as which bits of a symbol's flags, and whether as a function that is marked to
 -- have no side effects
@@ -113,22 +114,22 @@ declares c layer flags is_pure =
     record { layers = c.layers; scope = c.scope; variables = c.variables; block = c.block; declaring = record { layer = layer; flags = flags; is_pure = is_pure }; role = read; strict = c.strict; constructs = false }
 
 abbrev pub in_variables : Context → VariableKind → Context
-in_variables c variable_kind.Var = declares c c.variables 1 false
-in_variables c variable_kind.Let = declares c c.block 2 false
-in_variables c variable_kind.Const = declares c c.block 6 false
+in_variables c variable_kind.Var = declares c c.variables symbol_flag.function_scoped_variable false
+in_variables c variable_kind.Let = declares c c.block symbol_flag.block_scoped_variable false
+in_variables c variable_kind.Const = declares c c.block (symbol_flag.block_scoped_variable + symbol_flag.const_variable) false
 
 -- a declaration's name lies in the scope around it, and an expression's in its own
 abbrev pub at_function_name : Context → (scope : ℕ) → FunctionKind → (is_pure : Bool) → Context
-at_function_name c scope function_kind.Declaration is_pure = declares c c.block 32 is_pure
-at_function_name c scope how is_pure = declares c (own_name_of scope) 32 false
+at_function_name c scope function_kind.Declaration is_pure = declares c c.block symbol_flag.function is_pure
+at_function_name c scope how is_pure = declares c (own_name_of scope) symbol_flag.function false
 
 abbrev pub at_class_name : Context → (scope : ℕ) → ClassKind → Context
-at_class_name c scope class_kind.Declaration = declares c c.block 8 false
-at_class_name c scope class_kind.Expression = declares c (body_of scope) 8 false
+at_class_name c scope class_kind.Declaration = declares c c.block symbol_flag.class false
+at_class_name c scope class_kind.Expression = declares c (body_of scope) symbol_flag.class false
 
 abbrev pub at_parameters : Context → (scope : ℕ) → FunctionKind → (strict : Bool) → Context
 at_parameters c scope how strict =
-    declares (entered c scope (parameters_of scope) (parameters_of scope) (layers_of_parameters how scope c.layers) strict) (parameters_of scope) 1 false
+    declares (entered c scope (parameters_of scope) (parameters_of scope) (layers_of_parameters how scope c.layers) strict) (parameters_of scope) symbol_flag.function_scoped_variable false
 
 abbrev pub in_function : Context → (scope : ℕ) → FunctionKind → (strict : Bool) → Context
 in_function c scope how strict = entered c scope (body_of scope) (body_of scope) (body_of scope ∷ layers_of_parameters how scope c.layers) strict
@@ -165,7 +166,7 @@ of_method c how = below_it c
 abbrev pub beside : Context → Kind → (at : ℕ) → Context
 beside c (method_definition how is_static key) at = if at == 1 then of_method c how else below_it c
 beside c (variable_declaration how) at = in_variables c how
-beside c (import_declaration source) at = declares c c.block 64 false
+beside c (import_declaration source) at = declares c c.block symbol_flag.import false
 beside c (assignment_expression operator) at = if at == 0 then used (role_of operator) c else below_it c
 beside c (update_expression operator prefix) at = used read_and_write c
 beside c (member_expression key optional) at = if at == 0 then used (role_of_object c.role) c else below_it c
@@ -194,7 +195,7 @@ inside c scope (property_definition is_static key) below at = if has_second belo
 inside c scope block_statement below at = in_block c scope c.strict
 inside c scope switch_statement below at = if at == 1 then in_block c scope c.strict else below_it c
 inside c scope with_statement below at = if at == 1 then in_block c scope c.strict else below_it c
-inside c scope catch_clause below at = if at == 0 then declares (in_block c scope c.strict) (body_of scope) 16 false else in_block c scope c.strict
+inside c scope catch_clause below at = if at == 0 then declares (in_block c scope c.strict) (body_of scope) symbol_flag.catch_variable false else in_block c scope c.strict
 inside c scope for_statement below at = in_block c scope c.strict
 inside c scope for_in_statement below at = if at == 0 then used write (in_block c scope c.strict) else in_block c scope c.strict
 inside c scope for_of_statement below at = if at == 0 then used write (in_block c scope c.strict) else in_block c scope c.strict

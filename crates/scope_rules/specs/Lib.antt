@@ -1,3 +1,6 @@
+pub mod ScopeFlags
+pub mod SymbolFlags
+pub mod ReferenceFlags
 pub mod Context
 pub mod Site
 pub mod Binding

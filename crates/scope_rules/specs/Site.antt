@@ -11,6 +11,8 @@ use Rattle.js_tree.specs.Names.{eval_of_call}
 use Rattle.scope_rules.specs.declared.layer.Layer.{Layer}
 use Rattle.scope_rules.specs.declared.layer.Role.{Role}
 use Rattle.scope_rules.specs.declared.layer.Role.TheVariants.{ReadAndWrite as read_and_write, Object as object}
+use Rattle.scope_rules.specs.ScopeFlags as scope_flag
+use Rattle.scope_rules.specs.ReferenceFlags as reference_flag
 use Rattle.scope_rules.specs.Context.{Context, opens, strict_in, inside, outermost}
 
 -- a scope: what its node is marked with, the number of the scope around it, and the bits of its flags
@@ -57,39 +59,39 @@ scope_row (property_definition is_static key) below = behind_first below
 scope_row k below = below
 
 abbrev pub function_bits : FunctionKind → (constructs : Bool) → ℕ
-function_bits function_kind.Arrow constructs = 12
-function_bits how true = 36
-function_bits how false = 4
+function_bits function_kind.Arrow constructs = scope_flag.function + scope_flag.arrow
+function_bits how true = scope_flag.function + scope_flag.constructor
+function_bits how false = scope_flag.function
 
 abbrev pub form_bits : Kind → (constructs : Bool) → ℕ
-form_bits (program source) constructs = 2
+form_bits (program source) constructs = scope_flag.top
 form_bits (function how pure) constructs = function_bits how constructs
-form_bits static_block constructs = 16
-form_bits block_statement constructs = 64
-form_bits switch_statement constructs = 64
-form_bits for_statement constructs = 64
-form_bits for_in_statement constructs = 64
-form_bits for_of_statement constructs = 64
-form_bits catch_clause constructs = 128
-form_bits with_statement constructs = 256
+form_bits static_block constructs = scope_flag.class_static_block
+form_bits block_statement constructs = scope_flag.block
+form_bits switch_statement constructs = scope_flag.block
+form_bits for_statement constructs = scope_flag.block
+form_bits for_in_statement constructs = scope_flag.block
+form_bits for_of_statement constructs = scope_flag.block
+form_bits catch_clause constructs = scope_flag.catch
+form_bits with_statement constructs = scope_flag.with_statement
 form_bits k constructs = 0
 
 abbrev pub bit : (set : Bool) → ℕ → ℕ
 bit set n = if set then n else 0
 
 abbrev pub scope_bits : Context → Kind → (below : Forest) → ℕ
-scope_bits c k below = bit (strict_in c k below) 1 + form_bits k c.constructs + bit (has_eval (scope_row k below)) 512
+scope_bits c k below = bit (strict_in c k below) scope_flag.strict_mode + form_bits k c.constructs + bit (has_eval (scope_row k below)) scope_flag.direct_eval
 
 -- ---- references
 
 -- a name that is assigned is one in a target
 abbrev pub target_bits : Role → ℕ
-target_bits read_and_write = 3
-target_bits role = 2
+target_bits read_and_write = reference_flag.read + reference_flag.write
+target_bits role = reference_flag.write
 
 abbrev pub read_bits : Role → ℕ
-read_bits object = 5
-read_bits role = 1
+read_bits object = reference_flag.read + reference_flag.member_write_target
+read_bits role = reference_flag.read
 
 -- ---- the walk
 

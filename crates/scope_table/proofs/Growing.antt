@@ -1,5 +1,5 @@
 -- Symbols with one more declaration, or one more reference.
-use Rattle.std.proofs.Common.{◌≡◌, ◌∙◌, ◌<◌, ◌≤◌, ◌+◌, ℕ, zero, suc, List, [], ◌∷◌, ◌++◌, Bool, true, false, Option, Some, None, if◌then◌else◌, map, length, get_or, take, arith, refl, sym, ap}
+use Rattle.std.proofs.Common.{◌≡◌, ◌∙◌, ◌<◌, ◌+◌, ℕ, suc, List, [], ◌∷◌, ◌++◌, Bool, true, false, Option, if◌then◌else◌, map, length, get_or, take, arith, refl, sym, ap}
 use Rattle.std.specs.Int.RustNames.{bit_or}
 use Rattle.scope_rules.specs.Site.{BindingSite, ReferenceSite}
 use Rattle.scope_rules.specs.Binding.{Binding}

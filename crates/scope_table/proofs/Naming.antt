@@ -6,11 +6,11 @@ use Rattle.std.specs.Map.{lookup}
 use Rattle.std.specs.Ordering.{nat_cmp}
 use Rattle.std.specs.Str.{bytes_eq}
 use Rattle.std.proofs.lemmas.Slice.Eq.{bytes_eq-Decides}
-use Rattle.std.proofs.lemmas.List.{map-append, length-map, length-take-le, take_all}
+use Rattle.std.proofs.lemmas.List.{map-append, length-map, take_all}
 use Rattle.js_tree.proofs.Rows.{front_of}
 use Rattle.scope_rules.specs.Table.{Unresolved, is_number, references_to, is_named, unresolved_among, names_behind, name_number, unresolved_from}
 use Rattle.scope_table.specs.Group.{at_number}
-use Rattle.scope_table.specs.Unbound.{name_told, number_of, blank_name, with_use, IsNumbered, IsCounted}
+use Rattle.scope_table.specs.Unbound.{name_told, number_of, blank_name, with_use, IsCounted}
 use Rattle.scope_table.proofs.Growing.{both, references_push, take_next, length_front}
 use denote.Ref.{Bor}
 use Rattle.scope_names.proofs.Firsts.{count_up, is_none}

@@ -1,5 +1,5 @@
 -- A reference has a symbol where a layer around it declares its name.
-use Rattle.std.proofs.Common.{◌≡◌, ◌∙◌, ◌+◌, ◌&&◌, ◌||◌, ℕ, suc, List, [], ◌∷◌, Bool, true, false, Option, Some, None, is_some, option_map, option_and_then, cond, if◌then◌else◌, map, arith, refl, sym, ap, subst}
+use Rattle.std.proofs.Common.{◌≡◌, ◌∙◌, ◌+◌, ◌&&◌, ◌||◌, ℕ, suc, List, [], ◌∷◌, Bool, true, false, Some, None, is_some, option_map, option_and_then, cond, if◌then◌else◌, map, arith, refl, sym, ap, subst}
 use Rattle.std.specs.Bool.{nat_eq}
 use Rattle.std.specs.List.{count_by}
 use Rattle.std.specs.Str.{bytes_eq}

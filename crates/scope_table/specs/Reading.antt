@@ -1,7 +1,8 @@
 -- What is read of a scoping.
-use Rattle.std.specs.Prelude.{ℕ, zero, suc, ◌==◌, List, [], ◌∷◌, Bool, false, Option, Some, None, if◌then◌else◌, slice_index_or}
+use Rattle.std.specs.Prelude.{ℕ, zero, suc, ◌==◌, List, [], ◌∷◌, Bool, false, Option, Some, None, if◌then◌else◌, length, slice_index_or}
 use Rattle.std.specs.Int.RustNames.{bit_and}
 use Rattle.std.specs.Str.{bytes_eq}
+use Rattle.scope_rules.specs.ReferenceFlags as reference_flag
 use Rattle.scope_rules.specs.Table.{Named, Scope, Symbol, Reference, Scoping}
 
 -- ---- what a number names; nothing, past the last
@@ -25,7 +26,7 @@ abbrev pub reference_at : Scoping → ℕ → Reference
 reference_at s n = slice_index_or s.references n no_reference
 
 abbrev pub is_write : Reference → Bool
-is_write r = bit_and r.flags 2 == 2
+is_write r = bit_and r.flags reference_flag.write == reference_flag.write
 
 -- ---- names, from a scope up
 
@@ -39,9 +40,10 @@ scopes_up zero s n = []
 scopes_up (suc most) s None = []
 scopes_up (suc most) s (Some n) = n ∷ scopes_up most s (scope_at s n).parent
 
--- A scope's number is larger than that of each scope around it, so there are no more of them than its number.
+-- A chain that closes in no circle has each scope once at most, so it has no more of them than the table, in whatever
+-- order they are numbered.
 abbrev pub ancestors : Scoping → ℕ → List ℕ
-ancestors s n = scopes_up (suc n) s (Some n)
+ancestors s n = scopes_up (length s.scopes) s (Some n)
 
 abbrev pub first_of : Option ℕ → Option ℕ → Option ℕ
 first_of None n = n

@@ -1,5 +1,8 @@
 // What scopes, symbols and references are.
 ghost use Rattle.std.specs.Prelude.{⊤, [], ◌∷◌, codes};
+ghost use Rattle.scope_rules.specs.ScopeFlags as scope_flag;
+ghost use Rattle.scope_rules.specs.SymbolFlags as symbol_flag;
+ghost use Rattle.scope_rules.specs.ReferenceFlags as reference_flag;
 
 use bitflags::{Flag, Flags, bitflag_items};
 
@@ -27,7 +30,7 @@ impl Flags for ScopeFlags {
 
     ghost exact = { ⊤ };
 
-    ghost table = { (codes "StrictMode", 1) ∷ (codes "Top", 2) ∷ (codes "Function", 4) ∷ (codes "Arrow", 8) ∷ (codes "ClassStaticBlock", 16) ∷ (codes "Constructor", 32) ∷ (codes "Block", 64) ∷ (codes "Catch", 128) ∷ (codes "With", 256) ∷ (codes "DirectEval", 512) ∷ [] };
+    ghost table = { (codes "StrictMode", scope_flag.strict_mode) ∷ (codes "Top", scope_flag.top) ∷ (codes "Function", scope_flag.function) ∷ (codes "Arrow", scope_flag.arrow) ∷ (codes "ClassStaticBlock", scope_flag.class_static_block) ∷ (codes "Constructor", scope_flag.constructor) ∷ (codes "Block", scope_flag.block) ∷ (codes "Catch", scope_flag.catch) ∷ (codes "With", scope_flag.with_statement) ∷ (codes "DirectEval", scope_flag.direct_eval) ∷ [] };
 
     ghost set_of = { λ f. f.0 };
 
@@ -65,7 +68,7 @@ impl Flags for SymbolFlags {
 
     ghost exact = { ⊤ };
 
-    ghost table = { (codes "FunctionScopedVariable", 1) ∷ (codes "BlockScopedVariable", 2) ∷ (codes "ConstVariable", 4) ∷ (codes "Class", 8) ∷ (codes "CatchVariable", 16) ∷ (codes "Function", 32) ∷ (codes "Import", 64) ∷ [] };
+    ghost table = { (codes "FunctionScopedVariable", symbol_flag.function_scoped_variable) ∷ (codes "BlockScopedVariable", symbol_flag.block_scoped_variable) ∷ (codes "ConstVariable", symbol_flag.const_variable) ∷ (codes "Class", symbol_flag.class) ∷ (codes "CatchVariable", symbol_flag.catch_variable) ∷ (codes "Function", symbol_flag.function) ∷ (codes "Import", symbol_flag.import) ∷ [] };
 
     ghost set_of = { λ f. f.0 };
 
@@ -99,7 +102,7 @@ impl Flags for ReferenceFlags {
 
     ghost exact = { ⊤ };
 
-    ghost table = { (codes "Read", 1) ∷ (codes "Write", 2) ∷ (codes "MemberWriteTarget", 4) ∷ [] };
+    ghost table = { (codes "Read", reference_flag.read) ∷ (codes "Write", reference_flag.write) ∷ (codes "MemberWriteTarget", reference_flag.member_write_target) ∷ [] };
 
     ghost set_of = { λ f. f.0 };
 

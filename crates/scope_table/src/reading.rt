@@ -156,7 +156,7 @@ impl Scoping {
     {
         let mut above = Vec::new(alloc);
         let mut next = Some(scope.0);
-        for _i in 0..u64::from(scope.0) + 1 {
+        for _i in 0..self.scopes_len() {
             let Some(at) = next else {
                 return Ok(above);
             };
@@ -181,7 +181,8 @@ impl Scoping {
         ensures binding { option_map (λ s. s.0) result ≡ binding_of self.now scope.0 name.now }
     {
         let mut next = Some(scope.0);
-        for _i in 0..u64::from(scope.0) + 1 {
+        let most = self.scopes_len();
+        for _i in 0..most {
             let Some(at) = next else {
                 return None;
             };

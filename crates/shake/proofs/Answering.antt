@@ -67,7 +67,7 @@ tree_answers command status.InputTooLong t slice bytes written now faults later 
 tree_answers command status.Syntax t slice bytes written now faults later is same a = absurd a
 tree_answers command status.Tree t slice bytes written now faults later is same a = absurd a
 
-tree_line : (command : Command) (s : Status) (t : Tree) (slice bytes line : List ℕ) (written now : Option (List ℕ)) (faults later : ℕ) → IsReadAs slice (Ok (forest_of t)) → slice ≡ bytes
+pub tree_line : (command : Command) (s : Status) (t : Tree) (slice bytes line : List ℕ) (written now : Option (List ℕ)) (faults later : ℕ) → IsReadAs slice (Ok (forest_of t)) → slice ≡ bytes
     → TreeAnswers command s (forest_of t) written now faults later → IsTreeLineFor s (forest_of t) line → IsLineFor s bytes line
 tree_line command status.Ok t slice bytes line written now faults later is same a says = says
 tree_line command status.WriteFault t slice bytes line written now faults later is same a says = says
@@ -95,7 +95,7 @@ refusal_answers command (minify.TooLarge nodes deep) s t w f cause (inl told) = 
 refusal_answers command (minify.IllFormed rule place) s t w f cause (inl told) = rw told ((cause.0, not_none cause.1), refl)
 refusal_answers command minify.OutOfMemory s t w f cause (inl told) = rw told refl
 
-refusal_line_for : (e : MinifyError) (s : Status) (t : Forest) (line : List ℕ) → IsCause e t → IsMinifyAnswer e s → line ≡ minify_line e s → IsTreeLineFor s t line
+pub refusal_line_for : (e : MinifyError) (s : Status) (t : Forest) (line : List ℕ) → IsCause e t → IsMinifyAnswer e s → line ≡ minify_line e s → IsTreeLineFor s t line
 refusal_line_for e s t line cause (inr short) says = rw short (rw short at says)
 refusal_line_for (minify.TooLarge nodes deep) s t line cause (inl told) says = rw told (rw told at says ∙ ap₂ (λ (n l : ℕ). large_line n l) cause.1.0 cause.1.1)
 refusal_line_for (minify.IllFormed rule place) s t line cause (inl told) says = rw told (at_place place rule, cause.1, rw told at says)
@@ -114,7 +114,7 @@ sent_answers command s t text written now faults later within is back (inl told)
 sent_answers command s t text written now faults later within is back (inr told) sent front =
     rw told (within, subst (λ (x : List ℕ). SendsFront x written now) is (front told).0, (front told).1)
 
-sent_line_for : (s : Status) (t : Forest) (line : List ℕ) → (s ≡ status.Ok) ⊎ (s ≡ status.WriteFault) → line ≡ status_line s → IsTreeLineFor s t line
+pub sent_line_for : (s : Status) (t : Forest) (line : List ℕ) → (s ≡ status.Ok) ⊎ (s ≡ status.WriteFault) → line ≡ status_line s → IsTreeLineFor s t line
 sent_line_for s t line (inl told) says = rw told (rw told at says)
 sent_line_for s t line (inr told) says = rw told (rw told at says)
 

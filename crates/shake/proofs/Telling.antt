@@ -26,7 +26,7 @@ emptied None now bytes h = tt
 emptied (Some all) now bytes h = h.1
 
 -- what was read fits the table of node types
-read_fits : (bytes : List ℕ) (t : Forest) → IsReadAs bytes (Ok t) → Fits root t
+pub read_fits : (bytes : List ℕ) (t : Forest) → IsReadAs bytes (Ok t) → Fits root t
 read_fits bytes t is = nodes_fit 128 root untyped is.1.0 t is.1.2
 
 -- the answers for the bytes, as answers of the program

@@ -3,3 +3,4 @@ pub mod Answer
 pub mod Fault
 pub mod Line
 pub mod Run
+pub mod Ran

@@ -4,6 +4,7 @@ ghost use Rattle.json_text.specs.Fault.{unknown_node, bad_field};
 ghost use Rattle.shake.specs.Line as spec;
 ghost use Rattle.shake.specs.Line.{Says, shown, fault_line};
 ghost use Rattle.shake.specs.Fault.{fault_of, minify_text};
+ghost use Rattle.shake.specs.Ran.{Tells};
 
 use json_text::TreeError;
 use min_driver::MinifyError;
@@ -13,6 +14,7 @@ use std::alloc::{AllocError, Global};
 /// Says a line. A fault of the sink ends it, and changes no answer.
 pub fn say<E: Sink>(err: &mut E, line: &str)
     ensures said { Says (λ l. l ≡ line.now) (E.written err.old) (E.written err.new) (E.faults err.old) (E.faults err.new) }
+    ensures told { Tells (λ l. l ≡ line.now) (E.taken err.old) (E.taken err.new) }
     ensures later { E.faults err.old ≤ E.faults err.new }
 {
     match write_all(err, line.as_bytes()) {

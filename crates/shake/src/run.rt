@@ -1,17 +1,19 @@
 // The program, over any source and sinks.
-ghost use Rattle.std.specs.Prelude.{◌≡◌, ◌≤◌, ◌⊎◌, ◌++◌, ℕ, IfOk, IfErr, false, true, map, string_bytes};
+ghost use Rattle.std.specs.Prelude.{◌≡◌, ◌≤◌, ◌⊎◌, ◌+◌, ◌++◌, ℕ, IfOk, IfErr, false, true, map, string_bytes};
 ghost use Rattle.js_syntax.specs.Node.{forest_of};
 ghost use Rattle.min_passes.specs.Passes.{shaken};
 ghost use Rattle.min_driver.specs.Minify.{IsCause};
 ghost use Rattle.shake.specs.Fault.{IsMinifyAnswer, minify_line};
+ghost use Rattle.shake_streams.specs.Past.{StopsAtOnce};
 ghost use Rattle.shake_streams.specs.Moves.{HasFailed, Known, SendsFront};
-ghost use Rattle.shake_streams.specs.Reading.{IsLonger};
+ghost use Rattle.shake_streams.specs.Reading.{IsLonger, LeavesRest};
 ghost use Rattle.json_text.specs.Answer.{IsCauseOf};
 ghost use Rattle.shake_words.specs.Meaning.{accepts};
 ghost use Rattle.shake.specs.Line.{Says, IsLineOf, status_line};
 ghost use Rattle.shake.specs.Fault.{IsAnswerTo, refusal_line};
 ghost use Rattle.shake.specs.Answer.{TreeAnswers, IsTreeLineFor, Answers, IsLineFor};
 ghost use Rattle.shake.specs.Run.{max_input, shaken_output, IsSound, IsReadBack, Shakes, ShakesFront, IsBadJson, IsBadTree, IsLargeTree, IsBrokenTree, writes, Completes};
+ghost use Rattle.shake.specs.Ran.{Took, Follows, Ran, Tells, IsLineGiven};
 
 use crate::line::{fault_text, minify_text, say};
 use crate::output::output;
@@ -29,6 +31,7 @@ const MAX_INPUT: u64 = 268_435_456;
 fn out_of_memory<E: Sink>(err: &mut E) -> Status
     ensures answer { result ≡ Status.OutOfMemory }
     ensures line { Says (λ l. l ≡ status_line Status.OutOfMemory) (E.written err.old) (E.written err.new) (E.faults err.old) (E.faults err.new) }
+    ensures told { Tells (λ l. l ≡ status_line Status.OutOfMemory) (E.taken err.old) (E.taken err.new) }
     ensures later { E.faults err.old ≤ E.faults err.new }
 {
     say(err, "shake: out of memory\n");
@@ -39,6 +42,7 @@ fn out_of_memory<E: Sink>(err: &mut E) -> Status
 fn refuse<E: Sink>(alloc: Global, error: TreeError, err: &mut E) -> Status
     ensures answer { IsAnswerTo error result }
     ensures line { Says (λ l. l ≡ refusal_line error result) (E.written err.old) (E.written err.new) (E.faults err.old) (E.faults err.new) }
+    ensures told { Tells (λ l. l ≡ refusal_line error result) (E.taken err.old) (E.taken err.new) }
     ensures later { E.faults err.old ≤ E.faults err.new }
 {
     match error {
@@ -61,6 +65,7 @@ fn refuse<E: Sink>(alloc: Global, error: TreeError, err: &mut E) -> Status
 fn refuse_program<E: Sink>(alloc: Global, error: MinifyError, err: &mut E) -> Status
     ensures answer { IsMinifyAnswer error result }
     ensures line { Says (λ l. l ≡ minify_line error result) (E.written err.old) (E.written err.new) (E.faults err.old) (E.faults err.new) }
+    ensures told { Tells (λ l. l ≡ minify_line error result) (E.taken err.old) (E.taken err.new) }
     ensures later { E.faults err.old ≤ E.faults err.new }
 {
     let status = match error {
@@ -83,6 +88,8 @@ fn send<K: Sink, E: Sink>(text: String, out: &mut K, err: &mut E) -> Status
     ensures front { result ≡ Status.WriteFault → SendsFront (string_bytes text) (K.written out.old) (K.written out.new) × HasFailed (K.faults out.old) (K.faults out.new) }
     ensures answer { (result ≡ Status.Ok) ⊎ (result ≡ Status.WriteFault) }
     ensures line { Says (λ l. l ≡ status_line result) (E.written err.old) (E.written err.new) (E.faults err.old) (E.faults err.new) }
+    ensures took { Took result (string_bytes text) (K.taken out.old) (K.taken out.new) }
+    ensures told { Tells (λ l. l ≡ status_line result) (E.taken err.old) (E.taken err.new) }
     ensures out_later { K.faults out.old ≤ K.faults out.new }
     ensures err_later { E.faults err.old ≤ E.faults err.new }
 {
@@ -126,6 +133,8 @@ fn answer_program<K: Sink, E: Sink>(
 ) -> Status
     ensures answer { TreeAnswers command result (forest_of program.old) (K.written out.old) (K.written out.new) (K.faults out.old) (K.faults out.new) }
     ensures line { Says (IsTreeLineFor result (forest_of program.old)) (E.written err.old) (E.written err.new) (E.faults err.old) (E.faults err.new) }
+    ensures took { Took result (shaken_output command (forest_of program.old)) (K.taken out.old) (K.taken out.new) }
+    ensures told { Tells (IsTreeLineFor result (forest_of program.old)) (E.taken err.old) (E.taken err.new) }
     ensures out_later { K.faults out.old ≤ K.faults out.new }
     ensures err_later { E.faults err.old ≤ E.faults err.new }
 {
@@ -145,6 +154,8 @@ pub(crate) fn answer_tree<K: Sink, E: Sink>(
 ) -> Status
     ensures answer { TreeAnswers command result (forest_of program) (K.written out.old) (K.written out.new) (K.faults out.old) (K.faults out.new) }
     ensures line { Says (IsTreeLineFor result (forest_of program)) (E.written err.old) (E.written err.new) (E.faults err.old) (E.faults err.new) }
+    ensures took { Took result (shaken_output command (forest_of program)) (K.taken out.old) (K.taken out.new) }
+    ensures told { Tells (IsTreeLineFor result (forest_of program)) (E.taken err.old) (E.taken err.new) }
     ensures out_later { K.faults out.old ≤ K.faults out.new }
     ensures err_later { E.faults err.old ≤ E.faults err.new }
 {
@@ -161,6 +172,8 @@ fn answer<K: Sink, E: Sink>(
 ) -> Status
     ensures answer { Answers command result bytes.items (K.written out.old) (K.written out.new) (K.faults out.old) (K.faults out.new) }
     ensures line { Says (IsLineFor result bytes.items) (E.written err.old) (E.written err.new) (E.faults err.old) (E.faults err.new) }
+    ensures follows { Follows command result bytes.items (K.taken out.old) (K.taken out.new) }
+    ensures told { Tells (IsLineFor result bytes.items) (E.taken err.old) (E.taken err.new) }
     ensures out_later { K.faults out.old ≤ K.faults out.new }
     ensures err_later { E.faults err.old ≤ E.faults err.new }
 {
@@ -203,6 +216,19 @@ pub fn shake<S: Source, K: Sink, E: Sink>(
     // After any other refusal nothing was written.
     ensures unwritten { writes result ≡ false → K.written out.new ≡ K.written out.old }
     ensures line { Says (IsLineOf result (S.left source.old)) (E.written err.old) (E.written err.new) (E.faults err.old) (E.faults err.new) }
+
+    // The run itself, whatever the streams are: what the source gave, what the sink of the output took,
+    // and what standard error was told.
+    ensures run { Ran (map string_bytes words.now) result (S.given source.old) (S.given source.new) (K.taken out.old) (K.taken out.new) }
+    ensures told { Tells (IsLineGiven result (S.given source.old) (S.given source.new)) (E.taken err.old) (E.taken err.new) }
+
+    // No call of a stream comes behind one that failed or told the end.
+    ensures source_stops { StopsAtOnce (S.given source.old) (S.given source.new) }
+    ensures out_stops { StopsAtOnce (K.taken out.old) (K.taken out.new) }
+    ensures err_stops { StopsAtOnce (E.taken err.old) (E.taken err.new) }
+
+    // What is left of the source, where it tells it.
+    ensures rest { LeavesRest (S.left source.old) (S.left source.new) (max_input + 1) }
 
     // It succeeds where nothing stands in its way.
     ensures completes { Completes (accepts (map string_bytes words.now)) (S.left source.old) (S.faults source.old) (S.faults source.new) (K.faults out.old) (K.faults out.new) result }

@@ -1,2 +1,4 @@
 pub mod Sending
 pub mod Taking
+mod Walks
+pub mod Histories

@@ -4,6 +4,7 @@ ghost use Rattle.std.specs.List.{Contains};
 ghost use Rattle.shake_streams.specs.Moves.{Pulls, Pushes};
 
 use crate::front::copy_front;
+use crate::history::{History, Note};
 use crate::traits::{Failed, Sink, Source};
 use std::alloc::{AllocError, Global};
 use std::marker::Model;
@@ -16,6 +17,7 @@ pub struct MemSource {
     failing: Vec<u64>,
     calls: u64,
     faults: u64,
+    given: History,
 }
 
 impl Model for MemSource {
@@ -29,6 +31,7 @@ impl Model for MemSource {
       failing = s.failing.items;
       calls = s.calls;
       faults = s.faults;
+      given = s.given.past;
     } };
 
     ghost invariant = { λ s. s.next ≤ vec_len s.bytes };
@@ -48,6 +51,7 @@ impl MemSource {
             failing: failing.to_vec(alloc)?,
             calls: 0,
             faults: 0,
+            given: History::new(),
         })
     }
 }
@@ -55,27 +59,31 @@ impl MemSource {
 impl Source for MemSource {
     ghost use Rattle.shake_streams.specs.Memory.{after_pull, after_failed_pull, next_count};
 
+    ghost given = { λ s. s.given };
+
     ghost left = { λ s. Some s.left };
 
     ghost faults = { λ s. s.faults };
 
     fn pull(&mut self, into: &mut [u8]) -> Result<usize, Failed>
         ensures pulls { Pulls result into.old into.new (Some self.old.left) (Some self.new.left)
-            self.old.faults self.new.faults }
+            self.old.faults self.new.faults self.old.given self.new.given }
         ensures fails { IsErr result ↔ Contains self.old.failing (next_count self.old.calls) }
         ensures count { IfOk result (λ n. n ≡ min (length into.old) (length self.old.left)) }
         ensures past { IfOk result (λ n. drop n into.new ≡ drop n into.old) }
         ensures untouched { OnErr result (into.new ≡ into.old) }
-        ensures after { MatchResult result (λ n. self.new ≡ after_pull self.old n)
+        ensures after { MatchResult result (λ n. self.new ≡ after_pull self.old n (length into.old) into.new)
             (λ _. self.new ≡ after_failed_pull self.old) }
     {
         self.calls = self.calls.saturating_add(1);
         if self.failing.contains(&self.calls) {
             self.faults = self.faults.saturating_add(1);
+            self.given = self.given.then(&Note::Fault);
             return Err(Failed);
         }
         let count = copy_front(into, &self.bytes[self.next..]);
         self.next += count;
+        self.given = self.given.then_pulled(into, count);
         Ok(count)
     }
 }
@@ -88,6 +96,7 @@ pub struct MemSink {
     failing: Vec<u64>,
     calls: u64,
     faults: u64,
+    taken: History,
 }
 
 impl Model for MemSink {
@@ -102,6 +111,7 @@ impl Model for MemSink {
       failing = s.failing.items;
       calls = s.calls;
       faults = s.faults;
+      taken = s.taken.past;
     } };
 
     ghost invariant = { λ s. vec_len s.bytes + s.room ≤ vec_capacity s.bytes };
@@ -122,6 +132,7 @@ impl MemSink {
             failing: failing.to_vec(alloc)?,
             calls: 0,
             faults: 0,
+            taken: History::new(),
         })
     }
 
@@ -136,13 +147,15 @@ impl MemSink {
 impl Sink for MemSink {
     ghost use Rattle.shake_streams.specs.Memory.{Refuses, after_push, after_failed_push};
 
+    ghost taken = { λ s. s.taken };
+
     ghost written = { λ s. Some s.written };
 
     ghost faults = { λ s. s.faults };
 
     fn push(&mut self, piece: &[u8]) -> Result<usize, Failed>
         ensures pushes { Pushes result piece.now (Some self.old.written) (Some self.new.written)
-            self.old.faults self.new.faults }
+            self.old.faults self.new.faults self.old.taken self.new.taken }
         ensures fails { IsErr result ↔ Refuses self.old piece.now }
         ensures count { IfOk result (λ n. n ≡ min (length piece.now) self.old.room) }
         ensures after { MatchResult result (λ n. self.new ≡ after_push self.old (take n piece.now))
@@ -152,11 +165,13 @@ impl Sink for MemSink {
         let is_full = self.room == 0 && !piece.is_empty();
         if is_full || self.failing.contains(&self.calls) {
             self.faults = self.faults.saturating_add(1);
+            self.taken = self.taken.then(&Note::Fault);
             return Err(Failed);
         }
         let count = piece.len().min(self.room);
         self.bytes.extend_from_slice(&piece[..count]).unwrap();
         self.room -= count;
+        self.taken = self.taken.then(&Note::Bytes(&piece[..count]));
         Ok(count)
     }
 }

@@ -1,6 +1,6 @@
 // Reading a source to its end.
 ghost use Rattle.std.specs.Prelude.{◌≡◌, ◌+◌, ◌-◌, ◌≤◌, IfOk, IfErr, length, min};
-ghost use Rattle.shake_streams.specs.Reading.{Ends, LeavesRest, ReadsNot};
+ghost use Rattle.shake_streams.specs.Reading.{Ends, GivesAll, GivesNot, LeavesRest, ReadsNot};
 ghost use Rattle.shake_streams.specs.declared.read.ReadAllError.TheVariants.{OutOfMemory};
 
 use crate::traits::Source;
@@ -43,16 +43,18 @@ fn next_size(had: usize, limit: u64) -> usize
 }
 
 /// All the bytes that the source has, of which there are at most `limit`. It reads one byte past the
-/// limit where there is one.
+/// limit where there is one, and makes no call behind one that failed or told the end.
 pub fn read_all<S: Source>(
     alloc: Global,
     source: &mut S,
     limit: u64,
 ) -> Result<Vec<u8>, ReadAllError>
     ensures ok { IfOk result (λ v. Ends (S.left source.old) (S.left source.new) v.items) }
+    ensures gave { IfOk result (λ v. GivesAll (S.given source.old) (S.given source.new) v.items) }
     ensures within { IfOk result (λ v. length v.items ≤ limit) }
     ensures err { IfErr result
         (λ e. ReadsNot e (S.left source.old) limit (S.faults source.old) (S.faults source.new)) }
+    ensures gave_not { IfErr result (λ e. GivesNot e (S.given source.old) (S.given source.new) limit) }
     ensures rest { LeavesRest (S.left source.old) (S.left source.new) (limit + 1) }
     ensures later { S.faults source.old ≤ S.faults source.new }
 {

@@ -3,3 +3,4 @@ pub mod Exposure
 pub mod Removes
 pub mod Arranged
 pub mod Rows
+pub mod Calls

@@ -1,5 +1,7 @@
 // The laws. Each is a contract, so that the check proves it.
+ghost use Rattle.std.specs.Prelude.{◌≡◌};
 ghost use Rattle.js_syntax.specs.Node.{Forest};
+ghost use Rattle.steps_allowed.specs.Calls.{root_calls};
 ghost use Rattle.steps_allowed.specs.Removes.{RemovesMany, Removals};
 
 /// Changes after changes are changes.
@@ -15,4 +17,9 @@ pub fn removals_compose()
 /// Changes of a tree are removals of its program.
 pub fn changes_are_removals()
     ensures { (t u : Forest) → RemovesMany t u → Removals t u }
+{}
+
+/// Removals take no call out of a program's own list, and put none in.
+pub fn calls_of_a_program_stay()
+    ensures { (t u : Forest) → Removals t u → root_calls t ≡ root_calls u }
 {}

@@ -7,7 +7,7 @@ ghost use Rattle.form_rules.specs.Samples.{a_module, a, reads, one, does, let_, 
 ghost use Rattle.scope_rules.specs.Context.{body_of};
 ghost use Rattle.scope_rules.specs.Binding.{named_in};
 ghost use Rattle.scope_laws.specs.Place.{plug};
-ghost use Rattle.steps_allowed.specs.Removes.{a_node, At, SilentStatement, IsFree, Removes};
+ghost use Rattle.steps_allowed.specs.Removes.{a_node, At, SilentStatement, IsFree, Removes, Removals};
 ghost use Rattle.steps_allowed.specs.Rows.{before, call_of_a, if_one, empty, a_is_read, a_is_exported};
 
 /// A statement of a literal becomes empty, in a list and alone, and leaves the list then.
@@ -21,6 +21,12 @@ pub fn silent_statements_go()
 pub fn calls_stay()
     ensures call { At (before []) (a_node Kind.ExpressionStatement nowhere call_of_a) (SilentStatement (a_module (does call_of_a ∷ [])) call_of_a) → ⊥ }
     ensures name { At (before []) (a_node Kind.ExpressionStatement nowhere (reads a)) (SilentStatement (a_module (does (reads a) ∷ [])) (reads a)) → ⊥ }
+{}
+
+/// No removals lead from `a();` to an empty module, nor from `1; a();`, of which `1;` may go.
+pub fn a_call_never_goes()
+    ensures alone { Removals (a_module (does call_of_a ∷ [])) (a_module []) → ⊥ }
+    ensures behind { Removals (a_module (does one ∷ does call_of_a ∷ [])) (a_module []) → ⊥ }
 {}
 
 /// A variable and a function that nothing refers to go.

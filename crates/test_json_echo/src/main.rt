@@ -8,6 +8,7 @@ ghost use Rattle.test_json_echo.specs.Echo.{IsEcho};
 use serde_json::Value;
 use shake_streams::{StdSink, StdSource, read_all, write_all};
 use std::alloc::Global;
+use std::io;
 use std::process::ExitCode;
 
 // The text of the bytes' value, where they have one.
@@ -29,7 +30,7 @@ fn main(rt: HostRuntime) -> ExitCode {
     let Some(text) = echo(rt.alloc(), bytes) else {
         return ExitCode::from(4);
     };
-    let mut out = StdSink::new(&rt);
+    let mut out = StdSink::new(io::writer(&rt));
     match write_all(&mut out, text.as_bytes()) {
         Ok(()) => ExitCode::from(0),
         Err(_) => ExitCode::from(8),

@@ -62,3 +62,63 @@ global_comes_too_late = refl
 pub cells_of_the_head : Holds row.cells_of_the_head
 unfolding computes
 cells_of_the_head = refl
+
+pub passed_on : Holds row.passed_on
+unfolding computes
+passed_on = refl
+
+pub logic_on_others : Holds row.logic_on_others
+unfolding computes
+logic_on_others = refl
+
+pub others_have_properties : Holds row.others_have_properties
+unfolding computes
+others_have_properties = refl
+
+pub others_are_not_called : Holds row.others_are_not_called
+unfolding computes
+others_are_not_called = refl
+
+pub others_are_thrown : Holds row.others_are_thrown
+unfolding computes
+others_are_thrown = refl
+
+pub added : Holds row.added
+unfolding computes
+added = refl
+
+pub compared : Holds row.compared
+unfolding computes
+compared = refl
+
+pub compared_with_null : Holds row.compared_with_null
+unfolding computes
+compared_with_null = refl
+
+pub put_in_order : Holds row.put_in_order
+unfolding computes
+put_in_order = refl
+
+pub made_a_text : Holds row.made_a_text
+unfolding computes
+made_a_text = refl
+
+pub asked_for : Holds row.asked_for
+unfolding computes
+asked_for = refl
+
+pub negated : Holds row.negated
+unfolding computes
+negated = refl
+
+pub constructed : Holds row.constructed
+unfolding computes
+constructed = refl
+
+pub taken_as_a_key : Holds row.taken_as_a_key
+unfolding computes
+taken_as_a_key = refl
+
+pub switched_on : Holds row.switched_on
+unfolding computes
+switched_on = refl

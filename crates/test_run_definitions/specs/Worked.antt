@@ -4,16 +4,20 @@ use Rattle.js_syntax.specs.declared.node_kind.NodeKind.{NodeKind as Kind}
 use Rattle.js_syntax.specs.Node.{Forest}
 use Rattle.js_syntax.specs.declared.value.LiteralValue.{LiteralValue as Literal}
 use Rattle.js_syntax.specs.declared.value.ModuleName.TheVariants.{Name as plain_name}
+use Rattle.js_syntax.specs.declared.value.Key.TheVariants.{Below as key_below}
 use Rattle.js_syntax.specs.declared.kind.VariableKind.TheVariants as variable
 use Rattle.js_syntax.specs.declared.kind.FunctionKind.TheVariants as function_kind
 use Rattle.js_syntax.specs.declared.operator.AssignmentOperator.{AssignmentOperator}
 use Rattle.js_syntax.specs.declared.operator.AssignmentOperator.TheVariants as assignment
 use Rattle.js_syntax.specs.declared.operator.BinaryOperator.TheVariants as binary
 use Rattle.js_syntax.specs.declared.operator.UpdateOperator.TheVariants as update
-use Rattle.js_meaning.specs.Value.{Text, Plain, undefined, boolean, number, text, host, given, plainly, first, Sort, Parts}
-use Rattle.js_meaning.specs.Trace.{Act, Event, Move, answer, call_own, set_global_to, set_import_to, Ending, ended, host_stopped}
+use Rattle.js_syntax.specs.declared.operator.UnaryOperator.TheVariants as unary
+use Rattle.js_syntax.specs.declared.operator.LogicalOperator.{LogicalOperator}
+use Rattle.js_syntax.specs.declared.operator.LogicalOperator.TheVariants as logical
+use Rattle.js_meaning.specs.Value.{Text, a_number, a_bigint, a_symbol, Plain, undefined, boolean, number, text, host, other, given, plainly, first, Sort, Parts}
+use Rattle.js_meaning.specs.Trace.{Act, Event, Move, answer, call_own, set_global_to, set_import_to, Ending, ended, host_stopped, uncovered}
 use Rattle.js_meaning.specs.Samples as sample
-use Rattle.js_meaning.specs.Examples.{Example, said_number}
+use Rattle.js_meaning.specs.Examples.{Example, said_number, case_of}
 
 abbrev pub a : Text
 a = codes "a"
@@ -177,3 +181,100 @@ no_truth_value = worked
     (sample.does_it (sample.binary_of binary.In (sample.text_of a) (sample.name (codes "o"))) ∷ [])
     (answers (number_of 1) ∷ []) 0
     (sample.bare (Act.asks_in (plainly (text a)) (plainly (host 2 false))) ∷ []) host_stopped
+
+-- Other primitive values of the host: f() gives one.
+
+abbrev pub f_gives : Forest
+f_gives = sample.call (sample.name (codes "f")) []
+
+-- a fraction, 0.5 say; NaN; a bigint, 0n say; a symbol
+abbrev pub fraction : Plain
+fraction = other 1 a_number true
+
+abbrev pub not_a_number : Plain
+not_a_number = other 2 a_number false
+
+abbrev pub zero_bigint : Plain
+zero_bigint = other 3 a_bigint false
+
+abbrev pub symbol : Plain
+symbol = other 4 a_symbol true
+
+-- f(f()); if (f()) f(1); else f(2); f(typeof f()); where the first answers are a fraction, NaN and a symbol
+abbrev pub passed_on : Example
+passed_on = worked
+    (sample.says (f_gives ∷ [])
+    ∷ sample.over Kind.IfStatement (sample.row (f_gives ∷ sample.says (sample.number_of 1 ∷ []) ∷ sample.says (sample.number_of 2 ∷ []) ∷ []))
+    ∷ sample.says (sample.over (Kind.UnaryExpression unary.Typeof) f_gives ∷ []) ∷ [])
+    (answers fraction ∷ sample.fine ∷ answers not_a_number ∷ sample.fine ∷ answers symbol ∷ sample.fine ∷ []) 0
+    (sample.said [] ∷ sample.said (plainly fraction ∷ []) ∷ sample.said [] ∷ said_number 2 ∷ sample.said [] ∷ sample.said (plainly (text (codes "symbol")) ∷ []) ∷ done) ends
+
+abbrev pub logical_of : LogicalOperator → Forest
+logical_of o = sample.over (Kind.LogicalExpression o) (sample.row (f_gives ∷ sample.number_of 1 ∷ []))
+
+-- f(f() ?? 1, f() && 1, f() || 1, !f());
+abbrev pub logic_on_others : Example
+logic_on_others = worked
+    (sample.says (logical_of logical.Coalesce ∷ logical_of logical.And ∷ logical_of logical.Or ∷ sample.over (Kind.UnaryExpression unary.LogicalNot) f_gives ∷ []) ∷ [])
+    (answers not_a_number ∷ answers zero_bigint ∷ answers fraction ∷ answers zero_bigint ∷ sample.fine ∷ []) 0
+    (sample.said [] ∷ sample.said [] ∷ sample.said [] ∷ sample.said []
+    ∷ sample.said (plainly not_a_number ∷ plainly zero_bigint ∷ plainly fraction ∷ plainly (boolean true) ∷ []) ∷ done) ends
+
+-- f().x;
+abbrev pub others_have_properties : Example
+others_have_properties = worked
+    (sample.does_it (sample.member f_gives x) ∷ [])
+    (answers symbol ∷ sample.fine ∷ []) 0
+    (sample.said [] ∷ sample.bare (Act.get (plainly symbol) (plainly (text x))) ∷ done) ends
+
+-- f()();
+abbrev pub others_are_not_called : Example
+others_are_not_called = worked
+    (sample.does_it (sample.call f_gives []) ∷ [])
+    (answers symbol ∷ []) 0
+    (sample.said [] ∷ throws_a_type_error ∷ []) ends
+
+-- throw f();
+abbrev pub others_are_thrown : Example
+others_are_thrown = worked
+    (sample.over Kind.ThrowStatement f_gives ∷ [])
+    (answers zero_bigint ∷ []) 0
+    (sample.said [] ∷ sample.bare (Act.failed (plainly zero_bigint)) ∷ []) ends
+
+-- of what this does with a fraction nothing is said
+abbrev pub says_nothing_of : Forest → Example
+says_nothing_of t = worked (sample.does_it t ∷ []) (answers fraction ∷ sample.fine ∷ []) 0 (sample.said [] ∷ []) uncovered
+
+-- f() + 1; f() === 1; f() == null; f() < 1; 'a' + f(); f() in o; -f(); new (f())(); o[f()];
+abbrev pub added : Example
+added = says_nothing_of (sample.binary_of binary.Addition f_gives (sample.number_of 1))
+
+abbrev pub compared : Example
+compared = says_nothing_of (sample.binary_of binary.StrictEquality f_gives (sample.number_of 1))
+
+abbrev pub compared_with_null : Example
+compared_with_null = says_nothing_of (sample.binary_of binary.Equality f_gives (sample.leaf (Kind.Literal Literal.Null)))
+
+abbrev pub put_in_order : Example
+put_in_order = says_nothing_of (sample.binary_of binary.LessThan f_gives (sample.number_of 1))
+
+abbrev pub made_a_text : Example
+made_a_text = says_nothing_of (sample.binary_of binary.Addition (sample.text_of a) f_gives)
+
+abbrev pub asked_for : Example
+asked_for = says_nothing_of (sample.binary_of binary.In f_gives (sample.name (codes "o")))
+
+abbrev pub negated : Example
+negated = says_nothing_of (sample.over (Kind.UnaryExpression unary.UnaryNegation) f_gives)
+
+abbrev pub constructed : Example
+constructed = says_nothing_of (sample.over (Kind.NewExpression false) (sample.row (sample.over Kind.ParenthesizedExpression f_gives ∷ sample.leaf Kind.Arguments ∷ [])))
+
+abbrev pub taken_as_a_key : Example
+taken_as_a_key = says_nothing_of (sample.over (Kind.MemberExpression key_below false) (sample.row (sample.name (codes "o") ∷ f_gives ∷ [])))
+
+abbrev pub switched_on : Example
+switched_on = worked
+    (sample.over Kind.SwitchStatement (sample.row (f_gives ∷ sample.listed Kind.Cases (case_of (sample.number_of 1) [] ∷ []) ∷ [])) ∷ [])
+    (answers fraction ∷ sample.fine ∷ []) 0
+    (sample.said [] ∷ []) uncovered

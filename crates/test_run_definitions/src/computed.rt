@@ -56,3 +56,42 @@ pub fn global_comes_too_late()
 pub fn cells_of_the_head()
     ensures { Holds row.cells_of_the_head }
 {}
+
+/// Another primitive value of the host is passed on, tested, and `typeof` tells its kind.
+pub fn passed_on()
+    ensures { Holds row.passed_on }
+{}
+
+/// Another primitive value of the host decides `&&`, `||` and `!` by its truth, and `??` as no null.
+pub fn logic_on_others()
+    ensures { Holds row.logic_on_others }
+{}
+
+/// A property of another primitive value of the host is the host's to give.
+pub fn others_have_properties()
+    ensures { Holds row.others_have_properties }
+{}
+
+/// Calling another primitive value of the host throws a TypeError.
+pub fn others_are_not_called()
+    ensures { Holds row.others_are_not_called }
+{}
+
+/// Another primitive value of the host may be thrown.
+pub fn others_are_thrown()
+    ensures { Holds row.others_are_thrown }
+{}
+
+/// Nothing is said of what operators, `switch`, `new` and keys do with another primitive value of the host.
+pub fn others_are_uncovered()
+    ensures added { Holds row.added }
+    ensures compared { Holds row.compared }
+    ensures compared_with_null { Holds row.compared_with_null }
+    ensures put_in_order { Holds row.put_in_order }
+    ensures made_a_text { Holds row.made_a_text }
+    ensures asked_for { Holds row.asked_for }
+    ensures negated { Holds row.negated }
+    ensures constructed { Holds row.constructed }
+    ensures taken_as_a_key { Holds row.taken_as_a_key }
+    ensures switched_on { Holds row.switched_on }
+{}

@@ -22,6 +22,7 @@ use run_world::Script;
 use script::{read_bound, read_script};
 use shake_streams::{StdSink, StdSource, read_all, write_all};
 use std::alloc::{AllocError, Global};
+use std::io;
 use std::process::ExitCode;
 use trace::print_outcome;
 
@@ -100,7 +101,7 @@ fn main(rt: HostRuntime) -> ExitCode {
     let Ok(printed) = traces_of_bytes(rt.alloc(), bytes.as_slice()) else {
         return ExitCode::from(9);
     };
-    let mut out = StdSink::new(&rt);
+    let mut out = StdSink::new(io::writer(&rt));
     match write_all(&mut out, printed.as_bytes()) {
         Ok(()) => ExitCode::from(0),
         Err(_) => ExitCode::from(8),

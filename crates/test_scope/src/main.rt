@@ -25,6 +25,7 @@ mod table;
 use crate::answer::{append_answer, append_outermost};
 use shake_streams::{StdSink, StdSource, read_all, write_all};
 use std::alloc::{AllocError, Global};
+use std::io;
 use std::process::ExitCode;
 
 fn append_line(alloc: Global, line: &str, printed: &mut String) -> Result<(), AllocError> {
@@ -59,7 +60,7 @@ fn main(rt: HostRuntime) -> ExitCode {
     let Ok(printed) = answers(rt.alloc(), lines) else {
         return ExitCode::from(9);
     };
-    let mut out = StdSink::new(&rt);
+    let mut out = StdSink::new(io::writer(&rt));
     match write_all(&mut out, printed.as_bytes()) {
         Ok(()) => ExitCode::from(0),
         Err(_) => ExitCode::from(8),

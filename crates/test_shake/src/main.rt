@@ -23,6 +23,7 @@ mod run;
 use crate::row::append_row;
 use shake_streams::{StdSink, StdSource, read_all, write_all};
 use std::alloc::{AllocError, Global};
+use std::io;
 use std::process::ExitCode;
 
 // What is printed for all lines.
@@ -44,7 +45,7 @@ fn main(rt: HostRuntime) -> ExitCode {
     let Ok(printed) = answers(rt.alloc(), lines.as_slice()) else {
         return ExitCode::from(9);
     };
-    let mut out = StdSink::new(&rt);
+    let mut out = StdSink::new(io::writer(&rt));
     match write_all(&mut out, printed.as_slice()) {
         Ok(()) => ExitCode::from(0),
         Err(_) => ExitCode::from(8),

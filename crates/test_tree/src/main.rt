@@ -19,6 +19,7 @@ mod visited;
 use answer::answer;
 use shake_streams::{StdSink, StdSource, read_all, write_all};
 use std::alloc::{AllocError, Global};
+use std::io;
 use std::process::ExitCode;
 
 // The front of a text up to the first tab, and what stands behind that.
@@ -61,7 +62,7 @@ fn main(rt: HostRuntime) -> ExitCode {
     let Ok(printed) = answers(rt.alloc(), lines) else {
         return ExitCode::from(9);
     };
-    let mut out = StdSink::new(&rt);
+    let mut out = StdSink::new(io::writer(&rt));
     match write_all(&mut out, printed.as_bytes()) {
         Ok(()) => ExitCode::from(0),
         Err(_) => ExitCode::from(8),

@@ -3,13 +3,12 @@
 ghost use Rattle.std.specs.Prelude.{◌≤◌, IfOk};
 
 use shake_streams::{
-    Failed, MemSink, MemSource, ReadAllError, Sink, Source, StdErr, StdSink, StdSource, SureSink,
-    SureSource, read_all, write_all,
+    Failed, History, MemSink, MemSource, ReadAllError, Sink, Source, StdErr, StdSink, StdSource,
+    SureSink, SureSource, read_all, write_all,
 };
 use std::alloc::Alloc;
-use std::fmt::Display;
 use std::io;
-use std::io::{ErrorKind, Print, Read};
+use std::io::{ErrorKind, Read, Write};
 use std::test::Fail;
 
 #[test]
@@ -124,7 +123,13 @@ fn the_sure_ones_never_fail(rt: HostRuntime) -> Result<(), Fail> {
     Ok(())
 }
 
-// What reads and prints, and answers as it was told.
+#[test]
+fn a_history_has_no_bytes(rt: HostRuntime) {
+    assert_eq!(rt; size_of::<History>(), 0);
+    assert_eq!(rt; size_of::<SureSink>(), 0);
+}
+
+// What reads and writes, and answers as it was told.
 #[derive(Clone, Copy)]
 struct Told(Option<usize>);
 
@@ -145,28 +150,20 @@ impl Read for Told {
     }
 }
 
-impl Print for Told {
-    fn print<D: Display + Drop>(&self, _value: D) -> io::Result<()> {
-        Ok(())
+impl Write for Told {
+    fn write(&mut self, buf: &[u8]) -> io::Result<usize> {
+        self.answer(buf.len())
     }
 
-    fn println<D: Display + Drop>(&self, _value: D) -> io::Result<()> {
+    fn flush(&mut self) -> io::Result<()> {
         Ok(())
-    }
-
-    fn write_all(&self, _bytes: &[u8]) -> io::Result<()> {
-        Ok(())
-    }
-
-    fn write_some(&self, bytes: &[u8]) -> io::Result<usize> {
-        self.answer(bytes.len())
     }
 }
 
 #[test]
 fn the_standard_streams_answer(rt: HostRuntime) {
     assert_eq!(rt; StdSource::new(rt.reader()).pull(&mut []), Ok(0));
-    assert_eq!(rt; StdSink::new(&rt).push(b""), Ok(0));
+    assert_eq!(rt; StdSink::new(io::writer(&rt)).push(b""), Ok(0));
     assert_eq!(rt;
         StdErr::new(rt.stderr()).push(b"outside: a test's line\n"),
         Ok(23)

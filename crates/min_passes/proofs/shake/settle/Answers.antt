@@ -15,25 +15,15 @@ loop-done-init c = record {
   most = omega (arith, c.count_nodes-nodes.ensures.exact, c.requires.small);
 }
 
-pub returns-then-not-changed-clause-left : goal.returns-then-not-changed-clause-left
-returns-then-not-changed-clause-left c =
+pub returns-then-not-changed-clause-built : goal.returns-then-not-changed-clause-built
+returns-then-not-changed-clause-built c =
     (ends_here (2 * c.count_nodes-nodes.result) (forest_of c.args.program) c.loop-done.done (forest_of c.loop-done.left) (forest_of c.in_ok-next.next) c.loop-done.scoping c.in_ok-next.changed c.loop-done.invariant.stands c.loop-done.invariant.most
-    c.in_ok-next.ensures.changed c.in_ok-next.ensures.left c.if-not-changed.true).trees
-
-pub returns-then-not-changed-clause-scoping : goal.returns-then-not-changed-clause-scoping
-returns-then-not-changed-clause-scoping c =
-    (ends_here (2 * c.count_nodes-nodes.result) (forest_of c.args.program) c.loop-done.done (forest_of c.loop-done.left) (forest_of c.in_ok-next.next) c.loop-done.scoping c.in_ok-next.changed c.loop-done.invariant.stands c.loop-done.invariant.most
-    c.in_ok-next.ensures.changed c.in_ok-next.ensures.left c.if-not-changed.true).table
+    c.in_ok-next.ensures.changed c.in_ok-next.ensures.left c.if-not-changed.true).built
 
 pub returns-then-not-changed-clause-iterations : goal.returns-then-not-changed-clause-iterations
 returns-then-not-changed-clause-iterations c =
     (ends_here (2 * c.count_nodes-nodes.result) (forest_of c.args.program) c.loop-done.done (forest_of c.loop-done.left) (forest_of c.in_ok-next.next) c.loop-done.scoping c.in_ok-next.changed c.loop-done.invariant.stands c.loop-done.invariant.most
     c.in_ok-next.ensures.changed c.in_ok-next.ensures.left c.if-not-changed.true).passes
-
-pub returns-then-not-changed-clause-resolved : goal.returns-then-not-changed-clause-resolved
-returns-then-not-changed-clause-resolved c =
-    (ends_here (2 * c.count_nodes-nodes.result) (forest_of c.args.program) c.loop-done.done (forest_of c.loop-done.left) (forest_of c.in_ok-next.next) c.loop-done.scoping c.in_ok-next.changed c.loop-done.invariant.stands c.loop-done.invariant.most
-    c.in_ok-next.ensures.changed c.in_ok-next.ensures.left c.if-not-changed.true).resolved
 
 pub build-requires-in-loop-done : goal.build-requires-in-loop-done
 build-requires-in-loop-done c = record {

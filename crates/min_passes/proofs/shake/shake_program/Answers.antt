@@ -6,4 +6,4 @@ pub settle-requires : goal.settle-requires
 settle-requires c = record { small = small_cleared (forest_of c.args.program) (forest_of c.in_ok-cleared.cleared) c.requires.small c.in_ok-cleared.ensures.left }
 
 pub returns-clause-clean : goal.returns-clause-clean
-returns-clause-clean c = clean_left (forest_of c.in_ok-cleared.cleared) (forest_of c.in_ok-left.left.program) c.in_ok-left.left.scoping c.in_ok-left.ensures.left c.in_ok-left.ensures.scoping
+returns-clause-clean c = clean_left (forest_of c.in_ok-cleared.cleared) (forest_of c.in_ok-left.left.program) c.in_ok-left.left.scoping c.in_ok-left.ensures.built.marked c.in_ok-left.ensures.built.table

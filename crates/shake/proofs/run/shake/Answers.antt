@@ -1,8 +1,28 @@
 use Rattle.std.proofs.Common.{map, string_bytes}
+use Rattle.shake_streams.proofs.Histories.{gave_stops}
 use Rattle.shake.proofs.Telling.{shakes}
+use Rattle.shake.proofs.Running.{ran, tells_given, follows_stops, tells_stops}
 use Rattle.shake.proofs.run.shake.Goals as goal
 
 pub returns-in-Ok-read_all-clause-ok : goal.returns-in-Ok-read_all-clause-ok
 returns-in-Ok-read_all-clause-ok g c =
     shakes (map string_bytes c.args.words.now) c.in-Ok.command c.in-Ok.ensures.meaning _ _ c.in-Ok-read_all.bytes.items c.in-Ok-read_all.ensures.ok c.in-Ok-read_all.ensures.within
     c.answer.result _ _ _ _ c.answer.ensures.answer
+
+pub returns-in-Ok-read_all-clause-run : goal.returns-in-Ok-read_all-clause-run
+returns-in-Ok-read_all-clause-run g c =
+    ran (map string_bytes c.args.words.now) c.in-Ok.command c.in-Ok.ensures.meaning _ _ _ _ c.in-Ok-read_all.bytes.items c.in-Ok-read_all.ensures.gave c.in-Ok-read_all.ensures.within
+    c.answer.result c.answer.ensures.follows
+
+pub returns-in-Ok-read_all-clause-told : goal.returns-in-Ok-read_all-clause-told
+returns-in-Ok-read_all-clause-told g c =
+    tells_given c.answer.result _ _ c.in-Ok-read_all.bytes.items _ _ c.in-Ok-read_all.ensures.gave c.answer.ensures.told
+
+pub returns-in-Ok-read_all-clause-source_stops : goal.returns-in-Ok-read_all-clause-source_stops
+returns-in-Ok-read_all-clause-source_stops g c = gave_stops _ _ c.in-Ok-read_all.bytes.items c.in-Ok-read_all.ensures.gave
+
+pub returns-in-Ok-read_all-clause-out_stops : goal.returns-in-Ok-read_all-clause-out_stops
+returns-in-Ok-read_all-clause-out_stops g c = follows_stops c.in-Ok.command c.answer.result c.in-Ok-read_all.bytes.items _ _ c.answer.ensures.follows
+
+pub returns-in-Ok-read_all-clause-err_stops : goal.returns-in-Ok-read_all-clause-err_stops
+returns-in-Ok-read_all-clause-err_stops g c = tells_stops _ _ _ c.answer.ensures.told

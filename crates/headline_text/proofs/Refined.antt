@@ -1,0 +1,77 @@
+-- Of a core module what the text of what passes leave is read as keeps every run.
+use Rattle.std.proofs.Common.{◌≡◌, ℕ, suc, pos, negsuc, List, true, Ok, refl, sym, ap, ap₂, subst}
+use Rattle.js_syntax.specs.Class.{root}
+use Rattle.js_syntax.specs.declared.node_kind.NodeKind.{NodeKind as Kind}
+use Rattle.js_syntax.specs.declared.operator.UnaryOperator.TheVariants.{UnaryNegation as unary_negation}
+use Rattle.js_syntax.specs.declared.value.LiteralValue.TheVariants as value
+use Rattle.js_syntax.specs.Node.{Note, Forest, nothing, node, absent, nowhere, bare}
+use Rattle.form_rules.specs.Form.{IsWellFormed}
+use Rattle.json_text.specs.Answer.{IsReadAs}
+use Rattle.json_text.specs.Fault.{untyped}
+use Rattle.json_shape.specs.Shape.{Fits}
+use Rattle.json_shape.proofs.FittingNodes.{nodes_fit}
+use Rattle.js_meaning.specs.Kept.{Refined}
+use Rattle.js_meaning.proofs.Kept.{refined_joined}
+use Rattle.js_meaning_near.specs.Near.{fields, items, module_of}
+use Rattle.js_meaning_near.specs.Fit.{whole}
+use Rattle.js_meaning_near.specs.Avoid.{InPlace}
+use Rattle.js_meaning_near.specs.Signed.{signed, NodeMayBeSigned, MayBeSigned}
+use Rattle.js_meaning_near.proofs.Alike.{alike_bare, place_alike}
+use Rattle.js_meaning_near.proofs.Near.{refines_without_notes}
+use Rattle.js_meaning_near.proofs.Signed.{signed_refines}
+use Rattle.min_passes.specs.Passes.{shaken}
+use Rattle.json_kept.proofs.SignsFit.{signable_may}
+use Rattle.headline.specs.Headline.{is_core_module}
+use Rattle.headline.proofs.Headline.{comes, module_refined, module_ended}
+use Rattle.headline.proofs.Known.{known}
+use Rattle.headline.proofs.Refining.{Ended}
+use Rattle.headline.proofs.Sound.{IsSound}
+use Rattle.headline_text.specs.Written.{written, IsWritable}
+use Rattle.headline_text.proofs.Left.{writable_signable, shaken_signable}
+
+-- ---- signs and notes don't depend on one another
+
+bare_signed : (a : Forest) → bare (signed a) ≡ signed (bare a)
+bare_signed nothing = refl
+bare_signed (absent c) = ap absent (bare_signed c)
+bare_signed (node (Kind.Literal (value.Number (negsuc i))) n nothing c) = ap (λ r. node (Kind.UnaryExpression unary_negation) nowhere (node (Kind.Literal (value.Number (pos (suc i)))) nowhere nothing nothing) r) (bare_signed c)
+bare_signed (node k n a c) = ap₂ (λ (b r : Forest). node k nowhere b r) (bare_signed a) (bare_signed c)
+
+node_may_bare : (k : Kind) (a : Forest) → NodeMayBeSigned k a → NodeMayBeSigned k (bare a)
+node_may_bare (Kind.Literal (value.Number (negsuc i))) a h = h
+node_may_bare Kind.ObjectExpression nothing h = tt
+node_may_bare Kind.ObjectExpression (absent c) h = tt
+node_may_bare Kind.ObjectExpression (node (Kind.Literal v) n b c) h = absurd h
+node_may_bare Kind.ObjectExpression (node k n b c) h = tt
+node_may_bare k a h = tt
+
+may_bare : (a : Forest) → MayBeSigned a → MayBeSigned (bare a)
+may_bare nothing h = tt
+may_bare (absent c) h = may_bare c h
+may_bare (node k n a c) h = (node_may_bare k a h.0, may_bare a h.1, may_bare c h.2)
+
+-- ---- a module
+
+written_refines : (n m : Note) (a : Forest) → InPlace whole fields (module_of n m a) → MayBeSigned a → Refined (module_of n m a) (written (module_of n m a))
+written_refines n m a place may =
+    refined_joined (module_of n m a) (bare (module_of n m a)) (written (module_of n m a)) (refines_without_notes n m a place)
+    (subst (λ b. Refined (bare (module_of n m a)) (module_of nowhere nowhere b)) (sym (bare_signed a))
+    (signed_refines nowhere nowhere nowhere nowhere (bare a) (place_alike whole items (alike_bare a) place.0.1.0.1) (may_bare a may)))
+
+module_may : (n m : Note) (a : Forest) → MayBeSigned (module_of n m a) → MayBeSigned a
+module_may n m a may = may.1.1
+
+ended_refines : (u : Forest) → Ended u → MayBeSigned u → Refined u (written u)
+ended_refines u e may =
+    let m = e.is_module in
+    subst (λ x. Refined x (written x)) (sym m.is)
+    (written_refines m.note m.list_note m.items (known.in_place m.note m.list_note m.items (subst IsSound m.is e.is_sound)) (module_may m.note m.list_note m.items (subst MayBeSigned m.is may)))
+
+-- ---- what was read
+
+pub written_refined : (bytes : List ℕ) (t : Forest) → IsReadAs bytes (Ok t) → IsWritable t → IsWellFormed t → is_core_module t ≡ true → Refined t (written (shaken t))
+written_refined bytes t read w form core =
+    let fits : Fits root t = nodes_fit 128 root untyped read.1.0 t read.1.2 in
+    let steps = comes t fits form in
+    refined_joined t (shaken t) (written (shaken t)) (module_refined t fits form core (shaken t) steps)
+    (ended_refines (shaken t) (module_ended t fits form core (shaken t) steps) (signable_may (shaken t) (shaken_signable t (writable_signable bytes t read w))))

@@ -1,0 +1,14 @@
+//! Does the text of what passes leave of a program do what the program did?
+//!
+//! `read_back`: the text is read as what they leave, without spans and ids and with unary minus on their magnitudes in the
+//! place of negative numbers (`specs/Written.antt`). `runs`: and of a core module that keeps every run. Both of each tree that
+//! was read and is writable.
+//!
+//! The code is empty: each function's contract is a law.
+#![tactic(auto)]
+
+mod read_back;
+mod runs;
+
+pub use read_back::{passes_nest_no_deeper, what_is_left_is_read_back, what_is_left_is_readable};
+pub use runs::what_is_written_keeps_runs;

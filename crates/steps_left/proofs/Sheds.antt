@@ -1,0 +1,194 @@
+-- By a change that is allowed a program that is laid out sheds what it may shed.
+use Rattle.std.proofs.Common.{◌≡◌, ◌∙◌, ◌⊎◌, inl, inr, ℕ, suc, ◌+◌, ◌==◌, Bool, true, false, not, ◌||◌, Option, Some, List, refl, sym, ap, subst, true≢false, arith}
+use Rattle.std.proofs.lemmas.Bool.Decides.{nat_tests}
+use Rattle.js_syntax.specs.declared.node_kind.NodeKind.{NodeKind as Kind}
+use Rattle.js_syntax.specs.declared.node_kind.NodeKind.TheVariants.{Program as program, Statements as statements, EmptyStatement as empty_statement, ExpressionStatement as expression_statement, Function as function, BindingName as binding_name, VariableDeclaration as variable_declaration, Declarators as declarators, VariableDeclarator as variable_declarator}
+use Rattle.js_syntax.specs.declared.kind.FunctionKind.TheVariants as function_kind
+use Rattle.js_syntax.specs.declared.kind.VariableKind.{VariableKind}
+use Rattle.js_syntax.specs.declared.kind.VariableKind.TheVariants as variable
+use Rattle.js_syntax.specs.Node.{Note, Forest, Tree, nothing, node, absent, alone}
+use Rattle.js_syntax.proofs.Truth.{not_true, second_of_either}
+use Rattle.form_rules.specs.Context.{has_use_strict}
+use Rattle.form_rules.specs.Rules.{length_of}
+use Rattle.json_shape.specs.Shape.{is_directive_kind}
+use Rattle.min_pass.specs.declared.around.Around.{Around as Asked}
+use Rattle.min_pass.specs.declared.around.Row.{Row as AskedRow}
+use Rattle.min_pass.specs.declared.around.Row.TheVariants.{Items as items, OfItem as of_item, Declarators as item_declarators, Other as other}
+use Rattle.min_pass.specs.Around.{is_with, row_below as asked_row_below, entered as asked_below, outermost as asked_of_program}
+use Rattle.scope_rules.specs.Context.{Context, inside, outermost as outermost_context}
+use Rattle.scope_rules.specs.Site.{BindingSite, opens_one, scope_count, sites, sites_of, bindings_among}
+use Rattle.scope_laws.specs.Place.{Around as Place, first, behind, behind_none, under, plug}
+use Rattle.scope_laws.specs.Lists.{without}
+use Rattle.steps_allowed.specs.Silent.{HoldsThere}
+use Rattle.steps_allowed.specs.Removes.{a_node, a_statement, a_function, a_declarator, a_declaration, one_declarator, At, asked_at, has_node, has_other, Free, FreeDeclarator, SilentDeclarator, SilentDeclaration, Removes, empty_statement_leaves, silent_statement_empties, unused_function_leaves, unused_declarator_leaves, unused_declaration_leaves}
+use Rattle.steps_keep_form.specs.Sheds.{Row, parts, of_declarators, row_below, may_leave, Around, entered, outermost, exports_none, keeps_one, Sheds, keeps_absent, keeps, leaves, empties, sought_inside, exported_below}
+use Rattle.steps_keep_form.specs.Sheds as shed
+use Rattle.steps_keep_form.specs.Layout.{is_parts, stands_right, is_laid_out, IsLaidOut}
+use Rattle.steps_keep_form.proofs.Laid.{laid_absent, laid_order, laid_right, laid_below, laid_behind}
+use Rattle.steps_keep_form.proofs.Rows.{itself, keeps_itself}
+use Rattle.steps_keep_form.proofs.ShedNames.{declares_nothing}
+use Rattle.form_rules.specs.Scope.{declared}
+use Rattle.headline.proofs.Focus.{both_there, always}
+use Rattle.steps_left.proofs.Seeking.{Within, within_below, within_later, Seeks, seeks_inside}
+use Rattle.steps_left.proofs.Silent.{silent_declares_nothing}
+use Rattle.steps_left.proofs.Leaving.{function_out, declarator_out, declaration_out}
+
+-- ---- rows of both relations
+
+abbrev Fit : AskedRow → Row → Type 0
+Fit items m = m ≡ shed.items
+Fit of_item m = m ≡ shed.of_item
+Fit item_declarators m = m ≡ of_declarators
+Fit other m = Unit {0}
+
+items_of_parts : (m : Row) → is_parts m ≡ true → row_below m statements ≡ shed.items
+items_of_parts parts h = refl
+items_of_parts m h = absurd cc
+
+fit_inside : (row : AskedRow) (m : Row) (k : Kind) (a : Forest) → stands_right m k a ≡ true → Fit row m → Fit (asked_row_below row k) (row_below m k)
+fit_inside row m statements a right h = items_of_parts m right
+fit_inside items m (variable_declaration how) a right h = ap (λ x. row_below x (variable_declaration how)) h
+fit_inside of_item m (variable_declaration how) a right h = tt
+fit_inside item_declarators m (variable_declaration how) a right h = tt
+fit_inside other m (variable_declaration how) a right h = tt
+fit_inside of_item m declarators a right h = ap (λ x. row_below x declarators) h
+fit_inside items m declarators a right h = tt
+fit_inside item_declarators m declarators a right h = tt
+fit_inside other m declarators a right h = tt
+fit_inside row m k a right h = tt
+
+-- what leaves is an item, or a declarator beside another
+abbrev MayGo : (before : Bool) → Asked → Place → Type 0
+MayGo before w a = ((asked_at w a).row ≡ items) ⊎ (((asked_at w a).row ≡ item_declarators) × (has_other before a ≡ true))
+
+first_may : (m : Row) (w : Asked) (before : Bool) (rest : Forest) → Fit w.row m → MayGo before w (first rest) → may_leave m ≡ true
+first_may m w before rest fit (inl e) = ap may_leave (subst (λ r. Fit r m) e fit)
+first_may m w before rest fit (inr e) = ap may_leave (subst (λ r. Fit r m) e.0 fit)
+
+-- ---- a declaration keeps a declarator
+
+some : (n : ℕ) → not (suc n == 0) ≡ true
+some n = grind (arith, nat_tests)
+
+some_node : (rest : Forest) → has_node rest ≡ true → not (length_of rest == 0) ≡ true
+some_node nothing h = absurd (true≢false (sym h))
+some_node (absent rest) h = some_node rest h
+some_node (node k n a rest) h = some (length_of rest)
+
+no_items : (m : Row) → m ≡ shed.items → m ≡ of_declarators → ⊥
+no_items m e f = cc
+
+others_left : (w : Asked) (x : Option Tree) (a : Place) → Fit w.row of_declarators → is_laid_out of_declarators (plug a x) ≡ true → MayGo false w a → not (length_of (without a) == 0) ≡ true
+others_left w x (first rest) fit laid (inl e) = absurd (no_items of_declarators (subst (λ r. Fit r of_declarators) e fit) refl)
+others_left w x (first rest) fit laid (inr e) = some_node rest e.1
+others_left w x (behind k n b a) fit laid may = some (length_of (without a))
+others_left w x (behind_none a) fit laid may = absurd (true≢false (sym laid))
+others_left w x (under k n a rest) fit laid may = some (length_of rest)
+
+keeps_others : (m : Row) (w : Asked) (x : Option Tree) (a : Place) → Fit w.row m → is_laid_out m (plug a x) ≡ true → MayGo false w a → keeps_one m (plug a x) (without a) ≡ true
+keeps_others of_declarators w x a fit laid may = second_of_either (length_of (plug a x) == 0) (not (length_of (without a) == 0)) (others_left w x a fit laid may)
+keeps_others m w x a fit laid may = refl
+
+-- ---- a node leaves
+
+module _ (t : Forest) (x : Tree) (holds : Bool → Context → ℕ → Type 0) (no_directive : is_directive_kind x.kind ≡ false) (not_strict : (r : Forest) → has_use_strict (node x.kind x.note x.below r) ≡ false)
+    (out : (z : Around) (b : Bool) (c : Context) (next : ℕ) → holds b c next → Within t (sites (inside c next x.kind x.below) 0 (next + opens_one x.kind x.below) x.below) → stands_right z.row x.kind x.below ≡ true
+    → Seeks t z.sought z.exported c → exports_none z.exported (declared z.sought 0 (alone x.kind x.note x.below)) ≡ true) where
+  node_leaves : (a : Place) (before : Bool) (z : Around) (w : Asked) (b : Bool) (cs : ℕ → Context) (at next : ℕ) → Fit w.row z.row → ((i : ℕ) → Seeks t z.sought z.exported (cs i)) → Within t (sites cs at next (plug a (Some x)))
+      → is_laid_out z.row (plug a (Some x)) ≡ true → MayGo before w a → HoldsThere b cs at next a (Some x) holds → Sheds z (plug a (Some x)) (without a)
+  node_leaves (first rest) before z w b cs at next fit seeks within laid may h =
+      leaves (first_may z.row w before rest fit may)
+      (out z b (cs at) next h (within_below t cs at next x.kind x.note x.below rest within) (laid_right z.row x.kind x.note x.below rest laid) (seeks at))
+      (not_true (has_use_strict rest) (ap (λ d. d || not (has_use_strict rest)) (sym no_directive) ∙ laid_order z.row x.kind x.note x.below rest laid) ∙ sym (not_strict rest)) (itself z rest)
+  node_leaves (behind k n below a) before z w b cs at next fit seeks within laid may h =
+      keeps (keeps_itself (row_below z.row k) below) (itself (entered z k below) below)
+      (node_leaves a true z w b cs (suc at) (next + scope_count (node k n below nothing)) fit seeks (within_later t cs at next k n below (plug a (Some x)) within) (laid_behind z.row k n below (plug a (Some x)) laid) may h)
+  node_leaves (behind_none a) before z w b cs at next fit seeks within laid may h = keeps_absent (node_leaves a before z w b cs (suc at) next fit seeks within (laid_absent z.row (plug a (Some x)) laid) may h)
+  node_leaves (under k n a rest) before z w b cs at next fit seeks within laid may h =
+      let below = plug a (Some x) in
+      let right = laid_right z.row k n below rest laid in
+      let inner = laid_below z.row k n below rest laid in
+      let stands = within_below t cs at next k n below rest within in
+      let fits = fit_inside w.row z.row k below right fit in
+      keeps (keeps_others (row_below z.row k) (asked_below w k) (Some x) a fits inner may)
+      (node_leaves a false (entered z k below) (asked_below w k) (b || is_with k) (inside (cs at) next k below) 0 (next + opens_one k below) fits
+      (λ i. seeks_inside t z.row z.sought z.exported (cs at) next k below i stands right inner (seeks at)) stands inner may h) (itself z rest)
+
+-- ---- a statement becomes empty
+
+module _ (n m : Note) (expression : Forest) where
+  abbrev before : Option Tree
+  before = a_node expression_statement n expression
+
+  abbrev now : Option Tree
+  now = a_node empty_statement m nothing
+
+  one_stays : (a : Place) → is_laid_out of_declarators (plug a before) ≡ true → not (length_of (plug a now) == 0) ≡ true
+  one_stays (first rest) laid = some (length_of rest)
+  one_stays (behind k i b a) laid = some (length_of (plug a now))
+  one_stays (behind_none a) laid = absurd (true≢false (sym laid))
+  one_stays (under k i a rest) laid = some (length_of rest)
+
+  keeps_all : (row : Row) (a : Place) → is_laid_out row (plug a before) ≡ true → keeps_one row (plug a before) (plug a now) ≡ true
+  keeps_all of_declarators a laid = second_of_either (length_of (plug a before) == 0) (not (length_of (plug a now) == 0)) (one_stays a laid)
+  keeps_all row a laid = refl
+
+  statement_empties : (a : Place) (z : Around) → is_laid_out z.row (plug a before) ≡ true → Sheds z (plug a before) (plug a now)
+  statement_empties (first rest) z laid = empties (laid_right z.row expression_statement n expression rest laid) (itself z rest)
+  statement_empties (behind k i b a) z laid = keeps (keeps_itself (row_below z.row k) b) (itself (entered z k b) b) (statement_empties a z (laid_behind z.row k i b (plug a before) laid))
+  statement_empties (behind_none a) z laid = keeps_absent (statement_empties a z (laid_absent z.row (plug a before) laid))
+  statement_empties (under k i a rest) z laid =
+      let inner = laid_below z.row k i (plug a before) rest laid in
+      keeps (keeps_all (row_below z.row k) a inner) (statement_empties a (entered z k (plug a before)) inner) (itself z rest)
+
+-- ---- each change
+
+all_within : (t : Forest) → Within t (sites (λ at. outermost_context) 0 0 t)
+all_within t = record { binding = λ b h. h; reference = λ r h. h }
+
+module _ (a : Place) where
+  empty_sheds : (n : Note) → IsLaidOut (plug a (a_node empty_statement n nothing)) → MayGo false (asked_of_program true) a → Sheds outermost (plug a (a_node empty_statement n nothing)) (without a)
+  empty_sheds n laid may =
+      let x : Tree = record { kind = empty_statement; note = n; below = nothing } in
+      let t = plug a (Some x) in
+      node_leaves t x (λ b c i. Unit {0}) refl (λ r. refl) (λ z b c next h within right seeks. ap (exports_none z.exported) (declares_nothing z.sought 0 n nothing))
+      a false outermost (asked_of_program true) false (λ i. outermost_context) 0 0 tt (λ i. tt) (all_within t) laid may (always (Some x) a false (λ i. outermost_context) 0 0)
+
+  function_sheds : (pure : Bool) (n m : Note) (x : List ℕ) (rest : Forest) → IsLaidOut (plug a (a_function pure n m x rest)) → MayGo false (asked_of_program true) a
+      → At a (a_function pure n m x rest) (Free (plug a (a_function pure n m x rest)) variable.Let x) → Sheds outermost (plug a (a_function pure n m x rest)) (without a)
+  function_sheds pure n m x rest laid may free =
+      let y : Tree = record { kind = function function_kind.Declaration pure; note = n; below = node (binding_name x) m nothing rest } in
+      let t = plug a (Some y) in
+      node_leaves t y (Free t variable.Let x) refl (λ r. refl) (λ z b c next h within right seeks. function_out t z.exported c next x z.sought pure n m rest within right h seeks)
+      a false outermost (asked_of_program true) false (λ i. outermost_context) 0 0 tt (λ i. tt) (all_within t) laid may free
+
+  declarator_sheds : (n m : Note) (x : List ℕ) (value : Forest) → IsLaidOut (plug a (a_declarator n m x value)) → MayGo false (asked_of_program true) a
+      → At a (a_declarator n m x value) (SilentDeclarator (plug a (a_declarator n m x value)) (node (binding_name x) m nothing value)) → At a (a_declarator n m x value) (FreeDeclarator (plug a (a_declarator n m x value)) x)
+      → Sheds outermost (plug a (a_declarator n m x value)) (without a)
+  declarator_sheds n m x value laid may silent free =
+      let inner = node (binding_name x) m nothing value in
+      let y : Tree = record { kind = variable_declarator; note = n; below = inner } in
+      let t = plug a (Some y) in
+      node_leaves t y (λ b c i. SilentDeclarator t inner b c i × FreeDeclarator t x b c i) refl (λ r. refl)
+      (λ z b c next h within right seeks. declarator_out t z.exported c next x z.sought n m value within (λ f p. silent_declares_nothing f (bindings_among (sites_of t)) b _ 1 _ p value h.0.1) h.1 seeks)
+      a false outermost (asked_of_program true) false (λ i. outermost_context) 0 0 tt (λ i. tt) (all_within t) laid may
+      (both_there (SilentDeclarator t inner) (FreeDeclarator t x) (Some y) a false (λ i. outermost_context) 0 0 silent free)
+
+  declaration_sheds : (how : VariableKind) (n m l j : Note) (x : List ℕ) (value : Forest) → IsLaidOut (plug a (a_declaration how n m l j x value)) → MayGo false (asked_of_program true) a
+      → At a (a_declaration how n m l j x value) (SilentDeclaration (plug a (a_declaration how n m l j x value)) how m l (node (binding_name x) j nothing value))
+      → At a (a_declaration how n m l j x value) (Free (plug a (a_declaration how n m l j x value)) how x) → Sheds outermost (plug a (a_declaration how n m l j x value)) (without a)
+  declaration_sheds how n m l j x value laid may silent free =
+      let inner = node (binding_name x) j nothing value in
+      let y : Tree = record { kind = variable_declaration how; note = n; below = one_declarator m l inner } in
+      let t = plug a (Some y) in
+      node_leaves t y (λ b c i. SilentDeclaration t how m l inner b c i × Free t how x b c i) refl (λ r. refl)
+      (λ z b c next h within right seeks. declaration_out t z.exported c next x z.sought how n m l j value within (λ f p. silent_declares_nothing f (bindings_among (sites_of t)) b _ 1 _ p value h.0.1) h.1 seeks)
+      a false outermost (asked_of_program true) false (λ i. outermost_context) 0 0 tt (λ i. tt) (all_within t) laid may
+      (both_there (SilentDeclaration t how m l inner) (Free t how x) (Some y) a false (λ i. outermost_context) 0 0 silent free)
+
+pub removal_sheds : (t u : Forest) → Removes t u → IsLaidOut t → Sheds outermost t u
+removal_sheds t u (empty_statement_leaves a n item) laid = empty_sheds a n laid (inl item)
+removal_sheds t u (silent_statement_empties a n m l k inner silent) laid = statement_empties n m (alone k l inner) a outermost laid
+removal_sheds t u (unused_function_leaves a pure n m x rest item free) laid = function_sheds a pure n m x rest laid (inl item) free
+removal_sheds t u (unused_declarator_leaves a n m x value item others silent free) laid = declarator_sheds a n m x value laid (inr (item, others)) silent free
+removal_sheds t u (unused_declaration_leaves a how n m l j x value item silent free) laid = declaration_sheds a how n m l j x value laid (inl item) silent free

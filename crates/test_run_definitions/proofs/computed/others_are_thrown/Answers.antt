@@ -1,0 +1,5 @@
+use Rattle.test_run_definitions.proofs.Runs.{others_are_thrown as computed}
+use Rattle.test_run_definitions.proofs.computed.others_are_thrown.Goals as goal
+
+pub returns : goal.returns
+returns c = computed
