@@ -1,7 +1,6 @@
 -- From what the streams answered to what a run says of them.
-use Rattle.std.proofs.Common.{◌≡◌, ◌⊎◌, inl, inr, ◌∙◌, ◌≤◌, ℕ, List, [], length, Option, Some, None, Ok, refl, sym, subst, arith}
-use Rattle.shake_streams.specs.Past.{Past, with_bytes, StopsAtOnce}
-use Rattle.shake_streams.specs.Moves.{TakesFront}
+use Rattle.std.proofs.Common.{◌≡◌, ◌⊎◌, inl, inr, ◌≤◌, ℕ, List, [], length, Option, Some, None, Ok, refl, sym, subst, arith}
+use Rattle.shake_streams.specs.Past.{Past, StopsAtOnce}
 use Rattle.shake_streams.specs.Reading.{GivesAll, LeavesRest}
 use Rattle.shake_streams.proofs.Histories.{none_more, stays_stops, gave_stops, took_stops, front_stops}
 use Rattle.js_syntax.specs.Node.{Tree, Forest, forest_of}

@@ -1,5 +1,5 @@
 -- What a run of the program asks of its streams and what they answer, for every source and every sink, the standard streams too.
-use Rattle.std.specs.Prelude.{◌≡◌, ◌≢◌, ◌⊎◌, ◌<◌, ◌≤◌, ℕ, List, Bool, false, length, Some, Ok, Err}
+use Rattle.std.specs.Prelude.{◌≡◌, ◌≢◌, ◌⊎◌, ◌<◌, ◌≤◌, ℕ, List, false, length, Some, Ok, Err}
 use Rattle.shake_streams.specs.Past.{Past, with_bytes, with_fault, StopsAtOnce}
 use Rattle.shake_streams.specs.Moves.{TakesFront}
 use Rattle.shake_streams.specs.Reading.{GivesAll}
