@@ -4,8 +4,9 @@ A line behind `#` says what the rows after it show. A row is four lines: the pro
 what the host does; and the events and the ending, written by hand. In a tree `(kind child ..)` is a node, `@x` a name that is declared,
 `>x` one that is assigned to, and `-` a field that isn't there; a tree that no text gives stands in words, which the program knows. The
 host answers (`fine` with undefined), throws, calls an own object with a receiver and arguments, sets and removes globals, and sets what a
-module exports. Of values `h1` is an object of the host that can be called, `o2` one that can't, and `#0` the first own object that the
-host saw; at first it stands with what it is. Behind an event stand the exports of that moment, where there are some.
+module exports. Of values `h1` is an object of the host that can be called, `o2` one that can't, `number3`, `bigint4`, `symbol5`
+and `string6` are other primitive values (`false-number3` one that is false in a test), and `#0` is the first own object that the host saw; at
+first it stands with what it is. Behind an event stand the exports of that moment, where there are some.
 """
 import pathlib
 import re

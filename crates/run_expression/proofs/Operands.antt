@@ -16,9 +16,9 @@ left_first E o l r s e env m does around right =
     λ i. with_receiver ((does ∙ ap (meaning E l now) around) i) (λ v this. with_value (meaning E (right i) now env) (binary_value E o v))
 
 pub left_decides : (E : Enter) (o : LogicalOperator) (l r s : Tree) (e env : Env) (m : M) → m ≡ meaning E l now e → e ≡ env → r ≡ s
-    → with_receiver m (λ v this. logical_value o v (with_value (meaning E r now env) give)) ≡ with_value (meaning E l now env) (λ v. logical_value o v (with_value (meaning E s now env) give))
+    → with_receiver m (λ v this. logical_value o v (meaning E r now env)) ≡ with_value (meaning E l now env) (λ v. logical_value o v (meaning E s now env))
 left_decides E o l r s e env m does around right =
-    λ i. with_receiver ((does ∙ ap (meaning E l now) around) i) (λ v this. logical_value o v (with_value (meaning E (right i) now env) give))
+    λ i. with_receiver ((does ∙ ap (meaning E l now) around) i) (λ v this. logical_value o v (meaning E (right i) now env))
 
 pub object_of : (a b : Forest) (m n : M) → m ≡ n → a ≡ b
     → with_all m (λ vs. identity (λ k. give (object k (object_content a vs no_content)))) ≡ with_all n (λ vs. identity (λ k. give (object k (object_content b vs no_content))))

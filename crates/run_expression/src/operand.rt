@@ -1,10 +1,10 @@
 // What expressions do with the value of an operand (ECMA-262 13).
 ghost use Rattle.std.specs.Prelude.{◌≡◌, ◌++◌, [], ◌∷◌, IfOk, string_bytes};
-ghost use Rattle.js_meaning.specs.State.{with_value, choose, give, done, gives_all};
+ghost use Rattle.js_meaning.specs.State.{with_value, choose, done, gives_all};
 ghost use Rattle.js_meaning.specs.Host.{Enter};
 ghost use Rattle.js_meaning.specs.Operator.{unary_of, truthy};
 ghost use Rattle.js_meaning.specs.Node.{now, need, values};
-ghost use Rattle.js_meaning.specs.Expression.{binary_value, logical_value, member_key};
+ghost use Rattle.js_meaning.specs.Expression.{binary_value, logical_value, known_key, member_key};
 ghost use Rattle.js_meaning.specs.Value.{plain, text as text_value};
 ghost use Rattle.js_meaning.specs.Meaning.{eval};
 ghost use Rattle.run_value.specs.View.{value_of};
@@ -18,7 +18,7 @@ use run_plan::{
     AfterOperand, AfterValues, Ask, Front, NodeRef, Nodes, Plan, Use, Wanted, asks, collect_values,
     completes, first_field, replies, run_in_turn, then_operand, then_values, uncovered,
 };
-use run_value::{Env, Plain, Value, goes_right, truthy, unary_of};
+use run_value::{Env, Plain, Value, goes_right, is_other, truthy, unary_of};
 use run_world::{Completion, World, gives};
 use std::alloc::{AllocError, Global};
 use std::rc::Rc;
@@ -79,11 +79,10 @@ fn logical<'a>(
     right: &NodeRef<'a>,
     env: Env<'a>,
 ) -> Result<Plan<'a>, AllocError>
-    ensures { IfOk result (λ p. (E : Enter) → plans E p ≡ logical_value operator (value_of value.entry) (with_value (meaning E right.now now env.entry) give)) }
+    ensures { IfOk result (λ p. (E : Enter) → plans E p ≡ logical_value operator (value_of value.entry) (meaning E right.now now env.entry)) }
 {
     if goes_right(operator, &value) {
-        let plan = asks(alloc, right.node(), Ask::Value(NOW), env);
-        then_operand(alloc, plan, AfterOperand::Value)
+        Ok(asks(alloc, right.node(), Ask::Value(NOW), env))
     } else {
         Ok(replies(alloc, gives(value)))
     }
@@ -114,7 +113,7 @@ fn key_below<'a>(
     aim: Use,
     object: Value<'a>,
 ) -> Result<Plan<'a>, AllocError>
-    ensures { IfOk result (λ p. (E : Enter) → plans E p ≡ need (eval E nodes.now) (λ m r. with_value (m now env.entry) (used E aim (value_of object.entry)))) }
+    ensures { IfOk result (λ p. (E : Enter) → plans E p ≡ need (eval E nodes.now) (λ m r. with_value (m now env.entry) (known_key (used E aim (value_of object.entry))))) }
 {
     match first_field(nodes.nodes()) {
         Front::Node(node, _) => {
@@ -155,6 +154,23 @@ fn member_of<'a>(
     }
 }
 
+#[tactic(auto, unfolding(js_meaning::specs::State::choose))]
+fn at_key<'a>(
+    world: &mut World<'a>,
+    alloc: Global,
+    aim: Use,
+    object: Value<'a>,
+    key: Value<'a>,
+) -> Result<Plan<'a>, AllocError>
+    ensures does { IfOk result (λ p. (E : Enter) → at world.old (known_key (used E aim (value_of object.entry)) (value_of key.entry)) ≡ at world.new (plans E p)) }
+{
+    if is_other(&key) {
+        Ok(uncovered(alloc))
+    } else {
+        used(world, alloc, aim, object, key)
+    }
+}
+
 /// What an expression does with the value of an operand, and the receiver that it came with.
 pub fn resume_operand<'a>(
     world: &mut World<'a>,
@@ -170,7 +186,6 @@ pub fn resume_operand<'a>(
             collected(alloc, entries, &rest, env, before, value)
         }
         AfterOperand::InTurn(rest, env) => run_in_turn(alloc, rest.nodes(), env),
-        AfterOperand::Value => Ok(replies(alloc, gives(value))),
         AfterOperand::Given(other) => Ok(replies(alloc, gives(other))),
         AfterOperand::Receiver(receiver) => Ok(completes(
             alloc,
@@ -194,7 +209,7 @@ pub fn resume_operand<'a>(
         AfterOperand::MemberOf(key, nodes, env, aim) => {
             member_of(world, alloc, &key, &nodes, env, aim, value)
         }
-        AfterOperand::MemberKey(object, aim) => used(world, alloc, aim, object, value),
+        AfterOperand::MemberKey(object, aim) => at_key(world, alloc, aim, object, value),
         AfterOperand::OnlyBoolean => Ok(only_boolean(alloc, value)),
         AfterOperand::OnlyObject => Ok(only_object(alloc, value)),
     }

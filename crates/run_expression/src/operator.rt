@@ -2,7 +2,7 @@
 ghost use Rattle.std.specs.Prelude.{◌≡◌, false, IfOk};
 ghost use Rattle.js_syntax.specs.Node.{row};
 ghost use Rattle.js_syntax.specs.declared.node_kind.NodeKind.{NodeKind as Kind};
-ghost use Rattle.js_meaning.specs.State.{choose, give, with_value, with_receiver, with_all, with_place};
+ghost use Rattle.js_meaning.specs.State.{choose, with_value, with_receiver, with_all, with_place};
 ghost use Rattle.js_meaning.specs.Operator.{truthy};
 ghost use Rattle.js_meaning.specs.Expression.{wanted_by, binary_value, logical_value, assign, call_value, construct_value};
 ghost use Rattle.js_meaning.specs.Node.{value, now, place, collect, to_call};
@@ -113,7 +113,7 @@ fn logical_plan<'a>(
     right: &'a Node,
     env: Env<'a>,
 ) -> Result<Plan<'a>, AllocError>
-    ensures { IfOk result (λ p. (E : Enter) → plans E p ≡ with_value (meaning E left.now now env.entry) (λ v. logical_value operator v (with_value (meaning E right.now now env.entry) give))) }
+    ensures { IfOk result (λ p. (E : Enter) → plans E p ≡ with_value (meaning E left.now now env.entry) (λ v. logical_value operator v (meaning E right.now now env.entry))) }
 {
     let around = env.copy()?;
     let plan = asks(alloc, left, Ask::Value(Wanted::Itself), around);

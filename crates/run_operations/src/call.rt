@@ -2,15 +2,15 @@
 ghost use Rattle.std.specs.Prelude.{◌≡◌, true, IfOk};
 ghost use Rattle.js_meaning.specs.Value.{plain, host};
 ghost use Rattle.js_meaning.specs.Host.{Enter};
-ghost use Rattle.js_meaning.specs.Expression.{call_value, construct_value};
+ghost use Rattle.js_meaning.specs.Expression.{call_value, construct_shown, construct_value};
 ghost use Rattle.run_value.specs.Plain.{plain_of};
 ghost use Rattle.run_value.specs.View.{value_of};
 ghost use Rattle.run_world.specs.World.{at, values_of};
 ghost use Rattle.run_plan.specs.Frame.{plans};
 
 use crate::host::{consults, throws};
-use run_plan::{AfterOperand, Plan, Task, enters, then_operand};
-use run_value::{Act, ErrorKind, Plain, Value};
+use run_plan::{AfterOperand, Plan, Task, enters, then_operand, uncovered};
+use run_value::{Act, ErrorKind, Plain, Value, is_other};
 use run_world::{Call, World};
 use std::alloc::{AllocError, Global};
 
@@ -49,7 +49,8 @@ fn call_plain<'a>(
         | Plain::Null
         | Plain::Boolean(_)
         | Plain::Number(_)
-        | Plain::Text(_) => throws(world, alloc, ErrorKind::TypeError),
+        | Plain::Text(_)
+        | Plain::Other(..) => throws(world, alloc, ErrorKind::TypeError),
     }
 }
 
@@ -84,7 +85,22 @@ pub fn call_value<'a>(
     }
 }
 
+fn construct_shown<'a>(
+    world: &mut World<'a>,
+    alloc: Global,
+    callee: &Value<'a>,
+    arguments: &[Value<'a>],
+) -> Result<Plan<'a>, AllocError>
+    ensures does { IfOk result (λ p. (E : Enter) → at world.old (construct_shown E (value_of callee.now) (values_of arguments.now)) ≡ at world.new (plans E p)) }
+{
+    let shown_callee = world.show(alloc, callee)?;
+    let shown_arguments = world.show_all(alloc, arguments)?;
+    let plan = consults(world, alloc, Act::Construct(shown_callee, shown_arguments))?;
+    then_operand(alloc, plan, AfterOperand::OnlyObject)
+}
+
 /// `new` of a value, which is the host's, with arguments.
+#[tactic(auto, unfolding(js_meaning::specs::State::choose))]
 pub fn construct_value<'a>(
     world: &mut World<'a>,
     alloc: Global,
@@ -93,8 +109,9 @@ pub fn construct_value<'a>(
 ) -> Result<Plan<'a>, AllocError>
     ensures does { IfOk result (λ p. (E : Enter) → at world.old (construct_value E (value_of callee.now) (values_of arguments.now)) ≡ at world.new (plans E p)) }
 {
-    let shown_callee = world.show(alloc, callee)?;
-    let shown_arguments = world.show_all(alloc, arguments)?;
-    let plan = consults(world, alloc, Act::Construct(shown_callee, shown_arguments))?;
-    then_operand(alloc, plan, AfterOperand::OnlyObject)
+    if is_other(callee) {
+        Ok(uncovered(alloc))
+    } else {
+        construct_shown(world, alloc, callee, arguments)
+    }
 }

@@ -5,15 +5,15 @@ ghost use Rattle.js_meaning.specs.State.{choose, give, stop};
 ghost use Rattle.js_meaning.specs.Trace as trace;
 ghost use Rattle.js_meaning.specs.Host.{Enter};
 ghost use Rattle.js_meaning.specs.Operator.{is_boolean, is_object};
-ghost use Rattle.js_meaning.specs.Expression.{binary_value};
+ghost use Rattle.js_meaning.specs.Expression.{ask_host, binary_value};
 ghost use Rattle.run_value.specs.View.{value_of};
 ghost use Rattle.run_world.specs.World.{at};
 ghost use Rattle.run_plan.specs.Frame.{plans};
 
 use crate::host::{consults, given};
 use js_syntax::BinaryOperator;
-use run_plan::{AfterOperand, Plan, replies, then_operand};
-use run_value::{Act, Ending, Value, binary_of, is_boolean, is_object};
+use run_plan::{AfterOperand, Plan, replies, then_operand, uncovered};
+use run_value::{Act, Ending, Value, binary_of, either_other, is_boolean, is_object};
 use run_world::{Reply, World, gives};
 use std::alloc::{AllocError, Global};
 
@@ -47,7 +47,7 @@ fn asks_in<'a>(
     left: &Value<'a>,
     right: &Value<'a>,
 ) -> Result<Plan<'a>, AllocError>
-    ensures does { IfOk result (λ p. (E : Enter) → at world.old (binary_value E binary.In (value_of left.now) (value_of right.now)) ≡ at world.new (plans E p)) }
+    ensures does { IfOk result (λ p. (E : Enter) → at world.old (ask_host E trace.Act.asks_in (value_of left.now) (value_of right.now)) ≡ at world.new (plans E p)) }
 {
     let left = world.show(alloc, left)?;
     let right = world.show(alloc, right)?;
@@ -61,12 +61,44 @@ fn asks_instanceof<'a>(
     left: &Value<'a>,
     right: &Value<'a>,
 ) -> Result<Plan<'a>, AllocError>
-    ensures does { IfOk result (λ p. (E : Enter) → at world.old (binary_value E binary.Instanceof (value_of left.now) (value_of right.now)) ≡ at world.new (plans E p)) }
+    ensures does { IfOk result (λ p. (E : Enter) → at world.old (ask_host E trace.Act.asks_instanceof (value_of left.now) (value_of right.now)) ≡ at world.new (plans E p)) }
 {
     let left = world.show(alloc, left)?;
     let right = world.show(alloc, right)?;
     let plan = consults(world, alloc, Act::Instanceof(left, right))?;
     then_operand(alloc, plan, AfterOperand::OnlyBoolean)
+}
+
+#[tactic(auto, unfolding(js_meaning::specs::State::choose))]
+fn in_value<'a>(
+    world: &mut World<'a>,
+    alloc: Global,
+    left: &Value<'a>,
+    right: &Value<'a>,
+) -> Result<Plan<'a>, AllocError>
+    ensures does { IfOk result (λ p. (E : Enter) → at world.old (binary_value E binary.In (value_of left.now) (value_of right.now)) ≡ at world.new (plans E p)) }
+{
+    if either_other(left, right) {
+        Ok(uncovered(alloc))
+    } else {
+        asks_in(world, alloc, left, right)
+    }
+}
+
+#[tactic(auto, unfolding(js_meaning::specs::State::choose))]
+fn instanceof_value<'a>(
+    world: &mut World<'a>,
+    alloc: Global,
+    left: &Value<'a>,
+    right: &Value<'a>,
+) -> Result<Plan<'a>, AllocError>
+    ensures does { IfOk result (λ p. (E : Enter) → at world.old (binary_value E binary.Instanceof (value_of left.now) (value_of right.now)) ≡ at world.new (plans E p)) }
+{
+    if either_other(left, right) {
+        Ok(uncovered(alloc))
+    } else {
+        asks_instanceof(world, alloc, left, right)
+    }
 }
 
 /// A binary operator on two values.
@@ -80,8 +112,8 @@ pub fn binary_value<'a>(
     ensures does { IfOk result (λ p. (E : Enter) → at world.old (binary_value E operator (value_of left.now) (value_of right.now)) ≡ at world.new (plans E p)) }
 {
     match operator {
-        BinaryOperator::In => asks_in(world, alloc, left, right),
-        BinaryOperator::Instanceof => asks_instanceof(world, alloc, left, right),
+        BinaryOperator::In => in_value(world, alloc, left, right),
+        BinaryOperator::Instanceof => instanceof_value(world, alloc, left, right),
         _ => {
             let found = binary_of(alloc, operator, left, right)?;
             Ok(given(alloc, found))

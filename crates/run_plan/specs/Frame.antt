@@ -2,16 +2,17 @@
 use Rattle.std.specs.Prelude.{Bool, true, false, List, [], ◌∷◌, ◌++◌, Option, Some, None}
 use Rattle.js_syntax.specs.Facts.{is_core}
 use Rattle.js_syntax.specs.Node.{Forest, Tree}
-use Rattle.js_meaning.specs.Value.{Text, Env, Value, plain, boolean, object, array, no_content}
+use Rattle.js_syntax.specs.declared.operator.BinaryOperator.TheVariants as binary
+use Rattle.js_meaning.specs.Value.{Text, Env, Value, object, array, no_content}
 use Rattle.js_meaning.specs.Trace.{Ending}
 use Rattle.js_meaning.specs.State.{M, Completion, Place, normal, gives, gives_all, refers, returns, throws, at_member, bind, done, stop, choose, give, if_normal, if_gives, if_gives_all, if_refers, with_value, with_all, identity}
-use Rattle.js_meaning.specs.Operator.{truthy, unary_of, binary_of, on_number, updated, compare, is_boolean, is_object}
+use Rattle.js_meaning.specs.Operator.{truthy, unary_of, binary_of, on_number, updated, is_boolean, is_object}
 use Rattle.js_meaning.specs.Scope.{first_of, behind, lexical, copy, start, fill, look, default_name}
 use Rattle.js_meaning.specs.Host.{Loop, while_loop, do_loop, for_loop, Enter, host_moves, report}
 use Rattle.js_meaning.specs.Reference.{get_place, put_place}
 use Rattle.js_meaning.specs.Node as meant
 use Rattle.js_meaning.specs.Node.{Meaning, Parts, run, take, matches, declares, collect, entry, now, need, may, each, values, value_or_undefined, ask_maybe, first_ask}
-use Rattle.js_meaning.specs.Expression.{call_value, construct_value, binary_value, logical_value, member_key, receiver_of, then_put, assign, update_place, update_gives, object_content, array_content, in_turn}
+use Rattle.js_meaning.specs.Expression.{call_value, construct_value, binary_value, logical_value, known_key, member_key, receiver_of, then_put, assign, update_place, update_gives, object_content, array_content, in_turn}
 use Rattle.js_meaning.specs.Statement.{after_label, after_turn, enter_if, test_then, after_init, case_is, choose_case, after_switch, after_block, after_finally}
 use Rattle.js_meaning.specs.Module.{load_all}
 use Rattle.js_meaning.specs.Meaning.{does, if_core, eval, take_each, after_call}
@@ -96,7 +97,7 @@ after_statement_of E (after_statement.Test l a labels env) v = enter_if E (loop_
 after_statement_of E (after_statement.Update a labels env) v = test_then E for_loop a (eval E a) labels env
 after_statement_of E (after_statement.Switch cases env) v = bind (meaning E cases (matches v) env) after_switch
 after_statement_of E (after_statement.Case here u default env) v = case_found E here (value_of u) env (default_from E default env) v
-after_statement_of E (after_statement.CaseTest u) v = compare (value_of u) v (λ b. give (plain (boolean b)))
+after_statement_of E (after_statement.CaseTest u) v = binary_of binary.StrictEquality (value_of u) v
 after_statement_of E (after_statement.Initial name env) v = meaning E name (take v) env
 after_statement_of E (after_statement.Default env) v = fill (look env default_name) v (done normal)
 after_statement_of E (after_statement.Load sources) v = load_all E (texts_of sources.items)
@@ -104,18 +105,17 @@ after_statement_of E (after_statement.Load sources) v = load_all E (texts_of sou
 abbrev pub after_operand_of : Enter → AfterOperand → Value → Value → M
 after_operand_of E (after_operand.Collect entries rest env before) v this = values (entry_or_now entries) (eval E rest) env (λ vs. done (gives_all (values_of before.items ++ (v ∷ vs))))
 after_operand_of E (after_operand.InTurn rest env) v this = in_turn (eval E rest) env
-after_operand_of E after_operand.Value v this = give v
 after_operand_of E (after_operand.Given u) v this = give (value_of u)
 after_operand_of E (after_operand.Receiver u) v this = done (gives v (value_of u))
 after_operand_of E (after_operand.Unary o) v this = unary_of o v
 after_operand_of E (after_operand.Left o m env) v this = with_value (meaning E m now env) (binary_value E o v)
 after_operand_of E (after_operand.Right o u) v this = binary_value E o (value_of u) v
-after_operand_of E (after_operand.Logical o m env) v this = logical_value o v (with_value (meaning E m now env) give)
+after_operand_of E (after_operand.Logical o m env) v this = logical_value o v (meaning E m now env)
 after_operand_of E (after_operand.Conditional c d env) v this = choose (truthy v) (meaning E c now env) (meaning E d now env)
 after_operand_of E (after_operand.Callee args env) v this = with_all (meaning E args collect env) (call_value E v this)
 after_operand_of E (after_operand.NewCallee args env) v this = with_all (meaning E args collect env) (construct_value E v)
 after_operand_of E (after_operand.MemberOf key rest env aim) v this = member_key key (eval E rest) env (used E aim v)
-after_operand_of E (after_operand.MemberKey o aim) v this = used E aim (value_of o) v
+after_operand_of E (after_operand.MemberKey o aim) v this = known_key (used E aim (value_of o)) v
 after_operand_of E after_operand.OnlyBoolean v this = choose (is_boolean v) (give v) (stop Ending.host_stopped)
 after_operand_of E after_operand.OnlyObject v this = choose (is_object v) (give v) (stop Ending.host_stopped)
 

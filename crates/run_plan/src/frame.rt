@@ -66,8 +66,6 @@ pub enum AfterOperand<'a> {
     Collect(bool, Nodes<'a>, Env<'a>, Vec<Value<'a>>),
     /// The expressions behind it, of which the last counts.
     InTurn(Nodes<'a>, Env<'a>),
-    /// The value alone.
-    Value,
     /// Another value in its place.
     Given(Value<'a>),
     /// With this receiver.

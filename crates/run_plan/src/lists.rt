@@ -141,10 +141,7 @@ fn run_first<'a>(
     match first_field(others) {
         Front::Node(_, _) => run_before(alloc, node, others, env),
         Front::Absent(_) => run_before(alloc, node, others, env),
-        Front::End => {
-            let plan = asks(alloc, node, Ask::Value(Wanted::Itself), env);
-            then_operand(alloc, plan, AfterOperand::Value)
-        }
+        Front::End => Ok(asks(alloc, node, Ask::Value(Wanted::Itself), env)),
     }
 }
 

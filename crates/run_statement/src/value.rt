@@ -1,9 +1,9 @@
 // What statements do with a value (ECMA-262 14).
 ghost use Rattle.std.specs.Prelude.{◌≡◌, IfOk};
-ghost use Rattle.js_meaning.specs.Value.{plain, boolean};
-ghost use Rattle.js_meaning.specs.State.{M, bind, choose, give, done, normal};
+ghost use Rattle.js_syntax.specs.declared.operator.BinaryOperator.TheVariants as binary;
+ghost use Rattle.js_meaning.specs.State.{M, bind, choose, done, normal};
 ghost use Rattle.js_meaning.specs.Host.{Enter};
-ghost use Rattle.js_meaning.specs.Operator.{truthy, compare};
+ghost use Rattle.js_meaning.specs.Operator.{truthy, binary_of};
 ghost use Rattle.js_meaning.specs.Scope.{fill, look, default_name};
 ghost use Rattle.js_meaning.specs.Node.{run, matches, ask_maybe};
 ghost use Rattle.js_meaning.specs.Statement.{enter_if, case_is, after_switch};
@@ -14,14 +14,15 @@ ghost use Rattle.run_plan.specs.Frame.{meaning, maybe_meaning, plans, default_fr
 ghost use Rattle.run_statement.specs.Truth.{by_truth};
 
 use crate::run::load_all;
+use js_syntax::BinaryOperator;
 use run_names::behind;
+use run_operations::given;
 use run_plan::{
     AfterCompletion, AfterStatement, Ask, Labels, Loop, NodeRef, Nodes, Plan, Task, asks,
-    asks_maybe, completes, enters, find_case, replies, run_each, test_loop, then_completion,
-    uncovered,
+    asks_maybe, completes, enters, find_case, run_each, test_loop, then_completion, uncovered,
 };
-use run_value::{Env, Plain, Value, strictly_equal, truthy};
-use run_world::{Completion, World, gives};
+use run_value::{Env, Plain, Value, binary_of, truthy};
+use run_world::{Completion, World};
 use std::alloc::{AllocError, Global};
 
 #[tactic(auto, unfolding(js_meaning::specs::State::choose))]
@@ -104,12 +105,15 @@ fn case_found<'a>(
     }
 }
 
-#[tactic(auto, unfolding(js_meaning::specs::Operator::compare))]
-fn compare<'a>(alloc: Global, left: &Value<'a>, right: &Value<'a>) -> Plan<'a>
-    ensures { (E : Enter) → plans E result ≡ compare (value_of left.now) (value_of right.now) (λ b. give (plain (boolean b))) }
+fn test_value<'a>(
+    alloc: Global,
+    sought: &Value<'a>,
+    value: &Value<'a>,
+) -> Result<Plan<'a>, AllocError>
+    ensures { IfOk result (λ p. (E : Enter) → plans E p ≡ binary_of binary.StrictEquality (value_of sought.now) (value_of value.now)) }
 {
-    let same = strictly_equal(left, right);
-    replies(alloc, gives(Value::Plain(Plain::Boolean(same))))
+    let found = binary_of(alloc, BinaryOperator::StrictEquality, sought, value)?;
+    Ok(given(alloc, found))
 }
 
 fn keep_default<'a>(
@@ -153,7 +157,7 @@ pub fn resume_statement<'a>(
         AfterStatement::Case(here, sought, default, env) => {
             case_found(alloc, here, sought, default, env, &value)
         }
-        AfterStatement::CaseTest(sought) => Ok(compare(alloc, &sought, &value)),
+        AfterStatement::CaseTest(sought) => test_value(alloc, &sought, &value),
         AfterStatement::Initial(name, env) => Ok(asks(alloc, name.node(), Ask::Take(value), env)),
         AfterStatement::Default(env) => keep_default(world, alloc, value, &env),
         AfterStatement::Load(sources) => load_all(world, alloc, sources),

@@ -6,7 +6,7 @@ use Rattle.js_syntax.specs.Node.{Forest}
 use Rattle.js_syntax.specs.Code.{forest_code}
 use Rattle.js_syntax.specs.declared.kind.FunctionKind.{FunctionKind}
 use Rattle.js_syntax.specs.declared.kind.FunctionKind.TheVariants.{Declaration, Expression, Arrow}
-use Rattle.js_meaning.specs.Value.{Text, Slot, local, imported, arguments_object, Bound, bound, Env, Plain, undefined, null, boolean, number, text, host, ErrorKind, type_error, reference_error, Value, plain, closure, object, array, error, Content, no_content, element, property}
+use Rattle.js_meaning.specs.Value.{Text, Slot, local, imported, arguments_object, Bound, bound, Env, PrimitiveKind, a_number, a_bigint, a_symbol, a_string, Plain, undefined, null, boolean, number, text, host, other, ErrorKind, type_error, reference_error, Value, plain, closure, object, array, error, Content, no_content, element, property}
 
 abbrev text_code : Coded Text
 text_code = coded_list coded_ℕ
@@ -44,21 +44,44 @@ bound_code = code_by (Text × Slot) (coded× text_code slot_code) bound_parts bo
 abbrev pub env_code : Coded Env
 env_code = coded_list bound_code
 
-abbrev plain_parts : Plain → (Unit {0} ⊎ (Unit {0} ⊎ (Bool ⊎ (ℤ ⊎ (Text ⊎ (ℕ × Bool))))))
+abbrev kind_parts : PrimitiveKind → (Unit {0} ⊎ (Unit {0} ⊎ (Unit {0} ⊎ Unit {0})))
+kind_parts a_number = (inl tt)
+kind_parts a_bigint = (inr (inl tt))
+kind_parts a_symbol = (inr (inr (inl tt)))
+kind_parts a_string = (inr (inr (inr tt)))
+
+abbrev kind_back : (Unit {0} ⊎ (Unit {0} ⊎ (Unit {0} ⊎ Unit {0}))) → PrimitiveKind
+kind_back (inl p) = a_number
+kind_back (inr (inl p)) = a_bigint
+kind_back (inr (inr (inl p))) = a_symbol
+kind_back (inr (inr (inr p))) = a_string
+
+pub kind_same : (a : PrimitiveKind) → kind_back (kind_parts a) ≡ a
+kind_same a_number = refl
+kind_same a_bigint = refl
+kind_same a_symbol = refl
+kind_same a_string = refl
+
+abbrev kind_code : Coded PrimitiveKind
+kind_code = code_by (Unit {0} ⊎ (Unit {0} ⊎ (Unit {0} ⊎ Unit {0}))) (coded⊎ coded_unit (coded⊎ coded_unit (coded⊎ coded_unit coded_unit))) kind_parts kind_back kind_same
+
+abbrev plain_parts : Plain → (Unit {0} ⊎ (Unit {0} ⊎ (Bool ⊎ (ℤ ⊎ (Text ⊎ ((ℕ × Bool) ⊎ (ℕ × (PrimitiveKind × Bool))))))))
 plain_parts undefined = (inl tt)
 plain_parts null = (inr (inl tt))
 plain_parts (boolean x) = (inr (inr (inl x)))
 plain_parts (number x) = (inr (inr (inr (inl x))))
 plain_parts (text x) = (inr (inr (inr (inr (inl x)))))
-plain_parts (host x y) = (inr (inr (inr (inr (inr (x, y))))))
+plain_parts (host x y) = (inr (inr (inr (inr (inr (inl (x, y)))))))
+plain_parts (other x y z) = (inr (inr (inr (inr (inr (inr (x, (y, z))))))))
 
-abbrev plain_back : (Unit {0} ⊎ (Unit {0} ⊎ (Bool ⊎ (ℤ ⊎ (Text ⊎ (ℕ × Bool)))))) → Plain
+abbrev plain_back : (Unit {0} ⊎ (Unit {0} ⊎ (Bool ⊎ (ℤ ⊎ (Text ⊎ ((ℕ × Bool) ⊎ (ℕ × (PrimitiveKind × Bool)))))))) → Plain
 plain_back (inl p) = undefined
 plain_back (inr (inl p)) = null
 plain_back (inr (inr (inl p))) = boolean p
 plain_back (inr (inr (inr (inl p)))) = number p
 plain_back (inr (inr (inr (inr (inl p))))) = text p
-plain_back (inr (inr (inr (inr (inr p))))) = host p.0 p.1
+plain_back (inr (inr (inr (inr (inr (inl p)))))) = host p.0 p.1
+plain_back (inr (inr (inr (inr (inr (inr p)))))) = other p.0 p.1.0 p.1.1
 
 pub plain_same : (a : Plain) → plain_back (plain_parts a) ≡ a
 plain_same undefined = refl
@@ -67,9 +90,10 @@ plain_same (boolean x) = refl
 plain_same (number x) = refl
 plain_same (text x) = refl
 plain_same (host x y) = refl
+plain_same (other x y z) = refl
 
 abbrev pub plain_code : Coded Plain
-plain_code = code_by (Unit {0} ⊎ (Unit {0} ⊎ (Bool ⊎ (ℤ ⊎ (Text ⊎ (ℕ × Bool)))))) (coded⊎ coded_unit (coded⊎ coded_unit (coded⊎ coded_bool (coded⊎ coded_ℤ (coded⊎ text_code (coded× coded_ℕ coded_bool)))))) plain_parts plain_back plain_same
+plain_code = code_by (Unit {0} ⊎ (Unit {0} ⊎ (Bool ⊎ (ℤ ⊎ (Text ⊎ ((ℕ × Bool) ⊎ (ℕ × (PrimitiveKind × Bool)))))))) (coded⊎ coded_unit (coded⊎ coded_unit (coded⊎ coded_bool (coded⊎ coded_ℤ (coded⊎ text_code (coded⊎ (coded× coded_ℕ coded_bool) (coded× coded_ℕ (coded× kind_code coded_bool)))))))) plain_parts plain_back plain_same
 
 abbrev function_parts : FunctionKind → (Unit {0} ⊎ (Unit {0} ⊎ Unit {0}))
 function_parts Declaration = (inl tt)

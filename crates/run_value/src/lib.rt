@@ -21,10 +21,10 @@ pub use env::{Bound, Env, Slot};
 pub use event::{Act, Ending, Event, Outcome, ShownExport, ShownExports};
 pub use object::Properties;
 pub use operator::{
-    binary_of, goes_right, has_identity, is_boolean, is_object, literal_value, strictly_equal,
-    truthy, unary_of, updated,
+    binary_of, either_other, goes_right, has_identity, is_boolean, is_object, is_other,
+    literal_value, truthy, unary_of, updated,
 };
-pub use plain::Plain;
+pub use plain::{Plain, PrimitiveKind};
 pub use show::show_value;
 pub use shown::{Given, Parts, Shown, Sort};
 pub use value::{Content, ErrorKind, Value};

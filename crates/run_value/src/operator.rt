@@ -1,16 +1,16 @@
 // Operators on values (ECMA-262 13.5 to 13.12), where they show nothing to the host.
-ghost use Rattle.std.specs.Prelude.{◌≡◌, Bool, true, neg_ℤ, codes, string_bytes, IfOk};
+ghost use Rattle.std.specs.Prelude.{◌≡◌, ◌||◌, Bool, true, neg_ℤ, codes, string_bytes, IfOk};
 ghost use Rattle.std.specs.Option.{option_map};
 ghost use Rattle.js_meaning.specs.State.{M};
 ghost use Rattle.js_meaning.specs.Show.{has_identity};
-ghost use Rattle.js_meaning.specs.Operator.{is_object, is_boolean, is_nullish, is_text, truthy, type_name, plain_text, plus_plain, plus, plain_eq, strictly_equal, same_type, loosely, binary_of, unary_of, on_number, updated, goes_right, integer_text, on_numbers, joined, answer_is, answer_not, compare, signed, whole};
+ghost use Rattle.js_meaning.specs.Operator.{is_object, is_boolean, is_nullish, is_other, kind_name, known_binary, is_text, truthy, type_name, plain_text, plus_plain, plus, plain_eq, strictly_equal, same_type, loosely, binary_of, unary_of, on_number, updated, goes_right, integer_text, on_numbers, joined, answer_is, answer_not, compare, signed, whole};
 ghost use Rattle.js_meaning.specs.Value.{literal_value};
-ghost use Rattle.run_value.specs.Plain.{plain_of};
+ghost use Rattle.run_value.specs.Plain.{kind_of, plain_of};
 ghost use Rattle.run_value.specs.View.{value_of};
 ghost use Rattle.run_value.specs.Given.{gives_number, plain_gives, gives, tested, computed, number_in, text_in, concatenated};
 
 use crate::number::{computed, same, signed, whole};
-use crate::plain::Plain;
+use crate::plain::{Plain, PrimitiveKind};
 use crate::value::Value;
 use js_syntax::{BinaryOperator, LiteralValue, LogicalOperator, UnaryOperator, UpdateOperator};
 use std::alloc::{AllocError, Global};
@@ -40,6 +40,20 @@ fn is_nullish(value: &Value) -> bool
     matches!(value, Value::Plain(Plain::Undefined | Plain::Null))
 }
 
+/// Whether a value is a primitive value of the host of which `typeof` and tests alone are known.
+pub fn is_other(value: &Value) -> bool
+    ensures { result ≡ is_other (value_of value.now) }
+{
+    matches!(value, Value::Plain(Plain::Other(..)))
+}
+
+/// Whether one of two values is such a one, so that nothing is said of an operator on them.
+pub fn either_other(left: &Value, right: &Value) -> bool
+    ensures { result ≡ (is_other (value_of left.now) || is_other (value_of right.now)) }
+{
+    is_other(left) || is_other(right)
+}
+
 /// ToBoolean (7.1.2).
 pub fn truthy(value: &Value) -> bool
     ensures { result ≡ truthy (value_of value.now) }
@@ -49,7 +63,19 @@ pub fn truthy(value: &Value) -> bool
         Value::Plain(Plain::Boolean(b)) => *b,
         Value::Plain(Plain::Number(number)) => *number != 0,
         Value::Plain(Plain::Text(text)) => !text.is_empty(),
+        Value::Plain(Plain::Other(_, _, truth)) => *truth,
         _ => true,
+    }
+}
+
+fn kind_name(kind: PrimitiveKind) -> &'static str
+    ensures { result.now ≡ kind_name (kind_of kind) }
+{
+    match kind {
+        PrimitiveKind::Number => "number",
+        PrimitiveKind::Bigint => "bigint",
+        PrimitiveKind::Symbol => "symbol",
+        PrimitiveKind::Text => "string",
     }
 }
 
@@ -63,6 +89,7 @@ fn type_name(value: &Value) -> &'static str
         Value::Plain(Plain::Number(_)) => "number",
         Value::Plain(Plain::Text(_)) => "string",
         Value::Plain(Plain::Host(_, true)) => "function",
+        Value::Plain(Plain::Other(_, kind, _)) => kind_name(*kind),
         Value::Closure(..) => "function",
         _ => "object",
     }
@@ -95,8 +122,8 @@ pub fn has_identity(value: &Value, number: usize) -> bool
     }
 }
 
-/// IsStrictlyEqual (7.2.15).
-pub fn strictly_equal(left: &Value, right: &Value) -> bool
+// IsStrictlyEqual (7.2.15).
+fn strictly_equal(left: &Value, right: &Value) -> bool
     ensures { result ≡ strictly_equal (value_of left.now) (value_of right.now) }
 {
     match left {
@@ -156,7 +183,7 @@ fn plain_text(alloc: Global, plain: &Plain) -> Result<Option<String>, AllocError
             let text = String::from_str(alloc, text.as_str())?;
             Ok(Some(text))
         }
-        Plain::Host(..) => Ok(None),
+        Plain::Host(..) | Plain::Other(..) => Ok(None),
     }
 }
 
@@ -207,11 +234,19 @@ fn plus_plain(alloc: Global, left: &Plain, right: &Plain) -> Result<Option<Plain
     match left {
         Plain::Number(a) => match right {
             Plain::Number(b) => Ok(computed(BinaryOperator::Addition, *a, *b)),
-            Plain::Undefined | Plain::Null | Plain::Boolean(_) | Plain::Text(_) | Plain::Host(..) =>
-                concatenated(alloc, left, right),
+            Plain::Undefined
+            | Plain::Null
+            | Plain::Boolean(_)
+            | Plain::Text(_)
+            | Plain::Host(..)
+            | Plain::Other(..) => concatenated(alloc, left, right),
         },
-        Plain::Undefined | Plain::Null | Plain::Boolean(_) | Plain::Text(_) | Plain::Host(..) =>
-            concatenated(alloc, left, right),
+        Plain::Undefined
+        | Plain::Null
+        | Plain::Boolean(_)
+        | Plain::Text(_)
+        | Plain::Host(..)
+        | Plain::Other(..) => concatenated(alloc, left, right),
     }
 }
 
@@ -292,14 +327,14 @@ fn strictly(left: &Value, right: &Value) -> Option<bool>
     Some(strictly_equal(left, right))
 }
 
-// The binary operators that show nothing to the host.
-fn plain_binary(
+// The binary operators that show nothing to the host, on what is known.
+fn known_binary(
     alloc: Global,
     operator: BinaryOperator,
     left: &Value,
     right: &Value,
 ) -> Result<Option<Plain>, AllocError>
-    ensures { IfOk result (λ p. plain_gives p ≡ binary_of operator (value_of left.now) (value_of right.now)) }
+    ensures { IfOk result (λ p. plain_gives p ≡ known_binary operator (value_of left.now) (value_of right.now)) }
 {
     match operator {
         BinaryOperator::Equality => Ok(answer_is(loosely(left, right))),
@@ -329,6 +364,7 @@ fn given<'a>(found: Option<Plain>) -> Option<Value<'a>>
 }
 
 /// What a binary operator gives that shows nothing to the host: `None` where nothing is said of it.
+#[tactic(auto, unfolding(js_meaning::specs::State::choose))]
 pub fn binary_of<'a>(
     alloc: Global,
     operator: BinaryOperator,
@@ -337,8 +373,12 @@ pub fn binary_of<'a>(
 ) -> Result<Option<Value<'a>>, AllocError>
     ensures { IfOk result (λ v. gives v ≡ binary_of operator (value_of left.now) (value_of right.now)) }
 {
-    let found = plain_binary(alloc, operator, left, right)?;
-    Ok(given(found))
+    if either_other(left, right) {
+        Ok(None)
+    } else {
+        let found = known_binary(alloc, operator, left, right)?;
+        Ok(given(found))
+    }
 }
 
 fn number(found: Option<i64>) -> Option<Plain>

@@ -5,7 +5,17 @@ ghost use Rattle.run_value.specs.Plain.{plain_of};
 use std::alloc::AllocError;
 use std::rc::Rc;
 
-/// A primitive value, or an object of the host: its number, and whether it can be called.
+/// Which primitive values have no content here but what `typeof` says of them.
+#[derive(Clone, Copy)]
+pub enum PrimitiveKind {
+    Number,
+    Bigint,
+    Symbol,
+    Text,
+}
+
+/// A primitive value, or an object of the host: its number, and whether it can be called. Of any other
+/// primitive value of the host: a number that names it, its kind, and whether it is true in a test.
 pub enum Plain {
     Undefined,
     Null,
@@ -13,6 +23,7 @@ pub enum Plain {
     Number(i64),
     Text(Rc<String>),
     Host(u64, bool),
+    Other(u64, PrimitiveKind, bool),
 }
 
 impl Drop for Plain {
@@ -24,6 +35,7 @@ impl Drop for Plain {
             Plain::Number(_) => {}
             Plain::Text(_) => {}
             Plain::Host(_, _) => {}
+            Plain::Other(_, _, _) => {}
         }
     }
 }
@@ -43,6 +55,7 @@ impl Plain {
                 Ok(Plain::Text(text))
             }
             Plain::Host(number, callable) => Ok(Plain::Host(*number, *callable)),
+            Plain::Other(number, kind, truth) => Ok(Plain::Other(*number, *kind, *truth)),
         }
     }
 }

@@ -1,6 +1,6 @@
 // Hosts as rows write them: how many entries there may be, and then the host's moves, each behind a space.
 use crate::fault::Fault;
-use run_value::{Given, Plain};
+use run_value::{Given, Plain, PrimitiveKind};
 use run_world::{Move, Script};
 use std::alloc::{AllocError, Global};
 use std::rc::Rc;
@@ -14,6 +14,14 @@ static GLOBALS: [(&str, &str); 7] = [
     ("b", "h5"),
     ("use", "h6"),
     ("q", "h7"),
+];
+
+// The words of the kinds of other primitive values.
+static KINDS: [(&str, PrimitiveKind); 4] = [
+    ("number", PrimitiveKind::Number),
+    ("bigint", PrimitiveKind::Bigint),
+    ("symbol", PrimitiveKind::Symbol),
+    ("string", PrimitiveKind::Text),
 ];
 
 fn shared(alloc: Global, text: &str) -> Result<Rc<String>, AllocError> {
@@ -32,6 +40,20 @@ fn object(word: &str) -> Option<Plain> {
     }
 }
 
+// Another primitive value of the host by its number: `false-` stands before one that is false in a test.
+fn other(word: &str) -> Option<Plain> {
+    let (word, truth) = match word.strip_prefix("false-") {
+        Some(word) => (word, false),
+        None => (word, true),
+    };
+    for (name, kind) in KINDS.as_slice() {
+        if let Some(number) = word.strip_prefix(*name) {
+            return Some(Plain::Other(number.parse::<u64>().ok()?, *kind, truth));
+        }
+    }
+    None
+}
+
 fn primitive(word: &str) -> Option<Plain> {
     match word {
         "undefined" => Some(Plain::Undefined),
@@ -46,6 +68,7 @@ fn plain(alloc: Global, word: &str) -> Result<Plain, Fault> {
     match word.strip_prefix('\'') {
         Some(text) => Ok(Plain::Text(shared(alloc, text.trim_end_matches('\''))?)),
         None => primitive(word)
+            .or_else(|| other(word))
             .or_else(|| object(word))
             .ok_or(Fault("no value has this word")),
     }

@@ -1,6 +1,7 @@
 // Outcomes as rows write them: the events, each with the exports of that moment, and the ending.
 use run_value::{
-    Act, Ending, Event, Outcome, Parts, Plain, Shown, ShownExport, ShownExports, Sort,
+    Act, Ending, Event, Outcome, Parts, Plain, PrimitiveKind, Shown, ShownExport, ShownExports,
+    Sort,
 };
 use std::alloc::{AllocError, Global};
 use std::fmt::Write;
@@ -22,6 +23,27 @@ fn print_object(out: &mut String, number: u64, callable: bool) -> Result<(), All
     write!(out, "{sort}{number}")
 }
 
+fn kind_word(kind: PrimitiveKind) -> &'static str {
+    match kind {
+        PrimitiveKind::Number => "number",
+        PrimitiveKind::Bigint => "bigint",
+        PrimitiveKind::Symbol => "symbol",
+        PrimitiveKind::Text => "string",
+    }
+}
+
+// `false-` stands before one that is false in a test.
+fn print_other(
+    out: &mut String,
+    number: u64,
+    kind: PrimitiveKind,
+    truth: bool,
+) -> Result<(), AllocError> {
+    let before = if truth { "" } else { "false-" };
+    let kind = kind_word(kind);
+    write!(out, "{before}{kind}{number}")
+}
+
 fn print_plain(out: &mut String, plain: &Plain) -> Result<(), AllocError> {
     match plain {
         Plain::Undefined => out.push_str("undefined"),
@@ -30,6 +52,7 @@ fn print_plain(out: &mut String, plain: &Plain) -> Result<(), AllocError> {
         Plain::Number(number) => write!(out, "{number}"),
         Plain::Text(text) => print_text(out, text.as_str()),
         Plain::Host(number, callable) => print_object(out, *number, *callable),
+        Plain::Other(number, kind, truth) => print_other(out, *number, *kind, *truth),
     }
 }
 

@@ -7,7 +7,7 @@ use Rattle.js_meaning.specs.Show.{show_all}
 use Rattle.js_meaning.specs.Host.{consult, only}
 use Rattle.run_value.specs.ShownView.{shown_of}
 use Rattle.run_world.specs.World.{at, values_of}
-use Rattle.run_operations.proofs.call.construct_value.Goals as goal
+use Rattle.run_operations.proofs.call.construct_shown.Goals as goal
 
 pub returns : goal.returns
 returns c = record {
