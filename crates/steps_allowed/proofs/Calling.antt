@@ -144,9 +144,9 @@ change_keeps_calls (empty_statement_leaves a n item) = leave_root a _ (record { 
 change_keeps_calls (silent_statement_empties a n m l k inner silent) =
     let no_call = there {P = is_call k ≡ false} false _ 0 0 a _ (λ w c next h. silent_is_no_call _ w c next k l inner h) silent in
     swap_root a _ _ (record { counts = ap (counted expression_statement) no_call; lists = λ m. refl; begins = λ m. refl; calls = refl }) (record { counts = refl; lists = λ m. refl; begins = λ m. refl; calls = refl })
-change_keeps_calls (unused_function_leaves a pure n m x rest item free) = leave_root a _ (record { counts = refl; lists = λ m. refl; begins = λ m. refl; calls = refl }) (ap takes item)
-change_keeps_calls (unused_declarator_leaves a n m x value item other silent free) = leave_root a _ (record { counts = refl; lists = λ m. refl; begins = λ m. refl; calls = refl }) (ap takes item)
-change_keeps_calls (unused_declaration_leaves a how n m l j x value item silent free) = leave_root a _ (record { counts = refl; lists = λ m. refl; begins = λ m. refl; calls = refl }) (ap takes item)
+change_keeps_calls (unused_function_leaves a pure n m x rest item own free) = leave_root a _ (record { counts = refl; lists = λ m. refl; begins = λ m. refl; calls = refl }) (ap takes item)
+change_keeps_calls (unused_declarator_leaves a n m x value item other own silent free) = leave_root a _ (record { counts = refl; lists = λ m. refl; begins = λ m. refl; calls = refl }) (ap takes item)
+change_keeps_calls (unused_declaration_leaves a how n m l j x value item own silent free) = leave_root a _ (record { counts = refl; lists = λ m. refl; begins = λ m. refl; calls = refl }) (ap takes item)
 
 bare_keeps_calls : (t u : Forest) → bare t ≡ bare u → root_calls t ≡ root_calls u
 bare_keeps_calls t u e = sym (bare_root t) ∙ ap root_calls e ∙ bare_root u
