@@ -22,7 +22,7 @@ zero_plus n = omega arith
 
 -- ---- spans and ids don't count
 
-bare_begins : (t : Forest) → begins_with_call (bare t) ≡ begins_with_call t
+pub bare_begins : (t : Forest) → begins_with_call (bare t) ≡ begins_with_call t
 bare_begins nothing = refl
 bare_begins (node k n below rest) = refl
 bare_begins (absent rest) = refl
@@ -126,11 +126,11 @@ call_acts bs w c next pure optional l inner (inl e, rest) = absurd (true≢false
 call_acts bs w c next pure optional l inner (inr (inl (v, found)), rest) = absurd found
 call_acts bs w c next pure optional l inner (inr (inr (parts, below)), rest) = absurd (true≢false (sym parts))
 
-silent_is_no_call : (bs : List BindingSite) (w : Bool) (c : Context) (next : ℕ) (k : Kind) (l : Note) (inner : Forest) → IsSilentBelow bs w c next expression_statement (alone k l inner) → is_call k ≡ false
+pub silent_is_no_call : (bs : List BindingSite) (w : Bool) (c : Context) (next : ℕ) (k : Kind) (l : Note) (inner : Forest) → IsSilentBelow bs w c next expression_statement (alone k l inner) → is_call k ≡ false
 silent_is_no_call bs w c next (call_expression pure optional) l inner h = absurd (call_acts bs w c next pure optional l inner h)
 silent_is_no_call bs w c next k l inner h = refl
 
-there : {holds : Bool → Context → ℕ → Type 0} {P : Type 0} (w : Bool) (contexts : ℕ → Context) (at next : ℕ) (a : Around) (x : Option Tree) → ((w : Bool) (c : Context) (next : ℕ) → holds w c next → P)
+pub there : {holds : Bool → Context → ℕ → Type 0} {P : Type 0} (w : Bool) (contexts : ℕ → Context) (at next : ℕ) (a : Around) (x : Option Tree) → ((w : Bool) (c : Context) (next : ℕ) → holds w c next → P)
     → HoldsThere w contexts at next a x holds → P
 there w contexts at next (first rest) x f h = f w (contexts at) next h
 there w contexts at next (behind k n below a) x f h = there w contexts (suc at) (next + scope_count (node k n below nothing)) a x f h

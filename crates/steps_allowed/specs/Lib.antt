@@ -4,3 +4,4 @@ pub mod Removes
 pub mod Arranged
 pub mod Rows
 pub mod Calls
+pub mod Changing

@@ -1,5 +1,5 @@
 -- Small programs that the definitions are tried on.
-use Rattle.std.specs.Prelude.{List, [], ◌∷◌, false, None}
+use Rattle.std.specs.Prelude.{List, [], ◌∷◌, false, None, codes}
 use Rattle.js_syntax.specs.declared.node_kind.NodeKind.{NodeKind as Kind}
 use Rattle.js_syntax.specs.declared.scalar.SourceType.TheVariants as source_type
 use Rattle.js_syntax.specs.declared.kind.VariableKind.TheVariants as variable
@@ -17,6 +17,10 @@ before items = in_list (first (row items))
 -- a();
 abbrev pub call_of_a : Forest
 call_of_a = over (Kind.CallExpression false false) (joined (reads a) (listed Kind.Arguments []))
+
+-- eval();
+abbrev pub call_of_eval : Forest
+call_of_eval = over (Kind.CallExpression false false) (joined (reads (codes "eval")) (listed Kind.Arguments []))
 
 -- if (1) { body }
 abbrev pub if_one : Forest → Forest

@@ -3,12 +3,12 @@ ghost use Rattle.std.specs.Prelude.{[], ◌∷◌, None, false, true, ◌≡◌}
 ghost use Rattle.js_syntax.specs.declared.kind.VariableKind.TheVariants as variable;
 ghost use Rattle.js_syntax.specs.declared.node_kind.NodeKind.{NodeKind as Kind};
 ghost use Rattle.js_syntax.specs.Node.{Forest, nothing, nowhere, below_of};
-ghost use Rattle.form_rules.specs.Samples.{a_module, a, reads, one, does, let_, function_a};
+ghost use Rattle.form_rules.specs.Samples.{a_module, a_script, a, binds, reads, one, does, declares, let_, function_a, block};
 ghost use Rattle.scope_rules.specs.Context.{body_of};
 ghost use Rattle.scope_rules.specs.Binding.{named_in};
 ghost use Rattle.scope_laws.specs.Place.{plug};
 ghost use Rattle.steps_allowed.specs.Removes.{a_node, At, SilentStatement, IsFree, Removes, Removals};
-ghost use Rattle.steps_allowed.specs.Rows.{before, call_of_a, if_one, empty, a_is_read, a_is_exported};
+ghost use Rattle.steps_allowed.specs.Rows.{before, call_of_a, call_of_eval, if_one, empty, a_is_read, a_is_exported};
 
 /// A statement of a literal becomes empty, in a list and alone, and leaves the list then.
 pub fn silent_statements_go()
@@ -27,6 +27,14 @@ pub fn calls_stay()
 pub fn a_call_never_goes()
     ensures alone { Removals (a_module (does call_of_a ∷ [])) (a_module []) → ⊥ }
     ensures behind { Removals (a_module (does one ∷ does call_of_a ∷ [])) (a_module []) → ⊥ }
+{}
+
+/// What nothing refers to stays where other code may use it: a variable beside a call of `eval`, a function
+/// of a script, and one in a block of sloppy code.
+pub fn what_others_may_use_stays()
+    ensures evaluated { Removals (a_module (declares variable.Let (binds a) one ∷ does call_of_eval ∷ [])) (a_module (does call_of_eval ∷ [])) → ⊥ }
+    ensures global { Removals (a_script (function_a [] [] ∷ [])) (a_script []) → ⊥ }
+    ensures sloppy { Removals (a_script (block (function_a [] [] ∷ []) ∷ [])) (a_script (block [] ∷ [])) → ⊥ }
 {}
 
 /// A variable and a function that nothing refers to go.
