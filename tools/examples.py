@@ -221,6 +221,7 @@ S('let x; [...x]; ({ [x]: 1 }); ({ get a() {} }); -x; f(x), 2;',[x_is(None),ES(N
 S('(function f(f, b = c) { var c; f; b; c; });',[ES(fn('FunctionExpression',f,[f,N('AssignmentPattern',left=b,right=c)],B(var('var',(c,None)),ES(f),ES(b),ES(c))))],[],1,0)
 S('let x;',[var('let',(x,None))],[],1,0)
 S('let x; in a script',[var('let',(x,None))],None,0,0,'script')
+S('use(/a/g); whose name nothing declares',[use(N('Literal',value={},regex=dict(pattern='a',flags='g')))],None,0,0)
 
 
 def text(tree): return json.dumps(tree, sort_keys=True, separators=(',', ':'))

@@ -12,6 +12,7 @@ use Rattle.form_rules.specs.Context.{is_module, is_strict_list}
 use Rattle.js_meaning.specs.Value.{Text}
 use Rattle.steps.specs.Names.{is_among, refers}
 use Rattle.steps.specs.Steps.{Row, items, of_item, declarators, other, is_single, row_below, Around, entered, outermost, is_used}
+use Rattle.scope_rules.specs.SymbolFlags as symbol_flag
 use Rattle.scope_rules.specs.declared.layer.Layer.{Layer}
 use Rattle.scope_rules.specs.declared.layer.Part.{Part}
 use Rattle.scope_rules.specs.declared.layer.Part.TheVariants.{OwnName as own_name, Parameters as parameters_part, Body as body}
@@ -201,7 +202,7 @@ function_unused t w cs at next pure x n m a b r placed stands u =
     let h = holds t w cs at next _ placed stands in
     let g = holds_below t w cs at next (Kind.Function function_kind.Declaration pure) n (node (Kind.BindingName x) m a b) r h in
     unused_so t w (cs at) variable.Let x a_declaration h.settled.0 refl refl
-    (declared (declarations_of t) (record { id = m.id; name = x; layer = (cs at).block; flags = 32; is_pure = pure; span = m.span })
+    (declared (declarations_of t) (record { id = m.id; name = x; layer = (cs at).block; flags = symbol_flag.function; is_pure = pure; span = m.span })
     (g.declarations _ (first_site (inside (cs at) next (Kind.Function function_kind.Declaration pure) (node (Kind.BindingName x) m a b)) (next + 1) x m a b)))
     u
 

@@ -5,6 +5,7 @@ use Rattle.js_syntax.specs.declared.scalar.SourceType.TheVariants as source_type
 use Rattle.js_syntax.specs.declared.value.LiteralValue.TheVariants as value
 use Rattle.js_syntax.specs.Node.{nothing, node, nowhere}
 use Rattle.form_rules.specs.Samples.{a}
+use Rattle.scope_rules.specs.ReferenceFlags as reference_flag
 use Rattle.scope_rules.specs.Table.{Reference}
 use Rattle.scope_laws.specs.Place.{Around, first, behind, under}
 use Rattle.scope_laws.proofs.Bindings.{same_value}
@@ -24,5 +25,5 @@ pub unkept : IsKept misplaced_table without_number → ⊥
 unkept k =
     let e = k.exact.entered _ (inl refl) in
     let is : e.id ≡ 0 = same_value (sym e.has_id) in
-    let entry : Some (record { scope = 0; symbol = Some 0; flags = 1 }) ≡ Some e.entry = ap (λ rs. slice_get rs 0) (sym k.shortens.same_entries) ∙ ap (slice_get k.table.references) (sym is) ∙ e.stands in
+    let entry : Some (record { scope = 0; symbol = Some 0; flags = reference_flag.read }) ≡ Some e.entry = ap (λ rs. slice_get rs 0) (sym k.shortens.same_entries) ∙ ap (slice_get k.table.references) (sym is) ∙ e.stands in
     ((e.names 0).0 (ap (λ (r : Reference). r.symbol) (sym (same_value entry)))).stands
