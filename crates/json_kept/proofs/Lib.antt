@@ -9,3 +9,4 @@ pub mod SignsWritten
 pub mod SignsFit
 pub mod Signable
 pub mod Texts
+pub mod Computed

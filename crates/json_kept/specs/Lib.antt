@@ -1,2 +1,3 @@
 pub mod Respelled
 pub mod Signs
+pub mod Samples

@@ -4,11 +4,12 @@
 //! is negative; and what a pass leaves nests no deeper than what it had. `readable`: so a tree that was read is readable
 //! (`IsReadable` of json_shape) where each of its values is written as what it is (`specs/Respelled.antt`), and passes keep
 //! that. `signs`: where numbers are negative, the text is read as the tree with unary minus on their magnitudes
-//! (`specs/Signs.antt`, and `signed` of js_meaning_near).
+//! (`specs/Signs.antt`, and `signed` of js_meaning_near). `examples` has small modules with what is written of them.
 //!
 //! The code is empty: each function's contract is a law.
 #![tactic(auto)]
 
+pub mod examples;
 mod nesting;
 mod readable;
 mod signs;

@@ -16,6 +16,7 @@ use std::alloc::{AllocError, Global};
 /// minus on its magnitude. It fails only where memory is short.
 pub fn write_tree(alloc: Global, program: &Program) -> Result<Text, AllocError>
     ensures text { IfOk result (λ t. t ≡ text_of (forest_of program.now)) }
+    ensures utf8 { IfOk result (λ t. IsUtf8 t) }
     ensures reads_back { IfOk result
         (λ t. IsReadable (forest_of program.now)
         → IsReadAs t (Ok (bare (forest_of program.now)))) }
