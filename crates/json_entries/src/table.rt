@@ -615,17 +615,17 @@ pub fn entries(kind: &NodeKind) -> &'static [Entry]
         NodeKind::ForeignSpecifier { .. } => &FOREIGN_SPECIFIER,
         NodeKind::ExportDefaultDeclaration => &EXPORT_DEFAULT_DECLARATION,
         NodeKind::ExportAllDeclaration { .. } => &EXPORT_ALL_DECLARATION,
-        NodeKind::Hole => &[],
-        NodeKind::Statements => &[],
-        NodeKind::Cases => &[],
-        NodeKind::Declarators => &[],
-        NodeKind::Parameters => &[],
-        NodeKind::Members => &[],
-        NodeKind::Elements => &[],
-        NodeKind::Properties => &[],
-        NodeKind::Expressions => &[],
-        NodeKind::Arguments => &[],
-        NodeKind::Quasis => &[],
-        NodeKind::Specifiers => &[],
+        NodeKind::Hole
+        | NodeKind::Statements
+        | NodeKind::Cases
+        | NodeKind::Declarators
+        | NodeKind::Parameters
+        | NodeKind::Members
+        | NodeKind::Elements
+        | NodeKind::Properties
+        | NodeKind::Expressions
+        | NodeKind::Arguments
+        | NodeKind::Quasis
+        | NodeKind::Specifiers => &[],
     }
 }

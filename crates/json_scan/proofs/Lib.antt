@@ -1,2 +1,3 @@
+mod Outcomes
 pub mod Rows
 pub mod Steps

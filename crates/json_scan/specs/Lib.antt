@@ -1,3 +1,4 @@
+pub mod Outcome
 pub mod Place
 pub mod Scan
 pub mod Scalar

@@ -9,6 +9,7 @@ ghost use Rattle.json_text.specs.Fault.{fault_of};
 ghost use Rattle.json_text.specs.Plain as reading;
 ghost use Rattle.json_table.specs.View.{words_view, kept_view, check_view};
 ghost use Rattle.json_scan.specs.Place.{fault_at};
+ghost use Rattle.json_scan.specs.Outcome.{without_value};
 ghost use Rattle.json_scan.specs.Scan.{checked};
 
 use crate::kept::{flag_field, literal_value, reg_exp_field, template_field, text_field};
@@ -54,7 +55,6 @@ fn check_word(node: &Value, words: Words, place: Place) -> Result<(), TreeError>
 }
 
 /// Whether a field says what the kind keeps of it.
-#[tactic(auto, using(crate::proofs::Steps::fails_bind))]
 pub fn check_kept(
     node: &Value,
     kind: NodeType,
@@ -66,43 +66,16 @@ pub fn check_kept(
 {
     let place = place_of(kind, name);
     match kept {
-        Kept::Text => {
-            text_field(node, name, place)?;
-            Ok(())
-        }
-        Kept::Flag => {
-            flag_field(node, place)?;
-            Ok(())
-        }
-        Kept::Value => {
-            literal_value(node, place)?;
-            Ok(())
-        }
-        Kept::Word(words) => {
-            check_word(node, words, place)?;
-            Ok(())
-        }
+        Kept::Text => only_checked(text_field(node, name, place)),
+        Kept::Flag => only_checked(flag_field(node, place)),
+        Kept::Value => only_checked(literal_value(node, place)),
+        Kept::Word(words) => check_word(node, words, place),
         Kept::Mark => Ok(()),
-        Kept::Name => {
-            name_field(node, place)?;
-            Ok(())
-        }
-        Kept::MaybeName => {
-            optional_name_field(node, place)?;
-            Ok(())
-        }
-        Kept::ModuleName => {
-            module_name_field(node, place)?;
-            Ok(())
-        }
-        Kept::MaybeModuleName => {
-            optional_module_name_field(node, place)?;
-            Ok(())
-        }
-        Kept::Source => {
-            source_field(node, place)?;
-            Ok(())
-        }
+        Kept::Name => only_checked(name_field(node, place)),
+        Kept::MaybeName => only_checked(optional_name_field(node, place)),
+        Kept::ModuleName => only_checked(module_name_field(node, place)),
+        Kept::MaybeModuleName => only_checked(optional_module_name_field(node, place)),
+        Kept::Source => only_checked(source_field(node, place)),
         Kept::TemplateText => {
             template_field(node, place)?;
             Ok(())
@@ -111,6 +84,16 @@ pub fn check_kept(
             reg_exp_field(node, place)?;
             Ok(())
         }
+    }
+}
+
+// What was read, of which only the fault is wanted.
+fn only_checked<T: Drop>(read: Result<T, TreeError>) -> Result<(), TreeError>
+    ensures { result ≡ without_value read }
+{
+    match read {
+        Ok(_) => Ok(()),
+        Err(fault) => Err(fault),
     }
 }
 
