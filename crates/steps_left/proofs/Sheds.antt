@@ -189,6 +189,6 @@ module _ (a : Place) where
 pub removal_sheds : (t u : Forest) → Removes t u → IsLaidOut t → Sheds outermost t u
 removal_sheds t u (empty_statement_leaves a n item) laid = empty_sheds a n laid (inl item)
 removal_sheds t u (silent_statement_empties a n m l k inner silent) laid = statement_empties n m (alone k l inner) a outermost laid
-removal_sheds t u (unused_function_leaves a pure n m x rest item free) laid = function_sheds a pure n m x rest laid (inl item) free
-removal_sheds t u (unused_declarator_leaves a n m x value item others silent free) laid = declarator_sheds a n m x value laid (inr (item, others)) silent free
-removal_sheds t u (unused_declaration_leaves a how n m l j x value item silent free) laid = declaration_sheds a how n m l j x value laid (inl item) silent free
+removal_sheds t u (unused_function_leaves a pure n m x rest item own free) laid = function_sheds a pure n m x rest laid (inl item) free
+removal_sheds t u (unused_declarator_leaves a n m x value item others own silent free) laid = declarator_sheds a n m x value laid (inr (item, others)) silent free
+removal_sheds t u (unused_declaration_leaves a how n m l j x value item own silent free) laid = declaration_sheds a how n m l j x value laid (inl item) silent free
