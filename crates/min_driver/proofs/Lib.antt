@@ -1,2 +1,2 @@
-pub mod Small
-pub mod Steps
+pub mod Counting
+pub mod Leaves

@@ -1,3 +1,5 @@
+pub mod Counting
 pub mod Limit
 pub mod Options
 pub mod Minify
+pub mod Left

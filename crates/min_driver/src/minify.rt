@@ -1,13 +1,16 @@
 // The library call.
-ghost use Rattle.std.specs.Prelude.{◌≡◌, IfOk, IfErr, IsSomeAnd, is_some, true};
+ghost use Rattle.std.specs.Prelude.{◌≡◌, ◌≤◌, IfOk, IfErr, IsSomeAnd, is_some, true};
 ghost use Rattle.std.specs.List.{count_by};
 ghost use Rattle.js_syntax.specs.Class.{root};
 ghost use Rattle.js_syntax.specs.Node.{forest_of};
+ghost use Rattle.js_tree.specs.Count.{node_count, levels};
 ghost use Rattle.form_rules.specs.Form.{IsWellFormed};
 ghost use Rattle.js_scoping.specs.Build.{table_of, numbered};
+ghost use Rattle.min_driver.specs.Left.{IsLeft};
 ghost use Rattle.min_driver.specs.Limit.{IsWithinLimits};
 ghost use Rattle.min_driver.specs.Minify.{left_of, passes_by, IsCleanBy, IsCause};
 ghost use Rattle.min_driver.specs.Options.{IsSmallest};
+ghost use Rattle.min_passes.specs.Built.{Built};
 ghost use Rattle.min_passes.specs.Passes.{shaken, passes_of, IsClean};
 ghost use Rattle.scope_laws.specs.Exact.{Exact};
 ghost use Rattle.scope_rules.specs.Binding.{resolved_references};
@@ -16,18 +19,14 @@ ghost use Rattle.headline.specs.Headline.{Removals, Kept, KeptBack, is_core_modu
 ghost use Rattle.json_shape.specs.Shape.{Fits};
 
 use crate::error::MinifyError;
+use crate::limits::check_limits;
 use crate::options::CompressOptions;
 use form_check::{FormError, well_formed};
 use js_scoping::{Scoping, build};
-use js_tree::{Program, count_nodes, depth};
+use js_tree::Program;
 use js_tree_copy::try_clone;
 use min_passes::{Shaken, shake_program};
 use std::alloc::{AllocError, Global};
-
-// How many nodes and levels a program may have.
-const MAX_NODES: u32 = 16_777_216;
-
-const MAX_LEVELS: u32 = 1000;
 
 /// What the library call is to do.
 #[derive(Drop)]
@@ -62,22 +61,6 @@ pub struct Minifier {
     options: MinifierOptions,
 }
 
-// Whether a program is small enough.
-fn check_limits(program: &Program) -> Result<(), MinifyError>
-    ensures ok { IfOk result (λ _. IsWithinLimits (forest_of program.now)) }
-    ensures err { IfErr result (λ e. IsCause e (forest_of program.now)) }
-{
-    let nodes = count_nodes(program, MAX_NODES);
-    let levels = depth(program, MAX_LEVELS);
-    if nodes <= MAX_NODES as usize && levels <= MAX_LEVELS as usize {
-        return Ok(());
-    }
-    Err(MinifyError::TooLarge {
-        nodes: nodes as u32,
-        levels: levels as u32,
-    })
-}
-
 // Whether a program that is small enough breaks no rule of form.
 fn check_form(alloc: Global, program: &Program) -> Result<(), MinifyError>
     requires within { IsWithinLimits (forest_of program.now) }
@@ -91,69 +74,84 @@ fn check_form(alloc: Global, program: &Program) -> Result<(), MinifyError>
     }
 }
 
-// Puts what the passes leave of a program in its place, its nodes marked.
-fn compress(alloc: Global, program: &mut Program) -> Result<MinifierReturn, AllocError>
-    requires within { IsWithinLimits (forest_of program.old) }
-    ensures left { IfOk result (λ _. forest_of program.new ≡ numbered (shaken (forest_of program.old))) }
-    ensures iterations { IfOk result (λ r. r.iterations ≡ passes_of (forest_of program.old)) }
-    ensures scoping { IfOk result (λ r. r.scoping ≡ table_of (shaken (forest_of program.old))) }
-    ensures clean { IfOk result (λ r. IsClean r.scoping (forest_of program.new)) }
-    ensures exact { IfOk result (λ r. Exact r.scoping (forest_of program.new)) }
-    ensures matches { IfOk result (λ r. Matches r.scoping (forest_of program.new)) }
-    ensures resolved { IfOk result (λ r. count_by (λ r. is_some r.symbol) r.scoping.references ≡ resolved_references (shaken (forest_of program.old))) }
-    ensures unchanged { IfErr result (λ _. program.new ≡ program.old) }
+// Whether a program may be minified.
+fn check(alloc: Global, program: &Program) -> Result<(), MinifyError>
+    ensures within { IfOk result (λ _. IsWithinLimits (forest_of program.now)) }
+    ensures well_formed { IfOk result (λ _. IsWellFormed (forest_of program.now)) }
+    ensures err { IfErr result (λ e. IsCause e (forest_of program.now)) }
 {
-    let copy = try_clone(alloc, program)?;
+    check_limits(alloc, program)?;
+    check_form(alloc, program)
+}
+
+// What the passes leave of a program.
+fn compress(alloc: Global, program: Program) -> Result<(Program, MinifierReturn), AllocError>
+    requires within { IsWithinLimits (forest_of program) }
+    ensures built { IfOk result (λ r. Built (forest_of r.0) r.1.scoping (shaken (forest_of program))) }
+    ensures iterations { IfOk result (λ r. r.1.iterations ≡ passes_of (forest_of program)) }
+    ensures clean { IfOk result (λ r. IsClean r.1.scoping (forest_of r.0)) }
+{
     let Shaken {
         program: left,
         scoping,
         iterations,
-    } = shake_program(alloc, copy)?;
-    *program = left;
-    Ok(MinifierReturn {
-        scoping,
-        iterations,
-    })
+    } = shake_program(alloc, program)?;
+    Ok((
+        left,
+        MinifierReturn {
+            scoping,
+            iterations,
+        },
+    ))
 }
 
-// Marks the nodes of a program that stays.
-fn mark(alloc: Global, program: &mut Program) -> Result<MinifierReturn, AllocError>
-    requires within { IsWithinLimits (forest_of program.old) }
-    ensures marked { IfOk result (λ _. forest_of program.new ≡ numbered (forest_of program.old)) }
-    ensures iterations { IfOk result (λ r. r.iterations ≡ 0) }
-    ensures scoping { IfOk result (λ r. r.scoping ≡ table_of (forest_of program.old)) }
-    ensures exact { IfOk result (λ r. Exact r.scoping (forest_of program.new)) }
-    ensures matches { IfOk result (λ r. Matches r.scoping (forest_of program.new)) }
-    ensures resolved { IfOk result (λ r. count_by (λ r. is_some r.symbol) r.scoping.references ≡ resolved_references (forest_of program.old)) }
-    ensures unchanged { IfErr result (λ _. program.new ≡ program.old) }
+// A program that stays, its nodes marked.
+fn mark(alloc: Global, program: Program) -> Result<(Program, MinifierReturn), AllocError>
+    requires within { IsWithinLimits (forest_of program) }
+    ensures built { IfOk result (λ r. Built (forest_of r.0) r.1.scoping (forest_of program)) }
+    ensures iterations { IfOk result (λ r. r.1.iterations ≡ 0) }
 {
-    let scoping = build(alloc, program)?;
-    Ok(MinifierReturn {
-        scoping,
-        iterations: 0,
-    })
+    let mut left = program;
+    let scoping = build(alloc, &mut left)?;
+    Ok((
+        left,
+        MinifierReturn {
+            scoping,
+            iterations: 0,
+        },
+    ))
 }
 
 // Compresses a program, or only marks its nodes.
 fn minify(
     alloc: Global,
     options: &Option<CompressOptions>,
-    program: &mut Program,
-) -> Result<MinifierReturn, AllocError>
-    requires within { IsWithinLimits (forest_of program.old) }
-    ensures left { IfOk result (λ _. forest_of program.new ≡ numbered (left_of options.now (forest_of program.old))) }
-    ensures iterations { IfOk result (λ r. r.iterations ≡ passes_by options.now (forest_of program.old)) }
-    ensures scoping { IfOk result (λ r. r.scoping ≡ table_of (left_of options.now (forest_of program.old))) }
-    ensures clean { IfOk result (λ r. IsCleanBy options.now r.scoping (forest_of program.new)) }
-    ensures exact { IfOk result (λ r. Exact r.scoping (forest_of program.new)) }
-    ensures matches { IfOk result (λ r. Matches r.scoping (forest_of program.new)) }
-    ensures resolved { IfOk result (λ r. count_by (λ r. is_some r.symbol) r.scoping.references ≡ resolved_references (left_of options.now (forest_of program.old))) }
-    ensures unchanged { IfErr result (λ _. program.new ≡ program.old) }
+    program: Program,
+) -> Result<(Program, MinifierReturn), AllocError>
+    requires within { IsWithinLimits (forest_of program) }
+    requires well_formed { IsWellFormed (forest_of program) }
+    ensures left { IfOk result (λ r. IsLeft options.now (forest_of program) (forest_of r.0) r.1.scoping) }
+    ensures iterations { IfOk result (λ r. r.1.iterations ≡ passes_by options.now (forest_of program)) }
 {
     match options {
         None => mark(alloc, program),
         Some(_) => compress(alloc, program),
     }
+}
+
+// The same of a program that is left as it is.
+fn minify_copy(
+    alloc: Global,
+    options: &Option<CompressOptions>,
+    program: &Program,
+) -> Result<(Program, MinifierReturn), AllocError>
+    requires within { IsWithinLimits (forest_of program.now) }
+    requires well_formed { IsWellFormed (forest_of program.now) }
+    ensures left { IfOk result (λ r. IsLeft options.now (forest_of program.now) (forest_of r.0) r.1.scoping) }
+    ensures iterations { IfOk result (λ r. r.1.iterations ≡ passes_by options.now (forest_of program.now)) }
+{
+    let copy = try_clone(alloc, program)?;
+    minify(alloc, options, copy)
 }
 
 impl Minifier {
@@ -165,7 +163,7 @@ impl Minifier {
 
     /// Dead code elimination: what the passes leave of the program is put in its place, its nodes marked
     /// with the numbers of their scopes, symbols and references. The program is tested for its limits
-    /// first, and then for the rules of form. After an error it is as it was.
+    /// first, and then for the rules of form; what is left is of a copy. After an error it is as it was.
     pub fn dce(self, alloc: Global, program: &mut Program) -> Result<MinifierReturn, MinifyError>
         ensures left { IfOk result (λ _. forest_of program.new ≡ numbered (left_of self.options.compress (forest_of program.old))) }
         ensures iterations { IfOk result (λ r. r.iterations ≡ passes_by self.options.compress (forest_of program.old)) }
@@ -173,6 +171,11 @@ impl Minifier {
         ensures steps { IfOk result (λ _. Fits root (forest_of program.old) → Removals (forest_of program.old) (forest_of program.new)) }
         ensures kept { IfOk result (λ _. Fits root (forest_of program.old) → is_core_module (forest_of program.old) ≡ true → Kept (forest_of program.old) (forest_of program.new)) }
         ensures back { IfOk result (λ _. Fits root (forest_of program.old) → is_core_module (forest_of program.old) ≡ true → KeptBack (forest_of program.old) (forest_of program.new)) }
+        ensures fits { IfOk result (λ _. Fits root (forest_of program.old) → Fits root (forest_of program.new)) }
+        ensures formed { IfOk result (λ _. Fits root (forest_of program.old) → IsWellFormed (forest_of program.new)) }
+        ensures nodes { IfOk result (λ _. node_count (forest_of program.new) ≤ node_count (forest_of program.old)) }
+        ensures levels { IfOk result (λ _. levels (forest_of program.new) ≤ levels (forest_of program.old)) }
+        ensures small { IfOk result (λ _. IsWithinLimits (forest_of program.new)) }
         ensures clean { IfOk result (λ r. IsCleanBy self.options.compress r.scoping (forest_of program.new)) }
         ensures exact { IfOk result (λ r. Exact r.scoping (forest_of program.new)) }
         ensures matches { IfOk result (λ r. Matches r.scoping (forest_of program.new)) }
@@ -182,8 +185,26 @@ impl Minifier {
         ensures err { IfErr result (λ e. IsCause e (forest_of program.old)) }
         ensures unchanged { IfErr result (λ _. program.new ≡ program.old) }
     {
-        check_limits(program)?;
-        check_form(alloc, program)?;
+        check(alloc, program)?;
+        let (left, done) = minify_copy(alloc, &self.options.compress, program)?;
+        *program = left;
+        Ok(done)
+    }
+
+    /// The same of a program that is given up, which is not copied: what is left of it is answered. After an error it is
+    /// dropped.
+    pub fn dce_owned(
+        self,
+        alloc: Global,
+        program: Program,
+    ) -> Result<(Program, MinifierReturn), MinifyError>
+        ensures left { IfOk result (λ r. IsLeft self.options.compress (forest_of program) (forest_of r.0) r.1.scoping) }
+        ensures iterations { IfOk result (λ r. r.1.iterations ≡ passes_by self.options.compress (forest_of program)) }
+        ensures within { IfOk result (λ _. IsWithinLimits (forest_of program)) }
+        ensures well_formed { IfOk result (λ _. IsWellFormed (forest_of program)) }
+        ensures err { IfErr result (λ e. IsCause e (forest_of program)) }
+    {
+        check(alloc, &program)?;
         let done = minify(alloc, &self.options.compress, program)?;
         Ok(done)
     }

@@ -102,53 +102,27 @@ fn send<K: Sink, E: Sink>(text: String, out: &mut K, err: &mut E) -> Status
     }
 }
 
-// Puts what is left of a program in its place, and answers what is written for it: its tree, and the line of
-// counts.
-fn shaken_text(
-    alloc: Global,
-    command: Command,
-    program: &mut Program,
-) -> Result<String, MinifyError>
-    ensures output { IfOk result (λ s. string_bytes s ≡ shaken_output command (forest_of program.old)) }
-    ensures reads_back { IfOk result (λ _. IsReadBack (shaken (forest_of program.old))) }
-    ensures sound { IfOk result (λ _. IsSound (forest_of program.old)) }
-    ensures err { IfErr result (λ e. IsCause e (forest_of program.old)) }
+// What is written for what is left of a program: its tree, and the line of counts.
+fn shaken_text(alloc: Global, command: Command, program: Program) -> Result<String, MinifyError>
+    ensures output { IfOk result (λ s. string_bytes s ≡ shaken_output command (forest_of program)) }
+    ensures reads_back { IfOk result (λ _. IsReadBack (shaken (forest_of program))) }
+    ensures sound { IfOk result (λ _. IsSound (forest_of program)) }
+    ensures err { IfErr result (λ e. IsCause e (forest_of program)) }
 {
     let options = MinifierOptions {
         compress: Some(CompressOptions::dce(alloc)),
     };
-    let done = Minifier::new(options).dce(alloc, program)?;
+    let (left, done) = Minifier::new(options).dce_owned(alloc, program)?;
     let references = done.scoping.resolved_count();
-    let text = output(alloc, command, program, done.iterations, references)?;
+    let text = output(alloc, command, &left, done.iterations, references)?;
     Ok(text)
 }
 
-// Shakes a program in its place, and sends what is left.
-fn answer_program<K: Sink, E: Sink>(
-    alloc: Global,
-    command: Command,
-    program: &mut Program,
-    out: &mut K,
-    err: &mut E,
-) -> Status
-    ensures answer { TreeAnswers command result (forest_of program.old) (K.written out.old) (K.written out.new) (K.faults out.old) (K.faults out.new) }
-    ensures line { Says (IsTreeLineFor result (forest_of program.old)) (E.written err.old) (E.written err.new) (E.faults err.old) (E.faults err.new) }
-    ensures took { Took result (shaken_output command (forest_of program.old)) (K.taken out.old) (K.taken out.new) }
-    ensures told { Tells (IsTreeLineFor result (forest_of program.old)) (E.taken err.old) (E.taken err.new) }
-    ensures out_later { K.faults out.old ≤ K.faults out.new }
-    ensures err_later { E.faults err.old ≤ E.faults err.new }
-{
-    match shaken_text(alloc, command, program) {
-        Ok(text) => send(text, out, err),
-        Err(error) => refuse_program(alloc, error, err),
-    }
-}
-
-// Shakes a program that was read.
+// Shakes a program that was read, and sends what is left.
 pub(crate) fn answer_tree<K: Sink, E: Sink>(
     alloc: Global,
     command: Command,
-    mut program: Program,
+    program: Program,
     out: &mut K,
     err: &mut E,
 ) -> Status
@@ -159,7 +133,10 @@ pub(crate) fn answer_tree<K: Sink, E: Sink>(
     ensures out_later { K.faults out.old ≤ K.faults out.new }
     ensures err_later { E.faults err.old ≤ E.faults err.new }
 {
-    answer_program(alloc, command, &mut program, out, err)
+    match shaken_text(alloc, command, program) {
+        Ok(text) => send(text, out, err),
+        Err(error) => refuse_program(alloc, error, err),
+    }
 }
 
 // Shakes the program that the bytes are.

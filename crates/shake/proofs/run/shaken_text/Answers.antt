@@ -5,13 +5,13 @@ use Rattle.shake.proofs.run.shaken_text.Goals as goal
 
 pub returns-clause-output : goal.returns-clause-output
 returns-clause-output c =
-    shaken_told c.args.command (forest_of c.args.program.now) (forest_of c.dce-2.new.program) c.new.result.options.compress c.dce.result c.in_ok-done.done.iterations c.resolved_count-references.result (string_bytes c.in_ok-text.text)
+    shaken_told c.args.command (forest_of c.args.program) (forest_of c.in_ok-left.left) c.new.result.options.compress c.dce.result c.in_ok-left.done.iterations c.resolved_count-references.result (string_bytes c.in_ok-text.text)
     (ap (λ o. o.compress) c.new.ensures.options)
     c.in_ok-text.ensures.output
-    c.in_ok-done.ensures.left
-    c.in_ok-done.ensures.iterations
-    (c.resolved_count-references.ensures.count ∙ c.in_ok-done.ensures.resolved)
+    c.in_ok-left.ensures.left.left
+    c.in_ok-left.ensures.iterations
+    (c.resolved_count-references.ensures.count ∙ c.in_ok-left.ensures.left.resolved)
 
 pub returns-clause-reads_back : goal.returns-clause-reads_back
 returns-clause-reads_back c =
-    shaken_back (forest_of c.args.program.now) (forest_of c.dce-2.new.program) c.new.result.options.compress c.dce.result (ap (λ o. o.compress) c.new.ensures.options) c.in_ok-text.ensures.reads_back c.in_ok-done.ensures.left
+    shaken_back (forest_of c.args.program) (forest_of c.in_ok-left.left) c.new.result.options.compress c.dce.result (ap (λ o. o.compress) c.new.ensures.options) c.in_ok-text.ensures.reads_back c.in_ok-left.ensures.left.left

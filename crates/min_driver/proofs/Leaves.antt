@@ -1,0 +1,72 @@
+-- What stands in a program's place has what is promised of it.
+use Rattle.std.proofs.Common.{◌≡◌, ◌≤◌, true, Option, Some, None, Result, Ok, Err, IfOk, sym, subst, ap, arith}
+use Rattle.js_syntax.specs.Class.{root}
+use Rattle.js_syntax.specs.Node.{Forest}
+use Rattle.js_tree.specs.Count.{node_count, levels}
+use Rattle.form_rules.specs.Form.{IsWellFormed}
+use Rattle.js_scoping.specs.Build.{numbered}
+use Rattle.scope_rules.specs.Table.{Scoping}
+use Rattle.steps_allowed.specs.Removes.{Removals, no_removal}
+use Rattle.json_shape.specs.Shape.{Fits}
+use Rattle.headline.proofs.Passes.{numbered_same}
+use Rattle.headline.proofs.Headline.{numbered_comes, kept_by, back_by}
+use Rattle.steps_left.proofs.Formed.{removals_well_formed}
+use Rattle.steps_left.proofs.Fitting.{numbered_fits, left_fits}
+use Rattle.steps_left.proofs.Size.{left_nodes, left_levels, marked_nodes, marked_levels}
+use Rattle.min_passes.specs.Built.{Built}
+use Rattle.min_driver.specs.Left.{IsLeft}
+use Rattle.min_driver.specs.Limit.{IsWithinLimits}
+use Rattle.min_driver.specs.Minify.{left_of, IsCleanBy}
+use Rattle.min_driver.specs.declared.options.CompressOptions.{CompressOptions}
+
+-- ---- by these options
+
+left_comes : (o : Option CompressOptions) (t : Forest) → IsWellFormed t → Fits root t → Removals t (numbered (left_of o t))
+left_comes None t form fits = no_removal t (numbered t) (sym (numbered_same t))
+left_comes (Some options) t form fits = numbered_comes t fits form
+
+all_fits : (o : Option CompressOptions) (t : Forest) → Fits root t → Fits root (numbered (left_of o t))
+all_fits None t fits = numbered_fits t fits
+all_fits (Some options) t fits = left_fits t fits
+
+no_more_nodes : (o : Option CompressOptions) (t : Forest) → node_count (numbered (left_of o t)) ≤ node_count t
+no_more_nodes None t = marked_nodes t
+no_more_nodes (Some options) t = left_nodes t
+
+no_more_levels : (o : Option CompressOptions) (t : Forest) → levels (numbered (left_of o t)) ≤ levels t
+no_more_levels None t = marked_levels t
+no_more_levels (Some options) t = left_levels t
+
+-- ---- together
+
+pub is_left : (o : Option CompressOptions) (t new : Forest) (s : Scoping) → IsWithinLimits t → IsWellFormed t → Built new s (left_of o t) → IsCleanBy o s new → IsLeft o t new s
+is_left o t new s within form built clean =
+    let comes : Fits root t → Removals t new = λ fits. subst (Removals t) (sym built.marked) (left_comes o t form fits) in
+    let nodes : node_count new ≤ node_count t = Prim.omega (arith, ap node_count built.marked, no_more_nodes o t) in
+    let deep : levels new ≤ levels t = Prim.omega (arith, ap levels built.marked, no_more_levels o t) in
+    record {
+      left = built.marked;
+      scoping = built.table;
+      steps = comes;
+      kept = λ fits core. kept_by t new fits form (comes fits) core;
+      back = λ fits core. back_by t new fits form (comes fits) core;
+      fits = λ fits. subst (Fits root) (sym built.marked) (all_fits o t fits);
+      formed = λ fits. removals_well_formed t new (comes fits) fits form;
+      nodes = nodes;
+      levels = deep;
+      small = record { nodes = Prim.omega (arith, nodes, within.nodes); levels = Prim.omega (arith, deep, within.levels) };
+      clean = clean;
+      exact = built.exact;
+      matches = built.matches;
+      resolved = built.resolved;
+    }
+
+-- whatever is answered beside the tree and its table
+module _ {X E : Type 0} (trees : X → Forest) (tables : X → Scoping) (t : Forest) (within : IsWithinLimits t) (form : IsWellFormed t) where
+  pub all_left : (o : Option CompressOptions) (r : Result X E) → IfOk r (λ x. Built (trees x) (tables x) (left_of o t)) → IfOk r (λ x. IsCleanBy o (tables x) (trees x)) → IfOk r (λ x. IsLeft o t (trees x) (tables x))
+  all_left o (Ok x) built clean = is_left o t (trees x) (tables x) within form built clean
+  all_left o (Err e) built clean = built
+
+  pub all_marked : (r : Result X E) → IfOk r (λ x. Built (trees x) (tables x) t) → IfOk r (λ x. IsLeft None t (trees x) (tables x))
+  all_marked (Ok x) built = is_left None t (trees x) (tables x) within form built tt
+  all_marked (Err e) built = built
