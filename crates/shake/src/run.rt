@@ -11,7 +11,7 @@ ghost use Rattle.shake_words.specs.Meaning.{accepts};
 ghost use Rattle.shake.specs.Line.{Says, IsLineOf, status_line};
 ghost use Rattle.shake.specs.Fault.{IsAnswerTo, refusal_line};
 ghost use Rattle.shake.specs.Answer.{TreeAnswers, IsTreeLineFor, Answers, IsLineFor};
-ghost use Rattle.shake.specs.Run.{max_input, shaken_output, IsSound, IsReadBack, Shakes, ShakesFront, IsBadJson, IsBadTree, IsLargeTree, IsBrokenTree, writes, Completes};
+ghost use Rattle.shake.specs.Run.{max_input, shaken_output, IsSound, IsInUtf8, Shakes, ShakesFront, IsBadJson, IsBadTree, IsLargeTree, IsBrokenTree, writes, Completes};
 
 use crate::line::{fault_text, minify_text, say};
 use crate::output::output;
@@ -103,7 +103,7 @@ fn shaken_text(
     program: &mut Program,
 ) -> Result<String, MinifyError>
     ensures output { IfOk result (λ s. string_bytes s ≡ shaken_output command (forest_of program.old)) }
-    ensures reads_back { IfOk result (λ _. IsReadBack (shaken (forest_of program.old))) }
+    ensures utf8 { IfOk result (λ _. IsInUtf8 (shaken (forest_of program.old))) }
     ensures sound { IfOk result (λ _. IsSound (forest_of program.old)) }
     ensures err { IfErr result (λ e. IsCause e (forest_of program.old)) }
 {
