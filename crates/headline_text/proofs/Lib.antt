@@ -1,3 +1,4 @@
 pub mod Left
 pub mod Refined
 pub mod Resolved
+pub mod Promise

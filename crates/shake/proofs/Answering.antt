@@ -16,7 +16,7 @@ use Rattle.min_driver.specs.declared.error.MinifyError.TheVariants as minify
 use Rattle.shake.specs.Fault.{fault_of, IsAnswerTo, refusal_line, IsMinifyAnswer, minify_line}
 use Rattle.shake.specs.Line.{Says, status_line, large_line}
 use Rattle.js_syntax.specs.Node.{Tree, forest_of}
-use Rattle.shake.specs.Run.{IsSound, shaken_output, IsReadBack}
+use Rattle.shake.specs.Run.{IsSound, shaken_output, IsInUtf8}
 use Rattle.shake.specs.declared.status.Status.{Status}
 use Rattle.shake.specs.declared.status.Status.TheVariants as status
 
@@ -106,12 +106,12 @@ refusal_says e s t said said_now faults later cause answer line = (line.0, refus
 
 -- ---- what is sent
 
-pub sent_answers : (command : Command) (s : Status) (t : Forest) (text : List ℕ) (written now : Option (List ℕ)) (faults later : ℕ) → IsSound t → text ≡ shaken_output command t → IsReadBack (shaken t)
+pub sent_answers : (command : Command) (s : Status) (t : Forest) (text : List ℕ) (written now : Option (List ℕ)) (faults later : ℕ) → IsSound t → text ≡ shaken_output command t → IsInUtf8 (shaken t)
     → (s ≡ status.Ok) ⊎ (s ≡ status.WriteFault) → (s ≡ status.Ok → Known (λ w. w ++ text) written now) → (s ≡ status.WriteFault → SendsFront text written now × HasFailed faults later)
     → TreeAnswers command s t written now faults later
-sent_answers command s t text written now faults later within is back (inl told) sent front =
-    rw told (within, (back, subst (λ (x : List ℕ). Known (λ w. w ++ x) written now) is (sent told)))
-sent_answers command s t text written now faults later within is back (inr told) sent front =
+sent_answers command s t text written now faults later within is utf8 (inl told) sent front =
+    rw told (within, (utf8, subst (λ (x : List ℕ). Known (λ w. w ++ x) written now) is (sent told)))
+sent_answers command s t text written now faults later within is utf8 (inr told) sent front =
     rw told (within, subst (λ (x : List ℕ). SendsFront x written now) is (front told).0, (front told).1)
 
 pub sent_line_for : (s : Status) (t : Forest) (line : List ℕ) → (s ≡ status.Ok) ⊎ (s ≡ status.WriteFault) → line ≡ status_line s → IsTreeLineFor s t line

@@ -1,5 +1,5 @@
 -- Marks are not written.
-use Rattle.std.proofs.Common.{◌≡◌, ◌++◌, ◌∙◌, ℕ, List, Option, Some, Ok, true, false, sym, subst, ap, codes}
+use Rattle.std.proofs.Common.{◌≡◌, ◌++◌, ◌∙◌, ℕ, List, Option, Some, true, false, IsUtf8, subst, ap, codes}
 use Rattle.js_syntax.specs.Node.{Forest, bare}
 use Rattle.min_passes.specs.Passes.{shaken, passes_of}
 use Rattle.scope_rules.specs.Binding.{resolved_references}
@@ -7,13 +7,12 @@ use Rattle.scope_laws.proofs.Marking.{bare_marked}
 use Rattle.js_scoping.specs.Build.{numbered}
 use Rattle.serde_json.specs.Written.{compact_text}
 use Rattle.json_text.specs.Text.{text_of}
-use Rattle.json_text.specs.Answer.{IsReadAs}
-use Rattle.json_shape.proofs.Same.{same_data, readable}
+use Rattle.json_shape.proofs.Same.{same_data}
 use Rattle.shake_words.specs.declared.answer.Command.{Command}
 use Rattle.shake_words.specs.declared.answer.Command.TheVariants.{Dce}
 use Rattle.min_driver.specs.Minify.{left_of, passes_by}
 use Rattle.min_driver.specs.declared.options.CompressOptions.{CompressOptions}
-use Rattle.shake.specs.Run.{counts_of, command_output, shaken_output, IsReadBack}
+use Rattle.shake.specs.Run.{counts_of, command_output, shaken_output, IsInUtf8}
 
 same_bare : (t : Forest) → bare (numbered t) ≡ bare t
 same_bare t = bare_marked _ t
@@ -42,9 +41,5 @@ shaken_told command t new o options passes references text asked is left told co
     ∙ ap (λ (n : ℕ). command_output command (numbered (shaken t)) (passes_of t) n) count
     ∙ same_output command (shaken t) (passes_of t) (resolved_references (shaken t))
 
-reads_back : (t : Forest) → IsReadBack (numbered t) → IsReadBack t
-reads_back t back is =
-    subst (λ (s : List ℕ). IsReadAs s (Ok (bare t))) (same_text t) (subst (λ (u : Forest). IsReadAs (text_of (numbered t)) (Ok u)) (same_bare t) (back (readable t (numbered t) (sym (same_bare t)) is)))
-
-pub shaken_back : (t new : Forest) (o : Option CompressOptions) (options : CompressOptions) → o ≡ Some options → IsReadBack new → new ≡ numbered (left_of o t) → IsReadBack (shaken t)
-shaken_back t new o options asked back left = reads_back (shaken t) (subst IsReadBack (left ∙ ap numbered (asked_left o options t asked)) back)
+pub shaken_in_utf8 : (t new : Forest) (o : Option CompressOptions) (options : CompressOptions) → o ≡ Some options → IsInUtf8 new → new ≡ numbered (left_of o t) → IsInUtf8 (shaken t)
+shaken_in_utf8 t new o options asked utf8 left = subst IsUtf8 (same_text (shaken t)) (subst IsInUtf8 (left ∙ ap numbered (asked_left o options t asked)) utf8)

@@ -9,6 +9,7 @@ use Rattle.json_text.specs.Fault.{out_of_range}
 use Rattle.json_text.specs.declared.error.TreeError.{TreeError}
 use Rattle.json_text.specs.declared.error.TreeError.TheVariants as error
 use Rattle.headline.proofs.Headline.{headline_of}
+use Rattle.headline_text.proofs.Promise.{text_headline}
 use Rattle.min_driver.specs.Minify.{IsCause}
 use Rattle.min_driver.specs.declared.error.MinifyError.{MinifyError}
 use Rattle.min_driver.specs.declared.error.MinifyError.TheVariants as minify
@@ -43,7 +44,7 @@ refusal_follows error.OutOfMemory s bytes cause (inl is) taken command = rw is r
 -- for a tree that was read
 tree_took : (command : Command) (s : Status) (t : Forest) (bytes : List ℕ) (written now : Option (List ℕ)) (faults later : ℕ) (taken taken_now : Past) → IsReadAs bytes (Ok t)
     → TreeAnswers command s t written now faults later → Took s (shaken_output command t) taken taken_now → Follows command s bytes taken taken_now
-tree_took command status.Ok t bytes written now faults later taken taken_now is a took = (t, is, a.0, headline_of t (read_fits bytes t is) a.0.form, a.1.0, took)
+tree_took command status.Ok t bytes written now faults later taken taken_now is a took = (t, is, a.0, headline_of t (read_fits bytes t is) a.0.form, text_headline bytes t is a.0.form a.1.0, a.1.0, took)
 tree_took command status.WriteFault t bytes written now faults later taken taken_now is a took = (t, is, a.0, took)
 tree_took command status.TooLarge t bytes written now faults later taken taken_now is a took = (t, is, a.0, took)
 tree_took command status.IllFormed t bytes written now faults later taken taken_now is a took = (t, is, a.0, took)
@@ -111,7 +112,7 @@ tells_given s given given_now bytes taken now gave told = (told.0, line_given s 
 -- ---- nothing behind the end or a fault
 
 pub follows_stops : (command : Command) (s : Status) (bytes : List ℕ) (taken now : Past) → Follows command s bytes taken now → StopsAtOnce taken now
-follows_stops command status.Ok bytes taken now f = took_stops taken now _ f.5
+follows_stops command status.Ok bytes taken now f = took_stops taken now _ f.6
 follows_stops command status.WriteFault bytes taken now f = front_stops taken now _ f.3
 follows_stops command status.Syntax bytes taken now f = rw f.1 (stays_stops taken)
 follows_stops command status.Tree bytes taken now f = rw f.3 (stays_stops taken)

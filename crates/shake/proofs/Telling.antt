@@ -8,6 +8,7 @@ use Rattle.json_text.specs.Fault.{untyped}
 use Rattle.json_shape.specs.Shape.{Fits}
 use Rattle.json_shape.proofs.FittingNodes.{nodes_fit}
 use Rattle.headline.proofs.Headline.{headline_of}
+use Rattle.headline_text.proofs.Promise.{text_headline}
 use Rattle.shake_words.specs.Meaning.{command_of}
 use Rattle.shake_words.specs.declared.answer.Command.{Command}
 use Rattle.shake.specs.Answer.{Answers}
@@ -32,7 +33,7 @@ read_fits bytes t is = nodes_fit 128 root untyped is.1.0 t is.1.2
 -- the answers for the bytes, as answers of the program
 module _ (words : List (List ℕ)) (command : Command) (asked : command_of words ≡ Some command) (left now : Option (List ℕ)) (bytes : List ℕ) (ends : Ends left now bytes) (within : length bytes ≤ max_input) where
   pub shakes : (s : Status) (w w' : Option (List ℕ)) (f f' : ℕ) → Answers command s bytes w w' f f' → s ≡ status.Ok → Shakes words left now w w'
-  shakes status.Ok w w' f f' a is = (command, asked, a.0, told left now bytes (λ b. IsTreeOf b a.0) ends (within, a.1), a.2, emptied left now bytes ends, headline_of a.0 (read_fits bytes a.0 a.1) a.2.form, a.3)
+  shakes status.Ok w w' f f' a is = (command, asked, a.0, told left now bytes (λ b. IsTreeOf b a.0) ends (within, a.1), a.2, emptied left now bytes ends, headline_of a.0 (read_fits bytes a.0 a.1) a.2.form, text_headline bytes a.0 a.1 a.2.form a.3.0, a.3)
   shakes status.Usage w w' f f' a is = absurd a
   shakes status.ReadFault w w' f f' a is = absurd a
   shakes status.InputTooLong w w' f f' a is = absurd a

@@ -11,10 +11,11 @@ use Rattle.shake_words.specs.declared.answer.Command.{Command}
 use Rattle.min_passes.specs.Passes.{shaken}
 use Rattle.min_driver.specs.Limit.{IsTooLarge}
 use Rattle.headline.specs.Headline.{Headline}
+use Rattle.headline_text.specs.Written.{TextHeadline}
 use Rattle.shake.specs.Answer.{IsLineFor}
 use Rattle.shake.specs.Code.{code_of}
 use Rattle.shake.specs.Line.{status_line}
-use Rattle.shake.specs.Run.{max_input, IsSound, IsIllFormed, IsReadBack, shaken_output}
+use Rattle.shake.specs.Run.{max_input, IsSound, IsIllFormed, IsInUtf8, shaken_output}
 use Rattle.shake.specs.declared.status.Status.{Status}
 use Rattle.shake.specs.declared.status.Status.TheVariants as status
 
@@ -27,7 +28,7 @@ Took s text taken now = now ≡ taken
 -- what stands behind each answer for the bytes that were read, and what the sink took of the output
 abbrev pub Follows : Command → Status → (bytes : List ℕ) → (taken now : Past) → Type 0
 Follows command status.Ok bytes taken now =
-    (t : Forest) × IsReadAs bytes (Ok t) × IsSound t × Headline t (shaken t) × IsReadBack (shaken t) × Took status.Ok (shaken_output command t) taken now
+    (t : Forest) × IsReadAs bytes (Ok t) × IsSound t × Headline t (shaken t) × TextHeadline t × IsInUtf8 (shaken t) × Took status.Ok (shaken_output command t) taken now
 Follows command status.WriteFault bytes taken now = (t : Forest) × IsReadAs bytes (Ok t) × IsSound t × Took status.WriteFault (shaken_output command t) taken now
 Follows command status.Syntax bytes taken now = IsNoJson bytes × (now ≡ taken)
 Follows command status.Tree bytes taken now = (f : Fault) × (f ≢ too_deep) × IsReadAs bytes (Err f) × (now ≡ taken)

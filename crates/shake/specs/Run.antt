@@ -1,16 +1,16 @@
 -- What a run of the program leaves behind.
-use Rattle.std.specs.Prelude.{◌≡◌, ◌⊎◌, ◌^◌, ◌≤◌, ℕ, List, [], ◌++◌, Bool, true, false, length, Option, Some, Ok, codes, decimal}
+use Rattle.std.specs.Prelude.{◌≡◌, ◌⊎◌, ◌^◌, ◌≤◌, ℕ, List, [], ◌++◌, Bool, true, false, length, Option, Some, Ok, IsUtf8, codes, decimal}
 use Rattle.shake_streams.specs.Moves.{HasFailed, Known, SendsFront}
-use Rattle.js_syntax.specs.Node.{Forest, bare}
+use Rattle.js_syntax.specs.Node.{Forest}
 use Rattle.json_text.specs.Answer.{IsReadAs, IsNoJson}
 use Rattle.json_text.specs.Fault.{Fault}
 use Rattle.json_text.specs.Text.{text_of}
-use Rattle.json_shape.specs.Readable.{IsReadable}
 use Rattle.shake_words.specs.Meaning.{command_of}
 use Rattle.shake_words.specs.declared.answer.Command.{Command}
 use Rattle.shake_words.specs.declared.answer.Command.TheVariants.{Dce}
 use Rattle.min_passes.specs.Passes.{shaken, passes_of}
 use Rattle.headline.specs.Headline.{Headline}
+use Rattle.headline_text.specs.Written.{TextHeadline}
 use Rattle.scope_rules.specs.Binding.{resolved_references}
 use Rattle.form_rules.specs.Form.{IsWellFormed}
 use Rattle.min_driver.specs.Limit.{IsWithinLimits, IsTooLarge}
@@ -44,13 +44,13 @@ command_output (Dce true) t passes references = tree_output_of t
 abbrev pub shaken_output : Command → Forest → List ℕ
 shaken_output command t = command_output command (shaken t) (passes_of t) (resolved_references (shaken t))
 
--- the text of a readable tree is read as that tree, without spans and ids
-abbrev pub IsReadBack : Forest → Type 0
-IsReadBack t = IsReadable t → IsReadAs (text_of t) (Ok (bare t))
+-- the text of a tree is UTF-8
+abbrev pub IsInUtf8 : Forest → Type 0
+IsInUtf8 t = IsUtf8 (text_of t)
 
 -- the output for a tree that was read went out whole
 abbrev pub IsSent : Command → Forest → (written written_now : Option (List ℕ)) → Type 0
-IsSent command t written written_now = IsReadBack (shaken t) × Known (λ w. w ++ shaken_output command t) written written_now
+IsSent command t written written_now = IsInUtf8 (shaken t) × Known (λ w. w ++ shaken_output command t) written written_now
 
 -- a front of it did
 abbrev pub IsFrontSent : Command → Forest → (written written_now : Option (List ℕ)) → Type 0
@@ -69,11 +69,12 @@ abbrev pub IsTreeOf : List ℕ → Forest → Type 0
 IsTreeOf bytes t = (length bytes ≤ max_input) × IsReadAs bytes (Ok t)
 
 -- answer 0: the words ask for a command, the bytes are those of a tree that is within the limits and breaks no rule of form, all
--- of them were read, what is left is that program without its dead code, and its output went out whole
+-- of them were read, what is left is that program without its dead code, its text is read as what is left and keeps the runs,
+-- and the output went out whole
 abbrev pub Shakes : (words : List (List ℕ)) (left left_now written written_now : Option (List ℕ)) → Type 0
 Shakes words left left_now written written_now =
     (command : Command) × (command_of words ≡ Some command) × (t : Forest) × Told left (λ bytes. IsTreeOf bytes t) × IsSound t × Told left (λ _. left_now ≡ Some [])
-    × Headline t (shaken t) × IsSent command t written written_now
+    × Headline t (shaken t) × TextHeadline t × IsSent command t written written_now
 
 -- a fault of the sink: a front of that output went out
 abbrev pub ShakesFront : (words : List (List ℕ)) (left written written_now : Option (List ℕ)) → Type 0

@@ -1,7 +1,7 @@
 // The text that the program writes.
 ghost use Rattle.std.specs.Prelude.{◌≡◌, ◌++◌, IfOk, codes, string_bytes};
 ghost use Rattle.js_syntax.specs.Node.{forest_of};
-ghost use Rattle.shake.specs.Run.{command_output, counts_of, IsReadBack};
+ghost use Rattle.shake.specs.Run.{command_output, counts_of, IsInUtf8};
 
 use js_tree::Program;
 use json_write::write_tree;
@@ -33,7 +33,7 @@ pub fn output(
     references: u64,
 ) -> Result<String, AllocError>
     ensures output { IfOk result (λ s. string_bytes s ≡ command_output command (forest_of program.now) passes references) }
-    ensures reads_back { IfOk result (λ _. IsReadBack (forest_of program.now)) }
+    ensures utf8 { IfOk result (λ _. IsInUtf8 (forest_of program.now)) }
 {
     let text = write_tree(alloc, program)?.into_string();
     match command {

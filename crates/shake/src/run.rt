@@ -12,7 +12,7 @@ ghost use Rattle.shake_words.specs.Meaning.{accepts};
 ghost use Rattle.shake.specs.Line.{Says, IsLineOf, status_line};
 ghost use Rattle.shake.specs.Fault.{IsAnswerTo, refusal_line};
 ghost use Rattle.shake.specs.Answer.{TreeAnswers, IsTreeLineFor, Answers, IsLineFor};
-ghost use Rattle.shake.specs.Run.{max_input, shaken_output, IsSound, IsReadBack, Shakes, ShakesFront, IsBadJson, IsBadTree, IsLargeTree, IsBrokenTree, writes, Completes};
+ghost use Rattle.shake.specs.Run.{max_input, shaken_output, IsSound, IsInUtf8, Shakes, ShakesFront, IsBadJson, IsBadTree, IsLargeTree, IsBrokenTree, writes, Completes};
 ghost use Rattle.shake.specs.Ran.{Took, Follows, Ran, Tells, IsLineGiven};
 
 use crate::line::{fault_text, minify_text, say};
@@ -105,7 +105,7 @@ fn send<K: Sink, E: Sink>(text: String, out: &mut K, err: &mut E) -> Status
 // What is written for what is left of a program: its tree, and the line of counts.
 fn shaken_text(alloc: Global, command: Command, program: Program) -> Result<String, MinifyError>
     ensures output { IfOk result (λ s. string_bytes s ≡ shaken_output command (forest_of program)) }
-    ensures reads_back { IfOk result (λ _. IsReadBack (shaken (forest_of program))) }
+    ensures utf8 { IfOk result (λ _. IsInUtf8 (shaken (forest_of program))) }
     ensures sound { IfOk result (λ _. IsSound (forest_of program)) }
     ensures err { IfErr result (λ e. IsCause e (forest_of program)) }
 {

@@ -13,6 +13,7 @@ use Rattle.json_shape.specs.Shape.{one, these, all, all_of_body, Stand, Fits}
 use Rattle.min_passes.specs.Passes.{shaken}
 use Rattle.headline.specs.Headline.{Headline}
 use Rattle.headline.proofs.Headline.{headline_of}
+use Rattle.headline_text.specs.Written.{written}
 use Rattle.test_headline.specs.Rows as row
 
 number_stands : Stand (all argument) (sample.number_of 1)
@@ -39,3 +40,6 @@ left = refl
 
 pub headline : Headline row.with_dead (shaken row.with_dead)
 headline = headline_of row.with_dead fits well_formed
+
+pub written_left : written (shaken row.with_negative) ≡ row.with_minus
+written_left = refl

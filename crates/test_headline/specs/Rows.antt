@@ -1,7 +1,9 @@
 -- Small modules.
-use Rattle.std.specs.Prelude.{[], ◌∷◌, None}
+use Rattle.std.specs.Prelude.{negsuc, [], ◌∷◌, None}
 use Rattle.js_syntax.specs.declared.node_kind.NodeKind.{NodeKind as Kind}
 use Rattle.js_syntax.specs.declared.kind.VariableKind.TheVariants as variable
+use Rattle.js_syntax.specs.declared.operator.UnaryOperator.TheVariants as unary
+use Rattle.js_syntax.specs.declared.value.LiteralValue.{LiteralValue as Literal}
 use Rattle.js_syntax.specs.Node.{Forest}
 use Rattle.js_meaning.specs.Samples as sample
 use Rattle.js_meaning.specs.Examples.{g, function_g, says_number}
@@ -39,3 +41,11 @@ dead = sample.a_module (sample.does_it (sample.number_of 1) ∷ [])
 -- f(1); 2;
 abbrev pub with_dead : Forest
 with_dead = sample.a_module (says_number 1 ∷ sample.does_it (sample.number_of 2) ∷ [])
+
+-- f(-4); 2; with a literal that is negative
+abbrev pub with_negative : Forest
+with_negative = sample.a_module (sample.says (sample.leaf (Kind.Literal (Literal.Number (negsuc 3))) ∷ []) ∷ sample.does_it (sample.number_of 2) ∷ [])
+
+-- f(-4); with unary minus
+abbrev pub with_minus : Forest
+with_minus = sample.a_module (sample.says (sample.over (Kind.UnaryExpression unary.UnaryNegation) (sample.number_of 4) ∷ []) ∷ [])

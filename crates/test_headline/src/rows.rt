@@ -4,6 +4,7 @@ ghost use Rattle.js_syntax.specs.Node.{bare};
 ghost use Rattle.js_meaning.specs.Kept.{Kept, KeptBack};
 ghost use Rattle.min_passes.specs.Passes.{shaken};
 ghost use Rattle.headline.specs.Headline.{Headline};
+ghost use Rattle.headline_text.specs.Written.{written};
 ghost use Rattle.test_headline.specs.Rows as row;
 
 /// `export let g = 1;` doesn't become empty: at its end the host sees an export less.
@@ -40,4 +41,9 @@ pub fn dead_code_goes()
 pub fn what_is_left()
     ensures shaken { bare (shaken row.with_dead) ≡ row.calls_host }
     ensures headline { Headline row.with_dead (shaken row.with_dead) }
+{}
+
+/// `f(-4); 2;` with a literal for -4 is written as `f(-4);` with unary minus on 4.
+pub fn what_is_written()
+    ensures { written (shaken row.with_negative) ≡ row.with_minus }
 {}

@@ -8,7 +8,7 @@ use Rattle.shake.proofs.run.answer_tree.Goals as goal
 pub returns-in-Ok-clause-answer : goal.returns-in-Ok-clause-answer
 returns-in-Ok-clause-answer g c =
     sent_answers c.args.command c.send.result (forest_of c.args.program) (string_bytes c.in-Ok.text) (g.K.Sink.written c.args.out.now) (g.K.Sink.written c.send.new.out) (g.K.Sink.faults c.args.out.now) (g.K.Sink.faults c.send.new.out)
-    c.in-Ok.ensures.sound c.in-Ok.ensures.output c.in-Ok.ensures.reads_back c.send.ensures.answer c.send.ensures.sent c.send.ensures.front
+    c.in-Ok.ensures.sound c.in-Ok.ensures.output c.in-Ok.ensures.utf8 c.send.ensures.answer c.send.ensures.sent c.send.ensures.front
 
 pub returns-in-Ok-clause-took : goal.returns-in-Ok-clause-took
 returns-in-Ok-clause-took g c =

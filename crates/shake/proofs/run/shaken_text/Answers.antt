@@ -1,6 +1,6 @@
 use Rattle.std.proofs.Common.{◌∙◌, ap, string_bytes}
 use Rattle.js_syntax.specs.Node.{forest_of}
-use Rattle.shake.proofs.Marks.{shaken_told, shaken_back}
+use Rattle.shake.proofs.Marks.{shaken_told, shaken_in_utf8}
 use Rattle.shake.proofs.run.shaken_text.Goals as goal
 
 pub returns-clause-output : goal.returns-clause-output
@@ -12,6 +12,6 @@ returns-clause-output c =
     c.in_ok-left.ensures.iterations
     (c.resolved_count-references.ensures.count ∙ c.in_ok-left.ensures.left.resolved)
 
-pub returns-clause-reads_back : goal.returns-clause-reads_back
-returns-clause-reads_back c =
-    shaken_back (forest_of c.args.program) (forest_of c.in_ok-left.left) c.new.result.options.compress c.dce.result (ap (λ o. o.compress) c.new.ensures.options) c.in_ok-text.ensures.reads_back c.in_ok-left.ensures.left.left
+pub returns-clause-utf8 : goal.returns-clause-utf8
+returns-clause-utf8 c =
+    shaken_in_utf8 (forest_of c.args.program) (forest_of c.in_ok-left.left) c.new.result.options.compress c.dce.result (ap (λ o. o.compress) c.new.ensures.options) c.in_ok-text.ensures.utf8 c.in_ok-left.ensures.left.left
