@@ -14,9 +14,8 @@ ghost use Rattle.shake_words.specs.Meaning.{accepts};
 
 use shake::{Sink, Source, Status, StdErr, StdSink, StdSource, shake};
 use std::alloc::Global;
-use std::env;
-use std::io;
 use std::process::ExitCode;
+use std::{env, io};
 
 // The exit status of a run. It stays generic in each stream, so that nothing but calls of the streams
 // can change what their histories have.

@@ -3,10 +3,10 @@
 //! `read_all` and `write_all`. It stands on no other crate of the repository.
 //!
 //! - A source tells, for proofs alone, what its calls have given so far, a sink what they have taken:
-//!   a history of bytes, ends and faults in their order. That is known of every source and sink. Where
-//!   it is known, a source tells the bytes that are left of it as well, and a sink those that were
-//!   written. Each counts its faults. A call answers `Failed` only where that count rose or has reached
-//!   the last value of its type, and then nothing was taken or sent.
+//!   a history of bytes, ends and faults in their order, which every source and sink has. Some tell as
+//!   well which bytes are left, or were written. Each counts its faults. A call answers `Failed` only
+//!   where that count rose or has reached the last value of its type, and then nothing was taken or
+//!   sent.
 //! - `MemSource` and `MemSink` hold their bytes in memory and fail at the calls that they were told
 //!   to fail at, and at no others. `SureSource` and `SureSink` never fail.
 //! - `StdSource`, `StdSink` and `StdErr` are the standard streams. They tell nothing of bytes to come,

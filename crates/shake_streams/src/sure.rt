@@ -69,6 +69,7 @@ pub struct SureSink {
 }
 
 impl SureSink {
+    /// A sink that has taken nothing so far.
     pub fn new() -> Self
         ensures { ⟦<SureSink as Sink>⟧.taken result ≡ [] }
     {

@@ -1,5 +1,5 @@
-// What no clause says: that the calls succeed while there is memory, and how the standard streams
-// answer.
+// What no clause says: that the calls succeed while there is memory, what the system answers the
+// standard streams, and that histories take no memory.
 ghost use Rattle.std.specs.Prelude.{◌≤◌, IfOk};
 
 use shake_streams::{
