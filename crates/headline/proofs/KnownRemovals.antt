@@ -21,7 +21,7 @@ use Rattle.scope_rules.specs.Binding.{is_declared, binding_layer}
 use Rattle.steps_names.specs.Placed.{Place, cases, sort_of, place_below, fits, well_placed}
 use Rattle.steps_names.specs.Agreeing.{AgreesAt}
 use Rattle.steps_names.proofs.Lists.{in_left, in_right, names_joined, not_second, either}
-use Rattle.steps_names.proofs.Taking.{never_fits, kept}
+use Rattle.steps_names.proofs.Taking.{kept}
 use Rattle.steps_names.proofs.Sites.{placed_here, placed_behind, never_stands}
 use Rattle.steps_names.proofs.Meeting.{later}
 

@@ -1,7 +1,6 @@
 -- Where the scopes of a module are clear, a name whose declaration goes stands in its scope no more, or what stays of it has cells.
-use Rattle.std.proofs.Common.{◌≡◌, ◌∙◌, inl, inr, ℕ, suc, List, [], ◌∷◌, ◌++◌, Bool, true, false, ◌||◌, bytes_eq, refl, sym, ap, subst}
+use Rattle.std.proofs.Common.{◌≡◌, ◌∙◌, inl, inr, ℕ, suc, List, [], ◌∷◌, ◌++◌, Bool, true, false, bytes_eq, refl, sym, ap, subst}
 use Rattle.std.proofs.lemmas.Bool.{and_parts, or_left}
-use Rattle.std.proofs.lemmas.Slice.Eq.{bytes_eq-Decides}
 use Rattle.js_syntax.specs.declared.node_kind.NodeKind.{NodeKind as Kind}
 use Rattle.js_syntax.specs.declared.scalar.SourceType.TheVariants as source_type
 use Rattle.js_syntax.specs.declared.kind.VariableKind.{VariableKind}
@@ -16,7 +15,7 @@ use Rattle.js_meaning_near.specs.Avoid.{declares, Dropped, dropped_here, dropped
 use Rattle.js_meaning_near.proofs.Avoid.{fewer_itself, dropped_first, dropped_second, itself}
 use Rattle.steps.specs.Names.{is_among, refers}
 use Rattle.steps.specs.Steps.{other, Around, entered, outermost, is_used, Step, empty_statement_leaves, unused_function_leaves, unused_declarator_leaves, unused_declaration_leaves, silent_statement_empties, inside, behind_node, behind_absent}
-use Rattle.steps_keep_runs.specs.Formed.{may_hold, holds_well, still, heads, is_formed}
+use Rattle.steps_keep_runs.specs.Formed.{holds_well, still, heads, is_formed}
 use Rattle.steps_keep_runs.specs.Drop.{Drop, no_drop, of_block, of_function, declared_so, out_of_block, outside, dropped}
 use Rattle.steps_keep_runs.specs.Once.{OnceAt, OnceIn, Once}
 use Rattle.steps_keep_runs.proofs.Calm.{form_holds, form_heads, form_below, form_behind}

@@ -1,14 +1,14 @@
 -- The table that is made of a tree tells the flags of its scopes, and the scopes of its symbols, once the tree is marked.
-use Rattle.std.proofs.Common.{◌≡◌, ◌∙◌, ◌+◌, ℕ, zero, suc, List, [], ◌∷◌, map, slice_get, slice_index_or, Option, Some, None, option_map, refl, sym, ap, subst, arith}
+use Rattle.std.proofs.Common.{◌≡◌, ◌∙◌, ◌+◌, ℕ, zero, suc, List, [], ◌∷◌, map, slice_get, slice_index_or, Some, option_map, sym, ap, subst, arith}
 use Rattle.std.proofs.lemmas.Option.{get_or_from_slice_get}
 use Rattle.js_syntax.specs.Node.{Forest}
-use Rattle.scope_rules.specs.Site.{ScopeSite, BindingSite, Found, sites_of, found_in, scopes_among, bindings_among}
+use Rattle.scope_rules.specs.Site.{ScopeSite, BindingSite, Found}
 use Rattle.scope_rules.specs.Binding.{Binding, declared_by}
-use Rattle.scope_rules.specs.Table.{Scope, Symbol, symbols_of, symbol_used, symbol_at as symbol_for, symbols_from, scopes_from, symbols_declared, scoping_of}
+use Rattle.scope_rules.specs.Table.{Symbol, symbols_of, symbol_used, symbol_at as symbol_for, symbols_from, scopes_from, symbols_declared, scoping_of}
 use Rattle.scope_rules.specs.Mark.{first_marks}
-use Rattle.scope_table.specs.Reading.{no_scope, no_symbol, scope_at, symbol_at}
+use Rattle.scope_table.specs.Reading.{no_scope, no_symbol, symbol_at}
 use Rattle.scope_laws.specs.Exact.{Among}
-use Rattle.scope_laws.specs.Renumbered.{binding_with, scopes_from as scopes_with}
+use Rattle.scope_laws.specs.Renumbered.{scopes_from as scopes_with}
 use Rattle.scope_laws.proofs.Marking.{found_marked}
 use Rattle.scope_laws.proofs.Bindings.{none_is_some, same_value}
 use Rattle.scope_laws.proofs.Numbers.{numbered as numbered_at, symbols_at}

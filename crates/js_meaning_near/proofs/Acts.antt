@@ -7,7 +7,7 @@ use Rattle.js_meaning.specs.Value.{Text, Value, ErrorKind}
 use Rattle.js_meaning.specs.Trace.{Ending, Event, Move}
 use Rattle.js_meaning.specs.State.{State, Cell, Export, Place, Completion, Out, goes, stops, M, more, go_on, bind, done, stop, unknown, give, choose, if_normal, seq, if_gives, with_receiver, with_value, if_gives_all, with_all, if_refers, with_place, put, alloc, read, store, identity, raise, get_global, set_global, get_import, set_import, spend_from, spend, with_moves, set_moves, with_exports, set_exports, put_event}
 use Rattle.js_meaning.specs.Kept.{Prefix}
-use Rattle.js_meaning_near.proofs.Worlds.{Rule, any_value, an_object, both, left, right, slack, World, In, here, Sub, same, later, grown, Links, new, old, BothNew, both_split, behind_left, behind_right, links_up, links_up_right, right_links, left_links, both_links, not_eq, ids_same}
+use Rattle.js_meaning_near.proofs.Worlds.{Rule, any_value, an_object, both, left, right, World, In, here, Sub, same, later, grown, Links, new, old, BothNew, both_split, behind_left, behind_right, links_up, links_up_right, right_links, left_links, both_links, not_eq, ids_same}
 use Rattle.js_meaning_near.proofs.Relations.{HoldsCell, Same, same_plain, same_error, SameOpt, SameAll, SameCell, SamePlace, SameCompletion, same_normal, same_gives, same_gives_all, same_refers, same_breaks, same_continues, same_returns, same_throws, Obeys, Cells, SameExports, States, trace, Follows, both_go, both_stop, old_stops, old_out, Budgets, as_many, no_more, budgets_later, Acts, opt_later, all_later, cell_later, completion_later, exports_later}
 
 pub acts_later : {w w2 : World} {m k : M} → Sub w w2 → Acts w m k → Acts w2 m k

@@ -4,15 +4,15 @@ use Rattle.std.specs.Prelude.{Bool, true, false}
 use Rattle.js_syntax.specs.declared.node_kind.NodeKind.{NodeKind as Kind}
 use Rattle.js_syntax.specs.declared.kind.VariableKind.{VariableKind}
 use Rattle.js_syntax.specs.declared.kind.VariableKind.TheVariants as variable
-use Rattle.js_syntax.specs.Node.{Note, Forest, nothing, node, absent}
+use Rattle.js_syntax.specs.Node.{Forest, nothing, node, absent}
 use Rattle.js_meaning.specs.Value.{Text, Slot, Env, Value, plain, closure, object, array, error, undef}
 use Rattle.js_meaning.specs.Trace.{Ending}
-use Rattle.js_meaning.specs.State.{State, Cell, cell, Completion, normal, gives, gives_all, with_receiver, with_all, Out, goes, stops, M, more, go_on, bind, done, stop, unknown, if_normal, seq, if_gives, with_value, read, store}
-use Rattle.js_meaning.specs.Scope.{initialised, fill, look}
+use Rattle.js_meaning.specs.State.{State, Cell, cell, Completion, normal, gives, with_receiver, Out, goes, stops, M, more, go_on, bind, done, stop, unknown, if_normal, seq, if_gives, with_value, read, store}
+use Rattle.js_meaning.specs.Scope.{initialised, fill}
 use Rattle.js_meaning.specs.Reference.{cell_value, name_value}
 use Rattle.js_meaning.specs.Expression.{call_value}
 use Rattle.js_meaning.specs.Host.{Enter}
-use Rattle.js_meaning.specs.Node.{Ask, run, declares, now, Meaning, Parts, need, may, each, values}
+use Rattle.js_meaning.specs.Node.{Ask, run, declares, now, Meaning, Parts, need, may, each}
 use Rattle.js_meaning.specs.Statement.{declarator}
 use Rattle.js_meaning.specs.Meaning.{eval}
 use Rattle.js_meaning_near.specs.Quiet.{OnlyAllocates, LeadsFrom, goes_on_as, stops_before, Leads, EndsQuietly, gives_quietly, stops_quietly, Quiet}

@@ -1,6 +1,6 @@
 -- A conditional whose test is a literal comes to one of its branches.
-use Rattle.std.proofs.Common.{◌≡◌, [], ◌∷◌, refl, sym, ap, ◌∙◌, subst}
-use Rattle.std.specs.Prelude.{Bool, true, false, ℕ, ◌<◌, ◌≤◌}
+use Rattle.std.proofs.Common.{◌≡◌, [], refl, sym, ap, ◌∙◌, subst}
+use Rattle.std.specs.Prelude.{Bool, true, false}
 use Rattle.std.proofs.Common.{arith}
 use Rattle.js_syntax.specs.declared.node_kind.NodeKind.{NodeKind as Kind}
 use Rattle.js_syntax.specs.declared.value.LiteralValue.{LiteralValue as Literal}
@@ -9,7 +9,7 @@ use Rattle.js_meaning.specs.Value.{Env, Value, literal_value}
 use Rattle.js_meaning.specs.Operator.{truthy, goes_right}
 use Rattle.js_meaning.specs.State.{State, Out, goes, stops, M, more, go_on, bind, done, stop, choose, unknown, give, if_gives, with_value}
 use Rattle.js_meaning.specs.Host.{Enter}
-use Rattle.js_meaning.specs.Node.{Wanted, Ask, run, value, place, take, take_all, declares, collect, entry, matches, now, Meaning, Parts, need, may}
+use Rattle.js_meaning.specs.Node.{Wanted, Ask, run, value, now, Meaning, Parts, need, may}
 use Rattle.js_syntax.specs.Facts.{is_core}
 use Rattle.js_meaning.specs.Meaning.{if_core, does, eval}
 use Rattle.js_meaning_near.specs.Quiet.{EndsQuietly, gives_quietly, stops_quietly, Quiet, OnlyAllocates, LeadsFrom, goes_on_as, stops_before, Leads}

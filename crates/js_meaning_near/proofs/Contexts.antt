@@ -20,7 +20,7 @@ use Rattle.js_meaning.specs.Node.{itself, to_call, for_typeof, run as run_under,
 use Rattle.js_meaning.specs.Meaning.{does, if_core, eval, take_this, run_code, enter_body, task_does, enter}
 use Rattle.js_meaning.specs.Run.{finish, finally, module_does, as_value, first_state, seen, run_within, run}
 use Rattle.js_meaning.specs.Kept.{keeps, Keeps, Kept, refines, Refines, Refined}
-use Rattle.js_meaning_near.specs.Names.{Status, loose, known, exactly, silent_function, Decls, Names, Usable}
+use Rattle.js_meaning_near.specs.Names.{Status, known, exactly, Decls, Names, Usable}
 use Rattle.js_meaning_near.specs.Near.{ComesTo, comes_to, meaning, Silent, NoField, Change, statement_emptied, no_statement_emptied, near_silent, SameEffects, same_effects, LooseModule, loose_module, value_read, Row, fields, items, ReceiverOk, is_row, Near, near_nothing, near_absent, near_node, near_closure, near_hoisted, near_unread, near_known, near_uncovered, changed, leaves, Code, near_code, ExportsOk, NearModule, near_module, module_of, sign_applied}
 use Rattle.js_meaning_near.proofs.Worlds.{any_value, only_value, both, slack, In, here, Links, Rule, World, same, no_links, slack_links, no_both, not_in}
 use Rattle.js_meaning_near.proofs.Relations.{HoldsCell, SameSlot, same_local, same_import, as_many, CallEnds, call_gives, call_uncovered, call_out, At, at_nowhere, at_loose, at_live, at_known, at_dead, at_unread, Envs, Same, same_plain, SameOpt, same_none, same_some, SameAll, all_nil, SameCompletion, same_normal, same_gives, same_gives_all, same_refers, same_breaks, same_continues, same_returns, same_throws, SameExports, no_exports, an_export, SameAsk, same_run, same_value, same_take_all, same_declares, States, Follows, both_go, both_stop, old_stops, old_out, Acts, Means, envs_later, Tasks, same_body, same_turn, same_back, Enters, same_later, all_later}

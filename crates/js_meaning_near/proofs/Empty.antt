@@ -1,18 +1,17 @@
 -- A call of a function without parameters and with an empty body does nothing but give a value.
-use Rattle.std.proofs.Common.{◌≡◌, ℕ, suc, ◌<◌, arith, List, [], ◌∷◌, Some, refl, ◌∙◌}
-use Rattle.std.specs.Prelude.{Bool, true, false, nat_eq, if◌then◌else◌}
+use Rattle.std.proofs.Common.{◌≡◌, ℕ, ◌<◌, arith, Some, refl, ◌∙◌}
+use Rattle.std.specs.Prelude.{Bool, false}
 use Rattle.js_syntax.specs.declared.node_kind.NodeKind.{NodeKind as Kind}
 use Rattle.js_syntax.specs.declared.kind.FunctionKind.TheVariants as function_kind
-use Rattle.js_syntax.specs.Node.{Note, Forest, nothing, node}
-use Rattle.js_meaning.specs.Value.{Text, Env, Value, undef}
-use Rattle.js_meaning.specs.State.{State, Cell, cell, put, bind, alloc, read, store, done}
+use Rattle.js_syntax.specs.Node.{Note, Forest, node}
+use Rattle.js_meaning.specs.Value.{Text, undef}
+use Rattle.js_meaning.specs.State.{Cell, cell, put, bind, alloc, read, store, done}
 use Rattle.js_meaning.specs.Scope.{declare, start, module_decls}
 use Rattle.js_meaning.specs.Node.{need, may, each}
-use Rattle.js_meaning.specs.Host.{Enter}
 use Rattle.js_meaning.specs.Module.{entries, stars, requests}
 use Rattle.js_meaning.specs.Kept.{Kept}
-use Rattle.js_meaning.specs.Meaning.{take_each, eval, enter_body}
-use Rattle.js_meaning_near.specs.Quiet.{OnlyAllocates, EndsQuietly, gives_quietly, Quiet}
+use Rattle.js_meaning.specs.Meaning.{take_each, eval}
+use Rattle.js_meaning_near.specs.Quiet.{gives_quietly}
 use Rattle.js_meaning_near.specs.Names.{Names, silent_function}
 use Rattle.js_meaning_near.specs.Near.{SilentCode, items, module_of}
 use Rattle.js_meaning_near.specs.Fit.{whole}

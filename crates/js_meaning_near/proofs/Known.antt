@@ -1,20 +1,20 @@
 -- Something is known of a name, in the whole scope that declares it.
-use Rattle.std.proofs.Common.{◌≡◌, List, [], ◌∷◌, ◌++◌, Option, Some, None, refl, sym, ap, ap₂, subst, ◌∙◌}
-use Rattle.std.specs.Prelude.{Bool, true, false, ◌||◌, if◌then◌else◌}
+use Rattle.std.proofs.Common.{◌≡◌, List, [], ◌∷◌, ◌++◌, Some, refl, sym, ap, ap₂, subst, ◌∙◌}
+use Rattle.std.specs.Prelude.{Bool, true, false, if◌then◌else◌}
 use Rattle.std.specs.Str.{bytes_eq}
 use Rattle.std.proofs.lemmas.Slice.Eq.{bytes_eq-Decides}
 use Rattle.js_syntax.specs.declared.node_kind.NodeKind.{NodeKind as Kind}
 use Rattle.js_syntax.specs.declared.kind.FunctionKind.{FunctionKind}
 use Rattle.js_syntax.specs.declared.kind.FunctionKind.TheVariants as function_kind
 use Rattle.js_syntax.specs.declared.value.LiteralValue.{LiteralValue as Literal}
-use Rattle.js_syntax.specs.Node.{Note, Forest, nothing, node, absent}
+use Rattle.js_syntax.specs.Node.{Note, Forest, nothing, node}
 use Rattle.js_meaning.specs.Value.{Text, this_name, Plain, plain, literal_value}
-use Rattle.js_meaning.specs.Scope.{Decl, decl, Way, waiting, ready, all_so, named_so, own_name, first_name, var_names, lexical, function_decls, module_decls}
+use Rattle.js_meaning.specs.Scope.{Decl, decl, waiting, ready, all_so, named_so, own_name, first_name, lexical, function_decls, module_decls}
 use Rattle.js_meaning.specs.Module.{Entry, entry_local, entry_import, entries, stars, requests}
 use Rattle.js_meaning.specs.Kept.{Kept, Refined}
-use Rattle.js_meaning_near.specs.Names.{Status, live, loose, Fact, exactly, silent_function, known, Names, no_names, loose_names, with_name, Allowed, Usable, Decls, in_both, in_both_known, Plainly, PlainBut, declared, names_below}
-use Rattle.js_meaning_near.specs.Near.{Row, items, fields, Near, near_silent, near_known, changed, value_read, SilentCode, Code, near_code, ExportsOk, near_module, loose_module, module_of}
-use Rattle.js_meaning_near.specs.Fit.{whole, others, names_after, around_code, within_code, Fits}
+use Rattle.js_meaning_near.specs.Names.{Status, live, loose, Fact, exactly, silent_function, known, Names, no_names, loose_names, with_name, Allowed, Usable, Decls, in_both, in_both_known, Plainly, PlainBut, declared}
+use Rattle.js_meaning_near.specs.Near.{Row, items, fields, near_silent, near_known, changed, value_read, SilentCode, near_code, ExportsOk, near_module, loose_module, module_of}
+use Rattle.js_meaning_near.specs.Fit.{whole, others, names_after, within_code, Fits}
 use Rattle.js_meaning_near.specs.Avoid.{declares, code_declares}
 use Rattle.js_meaning_near.specs.Rewritten.{SameNames, Below, BelowCode, Rewritten, at_place}
 use Rattle.js_meaning_near.specs.Known.{Knows, DeclaredOnce, declared_here, declared_later, Knowing}

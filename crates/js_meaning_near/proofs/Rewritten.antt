@@ -1,21 +1,20 @@
 -- A row with changes at any number of places is near the old one, and declares the same.
-use Rattle.std.proofs.Common.{◌≡◌, ◌∙◌, ◌⊎◌, inl, inr, List, [], ◌∷◌, ◌++◌, Option, Some, None, refl, sym, ap, ap₂, subst}
+use Rattle.std.proofs.Common.{◌≡◌, ◌∙◌, List, [], ◌++◌, None, refl, sym, ap, ap₂, subst}
 use Rattle.std.specs.Prelude.{Bool, true, false}
 use Rattle.js_syntax.specs.declared.node_kind.NodeKind.{NodeKind as Kind}
 use Rattle.js_syntax.specs.declared.kind.FunctionKind.{FunctionKind}
 use Rattle.js_syntax.specs.declared.kind.FunctionKind.TheVariants as function_kind
 use Rattle.js_syntax.specs.declared.kind.VariableKind.TheVariants as variable
 use Rattle.js_syntax.specs.declared.kind.ClassKind.TheVariants as class_kind
-use Rattle.js_syntax.specs.Facts.{is_core}
-use Rattle.js_syntax.specs.Node.{Note, Forest, nothing, node, absent, below_of}
-use Rattle.js_meaning.specs.Value.{Text, this_name}
-use Rattle.js_meaning.specs.Scope.{Decl, waiting, ready, all_so, named_so, first_of, behind, declared_name, first_name, names_of, bound_names, vars_of, var_names, specifier_decls, import_decls, or_default, item_decls, lexical, receiver_decls, function_decls, own_name, decl, module_decls}
-use Rattle.js_meaning_near.specs.Names.{Names, Decls, Copied, declared, names_below, FillableIf}
-use Rattle.js_meaning_near.specs.Near.{Row, fields, row_below, is_calm, ComesTo, keys, Heads, IsClosure, is_row, Near, near_nothing, near_absent, near_node, near_closure, near_hoisted, near_uncovered, comes_to, Code, near_code, Okay}
-use Rattle.js_meaning_near.specs.Fit.{names_after, around_code, within_code, FunctionOk, Part, whole, others, part_of, NodeFits, IfCore, Fits}
+use Rattle.js_syntax.specs.Node.{Note, Forest, nothing, node}
+use Rattle.js_meaning.specs.Value.{Text}
+use Rattle.js_meaning.specs.Scope.{Decl, waiting, ready, all_so, named_so, first_of, behind, first_name, names_of, bound_names, vars_of, var_names, specifier_decls, import_decls, item_decls, lexical, receiver_decls, function_decls}
+use Rattle.js_meaning_near.specs.Names.{Names, Decls, Copied, declared, FillableIf}
+use Rattle.js_meaning_near.specs.Near.{Row, fields, Heads, is_row, Near, near_nothing, near_absent, near_node, near_closure, near_hoisted, Code, near_code}
+use Rattle.js_meaning_near.specs.Fit.{names_after, around_code, within_code, FunctionOk, Part, whole, others, part_of}
 use Rattle.js_meaning_near.specs.Local.{KeysStay}
-use Rattle.js_meaning_near.specs.Rewritten.{SameNames, Below, BelowCode, Rewritten, no_more, behind_absent, at_place, behind_node, in_node, in_code, behind_name, behind_no_name}
-use Rattle.js_meaning_near.proofs.Fit.{same_decls, same_copied, same_node, fits_near, fit}
+use Rattle.js_meaning_near.specs.Rewritten.{Rewritten, no_more, behind_absent, at_place, behind_node, in_node, in_code, behind_name, behind_no_name}
+use Rattle.js_meaning_near.proofs.Fit.{same_decls, same_copied}
 use Rattle.js_meaning_near.proofs.Once.{node_stays}
 
 -- what is declared

@@ -1,17 +1,16 @@
 -- What only reads a name of which something is known stays.
-use Rattle.std.proofs.Common.{◌≡◌, List, refl, sym, subst}
+use Rattle.std.proofs.Common.{sym}
 use Rattle.std.specs.Prelude.{Bool, true, false}
 use Rattle.js_syntax.specs.declared.node_kind.NodeKind.{NodeKind as Kind}
 use Rattle.js_syntax.specs.declared.kind.FunctionKind.{FunctionKind}
 use Rattle.js_syntax.specs.declared.kind.FunctionKind.TheVariants as function_kind
 use Rattle.js_syntax.specs.Facts.{is_core}
-use Rattle.js_syntax.specs.Node.{Note, Forest, nothing, node, absent}
+use Rattle.js_syntax.specs.Node.{Forest, nothing, node, absent}
 use Rattle.js_meaning.specs.Value.{Text, this_name}
 use Rattle.js_meaning.specs.Scope.{own_name, first_name, default_name}
 use Rattle.js_meaning_near.specs.Names.{Fact, Names, AllPlain, declared, names_below}
 use Rattle.js_meaning_near.specs.Near.{Row, fields, row_below, Okay}
 use Rattle.js_meaning_near.specs.Fit.{names_after, around_code, within_code, FunctionOk, Part, whole, others, NodeFits, IfCore, Fits}
-use Rattle.js_meaning_near.specs.Once.{NodeStays}
 use Rattle.js_meaning_near.specs.Avoid.{declares, InPlace, CasesOk, HoistedAvoids, code_declares}
 use Rattle.js_meaning_near.specs.Known.{Knows, NameSteady, NodeSteady, Steady}
 use Rattle.js_meaning_near.proofs.Avoid.{false_true, NotFunction, fillable_plain, writable_plain, own_fillable, other_if, receiver_ok, unless, below_all, code_all, fits_clear}

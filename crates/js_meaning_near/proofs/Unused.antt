@@ -1,8 +1,7 @@
 -- Statements whose values nobody takes: they do no more than their parts.
-use Rattle.std.proofs.Common.{◌≡◌, List, [], ◌∷◌, ◌++◌, Option, Some, None, refl, sym, ap, subst, ◌∙◌, arith, append_assoc}
+use Rattle.std.proofs.Common.{◌≡◌, List, [], ◌∷◌, ◌++◌, Some, refl, sym, ap, subst, ◌∙◌, arith, append_assoc}
 use Rattle.std.specs.Prelude.{Bool, true, false, ◌||◌}
 use Rattle.js_syntax.specs.declared.node_kind.NodeKind.{NodeKind as Kind}
-use Rattle.js_syntax.specs.declared.operator.BinaryOperator.{BinaryOperator}
 use Rattle.js_syntax.specs.declared.operator.BinaryOperator.TheVariants as binary
 use Rattle.js_syntax.specs.declared.operator.UnaryOperator.TheVariants as unary
 use Rattle.js_syntax.specs.declared.value.LiteralValue.{LiteralValue as Literal}
@@ -17,10 +16,10 @@ use Rattle.js_meaning.specs.Expression.{in_turn, array_content, binary_value, ca
 use Rattle.js_meaning.specs.Scope.{look}
 use Rattle.js_meaning.specs.Reference.{name_value}
 use Rattle.js_meaning.specs.Meaning.{eval}
-use Rattle.js_meaning_near.specs.Quiet.{OnlyAllocates, Quiet}
+use Rattle.js_meaning_near.specs.Quiet.{Quiet}
 use Rattle.js_meaning_near.specs.Wasted.{drops, EndsSoon, ends_soon, stops_soon, Wastes, wastes_nothing, wastes_part, wastes_silent, wastes_known, wastes_call, IsSilent}
 use Rattle.js_meaning_near.specs.Names.{known, silent_function, Names, Binds}
-use Rattle.js_meaning_near.specs.Near.{Row, fields, same_effects, meaning, Silent, SameEffects, is_calm}
+use Rattle.js_meaning_near.specs.Near.{Row, fields, same_effects, meaning, SameEffects, is_calm}
 use Rattle.js_meaning_near.specs.Fit.{whole, Fits}
 use Rattle.js_meaning_near.specs.Rewritten.{SameNames, Rewritten, at_place}
 use Rattle.js_meaning_near.specs.Known.{Knows}

@@ -6,7 +6,7 @@ use Rattle.js_syntax.specs.Node.{Note, Forest, nothing, node, absent}
 use Rattle.js_syntax.specs.Facts.{is_core}
 use Rattle.js_meaning.specs.Value.{Text}
 use Rattle.js_meaning.specs.Scope.{Decl, decl, waiting, Way, default_name}
-use Rattle.js_meaning_near.specs.Names.{Fact, known, Names, Allowed, Decls, declared, PlainBut}
+use Rattle.js_meaning_near.specs.Names.{Fact, known, Names, Decls, declared, PlainBut}
 use Rattle.js_meaning_near.specs.Near.{Row, fields, row_below}
 use Rattle.js_meaning_near.specs.Fit.{Part, whole, others, IfCore}
 use Rattle.js_meaning_near.specs.Avoid.{declares, InPlace, CasesOk, IsOther, HoistedAvoids, code_declares, Unless}

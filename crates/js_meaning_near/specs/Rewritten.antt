@@ -1,9 +1,8 @@
 -- Rows of which the new one is the old one but for changes at any number of places, each right where this is known of the
 -- names around it.
-use Rattle.std.specs.Prelude.{◌≡◌, Bool, List}
+use Rattle.std.specs.Prelude.{◌≡◌, Bool}
 use Rattle.js_syntax.specs.declared.node_kind.NodeKind.{NodeKind as Kind}
 use Rattle.js_syntax.specs.declared.kind.FunctionKind.{FunctionKind}
-use Rattle.js_syntax.specs.Facts.{is_core}
 use Rattle.js_syntax.specs.Node.{Note, Forest, nothing, node, absent}
 use Rattle.js_meaning.specs.Value.{Text}
 use Rattle.js_meaning.specs.Scope.{declared_name, names_of, bound_names, vars_of, var_names, specifier_decls, import_decls, item_decls, lexical}

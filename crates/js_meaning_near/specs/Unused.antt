@@ -1,7 +1,6 @@
 -- The parts of an expression that stay where nobody takes its value.
-use Rattle.std.specs.Prelude.{◌≡◌, Bool, true, false}
 use Rattle.js_syntax.specs.declared.node_kind.NodeKind.{NodeKind as Kind}
-use Rattle.js_syntax.specs.Node.{Note, Forest, nothing, node, absent}
+use Rattle.js_syntax.specs.Node.{Note, Forest, nothing, node}
 use Rattle.js_meaning_near.specs.Names.{Names}
 use Rattle.js_meaning_near.specs.Near.{Silent}
 

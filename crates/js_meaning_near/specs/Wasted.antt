@@ -1,6 +1,5 @@
 -- What does nothing but evaluate some parts, where nobody takes its value.
-use Rattle.std.specs.Prelude.{◌≡◌, List, [], ◌∷◌, Option, Some, None}
-use Rattle.js_syntax.specs.Node.{Forest, nothing, node}
+use Rattle.std.specs.Prelude.{◌≡◌, List, [], ◌∷◌, Some, None}
 use Rattle.js_meaning.specs.Value.{Text, Env, Value, plain, closure, undef}
 use Rattle.js_meaning.specs.Trace.{Ending}
 use Rattle.js_meaning.specs.State.{State, Out, goes, stops, M, normal, done, unknown, with_receiver, with_value}

@@ -1,5 +1,5 @@
 -- No change takes a call out of a program's own list, or puts one in.
-use Rattle.std.proofs.Common.{◌≡◌, ◌∙◌, ◌+◌, ℕ, suc, [], ◌∷◌, List, Bool, true, false, true≢false, ◌||◌, Option, Some, inl, inr, if◌then◌else◌, arith, refl, sym, ap, ap₂}
+use Rattle.std.proofs.Common.{◌≡◌, ◌∙◌, ◌+◌, ℕ, suc, [], ◌∷◌, List, Bool, true, false, true≢false, ◌||◌, Option, Some, inl, inr, arith, refl, sym, ap, ap₂}
 use Rattle.js_syntax.specs.declared.node_kind.NodeKind.{NodeKind as Kind}
 use Rattle.js_syntax.specs.declared.node_kind.NodeKind.TheVariants.{Program as program, Statements as statements, ExpressionStatement as expression_statement, CallExpression as call_expression}
 use Rattle.js_syntax.specs.Node.{Forest, Tree, Note, nothing, node, absent, alone, bare}

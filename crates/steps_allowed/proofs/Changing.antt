@@ -1,25 +1,23 @@
 -- Where nothing may change, nothing does.
-use Rattle.std.proofs.Common.{◌≡◌, ◌∙◌, ◌+◌, ◌==◌, ℕ, suc, List, [], ◌∷◌, Bool, true, false, not, ◌&&◌, ◌||◌, true≢false, if◌then◌else◌, Option, Some, None, is_some, codes, bytes_eq, arith, refl, sym, ap, ap₂, subst}
+use Rattle.std.proofs.Common.{◌≡◌, ◌∙◌, ◌==◌, ℕ, suc, [], ◌∷◌, Bool, true, false, not, ◌&&◌, ◌||◌, true≢false, if◌then◌else◌, Some, None, is_some, codes, bytes_eq, arith, refl, sym, ap, ap₂}
 use Rattle.std.proofs.lemmas.Bool.{and_from}
 use Rattle.js_syntax.specs.declared.node_kind.NodeKind.{NodeKind as Kind}
 use Rattle.js_syntax.specs.declared.node_kind.NodeKind.TheVariants as kind
-use Rattle.js_syntax.specs.declared.kind.FunctionKind.{FunctionKind}
 use Rattle.js_syntax.specs.declared.kind.FunctionKind.TheVariants as function_kind
-use Rattle.js_syntax.specs.declared.kind.VariableKind.{VariableKind}
 use Rattle.js_syntax.specs.declared.kind.VariableKind.TheVariants as variable
-use Rattle.js_syntax.specs.Node.{Forest, Tree, Note, nothing, node, absent, alone, bare, below_of, total}
+use Rattle.js_syntax.specs.Node.{Forest, Note, nothing, node, absent, alone, bare, below_of, total}
 use Rattle.js_tree.specs.Names.{eval_name, eval_of_call}
 use Rattle.form_rules.specs.Context.{has_use_strict, is_module, is_strict_list, is_strict_function, behind_first}
 use Rattle.form_rules.specs.Samples.{a_module, a_script, a, binds, one, does, declares, function_a, block}
 use Rattle.min_pass.specs.declared.around.Around.{Around as Asked}
 use Rattle.min_pass.specs.Around.{entered as asked_below, outermost as asked_of_program}
 use Rattle.scope_rules.specs.Context.{is_there, has_second}
-use Rattle.scope_rules.specs.Site.{has_eval, scope_row, scope_count}
+use Rattle.scope_rules.specs.Site.{has_eval}
 use Rattle.scope_rules.specs.Mark.{own_binding}
 use Rattle.scope_laws.specs.Place.{Around, first, behind, behind_none, under, plug}
-use Rattle.steps_allowed.specs.Removes.{a_node, asked_at, a_function, a_declarator, a_declaration, Removes, empty_statement_leaves, silent_statement_empties, unused_function_leaves, unused_declarator_leaves, unused_declaration_leaves, Removals, no_removal, one_removal}
-use Rattle.steps_allowed.specs.Calls.{is_call, begins_with_call}
-use Rattle.steps_allowed.specs.Exposure.{Exposure, in_code, in_block, declaring, shares, is_script_source, is_script, at_function_name, at_class_name, exposed_inside, beside_program, exposed_of, exposed_at, exposure, function_is_exposed, evaluates_somewhere}
+use Rattle.steps_allowed.specs.Removes.{a_node, asked_at, Removes, empty_statement_leaves, silent_statement_empties, unused_function_leaves, unused_declarator_leaves, unused_declaration_leaves, Removals, no_removal, one_removal}
+use Rattle.steps_allowed.specs.Calls.{is_call}
+use Rattle.steps_allowed.specs.Exposure.{Exposure, declaring, is_script_source, is_script, at_function_name, at_class_name, exposed_inside, exposed_of, exposed_at, exposure, evaluates_somewhere}
 use Rattle.steps_allowed.specs.Changing.{holds_items, holds_declarators, may_change_at, may_change, may_change_somewhere}
 use Rattle.steps_allowed.specs.Rows.{call_of_eval}
 use Rattle.steps_allowed.proofs.Calling.{bare_begins, silent_is_no_call, there}

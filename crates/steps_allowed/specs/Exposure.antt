@@ -11,7 +11,7 @@ use Rattle.js_syntax.specs.declared.kind.VariableKind.{VariableKind}
 use Rattle.js_syntax.specs.declared.kind.VariableKind.TheVariants as variable
 use Rattle.js_syntax.specs.declared.scalar.SourceType.{SourceType}
 use Rattle.js_syntax.specs.declared.scalar.SourceType.TheVariants as source_type
-use Rattle.js_syntax.specs.Node.{Forest, Tree, nothing, node, absent, below_of}
+use Rattle.js_syntax.specs.Node.{Forest, Tree, node, below_of}
 use Rattle.form_rules.specs.Context.{is_module, is_strict_list, is_strict_function}
 use Rattle.scope_rules.specs.Context.{has_second}
 use Rattle.scope_rules.specs.Site.{has_eval, scope_row}

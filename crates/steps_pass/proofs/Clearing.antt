@@ -1,5 +1,5 @@
 -- A program without the empty statements of its lists comes by changes.
-use Rattle.std.proofs.Common.{◌≡◌, Bool, true, false, ◌&&◌, if◌then◌else◌, true≢false, refl, sym}
+use Rattle.std.proofs.Common.{◌≡◌, Bool, true, false, ◌&&◌, if◌then◌else◌, refl}
 use Rattle.std.proofs.lemmas.Bool.{and_parts}
 use Rattle.js_syntax.specs.declared.node_kind.NodeKind.{NodeKind as Kind}
 use Rattle.js_syntax.specs.Node.{Forest, Note, nothing, node, absent}

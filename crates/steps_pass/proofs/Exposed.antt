@@ -1,5 +1,5 @@
 -- What goes from a tree exposes no name: strict code stays strict, and no call of `eval` comes.
-use Rattle.std.proofs.Common.{◌≡◌, ◌∙◌, ℕ, zero, suc, Bool, true, false, not, ◌&&◌, ◌||◌, ◌==◌, true≢false, if◌then◌else◌, is_some, Some, None, bytes_eq, codes, refl, sym, ap, subst}
+use Rattle.std.proofs.Common.{◌≡◌, ◌∙◌, ℕ, suc, Bool, true, false, not, ◌&&◌, ◌||◌, ◌==◌, true≢false, if◌then◌else◌, is_some, Some, None, bytes_eq, codes, refl, sym, ap, subst}
 use Rattle.std.proofs.lemmas.Bool.{and_parts, and_from}
 use Rattle.js_syntax.specs.declared.node_kind.NodeKind.{NodeKind as Kind}
 use Rattle.js_syntax.specs.declared.node_kind.NodeKind.TheVariants as kind
@@ -19,9 +19,8 @@ use Rattle.min_pass.specs.Pass.{Names}
 use Rattle.steps_allowed.specs.Exposure.{Exposure, in_code, in_block, declaring, shares, is_script_source, is_script, at_function_name, at_class_name, exposed_inside, beside_program, exposed_of, function_is_exposed, evaluates_somewhere}
 use Rattle.steps_pass.specs.Cases.{first_unmarked}
 use Rattle.steps_pass.specs.Exposed.{unexposed_at, unexposed, IsUnexposed}
-use Rattle.steps_pass.specs.Kept.{is_program}
 use Rattle.js_syntax.proofs.Truth.{second_of_either}
-use Rattle.steps_pass.proofs.Losing.{is_directive, Loses, leaves, empties, inside, behind, behind_none, first_stays}
+use Rattle.steps_pass.proofs.Losing.{Loses, leaves, empties, inside, behind, behind_none, first_stays}
 
 -- ---- truth values
 

@@ -1,5 +1,5 @@
 -- Where a marked name stands, nothing but references may use it.
-use Rattle.std.proofs.Common.{◌≡◌, ℕ, suc, List, Bool, true, false, not, ◌&&◌, ◌||◌, true≢false, refl, sym, ap, subst}
+use Rattle.std.proofs.Common.{◌≡◌, ℕ, suc, List, Bool, true, false, not, ◌||◌, true≢false, sym}
 use Rattle.std.proofs.lemmas.Bool.{and_parts}
 use Rattle.js_syntax.specs.declared.node_kind.NodeKind.{NodeKind as Kind}
 use Rattle.js_syntax.specs.declared.node_kind.NodeKind.TheVariants as kind

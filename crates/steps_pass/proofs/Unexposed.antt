@@ -14,23 +14,20 @@ use Rattle.js_syntax.specs.declared.kind.VariableKind.{VariableKind}
 use Rattle.js_syntax.specs.declared.kind.VariableKind.TheVariants as variable
 use Rattle.js_syntax.specs.declared.scalar.SourceType.{SourceType}
 use Rattle.js_syntax.specs.declared.scalar.SourceType.TheVariants as source_type
-use Rattle.js_syntax.specs.Node.{Forest, Note, nothing, node, absent, below_of}
+use Rattle.js_syntax.specs.Node.{Forest, Note, nothing, node, absent}
 use Rattle.js_effects.specs.Silence.{is_marked}
 use Rattle.form_rules.specs.Context.{is_module, is_strict_list, is_strict_function}
 use Rattle.scope_rules.specs.declared.layer.Layer.{Layer}
 use Rattle.scope_rules.specs.declared.layer.Role.{Role}
 use Rattle.scope_rules.specs.declared.layer.Role.TheVariants as role
-use Rattle.scope_rules.specs.Context.{Context, opens, has_second, body_of, parameters_of, own_name_of, in_body, in_block as scope_block, declares, at_function_name as function_name_context, at_class_name as class_name_context, at_parameters, in_function, below_it, used, as_constructor, of_method, inside, outermost}
+use Rattle.scope_rules.specs.Context.{Context, opens, has_second, body_of, own_name_of, in_body, in_block as scope_block, declares, at_function_name as function_name_context, at_class_name as class_name_context, below_it, used, of_method, inside, outermost}
 use Rattle.scope_rules.specs.Site.{Site, scope_site, ScopeSite, BindingSite, bit, form_bits, scope_bits, scope_row, has_eval, name_sites, own_sites, opens_one, scope_count, sites, sites_of, scopes_among, bindings_among}
-use Rattle.scope_rules.specs.Table.{Symbol, Scoping}
+use Rattle.scope_rules.specs.Table.{Scoping}
 use Rattle.scope_table.specs.Reading.{scope_at, symbol_at}
 use Rattle.scope_laws.specs.Exact.{Among}
 use Rattle.scope_laws.proofs.Declared.{among_left, among_right}
-use Rattle.min_passes.specs.Unused.{has_bits, scope_has, is_sloppy_block, is_global, is_script, variable_is_unused, function_is_unused, names_of}
-use Rattle.steps_names.proofs.Sites.{binding_second}
-use Rattle.steps_allowed.specs.Exposure.{Exposure, in_code, in_block, declaring, shares, is_script_source, at_function_name, at_class_name, exposed_inside, beside_program, exposed_of, function_is_exposed, evaluates_somewhere}
-use Rattle.steps_allowed.specs.Exposure as exposure
-use Rattle.steps_pass.specs.Cases.{name_unmarked, first_unmarked}
+use Rattle.min_passes.specs.Unused.{has_bits, scope_has, is_sloppy_block, is_global, is_script, names_of}
+use Rattle.steps_allowed.specs.Exposure.{Exposure, in_code, in_block, declaring, is_script_source, at_function_name, at_class_name, exposed_inside, exposed_of, function_is_exposed, evaluates_somewhere}
 use Rattle.steps_pass.specs.Exposed.{unexposed_at, unexposed, IsUnexposed}
 use Rattle.steps_pass.specs.Kept.{is_program, TellsScopes}
 use Rattle.steps_pass.proofs.Marks.{function_told, variable_told}

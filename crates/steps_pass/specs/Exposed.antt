@@ -1,5 +1,5 @@
 -- What lets names go lets none go that other code may use.
-use Rattle.std.specs.Prelude.{◌≡◌, ℕ, suc, slice_get, List, Bool, true, not, ◌&&◌, ◌||◌, Some}
+use Rattle.std.specs.Prelude.{◌≡◌, ℕ, suc, Bool, true, not, ◌&&◌, ◌||◌}
 use Rattle.js_syntax.specs.declared.node_kind.NodeKind.{NodeKind as Kind}
 use Rattle.js_syntax.specs.declared.node_kind.NodeKind.TheVariants.{Function as function, VariableDeclarator as variable_declarator}
 use Rattle.js_syntax.specs.declared.kind.FunctionKind.TheVariants as function_kind
