@@ -3,7 +3,7 @@
 What a table says is told by ECMA-262 and by docs/DEFINITIONS.md: where a name is declared, which declaration a name means,
 and how it is used. What follows from what is told, as which references a symbol has, is worked out here.
 """
-from examples import B, DEBUGGER, EMPTY, ES, F_, I, L, N, STRICT, asg, do, exports, fn, mem, prog, text, un, var, a, b, c, f, x
+from examples import B, DEBUGGER, EMPTY, ES, F_, I, L, N, STRICT, asg, do, exports, fn, mem, prog, prop, text, un, var, a, b, c, f, x
 
 # What a scope is, how a name is declared, and how it is used: the bits of `scope_table`.
 STRICTLY, TOP, FUNCTION, ARROW, STATIC, CONSTRUCTOR, BLOCK, CATCH, WITH, EVAL = (1 << i for i in range(10))
@@ -172,6 +172,18 @@ T('{ function f() { eval(a); } {} } a direct call of eval is told of each scope 
   [('eval', 2, None, READ), ('a', 2, None, READ)], 'scope 0, scope 1, scope 2, declared f 0, used eval 0, used a 1, scope 3')
 T("import { a as b } from 'm'; export { b }; a++;", [N('ImportDeclaration', specifiers=[N('ImportSpecifier', imported=a, local=b)], source=L('m')), exports('b'), ES(N('UpdateExpression', operator='++', prefix=False, argument=a))],
   [(None, MODULE, {'b': 0})], [('b', 0, IMPORT)], [('b', 0, 0, READ), ('a', 0, None, READ + WRITE)], 'scope 0, declared b 0, used b 0, used a 1')
+
+# ---- the names of the first pattern, with places and symbols
+
+def bound(shown, pattern, *told): rows.append((shown, 'bound', prog([var('let', (pattern, f))]), 'bound%s\n' % ''.join(', %s at %d %d symbol %d' % name for name in told)))
+
+
+bound('let a = f; a name alone', at(a, 4, 5), ('a', 4, 5, 0))
+bound('let { a, [b]: c = x, ...d } = f; not what a key or a default reads', N('ObjectPattern', properties=[
+  prop(at(a, 6, 7), at(a, 6, 7), shorthand=True), prop(at(b, 10, 11), defaults(at(c, 14, 15), at(x, 18, 19)), computed=True), N('RestElement', argument=at(I('d'), 24, 25))]),
+  ('a', 6, 7, 0), ('c', 14, 15, 1), ('d', 24, 25, 2))
+bound('let [b, , [a]] = f;', N('ArrayPattern', elements=[at(b, 5, 6), None, N('ArrayPattern', elements=[at(a, 11, 12)])]), ('b', 5, 6, 0), ('a', 11, 12, 1))
+bound('let [] = f; none', N('ArrayPattern', elements=[]))
 
 # ---- sites
 

@@ -46,6 +46,9 @@ GROUPS = [
  ('what copies hold', [
   ('var a; where the name has a span', 'copy', script(var('var', (NAMED, None))), '', 'nodes 4 levels 4 #7 3-9\n' + text(script(var('var', (I('a'), None))))),
   ('a thousand levels', 'copy', 997, '', 'nodes 1000 levels 1000 #7\n66918 bytes'),
+  ('ä;: a name', 'clone', module(ES(I('ä'))), '', 'name ä'),
+  ("throw 'a\U0001f600';: a text", 'clone', module(N('ThrowStatement', argument=L('a\U0001f600'))), '', 'text a\U0001f600'),
+  ('this;: neither, so of the whole program', 'clone', module(ES(THIS)), '', text(module(ES(THIS)))),
  ]),
  ('which trees are equal', [
   ('[new f(), ,] with a mark, and itself', 'equal', module(ES(array(new(True), HOLE))), module(ES(array(new(True), HOLE))), 'equal'),

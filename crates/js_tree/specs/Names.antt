@@ -1,5 +1,5 @@
 -- What names stand in a tree.
-use Rattle.std.specs.Prelude.{ℕ, List, [], ◌∷◌, ◌++◌, Option, Some, None, false, codes, if◌then◌else◌}
+use Rattle.std.specs.Prelude.{List, [], ◌∷◌, ◌++◌, Bool, true, false, Option, Some, None, codes, if◌then◌else◌}
 use Rattle.std.specs.Str.{bytes_eq}
 use Rattle.js_syntax.specs.declared.node_kind.NodeKind.{NodeKind as Kind}
 use Rattle.js_syntax.specs.declared.node_kind.NodeKind.TheVariants.{CallExpression as call_expression, ParenthesizedExpression as parenthesized_expression, ReferenceName as reference_name}
@@ -19,7 +19,7 @@ abbrev pub eval_of_call : Kind → (below : Forest) → Option Tree
 eval_of_call (call_expression false pure) below = eval_name below
 eval_of_call _ below = None
 
--- ---- the names that a pattern declares (ECMA-262 8.2.1), in order of places
+-- ---- the names that a pattern declares (ECMA-262 8.2.1), in order of places: each the node that it is
 
 -- which of the nodes of a row are looked at
 pub data Part : Type 0 where
@@ -39,32 +39,30 @@ part_below _ = None
 
 -- the names of a row, by the part that is looked at
 pub record Looked : Type 0 where
-  pub all : List (List ℕ)
-  pub first : List (List ℕ)
-  pub behind : List (List ℕ)
+  pub all : List Tree
+  pub first : List Tree
+  pub behind : List Tree
 
-abbrev pub chosen : Option Part → Looked → List (List ℕ)
+abbrev pub chosen : Option Part → Looked → List Tree
 chosen None l = []
 chosen (Some all_of) l = l.all
 chosen (Some first_of) l = l.first
 chosen (Some behind_first) l = l.behind
 
-abbrev pub name_of : Kind → Option (List ℕ)
-name_of (binding_name s) = Some s
-name_of _ = None
+abbrev pub is_name : Kind → Bool
+is_name (binding_name s) = true
+is_name _ = false
 
 -- the names of a node, from those below it
-abbrev pub names_or : Option (List ℕ) → List (List ℕ) → List (List ℕ)
-names_or (Some s) below = s ∷ []
-names_or None below = below
-
-abbrev pub names_of : Kind → Looked → List (List ℕ)
-names_of k below = names_or (name_of k) (chosen (part_below k) below)
+abbrev pub names_of : Tree → Looked → List Tree
+names_of t below = if is_name t.kind then t ∷ [] else chosen (part_below t.kind) below
 
 abbrev pub looked : Forest → Looked
 looked nothing = record { all = []; first = []; behind = [] }
 looked (absent rest) = record { all = (looked rest).all; first = []; behind = (looked rest).all }
-looked (node k n below rest) = record { all = names_of k (looked below) ++ (looked rest).all; first = names_of k (looked below); behind = (looked rest).all }
+looked (node k n below rest) =
+    let names = names_of (record { kind = k; note = n; below = below }) (looked below) in
+    record { all = names ++ (looked rest).all; first = names; behind = (looked rest).all }
 
-abbrev pub names_declared : Forest → List (List ℕ)
+abbrev pub names_declared : Forest → List Tree
 names_declared t = (looked t).first

@@ -2,11 +2,11 @@
 ghost use Rattle.std.specs.Prelude.{◌≡◌, ◌++◌, IfOk, map};
 ghost use Rattle.std.specs.Option.{option_map};
 ghost use Rattle.js_syntax.specs.Node.{row, forest_of};
-ghost use Rattle.js_tree.specs.Names.{part_below, name_of, names_of, looked, chosen, names_declared};
+ghost use Rattle.js_tree.specs.Names.{part_below, is_name, names_of, looked, chosen, names_declared};
 ghost use Rattle.js_tree.specs.Parts.{part_view};
 
 use crate::Node;
-use js_syntax::{Ident, NodeKind};
+use js_syntax::NodeKind;
 use std::alloc::{AllocError, Global};
 
 // Which of the nodes of a row are looked at.
@@ -33,24 +33,20 @@ fn look_below(kind: &NodeKind) -> Option<Look>
     }
 }
 
-// The name that a node is, if it is one.
-fn own_name(kind: &NodeKind) -> Option<&Ident>
-    ensures { option_map (λ s. s.now) result ≡ name_of kind.now }
+fn is_name(kind: &NodeKind) -> bool
+    ensures { result ≡ is_name kind.now }
 {
-    match kind {
-        NodeKind::BindingName(name) => Some(name),
-        _ => None,
-    }
+    matches!(kind, NodeKind::BindingName(_))
 }
 
 // The names of a node, behind those that are there.
 #[cycle(names)]
-fn names_of_node<'a>(names: Vec<&'a Ident>, node: &'a Node) -> Result<Vec<&'a Ident>, AllocError>
-    ensures { IfOk result (λ v. map (λ s. s.now) v.items ≡ map (λ s. s.now) names.entry.items ++ names_of node.now.kind (looked node.now.below)) }
+fn names_of_node<'a>(names: Vec<&'a Node>, node: &'a Node) -> Result<Vec<&'a Node>, AllocError>
+    ensures { IfOk result (λ v. map (λ n. n.now) v.items ≡ map (λ n. n.now) names.entry.items ++ names_of node.now (looked node.now.below)) }
 {
     let mut names = names;
-    if let Some(name) = own_name(node.kind()) {
-        names.push(name)?;
+    if is_name(node.kind()) {
+        names.push(node)?;
         return Ok(names);
     }
     match look_below(node.kind()) {
@@ -70,10 +66,10 @@ fn names_of_node<'a>(names: Vec<&'a Ident>, node: &'a Node) -> Result<Vec<&'a Id
 // The names of the nodes of a row, behind those that are there.
 #[cycle(names)]
 fn names_of_row<'a>(
-    names: Vec<&'a Ident>,
+    names: Vec<&'a Node>,
     children: &'a [Option<Node>],
-) -> Result<Vec<&'a Ident>, AllocError>
-    ensures { IfOk result (λ v. map (λ s. s.now) v.items ≡ map (λ s. s.now) names.entry.items ++ (looked (row children.now)).all) }
+) -> Result<Vec<&'a Node>, AllocError>
+    ensures { IfOk result (λ v. map (λ n. n.now) v.items ≡ map (λ n. n.now) names.entry.items ++ (looked (row children.now)).all) }
 {
     let mut names = names;
     let mut rest = children;
@@ -86,10 +82,11 @@ fn names_of_row<'a>(
     Ok(names)
 }
 
-/// The names that a pattern declares, in order of places (ECMA-262 8.2.1): a name itself, and those
-/// below an object or array pattern, a default or a rest.
-pub fn bound_names(alloc: Global, pattern: &Node) -> Result<Vec<&Ident>, AllocError>
-    ensures { IfOk result (λ v. map (λ s. s.now) v.items ≡ names_declared (forest_of pattern.now)) }
+/// The binding identifiers of a pattern, in order of places (ECMA-262 8.2.1): the pattern itself where it is a name, and those
+/// below an object or array pattern, a default or a rest. Each is the node of the tree, which has its name, its span and,
+/// in a marked tree, its symbol.
+pub fn bound_names(alloc: Global, pattern: &Node) -> Result<Vec<&Node>, AllocError>
+    ensures identifiers { IfOk result (λ v. map (λ n. n.now) v.items ≡ names_declared (forest_of pattern.now)) }
 {
     names_of_node(Vec::new(alloc), pattern)
 }

@@ -1,4 +1,5 @@
 // The answer to a row.
+use crate::bound::append_bound;
 use crate::fault::append_edited;
 use crate::marks::append_marked;
 use crate::sites::{append_sites, name_of_part};
@@ -52,6 +53,7 @@ fn append_about(
     match question {
         "table" => append_table(alloc, program, printed),
         "sites" => append_sites(alloc, program, printed),
+        "bound" => append_bound(alloc, program, printed),
         _ => append_with_words(alloc, question, program, printed),
     }
 }

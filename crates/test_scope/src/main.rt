@@ -5,6 +5,7 @@
 //!
 //! - `table`: the table that `build` makes, by all of its reading calls, then the marks of the nodes, and whether the
 //!   table matches the program
+//! - `bound`: the names of the first declarator's pattern, with their places and symbols, once `build` has marked the program
 //! - `sites`: what `find_sites` finds in the program as it was read
 //! - `marks 7 8`: the marks that `mark_nodes` gives the nodes, where the declared names have these symbols, and then the
 //!   sites
@@ -16,6 +17,7 @@
 #![tactic(auto)]
 
 mod answer;
+mod bound;
 mod edit;
 mod fault;
 mod marks;

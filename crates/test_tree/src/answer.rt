@@ -1,6 +1,6 @@
 // The answers.
 use crate::copied::copied;
-use crate::expression::{bound, evaluates, is_silent};
+use crate::expression::{bound, cloned, evaluates, is_silent};
 use crate::left::{cleared, passed};
 use crate::question::{Question, question_named};
 use crate::tree::tree_of;
@@ -54,6 +54,7 @@ fn answer_of(
     match question {
         Question::Size => size(alloc, program, operand.parse::<u32>().unwrap_or(0)),
         Question::Copied => copied(alloc, program),
+        Question::Cloned => cloned(alloc, program),
         Question::Equal => equals(alloc, program, operand),
         Question::Cleared => cleared(alloc, program),
         Question::Passed => passed(alloc, program),

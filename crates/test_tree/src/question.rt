@@ -7,6 +7,8 @@ pub(crate) enum Question {
     Size,
     /// What a copy of it holds, once its root has the id 7: its size, the spans and ids of its nodes, and its text.
     Copied,
+    /// What a copy holds of the name or the text that its first expression is, or else of its root.
+    Cloned,
     /// Whether it is the same as the operand, but for spans and ids.
     Equal,
     /// What is left where the empty statements of lists go.
@@ -26,9 +28,10 @@ pub(crate) enum Question {
     Written,
 }
 
-const QUESTIONS: [(&str, Question); 10] = [
+const QUESTIONS: [(&str, Question); 11] = [
     ("size", Question::Size),
     ("copy", Question::Copied),
+    ("clone", Question::Cloned),
     ("equal", Question::Equal),
     ("clear", Question::Cleared),
     ("pass", Question::Passed),

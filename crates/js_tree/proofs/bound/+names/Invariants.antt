@@ -13,7 +13,7 @@ decreases-names_of_row l = 2 * size_of (row l.children.now) + 1
 abbrev pub invariant-names_of_row-loop-rest : goal.invariant-names_of_row-loop-rest
 invariant-names_of_row-loop-rest l =
     record {
-      names : map (λ s. s.now) l.fn.names.items ++ (looked (row l.children)).all ≡ map (λ s. s.now) l.names.items ++ (looked (row l.rest)).all;
+      names : map (λ n. n.now) l.fn.names.items ++ (looked (row l.children)).all ≡ map (λ n. n.now) l.names.items ++ (looked (row l.rest)).all;
       small : size_of (row l.rest) ≤ size_of (row l.children);
     }
 
