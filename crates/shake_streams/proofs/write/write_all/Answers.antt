@@ -17,4 +17,5 @@ pieces-preserved g c = record {
 
 pub returns-in-Err-clause-took_front : goal.returns-in-Err-clause-took_front
 returns-in-Err-clause-took_front g c =
-    took_front _ _ _ c.args.text.now c.pieces.sent c.pieces.invariant.took c.in-Err.ensures.taken
+    let front = took_front _ _ _ c.args.text.now c.pieces.sent c.pieces.invariant.took c.in-Err.ensures.taken in
+    search (rules, front)
