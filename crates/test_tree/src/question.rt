@@ -24,9 +24,11 @@ pub(crate) enum Question {
     Visited,
     /// Its text.
     Written,
+    /// Whether it fits the table of node types.
+    Fits,
 }
 
-const QUESTIONS: [(&str, Question); 10] = [
+const QUESTIONS: [(&str, Question); 11] = [
     ("size", Question::Size),
     ("copy", Question::Copied),
     ("equal", Question::Equal),
@@ -37,6 +39,7 @@ const QUESTIONS: [(&str, Question); 10] = [
     ("silent", Question::Silent),
     ("visits", Question::Visited),
     ("text", Question::Written),
+    ("fits", Question::Fits),
 ];
 
 pub(crate) fn question_named(name: &str) -> Option<Question> {
