@@ -6,6 +6,7 @@ import clones
 import entries
 import equals
 import examples
+import fits
 import form_rows
 import read_kinds
 import run_table
@@ -15,7 +16,7 @@ import shapes
 import syntax
 import tree_rows
 
-MODULES = [syntax, run_table, read_kinds, entries, clones, equals, shapes, examples, form_rows, tree_rows, scope_examples, runs]
+MODULES = [syntax, run_table, read_kinds, entries, clones, equals, shapes, fits, examples, form_rows, tree_rows, scope_examples, runs]
 FILES = {path: text for module in MODULES for path, text in module.FILES.items()}
 
 crates = pathlib.Path(__file__).resolve().parent.parent / 'crates'

@@ -2,7 +2,8 @@
 
 Each row is a program in words, the question, the tree and its operand, and the answer. The questions are those of
 crates/test_tree/src/question.rt. A tree is an ESTree program, or a number of operators `!` that stand before `this`: such a
-program has three levels and nodes more than operators, and its text 67 bytes for each and 119 around them.
+program has three levels and nodes more than operators, and its text 67 bytes for each and 119 around them. Or it is a word
+for a tree that no text gives.
 """
 from examples import B, ES, I, L, N, call, mem, prog, prop, text, un, var
 
@@ -87,6 +88,13 @@ GROUPS = [
  ('what a walk visits: none below a block', [
   ('switch (this) { default: { ; } } debugger;', 'visits', script(SWITCH, N('DebuggerStatement')), '', 'visits 6'),
   ('a.b;', 'visits', module(ES(mem(I('a'), I('b')))), '', 'visits 4'),
+ ]),
+ ('which trees fit the table of node types', [
+  ('! this;', 'fits', 1, '', 'fits'),
+  ('export { a }; with a class, a switch, a label and a pattern', 'fits', module(class_a(THIS), SWITCH, label('l', ES(L(1))), let(pattern(rest(pattern(default(I('a'), I('b'))))), I('c')), N('ExportNamedDeclaration', declaration=None, specifiers=[N('ExportSpecifier', local=I('a'), exported=I('a'))], source=None)), '', 'fits'),
+  ('a name below a literal', 'fits', '?below', '', 'does not fit'),
+  ('a statement without its expression', 'fits', '?missing', '', 'does not fit'),
+  ('a declared name where an expression stands', 'fits', '?place', '', 'does not fit'),
  ]),
  ('texts', [
   ('a thousand levels', 'text', 997, '', '66918 bytes'),

@@ -18,6 +18,7 @@ mod status;
 pub use form_check::{FormError, well_formed};
 pub use js_scoping::Scoping;
 pub use js_tree::{Program, Text};
+pub use json_fits::fits;
 pub use json_read::{TreeError, read_tree};
 pub use json_write::write_tree;
 pub use min_driver::{

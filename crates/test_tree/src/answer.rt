@@ -7,6 +7,7 @@ use crate::tree::tree_of;
 use crate::visited::visited;
 use js_tree::{Program, count_nodes, depth};
 use js_tree_equal::content_eq;
+use json_fits::fits;
 use json_write::write_tree;
 use std::alloc::{AllocError, Global};
 
@@ -63,6 +64,7 @@ fn answer_of(
         Question::Silent => is_silent(alloc, program),
         Question::Visited => visited(alloc, program),
         Question::Written => shown(alloc, program),
+        Question::Fits => either(alloc, fits(program), "fits", "does not fit"),
     }
 }
 

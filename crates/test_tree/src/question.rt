@@ -26,6 +26,8 @@ pub(crate) enum Question {
     Visited,
     /// Its text.
     Written,
+    /// Whether it fits the table of node types.
+    Fits,
 }
 
 const QUESTIONS: [(&str, Question); 11] = [
@@ -40,6 +42,7 @@ const QUESTIONS: [(&str, Question); 11] = [
     ("silent", Question::Silent),
     ("visits", Question::Visited),
     ("text", Question::Written),
+    ("fits", Question::Fits),
 ];
 
 pub(crate) fn question_named(name: &str) -> Option<Question> {
