@@ -69,7 +69,7 @@ unfolding need eval
 conditional E v n i j l z b c env (value w) t h = given (literal_value v) _ _ (chosen (truthy (literal_value v)) (meaning E l b now env) _ t ∙ sym (blunt_asks E l b env w h))
 conditional E v n i j l z b c env q t h = unknown_leads _
 
--- S26: a conditional on a literal is its live branch
+-- a conditional on a literal is its live branch
 pub condition_holds : (st : Names) (v : Literal) (n i j : Note) (l z : Kind) (b c : Forest) → truthy (literal_value v) ≡ true → is_blunt l ≡ true → is_calm l ≡ true
     → ComesTo st Kind.ConditionalExpression (node (Kind.Literal v) n nothing (node l i b (node z j c nothing))) l b
 condition_holds st v n i j l z b c t h g = record { old_calm = refl; new_calm = g; comes = λ E env binds q. conditional E v n i j l z b c env q t h }
@@ -87,12 +87,12 @@ choice E v n i l b (absent (absent r)) env q t h = absurd h
 choice E v n i l b (node z j c (node y k d r)) env q t h = absurd h
 choice E v n i l b (node z j c (absent r)) env q t h = absurd h
 
--- S6: an `if` on a literal is its live branch
+-- an `if` on a literal is its live branch
 pub if_holds : (st : Names) (v : Literal) (n i : Note) (l : Kind) (b r : Forest) → truthy (literal_value v) ≡ true → is_calm l ≡ true → IsField r
     → ComesTo st Kind.IfStatement (node (Kind.Literal v) n nothing (node l i b r)) l b
 if_holds st v n i l b r t g h = record { old_calm = refl; new_calm = g; comes = λ E env binds q. choice E v n i l b r env q t h }
 
--- S26: a logical expression whose left side is a literal is its right side, or the literal
+-- a logical expression whose left side is a literal is its right side, or the literal
 
 right_side : (E : Enter) (o : LogicalOperator) (v : Literal) (n i : Note) (l : Kind) (b : Forest) (env : Env) (q : Ask) → goes_right o (literal_value v) ≡ true → is_blunt l ≡ true
     → Leads (meaning E (Kind.LogicalExpression o) (node (Kind.Literal v) n nothing (node l i b nothing)) q env) (meaning E l b q env)
@@ -119,7 +119,7 @@ pub left_side_decides : (st : Names) (o : LogicalOperator) (v : Literal) (n i : 
     → ComesTo st (Kind.LogicalExpression o) (node (Kind.Literal v) n nothing (node l i b nothing)) (Kind.Literal v) c
 left_side_decides st o v n i l b c t = record { old_calm = refl; new_calm = refl; comes = λ E env binds q. left_side E o v n i l b c env q t }
 
--- S27: a silent part in front leaves a sequence of two
+-- a silent part in front leaves a sequence of two
 
 quietly : (m : M) (k : Value → M) (n : M) → Quiet m → ((v : Value) → k v ≡ n) → Leads (with_value m k) n
 unfolding bind

@@ -157,7 +157,7 @@ array_means : (E : Enter) (env : Env) (n m : Note) (es : Forest) (ls : List Text
 unfolding need eval after_array over
 array_means E env n m es ls = sym (all_value (values now (eval E es) env (λ vs. done (gives_all vs))) (λ vs. identity (λ i. give (array i (array_content vs)))) over)
 
--- S28: an array literal of which nobody takes the value
+-- an array literal of which nobody takes the value
 pub array_wasted : (st : Names) (n m i : Note) (es ps : Forest) → Needed st es ps → SameEffects st (node Kind.ArrayExpression n (node Kind.Elements m es nothing) nothing) (kind_of ps) (below_of i ps) ps ps
 array_wasted st n m i es ps x = record {
   new_calm = calm_kind ps;
@@ -169,7 +169,7 @@ one_part : {st : Names} {env : Env} (E : Enter) (k : Kind) (n : Note) (a : Fores
 unfolding eval
 one_part E k n a f h = wastes_part h
 
--- S3, S28: a comparison with a literal, negated, of which nobody takes the value
+-- a comparison with a literal, negated, of which nobody takes the value
 
 -- with a primitive of the host nothing is said of it
 abbrev compares_if : Bool → Value → Value → M
@@ -203,7 +203,7 @@ comparison_wasted st k a v n m i j = record {
   drops_all = λ E env ls. stands E env i ls (node k i a nothing) tt;
 }
 
--- S29: a call of a function that does nothing; the arguments that aren't silent stay
+-- a call of a function that does nothing; the arguments that aren't silent stay
 
 over_soon : (s : State) → EndsSoon s (over undef s)
 unfolding over done
