@@ -30,7 +30,7 @@ pub(crate) enum Question {
     Fits,
 }
 
-const QUESTIONS: [(&str, Question); 11] = [
+const QUESTIONS: [(&str, Question); 12] = [
     ("size", Question::Size),
     ("copy", Question::Copied),
     ("clone", Question::Cloned),
