@@ -1,10 +1,13 @@
 // Small modules that the headline is tried on. Each is a contract, so that the check computes it.
-ghost use Rattle.std.specs.Prelude.{◌≡◌};
+ghost use Rattle.std.specs.Prelude.{◌≡◌, [], ◌∷◌};
+ghost use Rattle.js_syntax.specs.declared.kind.VariableKind.TheVariants as variable;
 ghost use Rattle.js_syntax.specs.Node.{bare};
 ghost use Rattle.js_meaning.specs.Kept.{Kept, KeptBack};
+ghost use Rattle.form_rules.specs.Samples.{a_module, a_script, a, binds, one, does, declares, function_a, block};
 ghost use Rattle.min_passes.specs.Passes.{shaken};
 ghost use Rattle.headline.specs.Headline.{Headline};
 ghost use Rattle.headline_text.specs.Written.{written};
+ghost use Rattle.steps_allowed.specs.Rows.{call_of_eval};
 ghost use Rattle.test_headline.specs.Rows as row;
 
 /// `export let g = 1;` doesn't become empty: at its end the host sees an export less.
@@ -30,6 +33,15 @@ pub fn called_functions_stay()
 pub fn endless_loops_stay()
     ensures back { KeptBack row.never_ends row.empty → ⊥ }
     ensures refused { Headline row.never_ends row.empty → ⊥ }
+{}
+
+/// Nor does what other code may use go: a variable beside a direct call of `eval`, a function of a script, and one in a
+/// block of sloppy code. No run tells, since the call is of a function of the host, and scripts have no runs;
+/// the list of changes does.
+pub fn what_others_may_use_stays()
+    ensures evaluated { Headline (a_module (declares variable.Let (binds a) one ∷ does call_of_eval ∷ [])) (a_module (does call_of_eval ∷ [])) → ⊥ }
+    ensures global { Headline (a_script (function_a [] [] ∷ [])) (a_script []) → ⊥ }
+    ensures sloppy { Headline (a_script (block (function_a [] [] ∷ []) ∷ [])) (a_script (block [] ∷ [])) → ⊥ }
 {}
 
 /// `1;` doesn't stay.

@@ -1,0 +1,5 @@
+use Rattle.steps_allowed.proofs.Changing.{evaluated_stays, global_stays, sloppy_stays}
+use Rattle.test_headline.proofs.rows.what_others_may_use_stays.Goals as goal
+
+pub returns : goal.returns
+returns c = record { evaluated = λ h. evaluated_stays h.steps; global = λ h. global_stays h.steps; sloppy = λ h. sloppy_stays h.steps }
