@@ -13,6 +13,8 @@ LIST_KINDS = ['hole'] + LISTS
 KIND_USES = 'use Rattle.js_syntax.specs.declared.node_kind.NodeKind.{NodeKind as Kind}\nuse Rattle.js_syntax.specs.declared.node_kind.NodeKind.TheVariants.{%s}\n' % ', '.join('%s as %s' % (camel(k), k) for k in KINDS + LIST_KINDS)
 
 
+KINDS_OF_ALL = KIND_USES + 'use Rattle.js_syntax.specs.declared.kind.FunctionKind.TheVariants as function_kind\nuse Rattle.js_syntax.specs.declared.kind.ClassKind.TheVariants as class_kind\n'
+
 def firsts(): return [r for r in written() if r.name != 'a_parenthesized_target']
 def first(r): return 'if %s then Some %s else Some %s' % TWO[r.kind] if r.kind in TWO else 'Some ' + r.name
 
@@ -20,8 +22,7 @@ def first(r): return 'if %s then Some %s else Some %s' % TWO[r.kind] if r.kind i
 def rows_spec():
     out = '-- Which rows of the table may make a kind.\n-- %s\n' % GENERATED
     out += 'use Rattle.std.specs.Prelude.{ℕ, List, [], ◌∷◌, Option, Some, None, if◌then◌else◌}\n'
-    out += KIND_USES
-    out += 'use Rattle.js_syntax.specs.declared.kind.FunctionKind.TheVariants as function_kind\nuse Rattle.js_syntax.specs.declared.kind.ClassKind.TheVariants as class_kind\n'
+    out += KINDS_OF_ALL
     out += 'use Rattle.js_syntax.specs.declared.value.LiteralValue.TheVariants as literal_value\n'
     out += 'use Rattle.js_syntax.specs.Table.{Row, %s}\n' % ', '.join(r.name for r in ROWS)
     out += 'use Rattle.json_shape.specs.Shape.{is_in, is_plain, is_method}\n\n'
@@ -49,8 +50,7 @@ def made(r, chosen='tt'): return 'record { values = %s; chosen = %s; makes = ref
 def rows_proof():
     out = '-- The rows that may make a kind make it, and no other does.\n-- %s\n' % GENERATED
     out += 'use Rattle.std.proofs.Common.{◌≡◌, ◌⊎◌, inl, inr, Bool, true, false, Option, Some, None, if◌then◌else◌, slice_index_or, refl, ap}\n'
-    out += KIND_USES
-    out += 'use Rattle.js_syntax.specs.declared.kind.FunctionKind.TheVariants as function_kind\nuse Rattle.js_syntax.specs.declared.kind.ClassKind.TheVariants as class_kind\n'
+    out += KINDS_OF_ALL
     out += 'use Rattle.js_syntax.specs.declared.value.LiteralValue.{LiteralValue as Value}\nuse Rattle.js_syntax.specs.declared.value.LiteralValue.TheVariants as literal_value\n'
     out += 'use Rattle.js_syntax.specs.Table.{Row, %s, fields_of}\n' % ', '.join(r.name for r in ROWS)
     out += 'use Rattle.json_shape.specs.Shape.{Values, kind_in, is_in, is_plain, is_method, is_text, IsChosen, places}\n'
