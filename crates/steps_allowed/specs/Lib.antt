@@ -1,6 +1,16 @@
 pub mod Silent
 pub mod Exposure
-pub mod Removes
+pub mod Places
+pub mod Free
+pub mod Branches
+pub mod EmptyStatement
+pub mod UnusedFunction
+pub mod UnusedDeclarator
+pub mod UnusedDeclaration
+pub mod SilentStatement
+pub mod KnownConditional
+pub mod KnownIf
+pub mod Edits
 pub mod Arranged
 pub mod Rows
 pub mod Calls

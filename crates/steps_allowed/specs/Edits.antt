@@ -1,0 +1,40 @@
+-- What a dead code remover may do to a program: one edit at one place, allowed on the tree as it is then. Each case has a file
+-- of its name, and a line here.
+use Rattle.std.specs.Prelude.{◌≡◌, Some}
+use Rattle.js_syntax.specs.Node.{Forest, Tree, bare}
+use Rattle.scope_laws.specs.Place.{Around, plug}
+use Rattle.scope_laws.specs.Lists.{without}
+use Rattle.steps_allowed.specs.EmptyStatement.{EmptyStatement}
+use Rattle.steps_allowed.specs.UnusedFunction.{UnusedFunction}
+use Rattle.steps_allowed.specs.UnusedDeclarator.{UnusedDeclarator}
+use Rattle.steps_allowed.specs.UnusedDeclaration.{UnusedDeclaration}
+use Rattle.steps_allowed.specs.SilentStatement.{SilentStatementEmpties}
+use Rattle.steps_allowed.specs.KnownConditional.{KnownConditional}
+use Rattle.steps_allowed.specs.KnownIf.{KnownIf}
+
+-- which items may leave the list in which they stand
+pub data Leaves (a : Around) (x : Tree) : Type 0 where
+  empty_statement : EmptyStatement a x → Leaves a x
+  unused_function : UnusedFunction a x → Leaves a x
+  unused_declarator : UnusedDeclarator a x → Leaves a x
+  unused_declaration : UnusedDeclaration a x → Leaves a x
+
+-- which nodes may become others in their places
+pub data Becomes (a : Around) (x y : Tree) : Type 0 where
+  silent_statement : SilentStatementEmpties a x y → Becomes a x y
+  known_conditional : KnownConditional x y → Becomes a x y
+  known_if : KnownIf x y → Becomes a x y
+
+pub data Edit : (t u : Forest) → Type 0 where
+  leaves : (a : Around) (x : Tree) → Leaves a x → Edit (plug a (Some x)) (without a)
+  becomes : (a : Around) (x y : Tree) → Becomes a x y → Edit (plug a (Some x)) (plug a (Some y))
+
+-- edits of a tree one after the other
+pub data TreeEdits : (t u : Forest) → Type 0 where
+  no_tree_edit : (t : Forest) → TreeEdits t t
+  one_tree_edit : (t u v : Forest) → Edit t u → TreeEdits u v → TreeEdits t v
+
+-- Edits of a program one after the other: trees that are the same but for spans and ids are one program.
+pub data Edits : (t u : Forest) → Type 0 where
+  no_edit : (t u : Forest) → bare t ≡ bare u → Edits t u
+  one_edit : (t v w u : Forest) → bare t ≡ bare v → Edit v w → Edits w u → Edits t u

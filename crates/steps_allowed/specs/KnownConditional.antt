@@ -1,0 +1,18 @@
+-- A conditional whose condition is a literal becomes the branch that is taken (13.14).
+use Rattle.std.specs.Prelude.{◌≡◌, true, false}
+use Rattle.js_syntax.specs.declared.node_kind.NodeKind.{NodeKind as Kind}
+use Rattle.js_syntax.specs.declared.node_kind.NodeKind.TheVariants.{ConditionalExpression as conditional_expression, Literal as literal}
+use Rattle.js_syntax.specs.declared.value.LiteralValue.{LiteralValue}
+use Rattle.js_syntax.specs.Node.{Forest, Tree, Note, nothing, node}
+use Rattle.js_meaning.specs.Value.{literal_value}
+use Rattle.js_meaning.specs.Operator.{truthy}
+use Rattle.steps_allowed.specs.Branches.{is_blunt}
+
+abbrev pub a_conditional : (n m : Note) → LiteralValue → (branches : Forest) → Tree
+a_conditional n m v branches = record { kind = conditional_expression; note = n; below = node (literal v) m nothing branches }
+
+pub data KnownConditional : (x y : Tree) → Type 0 where
+  consequent_is_taken : (v : LiteralValue) (n m i j : Note) (k l : Kind) (b c : Forest) → truthy (literal_value v) ≡ true → is_blunt k ≡ true
+      → KnownConditional (a_conditional n m v (node k i b (node l j c nothing))) (record { kind = k; note = i; below = b })
+  alternate_is_taken : (v : LiteralValue) (n m i j : Note) (k l : Kind) (b c : Forest) → truthy (literal_value v) ≡ false → is_blunt l ≡ true
+      → KnownConditional (a_conditional n m v (node k i b (node l j c nothing))) (record { kind = l; note = j; below = c })
