@@ -8,7 +8,7 @@ use Rattle.min_pass.specs.Around.{outermost}
 use Rattle.min_pass.specs.Pass.{Names, swept}
 use Rattle.steps_allowed.specs.Arranged.{is_nothing, is_single, is_field, is_leaf, begins_with_leaf, is_declarator, are_declarators, has_declarators, is_arranged_at, is_arranged}
 use Rattle.steps_fit.specs.Enclosed.{is_binding, is_var, inherits, passes, closed, is_name, begins_with_name, none, is_enclosed_at, is_enclosed}
-use Rattle.steps_pass.specs.Kept.{is_program}
+use Rattle.steps_owed.specs.Kept.{is_program}
 
 nothing_bare : (t : Forest) → is_nothing (bare t) ≡ is_nothing t
 nothing_bare nothing = refl

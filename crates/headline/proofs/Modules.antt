@@ -7,7 +7,7 @@ use Rattle.js_syntax.specs.Hint.{has, is_private}
 use Rattle.js_syntax.specs.Node.{Forest, Note, nothing, node, absent}
 use Rattle.js_syntax.specs.Table.{Row, a_program, fields_of, type_of, stands}
 use Rattle.json_shape.specs.Shape.{Values, kind_in, first_of, body, these, Stand, Fits, places}
-use Rattle.steps_pass.specs.Kept.{is_program}
+use Rattle.steps_owed.specs.Kept.{is_program}
 
 pub record IsListed (t : Forest) (source : SourceType) (n : Note) : Type 0 where
   pub list_note : Note

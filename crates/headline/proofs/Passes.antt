@@ -12,7 +12,7 @@ use Rattle.min_passes.specs.Passes.{names_in, next, has_next, settled, most_pass
 use Rattle.steps_allowed.specs.Arranged.{is_arranged}
 use Rattle.steps_allowed.specs.Removes.{RemovesMany, no_change, one_change, Removals, no_removal}
 use Rattle.steps_allowed.proofs.Composing.{removals_follow, many_are_removals}
-use Rattle.steps_pass.specs.Kept.{is_program}
+use Rattle.steps_owed.specs.Kept.{is_program}
 use Rattle.steps_fit.specs.Enclosed.{is_enclosed}
 use Rattle.steps_pass.proofs.Losing.{enclosed_stays}
 use Rattle.steps_pass.proofs.Changes.{change_loses}

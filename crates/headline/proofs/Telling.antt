@@ -14,7 +14,7 @@ use Rattle.scope_laws.proofs.Bindings.{none_is_some, same_value}
 use Rattle.scope_laws.proofs.Numbers.{numbered as numbered_at, symbols_at}
 use Rattle.scope_laws.proofs.Exact.{declaration, number, number_is, marked_bindings}
 use Rattle.js_scoping.specs.Build.{found_of, table_of, numbered}
-use Rattle.steps_pass.specs.Kept.{TellsScopes}
+use Rattle.steps_owed.specs.Kept.{TellsScopes}
 
 flags_told : (all : List Binding) (next first : ℕ) (ss : List ScopeSite) (n : ℕ) (x : ScopeSite) → slice_get (scopes_with first ss) n ≡ Some x → (slice_index_or (scopes_from all next ss) n no_scope).flags ≡ x.flags
 flags_told all next first [] n x e = absurd (none_is_some e)

@@ -20,13 +20,14 @@ use Rattle.scope_laws.proofs.Around.{stands_there}
 use Rattle.min_passes.specs.Unused.{names_of}
 use Rattle.steps_names.proofs.Sites.{binding_second}
 use Rattle.steps_allowed.specs.Removes.{a_node, asked_at, IsItem, IsDeclarator, has_other, IsFree, Free, FreeDeclarator, SilentDeclarator, SilentDeclaration, one_declarator, a_statement, a_function, a_declarator, a_declaration, Removes, silent_statement_empties, unused_function_leaves, unused_declarator_leaves, unused_declaration_leaves, RemovesMany, no_change, one_change}
-use Rattle.steps_pass.specs.Kept.{IsKept, is_program, TellsScopes}
+use Rattle.steps_owed.specs.Kept.{IsKept, is_program, TellsScopes}
 use Rattle.steps_pass.specs.Exposed.{IsUnexposed}
 use Rattle.steps_pass.proofs.Exposed.{program_unexposed}
 use Rattle.steps_pass.proofs.Unexposed.{first_hidden}
 use Rattle.steps_pass.proofs.Standing.{function_own, declarator_own, declaration_own}
 use Rattle.steps_fit.specs.Enclosed.{is_enclosed}
-use Rattle.steps_pass.specs.Cases.{IsUnreferred, exports_unmarked}
+use Rattle.steps_owed.specs.Unseen.{IsUnreferred}
+use Rattle.steps_pass.specs.Cases.{exports_unmarked}
 use Rattle.scope_laws.specs.Exact.{Exact}
 use Rattle.steps_pass.proofs.Names.{unlisted_unreferred}
 use Rattle.steps_pass.proofs.Marks.{variable_unlisted, function_unlisted, exports_unmarks}

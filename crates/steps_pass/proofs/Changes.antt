@@ -18,8 +18,8 @@ use Rattle.scope_laws.proofs.Around.{none_there}
 use Rattle.scope_rules.specs.Context.{outermost}
 use Rattle.steps_allowed.specs.Removes.{a_node, asked_at, a_function, a_declarator, a_declaration, one_declarator, Removes, empty_statement_leaves, silent_statement_empties, unused_function_leaves, unused_declarator_leaves, unused_declaration_leaves, RemovesMany, no_change, one_change}
 use Rattle.steps_fit.specs.Enclosed.{is_enclosed}
-use Rattle.steps_pass.specs.Cases.{IsUnseen}
-use Rattle.steps_pass.specs.Kept.{is_program, IsKept}
+use Rattle.steps_owed.specs.Unseen.{IsUnseen}
+use Rattle.steps_owed.specs.Kept.{is_program, IsKept}
 use Rattle.steps_pass.proofs.Losing.{Loses, without_loses, emptied_loses, program_stays, enclosed_stays}
 use Rattle.steps_pass.proofs.Unseen.{unseen_statement, unseen_function, unseen_declarator, unseen_declaration}
 use Rattle.steps_pass.proofs.Leaving.{kept_without, kept_emptied}

@@ -14,7 +14,7 @@ use Rattle.steps_names.specs.Standing.{is_export as is_export_node, exported_sit
 use Rattle.steps_names.proofs.Sites.{InThree, in_first, in_second, in_third, binding_in, binding_second, binding_third}
 use Rattle.steps_fit.specs.Enclosed.{is_binding, is_enclosed_at, is_enclosed}
 use Rattle.steps_pass.specs.Cases.{name_unmarked, first_unmarked, declared_unmarked, exports_unmarked}
-use Rattle.steps_pass.specs.Kept.{IsKept, is_program}
+use Rattle.steps_owed.specs.Kept.{IsKept, is_program}
 use Rattle.steps_pass.proofs.Inside.{named}
 use Rattle.steps_pass.proofs.Parts.{Part, named_first, further, unmarked_of, function_parts, class_parts}
 

@@ -19,8 +19,8 @@ use Rattle.scope_laws.proofs.Declared.{among_left, among_right, among_cases, shi
 use Rattle.scope_laws.proofs.Around.{references_append, around_moves, node_for_node}
 use Rattle.scope_laws.proofs.Kept.{references_moved, references_plain, three, stays_exact}
 use Rattle.scope_laws.proofs.Lists.{exact_without}
-use Rattle.steps_pass.specs.Cases.{IsUnseen}
-use Rattle.steps_pass.specs.Kept.{IsKept}
+use Rattle.steps_owed.specs.Unseen.{IsUnseen}
+use Rattle.steps_owed.specs.Kept.{IsKept}
 use Rattle.steps_pass.proofs.Unlisting.{unlisted, unlists, shortens_more}
 
 -- ---- a place in a list isn't asked by the nodes around

@@ -10,7 +10,7 @@ use Rattle.steps_allowed.specs.Arranged.{is_nothing}
 use Rattle.steps_allowed.specs.Removes.{a_node}
 use Rattle.steps_fit.specs.Enclosed.{is_binding, is_var, inherits, passes, closed, begins_with_name, none, is_enclosed_at, is_enclosed}
 use Rattle.steps_pass.specs.Cases.{name_unmarked, first_unmarked, declared_unmarked, exports_unmarked}
-use Rattle.steps_pass.specs.Kept.{is_program}
+use Rattle.steps_owed.specs.Kept.{is_program}
 use Rattle.steps_pass.proofs.Inside.{closed_name, closed_var, closed_below, closed_rest}
 use Rattle.steps_pass.proofs.Parts.{name_leaf}
 use Rattle.steps_pass.proofs.Marks.{both_ways, either_way}

@@ -5,8 +5,8 @@ use Rattle.scope_rules.specs.Site.{BindingSite, ReferenceSite, sites_of, binding
 use Rattle.scope_rules.specs.Table.{Symbol, Reference, Scoping}
 use Rattle.scope_laws.specs.Exact.{Among, Names, IsNamed}
 use Rattle.scope_laws.proofs.Bindings.{same_value}
-use Rattle.steps_pass.specs.Cases.{IsUnreferred}
-use Rattle.steps_pass.specs.Kept.{IsKept}
+use Rattle.steps_owed.specs.Unseen.{IsUnreferred}
+use Rattle.steps_owed.specs.Kept.{IsKept}
 
 -- the table lists nothing for the symbol with this number
 pub record IsUnlisted (s : Scoping) (number : ℕ) : Type 0 where

@@ -18,7 +18,7 @@ use Rattle.steps_allowed.specs.Arranged.{is_declarator, are_declarators, has_dec
 use Rattle.steps_allowed.specs.Removes.{a_node, has_node, a_statement, a_function, a_declarator, a_declaration, Removes, empty_statement_leaves, RemovesMany, no_change, one_change}
 use Rattle.steps_allowed.proofs.Composing.{many_compose}
 use Rattle.steps_fit.specs.Enclosed.{is_enclosed}
-use Rattle.steps_pass.specs.Kept.{is_program, TellsScopes}
+use Rattle.steps_owed.specs.Kept.{is_program, TellsScopes}
 use Rattle.steps_pass.proofs.Cases.{Holds, holds_after, holds_after_many, holds_at_first, function_may_leave, statement_may_empty, declarator_may_leave, declaration_may_leave}
 use Rattle.steps_pass.proofs.Paths.{Path, top, behind, behind_none, under, fill, around, plugged, row_at, with_at, asked_along, row_there, with_there, others, other_there, leaves_there, turns_there, once}
 use Rattle.js_syntax.proofs.Truth.{not_true, not_false, first_of_neither, second_of_neither, or_false}

@@ -29,7 +29,7 @@ use Rattle.scope_laws.proofs.Declared.{among_left, among_right}
 use Rattle.min_passes.specs.Unused.{has_bits, scope_has, is_sloppy_block, is_global, is_script, names_of}
 use Rattle.steps_allowed.specs.Exposure.{Exposure, in_code, in_block, declaring, is_script_source, at_function_name, at_class_name, exposed_inside, exposed_of, function_is_exposed, evaluates_somewhere}
 use Rattle.steps_pass.specs.Exposed.{unexposed_at, unexposed, IsUnexposed}
-use Rattle.steps_pass.specs.Kept.{is_program, TellsScopes}
+use Rattle.steps_owed.specs.Kept.{is_program, TellsScopes}
 use Rattle.steps_pass.proofs.Marks.{function_told, variable_told}
 use Rattle.steps_pass.proofs.Silent.{AllDeclared, marked_as}
 use Rattle.js_syntax.proofs.Truth.{first_of_neither, second_of_neither, neither, not_true}

@@ -6,7 +6,7 @@ use Rattle.scope_rules.specs.Table.{Symbol, Scoping, is_number}
 use Rattle.scope_laws.specs.Exact.{Among, NoneTwice}
 use Rattle.scope_laws.specs.Kept.{Unlists}
 use Rattle.scope_laws.proofs.Bindings.{none_is_some, same_value}
-use Rattle.steps_pass.specs.Kept.{Shortens}
+use Rattle.steps_owed.specs.Kept.{Shortens}
 
 -- ---- lists
 

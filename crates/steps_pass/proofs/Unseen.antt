@@ -19,7 +19,7 @@ use Rattle.steps_names.proofs.Sites.{InThree, in_first, in_second, in_third, bin
 use Rattle.steps_allowed.specs.Silent.{IsFound, IsSilentNode, IsSilent, HoldsThere}
 use Rattle.steps_allowed.specs.Removes.{a_node, At, IsFree, Free, FreeDeclarator, SilentStatement, SilentDeclarator, SilentDeclaration, one_declarator, a_statement, a_function, a_declarator, a_declaration}
 use Rattle.steps_fit.specs.Enclosed.{is_binding, is_enclosed_at, is_enclosed}
-use Rattle.steps_pass.specs.Cases.{IsUnreferred, IsUnseen}
+use Rattle.steps_owed.specs.Unseen.{IsUnreferred, IsUnseen}
 use Rattle.steps_pass.proofs.Inside.{named, In}
 use Rattle.steps_pass.proofs.Parts.{nothing_there, Part, named_first, further, function_parts, function_behind}
 use Rattle.steps_pass.proofs.Exported.{enclosed_here, enclosed_below, enclosed_rest}

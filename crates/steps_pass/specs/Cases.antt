@@ -11,14 +11,6 @@ use Rattle.scope_laws.specs.Keeping.{IsWithin}
 use Rattle.min_passes.specs.Unused.{is_export, has_own_names}
 use Rattle.steps_fit.specs.Enclosed.{is_binding}
 
--- no reference has the binding of the declaration
-abbrev pub IsUnreferred : Forest → BindingSite → Type 0
-IsUnreferred t b = (r : ReferenceSite) → Among r (references_among (sites_of t)) → binding_of (bindings_among (sites_of t)) r ≡ Some (declared_by b) → ⊥
-
--- each name that is declared there lies within a scope that stands there, or is unreferred
-abbrev pub IsUnseen : Around → Option Tree → Type 0
-IsUnseen a x = (b : BindingSite) → Among b (bindings_among (sites_there a x)) → IsWithin a x b ⊎ IsUnreferred (plug a x) b
-
 -- ---- names without marks
 
 abbrev pub name_unmarked : List Bool → Kind → Note → Bool

@@ -1,4 +1,3 @@
-pub mod Kept
 pub mod Cases
 pub mod Exposed
 pub mod Samples

@@ -13,10 +13,10 @@ ghost use Rattle.scope_laws.specs.Lists.{is_listed, without};
 ghost use Rattle.min_passes.specs.Unused.{names_of};
 ghost use Rattle.steps_allowed.specs.Arranged.{is_arranged};
 ghost use Rattle.steps_allowed.specs.Removes.{Removes, RemovesMany};
-ghost use Rattle.steps_pass.specs.Kept.{IsKept, TellsScopes, is_program};
+ghost use Rattle.steps_owed.specs.Kept.{IsKept, TellsScopes, is_program};
 ghost use Rattle.steps_fit.specs.Enclosed.{is_enclosed};
 ghost use Rattle.steps_pass.specs.Samples.{all_enclosed, misplaced_table, misplaced_marked, without_number};
-ghost use Rattle.steps_pass.specs.Cases.{IsUnreferred, IsUnseen};
+ghost use Rattle.steps_owed.specs.Unseen.{IsUnreferred, IsUnseen};
 
 /// What declares nothing that is seen may leave a list: the table stays exact, with shorter lists.
 pub fn unseen_items_may_leave()

@@ -1,0 +1,4 @@
+//! What does each edit of a program owe, and what follows from it?
+//!
+//! The code is empty: each function's contract is a law.
+#![tactic(auto)]
