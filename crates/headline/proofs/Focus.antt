@@ -15,7 +15,7 @@ use Rattle.scope_rules.specs.Site.{opens_one, scope_count}
 use Rattle.scope_laws.specs.Place.{Around as Place, first, behind, behind_none, under, placed, plug}
 use Rattle.scope_laws.specs.Lists.{without}
 use Rattle.steps_allowed.specs.Silent.{HoldsThere}
-use Rattle.steps_allowed.specs.Removes.{asked_at, has_node, has_other}
+use Rattle.steps_allowed.specs.Places.{asked_at, has_node, has_other}
 use Rattle.steps_names.specs.Placed.{is_well_placed}
 use Rattle.headline.proofs.Here.{Good, good_below, Here, here_program, here_below, here_behind, here_absent}
 use Rattle.steps_names.proofs.Unused.{entered_row}

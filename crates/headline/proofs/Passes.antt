@@ -10,8 +10,8 @@ use Rattle.min_pass.specs.Around.{outermost}
 use Rattle.min_pass.specs.Pass.{no_names, cleared}
 use Rattle.min_passes.specs.Passes.{names_in, next, has_next, settled, most_passes, shaken}
 use Rattle.steps_allowed.specs.Arranged.{is_arranged}
-use Rattle.steps_allowed.specs.Removes.{RemovesMany, no_change, one_change, Removals, no_removal}
-use Rattle.steps_allowed.proofs.Composing.{removals_follow, many_are_removals}
+use Rattle.steps_allowed.specs.Edits.{TreeEdits, no_tree_edit, one_tree_edit, Edits, no_edit}
+use Rattle.steps_allowed.proofs.Composing.{edits_follow, tree_edits_are_edits}
 use Rattle.steps_owed.specs.Kept.{is_program}
 use Rattle.steps_fit.specs.Enclosed.{is_enclosed}
 use Rattle.steps_pass.proofs.Losing.{enclosed_stays}
@@ -38,19 +38,19 @@ numbered_ready t r = record {
   enclosed = enclosed_as t (numbered t) (numbered_same t) r.enclosed;
 }
 
-many_enclosed : {t u : Forest} → RemovesMany t u → is_enclosed t ≡ true → is_enclosed u ≡ true
-many_enclosed (no_change t) h = h
-many_enclosed (one_change t v u one more) h = many_enclosed more (enclosed_stays false t v (change_loses t v one) h)
+many_enclosed : {t u : Forest} → TreeEdits t u → is_enclosed t ≡ true → is_enclosed u ≡ true
+many_enclosed (no_tree_edit t) h = h
+many_enclosed (one_tree_edit t v u one more) h = many_enclosed more (enclosed_stays false t v (change_loses t v one) h)
 
 -- ---- one pass
 
-next_by_changes : (t : Forest) → IsReady t → RemovesMany (numbered t) (next t)
+next_by_changes : (t : Forest) → IsReady t → TreeEdits (numbered t) (next t)
 next_by_changes t r =
     let ready = numbered_ready t r in
     pass_comes (table_of t) (numbered t) ready.program ready.arranged ready.enclosed (exact t) (tells_scopes t)
 
-next_comes : (t : Forest) → IsReady t → Removals t (next t)
-next_comes t r = removals_follow (no_removal t (numbered t) (sym (numbered_same t))) (many_are_removals (next_by_changes t r))
+next_comes : (t : Forest) → IsReady t → Edits t (next t)
+next_comes t r = edits_follow (no_edit t (numbered t) (sym (numbered_same t))) (tree_edits_are_edits (next_by_changes t r))
 
 next_ready : (t : Forest) → IsReady t → IsReady (next t)
 next_ready t r =
@@ -63,18 +63,18 @@ next_ready t r =
 
 -- ---- one after the other
 
-settled_if : (most : ℕ) (t : Forest) (b : Bool) → Removals t (settled most (next t)) → Removals t (if b then settled most (next t) else t)
+settled_if : (most : ℕ) (t : Forest) (b : Bool) → Edits t (settled most (next t)) → Edits t (if b then settled most (next t) else t)
 settled_if most t true comes = comes
-settled_if most t false comes = no_removal t t refl
+settled_if most t false comes = no_edit t t refl
 
-settled_comes : (most : ℕ) (t : Forest) → IsReady t → Removals t (settled most t)
-settled_comes zero t r = no_removal t t refl
-settled_comes (suc most) t r = settled_if most t (has_next t) (removals_follow (next_comes t r) (settled_comes most (next t) (next_ready t r)))
+settled_comes : (most : ℕ) (t : Forest) → IsReady t → Edits t (settled most t)
+settled_comes zero t r = no_edit t t refl
+settled_comes (suc most) t r = settled_if most t (has_next t) (edits_follow (next_comes t r) (settled_comes most (next t) (next_ready t r)))
 
-pub shaken_comes : (t : Forest) → IsReady t → Removals t (shaken t)
+pub shaken_comes : (t : Forest) → IsReady t → Edits t (shaken t)
 shaken_comes t r =
     let clears = clearing_comes t r.arranged in
-    removals_follow (many_are_removals clears) (settled_comes (most_passes (cleared t)) (cleared t) (record {
+    edits_follow (tree_edits_are_edits clears) (settled_comes (most_passes (cleared t)) (cleared t) (record {
       program = program_left no_names false t r.program;
       arranged = arranged_left no_names (outermost false) t r.arranged;
       enclosed = many_enclosed clears r.enclosed;

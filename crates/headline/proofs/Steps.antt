@@ -15,8 +15,14 @@ use Rattle.steps.specs.Steps as steps
 use Rattle.steps.specs.Steps.{Row, items, declarators, Around, is_used, Initialiser, Step}
 use Rattle.steps_fit.specs.Clear.{Apart}
 use Rattle.steps_allowed.specs.Arranged.{is_leaf, is_field, is_declarator, are_declarators}
-use Rattle.steps_allowed.specs.Removes as removes
-use Rattle.steps_allowed.specs.Removes.{a_node, a_statement, a_function, a_declarator, one_declarator, a_declaration, At, IsFree, Free, FreeDeclarator, SilentStatement, SilentDeclarator, SilentDeclaration, Removes, IsItem, IsDeclarator, has_other}
+use Rattle.steps_allowed.specs.Edits as removes
+use Rattle.steps_allowed.specs.Places.{a_node, At, IsItem, IsDeclarator, has_other}
+use Rattle.steps_allowed.specs.Free.{IsFree, Free, FreeDeclarator}
+use Rattle.steps_allowed.specs.SilentStatement.{a_statement, SilentStatement}
+use Rattle.steps_allowed.specs.UnusedFunction.{a_function}
+use Rattle.steps_allowed.specs.UnusedDeclarator.{a_declarator, SilentDeclarator}
+use Rattle.steps_allowed.specs.UnusedDeclaration.{one_declarator, a_declaration, SilentDeclaration}
+use Rattle.steps_allowed.specs.Edits.{Edit}
 use Rattle.scope_rules.specs.Context.{inside, in_variables, outermost as outermost_context}
 use Rattle.scope_rules.specs.Site.{opens_one, scope_count}
 use Rattle.scope_rules.specs.Binding.{named_in}
@@ -148,7 +154,7 @@ module _ (a : Place) where
       (place + opens_one Kind.Declarators ds + opens_one Kind.VariableDeclarator inner + scope_count (node (Kind.BindingName x) j nothing nothing)) value (λ i. variables_known (declarations_of t) f.around.names c how f.here.known.0)
       (field_behind (Kind.BindingName x) value (and_parts (is_declarator Kind.VariableDeclarator inner) true (arranged_here (Kind.VariableDeclaration how) n all f.rest f.here.good)).0) (plain_value_here Kind.VariableDeclarator l inner nothing in_list) f.there.0.1))
 
-pub removal_steps : (t u : Forest) → Removes t u → is_well_placed t ≡ true → Good t → Step steps.outermost t u
+pub removal_steps : (t u : Forest) → Edit t u → is_well_placed t ≡ true → Good t → Step steps.outermost t u
 removal_steps t u (removes.empty_statement_leaves a n item) w good = empty_step a n w good item
 removal_steps t u (removes.silent_statement_empties a n m l k inner silent) w good = statement_step a n m l k inner w good silent
 removal_steps t u (removes.unused_function_leaves a pure n m x rest item own free) w good = function_step a pure n m x rest w good item free

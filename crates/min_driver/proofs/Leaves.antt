@@ -6,7 +6,7 @@ use Rattle.js_tree.specs.Count.{node_count, levels}
 use Rattle.form_rules.specs.Form.{IsWellFormed}
 use Rattle.js_scoping.specs.Build.{numbered}
 use Rattle.scope_rules.specs.Table.{Scoping}
-use Rattle.steps_allowed.specs.Removes.{Removals, no_removal}
+use Rattle.steps_allowed.specs.Edits.{Edits, no_edit}
 use Rattle.json_shape.specs.Shape.{Fits}
 use Rattle.headline.proofs.Passes.{numbered_same}
 use Rattle.headline.proofs.Headline.{numbered_comes, kept_by, back_by}
@@ -21,8 +21,8 @@ use Rattle.min_driver.specs.declared.options.CompressOptions.{CompressOptions}
 
 -- ---- by these options
 
-left_comes : (o : Option CompressOptions) (t : Forest) → IsWellFormed t → Fits root t → Removals t (numbered (left_of o t))
-left_comes None t form fits = no_removal t (numbered t) (sym (numbered_same t))
+left_comes : (o : Option CompressOptions) (t : Forest) → IsWellFormed t → Fits root t → Edits t (numbered (left_of o t))
+left_comes None t form fits = no_edit t (numbered t) (sym (numbered_same t))
 left_comes (Some options) t form fits = numbered_comes t fits form
 
 all_fits : (o : Option CompressOptions) (t : Forest) → Fits root t → Fits root (numbered (left_of o t))
@@ -41,7 +41,7 @@ no_more_levels (Some options) t = left_levels t
 
 pub is_left : (o : Option CompressOptions) (t new : Forest) (s : Scoping) → IsWithinLimits t → IsWellFormed t → Built new s (left_of o t) → IsCleanBy o s new → IsLeft o t new s
 is_left o t new s within form built clean =
-    let comes : Fits root t → Removals t new = λ fits. subst (Removals t) (sym built.marked) (left_comes o t form fits) in
+    let comes : Fits root t → Edits t new = λ fits. subst (Edits t) (sym built.marked) (left_comes o t form fits) in
     let nodes : node_count new ≤ node_count t = Prim.omega (arith, ap node_count built.marked, no_more_nodes o t) in
     let deep : levels new ≤ levels t = Prim.omega (arith, ap levels built.marked, no_more_levels o t) in
     record {

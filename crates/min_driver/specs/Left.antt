@@ -11,7 +11,7 @@ use Rattle.scope_laws.specs.Exact.{Exact}
 use Rattle.scope_match.specs.Matches.{Matches}
 use Rattle.scope_rules.specs.Binding.{resolved_references}
 use Rattle.scope_rules.specs.Table.{Scoping}
-use Rattle.headline.specs.Headline.{Removals, Kept, KeptBack, is_core_module}
+use Rattle.headline.specs.Headline.{Edits, Kept, KeptBack, is_core_module}
 use Rattle.min_driver.specs.Limit.{IsWithinLimits}
 use Rattle.min_driver.specs.Minify.{left_of, IsCleanBy}
 use Rattle.min_driver.specs.declared.options.CompressOptions.{CompressOptions}
@@ -22,7 +22,7 @@ pub record IsLeft (o : Option CompressOptions) (t new : Forest) (s : Scoping) : 
   pub scoping : s ≡ table_of (left_of o t)
   -- of a program that fits the table of node types: it came by changes that are allowed, keeps the runs of a core module, both
   -- ways, fits the table, and breaks no rule of form
-  pub steps : Fits root t → Removals t new
+  pub steps : Fits root t → Edits t new
   pub kept : Fits root t → is_core_module t ≡ true → Kept t new
   pub back : Fits root t → is_core_module t ≡ true → KeptBack t new
   pub fits : Fits root t → Fits root new

@@ -15,7 +15,7 @@ ghost use Rattle.min_passes.specs.Passes.{shaken, passes_of, IsClean};
 ghost use Rattle.scope_laws.specs.Exact.{Exact};
 ghost use Rattle.scope_rules.specs.Binding.{resolved_references};
 ghost use Rattle.scope_match.specs.Matches.{Matches};
-ghost use Rattle.headline.specs.Headline.{Removals, Kept, KeptBack, is_core_module};
+ghost use Rattle.headline.specs.Headline.{Edits, Kept, KeptBack, is_core_module};
 ghost use Rattle.json_shape.specs.Shape.{Fits};
 
 use crate::error::MinifyError;
@@ -168,7 +168,7 @@ impl Minifier {
         ensures left { IfOk result (λ _. forest_of program.new ≡ numbered (left_of self.options.compress (forest_of program.old))) }
         ensures iterations { IfOk result (λ r. r.iterations ≡ passes_by self.options.compress (forest_of program.old)) }
         ensures scoping { IfOk result (λ r. r.scoping ≡ table_of (left_of self.options.compress (forest_of program.old))) }
-        ensures steps { IfOk result (λ _. Fits root (forest_of program.old) → Removals (forest_of program.old) (forest_of program.new)) }
+        ensures steps { IfOk result (λ _. Fits root (forest_of program.old) → Edits (forest_of program.old) (forest_of program.new)) }
         ensures kept { IfOk result (λ _. Fits root (forest_of program.old) → is_core_module (forest_of program.old) ≡ true → Kept (forest_of program.old) (forest_of program.new)) }
         ensures back { IfOk result (λ _. Fits root (forest_of program.old) → is_core_module (forest_of program.old) ≡ true → KeptBack (forest_of program.old) (forest_of program.new)) }
         ensures fits { IfOk result (λ _. Fits root (forest_of program.old) → Fits root (forest_of program.new)) }

@@ -1,4 +1,2 @@
-pub mod Calling
-pub mod Changing
-pub mod Composing
-pub mod Tried
+mod Composing
+mod Tried

@@ -1,32 +1,18 @@
 // The laws. Each is a contract, so that the check proves it.
-ghost use Rattle.std.specs.Prelude.{◌≡◌, true, false};
-ghost use Rattle.js_syntax.specs.Node.{Forest, bare};
-ghost use Rattle.steps_allowed.specs.Calls.{root_calls};
-ghost use Rattle.steps_allowed.specs.Changing.{may_change_somewhere};
-ghost use Rattle.steps_allowed.specs.Removes.{Removes, RemovesMany, Removals};
+ghost use Rattle.js_syntax.specs.Node.{Forest};
+ghost use Rattle.steps_allowed.specs.Edits.{TreeEdits, Edits};
 
-/// Changes after changes are changes.
-pub fn changes_compose()
-    ensures { (t u v : Forest) → RemovesMany t u → RemovesMany u v → RemovesMany t v }
+/// Edits of a tree after others are edits of the tree.
+pub fn edits_of_a_tree_compose()
+    ensures { (t u v : Forest) → TreeEdits t u → TreeEdits u v → TreeEdits t v }
 {}
 
-/// Removals after removals are removals.
-pub fn removals_compose()
-    ensures { (t u v : Forest) → Removals t u → Removals u v → Removals t v }
+/// Edits after edits are edits.
+pub fn edits_compose()
+    ensures { (t u v : Forest) → Edits t u → Edits u v → Edits t v }
 {}
 
-/// Changes of a tree are removals of its program.
-pub fn changes_are_removals()
-    ensures { (t u : Forest) → RemovesMany t u → Removals t u }
-{}
-
-/// Removals take no call out of a program's own list, and put none in.
-pub fn calls_of_a_program_stay()
-    ensures { (t u : Forest) → Removals t u → root_calls t ≡ root_calls u }
-{}
-
-/// Where no change may be allowed, none is made: what is left is the program.
-pub fn where_nothing_may_change_nothing_does()
-    ensures change { (t u : Forest) → Removes t u → may_change_somewhere t ≡ true }
-    ensures removals { (t u : Forest) → may_change_somewhere t ≡ false → Removals t u → bare t ≡ bare u }
+/// Edits of a tree are edits of its program.
+pub fn edits_of_a_tree_are_edits()
+    ensures { (t u : Forest) → TreeEdits t u → Edits t u }
 {}

@@ -1,9 +1,8 @@
 //! What may a dead code remover do to a program, of any source type?
 //!
-//! `specs/Removes.antt` has one constructor for each case: one change at one place, whose conditions are read
-//! off the tree as it is then, by the bindings of its references. `Removals` are such changes one after the
-//! other, from program to program. They refuse something: a program's own list has as many calls after them as before
-//! (`calls_of_a_program_stay`), so none lead from a call to the empty module.
+//! One edit at one place, whose conditions are read off the tree as it is then, by the bindings of its references. Each
+//! case has a file of its name in `specs` and a line in one of two lists (`specs/Edits.antt`): an item leaves its list, or a
+//! node becomes another in its place. `Edits` are such edits one after the other, from program to program.
 //!
 //! The code is empty: each function's contract is a law.
 #![tactic(auto)]

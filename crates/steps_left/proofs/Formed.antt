@@ -8,7 +8,7 @@ use Rattle.json_shape.specs.Shape.{Fits}
 use Rattle.js_meaning_near.proofs.Alike.{Alike, alike_nothing, alike_absent, alike_node, same_alike}
 use Rattle.js_scoping.specs.Build.{numbered}
 use Rattle.min_passes.specs.Passes.{shaken}
-use Rattle.steps_allowed.specs.Removes.{Removals, no_removal, one_removal}
+use Rattle.steps_allowed.specs.Edits.{Edits, no_edit, one_edit}
 use Rattle.steps_keep_form.specs.Layout.{IsLaidOut}
 use Rattle.steps_keep_form.specs.Sheds.{Row, of_declarators, keeps_one, row_below, Around, entered, outermost, Sheds, ends, keeps_absent, keeps}
 use Rattle.steps_keep_form.proofs.Form.{stays_well_formed}
@@ -49,13 +49,13 @@ shed_formed t u sheds h = record { laid_out = stays_laid_out sheds h.laid_out; w
 renoted_formed : (t u : Forest) → bare t ≡ bare u → IsFormed t → IsFormed u
 renoted_formed t u e h = shed_formed t u (alike_sheds outermost (same_alike t u e)) h
 
-removals_formed : {t u : Forest} → Removals t u → IsFormed t → IsFormed u
-removals_formed (no_removal t u e) h = renoted_formed t u e h
-removals_formed (one_removal t v w u e one rest) h =
+removals_formed : {t u : Forest} → Edits t u → IsFormed t → IsFormed u
+removals_formed (no_edit t u e) h = renoted_formed t u e h
+removals_formed (one_edit t v w u e one rest) h =
     let g = renoted_formed t v e h in
     removals_formed rest (shed_formed v w (removal_sheds v w one g.laid_out) g)
 
-pub removals_well_formed : (t u : Forest) → Removals t u → Fits root t → IsWellFormed t → IsWellFormed u
+pub removals_well_formed : (t u : Forest) → Edits t u → Fits root t → IsWellFormed t → IsWellFormed u
 removals_well_formed t u steps fits form = (removals_formed steps (record { laid_out = fits_laid_out t fits; well_formed = form })).well_formed
 
 pub left_well_formed : (t : Forest) → Fits root t → IsWellFormed t → IsWellFormed (numbered (shaken t))

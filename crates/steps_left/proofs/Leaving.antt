@@ -19,7 +19,8 @@ use Rattle.scope_rules.specs.Binding.{named_in}
 use Rattle.scope_laws.specs.Exact.{Among}
 use Rattle.steps_names.specs.Standing.{layer_of}
 use Rattle.steps_names.proofs.Sites.{binding_left}
-use Rattle.steps_allowed.specs.Removes.{IsFree, one_declarator}
+use Rattle.steps_allowed.specs.Free.{IsFree}
+use Rattle.steps_allowed.specs.UnusedDeclaration.{one_declarator}
 use Rattle.steps_keep_form.specs.Sheds.{exports_none}
 use Rattle.steps_keep_form.specs.Layout.{binds_none}
 use Rattle.steps_keep_form.proofs.ShedNames.{none_declared}

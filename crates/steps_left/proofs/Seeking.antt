@@ -18,7 +18,7 @@ use Rattle.scope_laws.specs.Exact.{Among}
 use Rattle.steps_names.proofs.Lists.{either}
 use Rattle.steps_names.proofs.Sites.{binding_second, binding_third, reference_second, reference_third}
 use Rattle.steps_names.proofs.Unused.{declared}
-use Rattle.steps_allowed.specs.Removes.{IsFree}
+use Rattle.steps_allowed.specs.Free.{IsFree}
 use Rattle.steps_keep_form.specs.Sheds.{Row, row_below, exported_below, sought_inside}
 use Rattle.steps_keep_form.specs.Layout.{stands_right, is_laid_out}
 use Rattle.steps_left.proofs.Exports.{Reads, exported_is_read}

@@ -20,7 +20,14 @@ use Rattle.scope_rules.specs.Site.{BindingSite, opens_one, scope_count, sites, s
 use Rattle.scope_laws.specs.Place.{Around as Place, first, behind, behind_none, under, plug}
 use Rattle.scope_laws.specs.Lists.{without}
 use Rattle.steps_allowed.specs.Silent.{HoldsThere}
-use Rattle.steps_allowed.specs.Removes.{a_node, a_statement, a_function, a_declarator, a_declaration, one_declarator, At, asked_at, has_node, has_other, Free, FreeDeclarator, SilentDeclarator, SilentDeclaration, Removes, empty_statement_leaves, silent_statement_empties, unused_function_leaves, unused_declarator_leaves, unused_declaration_leaves}
+use Rattle.steps_allowed.specs.Places.{a_node, At, asked_at, has_node, has_other}
+use Rattle.steps_allowed.specs.Free.{Free, FreeDeclarator}
+use Rattle.steps_allowed.specs.SilentStatement.{a_statement, silent_statement_empties}
+use Rattle.steps_allowed.specs.EmptyStatement.{empty_statement_leaves}
+use Rattle.steps_allowed.specs.UnusedFunction.{a_function, unused_function_leaves}
+use Rattle.steps_allowed.specs.UnusedDeclarator.{a_declarator, SilentDeclarator, unused_declarator_leaves}
+use Rattle.steps_allowed.specs.UnusedDeclaration.{a_declaration, one_declarator, SilentDeclaration, unused_declaration_leaves}
+use Rattle.steps_allowed.specs.Edits.{Edit, leaves, becomes, empty_statement, silent_statement, unused_function, unused_declarator, unused_declaration}
 use Rattle.steps_keep_form.specs.Sheds.{Row, parts, of_declarators, row_below, may_leave, Around, entered, outermost, exports_none, keeps_one, Sheds, keeps_absent, keeps, leaves, empties, sought_inside, exported_below}
 use Rattle.steps_keep_form.specs.Sheds as shed
 use Rattle.steps_keep_form.specs.Layout.{is_parts, stands_right, is_laid_out, IsLaidOut}
@@ -186,7 +193,7 @@ module _ (a : Place) where
       a false outermost (asked_of_program true) false (λ i. outermost_context) 0 0 tt (λ i. tt) (all_within t) laid may
       (both_there (SilentDeclaration t how m l inner) (Free t how x) (Some y) a false (λ i. outermost_context) 0 0 silent free)
 
-pub removal_sheds : (t u : Forest) → Removes t u → IsLaidOut t → Sheds outermost t u
+pub removal_sheds : (t u : Forest) → Edit t u → IsLaidOut t → Sheds outermost t u
 removal_sheds t u (empty_statement_leaves a n item) laid = empty_sheds a n laid (inl item)
 removal_sheds t u (silent_statement_empties a n m l k inner silent) laid = statement_empties n m (alone k l inner) a outermost laid
 removal_sheds t u (unused_function_leaves a pure n m x rest item own free) laid = function_sheds a pure n m x rest laid (inl item) free

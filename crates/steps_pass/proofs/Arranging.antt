@@ -12,7 +12,7 @@ use Rattle.min_pass.specs.declared.around.Row.TheVariants.{Items as items, OfIte
 use Rattle.min_pass.specs.Around.{row_below, entered}
 use Rattle.min_pass.specs.Pass.{Names, goes_as_declarator, one_stays, goes, empties, unmarked, swept}
 use Rattle.steps_allowed.specs.Arranged.{is_nothing, is_single, is_field, is_leaf, begins_with_leaf, is_declarator, are_declarators, has_declarators, is_arranged_at, is_arranged}
-use Rattle.steps_allowed.specs.Removes.{has_node}
+use Rattle.steps_allowed.specs.Places.{has_node}
 use Rattle.js_syntax.proofs.Truth.{not_false, or_false}
 
 pub wrong : {P : Type 0} → false ≡ true → P

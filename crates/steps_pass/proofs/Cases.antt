@@ -19,7 +19,13 @@ use Rattle.scope_laws.specs.Lists.{without}
 use Rattle.scope_laws.proofs.Around.{stands_there}
 use Rattle.min_passes.specs.Unused.{names_of}
 use Rattle.steps_names.proofs.Sites.{binding_second}
-use Rattle.steps_allowed.specs.Removes.{a_node, asked_at, IsItem, IsDeclarator, has_other, IsFree, Free, FreeDeclarator, SilentDeclarator, SilentDeclaration, one_declarator, a_statement, a_function, a_declarator, a_declaration, Removes, silent_statement_empties, unused_function_leaves, unused_declarator_leaves, unused_declaration_leaves, RemovesMany, no_change, one_change}
+use Rattle.steps_allowed.specs.Places.{a_node, asked_at, IsItem, IsDeclarator, has_other}
+use Rattle.steps_allowed.specs.Free.{IsFree, Free, FreeDeclarator}
+use Rattle.steps_allowed.specs.SilentStatement.{a_statement, silent_statement_empties}
+use Rattle.steps_allowed.specs.UnusedFunction.{a_function, unused_function_leaves}
+use Rattle.steps_allowed.specs.UnusedDeclarator.{SilentDeclarator, a_declarator, unused_declarator_leaves}
+use Rattle.steps_allowed.specs.UnusedDeclaration.{SilentDeclaration, one_declarator, a_declaration, unused_declaration_leaves}
+use Rattle.steps_allowed.specs.Edits.{Edit, leaves, becomes, silent_statement, unused_function, unused_declarator, unused_declaration, TreeEdits, no_tree_edit, one_tree_edit}
 use Rattle.steps_owed.specs.Kept.{IsKept, is_program, TellsScopes}
 use Rattle.steps_pass.specs.Exposed.{IsUnexposed}
 use Rattle.steps_pass.proofs.Exposed.{program_unexposed}
@@ -60,15 +66,15 @@ pub record Holds (s : Scoping) (names : Names) (v : Forest) : Type 0 where
   pub functions : exports_unmarked names.functions v ≡ true
   pub unexposed : IsUnexposed names v
 
-pub holds_after : (s : Scoping) (names : Names) (t u : Forest) → Removes t u → Holds s names t → Holds s names u
+pub holds_after : (s : Scoping) (names : Names) (t u : Forest) → Edit t u → Holds s names t → Holds s names u
 holds_after s names t u one h =
     let l = change_loses t u one in
     let g = change_stays t u one s (record { program = h.program; enclosed = h.enclosed; kept = h.kept }) in
     record { program = g.program; enclosed = g.enclosed; kept = g.kept; variables = exports_stay names.variables false t u l h.variables; functions = exports_stay names.functions false t u l h.functions; unexposed = program_unexposed names t u l h.unexposed }
 
-pub holds_after_many : (s : Scoping) (names : Names) (t u : Forest) → RemovesMany t u → Holds s names t → Holds s names u
-holds_after_many s names t u (no_change v) h = h
-holds_after_many s names t u (one_change v w z one more) h = holds_after_many s names w z more (holds_after s names v w one h)
+pub holds_after_many : (s : Scoping) (names : Names) (t u : Forest) → TreeEdits t u → Holds s names t → Holds s names u
+holds_after_many s names t u (no_tree_edit v) h = h
+holds_after_many s names t u (one_tree_edit v w z one more) h = holds_after_many s names w z more (holds_after s names v w one h)
 
 pub kept_at_first : (s : Scoping) (t : Forest) → Exact s t → IsKept s t
 kept_at_first s t exact = record { table = s; shortens = record { same_entries = refl; symbols = λ n y e. record { symbol = y; stood = e; listed = λ id h. h } }; exact = exact }
@@ -102,7 +108,7 @@ IsQuiet s t a value = (may_have_effects (names_of s t).bound (asked_at (asked_of
 -- ---- functions and silent statements
 
 pub function_may_leave : (s : Scoping) (t : Forest) (a : Around) (pure : Bool) (n m : Note) (x : List ℕ) (rest : Forest) → Holds s (names_of s t) (plug a (a_function pure n m x rest)) → IsItem a
-    → is_marked (names_of s t).functions m.id ≡ true → Removes (plug a (a_function pure n m x rest)) (without a)
+    → is_marked (names_of s t).functions m.id ≡ true → Edit (plug a (a_function pure n m x rest)) (without a)
 function_may_leave s t a pure n m x rest h item e =
     let y = a_function pure n m x rest in
     let v = plug a y in
@@ -115,7 +121,7 @@ function_may_leave s t a pure n m x rest h item e =
     free_function s t v h d (all_of d (binding_second d (own_sites (cs place) n (function function_kind.Declaration pure) below) (sites fs 0 (next + 1) below) [] (inl refl))) e))
 
 pub statement_may_empty : (s : Scoping) (t : Forest) (a : Around) (n m l : Note) (k : Kind) (inner : Forest) → IsKept s (plug a (a_statement n l k inner))
-    → may_have_effects (names_of s t).bound (asked_at (asked_of_program true) a).in_with (alone k l inner) ≡ false → Removes (plug a (a_statement n l k inner)) (plug a (a_node empty_statement m nothing))
+    → may_have_effects (names_of s t).bound (asked_at (asked_of_program true) a).in_with (alone k l inner) ≡ false → Edit (plug a (a_statement n l k inner)) (plug a (a_node empty_statement m nothing))
 statement_may_empty s t a n m l k inner kept silent = silent_statement_empties a n m l k inner (silent_statement s t a n (alone k l inner) kept silent)
 
 -- ---- declarators
@@ -138,7 +144,7 @@ silent_behind s t v kept w cs at next n m x value all_of e =
     )
 
 pub declarator_may_leave : (s : Scoping) (t : Forest) (a : Around) (n m : Note) (x : List ℕ) (value : Forest) → Holds s (names_of s t) (plug a (a_declarator n m x value)) → IsDeclarator a → has_other false a ≡ true
-    → is_marked (names_of s t).variables m.id ≡ true → IsQuiet s t a value → Removes (plug a (a_declarator n m x value)) (without a)
+    → is_marked (names_of s t).variables m.id ≡ true → IsQuiet s t a value → Edit (plug a (a_declarator n m x value)) (without a)
 declarator_may_leave s t a n m x value h declarator other_stays e quiet =
     let y = a_declarator n m x value in
     let v = plug a y in
@@ -153,7 +159,7 @@ declarator_may_leave s t a n m x value h declarator other_stays e quiet =
     free_variable s t v h d (all_of d (binding_second d (own_sites (cs place) n variable_declarator below) (sites fs 0 (next + 0) below) [] (inl refl))) e))
 
 pub declaration_may_leave : (s : Scoping) (t : Forest) (a : Around) (how : VariableKind) (n m l j : Note) (x : List ℕ) (value : Forest) → Holds s (names_of s t) (plug a (a_declaration how n m l j x value)) → IsItem a
-    → is_marked (names_of s t).variables j.id ≡ true → IsQuiet s t a value → Removes (plug a (a_declaration how n m l j x value)) (without a)
+    → is_marked (names_of s t).variables j.id ≡ true → IsQuiet s t a value → Edit (plug a (a_declaration how n m l j x value)) (without a)
 declaration_may_leave s t a how n m l j x value h item e quiet =
     let y = a_declaration how n m l j x value in
     let v = plug a y in

@@ -16,7 +16,13 @@ use Rattle.scope_laws.specs.Place.{Around, first, behind, behind_none, under, pl
 use Rattle.scope_laws.specs.Lists.{is_list, is_listed, without}
 use Rattle.scope_laws.proofs.Around.{none_there}
 use Rattle.scope_rules.specs.Context.{outermost}
-use Rattle.steps_allowed.specs.Removes.{a_node, asked_at, a_function, a_declarator, a_declaration, one_declarator, Removes, empty_statement_leaves, silent_statement_empties, unused_function_leaves, unused_declarator_leaves, unused_declaration_leaves, RemovesMany, no_change, one_change}
+use Rattle.steps_allowed.specs.Places.{a_node, asked_at}
+use Rattle.steps_allowed.specs.SilentStatement.{silent_statement_empties}
+use Rattle.steps_allowed.specs.EmptyStatement.{empty_statement_leaves}
+use Rattle.steps_allowed.specs.UnusedFunction.{a_function, unused_function_leaves}
+use Rattle.steps_allowed.specs.UnusedDeclarator.{a_declarator, unused_declarator_leaves}
+use Rattle.steps_allowed.specs.UnusedDeclaration.{a_declaration, one_declarator, unused_declaration_leaves}
+use Rattle.steps_allowed.specs.Edits.{Edit, leaves, becomes, empty_statement, silent_statement, unused_function, unused_declarator, unused_declaration, TreeEdits, no_tree_edit, one_tree_edit}
 use Rattle.steps_fit.specs.Enclosed.{is_enclosed}
 use Rattle.steps_owed.specs.Unseen.{IsUnseen}
 use Rattle.steps_owed.specs.Kept.{is_program, IsKept}
@@ -77,7 +83,7 @@ declarator_listed : (a : Around) → (asked_at (asked_of_program true) a).row �
 declarator_listed a declarator = stands_in_list a item_declarators declarator refl
 
 -- what a change takes away
-pub change_loses : (t u : Forest) → Removes t u → Loses false t u
+pub change_loses : (t u : Forest) → Edit t u → Loses false t u
 change_loses t u (empty_statement_leaves a n item) = without_loses false a empty_statement n nothing refl (item_listed a item)
 change_loses t u (silent_statement_empties a n m l k inner silent) = emptied_loses false a n m (alone k l inner)
 change_loses t u (unused_function_leaves a pure n m x rest item own free) = without_loses false a (function function_kind.Declaration pure) n (node (binding_name x) m nothing rest) refl (item_listed a item)
@@ -87,7 +93,7 @@ change_loses t u (unused_declaration_leaves a how n m l j x value item own silen
 left : (a : Around) (x : Option Tree) → is_listed false a ≡ true → ((rest : Forest) → is_program (plug (first rest) x) ≡ false) → IsUnseen a x → is_program (plug a x) ≡ true → (s : Scoping) → IsKept s (plug a x) → IsKept s (without a)
 left a x listed no_own unseen e s kept = kept_without a x listed (within_program a x e no_own) unseen s kept
 
-pub change_keeps : (t u : Forest) → Removes t u → is_program t ≡ true → is_enclosed t ≡ true → (s : Scoping) → IsKept s t → IsKept s u
+pub change_keeps : (t u : Forest) → Edit t u → is_program t ≡ true → is_enclosed t ≡ true → (s : Scoping) → IsKept s t → IsKept s u
 change_keeps t u (empty_statement_leaves a n item) e w s kept = left a (a_node empty_statement n nothing) (item_listed a item) (λ rest. refl) (empty_unseen a n) e s kept
 change_keeps t u (silent_statement_empties a n m l k inner silent) e w s kept =
     let x : Tree = record { kind = expression_statement; note = n; below = alone k l inner } in
@@ -104,11 +110,11 @@ pub record Stays (s : Scoping) (u : Forest) : Type 0 where
   pub enclosed : is_enclosed u ≡ true
   pub kept : IsKept s u
 
-pub change_stays : (t u : Forest) → Removes t u → (s : Scoping) → Stays s t → Stays s u
+pub change_stays : (t u : Forest) → Edit t u → (s : Scoping) → Stays s t → Stays s u
 change_stays t u one s h =
     let l = change_loses t u one in
     record { program = program_stays false t u l refl h.program; enclosed = enclosed_stays false t u l h.enclosed; kept = change_keeps t u one h.program h.enclosed s h.kept }
 
-pub changes_stay : (t u : Forest) → RemovesMany t u → (s : Scoping) → Stays s t → Stays s u
-changes_stay t u (no_change v) s h = h
-changes_stay t u (one_change v w z one more) s h = changes_stay w z more s (change_stays v w one s h)
+pub changes_stay : (t u : Forest) → TreeEdits t u → (s : Scoping) → Stays s t → Stays s u
+changes_stay t u (no_tree_edit v) s h = h
+changes_stay t u (one_tree_edit v w z one more) s h = changes_stay w z more s (change_stays v w one s h)

@@ -8,12 +8,14 @@ use Rattle.min_pass.specs.declared.around.Row.TheVariants.{Items as items, OfIte
 use Rattle.min_pass.specs.Pass.{is_empty_in, swept, no_names, cleared}
 use Rattle.scope_laws.specs.Place.{first}
 use Rattle.steps_allowed.specs.Arranged.{is_arranged_at, is_arranged}
-use Rattle.steps_allowed.specs.Removes.{a_node, empty_statement_leaves, RemovesMany, no_change}
-use Rattle.steps_allowed.proofs.Composing.{many_compose}
+use Rattle.steps_allowed.specs.Places.{a_node}
+use Rattle.steps_allowed.specs.EmptyStatement.{empty_statement_leaves}
+use Rattle.steps_allowed.specs.Edits.{leaves, becomes, empty_statement, TreeEdits, no_tree_edit}
+use Rattle.steps_allowed.proofs.Composing.{tree_edits_compose}
 use Rattle.steps_pass.proofs.Paths.{Path, top, behind, behind_none, under, fill, around, row_at, asked_along, row_there, leaves_there, once}
 use Rattle.steps_pass.proofs.Arranging.{wrong}
 
-empty_leaves : (row : Row) (p : Path) (k : Kind) (n : Note) (below rest : Forest) → row_at p ≡ row → is_empty_in row k ≡ true → is_arranged_at k below ≡ true → RemovesMany (fill p (node k n below rest)) (fill p rest)
+empty_leaves : (row : Row) (p : Path) (k : Kind) (n : Note) (below rest : Forest) → row_at p ≡ row → is_empty_in row k ≡ true → is_arranged_at k below ≡ true → TreeEdits (fill p (node k n below rest)) (fill p rest)
 empty_leaves items p Kind.EmptyStatement n nothing rest row e a = once (leaves_there p rest (a_node Kind.EmptyStatement n nothing) (empty_statement_leaves (around p (first rest)) n (row_there p rest items row)))
 empty_leaves items p Kind.EmptyStatement n (node k m b r) rest row e a = wrong a
 empty_leaves items p Kind.EmptyStatement n (absent r) rest row e a = wrong a
@@ -26,19 +28,19 @@ abbrev left : Path → Forest → Forest
 left p f = swept no_names (asked_along false p) f
 
 by_node : (g : Bool) (p : Path) (k : Kind) (n : Note) (below rest : Forest) → is_empty_in (row_at p) k ≡ g → is_arranged_at k below ≡ true
-    → RemovesMany (fill (under p k n rest) below) (fill (under p k n rest) (left (under p k n rest) below)) → RemovesMany (fill p rest) (fill p (left p rest))
-    → RemovesMany (fill p (node k n (left (under p k n rest) below) rest)) (fill p (node k n (left (under p k n rest) below) (left p rest)))
-    → RemovesMany (fill p (node k n below rest)) (fill p (if g then left p rest else node k n (left (under p k n rest) below) (left p rest)))
-by_node true p k n below rest g a inner here kept = many_compose (empty_leaves (row_at p) p k n below rest refl g a) here
-by_node false p k n below rest g a inner here kept = many_compose inner kept
+    → TreeEdits (fill (under p k n rest) below) (fill (under p k n rest) (left (under p k n rest) below)) → TreeEdits (fill p rest) (fill p (left p rest))
+    → TreeEdits (fill p (node k n (left (under p k n rest) below) rest)) (fill p (node k n (left (under p k n rest) below) (left p rest)))
+    → TreeEdits (fill p (node k n below rest)) (fill p (if g then left p rest else node k n (left (under p k n rest) below) (left p rest)))
+by_node true p k n below rest g a inner here kept = tree_edits_compose (empty_leaves (row_at p) p k n below rest refl g a) here
+by_node false p k n below rest g a inner here kept = tree_edits_compose inner kept
 
-row_clears : (f : Forest) → is_arranged f ≡ true → (p : Path) → RemovesMany (fill p f) (fill p (left p f))
-row_clears nothing a p = no_change (fill p nothing)
+row_clears : (f : Forest) → is_arranged f ≡ true → (p : Path) → TreeEdits (fill p f) (fill p (left p f))
+row_clears nothing a p = no_tree_edit (fill p nothing)
 row_clears (absent rest) a p = row_clears rest a (behind_none p)
 row_clears (node k n below rest) a p =
     let b = and_parts (is_arranged_at k below) (is_arranged below && is_arranged rest) a in
     let c = and_parts (is_arranged below) (is_arranged rest) b.1 in
     by_node (is_empty_in (row_at p) k) p k n below rest refl b.0 (row_clears below c.0 (under p k n rest)) (row_clears rest c.1 p) (row_clears rest c.1 (behind p k n (left (under p k n rest) below)))
 
-pub clearing_comes : (t : Forest) → is_arranged t ≡ true → RemovesMany t (cleared t)
+pub clearing_comes : (t : Forest) → is_arranged t ≡ true → TreeEdits t (cleared t)
 clearing_comes t a = row_clears t a top

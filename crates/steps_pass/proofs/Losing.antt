@@ -7,7 +7,7 @@ use Rattle.scope_laws.specs.Place.{Around, first, behind as behind_node, behind_
 use Rattle.scope_laws.specs.Lists.{is_list, is_listed, without}
 use Rattle.min_passes.specs.Unused.{is_export, has_own_names}
 use Rattle.steps_allowed.specs.Arranged.{is_nothing}
-use Rattle.steps_allowed.specs.Removes.{a_node}
+use Rattle.steps_allowed.specs.Places.{a_node}
 use Rattle.steps_fit.specs.Enclosed.{is_binding, is_var, inherits, passes, closed, begins_with_name, none, is_enclosed_at, is_enclosed}
 use Rattle.steps_pass.specs.Cases.{name_unmarked, first_unmarked, declared_unmarked, exports_unmarked}
 use Rattle.steps_owed.specs.Kept.{is_program}

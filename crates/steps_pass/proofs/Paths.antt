@@ -8,7 +8,8 @@ use Rattle.min_pass.specs.declared.around.Row.TheVariants.{Other as other}
 use Rattle.min_pass.specs.Around.{row_below, is_with, outermost as asked_of_program}
 use Rattle.scope_laws.specs.Place.{Around, first, behind as place_behind, behind_none as place_behind_none, under as place_under, placed, plug}
 use Rattle.scope_laws.specs.Lists.{without}
-use Rattle.steps_allowed.specs.Removes.{asked_at, has_other, Removes, RemovesMany, one_change, no_change}
+use Rattle.steps_allowed.specs.Places.{asked_at, has_other}
+use Rattle.steps_allowed.specs.Edits.{Edit, TreeEdits, one_tree_edit, no_tree_edit}
 
 pub data Path : Type 0 where
   top : Path
@@ -85,11 +86,11 @@ other_there before (under p k n rest) a = other_there before p (place_under k n 
 
 -- ---- changes there
 
-pub leaves_there : (p : Path) (rest : Forest) (x : Option Tree) → Removes (plug (around p (first rest)) x) (without (around p (first rest))) → Removes (fill p (placed x rest)) (fill p rest)
-leaves_there p rest x one = subst (λ u. Removes (fill p (placed x rest)) u) (left_out p (first rest)) (subst (λ t. Removes t (without (around p (first rest)))) (plugged p (first rest) x) one)
+pub leaves_there : (p : Path) (rest : Forest) (x : Option Tree) → Edit (plug (around p (first rest)) x) (without (around p (first rest))) → Edit (fill p (placed x rest)) (fill p rest)
+leaves_there p rest x one = subst (λ u. Edit (fill p (placed x rest)) u) (left_out p (first rest)) (subst (λ t. Edit t (without (around p (first rest)))) (plugged p (first rest) x) one)
 
-pub turns_there : (p : Path) (rest : Forest) (x y : Option Tree) → Removes (plug (around p (first rest)) x) (plug (around p (first rest)) y) → Removes (fill p (placed x rest)) (fill p (placed y rest))
-turns_there p rest x y one = subst (λ u. Removes (fill p (placed x rest)) u) (plugged p (first rest) y) (subst (λ t. Removes t (plug (around p (first rest)) y)) (plugged p (first rest) x) one)
+pub turns_there : (p : Path) (rest : Forest) (x y : Option Tree) → Edit (plug (around p (first rest)) x) (plug (around p (first rest)) y) → Edit (fill p (placed x rest)) (fill p (placed y rest))
+turns_there p rest x y one = subst (λ u. Edit (fill p (placed x rest)) u) (plugged p (first rest) y) (subst (λ t. Edit t (plug (around p (first rest)) y)) (plugged p (first rest) x) one)
 
-pub once : {t u : Forest} → Removes t u → RemovesMany t u
-once {t = t} {u = u} one = one_change t u u one (no_change u)
+pub once : {t u : Forest} → Edit t u → TreeEdits t u
+once {t = t} {u = u} one = one_tree_edit t u u one (no_tree_edit u)

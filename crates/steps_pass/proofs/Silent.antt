@@ -18,7 +18,8 @@ use Rattle.scope_laws.proofs.Around.{references_append}
 use Rattle.scope_laws.proofs.Kept.{three}
 use Rattle.min_passes.specs.Unused.{names_of}
 use Rattle.steps_allowed.specs.Silent.{read_in, IsFound, IsSilentNode, IsSilent, HoldsThere}
-use Rattle.steps_allowed.specs.Removes.{a_node, asked_at, At, SilentStatement}
+use Rattle.steps_allowed.specs.Places.{a_node, asked_at, At}
+use Rattle.steps_allowed.specs.SilentStatement.{SilentStatement}
 use Rattle.steps_owed.specs.Kept.{IsKept}
 use Rattle.steps_pass.proofs.Names.{entered_bound}
 use Rattle.steps_pass.proofs.Marks.{bound_has_symbol}

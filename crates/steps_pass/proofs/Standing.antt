@@ -9,7 +9,10 @@ use Rattle.js_syntax.specs.Node.{Forest, Note, nothing, node}
 use Rattle.js_effects.specs.Silence.{is_marked}
 use Rattle.min_pass.specs.Pass.{Names}
 use Rattle.scope_laws.specs.Place.{Around, first, behind, behind_none, under, plug}
-use Rattle.steps_allowed.specs.Removes.{a_node, a_function, a_declarator, a_declaration, one_declarator}
+use Rattle.steps_allowed.specs.Places.{a_node}
+use Rattle.steps_allowed.specs.UnusedFunction.{a_function}
+use Rattle.steps_allowed.specs.UnusedDeclarator.{a_declarator}
+use Rattle.steps_allowed.specs.UnusedDeclaration.{a_declaration, one_declarator}
 use Rattle.steps_allowed.specs.Exposure.{Exposure, exposed_inside, exposed_of, exposed_at, exposure, function_is_exposed, shares, evaluates_somewhere, IsOwnFunction, IsOwnDeclarator, IsOwnDeclaration}
 use Rattle.steps_pass.specs.Exposed.{unexposed_at, unexposed, IsUnexposed}
 use Rattle.js_syntax.proofs.Truth.{not_true}

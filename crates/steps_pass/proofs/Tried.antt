@@ -9,7 +9,8 @@ use Rattle.scope_rules.specs.ReferenceFlags as reference_flag
 use Rattle.scope_rules.specs.Table.{Reference}
 use Rattle.scope_laws.specs.Place.{Around, first, behind, under}
 use Rattle.scope_laws.proofs.Bindings.{same_value}
-use Rattle.steps_allowed.specs.Removes.{Removes, silent_statement_empties}
+use Rattle.steps_allowed.specs.SilentStatement.{silent_statement_empties}
+use Rattle.steps_allowed.specs.Edits.{Edit, leaves, becomes, silent_statement}
 use Rattle.steps_owed.specs.Kept.{IsKept}
 use Rattle.steps_pass.specs.Samples.{misplaced_table, misplaced_marked, numbered, without_number}
 
@@ -17,7 +18,7 @@ use Rattle.steps_pass.specs.Samples.{misplaced_table, misplaced_marked, numbered
 second : Around
 second = under (Kind.Program source_type.Module) numbered (under Kind.Statements nowhere (behind Kind.ExpressionStatement nowhere (node (Kind.ReferenceName a) numbered nothing nothing) (first nothing)) nothing) nothing
 
-pub number_empties : Removes misplaced_marked without_number
+pub number_empties : Edit misplaced_marked without_number
 unfolding second
 number_empties = silent_statement_empties second nowhere nowhere nowhere (Kind.Literal (value.Number (pos 1))) (node (Kind.BindingName a) numbered nothing nothing) (inl refl, tt)
 

@@ -17,7 +17,12 @@ use Rattle.scope_laws.specs.Place.{Around, first, behind, behind_none, under, on
 use Rattle.steps_names.specs.Standing.{layer_of}
 use Rattle.steps_names.proofs.Sites.{InThree, in_first, in_second, in_third, binding_in}
 use Rattle.steps_allowed.specs.Silent.{IsFound, IsSilentNode, IsSilent, HoldsThere}
-use Rattle.steps_allowed.specs.Removes.{a_node, At, IsFree, Free, FreeDeclarator, SilentStatement, SilentDeclarator, SilentDeclaration, one_declarator, a_statement, a_function, a_declarator, a_declaration}
+use Rattle.steps_allowed.specs.Places.{a_node, At}
+use Rattle.steps_allowed.specs.Free.{IsFree, Free, FreeDeclarator}
+use Rattle.steps_allowed.specs.SilentStatement.{SilentStatement, a_statement}
+use Rattle.steps_allowed.specs.UnusedFunction.{a_function}
+use Rattle.steps_allowed.specs.UnusedDeclarator.{SilentDeclarator, a_declarator}
+use Rattle.steps_allowed.specs.UnusedDeclaration.{SilentDeclaration, one_declarator, a_declaration}
 use Rattle.steps_fit.specs.Enclosed.{is_binding, is_enclosed_at, is_enclosed}
 use Rattle.steps_owed.specs.Unseen.{IsUnreferred, IsUnseen}
 use Rattle.steps_pass.proofs.Inside.{named, In}

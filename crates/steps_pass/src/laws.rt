@@ -12,7 +12,7 @@ ghost use Rattle.scope_laws.specs.Place.{Around, plug, scopes_before};
 ghost use Rattle.scope_laws.specs.Lists.{is_listed, without};
 ghost use Rattle.min_passes.specs.Unused.{names_of};
 ghost use Rattle.steps_allowed.specs.Arranged.{is_arranged};
-ghost use Rattle.steps_allowed.specs.Removes.{Removes, RemovesMany};
+ghost use Rattle.steps_allowed.specs.Edits.{Edit, TreeEdits};
 ghost use Rattle.steps_owed.specs.Kept.{IsKept, TellsScopes, is_program};
 ghost use Rattle.steps_fit.specs.Enclosed.{is_enclosed};
 ghost use Rattle.steps_pass.specs.Samples.{all_enclosed, misplaced_table, misplaced_marked, without_number};
@@ -25,14 +25,14 @@ pub fn unseen_items_may_leave()
 
 /// After each change of a program the table, with shorter lists, tells of what is left.
 pub fn a_change_keeps_the_table()
-    ensures program { (t u : Forest) → Removes t u → is_program t ≡ true → is_program u ≡ true }
-    ensures enclosed { (t u : Forest) → Removes t u → is_enclosed t ≡ true → is_enclosed u ≡ true }
-    ensures kept { (t u : Forest) → Removes t u → is_program t ≡ true → is_enclosed t ≡ true → (s : Scoping) → IsKept s t → IsKept s u }
+    ensures program { (t u : Forest) → Edit t u → is_program t ≡ true → is_program u ≡ true }
+    ensures enclosed { (t u : Forest) → Edit t u → is_enclosed t ≡ true → is_enclosed u ≡ true }
+    ensures kept { (t u : Forest) → Edit t u → is_program t ≡ true → is_enclosed t ≡ true → (s : Scoping) → IsKept s t → IsKept s u }
 {}
 
 /// So it does after changes one after the other.
 pub fn changes_keep_the_table()
-    ensures { (t u : Forest) → RemovesMany t u → is_program t ≡ true → is_enclosed t ≡ true → (s : Scoping) → IsKept s t → IsKept s u }
+    ensures { (t u : Forest) → TreeEdits t u → is_program t ≡ true → is_enclosed t ≡ true → (s : Scoping) → IsKept s t → IsKept s u }
 {}
 
 /// A table that is exact for a tree is kept before the first change.
@@ -45,7 +45,7 @@ pub fn exact_tables_are_kept()
 pub fn enclosing_is_needed()
     ensures samples { all_enclosed (blocks ++ functions ++ classes ++ statements ++ calls_of_eval ++ uses_of_names) ≡ true }
     ensures stood { Exact misplaced_table misplaced_marked }
-    ensures change { Removes misplaced_marked without_number }
+    ensures change { Edit misplaced_marked without_number }
     ensures unkept { IsKept misplaced_table without_number → ⊥ }
 {}
 
@@ -57,12 +57,12 @@ pub fn names_let_go_what_is_unreferred()
 
 /// What a pass leaves of a program, by the names of its table, comes by single changes.
 pub fn what_a_pass_leaves_comes_by_changes()
-    ensures { (s : Scoping) (t : Forest) → is_program t ≡ true → is_arranged t ≡ true → is_enclosed t ≡ true → Exact s t → TellsScopes s t → RemovesMany t (passed (names_of s t) t) }
+    ensures { (s : Scoping) (t : Forest) → is_program t ≡ true → is_arranged t ≡ true → is_enclosed t ≡ true → Exact s t → TellsScopes s t → TreeEdits t (passed (names_of s t) t) }
 {}
 
 /// So does a tree without the empty statements of its lists.
 pub fn what_is_cleared_comes_by_changes()
-    ensures { (t : Forest) → is_arranged t ≡ true → RemovesMany t (cleared t) }
+    ensures { (t : Forest) → is_arranged t ≡ true → TreeEdits t (cleared t) }
 {}
 
 /// What a pass leaves has its parts where they were, whatever is known of names.

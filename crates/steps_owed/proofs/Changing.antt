@@ -15,7 +15,13 @@ use Rattle.scope_rules.specs.Context.{is_there, has_second}
 use Rattle.scope_rules.specs.Site.{has_eval}
 use Rattle.scope_rules.specs.Mark.{own_binding}
 use Rattle.scope_laws.specs.Place.{Around, first, behind, behind_none, under, plug}
-use Rattle.steps_allowed.specs.Removes.{a_node, asked_at, Removes, empty_statement_leaves, silent_statement_empties, unused_function_leaves, unused_declarator_leaves, unused_declaration_leaves, Removals, no_removal, one_removal}
+use Rattle.steps_allowed.specs.Places.{a_node, asked_at}
+use Rattle.steps_allowed.specs.SilentStatement.{silent_statement_empties}
+use Rattle.steps_allowed.specs.EmptyStatement.{empty_statement_leaves}
+use Rattle.steps_allowed.specs.UnusedFunction.{unused_function_leaves}
+use Rattle.steps_allowed.specs.UnusedDeclarator.{unused_declarator_leaves}
+use Rattle.steps_allowed.specs.UnusedDeclaration.{unused_declaration_leaves}
+use Rattle.steps_allowed.specs.Edits.{Edit, leaves, becomes, empty_statement, silent_statement, unused_function, unused_declarator, unused_declaration, Edits, no_edit, one_edit}
 use Rattle.steps_allowed.specs.Calls.{is_call}
 use Rattle.steps_allowed.specs.Exposure.{Exposure, declaring, is_script_source, is_script, at_function_name, at_class_name, exposed_inside, exposed_of, exposed_at, exposure, evaluates_somewhere}
 use Rattle.steps_allowed.specs.Changing.{holds_items, holds_declarators, may_change_at, may_change, may_change_somewhere}
@@ -44,7 +50,7 @@ somewhere : (a : Around) (k : Kind) (n : Note) (below : Forest)
     → may_change_at (evaluates_somewhere (plug a (a_node k n below))) (asked_at (asked_of_program true) a) (exposure a (a_node k n below)) k below ≡ true → may_change_somewhere (plug a (a_node k n below)) ≡ true
 somewhere a k n below e = let t = plug a (a_node k n below) in at_place (evaluates_somewhere t) (asked_of_program true) (exposed_of t) 0 a k n below e
 
-pub change_may_be : (t u : Forest) → Removes t u → may_change_somewhere t ≡ true
+pub change_may_be : (t u : Forest) → Edit t u → may_change_somewhere t ≡ true
 change_may_be t u (empty_statement_leaves a n item) = somewhere a kind.EmptyStatement n nothing (ap holds_items item)
 change_may_be t u (silent_statement_empties a n m l k inner silent) =
     let no_call = there {P = is_call k ≡ false} false _ 0 0 a _ (λ w c next h. silent_is_no_call _ w c next k l inner h) silent in
@@ -173,24 +179,24 @@ bare_changes t =
     ap (λ b. may_change b (asked_of_program true) (exposed_of (bare t)) 0 (bare t)) (bare_below t)
     ∙ bare_row (evaluates_somewhere t) (asked_of_program true) (exposed_of (bare t)) (exposed_of t) 0 t (λ i. ap₂ (λ s b. beside_with s b i) (bare_script t) (bare_below t))
 
-pub nothing_changes : (t u : Forest) → may_change_somewhere t ≡ false → Removals t u → bare t ≡ bare u
-nothing_changes t u still (no_removal x y e) = e
-nothing_changes t u still (one_removal x v w y e change others) =
+pub nothing_changes : (t u : Forest) → may_change_somewhere t ≡ false → Edits t u → bare t ≡ bare u
+nothing_changes t u still (no_edit x y e) = e
+nothing_changes t u still (one_edit x v w y e change others) =
     absurd (true≢false (sym (change_may_be v w change) ∙ sym (bare_changes v) ∙ ap may_change_somewhere (sym e) ∙ bare_changes t ∙ still))
 
 -- ---- names that others may use stay
 
-pub evaluated_stays : Removals (a_module (declares variable.Let (binds a) one ∷ does call_of_eval ∷ [])) (a_module (does call_of_eval ∷ [])) → ⊥
+pub evaluated_stays : Edits (a_module (declares variable.Let (binds a) one ∷ does call_of_eval ∷ [])) (a_module (does call_of_eval ∷ [])) → ⊥
 evaluated_stays r =
     let e : 1 ≡ 0 = ap (total own_binding) (nothing_changes (a_module (declares variable.Let (binds a) one ∷ does call_of_eval ∷ [])) (a_module (does call_of_eval ∷ [])) refl r) in
     Prim.omega (arith, e)
 
-pub global_stays : Removals (a_script (function_a [] [] ∷ [])) (a_script []) → ⊥
+pub global_stays : Edits (a_script (function_a [] [] ∷ [])) (a_script []) → ⊥
 global_stays r =
     let e : 1 ≡ 0 = ap (total own_binding) (nothing_changes (a_script (function_a [] [] ∷ [])) (a_script []) refl r) in
     Prim.omega (arith, e)
 
-pub sloppy_stays : Removals (a_script (block (function_a [] [] ∷ []) ∷ [])) (a_script (block [] ∷ [])) → ⊥
+pub sloppy_stays : Edits (a_script (block (function_a [] [] ∷ []) ∷ [])) (a_script (block [] ∷ [])) → ⊥
 sloppy_stays r =
     let e : 1 ≡ 0 = ap (total own_binding) (nothing_changes (a_script (block (function_a [] [] ∷ []) ∷ [])) (a_script (block [] ∷ [])) refl r) in
     Prim.omega (arith, e)

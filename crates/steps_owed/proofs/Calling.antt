@@ -13,7 +13,13 @@ use Rattle.scope_rules.specs.Site.{BindingSite, opens_one, scope_count}
 use Rattle.scope_laws.specs.Place.{Around, first, behind, behind_none, under, plug}
 use Rattle.scope_laws.specs.Lists.{without}
 use Rattle.steps_allowed.specs.Silent.{IsSilentBelow, HoldsThere}
-use Rattle.steps_allowed.specs.Removes.{asked_at, Removes, empty_statement_leaves, silent_statement_empties, unused_function_leaves, unused_declarator_leaves, unused_declaration_leaves, Removals, no_removal, one_removal}
+use Rattle.steps_allowed.specs.Places.{asked_at}
+use Rattle.steps_allowed.specs.SilentStatement.{silent_statement_empties}
+use Rattle.steps_allowed.specs.EmptyStatement.{empty_statement_leaves}
+use Rattle.steps_allowed.specs.UnusedFunction.{unused_function_leaves}
+use Rattle.steps_allowed.specs.UnusedDeclarator.{unused_declarator_leaves}
+use Rattle.steps_allowed.specs.UnusedDeclaration.{unused_declaration_leaves}
+use Rattle.steps_allowed.specs.Edits.{Edit, leaves, becomes, empty_statement, silent_statement, unused_function, unused_declarator, unused_declaration, Edits, no_edit, one_edit}
 use Rattle.steps_allowed.specs.Calls.{is_call, begins_with_call, counted, calls_in, of_list, calls_listed, of_program, root_calls}
 use Rattle.steps_allowed.specs.Rows.{call_of_a}
 
@@ -139,7 +145,7 @@ there w contexts at next (under k n a rest) x f h = there (w || is_with k) (insi
 
 -- ---- changes
 
-pub change_keeps_calls : {t u : Forest} → Removes t u → root_calls t ≡ root_calls u
+pub change_keeps_calls : {t u : Forest} → Edit t u → root_calls t ≡ root_calls u
 change_keeps_calls (empty_statement_leaves a n item) = leave_root a _ (record { counts = refl; lists = λ m. refl; begins = λ m. refl; calls = refl }) (ap takes item)
 change_keeps_calls (silent_statement_empties a n m l k inner silent) =
     let no_call = there {P = is_call k ≡ false} false _ 0 0 a _ (λ w c next h. silent_is_no_call _ w c next k l inner h) silent in
@@ -151,14 +157,14 @@ change_keeps_calls (unused_declaration_leaves a how n m l j x value item own sil
 bare_keeps_calls : (t u : Forest) → bare t ≡ bare u → root_calls t ≡ root_calls u
 bare_keeps_calls t u e = sym (bare_root t) ∙ ap root_calls e ∙ bare_root u
 
-pub removals_keep_calls : {t u : Forest} → Removals t u → root_calls t ≡ root_calls u
-removals_keep_calls (no_removal t u e) = bare_keeps_calls t u e
-removals_keep_calls (one_removal t v w u e change others) = bare_keeps_calls t v e ∙ change_keeps_calls change ∙ removals_keep_calls others
+pub removals_keep_calls : {t u : Forest} → Edits t u → root_calls t ≡ root_calls u
+removals_keep_calls (no_edit t u e) = bare_keeps_calls t u e
+removals_keep_calls (one_edit t v w u e change others) = bare_keeps_calls t v e ∙ change_keeps_calls change ∙ removals_keep_calls others
 
 -- ---- from a call to nothing
 
-pub call_stays : Removals (a_module (does call_of_a ∷ [])) (a_module []) → ⊥
+pub call_stays : Edits (a_module (does call_of_a ∷ [])) (a_module []) → ⊥
 call_stays r = let e : 1 ≡ 0 = removals_keep_calls r in omega (arith, e)
 
-pub call_stays_behind : Removals (a_module (does one ∷ does call_of_a ∷ [])) (a_module []) → ⊥
+pub call_stays_behind : Edits (a_module (does one ∷ does call_of_a ∷ [])) (a_module []) → ⊥
 call_stays_behind r = let e : 1 ≡ 0 = removals_keep_calls r in omega (arith, e)
