@@ -1,4 +1,4 @@
--- Passes lead by changes from a program to what is left of it.
+-- Passes lead by edits from a program to what is left of it.
 use Rattle.std.proofs.Common.{◌≡◌, ℕ, zero, suc, Bool, true, false, if◌then◌else◌, refl, sym}
 use Rattle.js_syntax.specs.Node.{Forest, bare}
 use Rattle.scope_rules.specs.Mark.{first_marks}
@@ -10,12 +10,11 @@ use Rattle.min_pass.specs.Around.{outermost}
 use Rattle.min_pass.specs.Pass.{no_names, cleared}
 use Rattle.min_passes.specs.Passes.{names_in, next, has_next, settled, most_passes, shaken}
 use Rattle.steps_allowed.specs.Arranged.{is_arranged}
-use Rattle.steps_allowed.specs.Edits.{TreeEdits, no_tree_edit, one_tree_edit, Edits, no_edit}
+use Rattle.steps_allowed.specs.Edits.{Edits, no_edit}
 use Rattle.steps_allowed.proofs.Composing.{edits_follow, tree_edits_are_edits}
 use Rattle.steps_owed.specs.Kept.{is_program}
 use Rattle.steps_fit.specs.Enclosed.{is_enclosed}
-use Rattle.steps_pass.proofs.Losing.{enclosed_stays}
-use Rattle.steps_pass.proofs.Changes.{change_loses}
+use Rattle.steps_pass.proofs.Changes.{Losses, losses_are_edits, losses_enclosed}
 use Rattle.steps_pass.proofs.Passing.{pass_comes}
 use Rattle.steps_pass.proofs.Clearing.{clearing_comes}
 use Rattle.steps_pass.proofs.Arranging.{arranged_left}
@@ -38,19 +37,15 @@ numbered_ready t r = record {
   enclosed = enclosed_as t (numbered t) (numbered_same t) r.enclosed;
 }
 
-many_enclosed : {t u : Forest} → TreeEdits t u → is_enclosed t ≡ true → is_enclosed u ≡ true
-many_enclosed (no_tree_edit t) h = h
-many_enclosed (one_tree_edit t v u one more) h = many_enclosed more (enclosed_stays false t v (change_loses t v one) h)
-
 -- ---- one pass
 
-next_by_changes : (t : Forest) → IsReady t → TreeEdits (numbered t) (next t)
-next_by_changes t r =
+next_loses : (t : Forest) → IsReady t → Losses (numbered t) (next t)
+next_loses t r =
     let ready = numbered_ready t r in
     pass_comes (table_of t) (numbered t) ready.program ready.arranged ready.enclosed (exact t) (tells_scopes t)
 
 next_comes : (t : Forest) → IsReady t → Edits t (next t)
-next_comes t r = edits_follow (no_edit t (numbered t) (sym (numbered_same t))) (tree_edits_are_edits (next_by_changes t r))
+next_comes t r = edits_follow (no_edit t (numbered t) (sym (numbered_same t))) (tree_edits_are_edits (losses_are_edits (next_loses t r)))
 
 next_ready : (t : Forest) → IsReady t → IsReady (next t)
 next_ready t r =
@@ -58,7 +53,7 @@ next_ready t r =
     record {
       program = program_left (names_in t) true (numbered t) ready.program;
       arranged = arranged_left (names_in t) (outermost true) (numbered t) ready.arranged;
-      enclosed = many_enclosed (next_by_changes t r) ready.enclosed;
+      enclosed = losses_enclosed (next_loses t r) ready.enclosed;
     }
 
 -- ---- one after the other
@@ -74,8 +69,8 @@ settled_comes (suc most) t r = settled_if most t (has_next t) (edits_follow (nex
 pub shaken_comes : (t : Forest) → IsReady t → Edits t (shaken t)
 shaken_comes t r =
     let clears = clearing_comes t r.arranged in
-    edits_follow (tree_edits_are_edits clears) (settled_comes (most_passes (cleared t)) (cleared t) (record {
+    edits_follow (tree_edits_are_edits (losses_are_edits clears)) (settled_comes (most_passes (cleared t)) (cleared t) (record {
       program = program_left no_names false t r.program;
       arranged = arranged_left no_names (outermost false) t r.arranged;
-      enclosed = many_enclosed clears r.enclosed;
+      enclosed = losses_enclosed clears r.enclosed;
     }))

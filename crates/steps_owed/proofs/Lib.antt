@@ -19,3 +19,4 @@ pub mod UnusedFunction
 pub mod UnusedDeclarator
 pub mod UnusedDeclaration
 pub mod Owed
+pub mod TableKept

@@ -25,7 +25,7 @@ use Rattle.steps_allowed.specs.SilentStatement.{a_statement, silent_statement_em
 use Rattle.steps_allowed.specs.UnusedFunction.{a_function, unused_function_leaves}
 use Rattle.steps_allowed.specs.UnusedDeclarator.{SilentDeclarator, a_declarator, unused_declarator_leaves}
 use Rattle.steps_allowed.specs.UnusedDeclaration.{SilentDeclaration, one_declarator, a_declaration, unused_declaration_leaves}
-use Rattle.steps_allowed.specs.Edits.{Edit, leaves, becomes, silent_statement, unused_function, unused_declarator, unused_declaration, TreeEdits, no_tree_edit, one_tree_edit}
+use Rattle.steps_allowed.specs.Edits.{unused_function, unused_declarator, unused_declaration}
 use Rattle.steps_owed.specs.Kept.{IsKept, is_program, TellsScopes}
 use Rattle.steps_pass.specs.Exposed.{IsUnexposed}
 use Rattle.steps_pass.proofs.Exposed.{program_unexposed}
@@ -40,7 +40,7 @@ use Rattle.steps_pass.proofs.Marks.{variable_unlisted, function_unlisted, export
 use Rattle.steps_pass.proofs.Exported.{unexported}
 use Rattle.steps_pass.proofs.Losing.{exports_stay}
 use Rattle.steps_owed.proofs.Unseen.{layer_below}
-use Rattle.steps_pass.proofs.Changes.{change_loses, change_stays}
+use Rattle.steps_pass.proofs.Changes.{Loss, leaving_loss, emptying_loss, Losses, no_loss, one_loss, loss_stays}
 use Rattle.steps_pass.proofs.Silent.{AllOf, of_left, of_right, all_there, marked_as, silent_row, holds_there, AllDeclared, holds_of_declared, silent_statement}
 use Rattle.js_syntax.proofs.Truth.{first_of_neither, second_of_neither}
 
@@ -66,15 +66,15 @@ pub record Holds (s : Scoping) (names : Names) (v : Forest) : Type 0 where
   pub functions : exports_unmarked names.functions v ≡ true
   pub unexposed : IsUnexposed names v
 
-pub holds_after : (s : Scoping) (names : Names) (t u : Forest) → Edit t u → Holds s names t → Holds s names u
+pub holds_after : (s : Scoping) (names : Names) (t u : Forest) → Loss t u → Holds s names t → Holds s names u
 holds_after s names t u one h =
-    let l = change_loses t u one in
-    let g = change_stays t u one s (record { program = h.program; enclosed = h.enclosed; kept = h.kept }) in
+    let l = one.loses in
+    let g = loss_stays t u one s (record { program = h.program; enclosed = h.enclosed; kept = h.kept }) in
     record { program = g.program; enclosed = g.enclosed; kept = g.kept; variables = exports_stay names.variables false t u l h.variables; functions = exports_stay names.functions false t u l h.functions; unexposed = program_unexposed names t u l h.unexposed }
 
-pub holds_after_many : (s : Scoping) (names : Names) (t u : Forest) → TreeEdits t u → Holds s names t → Holds s names u
-holds_after_many s names t u (no_tree_edit v) h = h
-holds_after_many s names t u (one_tree_edit v w z one more) h = holds_after_many s names w z more (holds_after s names v w one h)
+pub holds_after_many : (s : Scoping) (names : Names) (t u : Forest) → Losses t u → Holds s names t → Holds s names u
+holds_after_many s names t u (no_loss v) h = h
+holds_after_many s names t u (one_loss v w z one more) h = holds_after_many s names w z more (holds_after s names v w one h)
 
 pub kept_at_first : (s : Scoping) (t : Forest) → Exact s t → IsKept s t
 kept_at_first s t exact = record { table = s; shortens = record { same_entries = refl; symbols = λ n y e. record { symbol = y; stood = e; listed = λ id h. h } }; exact = exact }
@@ -108,21 +108,21 @@ IsQuiet s t a value = (may_have_effects (names_of s t).bound (asked_at (asked_of
 -- ---- functions and silent statements
 
 pub function_may_leave : (s : Scoping) (t : Forest) (a : Around) (pure : Bool) (n m : Note) (x : List ℕ) (rest : Forest) → Holds s (names_of s t) (plug a (a_function pure n m x rest)) → IsItem a
-    → is_marked (names_of s t).functions m.id ≡ true → Edit (plug a (a_function pure n m x rest)) (without a)
+    → is_marked (names_of s t).functions m.id ≡ true → Loss (plug a (a_function pure n m x rest)) (without a)
 function_may_leave s t a pure n m x rest h item e =
     let y = a_function pure n m x rest in
     let v = plug a y in
     let below = node (binding_name x) m nothing rest in
-    unused_function_leaves a pure n m x rest item (function_own (names_of s t) a pure n m x rest h.unexposed e)
+    leaving_loss a _ (unused_function (unused_function_leaves pure n m x rest item (function_own (names_of s t) a pure n m x rest h.unexposed e)
     (holds_of_declared (bindings_among (sites_of v)) y (Free v variable.Let x) false (λ at. outermost) 0 0 a (all_declared a y)
     (λ w cs place next all_of.
     let fs = inside (cs place) next (function function_kind.Declaration pure) below in
     let d = named_site (fs 0) m x in
-    free_function s t v h d (all_of d (binding_second d (own_sites (cs place) n (function function_kind.Declaration pure) below) (sites fs 0 (next + 1) below) [] (inl refl))) e))
+    free_function s t v h d (all_of d (binding_second d (own_sites (cs place) n (function function_kind.Declaration pure) below) (sites fs 0 (next + 1) below) [] (inl refl))) e))))
 
 pub statement_may_empty : (s : Scoping) (t : Forest) (a : Around) (n m l : Note) (k : Kind) (inner : Forest) → IsKept s (plug a (a_statement n l k inner))
-    → may_have_effects (names_of s t).bound (asked_at (asked_of_program true) a).in_with (alone k l inner) ≡ false → Edit (plug a (a_statement n l k inner)) (plug a (a_node empty_statement m nothing))
-statement_may_empty s t a n m l k inner kept silent = silent_statement_empties a n m l k inner (silent_statement s t a n (alone k l inner) kept silent)
+    → may_have_effects (names_of s t).bound (asked_at (asked_of_program true) a).in_with (alone k l inner) ≡ false → Loss (plug a (a_statement n l k inner)) (plug a (a_node empty_statement m nothing))
+statement_may_empty s t a n m l k inner kept silent = emptying_loss a _ _ (silent_statement_empties n m l k inner (silent_statement s t a n (alone k l inner) kept silent))
 
 -- ---- declarators
 
@@ -144,22 +144,22 @@ silent_behind s t v kept w cs at next n m x value all_of e =
     )
 
 pub declarator_may_leave : (s : Scoping) (t : Forest) (a : Around) (n m : Note) (x : List ℕ) (value : Forest) → Holds s (names_of s t) (plug a (a_declarator n m x value)) → IsDeclarator a → has_other false a ≡ true
-    → is_marked (names_of s t).variables m.id ≡ true → IsQuiet s t a value → Edit (plug a (a_declarator n m x value)) (without a)
+    → is_marked (names_of s t).variables m.id ≡ true → IsQuiet s t a value → Loss (plug a (a_declarator n m x value)) (without a)
 declarator_may_leave s t a n m x value h declarator other_stays e quiet =
     let y = a_declarator n m x value in
     let v = plug a y in
     let below = node (binding_name x) m nothing value in
-    unused_declarator_leaves a n m x value declarator other_stays (declarator_own (names_of s t) a n m x value h.unexposed e)
+    leaving_loss a _ (unused_declarator (unused_declarator_leaves n m x value declarator other_stays (declarator_own (names_of s t) a n m x value h.unexposed e)
     (holds_there s t v h.kept y (SilentDeclarator v below) (asked_of_program true) (λ at. outermost) 0 0 a (all_there a y)
     (λ cs at next all_of. silent_behind s t v h.kept (asked_at (asked_of_program true) a).in_with cs at next n m x value all_of quiet))
     (holds_of_declared (bindings_among (sites_of v)) y (FreeDeclarator v x) false (λ at. outermost) 0 0 a (all_declared a y)
     (λ w cs place next all_of.
     let fs = inside (cs place) next variable_declarator below in
     let d = named_site (fs 0) m x in
-    free_variable s t v h d (all_of d (binding_second d (own_sites (cs place) n variable_declarator below) (sites fs 0 (next + 0) below) [] (inl refl))) e))
+    free_variable s t v h d (all_of d (binding_second d (own_sites (cs place) n variable_declarator below) (sites fs 0 (next + 0) below) [] (inl refl))) e))))
 
 pub declaration_may_leave : (s : Scoping) (t : Forest) (a : Around) (how : VariableKind) (n m l j : Note) (x : List ℕ) (value : Forest) → Holds s (names_of s t) (plug a (a_declaration how n m l j x value)) → IsItem a
-    → is_marked (names_of s t).variables j.id ≡ true → IsQuiet s t a value → Edit (plug a (a_declaration how n m l j x value)) (without a)
+    → is_marked (names_of s t).variables j.id ≡ true → IsQuiet s t a value → Loss (plug a (a_declaration how n m l j x value)) (without a)
 declaration_may_leave s t a how n m l j x value h item e quiet =
     let y = a_declaration how n m l j x value in
     let v = plug a y in
@@ -167,7 +167,7 @@ declaration_may_leave s t a how n m l j x value h item e quiet =
     let below = node (binding_name x) j nothing value in
     let ds = node variable_declarator l below nothing in
     let whole = one_declarator m l below in
-    unused_declaration_leaves a how n m l j x value item (declaration_own (names_of s t) a how n m l j x value h.unexposed e)
+    leaving_loss a _ (unused_declaration (unused_declaration_leaves how n m l j x value item (declaration_own (names_of s t) a how n m l j x value h.unexposed e)
     (holds_there s t v h.kept y (SilentDeclaration v how m l below) (asked_of_program true) (λ at. outermost) 0 0 a (all_there a y)
     (λ cs at next all_of.
     let place = next + opens_one (variable_declaration how) whole in
@@ -188,4 +188,4 @@ declaration_may_leave s t a how n m l j x value h item e quiet =
     let stands = binding_second d (own_sites (cs place) n (variable_declaration how) whole) (sites outer 0 (next + 0) whole) []
     (binding_second d (own_sites (outer 0) m declarators ds) (sites list 0 (next + 0 + 0) ds) []
     (binding_second d (own_sites (list 0) l variable_declarator below) (sites fs 0 (next + 0 + 0 + 0) below) [] (inl refl))) in
-    subst (λ r. IsFree v (named_in x r)) (layer_below (cs place) how) (free_variable s t v h d (all_of d stands) e)))
+    subst (λ r. IsFree v (named_in x r)) (layer_below (cs place) how) (free_variable s t v h d (all_of d stands) e)))))

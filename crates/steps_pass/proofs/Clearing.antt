@@ -1,4 +1,4 @@
--- A program without the empty statements of its lists comes by changes.
+-- A program without the empty statements of its lists comes by edits.
 use Rattle.std.proofs.Common.{◌≡◌, Bool, true, false, ◌&&◌, if◌then◌else◌, refl}
 use Rattle.std.proofs.lemmas.Bool.{and_parts}
 use Rattle.js_syntax.specs.declared.node_kind.NodeKind.{NodeKind as Kind}
@@ -10,13 +10,13 @@ use Rattle.scope_laws.specs.Place.{first}
 use Rattle.steps_allowed.specs.Arranged.{is_arranged_at, is_arranged}
 use Rattle.steps_allowed.specs.Places.{a_node}
 use Rattle.steps_allowed.specs.EmptyStatement.{empty_statement_leaves}
-use Rattle.steps_allowed.specs.Edits.{leaves, becomes, empty_statement, TreeEdits, no_tree_edit}
-use Rattle.steps_allowed.proofs.Composing.{tree_edits_compose}
+use Rattle.steps_allowed.specs.Edits.{empty_statement}
+use Rattle.steps_pass.proofs.Changes.{leaving_loss, Losses, no_loss, losses_compose}
 use Rattle.steps_pass.proofs.Paths.{Path, top, behind, behind_none, under, fill, around, row_at, asked_along, row_there, leaves_there, once}
 use Rattle.steps_pass.proofs.Arranging.{wrong}
 
-empty_leaves : (row : Row) (p : Path) (k : Kind) (n : Note) (below rest : Forest) → row_at p ≡ row → is_empty_in row k ≡ true → is_arranged_at k below ≡ true → TreeEdits (fill p (node k n below rest)) (fill p rest)
-empty_leaves items p Kind.EmptyStatement n nothing rest row e a = once (leaves_there p rest (a_node Kind.EmptyStatement n nothing) (empty_statement_leaves (around p (first rest)) n (row_there p rest items row)))
+empty_leaves : (row : Row) (p : Path) (k : Kind) (n : Note) (below rest : Forest) → row_at p ≡ row → is_empty_in row k ≡ true → is_arranged_at k below ≡ true → Losses (fill p (node k n below rest)) (fill p rest)
+empty_leaves items p Kind.EmptyStatement n nothing rest row e a = once (leaves_there p rest (a_node Kind.EmptyStatement n nothing) (leaving_loss (around p (first rest)) _ (empty_statement (empty_statement_leaves n (row_there p rest items row)))))
 empty_leaves items p Kind.EmptyStatement n (node k m b r) rest row e a = wrong a
 empty_leaves items p Kind.EmptyStatement n (absent r) rest row e a = wrong a
 empty_leaves items p k n below rest row e a = wrong e
@@ -28,19 +28,19 @@ abbrev left : Path → Forest → Forest
 left p f = swept no_names (asked_along false p) f
 
 by_node : (g : Bool) (p : Path) (k : Kind) (n : Note) (below rest : Forest) → is_empty_in (row_at p) k ≡ g → is_arranged_at k below ≡ true
-    → TreeEdits (fill (under p k n rest) below) (fill (under p k n rest) (left (under p k n rest) below)) → TreeEdits (fill p rest) (fill p (left p rest))
-    → TreeEdits (fill p (node k n (left (under p k n rest) below) rest)) (fill p (node k n (left (under p k n rest) below) (left p rest)))
-    → TreeEdits (fill p (node k n below rest)) (fill p (if g then left p rest else node k n (left (under p k n rest) below) (left p rest)))
-by_node true p k n below rest g a inner here kept = tree_edits_compose (empty_leaves (row_at p) p k n below rest refl g a) here
-by_node false p k n below rest g a inner here kept = tree_edits_compose inner kept
+    → Losses (fill (under p k n rest) below) (fill (under p k n rest) (left (under p k n rest) below)) → Losses (fill p rest) (fill p (left p rest))
+    → Losses (fill p (node k n (left (under p k n rest) below) rest)) (fill p (node k n (left (under p k n rest) below) (left p rest)))
+    → Losses (fill p (node k n below rest)) (fill p (if g then left p rest else node k n (left (under p k n rest) below) (left p rest)))
+by_node true p k n below rest g a inner here kept = losses_compose (empty_leaves (row_at p) p k n below rest refl g a) here
+by_node false p k n below rest g a inner here kept = losses_compose inner kept
 
-row_clears : (f : Forest) → is_arranged f ≡ true → (p : Path) → TreeEdits (fill p f) (fill p (left p f))
-row_clears nothing a p = no_tree_edit (fill p nothing)
+row_clears : (f : Forest) → is_arranged f ≡ true → (p : Path) → Losses (fill p f) (fill p (left p f))
+row_clears nothing a p = no_loss (fill p nothing)
 row_clears (absent rest) a p = row_clears rest a (behind_none p)
 row_clears (node k n below rest) a p =
     let b = and_parts (is_arranged_at k below) (is_arranged below && is_arranged rest) a in
     let c = and_parts (is_arranged below) (is_arranged rest) b.1 in
     by_node (is_empty_in (row_at p) k) p k n below rest refl b.0 (row_clears below c.0 (under p k n rest)) (row_clears rest c.1 p) (row_clears rest c.1 (behind p k n (left (under p k n rest) below)))
 
-pub clearing_comes : (t : Forest) → is_arranged t ≡ true → TreeEdits t (cleared t)
+pub clearing_comes : (t : Forest) → is_arranged t ≡ true → Losses t (cleared t)
 clearing_comes t a = row_clears t a top

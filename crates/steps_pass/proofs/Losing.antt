@@ -3,6 +3,7 @@ use Rattle.std.proofs.Common.{◌≡◌, ℕ, suc, Bool, true, false, not, ◌&&
 use Rattle.std.proofs.lemmas.Bool.{and_parts, and_from}
 use Rattle.js_syntax.specs.declared.node_kind.NodeKind.{NodeKind as Kind}
 use Rattle.js_syntax.specs.Node.{Forest, nothing, node, absent, Note}
+use Rattle.json_shape.specs.Shape.{is_directive_kind}
 use Rattle.scope_laws.specs.Place.{Around, first, behind as behind_node, behind_none as behind_absent, under, plug}
 use Rattle.scope_laws.specs.Lists.{is_list, is_listed, without}
 use Rattle.min_passes.specs.Unused.{is_export, has_own_names}
@@ -17,13 +18,9 @@ use Rattle.steps_owed.proofs.Parts.{name_leaf}
 use Rattle.steps_pass.proofs.Marks.{both_ways, either_way}
 use Rattle.steps_owed.proofs.Inside.{enclosed_here, enclosed_below, enclosed_rest}
 
-abbrev pub is_directive : Kind → Bool
-is_directive (Kind.Directive written) = true
-is_directive k = false
-
 -- `listed` says whether the row is a list
 pub data Loses : (listed : Bool) → (t u : Forest) → Type 0 where
-  leaves : (k : Kind) (n : Note) (below rest : Forest) → is_directive k ≡ false → Loses true (node k n below rest) rest
+  leaves : (k : Kind) (n : Note) (below rest : Forest) → is_directive_kind k ≡ false → Loses true (node k n below rest) rest
   empties : (listed : Bool) (n m : Note) (below rest : Forest) → Loses listed (node Kind.ExpressionStatement n below rest) (node Kind.EmptyStatement m nothing rest)
   inside : (listed : Bool) (k : Kind) (n : Note) (below now rest : Forest) → Loses (is_list k) below now → Loses listed (node k n below rest) (node k n now rest)
   behind : (listed : Bool) (k : Kind) (n : Note) (below rest now : Forest) → Loses listed rest now → Loses listed (node k n below rest) (node k n below now)
@@ -31,7 +28,7 @@ pub data Loses : (listed : Bool) → (t u : Forest) → Type 0 where
 
 -- ---- at a place
 
-pub without_loses : (row : Bool) (a : Around) (k : Kind) (n : Note) (below : Forest) → is_directive k ≡ false → is_listed row a ≡ true → Loses row (plug a (a_node k n below)) (without a)
+pub without_loses : (row : Bool) (a : Around) (k : Kind) (n : Note) (below : Forest) → is_directive_kind k ≡ false → is_listed row a ≡ true → Loses row (plug a (a_node k n below)) (without a)
 without_loses row (first rest) k n below apart e = subst (λ (r : Bool). Loses r (node k n below rest) rest) (sym e) (leaves k n below rest apart)
 without_loses row (behind_node j m b a) k n below apart e = behind row j m b (plug a (a_node k n below)) (without a) (without_loses row a k n below apart e)
 without_loses row (behind_absent a) k n below apart e = behind_none row (plug a (a_node k n below)) (without a) (without_loses row a k n below apart e)

@@ -1,4 +1,4 @@
--- What a pass leaves of a program comes by changes.
+-- What a pass leaves of a program comes by edits.
 use Rattle.std.proofs.Common.{◌≡◌, ◌∙◌, ◌⊎◌, inl, inr, ℕ, List, Bool, true, false, not, ◌&&◌, ◌||◌, if◌then◌else◌, Option, refl, sym, ap, subst}
 use Rattle.std.proofs.lemmas.Bool.{and_parts, or_left, or_right}
 use Rattle.js_syntax.specs.declared.node_kind.NodeKind.{NodeKind as Kind}
@@ -21,8 +21,8 @@ use Rattle.steps_allowed.specs.EmptyStatement.{empty_statement_leaves}
 use Rattle.steps_allowed.specs.UnusedFunction.{a_function}
 use Rattle.steps_allowed.specs.UnusedDeclarator.{a_declarator}
 use Rattle.steps_allowed.specs.UnusedDeclaration.{a_declaration}
-use Rattle.steps_allowed.specs.Edits.{Edit, leaves, becomes, empty_statement, TreeEdits, no_tree_edit, one_tree_edit}
-use Rattle.steps_allowed.proofs.Composing.{tree_edits_compose}
+use Rattle.steps_allowed.specs.Edits.{empty_statement}
+use Rattle.steps_pass.proofs.Changes.{Loss, leaving_loss, Losses, no_loss, one_loss, losses_compose}
 use Rattle.steps_fit.specs.Enclosed.{is_enclosed}
 use Rattle.steps_owed.specs.Kept.{is_program, TellsScopes}
 use Rattle.steps_pass.proofs.Cases.{Holds, holds_after, holds_after_many, holds_at_first, function_may_leave, statement_may_empty, declarator_may_leave, declaration_may_leave}
@@ -40,8 +40,8 @@ module _ (s : Scoping) (t : Forest) where
   abbrev Quiet : Bool → Forest → Type 0
   Quiet w value = (may_have_effects (names_of s t).bound w value || w && is_given value) ≡ false
 
-  then_many : (u v w : Forest) → TreeEdits u v → (Now v → TreeEdits v w) → Now u → TreeEdits u w
-  then_many u v w some more h = tree_edits_compose some (more (holds_after_many s (names_of s t) u v some h))
+  then_many : (u v w : Forest) → Losses u v → (Now v → Losses v w) → Now u → Losses u w
+  then_many u v w some more h = losses_compose some (more (holds_after_many s (names_of s t) u v some h))
 
   -- ---- what goes, by its sort
 
@@ -49,25 +49,25 @@ module _ (s : Scoping) (t : Forest) where
   at_place p rest x h = subst (λ v. Holds s (names_of s t) v) (sym (plugged p (first rest) x)) h
 
   function_goes_there : (p : Path) (pure : Bool) (n m : Note) (x : List ℕ) (r rest : Forest) → row_at p ≡ items → is_marked (names_of s t).functions m.id ≡ true
-      → Now (fill p (node (Kind.Function function_kind.Declaration pure) n (node (Kind.BindingName x) m nothing r) rest)) → TreeEdits (fill p (node (Kind.Function function_kind.Declaration pure) n (node (Kind.BindingName x) m nothing r) rest)) (fill p rest)
+      → Now (fill p (node (Kind.Function function_kind.Declaration pure) n (node (Kind.BindingName x) m nothing r) rest)) → Losses (fill p (node (Kind.Function function_kind.Declaration pure) n (node (Kind.BindingName x) m nothing r) rest)) (fill p rest)
   function_goes_there p pure n m x r rest row e h =
       let y = a_function pure n m x r in
       once (leaves_there p rest y (function_may_leave s t (around p (first rest)) pure n m x r (at_place p rest y h) (row_there p rest items row) e))
 
   statement_empties_there : (p : Path) (n m l : Note) (k : Kind) (inner rest : Forest) → may_have_effects (names_of s t).bound (with_at p) (alone k l inner) ≡ false → Now (fill p (node Kind.ExpressionStatement n (alone k l inner) rest))
-      → Edit (fill p (node Kind.ExpressionStatement n (alone k l inner) rest)) (fill p (node Kind.EmptyStatement m nothing rest))
+      → Loss (fill p (node Kind.ExpressionStatement n (alone k l inner) rest)) (fill p (node Kind.EmptyStatement m nothing rest))
   statement_empties_there p n m l k inner rest e h =
       let y = a_statement n l k inner in
       turns_there p rest y (a_node Kind.EmptyStatement m nothing)
       (statement_may_empty s t (around p (first rest)) n m l k inner (at_place p rest y h).kept (subst (λ w. may_have_effects (names_of s t).bound w (alone k l inner) ≡ false) (sym (with_there p rest)) e))
 
-  empty_goes_there : (p : Path) (n : Note) (rest : Forest) → row_at p ≡ items → Edit (fill p (node Kind.EmptyStatement n nothing rest)) (fill p rest)
-  empty_goes_there p n rest row = leaves_there p rest (a_node Kind.EmptyStatement n nothing) (empty_statement_leaves (around p (first rest)) n (row_there p rest items row))
+  empty_goes_there : (p : Path) (n : Note) (rest : Forest) → row_at p ≡ items → Loss (fill p (node Kind.EmptyStatement n nothing rest)) (fill p rest)
+  empty_goes_there p n rest row = leaves_there p rest (a_node Kind.EmptyStatement n nothing) (leaving_loss (around p (first rest)) _ (empty_statement (empty_statement_leaves n (row_there p rest items row))))
 
   statement_goes_there : (p : Path) (n l : Note) (k : Kind) (inner rest : Forest) → row_at p ≡ items → may_have_effects (names_of s t).bound (with_at p) (alone k l inner) ≡ false → Now (fill p (node Kind.ExpressionStatement n (alone k l inner) rest))
-      → TreeEdits (fill p (node Kind.ExpressionStatement n (alone k l inner) rest)) (fill p rest)
+      → Losses (fill p (node Kind.ExpressionStatement n (alone k l inner) rest)) (fill p rest)
   statement_goes_there p n l k inner rest row e h =
-      one_tree_edit (fill p (node Kind.ExpressionStatement n (alone k l inner) rest)) (fill p (node Kind.EmptyStatement n nothing rest)) (fill p rest) (statement_empties_there p n n l k inner rest e h) (once (empty_goes_there p n rest row))
+      one_loss (fill p (node Kind.ExpressionStatement n (alone k l inner) rest)) (fill p (node Kind.EmptyStatement n nothing rest)) (fill p rest) (statement_empties_there p n n l k inner rest e h) (once (empty_goes_there p n rest row))
 
   -- ---- declarators
 
@@ -85,7 +85,7 @@ module _ (s : Scoping) (t : Forest) where
   goes_view w Kind.VariableDeclarator (absent r) a g = wrong a
   goes_view w k below a g = wrong a
 
-  declarator_goes_there : (p : Path) (k : Kind) (l : Note) (below rest : Forest) → row_at p ≡ item_declarators → others false p || has_node rest ≡ true → Goes (with_at p) k below → Now (fill p (node k l below rest)) → Edit (fill p (node k l below rest)) (fill p rest)
+  declarator_goes_there : (p : Path) (k : Kind) (l : Note) (below rest : Forest) → row_at p ≡ item_declarators → others false p || has_node rest ≡ true → Goes (with_at p) k below → Now (fill p (node k l below rest)) → Loss (fill p (node k l below rest)) (fill p rest)
   declarator_goes_there p k l below rest row o (a_name x j value e quiet) h =
       let y = a_declarator l j x value in
       leaves_there p rest y
@@ -93,7 +93,7 @@ module _ (s : Scoping) (t : Forest) where
       (subst (λ w. (may_have_effects (names_of s t).bound w value || w && is_given value) ≡ false) (sym (with_there p rest)) quiet))
 
   only_goes_there : (p : Path) (how : VariableKind) (n m : Note) (k : Kind) (l : Note) (below rest : Forest) → row_at p ≡ items → Goes (with_at p) k below → Now (fill p (node (Kind.VariableDeclaration how) n (node Kind.Declarators m (node k l below nothing) nothing) rest))
-      → Edit (fill p (node (Kind.VariableDeclaration how) n (node Kind.Declarators m (node k l below nothing) nothing) rest)) (fill p rest)
+      → Loss (fill p (node (Kind.VariableDeclaration how) n (node Kind.Declarators m (node k l below nothing) nothing) rest)) (fill p rest)
   only_goes_there p how n m k l below rest row (a_name x j value e quiet) h =
       let y = a_declaration how n m l j x value in
       leaves_there p rest y
@@ -106,7 +106,7 @@ module _ (s : Scoping) (t : Forest) where
   -- all of them, one after the other
   declaration_goes_there : (p : Path) (how : VariableKind) (n m : Note) (k : Kind) (l : Note) (below more rest : Forest) → row_at p ≡ items → is_declarator k below && are_declarators more ≡ true
       → (not (goes_as_declarator (names_of s t) (with_at p) k below) || one_stays (names_of s t) (with_at p) more) ≡ false → Now (fill p (node (Kind.VariableDeclaration how) n (node Kind.Declarators m (node k l below more) nothing) rest))
-      → TreeEdits (fill p (node (Kind.VariableDeclaration how) n (node Kind.Declarators m (node k l below more) nothing) rest)) (fill p rest)
+      → Losses (fill p (node (Kind.VariableDeclaration how) n (node Kind.Declarators m (node k l below more) nothing) rest)) (fill p rest)
   declaration_goes_there p how n m k l below nothing rest row a e h =
       let g = not_false _ (first_of_neither (not (goes_as_declarator (names_of s t) (with_at p) k below)) false e) in
       once (only_goes_there p how n m k l below rest row (goes_view (with_at p) k below (and_parts (is_declarator k below) true a).0 g) h)
@@ -116,8 +116,8 @@ module _ (s : Scoping) (t : Forest) where
       let q = under (under p (Kind.VariableDeclaration how) n rest) Kind.Declarators m nothing in
       let arranged = and_parts (is_declarator k below) (is_declarator j b && are_declarators more) a in
       let view = subst (λ w. Goes w k below) (no_with (with_at p)) (goes_view (with_at p) k below arranged.0 g) in
-      let one : Edit (fill q (node k l below (node j i b more))) (fill q (node j i b more)) = declarator_goes_there q k l below (node j i b more) (ap (λ (r : Row). row_below (row_below r (Kind.VariableDeclaration how)) Kind.Declarators) row) refl view h in
-      one_tree_edit (fill q (node k l below (node j i b more))) (fill q (node j i b more)) (fill p rest) one
+      let one : Loss (fill q (node k l below (node j i b more))) (fill q (node j i b more)) = declarator_goes_there q k l below (node j i b more) (ap (λ (r : Row). row_below (row_below r (Kind.VariableDeclaration how)) Kind.Declarators) row) refl view h in
+      one_loss (fill q (node k l below (node j i b more))) (fill q (node j i b more)) (fill p rest) one
       (declaration_goes_there p how n m j i b more rest row arranged.1 (second_of_neither (not (goes_as_declarator (names_of s t) (with_at p) k below)) (one_stays (names_of s t) (with_at p) (node j i b more)) e)
       (holds_after s (names_of s t) (fill q (node k l below (node j i b more))) (fill q (node j i b more)) one h))
 
@@ -196,7 +196,7 @@ module _ (s : Scoping) (t : Forest) where
   stays_node w (absent rest) e = stays_node w rest e
   stays_node w (node k n below rest) e = refl
 
-  item_leaves : (p : Path) (k : Kind) (n : Note) (below rest : Forest) → row_at p ≡ items → goes_as_item (names_of s t) (with_at p) k below ≡ true → is_arranged_at k below ≡ true → Now (fill p (node k n below rest)) → TreeEdits (fill p (node k n below rest)) (fill p rest)
+  item_leaves : (p : Path) (k : Kind) (n : Note) (below rest : Forest) → row_at p ≡ items → goes_as_item (names_of s t) (with_at p) k below ≡ true → is_arranged_at k below ≡ true → Now (fill p (node k n below rest)) → Losses (fill p (node k n below rest)) (fill p rest)
   item_leaves p Kind.EmptyStatement n nothing rest row g a h = once (empty_goes_there p n rest row)
   item_leaves p Kind.EmptyStatement n (node k m b r) rest row g a h = wrong a
   item_leaves p Kind.EmptyStatement n (absent r) rest row g a h = wrong a
@@ -213,7 +213,7 @@ module _ (s : Scoping) (t : Forest) where
   item_leaves p k n below rest row g a h = wrong g
 
   node_leaves : (row : Row) (p : Path) (k : Kind) (n : Note) (below rest : Forest) → row_at p ≡ row → goes_in row (names_of s t) (with_at p) k below ≡ true → is_arranged_at k below ≡ true → RowOk row (with_at p) (others false p) (node k n below rest)
-      → Now (fill p (node k n below rest)) → TreeEdits (fill p (node k n below rest)) (fill p rest)
+      → Now (fill p (node k n below rest)) → Losses (fill p (node k n below rest)) (fill p rest)
   unfolding RowOk
   node_leaves items p k n below rest row g a ok h = item_leaves p k n below rest row g a h
   node_leaves of_item p k n below rest row g a ok h = wrong g
@@ -235,7 +235,7 @@ module _ (s : Scoping) (t : Forest) where
   silent_so other w k below e = e
 
   node_empties : (p : Path) (k : Kind) (n : Note) (below rest : Forest) → is_silent_statement (names_of s t) (with_at p) k below ≡ true → is_arranged_at k below ≡ true → Now (fill p (node k n below rest))
-      → TreeEdits (fill p (node k n below rest)) (fill p (node Kind.EmptyStatement (unmarked n) nothing rest))
+      → Losses (fill p (node k n below rest)) (fill p (node Kind.EmptyStatement (unmarked n) nothing rest))
   node_empties p Kind.ExpressionStatement n (node k l inner nothing) rest e a h = once (statement_empties_there p n (unmarked n) l k inner rest (not_true (may_have_effects (names_of s t).bound (with_at p) (alone k l inner)) e) h)
   node_empties p Kind.ExpressionStatement n below rest e a h = wrong a
   node_empties p k n below rest e a h = wrong e
@@ -243,12 +243,12 @@ module _ (s : Scoping) (t : Forest) where
   -- ---- rows
 
   abbrev Comes : Path → Forest → Type 0
-  Comes p f = RowOk (row_at p) (with_at p) (others false p) f → Now (fill p f) → TreeEdits (fill p f) (fill p (swept (names_of s t) (asked_along true p) f))
+  Comes p f = RowOk (row_at p) (with_at p) (others false p) f → Now (fill p f) → Losses (fill p f) (fill p (swept (names_of s t) (asked_along true p) f))
 
   by_node : (g e : Bool) (p : Path) (k : Kind) (n : Note) (below rest : Forest) → goes_in (row_at p) (names_of s t) (with_at p) k below ≡ g → empties_in (row_at p) (names_of s t) (with_at p) k below ≡ e → is_arranged_at k below ≡ true
       → Comes (under p k n rest) below → Comes p rest → Comes (behind p Kind.EmptyStatement (unmarked n) nothing) rest → Comes (behind p k n (swept (names_of s t) (asked_along true (under p k n rest)) below)) rest
       → RowOk (row_at p) (with_at p) (others false p) (node k n below rest) → Now (fill p (node k n below rest))
-      → TreeEdits (fill p (node k n below rest))
+      → Losses (fill p (node k n below rest))
       (fill p (if g then swept (names_of s t) (asked_along true p) rest else if e then node Kind.EmptyStatement (unmarked n) nothing (swept (names_of s t) (asked_along true p) rest)
       else node k n (swept (names_of s t) (asked_along true (under p k n rest)) below) (swept (names_of s t) (asked_along true p) rest)))
   by_node true e p k n below rest g em a inner here emptied kept ok h =
@@ -262,7 +262,7 @@ module _ (s : Scoping) (t : Forest) where
       (kept (rest_behind (row_at p) (with_at p) (others false p) k n below rest ok)) h
 
   row_comes : (f : Forest) → is_arranged f ≡ true → (p : Path) → Comes p f
-  row_comes nothing a p ok h = no_tree_edit (fill p nothing)
+  row_comes nothing a p ok h = no_loss (fill p nothing)
   row_comes (absent rest) a p ok h = row_comes rest a (behind_none p) (absent_ok (row_at p) (with_at p) (others false p) rest ok) h
   row_comes (node k n below rest) a p ok h =
       let b = and_parts (is_arranged_at k below) (is_arranged below && is_arranged rest) a in
@@ -270,6 +270,6 @@ module _ (s : Scoping) (t : Forest) where
       by_node (goes_in (row_at p) (names_of s t) (with_at p) k below) (empties_in (row_at p) (names_of s t) (with_at p) k below) p k n below rest refl refl b.0
       (row_comes below c.0 (under p k n rest)) (row_comes rest c.1 p) (row_comes rest c.1 (behind p Kind.EmptyStatement (unmarked n) nothing)) (row_comes rest c.1 (behind p k n (swept (names_of s t) (asked_along true (under p k n rest)) below))) ok h
 
-  pub pass_comes : is_program t ≡ true → is_arranged t ≡ true → is_enclosed t ≡ true → Exact s t → TellsScopes s t → TreeEdits t (passed (names_of s t) t)
+  pub pass_comes : is_program t ≡ true → is_arranged t ≡ true → is_enclosed t ≡ true → Exact s t → TellsScopes s t → Losses t (passed (names_of s t) t)
   unfolding RowOk
   pass_comes p a e exact told = row_comes t a top tt (holds_at_first s t p e exact told)

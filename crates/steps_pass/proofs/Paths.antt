@@ -9,7 +9,7 @@ use Rattle.min_pass.specs.Around.{row_below, is_with, outermost as asked_of_prog
 use Rattle.scope_laws.specs.Place.{Around, first, behind as place_behind, behind_none as place_behind_none, under as place_under, placed, plug}
 use Rattle.scope_laws.specs.Lists.{without}
 use Rattle.steps_allowed.specs.Places.{asked_at, has_other}
-use Rattle.steps_allowed.specs.Edits.{Edit, TreeEdits, one_tree_edit, no_tree_edit}
+use Rattle.steps_pass.proofs.Changes.{Loss, Losses, no_loss, one_loss}
 
 pub data Path : Type 0 where
   top : Path
@@ -84,13 +84,13 @@ other_there before (behind p k n below) a = other_there before p (place_behind k
 other_there before (behind_none p) a = other_there before p (place_behind_none a)
 other_there before (under p k n rest) a = other_there before p (place_under k n a rest)
 
--- ---- changes there
+-- ---- edits there
 
-pub leaves_there : (p : Path) (rest : Forest) (x : Option Tree) → Edit (plug (around p (first rest)) x) (without (around p (first rest))) → Edit (fill p (placed x rest)) (fill p rest)
-leaves_there p rest x one = subst (λ u. Edit (fill p (placed x rest)) u) (left_out p (first rest)) (subst (λ t. Edit t (without (around p (first rest)))) (plugged p (first rest) x) one)
+pub leaves_there : (p : Path) (rest : Forest) (x : Option Tree) → Loss (plug (around p (first rest)) x) (without (around p (first rest))) → Loss (fill p (placed x rest)) (fill p rest)
+leaves_there p rest x one = subst (λ u. Loss (fill p (placed x rest)) u) (left_out p (first rest)) (subst (λ t. Loss t (without (around p (first rest)))) (plugged p (first rest) x) one)
 
-pub turns_there : (p : Path) (rest : Forest) (x y : Option Tree) → Edit (plug (around p (first rest)) x) (plug (around p (first rest)) y) → Edit (fill p (placed x rest)) (fill p (placed y rest))
-turns_there p rest x y one = subst (λ u. Edit (fill p (placed x rest)) u) (plugged p (first rest) y) (subst (λ t. Edit t (plug (around p (first rest)) y)) (plugged p (first rest) x) one)
+pub turns_there : (p : Path) (rest : Forest) (x y : Option Tree) → Loss (plug (around p (first rest)) x) (plug (around p (first rest)) y) → Loss (fill p (placed x rest)) (fill p (placed y rest))
+turns_there p rest x y one = subst (λ u. Loss (fill p (placed x rest)) u) (plugged p (first rest) y) (subst (λ t. Loss t (plug (around p (first rest)) y)) (plugged p (first rest) x) one)
 
-pub once : {t u : Forest} → Edit t u → TreeEdits t u
-once {t = t} {u = u} one = one_tree_edit t u u one (no_tree_edit u)
+pub once : {t u : Forest} → Loss t u → Losses t u
+once {t = t} {u = u} one = one_loss t u u one (no_loss u)

@@ -20,7 +20,7 @@ second = under (Kind.Program source_type.Module) numbered (under Kind.Statements
 
 pub number_empties : Edit misplaced_marked without_number
 unfolding second
-number_empties = silent_statement_empties second nowhere nowhere nowhere (Kind.Literal (value.Number (pos 1))) (node (Kind.BindingName a) numbered nothing nothing) (inl refl, tt)
+number_empties = becomes second _ _ (silent_statement (silent_statement_empties nowhere nowhere nowhere (Kind.Literal (value.Number (pos 1))) (node (Kind.BindingName a) numbered nothing nothing) (inl refl, tt)))
 
 pub unkept : IsKept misplaced_table without_number → ⊥
 unkept k =

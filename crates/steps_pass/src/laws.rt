@@ -18,34 +18,17 @@ ghost use Rattle.steps_fit.specs.Enclosed.{is_enclosed};
 ghost use Rattle.steps_pass.specs.Samples.{all_enclosed, misplaced_table, misplaced_marked, without_number};
 ghost use Rattle.steps_owed.specs.Unseen.{IsUnreferred, IsUnseen};
 
-/// What declares nothing that is seen may leave a list: the table stays exact, with shorter lists.
-pub fn unseen_items_may_leave()
-    ensures { (a : Around) (x : Option Tree) → is_listed false a ≡ true → 0 < scopes_before a x → IsUnseen a x → (s : Scoping) → IsKept s (plug a x) → IsKept s (without a) }
-{}
-
-/// After each change of a program the table, with shorter lists, tells of what is left.
-pub fn a_change_keeps_the_table()
-    ensures program { (t u : Forest) → Edit t u → is_program t ≡ true → is_program u ≡ true }
-    ensures enclosed { (t u : Forest) → Edit t u → is_enclosed t ≡ true → is_enclosed u ≡ true }
-    ensures kept { (t u : Forest) → Edit t u → is_program t ≡ true → is_enclosed t ≡ true → (s : Scoping) → IsKept s t → IsKept s u }
-{}
-
-/// So it does after changes one after the other.
-pub fn changes_keep_the_table()
-    ensures { (t u : Forest) → TreeEdits t u → is_program t ≡ true → is_enclosed t ≡ true → (s : Scoping) → IsKept s t → IsKept s u }
-{}
-
-/// A table that is exact for a tree is kept before the first change.
+/// A table that is exact for a tree is kept before the first edit.
 pub fn exact_tables_are_kept()
     ensures { (s : Scoping) (t : Forest) → Exact s t → IsKept s t }
 {}
 
-/// Programs of the table of nodes declare names where they may, and without that a change may leave a
+/// Programs of the table of nodes declare names where they may, and without that an edit may leave a
 /// reference whose binding went.
 pub fn enclosing_is_needed()
     ensures samples { all_enclosed (blocks ++ functions ++ classes ++ statements ++ calls_of_eval ++ uses_of_names) ≡ true }
     ensures stood { Exact misplaced_table misplaced_marked }
-    ensures change { Edit misplaced_marked without_number }
+    ensures edit { Edit misplaced_marked without_number }
     ensures unkept { IsKept misplaced_table without_number → ⊥ }
 {}
 
@@ -55,13 +38,13 @@ pub fn names_let_go_what_is_unreferred()
     ensures variables { (s : Scoping) (t v : Forest) → IsKept s v → (b : BindingSite) → Among b (bindings_among (sites_of v)) → is_marked (names_of s t).variables b.id ≡ true → IsUnreferred v b }
 {}
 
-/// What a pass leaves of a program, by the names of its table, comes by single changes.
-pub fn what_a_pass_leaves_comes_by_changes()
+/// What a pass leaves of a program, by the names of its table, comes by single edits.
+pub fn what_a_pass_leaves_comes_by_edits()
     ensures { (s : Scoping) (t : Forest) → is_program t ≡ true → is_arranged t ≡ true → is_enclosed t ≡ true → Exact s t → TellsScopes s t → TreeEdits t (passed (names_of s t) t) }
 {}
 
 /// So does a tree without the empty statements of its lists.
-pub fn what_is_cleared_comes_by_changes()
+pub fn what_is_cleared_comes_by_edits()
     ensures { (t : Forest) → is_arranged t ≡ true → TreeEdits t (cleared t) }
 {}
 

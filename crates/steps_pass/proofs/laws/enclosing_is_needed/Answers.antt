@@ -5,4 +5,4 @@ use Rattle.steps_pass.proofs.Tried.{number_empties, unkept}
 use Rattle.steps_pass.proofs.laws.enclosing_is_needed.Goals as goal
 
 pub returns : goal.returns
-returns c = record { samples = refl; stood = exact misplaced; change = number_empties; unkept = unkept }
+returns c = record { samples = refl; stood = exact misplaced; edit = number_empties; unkept = unkept }

@@ -1,0 +1,83 @@
+-- An edit of a program leaves a table that is exact, with shorter lists: by shape.
+use Rattle.std.proofs.Common.{◌≡◌, ◌∙◌, ◌<◌, ◌⊎◌, inl, inr, Bool, true, false, true≢false, Option, Some, refl, sym, ap, arith}
+use Rattle.js_syntax.specs.declared.node_kind.NodeKind.{NodeKind as Kind}
+use Rattle.js_syntax.specs.declared.node_kind.NodeKind.TheVariants.{Program as program, Statements as statements, VariableDeclaration as variable_declaration, Declarators as declarators, EmptyStatement as empty_statement, ExpressionStatement as expression_statement}
+use Rattle.js_syntax.specs.Node.{Forest, Tree, Note, nothing, node, alone}
+use Rattle.min_pass.specs.declared.around.Around.{Around as Asked}
+use Rattle.min_pass.specs.declared.around.Row.{Row}
+use Rattle.min_pass.specs.declared.around.Row.TheVariants.{Items as items, OfItem as of_item, Declarators as item_declarators, Other as other}
+use Rattle.min_pass.specs.Around.{row_below, entered as asked_below, outermost as asked_of_program}
+use Rattle.scope_rules.specs.Context.{opens}
+use Rattle.scope_rules.specs.Site.{bit, opens_one}
+use Rattle.scope_rules.specs.Table.{Scoping}
+use Rattle.scope_laws.specs.Place.{Around, first, behind, behind_none, under, plug, scopes_before}
+use Rattle.scope_laws.specs.Lists.{is_list, is_listed, without}
+use Rattle.steps_allowed.specs.Places.{a_node, asked_at, At}
+use Rattle.steps_allowed.specs.Calls.{of_program}
+use Rattle.steps_allowed.specs.SilentStatement.{a_statement, SilentStatement}
+use Rattle.steps_fit.specs.Enclosed.{is_enclosed}
+use Rattle.steps_owed.specs.Kept.{is_program, IsKept}
+use Rattle.steps_owed.specs.Owed.{IsListed, Leaving}
+use Rattle.steps_owed.proofs.Unseen.{unseen_statement}
+use Rattle.steps_owed.proofs.KeptWithout.{kept_without, kept_emptied}
+
+-- ---- items and declarators stand in lists
+
+-- whether a row of this sort is a list
+abbrev is_row_of_list : Row → Bool
+is_row_of_list items = true
+is_row_of_list item_declarators = true
+is_row_of_list row = false
+
+row_is_list : (row : Row) (k : Kind) → is_row_of_list (row_below row k) ≡ true → is_list k ≡ true
+row_is_list row statements e = refl
+row_is_list items (variable_declaration how) e = absurd (true≢false (sym e))
+row_is_list of_item declarators e = refl
+row_is_list items k e = absurd (true≢false (sym e))
+row_is_list of_item k e = absurd (true≢false (sym e))
+row_is_list item_declarators k e = absurd (true≢false (sym e))
+row_is_list other k e = absurd (true≢false (sym e))
+
+listed_at : (w : Asked) (row : Bool) (a : Around) → (is_row_of_list w.row ≡ true → row ≡ true) → is_row_of_list (asked_at w a).row ≡ true → is_listed row a ≡ true
+listed_at w row (first rest) from e = from e
+listed_at w row (behind k n below a) from e = listed_at w row a from e
+listed_at w row (behind_none a) from e = listed_at w row a from e
+listed_at w row (under k n a rest) from e = listed_at (asked_below w k) (is_list k) a (row_is_list w.row k) e
+
+pub stands_in_list : (a : Around) (row : Row) → (asked_at (asked_of_program true) a).row ≡ row → is_row_of_list row ≡ true → is_listed false a ≡ true
+stands_in_list a row is e = listed_at (asked_of_program true) false a (λ h. h) (ap is_row_of_list is ∙ e)
+
+-- ---- each place in a program but its own lies in a scope
+
+first_opens : (k : Kind) (n : Note) (t rest : Forest) → is_program (node k n t rest) ≡ true → opens k t ≡ true
+first_opens (program source) n t rest e = refl
+first_opens k n t rest e = absurd (true≢false (sym e))
+
+one_of : (k : Kind) (t : Forest) → opens k t ≡ true → opens_one k t ≡ 1
+one_of k t e = ap (λ (b : Bool). bit b 1) e
+
+pub within_program : (a : Around) (x : Option Tree) → is_program (plug a x) ≡ true → ((rest : Forest) → is_program (plug (first rest) x) ≡ false) → 0 < scopes_before a x
+within_program (first rest) x e no_own = absurd (true≢false (sym e ∙ no_own rest))
+within_program (behind k n below a) x e no_own = Prim.omega (arith, one_of k below (first_opens k n below (plug a x) e))
+within_program (behind_none a) x e no_own = absurd (true≢false (sym e))
+within_program (under k n a rest) x e no_own = Prim.omega (arith, one_of k (plug a x) (first_opens k n (plug a x) rest e))
+
+-- ---- each shape
+
+pub in_list : (a : Around) → IsListed a → is_listed false a ≡ true
+in_list a (inl item) = stands_in_list a items item refl
+in_list a (inr declarator) = stands_in_list a item_declarators declarator.0 refl
+
+no_program : (k : Kind) (n : Note) (below rest : Forest) → of_program k 1 ≡ 0 → is_program (node k n below rest) ≡ false
+no_program (program source) n below rest e = absurd (Prim.omega (arith, e))
+no_program k n below rest e = refl
+
+pub leaving_keeps : (a : Around) (x : Tree) → Leaving a x → is_program (plug a (Some x)) ≡ true → is_enclosed (plug a (Some x)) ≡ true → (s : Scoping) → IsKept s (plug a (Some x)) → IsKept s (without a)
+leaving_keeps a x owed e w s kept =
+    kept_without a (Some x) (in_list a owed.listed) (within_program a (Some x) e (λ rest. no_program x.kind x.note x.below rest (owed.no_call.begins 1))) (owed.unseen w) s kept
+
+pub emptied_keeps : (a : Around) (n m l : Note) (k : Kind) (inner : Forest) → At a (a_statement n l k inner) (SilentStatement (plug a (a_statement n l k inner)) (alone k l inner)) → is_program (plug a (a_statement n l k inner)) ≡ true
+    → is_enclosed (plug a (a_statement n l k inner)) ≡ true → (s : Scoping) → IsKept s (plug a (a_statement n l k inner)) → IsKept s (plug a (a_node empty_statement m nothing))
+emptied_keeps a n m l k inner silent e w s kept =
+    let x : Tree = record { kind = expression_statement; note = n; below = alone k l inner } in
+    kept_emptied a x m (within_program a (Some x) e (λ rest. refl)) (unseen_statement a n l k inner w silent) s kept
