@@ -260,10 +260,10 @@ no_catch_inside s k = no_catch_below s k
 -- ---- rows
 
 -- where a part may stand for a node no rule asks further, and a statement may become empty
-pub not_asked : (w : Around) (k : Kind) → may_give_way w k ≡ true → w.is_asked ≡ false
+pub not_asked : (w : Around) (k : Kind) → may_give_way w.row w.is_asked k ≡ true → w.is_asked ≡ false
 not_asked w k h = not_true w.is_asked (first_of_both (not w.is_asked) (not (is_statement k) || may_empty w.row) h)
 
-pub statement_may : (w : Around) (k : Kind) → may_give_way w k ≡ true → is_statement k ≡ true → may_empty w.row ≡ true
+pub statement_may : (w : Around) (k : Kind) → may_give_way w.row w.is_asked k ≡ true → is_statement k ≡ true → may_empty w.row ≡ true
 statement_may w k h is = ap (λ x. not x || may_empty w.row) (sym is) ∙ second_of_both (not w.is_asked) (not (is_statement k) || may_empty w.row) h
 
 pub asked_there : (row : Row) (k : Kind) → asks_further k ≡ true → asked_below row k ≡ true

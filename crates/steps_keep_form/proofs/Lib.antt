@@ -17,3 +17,4 @@ pub mod Order
 pub mod Several
 pub mod Planned
 pub mod Fitting
+pub mod Firm

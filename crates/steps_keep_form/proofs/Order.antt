@@ -69,7 +69,7 @@ of_expression for_in_statement h g = absurd cc
 of_expression for_of_statement h g = absurd cc
 of_expression l h g = refl
 
-same_row : (w : Around) (k l : Kind) → gives_way k ≡ true → is_asked_for l ≡ false → is_statement l ≡ is_statement k → may_give_way w k ≡ true → row_below w.row l ≡ row_below (row_below w.row k) l
+same_row : (w : Around) (k l : Kind) → gives_way k ≡ true → is_asked_for l ≡ false → is_statement l ≡ is_statement k → may_give_way w.row w.is_asked k ≡ true → row_below w.row l ≡ row_below (row_below w.row k) l
 same_row w k l gives unasked alike may = of (is_statement k) refl
   where
     of : (x : Bool) → is_statement k ≡ x → row_below w.row l ≡ row_below (row_below w.row k) l

@@ -93,8 +93,8 @@ keeps_one of_declarators a b = length_of a == 0 || not (length_of b == 0)
 keeps_one row a b = true
 
 -- where a part may stand for a node of this kind: a statement's where statements may become empty
-abbrev pub may_give_way : Around → Kind → Bool
-may_give_way w whole = not w.is_asked && (not (is_statement whole) || may_empty w.row)
+abbrev pub may_give_way : Row → (is_asked : Bool) → Kind → Bool
+may_give_way row is_asked whole = not is_asked && (not (is_statement whole) || may_empty row)
 
 -- What is left of a row, by what stands around it.
 pub data Sheds : Around → (t u : Forest) → Type 0 where
@@ -108,4 +108,4 @@ pub data Sheds : Around → (t u : Forest) → Type 0 where
   -- a statement of an expression becomes empty
   empties : {w : Around} {n m : Note} {a r s : Forest} → may_empty w.row ≡ true → Sheds w r s → Sheds w (node expression_statement n a r) (node empty_statement m nothing s)
   -- a part of a node stands for it
-  becomes : {w : Around} {k l : Kind} {n m : Note} {a b r s : Forest} → StandsFor k a l b → may_give_way w k ≡ true → Sheds w r s → Sheds w (node k n a r) (node l m b s)
+  becomes : {w : Around} {k l : Kind} {n m : Note} {a b r s : Forest} → StandsFor k a l b → may_give_way w.row w.is_asked k ≡ true → Sheds w r s → Sheds w (node k n a r) (node l m b s)
