@@ -1,9 +1,3 @@
-pub mod KnownRemovals
-pub mod Separate
-pub mod Here
-pub mod Focus
-pub mod Silent
-pub mod Steps
 pub mod Fitting
 pub mod Binding
 pub mod Cells

@@ -6,8 +6,8 @@ use Rattle.js_meaning.proofs.Kept.{refined_joined}
 use Rattle.js_meaning_near.specs.Near.{module_of}
 use Rattle.steps.specs.Steps.{outermost, Step, no_step, one_step}
 use Rattle.steps_allowed.specs.Edits.{Edit, Edits, no_edit, one_edit}
-use Rattle.headline.proofs.Here.{placed_values}
-use Rattle.headline.proofs.Steps.{removal_steps}
+use Rattle.steps_owed.proofs.Here.{placed_values}
+use Rattle.steps_owed.proofs.AsSteps.{removal_steps}
 use Rattle.headline.proofs.Sound.{IsModule as WithNotes, is_module as with_notes, module_stays, IsSound, sound_steps, module_refines}
 use Rattle.headline.proofs.Known.{known}
 use Rattle.steps_fit.proofs.Arranged.{fits_arranged}

@@ -8,7 +8,7 @@ ghost use Rattle.steps_names.specs.Placed.{is_well_placed};
 ghost use Rattle.steps_fit.specs.Clear.{Clear};
 ghost use Rattle.steps_allowed.specs.Arranged.{is_arranged};
 ghost use Rattle.steps_allowed.specs.Edits.{Edit};
-ghost use Rattle.headline.specs.Plain.{has_plain_statements};
+ghost use Rattle.steps_fit.specs.Plain.{has_plain_statements};
 
 /// A change of a program is a step, where declarations stand where the table of nodes and the rules of
 /// form let them stand.

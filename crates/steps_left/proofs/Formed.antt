@@ -15,7 +15,7 @@ use Rattle.steps_keep_form.proofs.Form.{stays_well_formed}
 use Rattle.steps_keep_form.proofs.Order.{stays_laid_out}
 use Rattle.steps_keep_form.proofs.Fitting.{fits_laid_out}
 use Rattle.headline.proofs.Headline.{numbered_comes}
-use Rattle.steps_left.proofs.Sheds.{removal_sheds}
+use Rattle.steps_owed.proofs.Shedding.{removal_sheds}
 
 -- ---- other notes
 

@@ -1,1 +1,22 @@
-mod PartForm
+pub mod Inside
+pub mod Parts
+pub mod Unseen
+pub mod Unlisting
+pub mod KeptWithout
+pub mod Exports
+pub mod Seeking
+pub mod SilentSought
+pub mod Unexported
+pub mod Shedding
+pub mod KnownNames
+pub mod Separate
+pub mod Here
+pub mod Focus
+pub mod SilentActs
+pub mod AsSteps
+pub mod EmptyStatement
+pub mod UnusedFunction
+pub mod UnusedDeclarator
+pub mod UnusedDeclaration
+pub mod Owed
+pub mod PartForm

@@ -1,2 +1,6 @@
 pub mod Kept
 pub mod Unseen
+pub mod Unmarked
+pub mod Seeking
+pub mod Good
+pub mod Owed

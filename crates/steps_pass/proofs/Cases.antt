@@ -39,7 +39,7 @@ use Rattle.steps_pass.proofs.Names.{unlisted_unreferred}
 use Rattle.steps_pass.proofs.Marks.{variable_unlisted, function_unlisted, exports_unmarks}
 use Rattle.steps_pass.proofs.Exported.{unexported}
 use Rattle.steps_pass.proofs.Losing.{exports_stay}
-use Rattle.steps_pass.proofs.Unseen.{layer_below}
+use Rattle.steps_owed.proofs.Unseen.{layer_below}
 use Rattle.steps_pass.proofs.Changes.{change_loses, change_stays}
 use Rattle.steps_pass.proofs.Silent.{AllOf, of_left, of_right, all_there, marked_as, silent_row, holds_there, AllDeclared, holds_of_declared, silent_statement}
 use Rattle.js_syntax.proofs.Truth.{first_of_neither, second_of_neither}

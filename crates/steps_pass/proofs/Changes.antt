@@ -27,8 +27,8 @@ use Rattle.steps_fit.specs.Enclosed.{is_enclosed}
 use Rattle.steps_owed.specs.Unseen.{IsUnseen}
 use Rattle.steps_owed.specs.Kept.{is_program, IsKept}
 use Rattle.steps_pass.proofs.Losing.{Loses, without_loses, emptied_loses, program_stays, enclosed_stays}
-use Rattle.steps_pass.proofs.Unseen.{unseen_statement, unseen_function, unseen_declarator, unseen_declaration}
-use Rattle.steps_pass.proofs.Leaving.{kept_without, kept_emptied}
+use Rattle.steps_owed.proofs.Unseen.{unseen_statement, unseen_function, unseen_declarator, unseen_declaration}
+use Rattle.steps_owed.proofs.KeptWithout.{kept_without, kept_emptied}
 
 -- ---- items and declarators stand in lists
 

@@ -13,20 +13,11 @@ use Rattle.min_passes.specs.Unused.{is_export, has_own_names}
 use Rattle.steps_names.specs.Standing.{is_export as is_export_node, exported_sites, exported_declarations}
 use Rattle.steps_names.proofs.Sites.{InThree, in_first, in_second, in_third, binding_in, binding_second, binding_third}
 use Rattle.steps_fit.specs.Enclosed.{is_binding, is_enclosed_at, is_enclosed}
-use Rattle.steps_pass.specs.Cases.{name_unmarked, first_unmarked, declared_unmarked, exports_unmarked}
+use Rattle.steps_owed.specs.Unmarked.{name_unmarked, first_unmarked}
+use Rattle.steps_pass.specs.Cases.{declared_unmarked, exports_unmarked}
 use Rattle.steps_owed.specs.Kept.{IsKept, is_program}
-use Rattle.steps_pass.proofs.Inside.{named}
-use Rattle.steps_pass.proofs.Parts.{Part, named_first, further, unmarked_of, function_parts, class_parts}
-
-module _ (k : Kind) (n : Note) (below rest : Forest) (h : is_enclosed (node k n below rest) ≡ true) where
-  pub enclosed_here : is_enclosed_at k below ≡ true
-  enclosed_here = (and_parts (is_enclosed_at k below) _ h).0
-
-  pub enclosed_below : is_enclosed below ≡ true
-  enclosed_below = (and_parts (is_enclosed below) (is_enclosed rest) (and_parts (is_enclosed_at k below) _ h).1).0
-
-  pub enclosed_rest : is_enclosed rest ≡ true
-  enclosed_rest = (and_parts (is_enclosed below) (is_enclosed rest) (and_parts (is_enclosed_at k below) _ h).1).1
+use Rattle.steps_owed.proofs.Inside.{named, enclosed_here, enclosed_below, enclosed_rest}
+use Rattle.steps_owed.proofs.Parts.{Part, named_first, further, unmarked_of, function_parts, class_parts}
 
 -- ---- below an export
 

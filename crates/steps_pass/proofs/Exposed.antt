@@ -17,7 +17,7 @@ use Rattle.scope_rules.specs.Site.{has_eval, scope_row}
 use Rattle.scope_laws.specs.Lists.{is_list}
 use Rattle.min_pass.specs.Pass.{Names}
 use Rattle.steps_allowed.specs.Exposure.{Exposure, in_code, in_block, declaring, shares, is_script_source, is_script, at_function_name, at_class_name, exposed_inside, beside_program, exposed_of, function_is_exposed, evaluates_somewhere}
-use Rattle.steps_pass.specs.Cases.{first_unmarked}
+use Rattle.steps_owed.specs.Unmarked.{first_unmarked}
 use Rattle.steps_pass.specs.Exposed.{unexposed_at, unexposed, IsUnexposed}
 use Rattle.js_syntax.proofs.Truth.{second_of_either}
 use Rattle.steps_pass.proofs.Losing.{Loses, leaves, empties, inside, behind, behind_none, first_stays}

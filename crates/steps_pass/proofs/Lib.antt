@@ -1,16 +1,11 @@
-pub mod Inside
-pub mod Unlisting
 pub mod Names
-pub mod Leaving
 pub mod Marks
 pub mod Silent
-pub mod Parts
 pub mod Exported
 pub mod Losing
 pub mod Exposed
 pub mod Unexposed
 pub mod Standing
-pub mod Unseen
 pub mod Changes
 pub mod Cases
 pub mod Paths

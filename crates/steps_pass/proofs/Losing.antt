@@ -9,12 +9,13 @@ use Rattle.min_passes.specs.Unused.{is_export, has_own_names}
 use Rattle.steps_allowed.specs.Arranged.{is_nothing}
 use Rattle.steps_allowed.specs.Places.{a_node}
 use Rattle.steps_fit.specs.Enclosed.{is_binding, is_var, inherits, passes, closed, begins_with_name, none, is_enclosed_at, is_enclosed}
-use Rattle.steps_pass.specs.Cases.{name_unmarked, first_unmarked, declared_unmarked, exports_unmarked}
+use Rattle.steps_owed.specs.Unmarked.{name_unmarked, first_unmarked}
+use Rattle.steps_pass.specs.Cases.{declared_unmarked, exports_unmarked}
 use Rattle.steps_owed.specs.Kept.{is_program}
-use Rattle.steps_pass.proofs.Inside.{closed_name, closed_var, closed_below, closed_rest}
-use Rattle.steps_pass.proofs.Parts.{name_leaf}
+use Rattle.steps_owed.proofs.Inside.{closed_name, closed_var, closed_below, closed_rest}
+use Rattle.steps_owed.proofs.Parts.{name_leaf}
 use Rattle.steps_pass.proofs.Marks.{both_ways, either_way}
-use Rattle.steps_pass.proofs.Exported.{enclosed_here, enclosed_below, enclosed_rest}
+use Rattle.steps_owed.proofs.Inside.{enclosed_here, enclosed_below, enclosed_rest}
 
 abbrev pub is_directive : Kind → Bool
 is_directive (Kind.Directive written) = true

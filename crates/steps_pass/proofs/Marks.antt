@@ -10,7 +10,8 @@ use Rattle.scope_rules.specs.Table.{Symbol, Reference, Scoping}
 use Rattle.scope_table.specs.Reading.{no_symbol, no_reference, symbol_at, reference_at}
 use Rattle.min_passes.specs.Unused.{is_script, variable_is_unused, function_is_unused, without, is_export, without_name, without_first, has_own_names, without_declared, without_exported, answers, names_of}
 use Rattle.steps_fit.specs.Enclosed.{is_binding}
-use Rattle.steps_pass.specs.Cases.{name_unmarked, first_unmarked, declared_unmarked, exports_unmarked}
+use Rattle.steps_owed.specs.Unmarked.{name_unmarked, first_unmarked}
+use Rattle.steps_pass.specs.Cases.{declared_unmarked, exports_unmarked}
 use Rattle.steps_pass.proofs.Names.{IsUnlisted}
 
 -- ---- lists of marks

@@ -9,16 +9,7 @@ use Rattle.scope_laws.specs.Exact.{Among}
 use Rattle.scope_laws.specs.Place.{Around, plug, sites_there}
 use Rattle.scope_laws.specs.Keeping.{IsWithin}
 use Rattle.min_passes.specs.Unused.{is_export, has_own_names}
-use Rattle.steps_fit.specs.Enclosed.{is_binding}
-
--- ---- names without marks
-
-abbrev pub name_unmarked : List Bool → Kind → Note → Bool
-name_unmarked marks k n = not (is_binding k && is_marked marks n.id)
-
-abbrev pub first_unmarked : List Bool → Forest → Bool
-first_unmarked marks (node k n below rest) = name_unmarked marks k n
-first_unmarked marks t = true
+use Rattle.steps_owed.specs.Unmarked.{name_unmarked, first_unmarked}
 
 -- those that a declaration in the row declares
 abbrev pub declared_unmarked : List Bool → Forest → Bool

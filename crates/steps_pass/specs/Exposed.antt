@@ -6,7 +6,7 @@ use Rattle.js_syntax.specs.declared.kind.FunctionKind.TheVariants as function_ki
 use Rattle.js_syntax.specs.Node.{Forest, nothing, node, absent}
 use Rattle.min_pass.specs.Pass.{Names}
 use Rattle.steps_allowed.specs.Exposure.{Exposure, exposed_inside, exposed_of, function_is_exposed, evaluates_somewhere}
-use Rattle.steps_pass.specs.Cases.{first_unmarked}
+use Rattle.steps_owed.specs.Unmarked.{first_unmarked}
 
 -- Of a function and of a declarator; `evaluates` says whether the program has a direct call of `eval` somewhere.
 abbrev pub unexposed_at : Names → (evaluates : Bool) → Exposure → Kind → (below : Forest) → Bool

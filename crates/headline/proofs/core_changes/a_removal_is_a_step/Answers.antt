@@ -1,5 +1,5 @@
-use Rattle.headline.proofs.Here.{placed_values}
-use Rattle.headline.proofs.Steps.{removal_steps}
+use Rattle.steps_owed.proofs.Here.{placed_values}
+use Rattle.steps_owed.proofs.AsSteps.{removal_steps}
 use Rattle.headline.proofs.core_changes.a_removal_is_a_step.Goals as goal
 
 pub returns : goal.returns

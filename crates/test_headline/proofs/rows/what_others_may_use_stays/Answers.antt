@@ -1,4 +1,4 @@
-use Rattle.steps_allowed.proofs.Changing.{evaluated_stays, global_stays, sloppy_stays}
+use Rattle.steps_owed.proofs.Changing.{evaluated_stays, global_stays, sloppy_stays}
 use Rattle.test_headline.proofs.rows.what_others_may_use_stays.Goals as goal
 
 pub returns : goal.returns

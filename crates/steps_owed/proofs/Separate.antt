@@ -15,7 +15,7 @@ use Rattle.steps_allowed.specs.Arranged.{is_declarator, are_declarators, has_dec
 use Rattle.steps_names.specs.Placed.{the_statements, a_body, a_case, Place, no_node, names, code, program_list, module_items, lists, items as items_place, declared, specifiers, cases, case_items, others, sort_of, place_below, specifier_place, fits}
 use Rattle.steps_names.proofs.Lists.{in_left, in_right, declared_left, declared_right, declared_so}
 use Rattle.steps_names.proofs.Taking.{never_fits}
-use Rattle.headline.proofs.KnownRemovals.{among_cases}
+use Rattle.steps_owed.proofs.KnownNames.{among_cases}
 
 -- ---- lists without common names
 

@@ -21,13 +21,10 @@ use Rattle.steps_names.proofs.Unused.{declared}
 use Rattle.steps_allowed.specs.Free.{IsFree}
 use Rattle.steps_keep_form.specs.Sheds.{Row, row_below, exported_below, sought_inside}
 use Rattle.steps_keep_form.specs.Layout.{stands_right, is_laid_out}
-use Rattle.steps_left.proofs.Exports.{Reads, exported_is_read}
+use Rattle.steps_owed.specs.Seeking.{Within, IsRead, AllRead, Seeks}
+use Rattle.steps_owed.proofs.Exports.{Reads, exported_is_read}
 
 -- ---- what stands in a part of the tree stands in the tree
-
-pub record Within (t : Forest) (ss : List Site) : Type 0 where
-  pub binding : (b : BindingSite) → Among b (bindings_among ss) → Among b (bindings_among (sites_of t))
-  pub reference : (r : ReferenceSite) → Among r (references_among ss) → Among r (references_among (sites_of t))
 
 module _ (t : Forest) (cs : ℕ → Context) (at next : ℕ) (k : Kind) (n : Note) (a r : Forest) (within : Within t (sites cs at next (node k n a r))) where
   abbrev own : List Site
@@ -46,26 +43,6 @@ module _ (t : Forest) (cs : ℕ → Context) (at next : ℕ) (k : Kind) (n : Not
   within_later = record { binding = λ b h. within.binding b (binding_third b own below later h); reference = λ x h. within.reference x (reference_third x own below later h) }
 
 -- ---- exported names
-
--- a reference of the tree reads this name in a scope of this layer
-pub record IsRead (t : Forest) (x : List ℕ) (l : Layer) : Type 0 where
-  pub reference : ReferenceSite
-  pub stands : Among reference (references_among (sites_of t))
-  pub name : reference.name ≡ x
-  pub rest : List Layer
-  pub layers : reference.layers ≡ l ∷ rest
-
-abbrev pub AllRead : Forest → List Exported → Layer → Type 0
-AllRead t es l = (x : List ℕ) → is_exported x es ≡ true → IsRead t x l
-
--- by what is sought at the place for the top of the program
-abbrev pub Seeks : Forest → Sought → List Exported → Context → Type 0
-Seeks t (scope f) es c = AllRead t es c.block × AllRead t es c.variables
-Seeks t variables es c = AllRead t es c.variables
-Seeks t (bound f) es c = AllRead t es c.declaring.layer
-Seeks t function_scope es c = ⊥
-Seeks t (catch_scope f) es c = ⊥
-Seeks t s es c = Unit {0}
 
 abbrev is_program : Kind → Bool
 is_program (program source) = true

@@ -1,4 +1,4 @@
--- Each removal is a step.
+-- What edits of declarations and silent statements do to a core module are steps.
 use Rattle.std.proofs.Common.{◌≡◌, ◌+◌, Bool, true, false, ◌&&◌, List, [], ◌∷◌, ◌++◌, Some, bytes_eq, refl, subst}
 use Rattle.std.proofs.lemmas.Bool.{and_parts, or_left, false_from_ne_true}
 use Rattle.std.proofs.lemmas.Slice.Eq.{bytes_eq-Decides}
@@ -15,14 +15,12 @@ use Rattle.steps.specs.Steps as steps
 use Rattle.steps.specs.Steps.{Row, items, declarators, Around, is_used, Initialiser, Step}
 use Rattle.steps_fit.specs.Clear.{Apart}
 use Rattle.steps_allowed.specs.Arranged.{is_leaf, is_field, is_declarator, are_declarators}
-use Rattle.steps_allowed.specs.Edits as removes
 use Rattle.steps_allowed.specs.Places.{a_node, At, IsItem, IsDeclarator, has_other}
 use Rattle.steps_allowed.specs.Free.{IsFree, Free, FreeDeclarator}
 use Rattle.steps_allowed.specs.SilentStatement.{a_statement, SilentStatement}
 use Rattle.steps_allowed.specs.UnusedFunction.{a_function}
 use Rattle.steps_allowed.specs.UnusedDeclarator.{a_declarator, SilentDeclarator}
 use Rattle.steps_allowed.specs.UnusedDeclaration.{one_declarator, a_declaration, SilentDeclaration}
-use Rattle.steps_allowed.specs.Edits.{Edit}
 use Rattle.scope_rules.specs.Context.{inside, in_variables, outermost as outermost_context}
 use Rattle.scope_rules.specs.Site.{opens_one, scope_count}
 use Rattle.scope_rules.specs.Binding.{named_in}
@@ -33,11 +31,12 @@ use Rattle.steps_names.specs.Standing.{is_crossed}
 use Rattle.steps_names.proofs.Lists.{in_left, declared_left, declared_so}
 use Rattle.steps_names.proofs.Standing.{declarations_of}
 use Rattle.steps_names.proofs.Unused.{RowDeclares, holds, function_unused, declaration_unused, declarator_unused}
-use Rattle.headline.proofs.KnownRemovals.{variables_known}
-use Rattle.headline.proofs.Separate.{ListApart, CrossApart, RowApart}
-use Rattle.headline.proofs.Here.{Good, plain_value_here, plain_statement_here, arranged_here, good_below}
-use Rattle.headline.proofs.Focus.{focused, both_there, always}
-use Rattle.headline.proofs.Silent.{silent_row, no_names, initialiser}
+use Rattle.steps_owed.proofs.KnownNames.{variables_known}
+use Rattle.steps_owed.proofs.Separate.{ListApart, CrossApart, RowApart}
+use Rattle.steps_owed.specs.Good.{Good}
+use Rattle.steps_owed.proofs.Here.{plain_value_here, plain_statement_here, arranged_here, good_below}
+use Rattle.steps_owed.proofs.Focus.{focused, both_there, always}
+use Rattle.steps_owed.proofs.SilentActs.{silent_row, no_names, initialiser}
 
 -- ---- names that are not crossed
 
@@ -65,19 +64,19 @@ declaration_seen w variable.Const x n a r e vars lists = false_from_ne_true (is_
 field_behind : (k : Kind) (value : Forest) → (is_leaf k nothing && is_field value) ≡ true → is_field value ≡ true
 field_behind k value e = (and_parts (is_leaf k nothing) (is_field value) e).1
 
--- ---- each removal
+-- ---- each edit
 
 -- the tree before, the one place that changes, and what the tree is
 module _ (a : Place) where
   -- an empty statement leaves
-  empty_step : (n : Note) → is_well_placed (plug a (a_node Kind.EmptyStatement n nothing)) ≡ true → Good (plug a (a_node Kind.EmptyStatement n nothing)) → IsItem a → Step steps.outermost (plug a (a_node Kind.EmptyStatement n nothing)) (without a)
+  pub empty_step : (n : Note) → is_well_placed (plug a (a_node Kind.EmptyStatement n nothing)) ≡ true → Good (plug a (a_node Kind.EmptyStatement n nothing)) → IsItem a → Step steps.outermost (plug a (a_node Kind.EmptyStatement n nothing)) (without a)
   empty_step n w good item =
       let x : Tree = record { kind = Kind.EmptyStatement; note = n; below = nothing } in
       let f = focused x (λ b c i. Unit {0}) a refl w good (always (Some x) a false (λ i. outermost_context) 0 0) in
       f.leaves (steps.empty_statement_leaves (f.item item))
 
   -- a statement becomes empty
-  statement_step : (n m l : Note) (k : Kind) (inner : Forest) → is_well_placed (plug a (a_statement n l k inner)) ≡ true → Good (plug a (a_statement n l k inner))
+  pub statement_step : (n m l : Note) (k : Kind) (inner : Forest) → is_well_placed (plug a (a_statement n l k inner)) ≡ true → Good (plug a (a_statement n l k inner))
       → At a (a_statement n l k inner) (SilentStatement (plug a (a_statement n l k inner)) (alone k l inner)) → Step steps.outermost (plug a (a_statement n l k inner)) (plug a (a_node Kind.EmptyStatement m nothing))
   statement_step n m l k inner w good silent =
       let expression = alone k l inner in
@@ -90,7 +89,7 @@ module _ (a : Place) where
       }))
 
   -- a function declaration leaves
-  function_step : (pure : Bool) (n m : Note) (x : Text) (rest : Forest) → is_well_placed (plug a (a_function pure n m x rest)) ≡ true → Good (plug a (a_function pure n m x rest)) → IsItem a
+  pub function_step : (pure : Bool) (n m : Note) (x : Text) (rest : Forest) → is_well_placed (plug a (a_function pure n m x rest)) ≡ true → Good (plug a (a_function pure n m x rest)) → IsItem a
       → At a (a_function pure n m x rest) (Free (plug a (a_function pure n m x rest)) variable.Let x) → Step steps.outermost (plug a (a_function pure n m x rest)) (without a)
   function_step pure n m x rest w good item free =
       let y : Tree = record { kind = Kind.Function function_kind.Declaration pure; note = n; below = node (Kind.BindingName x) m nothing rest } in
@@ -104,7 +103,7 @@ module _ (a : Place) where
       })))
 
   -- a declarator leaves the others
-  declarator_step : (n m : Note) (x : Text) (value : Forest) → is_well_placed (plug a (a_declarator n m x value)) ≡ true → Good (plug a (a_declarator n m x value)) → IsDeclarator a → has_other false a ≡ true
+  pub declarator_step : (n m : Note) (x : Text) (value : Forest) → is_well_placed (plug a (a_declarator n m x value)) ≡ true → Good (plug a (a_declarator n m x value)) → IsDeclarator a → has_other false a ≡ true
       → At a (a_declarator n m x value) (SilentDeclarator (plug a (a_declarator n m x value)) (node (Kind.BindingName x) m nothing value)) → At a (a_declarator n m x value) (FreeDeclarator (plug a (a_declarator n m x value)) x)
       → Step steps.outermost (plug a (a_declarator n m x value)) (without a)
   declarator_step n m x value w good item others silent free =
@@ -128,7 +127,7 @@ module _ (a : Place) where
       (field_behind (Kind.BindingName x) value (and_parts (is_declarator Kind.VariableDeclarator inner) (are_declarators f.rest) apart.1).0) (plain_value_here Kind.VariableDeclarator n inner f.rest f.here.good) f.there.0.1))
 
   -- a declaration leaves
-  declaration_step : (how : VariableKind) (n m l j : Note) (x : Text) (value : Forest) → is_well_placed (plug a (a_declaration how n m l j x value)) ≡ true → Good (plug a (a_declaration how n m l j x value)) → IsItem a
+  pub declaration_step : (how : VariableKind) (n m l j : Note) (x : Text) (value : Forest) → is_well_placed (plug a (a_declaration how n m l j x value)) ≡ true → Good (plug a (a_declaration how n m l j x value)) → IsItem a
       → At a (a_declaration how n m l j x value) (SilentDeclaration (plug a (a_declaration how n m l j x value)) how m l (node (Kind.BindingName x) j nothing value))
       → At a (a_declaration how n m l j x value) (Free (plug a (a_declaration how n m l j x value)) how x) → Step steps.outermost (plug a (a_declaration how n m l j x value)) (without a)
   declaration_step how n m l j x value w good item silent free =
@@ -153,10 +152,3 @@ module _ (a : Place) where
       (initialiser (declarations_of t) f.around.names f.in_with (inside e (place + opens_one Kind.Declarators ds) Kind.VariableDeclarator inner) 1
       (place + opens_one Kind.Declarators ds + opens_one Kind.VariableDeclarator inner + scope_count (node (Kind.BindingName x) j nothing nothing)) value (λ i. variables_known (declarations_of t) f.around.names c how f.here.known.0)
       (field_behind (Kind.BindingName x) value (and_parts (is_declarator Kind.VariableDeclarator inner) true (arranged_here (Kind.VariableDeclaration how) n all f.rest f.here.good)).0) (plain_value_here Kind.VariableDeclarator l inner nothing in_list) f.there.0.1))
-
-pub removal_steps : (t u : Forest) → Edit t u → is_well_placed t ≡ true → Good t → Step steps.outermost t u
-removal_steps t u (removes.empty_statement_leaves a n item) w good = empty_step a n w good item
-removal_steps t u (removes.silent_statement_empties a n m l k inner silent) w good = statement_step a n m l k inner w good silent
-removal_steps t u (removes.unused_function_leaves a pure n m x rest item own free) w good = function_step a pure n m x rest w good item free
-removal_steps t u (removes.unused_declarator_leaves a n m x value item others own silent free) w good = declarator_step a n m x value w good item others silent free
-removal_steps t u (removes.unused_declaration_leaves a how n m l j x value item own silent free) w good = declaration_step a how n m l j x value w good item silent free

@@ -16,7 +16,7 @@ use Rattle.scope_rules.specs.Binding.{named_in, binding_layer}
 use Rattle.js_effects.specs.Silence.{is_value, runs_its_parts}
 use Rattle.steps_names.specs.Placed.{is_none}
 use Rattle.steps_names.proofs.Taking.{keeps, kept}
-use Rattle.headline.proofs.KnownRemovals.{Known}
+use Rattle.steps_owed.proofs.KnownNames.{Known}
 use Rattle.js_syntax.proofs.Truth.{neither}
 
 -- ---- sorts of nodes

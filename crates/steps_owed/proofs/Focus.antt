@@ -17,7 +17,8 @@ use Rattle.scope_laws.specs.Lists.{without}
 use Rattle.steps_allowed.specs.Silent.{HoldsThere}
 use Rattle.steps_allowed.specs.Places.{asked_at, has_node, has_other}
 use Rattle.steps_names.specs.Placed.{is_well_placed}
-use Rattle.headline.proofs.Here.{Good, good_below, Here, here_program, here_below, here_behind, here_absent}
+use Rattle.steps_owed.specs.Good.{Good}
+use Rattle.steps_owed.proofs.Here.{good_below, Here, here_program, here_below, here_behind, here_absent}
 use Rattle.steps_names.proofs.Unused.{entered_row}
 
 -- ---- the row of a step by the row that is asked
@@ -236,6 +237,14 @@ both_there p q x (first rest) in_with cs at next h g = (h, g)
 both_there p q x (behind k n below a) in_with cs at next h g = both_there p q x a in_with cs (suc at) (next + scope_count (node k n below nothing)) h g
 both_there p q x (behind_none a) in_with cs at next h g = both_there p q x a in_with cs (suc at) next h g
 both_there p q x (under k n a rest) in_with cs at next h g = both_there p q x a (in_with || is_with k) (inside_context (cs at) next k (plug a x)) 0 (next + opens_one k (plug a x)) h g
+
+-- what follows at a place from what holds there
+pub follows_there : (p q : Bool → Context → ℕ → Type 0) → ((b : Bool) (c : Context) (i : ℕ) → p b c i → q b c i) → (x : Option Tree) (a : Place) (in_with : Bool) (cs : ℕ → Context) (at next : ℕ) → HoldsThere in_with cs at next a x p
+    → HoldsThere in_with cs at next a x q
+follows_there p q f x (first rest) in_with cs at next h = f in_with (cs at) next h
+follows_there p q f x (behind k n below a) in_with cs at next h = follows_there p q f x a in_with cs (suc at) (next + scope_count (node k n below nothing)) h
+follows_there p q f x (behind_none a) in_with cs at next h = follows_there p q f x a in_with cs (suc at) next h
+follows_there p q f x (under k n a rest) in_with cs at next h = follows_there p q f x a (in_with || is_with k) (inside_context (cs at) next k (plug a x)) 0 (next + opens_one k (plug a x)) h
 
 -- what always holds
 pub always : (x : Option Tree) (a : Place) (in_with : Bool) (cs : ℕ → Context) (at next : ℕ) → HoldsThere in_with cs at next a x (λ b c i. Unit {0})

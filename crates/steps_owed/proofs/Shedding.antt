@@ -1,4 +1,4 @@
--- By a change that is allowed a program that is laid out sheds what it may shed.
+-- By an edit a program that is laid out sheds what it may shed.
 use Rattle.std.proofs.Common.{◌≡◌, ◌∙◌, ◌⊎◌, inl, inr, ℕ, suc, ◌+◌, ◌==◌, Bool, true, false, not, ◌||◌, Option, Some, List, refl, sym, ap, subst, true≢false, arith}
 use Rattle.std.proofs.lemmas.Bool.Decides.{nat_tests}
 use Rattle.js_syntax.specs.declared.node_kind.NodeKind.{NodeKind as Kind}
@@ -20,25 +20,16 @@ use Rattle.scope_rules.specs.Site.{BindingSite, opens_one, scope_count, sites, s
 use Rattle.scope_laws.specs.Place.{Around as Place, first, behind, behind_none, under, plug}
 use Rattle.scope_laws.specs.Lists.{without}
 use Rattle.steps_allowed.specs.Silent.{HoldsThere}
-use Rattle.steps_allowed.specs.Places.{a_node, At, asked_at, has_node, has_other}
-use Rattle.steps_allowed.specs.Free.{Free, FreeDeclarator}
-use Rattle.steps_allowed.specs.SilentStatement.{a_statement, silent_statement_empties}
-use Rattle.steps_allowed.specs.EmptyStatement.{empty_statement_leaves}
-use Rattle.steps_allowed.specs.UnusedFunction.{a_function, unused_function_leaves}
-use Rattle.steps_allowed.specs.UnusedDeclarator.{a_declarator, SilentDeclarator, unused_declarator_leaves}
-use Rattle.steps_allowed.specs.UnusedDeclaration.{a_declaration, one_declarator, SilentDeclaration, unused_declaration_leaves}
-use Rattle.steps_allowed.specs.Edits.{Edit, leaves, becomes, empty_statement, silent_statement, unused_function, unused_declarator, unused_declaration}
+use Rattle.steps_allowed.specs.Places.{a_node, asked_at, has_node, has_other}
+use Rattle.steps_owed.specs.Owed.{IsUnexported, Leaving}
 use Rattle.steps_keep_form.specs.Sheds.{Row, parts, of_declarators, row_below, may_leave, Around, entered, outermost, exports_none, keeps_one, Sheds, keeps_absent, keeps, leaves, empties, sought_inside, exported_below}
 use Rattle.steps_keep_form.specs.Sheds as shed
 use Rattle.steps_keep_form.specs.Layout.{is_parts, stands_right, is_laid_out, IsLaidOut}
 use Rattle.steps_keep_form.proofs.Laid.{laid_absent, laid_order, laid_right, laid_below, laid_behind}
 use Rattle.steps_keep_form.proofs.Rows.{itself, keeps_itself}
-use Rattle.steps_keep_form.proofs.ShedNames.{declares_nothing}
 use Rattle.form_rules.specs.Scope.{declared}
-use Rattle.headline.proofs.Focus.{both_there, always}
-use Rattle.steps_left.proofs.Seeking.{Within, within_below, within_later, Seeks, seeks_inside}
-use Rattle.steps_left.proofs.Silent.{silent_declares_nothing}
-use Rattle.steps_left.proofs.Leaving.{function_out, declarator_out, declaration_out}
+use Rattle.steps_owed.specs.Seeking.{Within, Seeks}
+use Rattle.steps_owed.proofs.Seeking.{within_below, within_later, seeks_inside}
 
 -- ---- rows of both relations
 
@@ -98,15 +89,17 @@ keeps_others m w x a fit laid may = refl
 
 -- ---- a node leaves
 
-module _ (t : Forest) (x : Tree) (holds : Bool → Context → ℕ → Type 0) (no_directive : is_directive_kind x.kind ≡ false) (not_strict : (r : Forest) → has_use_strict (node x.kind x.note x.below r) ≡ false)
-    (out : (z : Around) (b : Bool) (c : Context) (next : ℕ) → holds b c next → Within t (sites (inside c next x.kind x.below) 0 (next + opens_one x.kind x.below) x.below) → stands_right z.row x.kind x.below ≡ true
-    → Seeks t z.sought z.exported c → exports_none z.exported (declared z.sought 0 (alone x.kind x.note x.below)) ≡ true) where
+not_strict : (k : Kind) (n : Note) (a r : Forest) → is_directive_kind k ≡ false → has_use_strict (node k n a r) ≡ false
+not_strict (Kind.Directive written) n a r e = absurd (true≢false e)
+not_strict k n a r e = refl
+
+module _ (t : Forest) (x : Tree) (no_directive : is_directive_kind x.kind ≡ false) where
   node_leaves : (a : Place) (before : Bool) (z : Around) (w : Asked) (b : Bool) (cs : ℕ → Context) (at next : ℕ) → Fit w.row z.row → ((i : ℕ) → Seeks t z.sought z.exported (cs i)) → Within t (sites cs at next (plug a (Some x)))
-      → is_laid_out z.row (plug a (Some x)) ≡ true → MayGo before w a → HoldsThere b cs at next a (Some x) holds → Sheds z (plug a (Some x)) (without a)
+      → is_laid_out z.row (plug a (Some x)) ≡ true → MayGo before w a → HoldsThere b cs at next a (Some x) (IsUnexported t x) → Sheds z (plug a (Some x)) (without a)
   node_leaves (first rest) before z w b cs at next fit seeks within laid may h =
       leaves (first_may z.row w before rest fit may)
-      (out z b (cs at) next h (within_below t cs at next x.kind x.note x.below rest within) (laid_right z.row x.kind x.note x.below rest laid) (seeks at))
-      (not_true (has_use_strict rest) (ap (λ d. d || not (has_use_strict rest)) (sym no_directive) ∙ laid_order z.row x.kind x.note x.below rest laid) ∙ sym (not_strict rest)) (itself z rest)
+      (h z (within_below t cs at next x.kind x.note x.below rest within) (laid_right z.row x.kind x.note x.below rest laid) (seeks at))
+      (not_true (has_use_strict rest) (ap (λ d. d || not (has_use_strict rest)) (sym no_directive) ∙ laid_order z.row x.kind x.note x.below rest laid) ∙ sym (not_strict x.kind x.note x.below rest no_directive)) (itself z rest)
   node_leaves (behind k n below a) before z w b cs at next fit seeks within laid may h =
       keeps (keeps_itself (row_below z.row k) below) (itself (entered z k below) below)
       (node_leaves a true z w b cs (suc at) (next + scope_count (node k n below nothing)) fit seeks (within_later t cs at next k n below (plug a (Some x)) within) (laid_behind z.row k n below (plug a (Some x)) laid) may h)
@@ -148,54 +141,14 @@ module _ (n m : Note) (expression : Forest) where
       let inner = laid_below z.row k i (plug a before) rest laid in
       keeps (keeps_all (row_below z.row k) a inner) (statement_empties a (entered z k (plug a before)) inner) (itself z rest)
 
--- ---- each change
+-- ---- each shape
 
 all_within : (t : Forest) → Within t (sites (λ at. outermost_context) 0 0 t)
 all_within t = record { binding = λ b h. h; reference = λ r h. h }
 
-module _ (a : Place) where
-  empty_sheds : (n : Note) → IsLaidOut (plug a (a_node empty_statement n nothing)) → MayGo false (asked_of_program true) a → Sheds outermost (plug a (a_node empty_statement n nothing)) (without a)
-  empty_sheds n laid may =
-      let x : Tree = record { kind = empty_statement; note = n; below = nothing } in
-      let t = plug a (Some x) in
-      node_leaves t x (λ b c i. Unit {0}) refl (λ r. refl) (λ z b c next h within right seeks. ap (exports_none z.exported) (declares_nothing z.sought 0 n nothing))
-      a false outermost (asked_of_program true) false (λ i. outermost_context) 0 0 tt (λ i. tt) (all_within t) laid may (always (Some x) a false (λ i. outermost_context) 0 0)
+pub leaving_sheds : (a : Place) (x : Tree) → Leaving a x → IsLaidOut (plug a (Some x)) → Sheds outermost (plug a (Some x)) (without a)
+leaving_sheds a x owed laid =
+    node_leaves (plug a (Some x)) x owed.no_directive a false outermost (asked_of_program true) false (λ i. outermost_context) 0 0 tt (λ i. tt) (all_within (plug a (Some x))) laid owed.listed owed.unexported
 
-  function_sheds : (pure : Bool) (n m : Note) (x : List ℕ) (rest : Forest) → IsLaidOut (plug a (a_function pure n m x rest)) → MayGo false (asked_of_program true) a
-      → At a (a_function pure n m x rest) (Free (plug a (a_function pure n m x rest)) variable.Let x) → Sheds outermost (plug a (a_function pure n m x rest)) (without a)
-  function_sheds pure n m x rest laid may free =
-      let y : Tree = record { kind = function function_kind.Declaration pure; note = n; below = node (binding_name x) m nothing rest } in
-      let t = plug a (Some y) in
-      node_leaves t y (Free t variable.Let x) refl (λ r. refl) (λ z b c next h within right seeks. function_out t z.exported c next x z.sought pure n m rest within right h seeks)
-      a false outermost (asked_of_program true) false (λ i. outermost_context) 0 0 tt (λ i. tt) (all_within t) laid may free
-
-  declarator_sheds : (n m : Note) (x : List ℕ) (value : Forest) → IsLaidOut (plug a (a_declarator n m x value)) → MayGo false (asked_of_program true) a
-      → At a (a_declarator n m x value) (SilentDeclarator (plug a (a_declarator n m x value)) (node (binding_name x) m nothing value)) → At a (a_declarator n m x value) (FreeDeclarator (plug a (a_declarator n m x value)) x)
-      → Sheds outermost (plug a (a_declarator n m x value)) (without a)
-  declarator_sheds n m x value laid may silent free =
-      let inner = node (binding_name x) m nothing value in
-      let y : Tree = record { kind = variable_declarator; note = n; below = inner } in
-      let t = plug a (Some y) in
-      node_leaves t y (λ b c i. SilentDeclarator t inner b c i × FreeDeclarator t x b c i) refl (λ r. refl)
-      (λ z b c next h within right seeks. declarator_out t z.exported c next x z.sought n m value within (λ f p. silent_declares_nothing f (bindings_among (sites_of t)) b _ 1 _ p value h.0.1) h.1 seeks)
-      a false outermost (asked_of_program true) false (λ i. outermost_context) 0 0 tt (λ i. tt) (all_within t) laid may
-      (both_there (SilentDeclarator t inner) (FreeDeclarator t x) (Some y) a false (λ i. outermost_context) 0 0 silent free)
-
-  declaration_sheds : (how : VariableKind) (n m l j : Note) (x : List ℕ) (value : Forest) → IsLaidOut (plug a (a_declaration how n m l j x value)) → MayGo false (asked_of_program true) a
-      → At a (a_declaration how n m l j x value) (SilentDeclaration (plug a (a_declaration how n m l j x value)) how m l (node (binding_name x) j nothing value))
-      → At a (a_declaration how n m l j x value) (Free (plug a (a_declaration how n m l j x value)) how x) → Sheds outermost (plug a (a_declaration how n m l j x value)) (without a)
-  declaration_sheds how n m l j x value laid may silent free =
-      let inner = node (binding_name x) j nothing value in
-      let y : Tree = record { kind = variable_declaration how; note = n; below = one_declarator m l inner } in
-      let t = plug a (Some y) in
-      node_leaves t y (λ b c i. SilentDeclaration t how m l inner b c i × Free t how x b c i) refl (λ r. refl)
-      (λ z b c next h within right seeks. declaration_out t z.exported c next x z.sought how n m l j value within (λ f p. silent_declares_nothing f (bindings_among (sites_of t)) b _ 1 _ p value h.0.1) h.1 seeks)
-      a false outermost (asked_of_program true) false (λ i. outermost_context) 0 0 tt (λ i. tt) (all_within t) laid may
-      (both_there (SilentDeclaration t how m l inner) (Free t how x) (Some y) a false (λ i. outermost_context) 0 0 silent free)
-
-pub removal_sheds : (t u : Forest) → Edit t u → IsLaidOut t → Sheds outermost t u
-removal_sheds t u (empty_statement_leaves a n item) laid = empty_sheds a n laid (inl item)
-removal_sheds t u (silent_statement_empties a n m l k inner silent) laid = statement_empties n m (alone k l inner) a outermost laid
-removal_sheds t u (unused_function_leaves a pure n m x rest item own free) laid = function_sheds a pure n m x rest laid (inl item) free
-removal_sheds t u (unused_declarator_leaves a n m x value item others own silent free) laid = declarator_sheds a n m x value laid (inr (item, others)) silent free
-removal_sheds t u (unused_declaration_leaves a how n m l j x value item own silent free) laid = declaration_sheds a how n m l j x value laid (inl item) silent free
+pub emptied_sheds : (a : Place) (n m : Note) (expression : Forest) → IsLaidOut (plug a (a_node expression_statement n expression)) → Sheds outermost (plug a (a_node expression_statement n expression)) (plug a (a_node empty_statement m nothing))
+emptied_sheds a n m expression laid = statement_empties n m expression a outermost laid

@@ -14,8 +14,8 @@ use Rattle.scope_laws.specs.Exact.{Among}
 use Rattle.steps_names.proofs.Sites.{InThree, in_first, in_second, in_third, binding_in}
 use Rattle.steps_allowed.specs.Arranged.{is_nothing}
 use Rattle.steps_fit.specs.Enclosed.{is_binding, inherits, closed, none, is_name, begins_with_name}
-use Rattle.steps_pass.specs.Cases.{name_unmarked, first_unmarked}
-use Rattle.steps_pass.proofs.Inside.{named, In, in_more, Within, closed_rest, within_more, names_inside}
+use Rattle.steps_owed.specs.Unmarked.{name_unmarked, first_unmarked}
+use Rattle.steps_owed.proofs.Inside.{named, In, in_more, Within, closed_rest, within_more, names_inside}
 
 -- ---- nothing
 

@@ -25,9 +25,9 @@ use Rattle.steps_allowed.specs.UnusedDeclarator.{SilentDeclarator, a_declarator}
 use Rattle.steps_allowed.specs.UnusedDeclaration.{SilentDeclaration, one_declarator, a_declaration}
 use Rattle.steps_fit.specs.Enclosed.{is_binding, is_enclosed_at, is_enclosed}
 use Rattle.steps_owed.specs.Unseen.{IsUnreferred, IsUnseen}
-use Rattle.steps_pass.proofs.Inside.{named, In}
-use Rattle.steps_pass.proofs.Parts.{nothing_there, Part, named_first, further, function_parts, function_behind}
-use Rattle.steps_pass.proofs.Exported.{enclosed_here, enclosed_below, enclosed_rest}
+use Rattle.steps_owed.proofs.Inside.{named, In}
+use Rattle.steps_owed.proofs.Parts.{nothing_there, Part, named_first, further, function_parts, function_behind}
+use Rattle.steps_owed.proofs.Inside.{enclosed_here, enclosed_below, enclosed_rest}
 
 -- ---- at a place
 

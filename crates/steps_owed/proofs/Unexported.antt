@@ -25,7 +25,8 @@ use Rattle.steps_keep_form.specs.Sheds.{exports_none}
 use Rattle.steps_keep_form.specs.Layout.{binds_none}
 use Rattle.steps_keep_form.proofs.ShedNames.{none_declared}
 use Rattle.steps_keep_form.proofs.Names.{parts_nameless}
-use Rattle.steps_left.proofs.Seeking.{Within, within_below, AllRead, Seeks, Declares, free_name}
+use Rattle.steps_owed.specs.Seeking.{Within, AllRead, Seeks}
+use Rattle.steps_owed.proofs.Seeking.{within_below, Declares, free_name}
 
 no_names : (es : List Exported) (ds : List Declared) → ds ≡ [] → exports_none es ds ≡ true
 no_names es ds h = ap (exports_none es) h

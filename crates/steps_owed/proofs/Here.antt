@@ -18,17 +18,11 @@ use Rattle.steps_names.proofs.Lists.{in_right, declared_right}
 use Rattle.steps_names.proofs.Sites.{placed_here, placed_below, placed_behind}
 use Rattle.steps_names.proofs.Agreeing.{well_placed_agrees}
 use Rattle.steps_names.proofs.Standing.{declarations_of}
-use Rattle.headline.specs.Plain.{is_plain_statement, has_plain_statements}
-use Rattle.headline.proofs.KnownRemovals.{none_known, scope_known, AllKnown, all_known, known_below}
-use Rattle.headline.proofs.Separate.{variables_below, ListApart, leads, statements_lead, lists_below, RowApart, apart_absent, apart_behind, apart_below}
+use Rattle.steps_fit.specs.Plain.{is_plain_statement, has_plain_statements}
+use Rattle.steps_owed.specs.Good.{Good}
+use Rattle.steps_owed.proofs.KnownNames.{none_known, scope_known, AllKnown, all_known, known_below}
+use Rattle.steps_owed.proofs.Separate.{variables_below, ListApart, leads, statements_lead, lists_below, RowApart, apart_absent, apart_behind, apart_below}
 use Rattle.steps_names.proofs.Unused.{entered_row}
-
--- what is asked of a program, row by row
-pub record Good (row : Forest) : Type 0 where
-  pub clear : Clear row
-  pub values : has_plain_values row ≡ true
-  pub statements : has_plain_statements row ≡ true
-  pub arranged : is_arranged row ≡ true
 
 pub good_absent : (r : Forest) → Good (absent r) → Good r
 good_absent r g = record { clear = g.clear; values = g.values; statements = g.statements; arranged = g.arranged }

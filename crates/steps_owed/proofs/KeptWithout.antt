@@ -21,7 +21,7 @@ use Rattle.scope_laws.proofs.Kept.{references_moved, references_plain, three, st
 use Rattle.scope_laws.proofs.Lists.{exact_without}
 use Rattle.steps_owed.specs.Unseen.{IsUnseen}
 use Rattle.steps_owed.specs.Kept.{IsKept}
-use Rattle.steps_pass.proofs.Unlisting.{unlisted, unlists, shortens_more}
+use Rattle.steps_owed.proofs.Unlisting.{unlisted, unlists, shortens_more}
 
 -- ---- a place in a list isn't asked by the nodes around
 

@@ -18,7 +18,19 @@ use Rattle.scope_laws.specs.Exact.{Among}
 use Rattle.steps_names.proofs.Lists.{either}
 use Rattle.steps_names.proofs.Taking.{Kept, kept}
 use Rattle.steps_names.proofs.Sites.{InThree, in_first, in_second, in_third, binding_in}
-use Rattle.steps_fit.specs.Enclosed.{is_binding, is_var, inherits, passes, closed}
+use Rattle.steps_fit.specs.Enclosed.{is_binding, is_var, inherits, passes, closed, is_enclosed_at, is_enclosed}
+
+-- ---- parts of a tree
+
+module _ (k : Kind) (n : Note) (below rest : Forest) (h : is_enclosed (node k n below rest) ≡ true) where
+  pub enclosed_here : is_enclosed_at k below ≡ true
+  enclosed_here = (and_parts (is_enclosed_at k below) _ h).0
+
+  pub enclosed_below : is_enclosed below ≡ true
+  enclosed_below = (and_parts (is_enclosed below) (is_enclosed rest) (and_parts (is_enclosed_at k below) _ h).1).0
+
+  pub enclosed_rest : is_enclosed rest ≡ true
+  enclosed_rest = (and_parts (is_enclosed below) (is_enclosed rest) (and_parts (is_enclosed_at k below) _ h).1).1
 
 -- ---- what a node itself declares
 

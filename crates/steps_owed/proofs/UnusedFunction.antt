@@ -1,0 +1,33 @@
+-- What a function declaration that nothing uses owes.
+use Rattle.std.proofs.Common.{inl, refl, ap, Some, true, false, not}
+use Rattle.std.proofs.lemmas.Bool.{and_from}
+use Rattle.js_syntax.specs.declared.node_kind.NodeKind.TheVariants.{Function as function, BindingName as binding_name}
+use Rattle.js_syntax.specs.declared.kind.FunctionKind.TheVariants as function_kind
+use Rattle.js_syntax.specs.declared.kind.VariableKind.TheVariants as variable
+use Rattle.js_syntax.specs.Node.{Tree, nothing, node}
+use Rattle.min_pass.specs.Around.{outermost as asked_of_program}
+use Rattle.scope_rules.specs.Context.{outermost}
+use Rattle.scope_laws.specs.Place.{Around, plug}
+use Rattle.steps_allowed.specs.Changing.{holds_items}
+use Rattle.steps_allowed.specs.Free.{Free}
+use Rattle.steps_allowed.specs.Places.{asked_at}
+use Rattle.steps_allowed.specs.UnusedFunction.{UnusedFunction, unused_function_leaves}
+use Rattle.steps_owed.specs.Owed.{IsUnexported, Leaving}
+use Rattle.steps_owed.proofs.Focus.{follows_there}
+use Rattle.steps_owed.proofs.Unseen.{unseen_function}
+use Rattle.steps_owed.proofs.Unexported.{function_out}
+use Rattle.steps_owed.proofs.AsSteps.{function_step}
+
+pub unused_function_owes : (a : Around) (x : Tree) → UnusedFunction a x → Leaving a x
+unused_function_owes a x (unused_function_leaves pure n m name rest item own free) =
+    let y : Tree = record { kind = function function_kind.Declaration pure; note = n; below = node (binding_name name) m nothing rest } in
+    let t = plug a (Some y) in
+    record {
+      listed = inl item;
+      no_directive = refl;
+      no_call = record { counts = refl; lists = λ m. refl; begins = λ m. refl; calls = refl };
+      may_change = and_from (holds_items (asked_at (asked_of_program true) a).row) _ (ap holds_items item) (ap not own);
+      unseen = λ e. unseen_function a pure n m name rest e free;
+      unexported = follows_there (Free t variable.Let name) (IsUnexported t y) (λ b c next h z within right seeks. function_out t z.exported c next name z.sought pure n m rest within right h seeks) (Some y) a false (λ at. outermost) 0 0 free;
+      step = λ w good. function_step a pure n m name rest w good item free;
+    }

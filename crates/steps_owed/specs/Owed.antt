@@ -1,0 +1,57 @@
+-- What a case of an edit owes, by its shape: all that the laws on edits ask of it.
+use Rattle.std.specs.Prelude.{◌≡◌, ◌⊎◌, ℕ, ◌+◌, Bool, true, false, Some}
+use Rattle.js_syntax.specs.Node.{Forest, Tree, alone}
+use Rattle.form_rules.specs.Scope.{declared}
+use Rattle.json_shape.specs.Shape.{is_directive_kind}
+use Rattle.min_pass.specs.Around.{outermost as asked_of_program}
+use Rattle.scope_rules.specs.Context.{Context, inside}
+use Rattle.scope_rules.specs.Site.{opens_one, sites}
+use Rattle.scope_laws.specs.Place.{Around, plug}
+use Rattle.scope_laws.specs.Lists.{without}
+use Rattle.steps.specs.Steps as steps
+use Rattle.steps.specs.Steps.{Step}
+use Rattle.steps_names.specs.Placed.{is_well_placed}
+use Rattle.steps_keep_form.specs.Layout.{stands_right}
+use Rattle.steps_keep_form.specs.Sheds as shed
+use Rattle.steps_keep_form.specs.Sheds.{exports_none}
+use Rattle.steps_fit.specs.Enclosed.{is_enclosed}
+use Rattle.steps_allowed.specs.Places.{asked_at, IsItem, IsDeclarator, has_other, At}
+use Rattle.steps_allowed.specs.Calls.{is_call, begins_with_call, counted, of_list, of_program}
+use Rattle.steps_allowed.specs.Exposure.{exposure, evaluates_somewhere}
+use Rattle.steps_allowed.specs.Changing.{may_change_at}
+use Rattle.steps_owed.specs.Good.{Good}
+use Rattle.steps_owed.specs.Seeking.{Within, Seeks}
+use Rattle.steps_owed.specs.Unseen.{IsUnseen}
+
+-- a kind that counts no calls, and holds none
+pub record IsOther (x : Tree) : Type 0 where
+  pub counts : counted x.kind (begins_with_call x.below) ≡ 0
+  pub lists : (m : ℕ) → of_list x.kind m ≡ 0
+  pub begins : (m : ℕ) → of_program x.kind m ≡ 0
+  pub calls : is_call x.kind ≡ false
+
+-- edits of a node of this kind are among those of which `may_change_somewhere` tells
+abbrev pub MayChange : Around → Tree → Type 0
+MayChange a x = may_change_at (evaluates_somewhere (plug a (Some x))) (asked_at (asked_of_program true) a) (exposure a (Some x)) x.kind x.below ≡ true
+
+-- an item of a list of statements, or a declarator of one where another stays
+abbrev pub IsListed : Around → Type 0
+IsListed a = IsItem a ⊎ (IsDeclarator a × (has_other false a ≡ true))
+
+-- what stands there declares no name that the program exports without declaring it at its top
+abbrev pub IsUnexported : Forest → Tree → Bool → Context → ℕ → Type 0
+IsUnexported t x in_with c next =
+    (z : shed.Around) → Within t (sites (inside c next x.kind x.below) 0 (next + opens_one x.kind x.below) x.below) → stands_right z.row x.kind x.below ≡ true → Seeks t z.sought z.exported c
+    → exports_none z.exported (declared z.sought 0 (alone x.kind x.note x.below)) ≡ true
+
+-- An item that leaves its list.
+pub record Leaving (a : Around) (x : Tree) : Type 0 where
+  pub listed : IsListed a
+  pub no_directive : is_directive_kind x.kind ≡ false
+  pub no_call : IsOther x
+  pub may_change : MayChange a x
+  -- no reference that stays is bound to what it declares, and no export is of it
+  pub unseen : is_enclosed (plug a (Some x)) ≡ true → IsUnseen a (Some x)
+  pub unexported : At a (Some x) (IsUnexported (plug a (Some x)) x)
+  -- of a core module it is a step, for which it is known that runs are kept
+  pub step : is_well_placed (plug a (Some x)) ≡ true → Good (plug a (Some x)) → Step steps.outermost (plug a (Some x)) (without a)
