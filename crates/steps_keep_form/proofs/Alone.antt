@@ -102,7 +102,8 @@ module _ (k : Kind) (p : ℕ) (a : Forest) (h : is_asked_for k ≡ false) where
   pub rules_alike : (c d : Context) → below_it c ≡ below_it d → broken_at c k p a ≡ [] → broken_at d k p a ≡ []
   rules_alike c d e =
       each_kept _ _ _ _ (each_kept _ _ _ _ (each_kept _ _ _ _ (each_kept _ _ _ _ (each_kept _ _ _ _ (each_kept _ _ _ _ (each_kept _ _ _ _ (each_kept _ _ _ _ (each_kept _ _ _ _ (each_kept _ _ _ _ (each_kept _ _ _ _
-      (same (λ x. rule_1 x k p a) rule_1_alike) (same (λ x. rule_2 x k p a) rule_2_alike)) (same (λ x. rule_3 x k p a) (rule_3_alike k p a))) (same (λ x. rule_4 x k p a) (rule_4_alike k p a))) (same (λ x. rule_5 x k p a) (rule_5_alike k p a)))
+      (same (λ x. rule_1 x k p a) rule_1_alike) (same (λ x. rule_2 x k p a) rule_2_alike))
+      (same (λ x. rule_3 x k p a) (rule_3_alike k p a))) (same (λ x. rule_4 x k p a) (rule_4_alike k p a))) (same (λ x. rule_5 x k p a) (rule_5_alike k p a)))
       (same (λ x. rule_6 x k p a) (rule_6_alike k p a))) (same (λ x. rule_7 x k p a) (rule_7_alike k p a))) (same (λ x. rule_8 x k p a) (rule_8_alike k p a))) (same (λ x. rule_9 x k p a) rule_9_alike))
       (same (λ x. rule_10 x k p a) (rule_10_alike k p a))) (same (λ x. rule_11 x k p a) (λ x. rule_11_alike k p a x h))) (same (λ x. rule_12 x k p a) (rule_12_alike k p a))
     where

@@ -39,7 +39,8 @@ named_fewer p q (keeps_absent rest) = named_fewer p q rest
 named_fewer p q (keeps {k = k} {n = n} {m = m} {a = a} {b = b} {r = r} {s = s} one below rest) = named_node k n m p q a b r s (named_fewer p q rest)
 named_fewer p q (leaves {k = k} {n = n} {a = a} {r = r} may out strict rest) = named_less k n q a r (named_fewer p q rest)
 named_fewer p q (empties may rest) = named_fewer p q rest
-named_fewer p q (becomes {k = k} {l = l} {n = n} {m = m} {a = a} {b = b} {r = r} {s = s} part may rest) = rw (no_export_named l m p b s part.unasked, no_export_named k n q a r (given_not k part.gives)) (named_fewer p q rest)
+named_fewer p q (becomes {k = k} {l = l} {n = n} {m = m} {a = a} {b = b} {r = r} {s = s} part may rest) =
+    rw (no_export_named l m p b s part.unasked, no_export_named k n q a r (given_not k part.gives)) (named_fewer p q rest)
 
 named_first : (p q : ℕ) {w : Around} {t u : Forest} → may_leave w.row ≡ false → w.is_asked ≡ true → Sheds w t u → FewerExports (named_by p (first_below u)) (named_by q (first_below t))
 named_first p q stays asked ends = none
@@ -75,7 +76,8 @@ locals_named_fewer p q (keeps_absent rest) = locals_named_fewer p q rest
 locals_named_fewer p q (keeps {w = w} {k = k} {n = n} {m = m} {a = a} {b = b} {r = r} {s = s} one below rest) = locals_node w k n m p q a b r s below (locals_named_fewer p q rest)
 locals_named_fewer p q (leaves {k = k} {n = n} {a = a} {r = r} may out strict rest) = locals_less k n q a r (locals_named_fewer p q rest)
 locals_named_fewer p q (empties may rest) = locals_named_fewer p q rest
-locals_named_fewer p q (becomes {k = k} {l = l} {n = n} {m = m} {a = a} {b = b} {r = r} {s = s} part may rest) = rw (no_local_named l m p b s part.unasked, no_local_named k n q a r (given_not k part.gives)) (locals_named_fewer p q rest)
+locals_named_fewer p q (becomes {k = k} {l = l} {n = n} {m = m} {a = a} {b = b} {r = r} {s = s} part may rest) =
+    rw (no_local_named l m p b s part.unasked, no_local_named k n q a r (given_not k part.gives)) (locals_named_fewer p q rest)
 
 locals_first : (p q : ℕ) {w : Around} {t u : Forest} → may_leave w.row ≡ false → w.is_asked ≡ true → Sheds w t u → FewerExports (locals_named p (first_below u)) (locals_named q (first_below t))
 locals_first p q stays asked ends = none
@@ -111,7 +113,8 @@ exported_fewer p q (keeps {w = w} {k = k} {n = n} {m = m} {a = a} {b = b} one be
     beside (exported_by_fewer w k p q a b below) (exported_fewer (p + node_count (node k m b nothing)) (q + node_count (node k n a nothing)) rest)
 exported_fewer p q (leaves {k = k} {n = n} {a = a} may out strict rest) = behind_all (exported_by k q a) (exported_fewer p (q + node_count (node k n a nothing)) rest)
 exported_fewer p q (empties may rest) = exported_fewer _ _ rest
-exported_fewer p q (becomes {k = k} {l = l} {n = n} {m = m} {a = a} {b = b} {r = r} {s = s} part may rest) = rw (exports_nothing l p b part.unasked, exports_nothing k q a (given_not k part.gives)) (exported_fewer _ _ rest)
+exported_fewer p q (becomes {k = k} {l = l} {n = n} {m = m} {a = a} {b = b} {r = r} {s = s} part may rest) =
+    rw (exports_nothing l p b part.unasked, exports_nothing k q a (given_not k part.gives)) (exported_fewer _ _ rest)
 
 pub exported_first : (p q : ℕ) {w : Around} {t u : Forest} → may_leave w.row ≡ false → w.is_asked ≡ true → Sheds w t u → FewerExports (exported_among p (first_below u)) (exported_among q (first_below t))
 exported_first p q stays asked ends = none
@@ -136,7 +139,8 @@ locals_fewer p q (keeps {w = w} {k = k} {n = n} {m = m} {a = a} {b = b} one belo
     beside (locals_by_fewer w k p q a b below) (locals_fewer (p + node_count (node k m b nothing)) (q + node_count (node k n a nothing)) rest)
 locals_fewer p q (leaves {k = k} {n = n} {a = a} may out strict rest) = behind_all (locals_by k q a) (locals_fewer p (q + node_count (node k n a nothing)) rest)
 locals_fewer p q (empties may rest) = locals_fewer _ _ rest
-locals_fewer p q (becomes {k = k} {l = l} {n = n} {m = m} {a = a} {b = b} {r = r} {s = s} part may rest) = rw (exports_no_local l p b part.unasked, exports_no_local k q a (given_not k part.gives)) (locals_fewer _ _ rest)
+locals_fewer p q (becomes {k = k} {l = l} {n = n} {m = m} {a = a} {b = b} {r = r} {s = s} part may rest) =
+    rw (exports_no_local l p b part.unasked, exports_no_local k q a (given_not k part.gives)) (locals_fewer _ _ rest)
 
 pub locals_below_first : (p q : ℕ) {w : Around} {t u : Forest} → may_leave w.row ≡ false → w.is_asked ≡ true → Sheds w t u → FewerExports (locals_among p (first_below u)) (locals_among q (first_below t))
 locals_below_first p q stays asked ends = none

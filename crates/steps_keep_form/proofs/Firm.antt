@@ -156,7 +156,8 @@ abbrev IsRight : Row → (is_asked : Bool) → Kind → Type 0
 IsRight row asked k = (not (gives_way k) || may_give_way row asked k) ≡ true
 
 -- of a class of which a node may give way
-open_right : (row : Row) (asked : Bool) (c : Class) (r : TableRow) (vs : Values (fields_of r)) → (not asked && (not (takes_statement c) || may_empty row)) ≡ true → stands c (type_of r) ≡ Some (first_of r) → IsRight row asked (kind_in r vs)
+open_right : (row : Row) (asked : Bool) (c : Class) (r : TableRow) (vs : Values (fields_of r)) → (not asked && (not (takes_statement c) || may_empty row)) ≡ true
+    → stands c (type_of r) ≡ Some (first_of r) → IsRight row asked (kind_in r vs)
 open_right row asked c an_if_statement vs may h =
     both (not asked) (may_empty row) (first_of_both (not asked) (not (takes_statement c) || may_empty row) may)
     (ap (λ x. not x || may_empty row) (sym (if_class c h)) ∙ second_of_both (not asked) (not (takes_statement c) || may_empty row) may)
@@ -164,7 +165,8 @@ open_right row asked c a_conditional_expression vs may h = both (not asked) true
 open_right row asked c a_logical_expression vs may h = both (not asked) true (first_of_both (not asked) (not (takes_statement c) || may_empty row) may) refl
 open_right row asked c r vs may h = refl
 
-class_right : (row : Row) (asked : Bool) (c : Class) (r : TableRow) (vs : Values (fields_of r)) → (is_firm c || (not asked && (not (takes_statement c) || may_empty row))) ≡ true → stands c (type_of r) ≡ Some (first_of r) → IsRight row asked (kind_in r vs)
+class_right : (row : Row) (asked : Bool) (c : Class) (r : TableRow) (vs : Values (fields_of r)) → (is_firm c || (not asked && (not (takes_statement c) || may_empty row))) ≡ true
+    → stands c (type_of r) ≡ Some (first_of r) → IsRight row asked (kind_in r vs)
 class_right row asked c r vs suit h = of (is_firm c) refl suit
   where
     of : (x : Bool) → is_firm c ≡ x → (x || (not asked && (not (takes_statement c) || may_empty row))) ≡ true → IsRight row asked (kind_in r vs)
@@ -184,10 +186,12 @@ module _ (a : Forest) (below : (row : Row) (asked : Bool) (plan : Plan) → suit
       let unfenced = first_of_both (is_open row) (is_firm c || (not asked && (not (takes_statement c) || may_empty row))) suit in
       subst (λ x. Good row asked x) (sym of.4) (
         class_right row asked c of.0 of.1 (second_of_both (is_open row) (is_firm c || (not asked && (not (takes_statement c) || may_empty row))) suit) of.2,
-        below (row_below row made) (asked_below row made) (these (places (has is_private a) (fields_of of.0) of.1)) (places_suit (row_below row made) (asked_below row made) (has is_private a) (fields_of of.0) of.1 (made_suits row unfenced of.0 of.1)) of.5,
+        below (row_below row made) (asked_below row made) (these (places (has is_private a) (fields_of of.0) of.1))
+            (places_suit (row_below row made) (asked_below row made) (has is_private a) (fields_of of.0) of.1 (made_suits row unfenced of.0 of.1)) of.5,
       )
 
-  good_list : (row : Row) (asked : Bool) (k kind : Kind) (plan : Plan) → k ≡ kind → not (gives_way kind) ≡ true → suits_plan (row_below row kind) (asked_below row kind) plan ≡ true → Stand plan a → Good row asked k
+  good_list : (row : Row) (asked : Bool) (k kind : Kind) (plan : Plan) → k ≡ kind → not (gives_way kind) ≡ true → suits_plan (row_below row kind) (asked_below row kind) plan ≡ true
+      → Stand plan a → Good row asked k
   good_list row asked k kind plan is calm suit st = subst (λ x. Good row asked x) (sym is) (list_right row asked kind calm, below (row_below row kind) (asked_below row kind) plan suit st)
 
   good_at : (row : Row) (asked : Bool) (p : Place) (k : Kind) → suits row asked p ≡ true → IsAt k a (λ p. Stand p a) p → Good row asked k

@@ -38,7 +38,8 @@ behind_others : (before rest : Forest) (f : ℕ → Context) (i p : ℕ) → bro
 behind_others nothing rest f i p h = (i, p, h)
 behind_others (absent r) rest f i p h = behind_others r rest f (suc i) p h
 behind_others (node k n a r) rest f i p h =
-    behind_others r rest f (suc i) (p + node_count (node k n a nothing)) (second_empty (broken_at (f i) k p a ++ broken_in (inside (f i) k a) 0 (p + one_each k) a) (broken_in f (suc i) (p + node_count (node k n a nothing)) (joined r rest)) h)
+    behind_others r rest f (suc i) (p + node_count (node k n a nothing))
+    (second_empty (broken_at (f i) k p a ++ broken_in (inside (f i) k a) 0 (p + one_each k) a) (broken_in f (suc i) (p + node_count (node k n a nothing)) (joined r rest)) h)
 
 -- a part that stands for a node breaks none in the node's context
 part_kept : (c : Context) (k l : Kind) (a b : Forest) (p q : ℕ) → StandsFor k a l b → broken_in (inside c k a) 0 p a ≡ [] → broken_at c l q b ++ broken_in (inside c l b) 0 (q + one_each l) b ≡ []
@@ -52,7 +53,8 @@ part_kept c k l a b p q part h =
     let front = first_empty (own ++ below) (broken_in f (suc there.0) (there.1 + node_count (node l part.note b nothing)) part.after) there.2 in
     both_empty (broken_at c l q b) (broken_in (inside c l b) 0 (q + one_each l) b)
     (rules_kept outermost c there.1 q b b l (itself (entered outermost l b) b) (rules_alike l there.1 b part.unasked d c same (first_empty own below front)))
-    (moved b (inside d l b) (inside c l b) (λ x. sym (inside_alike c l b x part.unasked) ∙ ap (λ y. inside y l b x) (sym same) ∙ inside_alike d l b x part.unasked) 0 (there.1 + one_each l) (q + one_each l) (second_empty own below front))
+    (moved b (inside d l b) (inside c l b) (λ x. sym (inside_alike c l b x part.unasked) ∙ ap (λ y. inside y l b x) (sym same) ∙ inside_alike d l b x part.unasked) 0 (there.1 + one_each l) (q + one_each l)
+    (second_empty own below front))
 
 -- Nodes have the contexts that they had: in a list all have the same one.
 pub form_kept : {w : Around} {t u : Forest} → Sheds w t u → (f g : ℕ → Context) → ((i j : ℕ) → (may_leave w.row ≡ false → i ≡ j) → g j ≡ f i) → (i j p q : ℕ) → (may_leave w.row ≡ false → i ≡ j) → broken_in f i p t ≡ [] → broken_in g j q u ≡ []

@@ -69,7 +69,8 @@ of_expression for_in_statement h g = absurd cc
 of_expression for_of_statement h g = absurd cc
 of_expression l h g = refl
 
-same_row : (w : Around) (k l : Kind) → gives_way k ≡ true → is_asked_for l ≡ false → is_statement l ≡ is_statement k → may_give_way w.row w.is_asked k ≡ true → row_below w.row l ≡ row_below (row_below w.row k) l
+same_row : (w : Around) (k l : Kind) → gives_way k ≡ true → is_asked_for l ≡ false → is_statement l ≡ is_statement k → may_give_way w.row w.is_asked k ≡ true
+    → row_below w.row l ≡ row_below (row_below w.row k) l
 same_row w k l gives unasked alike may = of (is_statement k) refl
   where
     of : (x : Bool) → is_statement k ≡ x → row_below w.row l ≡ row_below (row_below w.row k) l
@@ -129,7 +130,8 @@ binds_same stays (keeps_absent rest) = binds_same stays rest
 binds_same stays (keeps {k = k} {n = n} {m = m} {a = a} {b = b} {r = r} {s = s} one below rest) = binds_node k n m a b r s (binds_same stays rest)
 binds_same stays (leaves may out strict rest) = absurd (cc (stays, may))
 binds_same stays (empties may rest) = binds_same stays rest
-binds_same stays (becomes {k = k} {l = l} {n = n} {m = m} {a = a} {b = b} {r = r} {s = s} part may rest) = no_name l m b s part.unasked ∙ binds_same stays rest ∙ sym (no_name k n a r (given_not k part.gives))
+binds_same stays (becomes {k = k} {l = l} {n = n} {m = m} {a = a} {b = b} {r = r} {s = s} part may rest) =
+    no_name l m b s part.unasked ∙ binds_same stays rest ∙ sym (no_name k n a r (given_not k part.gives))
 
 -- ---- nodes
 
@@ -155,7 +157,8 @@ stays_laid_out (empties {w = w} {n = n} {m = m} {a = a} {r = r} {s = s} may rest
     both (not (has_use_strict s)) (is_laid_out w.row s) (ap not (strict_same rest) ∙ laid_order w.row expression_statement n a r h) (stays_laid_out rest (laid_behind w.row expression_statement n a r h))
 stays_laid_out (becomes {w = w} {k = k} {l = l} {n = n} {m = m} {a = a} {b = b} {r = r} {s = s} part may rest) h =
     both (is_directive_kind l || not (has_use_strict s)) (stands_right w.row l b && (is_laid_out (row_below w.row l) b && is_laid_out w.row s))
-    (ap (λ x. x || not (has_use_strict s)) (no_directive l part.unasked) ∙ ap not (strict_same rest) ∙ ap (λ x. x || not (has_use_strict r)) (sym (no_directive k (given_not k part.gives))) ∙ laid_order w.row k n a r h)
+    (ap (λ x. x || not (has_use_strict s)) (no_directive l part.unasked) ∙ ap not (strict_same rest)
+    ∙ ap (λ x. x || not (has_use_strict r)) (sym (no_directive k (given_not k part.gives))) ∙ laid_order w.row k n a r h)
     (both (stands_right w.row l b) (is_laid_out (row_below w.row l) b && is_laid_out w.row s) (right_there w.row l b part.unasked (λ is. statement_may w k may (sym part.alike ∙ is)))
     (both (is_laid_out (row_below w.row l) b) (is_laid_out w.row s)
     (ap (λ row. is_laid_out row b) (same_row w k l part.gives part.unasked part.alike may)

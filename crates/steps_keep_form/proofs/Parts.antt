@@ -113,9 +113,11 @@ wrong_same : (is_head : Bool) (how : VariableKind) (k : Kind) {w : Around} {t u 
 wrong_same true how k stays h = initializer_same stays h
 wrong_same false how k stays h = rw (initializer_same stays h, name_same stays h) refl
 
-pub none_wrong : (is_head : Bool) (how : VariableKind) (p q : ℕ) {w : Around} {t u : Forest} → is_plain w.row ≡ true → w.is_asked ≡ true → Sheds w t u → places_of (is_declarator_wrong is_head how) q t ≡ [] → places_of (is_declarator_wrong is_head how) p u ≡ []
+pub none_wrong : (is_head : Bool) (how : VariableKind) (p q : ℕ) {w : Around} {t u : Forest} → is_plain w.row ≡ true → w.is_asked ≡ true → Sheds w t u
+    → places_of (is_declarator_wrong is_head how) q t ≡ [] → places_of (is_declarator_wrong is_head how) p u ≡ []
 none_wrong is_head how p q {w = w} plain asked h =
-    none_of_none (places_fewer (is_declarator_wrong is_head how) p q (λ k a b below. wrong_same is_head how k (plain_stays w.row k plain) below) (λ e. absurd (plain_empties_not w.row plain e)) (λ d. absurd (cc (asked, d))) h)
+    none_of_none (places_fewer (is_declarator_wrong is_head how) p q (λ k a b below. wrong_same is_head how k (plain_stays w.row k plain) below) (λ e. absurd (plain_empties_not w.row plain e))
+    (λ d. absurd (cc (asked, d))) h)
 
 length_fewer : {w : Around} {t u : Forest} → Sheds w t u → length_of u ≤ length_of t
 length_fewer ends = omega arith
@@ -134,10 +136,12 @@ counts_in : (is_head : Bool) (row : Row) (a b : Forest) → (may_leave row ≡ f
 counts_in is_head row a b (inl stays) one less same right = ap (counts_right is_head) (same stays) ∙ right
 counts_in is_head row a b (inr is) one less same right = counts_fewer is_head (length_of b) (length_of a) less (ap (λ x. keeps_one x a b) (sym is) ∙ one) right
 
-pub counts_stay : (is_head : Bool) {w : Around} {t u : Forest} → may_leave w.row ≡ false → may_empty w.row ≡ false → w.is_asked ≡ true → Sheds w t u → counts_right is_head (length_of (first_below t)) ≡ true → counts_right is_head (length_of (first_below u)) ≡ true
+pub counts_stay : (is_head : Bool) {w : Around} {t u : Forest} → may_leave w.row ≡ false → may_empty w.row ≡ false → w.is_asked ≡ true → Sheds w t u
+    → counts_right is_head (length_of (first_below t)) ≡ true → counts_right is_head (length_of (first_below u)) ≡ true
 counts_stay is_head stays full asked ends right = right
 counts_stay is_head stays full asked (keeps_absent rest) right = right
-counts_stay is_head stays full asked (keeps {w = w} {k = k} {a = a} {b = b} one below rest) right = counts_in is_head (row_below w.row k) a b (below_declaration w.row k full) one (length_fewer below) (λ d. length_same d below) right
+counts_stay is_head stays full asked (keeps {w = w} {k = k} {a = a} {b = b} one below rest) right =
+    counts_in is_head (row_below w.row k) a b (below_declaration w.row k full) one (length_fewer below) (λ d. length_same d below) right
 counts_stay is_head stays full asked (leaves may out strict rest) right = absurd (cc (stays, may))
 counts_stay is_head stays full asked (empties may rest) right = absurd (cc (full, may))
 counts_stay is_head stays full asked (becomes {w = w} {k = k} part may rest) right = absurd (cc (asked, not_asked w k may))
@@ -191,7 +195,8 @@ asked_in_it of_head k h = refl
 asked_in_it other k h = absurd cc
 
 -- the declarators of a declaration
-pub declarators_left : (is_head : Bool) (how : VariableKind) (p q : ℕ) {w : Around} {t u : Forest} → of_variables w.row ≡ true → w.is_asked ≡ true → Sheds w t u → places_of (is_declarator_wrong is_head how) q (first_below t) ≡ []
+pub declarators_left : (is_head : Bool) (how : VariableKind) (p q : ℕ) {w : Around} {t u : Forest} → of_variables w.row ≡ true → w.is_asked ≡ true → Sheds w t u
+    → places_of (is_declarator_wrong is_head how) q (first_below t) ≡ []
     → places_of (is_declarator_wrong is_head how) p (first_below u) ≡ []
 declarators_left is_head how p q is asked ends right = refl
 declarators_left is_head how p q is asked (keeps_absent rest) right = refl

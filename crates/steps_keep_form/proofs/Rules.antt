@@ -131,7 +131,8 @@ module _ (w : Around) (c : Context) (p q : ℕ) (a b : Forest) where
   exports_kept source h =
       let stays = stays_below w.row (program source) refl in
       each_kept _ _ _ _
-      (each_none 7 (repeated_exports [] (exported_among (suc p) (first_below a))) (repeated_exports [] (exported_among (suc q) (first_below b))) (none_exported_twice none (exported_first (suc q) (suc p) stays (asked_there w.row (program source) refl) h)))
+      (each_none 7 (repeated_exports [] (exported_among (suc p) (first_below a))) (repeated_exports [] (exported_among (suc q) (first_below b)))
+      (none_exported_twice none (exported_first (suc q) (suc p) stays (asked_there w.row (program source) refl) h)))
       (each_none 7 (undeclared (declared_by c (program source) p a) (locals_among (suc p) (first_below a))) (undeclared (declared_by c (program source) q b) (locals_among (suc q) (first_below b)))
       (none_undeclared (declared_by c (program source) q b) (declared_by c (program source) p a) (locals_below_first (suc q) (suc p) stays (asked_there w.row (program source) refl) h)
       (λ x e d. still_declared x (suc q) (suc p) refl h (locals_anywhere x (suc p) 0 (first_below a) e) d)))
@@ -172,15 +173,19 @@ module _ (w : Around) (c : Context) (p q : ℕ) (a b : Forest) where
       let stays = variables_stay (row_below w.row (variable_declaration how)) row in
       each_kept (unless (counts_right c.is_head (length_of (first_below a))) p 11) (each_breaks 11 (places_of (is_declarator_wrong c.is_head how) (suc p) (first_below a)))
       (unless (counts_right c.is_head (length_of (first_below b))) q 11) (each_breaks 11 (places_of (is_declarator_wrong c.is_head how) (suc q) (first_below b)))
-      (unless_if (counts_right c.is_head (length_of (first_below a))) (counts_right c.is_head (length_of (first_below b))) p q 11 (counts_stay c.is_head stays.0 stays.1 (asked_there w.row (variable_declaration how) refl) h))
-      (each_none 11 (places_of (is_declarator_wrong c.is_head how) (suc p) (first_below a)) (places_of (is_declarator_wrong c.is_head how) (suc q) (first_below b)) (declarators_left c.is_head how (suc q) (suc p) row (asked_there w.row (variable_declaration how) refl) h)) g
+      (unless_if (counts_right c.is_head (length_of (first_below a))) (counts_right c.is_head (length_of (first_below b))) p q 11
+      (counts_stay c.is_head stays.0 stays.1 (asked_there w.row (variable_declaration how) refl) h))
+      (each_none 11 (places_of (is_declarator_wrong c.is_head how) (suc p) (first_below a)) (places_of (is_declarator_wrong c.is_head how) (suc q) (first_below b))
+      (declarators_left c.is_head how (suc q) (suc p) row (asked_there w.row (variable_declaration how) refl) h)) g
   parts_kept sequence_expression h g =
-      unless_if (nat_lt 1 (length_of (first_below a))) (nat_lt 1 (length_of (first_below b))) p q 11 (λ e. ap (λ n. nat_lt 1 n) (below_same (is_other w.row sequence_expression refl) (asked_there w.row sequence_expression refl) h) ∙ e) g
+      unless_if (nat_lt 1 (length_of (first_below a))) (nat_lt 1 (length_of (first_below b))) p q 11
+      (λ e. ap (λ n. nat_lt 1 n) (below_same (is_other w.row sequence_expression refl) (asked_there w.row sequence_expression refl) h) ∙ e) g
   parts_kept template_literal h g =
       let row = is_other w.row template_literal refl in
       let asked = asked_there w.row template_literal refl in
       unless_if (length_of (first_below a) == suc (length_of (first_below (behind a)))) (length_of (first_below b) == suc (length_of (first_below (behind b)))) p q 11
-      (λ e. ap (λ n. n == suc (length_of (first_below (behind b)))) (below_same row asked h) ∙ ap (λ n. length_of (first_below a) == suc n) (below_same row asked (behind_left (stays_below w.row template_literal refl) h)) ∙ e) g
+      (λ e. ap (λ n. n == suc (length_of (first_below (behind b)))) (below_same row asked h)
+      ∙ ap (λ n. length_of (first_below a) == suc n) (below_same row asked (behind_left (stays_below w.row template_literal refl) h)) ∙ e) g
   parts_kept parameters h g = each_none 11 (early_rests p a) (early_rests q b) (rests_last q p (stays_below w.row parameters refl) h) g
   parts_kept elements h g = each_none 11 (early_rests p a) (early_rests q b) (rests_last q p (stays_below w.row elements refl) h) g
   parts_kept properties h g = each_none 11 (early_rests p a) (early_rests q b) (rests_last q p (stays_below w.row properties refl) h) g

@@ -51,7 +51,8 @@ function_same stays (keeps_absent rest) = function_same stays rest
 function_same stays (keeps {w = w} {k = k} {n = n} {m = m} {a = a} {b = b} {r = r} {s = s} one below rest) = function_node w k n m a b r s below (function_same stays rest)
 function_same stays (leaves may out strict rest) = absurd (cc (stays, may))
 function_same stays (empties may rest) = function_same stays rest
-function_same stays (becomes {k = k} {l = l} {n = n} {m = m} {a = a} {b = b} {r = r} {s = s} part may rest) = no_body l m b s part.unasked ∙ function_same stays rest ∙ sym (no_body k n a r (given_not k part.gives))
+function_same stays (becomes {k = k} {l = l} {n = n} {m = m} {a = a} {b = b} {r = r} {s = s} part may rest) =
+    no_body l m b s part.unasked ∙ function_same stays rest ∙ sym (no_body k n a r (given_not k part.gives))
 
 -- ---- parameters
 
@@ -77,7 +78,8 @@ plain_same stays (keeps_absent rest) = plain_same stays rest
 plain_same stays (keeps {w = w} {k = k} {n = n} {m = m} {a = a} {b = b} {r = r} {s = s} one below rest) = plain_node w k n m a b r s below (plain_same stays rest)
 plain_same stays (leaves may out strict rest) = absurd (cc (stays, may))
 plain_same stays (empties may rest) = plain_same stays rest
-plain_same stays (becomes {k = k} {l = l} {n = n} {m = m} {a = a} {b = b} {r = r} {s = s} part may rest) = no_parameters l m b s part.unasked ∙ plain_same stays rest ∙ sym (no_parameters k n a r (given_not k part.gives))
+plain_same stays (becomes {k = k} {l = l} {n = n} {m = m} {a = a} {b = b} {r = r} {s = s} part may rest) =
+    no_parameters l m b s part.unasked ∙ plain_same stays rest ∙ sym (no_parameters k n a r (given_not k part.gives))
 
 -- ---- classes
 
@@ -109,7 +111,8 @@ privates_same stays (keeps_absent rest) = privates_same stays rest
 privates_same stays (keeps {w = w} {k = k} {n = n} {m = m} {a = a} {b = b} {r = r} {s = s} one below rest) = privates_node w k n m a b r s below (λ d. privates_same d below) (privates_same stays rest)
 privates_same stays (leaves may out strict rest) = absurd (cc (stays, may))
 privates_same stays (empties may rest) = privates_same stays rest
-privates_same stays (becomes {k = k} {l = l} {n = n} {m = m} {a = a} {b = b} {r = r} {s = s} part may rest) = no_privates l m b s part.unasked ∙ privates_same stays rest ∙ sym (no_privates k n a r (given_not k part.gives))
+privates_same stays (becomes {k = k} {l = l} {n = n} {m = m} {a = a} {b = b} {r = r} {s = s} part may rest) =
+    no_privates l m b s part.unasked ∙ privates_same stays rest ∙ sym (no_privates k n a r (given_not k part.gives))
 
 pub extends_same : {w : Around} {t u : Forest} → may_leave w.row ≡ false → Sheds w t u → extends_another u ≡ extends_another t
 extends_same {t = t} {u = u} stays h = ap (λ x. not (is_absent x)) (behind_is u) ∙ ap not (absent_same stays (behind_left stays h)) ∙ ap (λ x. not (is_absent x)) (sym (behind_is t))
@@ -131,7 +134,8 @@ privates_fewer p q stays (keeps {w = w} {k = k} {n = n} {m = m} {a = a} {b = b} 
     beside (private_node w k p q a b below) (privates_fewer (p + node_count (node k m b nothing)) (q + node_count (node k n a nothing)) stays rest)
 privates_fewer p q stays (leaves may out strict rest) = absurd (cc (stays, may))
 privates_fewer p q stays (empties may rest) = privates_fewer _ _ stays rest
-privates_fewer p q stays (becomes {k = k} {l = l} {n = n} {m = m} {a = a} {b = b} {r = r} {s = s} part may rest) = rw (no_private l p b part.unasked, no_private k q a (given_not k part.gives)) (privates_fewer _ _ stays rest)
+privates_fewer p q stays (becomes {k = k} {l = l} {n = n} {m = m} {a = a} {b = b} {r = r} {s = s} part may rest) =
+    rw (no_private l p b part.unasked, no_private k q a (given_not k part.gives)) (privates_fewer _ _ stays rest)
 
 -- ---- loops, `super`, and names in parentheses
 
@@ -203,4 +207,5 @@ rests_last p q stays (keeps {k = k} {n = n} {m = m} {a = a} {b = b} {r = r} one 
 rests_last p q stays (leaves may out strict rest) h = absurd (cc (stays, may))
 rests_last p q stays (empties may rest) h = rests_last _ _ stays rest h
 rests_last p q stays (becomes {k = k} {l = l} {n = n} {m = m} {a = a} {b = b} {r = r} {s = s} part may rest) h =
-    rw (no_rest l part.unasked) (rests_last (p + node_count (node l m b nothing)) (q + node_count (node k n a nothing)) stays rest (left_out (is_rest k && not (is_last r)) q (early_rests (q + node_count (node k n a nothing)) r) h).1)
+    rw (no_rest l part.unasked) (rests_last (p + node_count (node l m b nothing)) (q + node_count (node k n a nothing)) stays rest
+    (left_out (is_rest k && not (is_last r)) q (early_rests (q + node_count (node k n a nothing)) r) h).1)

@@ -59,7 +59,8 @@ amid s q (absent r) rest f = amid s q r rest f
 amid s q (node k n a r) rest f = behind_all (declared_here s q k ++ declared (sought_below s k) (q + one_each k) a) (amid s (q + node_count (alone k n a)) r rest f)
 
 -- a part declares what it declared
-part_declared : (s : Sought) (k l : Kind) (a b : Forest) (p q : ℕ) → is_of_catch s ≡ false → StandsFor k a l b → Fewer Declared SameName (declared_here s p l ++ declared (sought_below s l) (p + one_each l) b) (declared (sought_below s k) q a)
+part_declared : (s : Sought) (k l : Kind) (a b : Forest) (p q : ℕ) → is_of_catch s ≡ false → StandsFor k a l b
+    → Fewer Declared SameName (declared_here s p l ++ declared (sought_below s l) (p + one_each l) b) (declared (sought_below s k) q a)
 part_declared s k l a b p q calm part =
     rw (no_name_here s p l part.unasked, sought_alike s k l calm part.gives part.unasked part.alike)
     (subst (λ t. Fewer Declared SameName (declared (sought_below (sought_below s k) l) (p + one_each l) b) (declared (sought_below s k) q t)) (sym part.is_part)
@@ -71,7 +72,8 @@ pub fewer_declared : {w : Around} {t u : Forest} (s : Sought) (p q : ℕ) → (i
 fewer_declared s p q catch ends = none
 fewer_declared s p q catch (keeps_absent h) = fewer_declared s p q catch h
 fewer_declared s p q catch (keeps {k = k} {n = n} {m = m} {a = a} {b = b} h below rest) =
-    beside (beside (same_here s p q k) (fewer_declared (sought_below s k) (p + one_each k) (q + one_each k) (λ e. absurd (cc (e, no_catch_below s k))) below)) (fewer_declared s (p + node_count (alone k m b)) (q + node_count (alone k n a)) catch rest)
+    beside (beside (same_here s p q k) (fewer_declared (sought_below s k) (p + one_each k) (q + one_each k) (λ e. absurd (cc (e, no_catch_below s k))) below))
+    (fewer_declared s (p + node_count (alone k m b)) (q + node_count (alone k n a)) catch rest)
 fewer_declared s p q catch (leaves {k = k} {n = n} {a = a} h e d rest) =
     behind_all (declared_here s q k ++ declared (sought_below s k) (q + one_each k) a) (fewer_declared s p (q + node_count (alone k n a)) catch rest)
 fewer_declared s p q catch (empties {n = n} {m = m} {a = a} {s = r} h rest) =
@@ -79,7 +81,8 @@ fewer_declared s p q catch (empties {n = n} {m = m} {a = a} {s = r} h rest) =
     (behind_all (declared_here s q expression_statement ++ declared (sought_below s expression_statement) (q + one_each expression_statement) a)
     (fewer_declared s (p + node_count (alone empty_statement m nothing)) (q + node_count (alone expression_statement n a)) catch rest))
 fewer_declared s p q catch (becomes {w = w} {k = k} {l = l} {n = n} {m = m} {a = a} {b = b} part may rest) =
-    beside (behind_all (declared_here s q k) (part_declared s k l a b p (q + one_each k) (no_catch (is_of_catch s) refl) part)) (fewer_declared s (p + node_count (alone l m b)) (q + node_count (alone k n a)) catch rest)
+    beside (behind_all (declared_here s q k) (part_declared s k l a b p (q + one_each k) (no_catch (is_of_catch s) refl) part))
+    (fewer_declared s (p + node_count (alone l m b)) (q + node_count (alone k n a)) catch rest)
   where
     no_catch : (x : Bool) → is_of_catch s ≡ x → is_of_catch s ≡ false
     no_catch true is = absurd (cc (catch is, not_asked w k may))
@@ -170,7 +173,8 @@ skipped s q (node k n a r) rest h =
     no_second (x ∷ xs) ys h = absurd cc
 
 -- of those below a node it is a part that declares, if it may stand for the node
-still_by_part : (x : List ℕ) (s : Sought) (k l : Kind) (a b : Forest) (p q : ℕ) → is_of_catch s ≡ false → StandsFor k a l b → is_declared x (declared (sought_below s k) q a) ≡ true → is_declared x (declared (sought_below s l) p b) ≡ true
+still_by_part : (x : List ℕ) (s : Sought) (k l : Kind) (a b : Forest) (p q : ℕ) → is_of_catch s ≡ false → StandsFor k a l b → is_declared x (declared (sought_below s k) q a) ≡ true
+    → is_declared x (declared (sought_below s l) p b) ≡ true
 still_by_part x s k l a b p q calm part h =
     let inner = sought_below s k in
     let there = skipped inner q part.before (node l part.note b part.after) (part.none_before s q) in
@@ -187,7 +191,8 @@ still_by_part x s k l a b p q calm part h =
     amid_none false false c f g h = absurd (cc (g, h))
 
 -- what is exported is declared by what is left
-pub still_declared : (x : List ℕ) (p q : ℕ) {w : Around} {t u : Forest} → is_of_catch w.sought ≡ false → Sheds w t u → is_exported x w.exported ≡ true → is_declared x (declared w.sought q t) ≡ true → is_declared x (declared w.sought p u) ≡ true
+pub still_declared : (x : List ℕ) (p q : ℕ) {w : Around} {t u : Forest} → is_of_catch w.sought ≡ false → Sheds w t u → is_exported x w.exported ≡ true
+    → is_declared x (declared w.sought q t) ≡ true → is_declared x (declared w.sought p u) ≡ true
 still_declared x p q calm ends e h = h
 still_declared x p q calm (keeps_absent rest) e h = still_declared x p q calm rest e h
 still_declared x p q calm (keeps {w = w} {k = k} {n = n} {m = m} {a = a} {b = b} {r = r} {s = s} one below rest) e h =
@@ -195,7 +200,8 @@ still_declared x p q calm (keeps {w = w} {k = k} {n = n} {m = m} {a = a} {b = b}
     ∙ one_of_both (is_declared x (declared_here w.sought q k)) (is_declared x (declared (sought_below w.sought k) (q + one_each k) a) || is_declared x (declared w.sought (q + node_count (alone k n a)) r)) (is_declared x (declared_here w.sought p k))
     (is_declared x (declared (sought_below w.sought k) (p + one_each k) b) || is_declared x (declared w.sought (p + node_count (alone k m b)) s)) (declared_in_more x (same_here w.sought q p k))
     (one_of_both (is_declared x (declared (sought_below w.sought k) (q + one_each k) a)) (is_declared x (declared w.sought (q + node_count (alone k n a)) r)) (is_declared x (declared (sought_below w.sought k) (p + one_each k) b))
-    (is_declared x (declared w.sought (p + node_count (alone k m b)) s)) (kept_below x w.exported w.sought k (p + one_each k) (q + one_each k) a b e (still_declared x (p + one_each k) (q + one_each k) (no_catch_inside w.sought k) below))
+    (is_declared x (declared w.sought (p + node_count (alone k m b)) s)) (kept_below x w.exported w.sought k (p + one_each k) (q + one_each k) a b e
+    (still_declared x (p + one_each k) (q + one_each k) (no_catch_inside w.sought k) below))
     (still_declared x (p + node_count (alone k m b)) (q + node_count (alone k n a)) calm rest e))
     (sym (declared_node x w.sought q k n a r) ∙ h)
 still_declared x p q calm (leaves {w = w} {k = k} {n = n} {a = a} {r = r} may out strict rest) e h =
@@ -213,8 +219,10 @@ still_declared x p q calm (empties {w = w} {n = n} {m = m} {a = a} {r = r} {s = 
 still_declared x p q calm (becomes {w = w} {k = k} {l = l} {n = n} {m = m} {a = a} {b = b} {r = r} {s = s} part may rest) e h =
     declared_node x w.sought p l m b s
     ∙ second_of_either (is_declared x (declared_here w.sought p l)) (is_declared x (declared (sought_below w.sought l) (p + one_each l) b) || is_declared x (declared w.sought (p + node_count (alone l m b)) s))
-    (one_of_both (is_declared x (declared (sought_below w.sought k) (q + one_each k) a)) (is_declared x (declared w.sought (q + node_count (alone k n a)) r)) (is_declared x (declared (sought_below w.sought l) (p + one_each l) b))
+    (one_of_both (is_declared x (declared (sought_below w.sought k) (q + one_each k) a)) (is_declared x (declared w.sought (q + node_count (alone k n a)) r))
+    (is_declared x (declared (sought_below w.sought l) (p + one_each l) b))
     (is_declared x (declared w.sought (p + node_count (alone l m b)) s)) (still_by_part x w.sought k l a b (p + one_each l) (q + one_each k) calm part)
     (still_declared x (p + node_count (alone l m b)) (q + node_count (alone k n a)) calm rest e)
-    (ap (λ ds. is_declared x ds || (is_declared x (declared (sought_below w.sought k) (q + one_each k) a) || is_declared x (declared w.sought (q + node_count (alone k n a)) r))) (sym (no_name_here w.sought q k (given_not k part.gives)))
+    (ap (λ ds. is_declared x ds || (is_declared x (declared (sought_below w.sought k) (q + one_each k) a) || is_declared x (declared w.sought (q + node_count (alone k n a)) r)))
+    (sym (no_name_here w.sought q k (given_not k part.gives)))
     ∙ sym (declared_node x w.sought q k n a r) ∙ h))

@@ -72,7 +72,8 @@ class_seeks variables = refl
 class_seeks function_scope = refl
 class_seeks (catch_scope f) = refl
 
-none_below : (s : Sought) (k : Kind) (a : Forest) (p : ℕ) → ((z : Sought) (q : ℕ) → declares_none a ≡ true → declared z q a ≡ []) → declares_none_at k (declares_none a) ≡ true → declared (sought_below s k) p a ≡ []
+none_below : (s : Sought) (k : Kind) (a : Forest) (p : ℕ) → ((z : Sought) (q : ℕ) → declares_none a ≡ true → declared z q a ≡ []) → declares_none_at k (declares_none a) ≡ true
+    → declared (sought_below s k) p a ≡ []
 none_below s (binding_name x) a p f h = absurd cc
 none_below s (function function_kind.Declaration pure) a p f h = absurd cc
 none_below s (function function_kind.Expression pure) a p f h = ap (λ z. declared z p a) (expression_seeks s pure) ∙ none_declared p a
@@ -87,7 +88,8 @@ nothing_declared s p (absent r) h = nothing_declared s p r h
 nothing_declared s p (node k n a r) h =
     let own = first_of_both (declares_none_at k (declares_none a)) (declares_none r) h in
     both_empty (declared_here s p k ++ declared (sought_below s k) (p + one_each k) a) (declared s (p + node_count (alone k n a)) r)
-    (both_empty (declared_here s p k) (declared (sought_below s k) (p + one_each k) a) (no_name_here s p k (not_name k (declares_none a) own)) (none_below s k a (p + one_each k) (λ z q g. nothing_declared z q a g) own))
+    (both_empty (declared_here s p k) (declared (sought_below s k) (p + one_each k) a) (no_name_here s p k (not_name k (declares_none a) own))
+    (none_below s k a (p + one_each k) (λ z q g. nothing_declared z q a g) own))
     (nothing_declared s (p + node_count (alone k n a)) r (second_of_both (declares_none_at k (declares_none a)) (declares_none r) h))
 
 -- ---- branches
@@ -210,7 +212,8 @@ module _ (x y : Tree) (stands : Stands x y) where
 
   sheds_there : (a : place.Around) (z : Around) → may_all_give_way z.row z.is_asked (plug a (Some x)) ≡ true → Sheds z (plug a (Some x)) (plug a (Some y))
   sheds_there (first rest) z h =
-      becomes stands (may_there z (first_of_both (not (gives_way x.kind) || may_give_way z.row z.is_asked x.kind) (may_all_give_way (row_below z.row x.kind) (asked_below z.row x.kind) x.below && may_all_give_way z.row z.is_asked rest) h)) (itself z rest)
+      becomes stands (may_there z (first_of_both (not (gives_way x.kind) || may_give_way z.row z.is_asked x.kind)
+      (may_all_give_way (row_below z.row x.kind) (asked_below z.row x.kind) x.below && may_all_give_way z.row z.is_asked rest) h)) (itself z rest)
   sheds_there (behind k n b a) z h =
       keeps (keeps_itself (row_below z.row k) b) (itself (entered z k b) b)
       (sheds_there a z (second_of_both (may_all_give_way (row_below z.row k) (asked_below z.row k) b) (may_all_give_way z.row z.is_asked (plug a (Some x)))
