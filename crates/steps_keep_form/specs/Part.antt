@@ -6,7 +6,7 @@ use Rattle.js_syntax.specs.Node.{Note, Forest, node, joined}
 use Rattle.form_rules.specs.declared.sought.Sought.{Sought}
 use Rattle.form_rules.specs.Scope.{sought_below, declared}
 
--- Nodes in whose place a part of them may stand: they have the context of what stands around them, and open no scope.
+-- Nodes in whose place a part of them may stand: what lies below one is in the context and the scope that the node is in.
 abbrev pub gives_way : Kind → Bool
 gives_way if_statement = true
 gives_way conditional_expression = true
@@ -34,8 +34,8 @@ is_statement for_in_statement = true
 is_statement for_of_statement = true
 is_statement k = false
 
--- Nodes for which the rules of the nodes around them ask, and those that are asked what they are the body, the head or the
--- function of.
+-- Nodes for which rules of the nodes around them ask, by what they are or by what they declare; and those for which it matters
+-- whether they are a method's function, stand alone as the body of a statement, or stand in the head of a loop.
 abbrev pub is_asked_for : Kind → Bool
 is_asked_for (program source) = true
 is_asked_for (directive written) = true
