@@ -1,4 +1,5 @@
 pub mod Fewer
+pub mod Asked
 pub mod ShedNames
 pub mod Rows
 pub mod Exports
@@ -6,6 +7,7 @@ pub mod Seen
 pub mod Parts
 pub mod Contexts
 pub mod Rules
+pub mod Alone
 pub mod Form
 pub mod Laid
 pub mod Kept
@@ -15,3 +17,4 @@ pub mod Order
 pub mod Several
 pub mod Planned
 pub mod Fitting
+pub mod Firm

@@ -1,16 +1,98 @@
 -- What is left of a tree is laid out as the tree was.
-use Rattle.std.proofs.Common.{◌≡◌, true, false, not, ◌&&◌, ◌||◌, refl, ap, ◌∙◌}
+use Rattle.std.proofs.Common.{◌≡◌, Bool, true, false, not, ◌&&◌, ◌||◌, refl, sym, ap, ◌∙◌}
 use Rattle.js_syntax.specs.declared.node_kind.NodeKind.{NodeKind as Kind}
-use Rattle.js_syntax.specs.declared.node_kind.NodeKind.TheVariants.{Program as program, Statements as statements, ExpressionStatement as expression_statement, Function as function, BindingName as binding_name, Specifiers as specifiers, ExportNamedDeclaration as export_named_declaration}
-use Rattle.js_syntax.specs.Node.{Note, Forest, node}
+use Rattle.js_syntax.specs.declared.node_kind.NodeKind.TheVariants.{Program as program, Directive as directive, Statements as statements, FunctionBody as function_body, ExpressionStatement as expression_statement, BlockStatement as block_statement, StaticBlock as static_block, SwitchCase as switch_case, LabeledStatement as labeled_statement, IfStatement as if_statement, WithStatement as with_statement, WhileStatement as while_statement, DoWhileStatement as do_while_statement, ForStatement as for_statement, ForInStatement as for_in_statement, ForOfStatement as for_of_statement, ConditionalExpression as conditional_expression, LogicalExpression as logical_expression, Function as function, VariableDeclaration as variable_declaration, Declarators as declarators, BindingName as binding_name, Specifiers as specifiers, ExportNamedDeclaration as export_named_declaration}
+use Rattle.js_syntax.specs.Node.{Note, Forest, nothing, node, absent, joined}
 use Rattle.form_rules.specs.Context.{has_use_strict}
 use Rattle.json_shape.specs.Shape.{is_directive_kind}
-use Rattle.steps_keep_form.specs.Sheds.{row_below, may_leave, Around, entered, Sheds, ends, keeps_absent, keeps, leaves, empties}
-use Rattle.steps_keep_form.proofs.Rows.{stays_below, behind_left}
+use Rattle.steps_keep_form.specs.Part.{gives_way, is_statement, is_asked_for}
+use Rattle.steps_keep_form.specs.Sheds.{Row, parts, items, row_below, may_leave, may_empty, may_give_way, Around, entered, Sheds, ends, keeps_absent, keeps, leaves, empties, becomes}
+use Rattle.steps_keep_form.proofs.Rows.{stays_below, behind_left, is_usual, is_other}
+use Rattle.steps_keep_form.proofs.Asked.{given_not, statement_may}
 use Rattle.steps_keep_form.proofs.Seen.{strict_same}
 use Rattle.steps_keep_form.specs.Layout.{is_declarators, is_list_first, are_specifiers_first, binds_none, stands_right, is_laid_out}
 use Rattle.steps_keep_form.proofs.Laid.{laid_absent, laid_order, laid_right, laid_below, laid_behind}
 use Rattle.js_syntax.proofs.Truth.{both, first_of_both}
+
+-- ---- nodes for which no rule asks
+
+no_list : (k : Kind) (n : Note) (a r : Forest) → is_asked_for k ≡ false → is_list_first (node k n a r) ≡ false
+no_list statements n a r h = absurd cc
+no_list k n a r h = refl
+
+no_specifiers : (k : Kind) (n : Note) (a r : Forest) → is_asked_for k ≡ false → are_specifiers_first (node k n a r) ≡ false
+no_specifiers specifiers n a r h = absurd cc
+no_specifiers k n a r h = refl
+
+no_name : (k : Kind) (n : Note) (a r : Forest) → is_asked_for k ≡ false → binds_none (node k n a r) ≡ binds_none r
+no_name (binding_name x) n a r h = absurd cc
+no_name k n a r h = refl
+
+no_directive : (k : Kind) → is_asked_for k ≡ false → is_directive_kind k ≡ false
+no_directive (directive written) h = absurd cc
+no_directive k h = refl
+
+-- ---- a part stands for a node
+
+-- statements may become empty among the parts of a node that gives way, where the node is one
+row_of_statement : (row : Row) (k : Kind) → gives_way k ≡ true → is_statement k ≡ true → may_empty row ≡ true → row_below row k ≡ parts
+row_of_statement parts if_statement g i may = refl
+row_of_statement items if_statement g i may = refl
+row_of_statement row if_statement g i may = absurd cc
+row_of_statement row conditional_expression g i may = absurd cc
+row_of_statement row (logical_expression operator) g i may = absurd cc
+row_of_statement row k g i may = absurd cc
+
+below_statement : (row : Row) (l : Kind) → is_asked_for l ≡ false → may_empty row ≡ true → row_below row l ≡ row_below parts l
+below_statement row statements h may = absurd cc
+below_statement row (variable_declaration how) h may = absurd cc
+below_statement parts l h may = refl
+below_statement items l h may = refl
+below_statement row l h may = absurd cc
+
+of_expression : (l : Kind) → is_asked_for l ≡ false → is_statement l ≡ false → is_usual l ≡ true
+of_expression statements h g = absurd cc
+of_expression declarators h g = absurd cc
+of_expression (variable_declaration how) h g = absurd cc
+of_expression (program source) h g = absurd cc
+of_expression function_body h g = absurd cc
+of_expression block_statement h g = absurd cc
+of_expression static_block h g = absurd cc
+of_expression switch_case h g = absurd cc
+of_expression (labeled_statement label) h g = absurd cc
+of_expression if_statement h g = absurd cc
+of_expression with_statement h g = absurd cc
+of_expression while_statement h g = absurd cc
+of_expression do_while_statement h g = absurd cc
+of_expression for_statement h g = absurd cc
+of_expression for_in_statement h g = absurd cc
+of_expression for_of_statement h g = absurd cc
+of_expression l h g = refl
+
+same_row : (w : Around) (k l : Kind) → gives_way k ≡ true → is_asked_for l ≡ false → is_statement l ≡ is_statement k → may_give_way w.row w.is_asked k ≡ true
+    → row_below w.row l ≡ row_below (row_below w.row k) l
+same_row w k l gives unasked alike may = of (is_statement k) refl
+  where
+    of : (x : Bool) → is_statement k ≡ x → row_below w.row l ≡ row_below (row_below w.row k) l
+    of true is =
+        let emptied = statement_may w k may is in
+        below_statement w.row l unasked emptied ∙ ap (λ x. row_below x l) (sym (row_of_statement w.row k gives is emptied))
+    of false is =
+        let usual = of_expression l unasked (alike ∙ is) in
+        is_other w.row l usual ∙ sym (is_other (row_below w.row k) l usual)
+
+right_there : (row : Row) (l : Kind) (b : Forest) → is_asked_for l ≡ false → (is_statement l ≡ true → may_empty row ≡ true) → stands_right row l b ≡ true
+right_there row statements b h may = absurd cc
+right_there row expression_statement b h may = may refl
+right_there row (program source) b h may = absurd cc
+right_there row (export_named_declaration source) b h may = absurd cc
+right_there row (function how pure) b h may = absurd cc
+right_there row l b h may = refl
+
+laid_part : (row : Row) (before after : Forest) (l : Kind) (n : Note) (b : Forest) → is_laid_out row (joined before (node l n b after)) ≡ true → is_laid_out (row_below row l) b ≡ true
+laid_part row nothing after l n b h = laid_below row l n b after h
+laid_part row (absent r) after l n b h = laid_part row r after l n b (laid_absent row (joined r (node l n b after)) h)
+laid_part row (node j m c r) after l n b h = laid_part row r after l n b (laid_behind row j m c (joined r (node l n b after)) h)
 
 -- ---- first nodes, where nothing leaves
 
@@ -24,6 +106,7 @@ list_same stays (keeps_absent rest) = refl
 list_same stays (keeps {k = k} {n = n} {m = m} {a = a} {b = b} {r = r} {s = s} one below rest) = list_node k n m a b r s
 list_same stays (leaves may out strict rest) = absurd (cc (stays, may))
 list_same stays (empties may rest) = refl
+list_same stays (becomes {k = k} {l = l} {n = n} {m = m} {a = a} {b = b} {r = r} {s = s} part may rest) = no_list l m b s part.unasked ∙ sym (no_list k n a r (given_not k part.gives))
 
 specifiers_node : (k : Kind) (n m : Note) (a b r s : Forest) → are_specifiers_first (node k m b s) ≡ are_specifiers_first (node k n a r)
 specifiers_node specifiers n m a b r s = refl
@@ -35,6 +118,7 @@ specifiers_same stays (keeps_absent rest) = refl
 specifiers_same stays (keeps {k = k} {n = n} {m = m} {a = a} {b = b} {r = r} {s = s} one below rest) = specifiers_node k n m a b r s
 specifiers_same stays (leaves may out strict rest) = absurd (cc (stays, may))
 specifiers_same stays (empties may rest) = refl
+specifiers_same stays (becomes {k = k} {l = l} {n = n} {m = m} {a = a} {b = b} {r = r} {s = s} part may rest) = no_specifiers l m b s part.unasked ∙ sym (no_specifiers k n a r (given_not k part.gives))
 
 binds_node : (k : Kind) (n m : Note) (a b r s : Forest) → binds_none s ≡ binds_none r → binds_none (node k m b s) ≡ binds_none (node k n a r)
 binds_node (binding_name x) n m a b r s h = refl
@@ -46,6 +130,8 @@ binds_same stays (keeps_absent rest) = binds_same stays rest
 binds_same stays (keeps {k = k} {n = n} {m = m} {a = a} {b = b} {r = r} {s = s} one below rest) = binds_node k n m a b r s (binds_same stays rest)
 binds_same stays (leaves may out strict rest) = absurd (cc (stays, may))
 binds_same stays (empties may rest) = binds_same stays rest
+binds_same stays (becomes {k = k} {l = l} {n = n} {m = m} {a = a} {b = b} {r = r} {s = s} part may rest) =
+    no_name l m b s part.unasked ∙ binds_same stays rest ∙ sym (no_name k n a r (given_not k part.gives))
 
 -- ---- nodes
 
@@ -69,3 +155,12 @@ stays_laid_out (keeps {w = w} {k = k} {n = n} {m = m} {a = a} {b = b} {r = r} {s
 stays_laid_out (leaves {w = w} {k = k} {n = n} {a = a} {r = r} may out strict rest) h = stays_laid_out rest (laid_behind w.row k n a r h)
 stays_laid_out (empties {w = w} {n = n} {m = m} {a = a} {r = r} {s = s} may rest) h =
     both (not (has_use_strict s)) (is_laid_out w.row s) (ap not (strict_same rest) ∙ laid_order w.row expression_statement n a r h) (stays_laid_out rest (laid_behind w.row expression_statement n a r h))
+stays_laid_out (becomes {w = w} {k = k} {l = l} {n = n} {m = m} {a = a} {b = b} {r = r} {s = s} part may rest) h =
+    both (is_directive_kind l || not (has_use_strict s)) (stands_right w.row l b && (is_laid_out (row_below w.row l) b && is_laid_out w.row s))
+    (ap (λ x. x || not (has_use_strict s)) (no_directive l part.unasked) ∙ ap not (strict_same rest)
+    ∙ ap (λ x. x || not (has_use_strict r)) (sym (no_directive k (given_not k part.gives))) ∙ laid_order w.row k n a r h)
+    (both (stands_right w.row l b) (is_laid_out (row_below w.row l) b && is_laid_out w.row s) (right_there w.row l b part.unasked (λ is. statement_may w k may (sym part.alike ∙ is)))
+    (both (is_laid_out (row_below w.row l) b) (is_laid_out w.row s)
+    (ap (λ row. is_laid_out row b) (same_row w k l part.gives part.unasked part.alike may)
+    ∙ laid_part (row_below w.row k) part.before part.after l part.note b (ap (is_laid_out (row_below w.row k)) (sym part.is_part) ∙ laid_below w.row k n a r h))
+    (stays_laid_out rest (laid_behind w.row k n a r h))))

@@ -8,7 +8,9 @@ use Rattle.js_syntax.specs.declared.kind.MethodKind.TheVariants as method_kind
 use Rattle.js_syntax.specs.declared.kind.VariableKind.{VariableKind}
 use Rattle.js_syntax.specs.Node.{Forest, nothing, node}
 use Rattle.form_rules.specs.Rules.{places_of, all_but_first, first_below, length_of, is_default, is_constructor, has_initializer, is_declarator_wrong, counts_right}
-use Rattle.steps_keep_form.specs.Sheds.{Row, parts, items, of_item, of_declarators, of_head, other, row_below, may_leave, may_empty, keeps_one, Around, entered, Sheds, ends, keeps_absent, keeps, leaves, empties}
+use Rattle.steps_keep_form.specs.Sheds.{Row, parts, items, of_item, of_declarators, of_head, other, row_below, asked_below, may_leave, may_empty, keeps_one, Around, entered, Sheds, ends, keeps_absent, keeps, leaves, empties, becomes}
+use Rattle.steps_keep_form.specs.Part.{is_asked_for}
+use Rattle.steps_keep_form.proofs.Asked.{no_default, no_constructor, not_asked}
 use Rattle.steps_keep_form.proofs.Fewer.{Fewer, none, both, more}
 use Rattle.steps_keep_form.proofs.Rows.{stays_below, behind_left, absent_same, length_same}
 use Rattle.steps_keep_form.proofs.Seen.{name_same}
@@ -27,15 +29,17 @@ less_if true q f = more f
 less_if false q f = f
 
 module _ (test : Kind → Forest → Bool) where
-  places_fewer : (p q : ℕ) {w : Around} {t u : Forest} → ((k : Kind) (a b : Forest) → Sheds (entered w k a) a b → test k b ≡ test k a) → (may_empty w.row ≡ true → test empty_statement nothing ≡ false) → Sheds w t u
-      → Fewer ℕ Any (places_of test p u) (places_of test q t)
-  places_fewer p q same emptied ends = none
-  places_fewer p q same emptied (keeps_absent rest) = places_fewer p q same emptied rest
-  places_fewer p q same emptied (keeps {k = k} {n = n} {m = m} {a = a} {b = b} one below rest) =
-      rw (same k a b below) (fewer_if (test k a) p q (places_fewer (p + node_count (node k m b nothing)) (q + node_count (node k n a nothing)) same emptied rest))
-  places_fewer p q same emptied (leaves {k = k} {n = n} {a = a} may out strict rest) = less_if (test k a) q (places_fewer p (q + node_count (node k n a nothing)) same emptied rest)
-  places_fewer p q same emptied (empties {n = n} {m = m} {a = a} may rest) =
-      rw (emptied may) (less_if (test expression_statement a) q (places_fewer (p + node_count (node empty_statement m nothing nothing)) (q + node_count (node expression_statement n a nothing)) same emptied rest))
+  places_fewer : (p q : ℕ) {w : Around} {t u : Forest} → ((k : Kind) (a b : Forest) → Sheds (entered w k a) a b → test k b ≡ test k a) → (may_empty w.row ≡ true → test empty_statement nothing ≡ false)
+      → (w.is_asked ≡ false → (k : Kind) (a : Forest) → is_asked_for k ≡ false → test k a ≡ false) → Sheds w t u → Fewer ℕ Any (places_of test p u) (places_of test q t)
+  places_fewer p q same emptied unasked ends = none
+  places_fewer p q same emptied unasked (keeps_absent rest) = places_fewer p q same emptied unasked rest
+  places_fewer p q same emptied unasked (keeps {k = k} {n = n} {m = m} {a = a} {b = b} one below rest) =
+      rw (same k a b below) (fewer_if (test k a) p q (places_fewer (p + node_count (node k m b nothing)) (q + node_count (node k n a nothing)) same emptied unasked rest))
+  places_fewer p q same emptied unasked (leaves {k = k} {n = n} {a = a} may out strict rest) = less_if (test k a) q (places_fewer p (q + node_count (node k n a nothing)) same emptied unasked rest)
+  places_fewer p q same emptied unasked (empties {n = n} {m = m} {a = a} may rest) =
+      rw (emptied may) (less_if (test expression_statement a) q (places_fewer (p + node_count (node empty_statement m nothing nothing)) (q + node_count (node expression_statement n a nothing)) same emptied unasked rest))
+  places_fewer p q same emptied unasked (becomes {w = w} {k = k} {l = l} {n = n} {m = m} {a = a} {b = b} part may rest) =
+      rw (unasked (not_asked w k may) l b part.unasked) (less_if (test k a) q (places_fewer (p + node_count (node l m b nothing)) (q + node_count (node k n a nothing)) same emptied unasked rest))
 
 pub none_of_none : {xs ys : List ℕ} → Fewer ℕ Any xs ys → ys ≡ [] → xs ≡ []
 none_of_none none h = refl
@@ -56,10 +60,10 @@ constructor_same (method_definition method_kind.Constructor is_static key) a b =
 constructor_same k a b = refl
 
 pub one_default : (p q : ℕ) {w : Around} {t u : Forest} → Sheds w t u → all_but_first (places_of is_default q t) ≡ [] → all_but_first (places_of is_default p u) ≡ []
-one_default p q {w = w} h = one_of_one (places_fewer is_default p q (default_same w) (λ e. refl) h)
+one_default p q {w = w} h = one_of_one (places_fewer is_default p q (default_same w) (λ e. refl) (λ d. no_default) h)
 
 pub one_constructor : (p q : ℕ) {w : Around} {t u : Forest} → Sheds w t u → all_but_first (places_of is_constructor q t) ≡ [] → all_but_first (places_of is_constructor p u) ≡ []
-one_constructor p q h = one_of_one (places_fewer is_constructor p q (λ k a b below. constructor_same k a b) (λ e. refl) h)
+one_constructor p q h = one_of_one (places_fewer is_constructor p q (λ k a b below. constructor_same k a b) (λ e. refl) (λ d. no_constructor) h)
 
 -- ---- declarators
 
@@ -109,9 +113,11 @@ wrong_same : (is_head : Bool) (how : VariableKind) (k : Kind) {w : Around} {t u 
 wrong_same true how k stays h = initializer_same stays h
 wrong_same false how k stays h = rw (initializer_same stays h, name_same stays h) refl
 
-pub none_wrong : (is_head : Bool) (how : VariableKind) (p q : ℕ) {w : Around} {t u : Forest} → is_plain w.row ≡ true → Sheds w t u → places_of (is_declarator_wrong is_head how) q t ≡ [] → places_of (is_declarator_wrong is_head how) p u ≡ []
-none_wrong is_head how p q {w = w} plain h =
-    none_of_none (places_fewer (is_declarator_wrong is_head how) p q (λ k a b below. wrong_same is_head how k (plain_stays w.row k plain) below) (λ e. absurd (plain_empties_not w.row plain e)) h)
+pub none_wrong : (is_head : Bool) (how : VariableKind) (p q : ℕ) {w : Around} {t u : Forest} → is_plain w.row ≡ true → w.is_asked ≡ true → Sheds w t u
+    → places_of (is_declarator_wrong is_head how) q t ≡ [] → places_of (is_declarator_wrong is_head how) p u ≡ []
+none_wrong is_head how p q {w = w} plain asked h =
+    none_of_none (places_fewer (is_declarator_wrong is_head how) p q (λ k a b below. wrong_same is_head how k (plain_stays w.row k plain) below) (λ e. absurd (plain_empties_not w.row plain e))
+    (λ d. absurd (cc (asked, d))) h)
 
 length_fewer : {w : Around} {t u : Forest} → Sheds w t u → length_of u ≤ length_of t
 length_fewer ends = omega arith
@@ -119,6 +125,7 @@ length_fewer (keeps_absent rest) = length_fewer rest
 length_fewer (keeps one below rest) = omega (arith, length_fewer rest)
 length_fewer (leaves may out strict rest) = omega (arith, length_fewer rest)
 length_fewer (empties may rest) = omega (arith, length_fewer rest)
+length_fewer (becomes part may rest) = omega (arith, length_fewer rest)
 
 counts_fewer : (is_head : Bool) (m n : ℕ) → m ≤ n → (n == 0 || not (m == 0)) ≡ true → counts_right is_head n ≡ true → counts_right is_head m ≡ true
 counts_fewer true m n less one right = grind (arith, nat_tests, less, one, right)
@@ -129,19 +136,23 @@ counts_in : (is_head : Bool) (row : Row) (a b : Forest) → (may_leave row ≡ f
 counts_in is_head row a b (inl stays) one less same right = ap (counts_right is_head) (same stays) ∙ right
 counts_in is_head row a b (inr is) one less same right = counts_fewer is_head (length_of b) (length_of a) less (ap (λ x. keeps_one x a b) (sym is) ∙ one) right
 
-pub counts_stay : (is_head : Bool) {w : Around} {t u : Forest} → may_leave w.row ≡ false → may_empty w.row ≡ false → Sheds w t u → counts_right is_head (length_of (first_below t)) ≡ true → counts_right is_head (length_of (first_below u)) ≡ true
-counts_stay is_head stays full ends right = right
-counts_stay is_head stays full (keeps_absent rest) right = right
-counts_stay is_head stays full (keeps {w = w} {k = k} {a = a} {b = b} one below rest) right = counts_in is_head (row_below w.row k) a b (below_declaration w.row k full) one (length_fewer below) (λ d. length_same d below) right
-counts_stay is_head stays full (leaves may out strict rest) right = absurd (cc (stays, may))
-counts_stay is_head stays full (empties may rest) right = absurd (cc (full, may))
+pub counts_stay : (is_head : Bool) {w : Around} {t u : Forest} → may_leave w.row ≡ false → may_empty w.row ≡ false → w.is_asked ≡ true → Sheds w t u
+    → counts_right is_head (length_of (first_below t)) ≡ true → counts_right is_head (length_of (first_below u)) ≡ true
+counts_stay is_head stays full asked ends right = right
+counts_stay is_head stays full asked (keeps_absent rest) right = right
+counts_stay is_head stays full asked (keeps {w = w} {k = k} {a = a} {b = b} one below rest) right =
+    counts_in is_head (row_below w.row k) a b (below_declaration w.row k full) one (length_fewer below) (λ d. length_same d below) right
+counts_stay is_head stays full asked (leaves may out strict rest) right = absurd (cc (stays, may))
+counts_stay is_head stays full asked (empties may rest) right = absurd (cc (full, may))
+counts_stay is_head stays full asked (becomes {w = w} {k = k} part may rest) right = absurd (cc (asked, not_asked w k may))
 
-pub below_same : {w : Around} {t u : Forest} → w.row ≡ other → Sheds w t u → length_of (first_below u) ≡ length_of (first_below t)
-below_same is ends = refl
-below_same is (keeps_absent rest) = refl
-below_same is (keeps {w = w} {k = k} one below rest) = length_same (plain_stays w.row k (ap is_plain is)) below
-below_same is (leaves may out strict rest) = absurd (cc (may, ap may_leave is))
-below_same is (empties may rest) = absurd (cc (may, ap may_empty is))
+pub below_same : {w : Around} {t u : Forest} → w.row ≡ other → w.is_asked ≡ true → Sheds w t u → length_of (first_below u) ≡ length_of (first_below t)
+below_same is asked ends = refl
+below_same is asked (keeps_absent rest) = refl
+below_same is asked (keeps {w = w} {k = k} one below rest) = length_same (plain_stays w.row k (ap is_plain is)) below
+below_same is asked (leaves may out strict rest) = absurd (cc (may, ap may_leave is))
+below_same is asked (empties may rest) = absurd (cc (may, ap may_empty is))
+below_same is asked (becomes {w = w} {k = k} part may rest) = absurd (cc (asked, not_asked w k may))
 
 -- rows below a declaration
 abbrev pub of_variables : Row → Bool
@@ -175,11 +186,21 @@ plain_below of_head declarators h = refl
 plain_below of_head k h = refl
 plain_below other k h = absurd cc
 
+asked_in_it : (row : Row) (k : Kind) → of_variables row ≡ true → asked_below row k ≡ true
+asked_in_it parts k h = absurd cc
+asked_in_it items k h = absurd cc
+asked_in_it of_item k h = refl
+asked_in_it of_declarators k h = absurd cc
+asked_in_it of_head k h = refl
+asked_in_it other k h = absurd cc
+
 -- the declarators of a declaration
-pub declarators_left : (is_head : Bool) (how : VariableKind) (p q : ℕ) {w : Around} {t u : Forest} → of_variables w.row ≡ true → Sheds w t u → places_of (is_declarator_wrong is_head how) q (first_below t) ≡ []
+pub declarators_left : (is_head : Bool) (how : VariableKind) (p q : ℕ) {w : Around} {t u : Forest} → of_variables w.row ≡ true → w.is_asked ≡ true → Sheds w t u
+    → places_of (is_declarator_wrong is_head how) q (first_below t) ≡ []
     → places_of (is_declarator_wrong is_head how) p (first_below u) ≡ []
-declarators_left is_head how p q is ends right = refl
-declarators_left is_head how p q is (keeps_absent rest) right = refl
-declarators_left is_head how p q is (keeps {w = w} {k = k} one below rest) right = none_wrong is_head how p q (plain_below w.row k is) below right
-declarators_left is_head how p q {w = w} is (leaves may out strict rest) right = absurd (cc (may, (variables_stay w.row is).0))
-declarators_left is_head how p q {w = w} is (empties may rest) right = absurd (cc (may, (variables_stay w.row is).1))
+declarators_left is_head how p q is asked ends right = refl
+declarators_left is_head how p q is asked (keeps_absent rest) right = refl
+declarators_left is_head how p q is asked (keeps {w = w} {k = k} one below rest) right = none_wrong is_head how p q (plain_below w.row k is) (asked_in_it w.row k is) below right
+declarators_left is_head how p q {w = w} is asked (leaves may out strict rest) right = absurd (cc (may, (variables_stay w.row is).0))
+declarators_left is_head how p q {w = w} is asked (empties may rest) right = absurd (cc (may, (variables_stay w.row is).1))
+declarators_left is_head how p q {w = w} is asked (becomes {k = k} part may rest) right = absurd (cc (asked, not_asked w k may))

@@ -21,6 +21,7 @@ use Rattle.steps_keep_form.proofs.Fewer.{Fewer, none, SameName, none_later, none
 use Rattle.steps_keep_form.proofs.ShedNames.{fewer_declared, still_declared}
 use Rattle.steps_keep_form.proofs.Rows.{stays_below, is_other, behind_left, absent_same}
 use Rattle.steps_keep_form.proofs.Exports.{exported_first, locals_below_first, locals_anywhere, none_undeclared}
+use Rattle.steps_keep_form.proofs.Asked.{asked_there}
 use Rattle.steps_keep_form.proofs.Seen.{function_same, plain_same, privates_fewer, super_same, bare_same, rests_last}
 use Rattle.steps_keep_form.proofs.Parts.{one_default, one_constructor, counts_stay, below_same, are_variables, variables_stay, declarators_left}
 
@@ -76,15 +77,15 @@ module _ (w : Around) (c : Context) (p q : ℕ) (a b : Forest) where
   Below k = Sheds (entered w k a) a b
 
   declared_by_fewer : (k : Kind) → Below k → Fewer Declared SameName (declared_by c k q b) (declared_by c k p a)
-  declared_by_fewer (program source) h = fewer_declared (scope (at_top source)) (suc q) (suc p) h
-  declared_by_fewer (function how pure) h = fewer_declared function_scope (suc q) (suc p) h
-  declared_by_fewer static_block h = fewer_declared (scope hoisted) (suc q) (suc p) h
-  declared_by_fewer block_statement h = fewer_declared (scope (functions_in c.strict)) (suc q) (suc p) h
-  declared_by_fewer cases h = fewer_declared (scope (functions_in c.strict)) q p h
-  declared_by_fewer for_statement h = fewer_declared (scope lexical) (suc q) (suc p) h
-  declared_by_fewer for_in_statement h = fewer_declared (scope lexical) (suc q) (suc p) h
-  declared_by_fewer for_of_statement h = fewer_declared (scope lexical) (suc q) (suc p) h
-  declared_by_fewer catch_clause h = fewer_declared (catch_scope (functions_in c.strict)) (suc q) (suc p) h
+  declared_by_fewer (program source) h = fewer_declared (scope (at_top source)) (suc q) (suc p) (λ e. absurd cc) h
+  declared_by_fewer (function how pure) h = fewer_declared function_scope (suc q) (suc p) (λ e. absurd cc) h
+  declared_by_fewer static_block h = fewer_declared (scope hoisted) (suc q) (suc p) (λ e. absurd cc) h
+  declared_by_fewer block_statement h = fewer_declared (scope (functions_in c.strict)) (suc q) (suc p) (λ e. absurd cc) h
+  declared_by_fewer cases h = fewer_declared (scope (functions_in c.strict)) q p (λ e. absurd cc) h
+  declared_by_fewer for_statement h = fewer_declared (scope lexical) (suc q) (suc p) (λ e. absurd cc) h
+  declared_by_fewer for_in_statement h = fewer_declared (scope lexical) (suc q) (suc p) (λ e. absurd cc) h
+  declared_by_fewer for_of_statement h = fewer_declared (scope lexical) (suc q) (suc p) (λ e. absurd cc) h
+  declared_by_fewer catch_clause h = fewer_declared (catch_scope (functions_in c.strict)) (suc q) (suc p) (λ e. asked_there w.row catch_clause refl) h
   declared_by_fewer k h = none
 
   rule_1_kept : (k : Kind) → Below k → rule_1 c k p a ≡ [] → rule_1 c k q b ≡ []
@@ -130,10 +131,11 @@ module _ (w : Around) (c : Context) (p q : ℕ) (a b : Forest) where
   exports_kept source h =
       let stays = stays_below w.row (program source) refl in
       each_kept _ _ _ _
-      (each_none 7 (repeated_exports [] (exported_among (suc p) (first_below a))) (repeated_exports [] (exported_among (suc q) (first_below b))) (none_exported_twice none (exported_first (suc q) (suc p) stays h)))
+      (each_none 7 (repeated_exports [] (exported_among (suc p) (first_below a))) (repeated_exports [] (exported_among (suc q) (first_below b)))
+      (none_exported_twice none (exported_first (suc q) (suc p) stays (asked_there w.row (program source) refl) h)))
       (each_none 7 (undeclared (declared_by c (program source) p a) (locals_among (suc p) (first_below a))) (undeclared (declared_by c (program source) q b) (locals_among (suc q) (first_below b)))
-      (none_undeclared (declared_by c (program source) q b) (declared_by c (program source) p a) (locals_below_first (suc q) (suc p) stays h)
-      (λ x e d. still_declared x (suc q) (suc p) h (locals_anywhere x (suc p) 0 (first_below a) e) d)))
+      (none_undeclared (declared_by c (program source) q b) (declared_by c (program source) p a) (locals_below_first (suc q) (suc p) stays (asked_there w.row (program source) refl) h)
+      (λ x e d. still_declared x (suc q) (suc p) refl h (locals_anywhere x (suc p) 0 (first_below a) e) d)))
 
   rule_7_kept : (k : Kind) → Below k → rule_7 c k p a ≡ [] → rule_7 c k q b ≡ []
   rule_7_kept (program source) h g = exports_kept source h g
@@ -171,14 +173,19 @@ module _ (w : Around) (c : Context) (p q : ℕ) (a b : Forest) where
       let stays = variables_stay (row_below w.row (variable_declaration how)) row in
       each_kept (unless (counts_right c.is_head (length_of (first_below a))) p 11) (each_breaks 11 (places_of (is_declarator_wrong c.is_head how) (suc p) (first_below a)))
       (unless (counts_right c.is_head (length_of (first_below b))) q 11) (each_breaks 11 (places_of (is_declarator_wrong c.is_head how) (suc q) (first_below b)))
-      (unless_if (counts_right c.is_head (length_of (first_below a))) (counts_right c.is_head (length_of (first_below b))) p q 11 (counts_stay c.is_head stays.0 stays.1 h))
-      (each_none 11 (places_of (is_declarator_wrong c.is_head how) (suc p) (first_below a)) (places_of (is_declarator_wrong c.is_head how) (suc q) (first_below b)) (declarators_left c.is_head how (suc q) (suc p) row h)) g
+      (unless_if (counts_right c.is_head (length_of (first_below a))) (counts_right c.is_head (length_of (first_below b))) p q 11
+      (counts_stay c.is_head stays.0 stays.1 (asked_there w.row (variable_declaration how) refl) h))
+      (each_none 11 (places_of (is_declarator_wrong c.is_head how) (suc p) (first_below a)) (places_of (is_declarator_wrong c.is_head how) (suc q) (first_below b))
+      (declarators_left c.is_head how (suc q) (suc p) row (asked_there w.row (variable_declaration how) refl) h)) g
   parts_kept sequence_expression h g =
-      unless_if (nat_lt 1 (length_of (first_below a))) (nat_lt 1 (length_of (first_below b))) p q 11 (λ e. ap (λ n. nat_lt 1 n) (below_same (is_other w.row sequence_expression refl) h) ∙ e) g
+      unless_if (nat_lt 1 (length_of (first_below a))) (nat_lt 1 (length_of (first_below b))) p q 11
+      (λ e. ap (λ n. nat_lt 1 n) (below_same (is_other w.row sequence_expression refl) (asked_there w.row sequence_expression refl) h) ∙ e) g
   parts_kept template_literal h g =
       let row = is_other w.row template_literal refl in
+      let asked = asked_there w.row template_literal refl in
       unless_if (length_of (first_below a) == suc (length_of (first_below (behind a)))) (length_of (first_below b) == suc (length_of (first_below (behind b)))) p q 11
-      (λ e. ap (λ n. n == suc (length_of (first_below (behind b)))) (below_same row h) ∙ ap (λ n. length_of (first_below a) == suc n) (below_same row (behind_left (stays_below w.row template_literal refl) h)) ∙ e) g
+      (λ e. ap (λ n. n == suc (length_of (first_below (behind b)))) (below_same row asked h)
+      ∙ ap (λ n. length_of (first_below a) == suc n) (below_same row asked (behind_left (stays_below w.row template_literal refl) h)) ∙ e) g
   parts_kept parameters h g = each_none 11 (early_rests p a) (early_rests q b) (rests_last q p (stays_below w.row parameters refl) h) g
   parts_kept elements h g = each_none 11 (early_rests p a) (early_rests q b) (rests_last q p (stays_below w.row elements refl) h) g
   parts_kept properties h g = each_none 11 (early_rests p a) (early_rests q b) (rests_last q p (stays_below w.row properties refl) h) g

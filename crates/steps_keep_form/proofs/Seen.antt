@@ -10,7 +10,8 @@ use Rattle.form_rules.specs.declared.role.Half.{Half}
 use Rattle.form_rules.specs.declared.role.Half.TheVariants.{Whole as whole}
 use Rattle.form_rules.specs.Context.{has_use_strict, is_strict_list, is_strict_function, private_key_of, privates_of, extends_another, is_absent, is_loop}
 use Rattle.form_rules.specs.Rules.{are_names, have_plain_parameters, Private, privates_named, half_of, private_of, privates_among, first_is_super, is_bare_name, is_name_first, is_last, is_rest, early_rests}
-use Rattle.steps_keep_form.specs.Sheds.{row_below, may_leave, Around, entered, Sheds, ends, keeps_absent, keeps, leaves, empties}
+use Rattle.steps_keep_form.specs.Sheds.{row_below, may_leave, Around, entered, Sheds, ends, keeps_absent, keeps, leaves, empties, becomes}
+use Rattle.steps_keep_form.proofs.Asked.{given_not, not_strict, no_strict_list, no_body, no_name, no_parameters, no_private_key, no_privates, no_private, no_loop, no_super, not_bare, no_bound_name, no_rest}
 use Rattle.steps_keep_form.proofs.Fewer.{Fewer, none, both, beside, SamePrivate, left_out, leave_out}
 use Rattle.steps_keep_form.proofs.Rows.{stays_below, behind_left, behind_is, absent_same}
 
@@ -26,6 +27,7 @@ strict_same (keeps_absent rest) = refl
 strict_same (keeps {k = k} {n = n} {m = m} {a = a} {b = b} {r = r} {s = s} one below rest) = strict_node k n m a b r s (strict_same rest)
 strict_same (leaves may out strict rest) = strict_same rest ∙ strict
 strict_same (empties may rest) = refl
+strict_same (becomes {k = k} {l = l} {n = n} {m = m} {a = a} {b = b} {r = r} {s = s} part may rest) = not_strict l m b s part.unasked ∙ sym (not_strict k n a r (given_not k part.gives))
 
 list_node : (w : Around) (k : Kind) (n m : Note) (a b r s : Forest) → Sheds (entered w k a) a b → is_strict_list (node k m b s) ≡ is_strict_list (node k n a r)
 list_node w statements n m a b r s below = strict_same below
@@ -37,6 +39,7 @@ list_same stays (keeps_absent rest) = refl
 list_same stays (keeps {w = w} {k = k} {n = n} {m = m} {a = a} {b = b} {r = r} {s = s} one below rest) = list_node w k n m a b r s below
 list_same stays (leaves may out strict rest) = absurd (cc (stays, may))
 list_same stays (empties may rest) = refl
+list_same stays (becomes {k = k} {l = l} {n = n} {m = m} {a = a} {b = b} {r = r} {s = s} part may rest) = no_strict_list l m b s part.unasked ∙ sym (no_strict_list k n a r (given_not k part.gives))
 
 function_node : (w : Around) (k : Kind) (n m : Note) (a b r s : Forest) → Sheds (entered w k a) a b → is_strict_function s ≡ is_strict_function r → is_strict_function (node k m b s) ≡ is_strict_function (node k n a r)
 function_node w function_body n m a b r s below h = list_same (stays_below w.row function_body refl) below
@@ -48,6 +51,8 @@ function_same stays (keeps_absent rest) = function_same stays rest
 function_same stays (keeps {w = w} {k = k} {n = n} {m = m} {a = a} {b = b} {r = r} {s = s} one below rest) = function_node w k n m a b r s below (function_same stays rest)
 function_same stays (leaves may out strict rest) = absurd (cc (stays, may))
 function_same stays (empties may rest) = function_same stays rest
+function_same stays (becomes {k = k} {l = l} {n = n} {m = m} {a = a} {b = b} {r = r} {s = s} part may rest) =
+    no_body l m b s part.unasked ∙ function_same stays rest ∙ sym (no_body k n a r (given_not k part.gives))
 
 -- ---- parameters
 
@@ -61,6 +66,7 @@ names_same stays (keeps_absent rest) = names_same stays rest
 names_same stays (keeps {k = k} {n = n} {m = m} {a = a} {b = b} {r = r} {s = s} one below rest) = names_node k n m a b r s (names_same stays rest)
 names_same stays (leaves may out strict rest) = absurd (cc (stays, may))
 names_same stays (empties may rest) = refl
+names_same stays (becomes {k = k} {l = l} {n = n} {m = m} {a = a} {b = b} {r = r} {s = s} part may rest) = no_name l m b s part.unasked ∙ sym (no_name k n a r (given_not k part.gives))
 
 plain_node : (w : Around) (k : Kind) (n m : Note) (a b r s : Forest) → Sheds (entered w k a) a b → have_plain_parameters s ≡ have_plain_parameters r → have_plain_parameters (node k m b s) ≡ have_plain_parameters (node k n a r)
 plain_node w parameters n m a b r s below h = names_same (stays_below w.row parameters refl) below
@@ -72,6 +78,8 @@ plain_same stays (keeps_absent rest) = plain_same stays rest
 plain_same stays (keeps {w = w} {k = k} {n = n} {m = m} {a = a} {b = b} {r = r} {s = s} one below rest) = plain_node w k n m a b r s below (plain_same stays rest)
 plain_same stays (leaves may out strict rest) = absurd (cc (stays, may))
 plain_same stays (empties may rest) = plain_same stays rest
+plain_same stays (becomes {k = k} {l = l} {n = n} {m = m} {a = a} {b = b} {r = r} {s = s} part may rest) =
+    no_parameters l m b s part.unasked ∙ plain_same stays rest ∙ sym (no_parameters k n a r (given_not k part.gives))
 
 -- ---- classes
 
@@ -85,6 +93,7 @@ key_same stays (keeps_absent rest) = refl
 key_same stays (keeps {k = k} {n = n} {m = m} {a = a} {b = b} {r = r} {s = s} one below rest) = key_node k n m a b r s
 key_same stays (leaves may out strict rest) = absurd (cc (stays, may))
 key_same stays (empties may rest) = refl
+key_same stays (becomes {k = k} {l = l} {n = n} {m = m} {a = a} {b = b} {r = r} {s = s} part may rest) = no_private_key l m b s part.unasked ∙ sym (no_private_key k n a r (given_not k part.gives))
 
 privates_node : (w : Around) (k : Kind) (n m : Note) (a b r s : Forest) → Sheds (entered w k a) a b → (may_leave (row_below w.row k) ≡ false → privates_of b ≡ privates_of a) → privates_of s ≡ privates_of r
     → privates_of (node k m b s) ≡ privates_of (node k n a r)
@@ -102,6 +111,8 @@ privates_same stays (keeps_absent rest) = privates_same stays rest
 privates_same stays (keeps {w = w} {k = k} {n = n} {m = m} {a = a} {b = b} {r = r} {s = s} one below rest) = privates_node w k n m a b r s below (λ d. privates_same d below) (privates_same stays rest)
 privates_same stays (leaves may out strict rest) = absurd (cc (stays, may))
 privates_same stays (empties may rest) = privates_same stays rest
+privates_same stays (becomes {k = k} {l = l} {n = n} {m = m} {a = a} {b = b} {r = r} {s = s} part may rest) =
+    no_privates l m b s part.unasked ∙ privates_same stays rest ∙ sym (no_privates k n a r (given_not k part.gives))
 
 pub extends_same : {w : Around} {t u : Forest} → may_leave w.row ≡ false → Sheds w t u → extends_another u ≡ extends_another t
 extends_same {t = t} {u = u} stays h = ap (λ x. not (is_absent x)) (behind_is u) ∙ ap not (absent_same stays (behind_left stays h)) ∙ ap (λ x. not (is_absent x)) (sym (behind_is t))
@@ -123,6 +134,8 @@ privates_fewer p q stays (keeps {w = w} {k = k} {n = n} {m = m} {a = a} {b = b} 
     beside (private_node w k p q a b below) (privates_fewer (p + node_count (node k m b nothing)) (q + node_count (node k n a nothing)) stays rest)
 privates_fewer p q stays (leaves may out strict rest) = absurd (cc (stays, may))
 privates_fewer p q stays (empties may rest) = privates_fewer _ _ stays rest
+privates_fewer p q stays (becomes {k = k} {l = l} {n = n} {m = m} {a = a} {b = b} {r = r} {s = s} part may rest) =
+    rw (no_private l p b part.unasked, no_private k q a (given_not k part.gives)) (privates_fewer _ _ stays rest)
 
 -- ---- loops, `super`, and names in parentheses
 
@@ -136,6 +149,7 @@ loop_same stays (keeps_absent rest) = refl
 loop_same stays (keeps {w = w} {k = k} {n = n} {m = m} {a = a} {b = b} {r = r} {s = s} one below rest) = loop_node w k n m a b r s (λ d. loop_same d below)
 loop_same stays (leaves may out strict rest) = absurd (cc (stays, may))
 loop_same stays (empties may rest) = refl
+loop_same stays (becomes {k = k} {l = l} {n = n} {m = m} {a = a} {b = b} {r = r} {s = s} part may rest) = no_loop l m b s part.unasked ∙ sym (no_loop k n a r (given_not k part.gives))
 
 super_node : (k : Kind) (n m : Note) (a b r s : Forest) → first_is_super (node k m b s) ≡ first_is_super (node k n a r)
 super_node super n m a b r s = refl
@@ -147,6 +161,7 @@ super_same stays (keeps_absent rest) = refl
 super_same stays (keeps {k = k} {n = n} {m = m} {a = a} {b = b} {r = r} {s = s} one below rest) = super_node k n m a b r s
 super_same stays (leaves may out strict rest) = absurd (cc (stays, may))
 super_same stays (empties may rest) = refl
+super_same stays (becomes {k = k} {l = l} {n = n} {m = m} {a = a} {b = b} {r = r} {s = s} part may rest) = no_super l m b s part.unasked ∙ sym (no_super k n a r (given_not k part.gives))
 
 bare_node : (w : Around) (k : Kind) (n m : Note) (a b r s : Forest) → (may_leave (row_below w.row k) ≡ false → is_bare_name b ≡ is_bare_name a) → is_bare_name (node k m b s) ≡ is_bare_name (node k n a r)
 bare_node w (reference_name x) n m a b r s f = refl
@@ -159,6 +174,7 @@ bare_same stays (keeps_absent rest) = refl
 bare_same stays (keeps {w = w} {k = k} {n = n} {m = m} {a = a} {b = b} {r = r} {s = s} one below rest) = bare_node w k n m a b r s (λ d. bare_same d below)
 bare_same stays (leaves may out strict rest) = absurd (cc (stays, may))
 bare_same stays (empties may rest) = refl
+bare_same stays (becomes {k = k} {l = l} {n = n} {m = m} {a = a} {b = b} {r = r} {s = s} part may rest) = not_bare l m b s part.unasked ∙ sym (not_bare k n a r (given_not k part.gives))
 
 name_node : (k : Kind) (n m : Note) (a b r s : Forest) → is_name_first (node k m b s) ≡ is_name_first (node k n a r)
 name_node (binding_name x) n m a b r s = refl
@@ -170,6 +186,7 @@ name_same stays (keeps_absent rest) = refl
 name_same stays (keeps {k = k} {n = n} {m = m} {a = a} {b = b} {r = r} {s = s} one below rest) = name_node k n m a b r s
 name_same stays (leaves may out strict rest) = absurd (cc (stays, may))
 name_same stays (empties may rest) = refl
+name_same stays (becomes {k = k} {l = l} {n = n} {m = m} {a = a} {b = b} {r = r} {s = s} part may rest) = no_bound_name l m b s part.unasked ∙ sym (no_bound_name k n a r (given_not k part.gives))
 
 -- ---- rests stand last
 
@@ -179,6 +196,7 @@ last_same stays (keeps_absent rest) = refl
 last_same stays (keeps one below rest) = refl
 last_same stays (leaves may out strict rest) = absurd (cc (stays, may))
 last_same stays (empties may rest) = refl
+last_same stays (becomes part may rest) = refl
 
 pub rests_last : (p q : ℕ) {w : Around} {t u : Forest} → may_leave w.row ≡ false → Sheds w t u → early_rests q t ≡ [] → early_rests p u ≡ []
 rests_last p q stays ends h = refl
@@ -188,3 +206,6 @@ rests_last p q stays (keeps {k = k} {n = n} {m = m} {a = a} {b = b} {r = r} one 
     leave_out _ _ _ (ap (λ x. is_rest k && not x) (last_same stays rest) ∙ told.0) (rests_last (p + node_count (node k m b nothing)) (q + node_count (node k n a nothing)) stays rest told.1)
 rests_last p q stays (leaves may out strict rest) h = absurd (cc (stays, may))
 rests_last p q stays (empties may rest) h = rests_last _ _ stays rest h
+rests_last p q stays (becomes {k = k} {l = l} {n = n} {m = m} {a = a} {b = b} {r = r} {s = s} part may rest) h =
+    rw (no_rest l part.unasked) (rests_last (p + node_count (node l m b nothing)) (q + node_count (node k n a nothing)) stays rest
+    (left_out (is_rest k && not (is_last r)) q (early_rests (q + node_count (node k n a nothing)) r) h).1)

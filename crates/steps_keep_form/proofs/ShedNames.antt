@@ -1,18 +1,20 @@
 -- What is left of a row declares and exports nothing else than the row did, and still declares what is exported.
-use Rattle.std.proofs.Common.{◌≡◌, ℕ, ◌+◌, List, [], ◌∷◌, ◌++◌, Bool, true, false, not, ◌&&◌, ◌||◌, refl, sym, ap, ◌∙◌}
+use Rattle.std.proofs.Common.{◌≡◌, ℕ, ◌+◌, List, [], ◌∷◌, ◌++◌, Bool, true, false, not, ◌&&◌, ◌||◌, refl, sym, subst, ap, ◌∙◌}
 use Rattle.std.specs.Str.{bytes_eq}
 use Rattle.std.proofs.lemmas.Slice.Eq.{bytes_eq-Decides}
 use Rattle.js_tree.specs.Count.{one_each, node_count}
 use Rattle.js_syntax.specs.declared.node_kind.NodeKind.{NodeKind as Kind}
 use Rattle.js_syntax.specs.declared.node_kind.NodeKind.TheVariants.{Program as program, BindingName as binding_name, EmptyStatement as empty_statement, ExpressionStatement as expression_statement}
-use Rattle.js_syntax.specs.Node.{Note, Forest, nothing, node, absent, alone}
+use Rattle.js_syntax.specs.Node.{Note, Forest, nothing, node, absent, alone, joined}
 use Rattle.form_rules.specs.declared.sought.Sought.{Sought}
 use Rattle.form_rules.specs.declared.sought.Sought.TheVariants.{Nothing as none_sought, Names as names, Bound as bound, Scope as scope, Variables as variables, FunctionScope as function_scope, CatchScope as catch_scope}
 use Rattle.js_syntax.specs.declared.scalar.SourceType.{SourceType}
 use Rattle.form_rules.specs.Scope.{Declared, declared, declared_here, sought_below}
 use Rattle.form_rules.specs.Rules.{Exported, is_exported, is_declared}
-use Rattle.steps_keep_form.specs.Sheds.{Around, exports_none, sought_inside, exported_below, Sheds, ends, keeps_absent, keeps, leaves, empties}
-use Rattle.steps_keep_form.proofs.Fewer.{Fewer, none, both, more, behind_all, beside, SameName}
+use Rattle.steps_keep_form.specs.Sheds.{Around, exports_none, sought_inside, exported_below, Sheds, ends, keeps_absent, keeps, leaves, empties, becomes}
+use Rattle.steps_keep_form.specs.Part.{StandsFor}
+use Rattle.steps_keep_form.proofs.Asked.{given_not, no_name_here, is_of_catch, sought_alike, no_catch_below, no_catch_inside, not_asked}
+use Rattle.steps_keep_form.proofs.Fewer.{Fewer, none, both, more, fewest, behind_all, beside, SameName}
 use Rattle.js_syntax.proofs.Truth.{second_of_either}
 
 -- ---- what is declared
@@ -45,17 +47,46 @@ same_anywhere s p q (absent r) = same_anywhere s p q r
 same_anywhere s p q (node k n a r) =
     beside (beside (same_here s p q k) (same_anywhere (sought_below s k) (p + one_each k) (q + one_each k) a)) (same_anywhere s (p + node_count (alone k n a)) (q + node_count (alone k n a)) r)
 
-pub fewer_declared : {w : Around} {t u : Forest} (s : Sought) (p q : ℕ) → Sheds w t u → Fewer Declared SameName (declared s p u) (declared s q t)
-fewer_declared s p q ends = none
-fewer_declared s p q (keeps_absent h) = fewer_declared s p q h
-fewer_declared s p q (keeps {k = k} {n = n} {m = m} {a = a} {b = b} h below rest) =
-    beside (beside (same_here s p q k) (fewer_declared (sought_below s k) (p + one_each k) (q + one_each k) below)) (fewer_declared s (p + node_count (alone k m b)) (q + node_count (alone k n a)) rest)
-fewer_declared s p q (leaves {k = k} {n = n} {a = a} h e d rest) =
-    behind_all (declared_here s q k ++ declared (sought_below s k) (q + one_each k) a) (fewer_declared s p (q + node_count (alone k n a)) rest)
-fewer_declared s p q (empties {n = n} {m = m} {a = a} {s = r} h rest) =
+-- in front of others, and amid others
+in_front : {xs ys : List Declared} (zs : List Declared) → Fewer Declared SameName xs ys → Fewer Declared SameName xs (ys ++ zs)
+in_front zs none = fewest zs
+in_front zs (both s f) = both s (in_front zs f)
+in_front zs (more f) = more (in_front zs f)
+
+amid : (s : Sought) (q : ℕ) (before rest : Forest) {xs : List Declared} → ((i : ℕ) → Fewer Declared SameName xs (declared s i rest)) → Fewer Declared SameName xs (declared s q (joined before rest))
+amid s q nothing rest f = f q
+amid s q (absent r) rest f = amid s q r rest f
+amid s q (node k n a r) rest f = behind_all (declared_here s q k ++ declared (sought_below s k) (q + one_each k) a) (amid s (q + node_count (alone k n a)) r rest f)
+
+-- a part declares what it declared
+part_declared : (s : Sought) (k l : Kind) (a b : Forest) (p q : ℕ) → is_of_catch s ≡ false → StandsFor k a l b
+    → Fewer Declared SameName (declared_here s p l ++ declared (sought_below s l) (p + one_each l) b) (declared (sought_below s k) q a)
+part_declared s k l a b p q calm part =
+    rw (no_name_here s p l part.unasked, sought_alike s k l calm part.gives part.unasked part.alike)
+    (subst (λ t. Fewer Declared SameName (declared (sought_below (sought_below s k) l) (p + one_each l) b) (declared (sought_below s k) q t)) (sym part.is_part)
+    (amid (sought_below s k) q part.before (node l part.note b part.after)
+    (λ i. in_front (declared (sought_below s k) (i + node_count (alone l part.note b)) part.after)
+    (behind_all (declared_here (sought_below s k) i l) (same_anywhere (sought_below (sought_below s k) l) (p + one_each l) (i + one_each l) b)))))
+
+pub fewer_declared : {w : Around} {t u : Forest} (s : Sought) (p q : ℕ) → (is_of_catch s ≡ true → w.is_asked ≡ true) → Sheds w t u → Fewer Declared SameName (declared s p u) (declared s q t)
+fewer_declared s p q catch ends = none
+fewer_declared s p q catch (keeps_absent h) = fewer_declared s p q catch h
+fewer_declared s p q catch (keeps {k = k} {n = n} {m = m} {a = a} {b = b} h below rest) =
+    beside (beside (same_here s p q k) (fewer_declared (sought_below s k) (p + one_each k) (q + one_each k) (λ e. absurd (cc (e, no_catch_below s k))) below))
+    (fewer_declared s (p + node_count (alone k m b)) (q + node_count (alone k n a)) catch rest)
+fewer_declared s p q catch (leaves {k = k} {n = n} {a = a} h e d rest) =
+    behind_all (declared_here s q k ++ declared (sought_below s k) (q + one_each k) a) (fewer_declared s p (q + node_count (alone k n a)) catch rest)
+fewer_declared s p q catch (empties {n = n} {m = m} {a = a} {s = r} h rest) =
     rw (declares_nothing s p m r)
     (behind_all (declared_here s q expression_statement ++ declared (sought_below s expression_statement) (q + one_each expression_statement) a)
-    (fewer_declared s (p + node_count (alone empty_statement m nothing)) (q + node_count (alone expression_statement n a)) rest))
+    (fewer_declared s (p + node_count (alone empty_statement m nothing)) (q + node_count (alone expression_statement n a)) catch rest))
+fewer_declared s p q catch (becomes {w = w} {k = k} {l = l} {n = n} {m = m} {a = a} {b = b} part may rest) =
+    beside (behind_all (declared_here s q k) (part_declared s k l a b p (q + one_each k) (no_catch (is_of_catch s) refl) part))
+    (fewer_declared s (p + node_count (alone l m b)) (q + node_count (alone k n a)) catch rest)
+  where
+    no_catch : (x : Bool) → is_of_catch s ≡ x → is_of_catch s ≡ false
+    no_catch true is = absurd (cc (catch is, not_asked w k may))
+    no_catch false is = is
 
 -- ---- whether a name is declared
 
@@ -124,20 +155,57 @@ kept_below : (x : List ℕ) (es : List Exported) (s : Sought) (k : Kind) (p q : 
 kept_below x es s (program source) p q a b e f h = absurd (cc (sym h ∙ ap (λ t. is_declared x (declared t q a)) (no_program_sought s source) ∙ ap (is_declared x) (none_declared q a)))
 kept_below x es s k p q a b e f h = f e h
 
+-- behind nodes that declare nothing the same is declared
+skipped : (s : Sought) (q : ℕ) (before rest : Forest) → declared s q before ≡ [] → (i : ℕ) × (declared s q (joined before rest) ≡ declared s i rest)
+skipped s q nothing rest h = (q, refl)
+skipped s q (absent r) rest h = skipped s q r rest h
+skipped s q (node k n a r) rest h =
+    let own = declared_here s q k ++ declared (sought_below s k) (q + one_each k) a in
+    let further = skipped s (q + node_count (alone k n a)) r rest (no_second own (declared s (q + node_count (alone k n a)) r) h) in
+    (further.0, ap (λ ds. ds ++ declared s (q + node_count (alone k n a)) (joined r rest)) (no_first own (declared s (q + node_count (alone k n a)) r) h) ∙ further.1)
+  where
+    no_first : (xs ys : List Declared) → xs ++ ys ≡ [] → xs ≡ []
+    no_first [] ys h = refl
+    no_first (x ∷ xs) ys h = absurd cc
+
+    no_second : (xs ys : List Declared) → xs ++ ys ≡ [] → ys ≡ []
+    no_second [] ys h = h
+    no_second (x ∷ xs) ys h = absurd cc
+
+-- of those below a node it is a part that declares, if it may stand for the node
+still_by_part : (x : List ℕ) (s : Sought) (k l : Kind) (a b : Forest) (p q : ℕ) → is_of_catch s ≡ false → StandsFor k a l b → is_declared x (declared (sought_below s k) q a) ≡ true
+    → is_declared x (declared (sought_below s l) p b) ≡ true
+still_by_part x s k l a b p q calm part h =
+    let inner = sought_below s k in
+    let there = skipped inner q part.before (node l part.note b part.after) (part.none_before s q) in
+    let at = there.0 in
+    let known = sym (declared_node x inner at l part.note b part.after) ∙ sym (ap (is_declared x) (ap (declared inner q) part.is_part ∙ there.1)) ∙ h in
+    ap (λ z. is_declared x (declared z p b)) (sought_alike s k l calm part.gives part.unasked part.alike)
+    ∙ declared_in_more x (same_anywhere (sought_below inner l) (at + one_each l) p b)
+    (amid_none (is_declared x (declared_here inner at l)) (is_declared x (declared (sought_below inner l) (at + one_each l) b)) (is_declared x (declared inner (at + node_count (alone l part.note b)) part.after))
+    (ap (is_declared x) (no_name_here inner at l part.unasked)) (ap (is_declared x) (part.none_after s (at + node_count (alone l part.note b)))) known)
+  where
+    amid_none : (a b c : Bool) → a ≡ false → c ≡ false → (a || (b || c)) ≡ true → b ≡ true
+    amid_none true b c f g h = absurd cc
+    amid_none false true c f g h = refl
+    amid_none false false c f g h = absurd (cc (g, h))
+
 -- what is exported is declared by what is left
-pub still_declared : (x : List ℕ) (p q : ℕ) {w : Around} {t u : Forest} → Sheds w t u → is_exported x w.exported ≡ true → is_declared x (declared w.sought q t) ≡ true → is_declared x (declared w.sought p u) ≡ true
-still_declared x p q ends e h = h
-still_declared x p q (keeps_absent rest) e h = still_declared x p q rest e h
-still_declared x p q (keeps {w = w} {k = k} {n = n} {m = m} {a = a} {b = b} {r = r} {s = s} one below rest) e h =
+pub still_declared : (x : List ℕ) (p q : ℕ) {w : Around} {t u : Forest} → is_of_catch w.sought ≡ false → Sheds w t u → is_exported x w.exported ≡ true
+    → is_declared x (declared w.sought q t) ≡ true → is_declared x (declared w.sought p u) ≡ true
+still_declared x p q calm ends e h = h
+still_declared x p q calm (keeps_absent rest) e h = still_declared x p q calm rest e h
+still_declared x p q calm (keeps {w = w} {k = k} {n = n} {m = m} {a = a} {b = b} {r = r} {s = s} one below rest) e h =
     declared_node x w.sought p k m b s
     ∙ one_of_both (is_declared x (declared_here w.sought q k)) (is_declared x (declared (sought_below w.sought k) (q + one_each k) a) || is_declared x (declared w.sought (q + node_count (alone k n a)) r)) (is_declared x (declared_here w.sought p k))
     (is_declared x (declared (sought_below w.sought k) (p + one_each k) b) || is_declared x (declared w.sought (p + node_count (alone k m b)) s)) (declared_in_more x (same_here w.sought q p k))
     (one_of_both (is_declared x (declared (sought_below w.sought k) (q + one_each k) a)) (is_declared x (declared w.sought (q + node_count (alone k n a)) r)) (is_declared x (declared (sought_below w.sought k) (p + one_each k) b))
-    (is_declared x (declared w.sought (p + node_count (alone k m b)) s)) (kept_below x w.exported w.sought k (p + one_each k) (q + one_each k) a b e (still_declared x (p + one_each k) (q + one_each k) below))
-    (still_declared x (p + node_count (alone k m b)) (q + node_count (alone k n a)) rest e))
+    (is_declared x (declared w.sought (p + node_count (alone k m b)) s)) (kept_below x w.exported w.sought k (p + one_each k) (q + one_each k) a b e
+    (still_declared x (p + one_each k) (q + one_each k) (no_catch_inside w.sought k) below))
+    (still_declared x (p + node_count (alone k m b)) (q + node_count (alone k n a)) calm rest e))
     (sym (declared_node x w.sought q k n a r) ∙ h)
-still_declared x p q (leaves {w = w} {k = k} {n = n} {a = a} {r = r} may out strict rest) e h =
-    still_declared x p (q + node_count (alone k n a)) rest e
+still_declared x p q calm (leaves {w = w} {k = k} {n = n} {a = a} {r = r} may out strict rest) e h =
+    still_declared x p (q + node_count (alone k n a)) calm rest e
     (the_third (is_declared x (declared_here w.sought q k)) (is_declared x (declared (sought_below w.sought k) (q + one_each k) a)) (is_declared x (declared w.sought (q + node_count (alone k n a)) r))
     (sym (declared_node x w.sought q k n a nothing) ∙ still_out (is_declared x (declared w.sought q (alone k n a))) refl)
     (sym (declared_node x w.sought q k n a r) ∙ h))
@@ -145,6 +213,16 @@ still_declared x p q (leaves {w = w} {k = k} {n = n} {a = a} {r = r} may out str
     still_out : (b : Bool) → is_declared x (declared w.sought q (alone k n a)) ≡ b → is_declared x (declared w.sought q (alone k n a)) ≡ false
     still_out true is = absurd (cc (sym (not_declared x w.exported (declared w.sought 0 (alone k n a)) out e) ∙ declared_in_more x (same_anywhere w.sought q 0 (alone k n a)) is))
     still_out false is = is
-still_declared x p q (empties {w = w} {n = n} {m = m} {a = a} {r = r} {s = s} may rest) e h =
+still_declared x p q calm (empties {w = w} {n = n} {m = m} {a = a} {r = r} {s = s} may rest) e h =
     ap (is_declared x) (declares_nothing w.sought p m s)
-    ∙ still_declared x (p + node_count (alone empty_statement m nothing)) (q + node_count (alone expression_statement n a)) rest e (sym (ap (is_declared x) (nothing_of_expression w.sought q n a r)) ∙ h)
+    ∙ still_declared x (p + node_count (alone empty_statement m nothing)) (q + node_count (alone expression_statement n a)) calm rest e (sym (ap (is_declared x) (nothing_of_expression w.sought q n a r)) ∙ h)
+still_declared x p q calm (becomes {w = w} {k = k} {l = l} {n = n} {m = m} {a = a} {b = b} {r = r} {s = s} part may rest) e h =
+    declared_node x w.sought p l m b s
+    ∙ second_of_either (is_declared x (declared_here w.sought p l)) (is_declared x (declared (sought_below w.sought l) (p + one_each l) b) || is_declared x (declared w.sought (p + node_count (alone l m b)) s))
+    (one_of_both (is_declared x (declared (sought_below w.sought k) (q + one_each k) a)) (is_declared x (declared w.sought (q + node_count (alone k n a)) r))
+    (is_declared x (declared (sought_below w.sought l) (p + one_each l) b))
+    (is_declared x (declared w.sought (p + node_count (alone l m b)) s)) (still_by_part x w.sought k l a b (p + one_each l) (q + one_each k) calm part)
+    (still_declared x (p + node_count (alone l m b)) (q + node_count (alone k n a)) calm rest e)
+    (ap (λ ds. is_declared x ds || (is_declared x (declared (sought_below w.sought k) (q + one_each k) a) || is_declared x (declared w.sought (q + node_count (alone k n a)) r)))
+    (sym (no_name_here w.sought q k (given_not k part.gives)))
+    ∙ sym (declared_node x w.sought q k n a r) ∙ h))

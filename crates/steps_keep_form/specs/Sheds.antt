@@ -1,5 +1,5 @@
 -- What a program may lose so that no rule of form is broken by it: items of lists of statements, declarators of such items,
--- and expressions that are statements.
+-- expressions that are statements, and what stands around a part of a node that may stand for the node.
 use Rattle.std.specs.Prelude.{◌≡◌, List, [], ◌∷◌, Bool, true, false, not, ◌&&◌, ◌||◌, ◌==◌, if◌then◌else◌}
 use Rattle.js_syntax.specs.declared.node_kind.NodeKind.{NodeKind as Kind}
 use Rattle.js_syntax.specs.declared.node_kind.NodeKind.TheVariants.{Program as program, Statements as statements, FunctionBody as function_body, BlockStatement as block_statement, StaticBlock as static_block, SwitchCase as switch_case, LabeledStatement as labeled_statement, IfStatement as if_statement, WithStatement as with_statement, WhileStatement as while_statement, DoWhileStatement as do_while_statement, ForStatement as for_statement, ForInStatement as for_in_statement, ForOfStatement as for_of_statement, ExpressionStatement as expression_statement, EmptyStatement as empty_statement, VariableDeclaration as variable_declaration, Declarators as declarators}
@@ -9,6 +9,7 @@ use Rattle.form_rules.specs.declared.sought.Sought.TheVariants.{Nothing as none,
 use Rattle.form_rules.specs.Context.{has_use_strict}
 use Rattle.form_rules.specs.Scope.{Declared, sought_below, declared}
 use Rattle.form_rules.specs.Rules.{Exported, first_below, length_of, at_top, locals_among, is_exported}
+use Rattle.steps_keep_form.specs.Part.{is_statement, asks_further, StandsFor}
 
 -- The row in which a node stands: the parts of a node that has statements or a list of them; such a list; what lies below a
 -- variable declaration that is an item of one, and its declarators; what lies below one elsewhere, as in the head of a loop;
@@ -53,10 +54,17 @@ may_empty parts = true
 may_empty items = true
 may_empty row = false
 
--- What stands around a place: its row, the names that the program around exports without declaring them there, and what is
--- sought at the place for the names that are declared at the top of that program.
+-- whether a rule asks what lies below the nodes of a row
+abbrev pub asked_below : Row → Kind → Bool
+asked_below of_item k = true
+asked_below of_head k = true
+asked_below row k = asks_further k
+
+-- What stands around a place: its row, and whether a rule asks what lies below the nodes there; the names that the program around
+-- exports without declaring them there, and what is sought at the place for the names that are declared at the top of that program.
 pub record Around : Type 0 where
   pub row : Row
+  pub is_asked : Bool
   pub exported : List Exported
   pub sought : Sought
 
@@ -69,10 +77,10 @@ sought_inside s (program source) = scope (at_top source)
 sought_inside s k = sought_below s k
 
 abbrev pub entered : Around → Kind → (below : Forest) → Around
-entered w k below = record { row = row_below w.row k; exported = exported_below w.exported k below; sought = sought_inside w.sought k }
+entered w k below = record { row = row_below w.row k; is_asked = asked_below w.row k; exported = exported_below w.exported k below; sought = sought_inside w.sought k }
 
 abbrev pub outermost : Around
-outermost = record { row = other; exported = []; sought = none }
+outermost = record { row = other; is_asked = false; exported = []; sought = none }
 
 -- none of these declares a name that is exported
 abbrev pub exports_none : List Exported → List Declared → Bool
@@ -83,6 +91,10 @@ exports_none es (d ∷ ds) = not (is_exported d.name es) && exports_none es ds
 abbrev pub keeps_one : Row → (before after : Forest) → Bool
 keeps_one of_declarators a b = length_of a == 0 || not (length_of b == 0)
 keeps_one row a b = true
+
+-- where a part may stand for a node of this kind: a statement's where statements may become empty
+abbrev pub may_give_way : Row → (is_asked : Bool) → Kind → Bool
+may_give_way row is_asked whole = not is_asked && (not (is_statement whole) || may_empty row)
 
 -- What is left of a row, by what stands around it.
 pub data Sheds : Around → (t u : Forest) → Type 0 where
@@ -95,3 +107,5 @@ pub data Sheds : Around → (t u : Forest) → Type 0 where
       → Sheds w (node k n a r) s
   -- a statement of an expression becomes empty
   empties : {w : Around} {n m : Note} {a r s : Forest} → may_empty w.row ≡ true → Sheds w r s → Sheds w (node expression_statement n a r) (node empty_statement m nothing s)
+  -- a part of a node stands for it
+  becomes : {w : Around} {k l : Kind} {n m : Note} {a b r s : Forest} → StandsFor k a l b → may_give_way w.row w.is_asked k ≡ true → Sheds w r s → Sheds w (node k n a r) (node l m b s)

@@ -20,3 +20,4 @@ pub mod UnusedDeclarator
 pub mod UnusedDeclaration
 pub mod Owed
 pub mod TableKept
+pub mod PartForm

@@ -1,0 +1,229 @@
+-- A node becomes a part of itself, and no rule of form is broken.
+use Rattle.std.proofs.Common.{◌≡◌, ℕ, ◌+◌, suc, Bool, true, false, not, ◌&&◌, ◌||◌, ◌==◌, Some, [], ◌++◌, refl, sym, ap, ◌∙◌}
+use Rattle.js_tree.specs.Count.{one_each, node_count}
+use Rattle.js_syntax.specs.Class.{root}
+use Rattle.js_syntax.specs.declared.node_kind.NodeKind.{NodeKind as Kind}
+use Rattle.js_syntax.specs.declared.node_kind.NodeKind.TheVariants.{BindingName as binding_name, Function as function, Class as class, Literal as literal, ThisExpression as this_expression, ArrayExpression as array_expression, ObjectExpression as object_expression, SequenceExpression as sequence_expression, UnaryExpression as unary_expression, UpdateExpression as update_expression, BinaryExpression as binary_expression, LogicalExpression as logical_expression, AssignmentExpression as assignment_expression, ConditionalExpression as conditional_expression, CallExpression as call_expression, NewExpression as new_expression, EmptyStatement as empty_statement, ExpressionStatement as expression_statement, BlockStatement as block_statement, IfStatement as if_statement, BreakStatement as break_statement, ContinueStatement as continue_statement, ReturnStatement as return_statement, ThrowStatement as throw_statement, SwitchStatement as switch_statement, TryStatement as try_statement}
+use Rattle.js_syntax.specs.declared.kind.FunctionKind.TheVariants as function_kind
+use Rattle.js_syntax.specs.declared.kind.ClassKind.TheVariants as class_kind
+use Rattle.js_syntax.specs.Node.{Forest, Tree, nothing, node, absent, alone}
+use Rattle.js_syntax.proofs.Truth.{first_of_both, second_of_both}
+use Rattle.form_rules.specs.declared.sought.Sought.{Sought}
+use Rattle.form_rules.specs.declared.sought.Sought.TheVariants.{Nothing as none, Names as names, Bound as bound, Scope as scope, Variables as variables, FunctionScope as function_scope, CatchScope as catch_scope}
+use Rattle.form_rules.specs.Scope.{declared, declared_here, sought_below}
+use Rattle.form_rules.specs.Rules.{length_of}
+use Rattle.json_shape.specs.Shape.{Fits}
+use Rattle.scope_laws.specs.Place as place
+use Rattle.scope_laws.specs.Place.{first, behind, behind_none, under, plug}
+use Rattle.steps_allowed.specs.Branches.{is_blunt, is_branch, declares_none_at, declares_none}
+use Rattle.steps_allowed.specs.KnownConditional.{KnownConditional, consequent_is_taken, alternate_is_taken}
+use Rattle.steps_allowed.specs.KnownIf.{KnownIf, consequent_is_run, alternate_is_run}
+use Rattle.steps_keep_form.specs.Part.{gives_way, is_statement, is_asked_for, StandsFor}
+use Rattle.steps_keep_form.specs.Sheds.{Row, of_declarators, row_below, asked_below, may_give_way, keeps_one, Around, entered, outermost, Sheds, keeps_absent, keeps, becomes}
+use Rattle.steps_keep_form.proofs.Firm.{may_all_give_way, fits_may_give_way}
+use Rattle.steps_keep_form.proofs.Rows.{itself, keeps_itself}
+use Rattle.steps_keep_form.proofs.Rules.{both_empty}
+use Rattle.steps_keep_form.proofs.ShedNames.{none_declared}
+
+-- ---- a row that declares no name
+
+abbrev is_name : Kind → Bool
+is_name (binding_name x) = true
+is_name k = false
+
+not_name : (k : Kind) (below : Bool) → declares_none_at k below ≡ true → is_name k ≡ false
+not_name (binding_name x) below h = absurd cc
+not_name k below h = refl
+
+no_name_here : (s : Sought) (p : ℕ) (k : Kind) → is_name k ≡ false → declared_here s p k ≡ []
+no_name_here s p (binding_name x) h = absurd cc
+no_name_here none p k h = refl
+no_name_here (names f) p k h = refl
+no_name_here (bound f) p k h = refl
+no_name_here (scope f) p k h = refl
+no_name_here variables p k h = refl
+no_name_here function_scope p k h = refl
+no_name_here (catch_scope f) p k h = refl
+
+expression_seeks : (s : Sought) (pure : Bool) → sought_below s (function function_kind.Expression pure) ≡ none
+expression_seeks none pure = refl
+expression_seeks (names f) pure = refl
+expression_seeks (bound f) pure = refl
+expression_seeks (scope f) pure = refl
+expression_seeks variables pure = refl
+expression_seeks function_scope pure = refl
+expression_seeks (catch_scope f) pure = refl
+
+arrow_seeks : (s : Sought) (pure : Bool) → sought_below s (function function_kind.Arrow pure) ≡ none
+arrow_seeks none pure = refl
+arrow_seeks (names f) pure = refl
+arrow_seeks (bound f) pure = refl
+arrow_seeks (scope f) pure = refl
+arrow_seeks variables pure = refl
+arrow_seeks function_scope pure = refl
+arrow_seeks (catch_scope f) pure = refl
+
+class_seeks : (s : Sought) → sought_below s (class class_kind.Expression) ≡ none
+class_seeks none = refl
+class_seeks (names f) = refl
+class_seeks (bound f) = refl
+class_seeks (scope f) = refl
+class_seeks variables = refl
+class_seeks function_scope = refl
+class_seeks (catch_scope f) = refl
+
+none_below : (s : Sought) (k : Kind) (a : Forest) (p : ℕ) → ((z : Sought) (q : ℕ) → declares_none a ≡ true → declared z q a ≡ []) → declares_none_at k (declares_none a) ≡ true
+    → declared (sought_below s k) p a ≡ []
+none_below s (binding_name x) a p f h = absurd cc
+none_below s (function function_kind.Declaration pure) a p f h = absurd cc
+none_below s (function function_kind.Expression pure) a p f h = ap (λ z. declared z p a) (expression_seeks s pure) ∙ none_declared p a
+none_below s (function function_kind.Arrow pure) a p f h = ap (λ z. declared z p a) (arrow_seeks s pure) ∙ none_declared p a
+none_below s (class class_kind.Declaration) a p f h = absurd cc
+none_below s (class class_kind.Expression) a p f h = ap (λ z. declared z p a) (class_seeks s) ∙ none_declared p a
+none_below s k a p f h = f (sought_below s k) p h
+
+nothing_declared : (s : Sought) (p : ℕ) (t : Forest) → declares_none t ≡ true → declared s p t ≡ []
+nothing_declared s p nothing h = refl
+nothing_declared s p (absent r) h = nothing_declared s p r h
+nothing_declared s p (node k n a r) h =
+    let own = first_of_both (declares_none_at k (declares_none a)) (declares_none r) h in
+    both_empty (declared_here s p k ++ declared (sought_below s k) (p + one_each k) a) (declared s (p + node_count (alone k n a)) r)
+    (both_empty (declared_here s p k) (declared (sought_below s k) (p + one_each k) a) (no_name_here s p k (not_name k (declares_none a) own))
+    (none_below s k a (p + one_each k) (λ z q g. nothing_declared z q a g) own))
+    (nothing_declared s (p + node_count (alone k n a)) r (second_of_both (declares_none_at k (declares_none a)) (declares_none r) h))
+
+-- ---- branches
+
+blunt_unasked : (k : Kind) → is_blunt k ≡ true → (is_asked_for k ≡ false) × (is_statement k ≡ false)
+blunt_unasked (literal v) h = (refl, refl)
+blunt_unasked this_expression h = (refl, refl)
+blunt_unasked array_expression h = (refl, refl)
+blunt_unasked object_expression h = (refl, refl)
+blunt_unasked sequence_expression h = (refl, refl)
+blunt_unasked (unary_expression operator) h = (refl, refl)
+blunt_unasked (update_expression operator prefix) h = (refl, refl)
+blunt_unasked (binary_expression operator) h = (refl, refl)
+blunt_unasked (logical_expression operator) h = (refl, refl)
+blunt_unasked (assignment_expression operator) h = (refl, refl)
+blunt_unasked conditional_expression h = (refl, refl)
+blunt_unasked (call_expression optional pure) h = (refl, refl)
+blunt_unasked (new_expression pure) h = (refl, refl)
+blunt_unasked k h = absurd cc
+
+branch_unasked : (k : Kind) → is_branch k ≡ true → (is_asked_for k ≡ false) × (is_statement k ≡ true)
+branch_unasked empty_statement h = (refl, refl)
+branch_unasked expression_statement h = (refl, refl)
+branch_unasked block_statement h = (refl, refl)
+branch_unasked if_statement h = (refl, refl)
+branch_unasked (break_statement label) h = (refl, refl)
+branch_unasked (continue_statement label) h = (refl, refl)
+branch_unasked return_statement h = (refl, refl)
+branch_unasked throw_statement h = (refl, refl)
+branch_unasked switch_statement h = (refl, refl)
+branch_unasked try_statement h = (refl, refl)
+branch_unasked k h = absurd cc
+
+conditional_seeks : (s : Sought) → sought_below s conditional_expression ≡ none
+conditional_seeks none = refl
+conditional_seeks (names f) = refl
+conditional_seeks (bound f) = refl
+conditional_seeks (scope f) = refl
+conditional_seeks variables = refl
+conditional_seeks function_scope = refl
+conditional_seeks (catch_scope f) = refl
+
+none_of_conditional : (t : Forest) (s : Sought) (p : ℕ) → declared (sought_below s conditional_expression) p t ≡ []
+none_of_conditional t s p = ap (λ z. declared z p t) (conditional_seeks s) ∙ none_declared p t
+
+abbrev pub Stands : (x y : Tree) → Type 0
+Stands x y = StandsFor x.kind x.below y.kind y.below
+
+pub conditional_stands : (x y : Tree) → KnownConditional x y → Stands x y
+conditional_stands x y (consequent_is_taken v n m i j k l b c taken blunt) =
+    let unasked = blunt_unasked k blunt in
+    record {
+      before = node (literal v) m nothing nothing;
+      after = node l j c nothing;
+      note = i;
+      is_part = refl;
+      gives = refl;
+      unasked = unasked.0;
+      alike = unasked.1;
+      none_before = none_of_conditional (node (literal v) m nothing nothing);
+      none_after = none_of_conditional (node l j c nothing);
+    }
+conditional_stands x y (alternate_is_taken v n m i j k l b c taken blunt) =
+    let unasked = blunt_unasked l blunt in
+    record {
+      before = node (literal v) m nothing (node k i b nothing);
+      after = nothing;
+      note = j;
+      is_part = refl;
+      gives = refl;
+      unasked = unasked.0;
+      alike = unasked.1;
+      none_before = none_of_conditional (node (literal v) m nothing (node k i b nothing));
+      none_after = λ s p. refl;
+    }
+
+pub if_stands : (x y : Tree) → KnownIf x y → Stands x y
+if_stands x y (consequent_is_run v n m i k b alternate taken branch one silent) =
+    let unasked = branch_unasked k branch in
+    record {
+      before = node (literal v) m nothing nothing;
+      after = alternate;
+      note = i;
+      is_part = refl;
+      gives = refl;
+      unasked = unasked.0;
+      alike = unasked.1;
+      none_before = λ s p. nothing_declared (sought_below s if_statement) p (node (literal v) m nothing nothing) refl;
+      none_after = λ s p. nothing_declared (sought_below s if_statement) p alternate silent;
+    }
+if_stands x y (alternate_is_run v n m i j k l b c taken branch silent) =
+    let unasked = branch_unasked l branch in
+    record {
+      before = node (literal v) m nothing (node k i b nothing);
+      after = nothing;
+      note = j;
+      is_part = refl;
+      gives = refl;
+      unasked = unasked.0;
+      alike = unasked.1;
+      none_before = λ s p. nothing_declared (sought_below s if_statement) p (node (literal v) m nothing (node k i b nothing)) silent;
+      none_after = λ s p. refl;
+    }
+
+-- ---- wherever the node stands
+
+module _ (x y : Tree) (stands : Stands x y) where
+  as_many : (a : place.Around) → length_of (plug a (Some y)) ≡ length_of (plug a (Some x))
+  as_many (first rest) = refl
+  as_many (behind k n b a) = ap (λ i. suc i) (as_many a)
+  as_many (behind_none a) = as_many a
+  as_many (under k n a rest) = refl
+
+  keeps_all : (row : Row) (a : place.Around) → keeps_one row (plug a (Some x)) (plug a (Some y)) ≡ true
+  keeps_all of_declarators a = ap (λ i. length_of (plug a (Some x)) == 0 || not (i == 0)) (as_many a) ∙ keeps_itself of_declarators (plug a (Some x))
+  keeps_all row a = refl
+
+  may_there : (z : Around) → (not (gives_way x.kind) || may_give_way z.row z.is_asked x.kind) ≡ true → may_give_way z.row z.is_asked x.kind ≡ true
+  may_there z h = ap (λ g. not g || may_give_way z.row z.is_asked x.kind) (sym stands.gives) ∙ h
+
+  sheds_there : (a : place.Around) (z : Around) → may_all_give_way z.row z.is_asked (plug a (Some x)) ≡ true → Sheds z (plug a (Some x)) (plug a (Some y))
+  sheds_there (first rest) z h =
+      becomes stands (may_there z (first_of_both (not (gives_way x.kind) || may_give_way z.row z.is_asked x.kind)
+      (may_all_give_way (row_below z.row x.kind) (asked_below z.row x.kind) x.below && may_all_give_way z.row z.is_asked rest) h)) (itself z rest)
+  sheds_there (behind k n b a) z h =
+      keeps (keeps_itself (row_below z.row k) b) (itself (entered z k b) b)
+      (sheds_there a z (second_of_both (may_all_give_way (row_below z.row k) (asked_below z.row k) b) (may_all_give_way z.row z.is_asked (plug a (Some x)))
+      (second_of_both (not (gives_way k) || may_give_way z.row z.is_asked k) (may_all_give_way (row_below z.row k) (asked_below z.row k) b && may_all_give_way z.row z.is_asked (plug a (Some x))) h)))
+  sheds_there (behind_none a) z h = keeps_absent (sheds_there a z h)
+  sheds_there (under k n a rest) z h =
+      keeps (keeps_all (row_below z.row k) a)
+      (sheds_there a (entered z k (plug a (Some x))) (first_of_both (may_all_give_way (row_below z.row k) (asked_below z.row k) (plug a (Some x))) (may_all_give_way z.row z.is_asked rest)
+      (second_of_both (not (gives_way k) || may_give_way z.row z.is_asked k) (may_all_give_way (row_below z.row k) (asked_below z.row k) (plug a (Some x)) && may_all_give_way z.row z.is_asked rest) h)))
+      (itself z rest)
+
+pub part_sheds : (a : place.Around) (x y : Tree) → Stands x y → Fits root (plug a (Some x)) → Sheds outermost (plug a (Some x)) (plug a (Some y))
+part_sheds a x y stands fits = sheds_there x y stands a outermost (fits_may_give_way (plug a (Some x)) fits)
