@@ -65,7 +65,7 @@ same_name (in_below q s) = refl
 same_name (in_rest s) = refl
 same_name (in_absent s) = refl
 
-same_bound : {t u : Forest} → Local t u → bound_names t ≡ bound_names u
+pub same_bound : {t u : Forest} → Local t u → bound_names t ≡ bound_names u
 same_bound (at_place {k = k} {l = l} {a = a} {b = b} {r = r} c x y p) = ap (λ v. v ++ bound_names r) (calm_names k (bound_names a) x ∙ p.bound ∙ sym (calm_names l (bound_names b) y))
 same_bound (in_below {k = k} {r = r} q s) = ap (λ v. names_of k v ++ bound_names r) (same_bound s)
 same_bound (in_rest {k = k} {a = a} s) = ap (λ v. names_of k (bound_names a) ++ v) (same_bound s)
