@@ -22,13 +22,13 @@ true_false e = cc
 
 -- what a blunt expression declares
 
-calm_names : (k : Kind) (l : List Text) → is_calm k ≡ true → names_of k l ≡ l
+pub calm_names : (k : Kind) (l : List Text) → is_calm k ≡ true → names_of k l ≡ l
 calm_names (Kind.BindingName x) l h = absurd (true_false (sym h))
 calm_names (Kind.Function f pure) l h = absurd (true_false (sym h))
 calm_names (Kind.Class c) l h = absurd (true_false (sym h))
 calm_names k l h = refl
 
-calm_vars : (k : Kind) (a : Forest) (l : List Text) → is_calm k ≡ true → vars_of k a l ≡ l
+pub calm_vars : (k : Kind) (a : Forest) (l : List Text) → is_calm k ≡ true → vars_of k a l ≡ l
 calm_vars (Kind.VariableDeclaration how) a l h = absurd (true_false (sym h))
 calm_vars (Kind.Function f pure) a l h = absurd (true_false (sym h))
 calm_vars (Kind.Class c) a l h = absurd (true_false (sym h))
@@ -47,7 +47,7 @@ calm_items Kind.Cases a l h = absurd (true_false (sym h))
 calm_items Kind.SwitchCase a l h = absurd (true_false (sym h))
 calm_items k a l h = refl
 
-calm_specifier : (source : Text) (k : Kind) (a : Forest) (l : List Decl) → is_calm k ≡ true → specifier_decls source k a l ≡ l
+pub calm_specifier : (source : Text) (k : Kind) (a : Forest) (l : List Decl) → is_calm k ≡ true → specifier_decls source k a l ≡ l
 calm_specifier source (Kind.ImportSpecifier name) a l h = absurd (true_false (sym h))
 calm_specifier source Kind.ImportDefaultSpecifier a l h = absurd (true_false (sym h))
 calm_specifier source Kind.ImportNamespaceSpecifier a l h = absurd (true_false (sym h))
