@@ -19,3 +19,8 @@ pub mod UnusedFunction
 pub mod UnusedDeclarator
 pub mod UnusedDeclaration
 pub mod Owed
+pub mod ExportsStay
+pub mod Made
+pub mod Undeclared
+pub mod KnownChoices
+pub mod PartRuns
