@@ -58,6 +58,11 @@ unfolding choose
 chosen true m n e = refl
 chosen false m n e = absurd (true_false (sym e))
 
+not_chosen : (b : Bool) (m n : M) → b ≡ false → choose b m n ≡ n
+unfolding choose
+not_chosen true m n e = absurd (true_false e)
+not_chosen false m n e = refl
+
 -- a literal's value, and on
 given : (v : Value) (k : Value → M) (m : M) → k v ≡ m → Leads (with_value (give v) k) m
 unfolding bind done
@@ -73,6 +78,16 @@ conditional E v n i j l z b c env q t h = unknown_leads _
 pub condition_holds : (st : Names) (v : Literal) (n i j : Note) (l z : Kind) (b c : Forest) → truthy (literal_value v) ≡ true → is_blunt l ≡ true → is_calm l ≡ true
     → ComesTo st Kind.ConditionalExpression (node (Kind.Literal v) n nothing (node l i b (node z j c nothing))) l b
 condition_holds st v n i j l z b c t h g = record { old_calm = refl; new_calm = g; comes = λ E env binds q. conditional E v n i j l z b c env q t h }
+
+other : (E : Enter) (v : Literal) (n i j : Note) (l z : Kind) (b c : Forest) (env : Env) (q : Ask) → truthy (literal_value v) ≡ false → is_blunt z ≡ true
+    → Leads (meaning E Kind.ConditionalExpression (node (Kind.Literal v) n nothing (node l i b (node z j c nothing))) q env) (meaning E z c q env)
+unfolding need eval
+other E v n i j l z b c env (value w) t h = given (literal_value v) _ _ (not_chosen (truthy (literal_value v)) _ (meaning E z c now env) t ∙ sym (blunt_asks E z c env w h))
+other E v n i j l z b c env q t h = unknown_leads _
+
+pub condition_fails : (st : Names) (v : Literal) (n i j : Note) (l z : Kind) (b c : Forest) → truthy (literal_value v) ≡ false → is_blunt z ≡ true → is_calm z ≡ true
+    → ComesTo st Kind.ConditionalExpression (node (Kind.Literal v) n nothing (node l i b (node z j c nothing))) z c
+condition_fails st v n i j l z b c t h g = record { old_calm = refl; new_calm = g; comes = λ E env binds q. other E v n i j l z b c env q t h }
 
 choice : (E : Enter) (v : Literal) (n i : Note) (l : Kind) (b r : Forest) (env : Env) (q : Ask) → truthy (literal_value v) ≡ true → IsField r
     → Leads (meaning E Kind.IfStatement (node (Kind.Literal v) n nothing (node l i b r)) q env) (meaning E l b q env)
@@ -92,6 +107,16 @@ pub if_holds : (st : Names) (v : Literal) (n i : Note) (l : Kind) (b r : Forest)
     → ComesTo st Kind.IfStatement (node (Kind.Literal v) n nothing (node l i b r)) l b
 if_holds st v n i l b r t g h = record { old_calm = refl; new_calm = g; comes = λ E env binds q. choice E v n i l b r env q t h }
 
+other_choice : (E : Enter) (v : Literal) (n i j : Note) (l z : Kind) (b c : Forest) (env : Env) (q : Ask) → truthy (literal_value v) ≡ false
+    → Leads (meaning E Kind.IfStatement (node (Kind.Literal v) n nothing (node l i b (node z j c nothing))) q env) (meaning E z c q env)
+unfolding need may eval
+other_choice E v n i j l z b c env (run ls) t = given (literal_value v) _ _ (not_chosen (truthy (literal_value v)) _ (meaning E z c (run ls) env) t)
+other_choice E v n i j l z b c env q t = unknown_leads _
+
+pub if_fails : (st : Names) (v : Literal) (n i j : Note) (l z : Kind) (b c : Forest) → truthy (literal_value v) ≡ false → is_calm z ≡ true
+    → ComesTo st Kind.IfStatement (node (Kind.Literal v) n nothing (node l i b (node z j c nothing))) z c
+if_fails st v n i j l z b c t g = record { old_calm = refl; new_calm = g; comes = λ E env binds q. other_choice E v n i j l z b c env q t }
+
 -- a logical expression whose left side is a literal is its right side, or the literal
 
 right_side : (E : Enter) (o : LogicalOperator) (v : Literal) (n i : Note) (l : Kind) (b : Forest) (env : Env) (q : Ask) → goes_right o (literal_value v) ≡ true → is_blunt l ≡ true
@@ -103,11 +128,6 @@ right_side E o v n i l b env q t h = unknown_leads _
 pub right_side_counts : (st : Names) (o : LogicalOperator) (v : Literal) (n i : Note) (l : Kind) (b : Forest) → goes_right o (literal_value v) ≡ true → is_blunt l ≡ true → is_calm l ≡ true
     → ComesTo st (Kind.LogicalExpression o) (node (Kind.Literal v) n nothing (node l i b nothing)) l b
 right_side_counts st o v n i l b t h g = record { old_calm = refl; new_calm = g; comes = λ E env binds q. right_side E o v n i l b env q t h }
-
-not_chosen : (b : Bool) (m n : M) → b ≡ false → choose b m n ≡ n
-unfolding choose
-not_chosen true m n e = absurd (true_false e)
-not_chosen false m n e = refl
 
 left_side : (E : Enter) (o : LogicalOperator) (v : Literal) (n i : Note) (l : Kind) (b c : Forest) (env : Env) (q : Ask) → goes_right o (literal_value v) ≡ false
     → Leads (meaning E (Kind.LogicalExpression o) (node (Kind.Literal v) n nothing (node l i b nothing)) q env) (meaning E (Kind.Literal v) c q env)

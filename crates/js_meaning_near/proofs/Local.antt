@@ -22,13 +22,13 @@ true_false e = cc
 
 -- what a blunt expression declares
 
-calm_names : (k : Kind) (l : List Text) → is_calm k ≡ true → names_of k l ≡ l
+pub calm_names : (k : Kind) (l : List Text) → is_calm k ≡ true → names_of k l ≡ l
 calm_names (Kind.BindingName x) l h = absurd (true_false (sym h))
 calm_names (Kind.Function f pure) l h = absurd (true_false (sym h))
 calm_names (Kind.Class c) l h = absurd (true_false (sym h))
 calm_names k l h = refl
 
-calm_vars : (k : Kind) (a : Forest) (l : List Text) → is_calm k ≡ true → vars_of k a l ≡ l
+pub calm_vars : (k : Kind) (a : Forest) (l : List Text) → is_calm k ≡ true → vars_of k a l ≡ l
 calm_vars (Kind.VariableDeclaration how) a l h = absurd (true_false (sym h))
 calm_vars (Kind.Function f pure) a l h = absurd (true_false (sym h))
 calm_vars (Kind.Class c) a l h = absurd (true_false (sym h))
@@ -47,7 +47,7 @@ calm_items Kind.Cases a l h = absurd (true_false (sym h))
 calm_items Kind.SwitchCase a l h = absurd (true_false (sym h))
 calm_items k a l h = refl
 
-calm_specifier : (source : Text) (k : Kind) (a : Forest) (l : List Decl) → is_calm k ≡ true → specifier_decls source k a l ≡ l
+pub calm_specifier : (source : Text) (k : Kind) (a : Forest) (l : List Decl) → is_calm k ≡ true → specifier_decls source k a l ≡ l
 calm_specifier source (Kind.ImportSpecifier name) a l h = absurd (true_false (sym h))
 calm_specifier source Kind.ImportDefaultSpecifier a l h = absurd (true_false (sym h))
 calm_specifier source Kind.ImportNamespaceSpecifier a l h = absurd (true_false (sym h))
@@ -65,7 +65,7 @@ same_name (in_below q s) = refl
 same_name (in_rest s) = refl
 same_name (in_absent s) = refl
 
-same_bound : {t u : Forest} → Local t u → bound_names t ≡ bound_names u
+pub same_bound : {t u : Forest} → Local t u → bound_names t ≡ bound_names u
 same_bound (at_place {k = k} {l = l} {a = a} {b = b} {r = r} c x y p) = ap (λ v. v ++ bound_names r) (calm_names k (bound_names a) x ∙ p.bound ∙ sym (calm_names l (bound_names b) y))
 same_bound (in_below {k = k} {r = r} q s) = ap (λ v. names_of k v ++ bound_names r) (same_bound s)
 same_bound (in_rest {k = k} {a = a} s) = ap (λ v. names_of k (bound_names a) ++ v) (same_bound s)

@@ -72,6 +72,10 @@ pub fn a_choice_comes_to_its_branch()
         ComesTo st Kind.ConditionalExpression (node (Kind.Literal v) n nothing (node l i b (node z j c nothing))) l b }
     ensures statement { (st : Names) (v : Literal) (n i : Note) (l : Kind) (b r : Forest) → truthy (literal_value v) ≡ true → is_calm l ≡ true → IsField r →
         ComesTo st Kind.IfStatement (node (Kind.Literal v) n nothing (node l i b r)) l b }
+    ensures other_expression { (st : Names) (v : Literal) (n i j : Note) (l z : Kind) (b c : Forest) → truthy (literal_value v) ≡ false → is_blunt z ≡ true → is_calm z ≡ true →
+        ComesTo st Kind.ConditionalExpression (node (Kind.Literal v) n nothing (node l i b (node z j c nothing))) z c }
+    ensures other_statement { (st : Names) (v : Literal) (n i j : Note) (l z : Kind) (b c : Forest) → truthy (literal_value v) ≡ false → is_calm z ≡ true →
+        ComesTo st Kind.IfStatement (node (Kind.Literal v) n nothing (node l i b (node z j c nothing))) z c }
 {}
 
 /// Where the new module may make fewer entries it keeps every run of the old one.

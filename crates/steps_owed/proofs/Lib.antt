@@ -21,3 +21,8 @@ pub mod UnusedDeclaration
 pub mod Owed
 pub mod TableKept
 pub mod PartForm
+pub mod ExportsStay
+pub mod Made
+pub mod Undeclared
+pub mod KnownChoices
+pub mod PartRuns

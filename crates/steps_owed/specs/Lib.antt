@@ -1,3 +1,4 @@
+pub mod Comes
 pub mod Kept
 pub mod Unseen
 pub mod Unmarked

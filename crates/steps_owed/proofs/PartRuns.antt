@@ -1,0 +1,125 @@
+-- Where a node of a core module becomes a part that it comes to, the new module refines the old one.
+use Rattle.std.proofs.Common.{◌≡◌, ◌∙◌, [], ◌∷◌, true, ◌&&◌, None, Some, refl, sym, ap, subst, true≢false}
+use Rattle.js_syntax.specs.Class.{root}
+use Rattle.js_syntax.specs.declared.node_kind.NodeKind.{NodeKind as Kind}
+use Rattle.js_syntax.specs.declared.scalar.SourceType.TheVariants as source_type
+use Rattle.js_syntax.specs.Facts.{is_core}
+use Rattle.js_syntax.specs.Node.{Note, Forest, Tree, nothing, node, below_of}
+use Rattle.js_meaning.specs.Kept.{Refined}
+use Rattle.js_meaning_near.specs.Near.{is_calm, items, key_of, keys, module_of}
+use Rattle.js_meaning_near.specs.Fit.{whole}
+use Rattle.js_meaning_near.specs.Avoid.{InPlace}
+use Rattle.js_meaning_near.specs.Local.{KeysStay, Local, at_place, in_below, in_rest, in_absent}
+use Rattle.js_meaning_near.proofs.Instances.{local_change}
+use Rattle.json_shape.specs.Shape.{one, Plan, these, first_place, Stand, Fits}
+use Rattle.json_shape.specs.Shape as shape
+use Rattle.form_rules.specs.Form.{IsWellFormed}
+use Rattle.scope_laws.specs.Place.{Around, first, behind, behind_none, under, plug}
+use Rattle.steps.specs.Steps.{all_core}
+use Rattle.steps_fit.proofs.Formed.{good_program}
+use Rattle.steps_fit.proofs.Held.{core_here, core_below, core_behind, core_alone}
+use Rattle.steps_fit.proofs.Holding.{is_sound, planned_below}
+use Rattle.steps_fit.proofs.Passing.{plan_passes, first_passes, behind_passes}
+use Rattle.steps_fit.proofs.Place.{program_in_place}
+use Rattle.steps_owed.specs.Comes.{Comes}
+use Rattle.steps_owed.proofs.ExportsStay.{entries_stay, stars_stay, requests_stay}
+use Rattle.steps_owed.proofs.Made.{MadeBy, made_at, not_calm, object_stands}
+use Rattle.js_syntax.proofs.Truth.{both}
+
+-- ---- what is around stays
+
+no_key : (k : Kind) → is_calm k ≡ true → key_of k ≡ None
+no_key (Kind.Property how method key) h = absurd (true≢false (sym h))
+no_key k h = refl
+
+module _ (x y : Tree) (c : Comes x y) where
+  pub core_stays : (a : Around) → all_core (plug a (Some x)) ≡ true → all_core (plug a (Some y)) ≡ true
+  core_stays (first rest) h =
+      let part = c.core (core_alone x.kind x.note x.below rest h) in
+      both (is_core y.kind) (all_core y.below && all_core rest) (core_here y.kind y.note y.below nothing part)
+      (both (all_core y.below) (all_core rest) (core_below y.kind y.note y.below nothing part) (core_behind x.kind x.note x.below rest h))
+  core_stays (behind k n below a) h =
+      both (is_core k) (all_core below && all_core (plug a (Some y))) (core_here k n below (plug a (Some x)) h)
+      (both (all_core below) (all_core (plug a (Some y))) (core_below k n below (plug a (Some x)) h) (core_stays a (core_behind k n below (plug a (Some x)) h)))
+  core_stays (behind_none a) h = core_stays a h
+  core_stays (under k n a rest) h =
+      both (is_core k) (all_core (plug a (Some y)) && all_core rest) (core_here k n (plug a (Some x)) rest h)
+      (both (all_core (plug a (Some y))) (all_core rest) (core_stays a (core_below k n (plug a (Some x)) rest h)) (core_behind k n (plug a (Some x)) rest h))
+
+  -- the keys of an object literal are of its properties, and no property is calm
+  keys_of_row : (a : Around) → keys (plug a (Some x)) ≡ keys (plug a (Some y))
+  keys_of_row (first rest) = ap (λ k. k ∷ keys rest) (no_key x.kind c.old_calm ∙ sym (no_key y.kind c.new_calm))
+  keys_of_row (behind k n below a) = ap (λ ks. key_of k ∷ ks) (keys_of_row a)
+  keys_of_row (behind_none a) = refl
+  keys_of_row (under k n a rest) = refl
+
+  keys_of_object : (a : Around) → MadeBy Kind.ObjectExpression (plug a (Some x)) → keys (below_of (plug a (Some x))) ≡ keys (below_of (plug a (Some y)))
+  keys_of_object (first rest) made = absurd (not_calm x.kind Kind.Properties (object_stands (plug (first rest) (Some x)) made).0.0 refl c.old_calm)
+  keys_of_object (behind k n below a) made = refl
+  keys_of_object (behind_none a) made = refl
+  keys_of_object (under k n a rest) made = keys_of_row a
+
+  keys_stay : (k : Kind) (a : Around) → (is_calm k ≡ true → MadeBy k (plug a (Some x))) → KeysStay k (plug a (Some x)) (plug a (Some y))
+  keys_stay Kind.ObjectExpression a made = keys_of_object a (made refl)
+  keys_stay k a made = tt
+
+  local_as_planned : (a : Around) (plan : Plan) → plan_passes is_sound plan ≡ true → Stand plan (plug a (Some x)) → Local (plug a (Some x)) (plug a (Some y))
+  local_as_planned (first rest) plan h st = at_place c.comes c.old_calm c.new_calm c.plainly
+  local_as_planned (behind k n below a) plan h st = in_rest (local_as_planned a (shape.behind plan k) (behind_passes is_sound plan k h) st.1)
+  local_as_planned (behind_none a) plan h st = in_absent (local_as_planned a (shape.behind plan Kind.Hole) (behind_passes is_sound plan Kind.Hole h) st.1)
+  local_as_planned (under k n a rest) plan h st =
+      let planned = planned_below (plug a (Some x)) (first_place plan) k st.0 in
+      in_below (keys_stay k a (λ calm. made_at (plug a (Some x)) k calm (first_place plan) (first_passes is_sound plan refl h) st.0)) (local_as_planned a planned.0 planned.1 planned.2)
+
+pub part_is_local : (a : Around) (x y : Tree) → Comes x y → Fits root (plug a (Some x)) → Local (plug a (Some x)) (plug a (Some y))
+part_is_local a x y c fits = local_as_planned x y c a (these (one root ∷ [])) refl fits
+
+-- ---- modules
+
+module_in_place : (n m : Note) (b : Forest) → Fits root (module_of n m b) → IsWellFormed (module_of n m b) → all_core (module_of n m b) ≡ true → InPlace whole items b
+module_in_place n m b fits form core =
+    let list = node Kind.Statements m b nothing in
+    let good = good_program source_type.Module n list fits form (core_below (Kind.Program source_type.Module) n list nothing core) in
+    let place = program_in_place source_type.Module n list good.0 good.1 in
+    place.0.1.0.1
+
+-- a module, of which the items changed
+pub record StillModule (n m : Note) (b u : Forest) : Type 0 where
+  pub changed : Forest
+  pub is : u ≡ module_of n m changed
+  pub local : Local b changed
+
+not_of_nothing : {t u : Forest} → Local t u → t ≡ nothing → ⊥
+not_of_nothing (at_place c x y p) e = cc
+not_of_nothing (in_below q s) e = cc
+not_of_nothing (in_rest s) e = cc
+not_of_nothing (in_absent s) e = cc
+
+module_stays : (n m : Note) (b u : Forest) → Local (module_of n m b) u → StillModule n m b u
+module_stays n m b _ (at_place c x y p) = absurd (true≢false (sym x))
+module_stays n m b _ (in_below q (at_place c x y p)) = absurd (true≢false (sym x))
+module_stays n m b _ (in_below q (in_below {b = d} r s)) = record { changed = d; is = refl; local = s }
+module_stays n m b _ (in_below q (in_rest s)) = absurd (not_of_nothing s refl)
+module_stays n m b _ (in_rest s) = absurd (not_of_nothing s refl)
+
+pub parts_stay_modules : (n m : Note) (b : Forest) (a : Around) (x y : Tree) → plug a (Some x) ≡ module_of n m b → Comes x y → Fits root (module_of n m b) → StillModule n m b (plug a (Some y))
+parts_stay_modules n m b a x y is c fits = module_stays n m b (plug a (Some y)) (subst (λ t. Local t (plug a (Some y))) is (part_is_local a x y c (subst (Fits root) (sym is) fits)))
+
+module_refines : (n m : Note) (b u : Forest) → StillModule n m b u → Fits root u → IsWellFormed u → all_core u ≡ true → Refined (module_of n m b) u
+module_refines n m b u new fits form core =
+    subst (Refined (module_of n m b)) (sym new.is)
+    (local_change n m b new.changed new.local
+    (module_in_place n m new.changed (subst (Fits root) new.is fits) (subst IsWellFormed new.is form) (subst (λ t. all_core t ≡ true) new.is core)) (entries_stay new.local) (stars_stay new.local) (requests_stay new.local))
+
+-- the new module is core, since the old one is
+pub comes_refines : (n m : Note) (b : Forest) (a : Around) (x y : Tree) → plug a (Some x) ≡ module_of n m b → Comes x y
+    → Fits root (module_of n m b) → all_core (module_of n m b) ≡ true → Fits root (plug a (Some y)) → IsWellFormed (plug a (Some y)) → Refined (module_of n m b) (plug a (Some y))
+comes_refines n m b a x y is c fits core new_fits new_form =
+    module_refines n m b (plug a (Some y)) (parts_stay_modules n m b a x y is c fits) new_fits new_form
+    (core_stays x y c a (subst (λ t. all_core t ≡ true) (sym is) core))
+
+-- the same, where all is known of both modules
+pub parts_refine : (n m : Note) (b : Forest) (a : Around) (x y : Tree) → plug a (Some x) ≡ module_of n m b → Comes x y
+    → Fits root (module_of n m b) → IsWellFormed (module_of n m b) → all_core (module_of n m b) ≡ true
+    → Fits root (plug a (Some y)) → IsWellFormed (plug a (Some y)) → all_core (plug a (Some y)) ≡ true → Refined (module_of n m b) (plug a (Some y))
+parts_refine n m b a x y is c fits form core new_fits new_form new_core = comes_refines n m b a x y is c fits core new_fits new_form

@@ -1,0 +1,183 @@
+-- Rows of nodes that declare no names.
+use Rattle.std.proofs.Common.{◌≡◌, ◌∙◌, ℕ, suc, List, [], ◌++◌, Bool, true, false, ◌==◌, if◌then◌else◌, Some, None, refl, sym, ap, ap₂, subst, true≢false}
+use Rattle.std.proofs.lemmas.List.{append-nil}
+use Rattle.js_syntax.specs.declared.node_kind.NodeKind.{NodeKind as Kind}
+use Rattle.js_syntax.specs.declared.kind.FunctionKind.{FunctionKind}
+use Rattle.js_syntax.specs.declared.kind.FunctionKind.TheVariants as function_kind
+use Rattle.js_syntax.specs.declared.scalar.SourceType.{SourceType}
+use Rattle.js_syntax.specs.declared.scalar.SourceType.TheVariants as source_type
+use Rattle.js_syntax.specs.Node.{Note, Forest, Tree, nothing, node, absent, below_of}
+use Rattle.js_meaning.specs.Value.{Text}
+use Rattle.js_meaning.specs.Scope as scope
+use Rattle.js_meaning.specs.Scope.{names_of, bound_names, vars_of, var_names, specifier_decls, import_decls}
+use Rattle.js_meaning_near.specs.Near.{is_calm, module_of}
+use Rattle.js_meaning_near.specs.Local.{Plainly}
+use Rattle.js_meaning_near.proofs.Local.{calm_names, calm_vars, calm_specifier}
+use Rattle.scope_laws.specs.Place.{Around, first, behind, behind_none, under, plug}
+use Rattle.steps_allowed.specs.Branches.{declares_none_at, declares_none}
+use Rattle.steps_keep_form.proofs.Rules.{first_empty, second_empty, both_empty}
+use Rattle.steps_keep_runs.proofs.Lists.{no_vars}
+use Rattle.steps_names.specs.Placed.{Place, no_node, names, parameters, code, program_list, module_items, declared, specifiers, imports, cases, others, fits, sort_of, an_import, an_imported, name_place, statements_place, specifier_place, place_below, well_placed, has_plain_values, is_well_placed}
+use Rattle.steps_names.proofs.Lists.{either}
+use Rattle.steps_names.proofs.Sites.{placed_here, placed_below, placed_behind}
+use Rattle.steps_names.proofs.Taking.{never_fits}
+use Rattle.js_syntax.proofs.Truth.{first_of_both, second_of_both}
+
+-- ---- no names
+
+none_below : (k : Kind) (b : Bool) (xs : List Text) → declares_none_at k b ≡ true → (b ≡ true → xs ≡ []) → names_of k xs ≡ []
+none_below (Kind.BindingName x) b xs h to = absurd (true≢false (sym h))
+none_below (Kind.Function f pure) b xs h to = refl
+none_below (Kind.Class c) b xs h to = refl
+none_below k b xs h to = to h
+
+pub no_names : (t : Forest) → declares_none t ≡ true → bound_names t ≡ []
+no_names nothing h = refl
+no_names (absent r) h = no_names r h
+no_names (node k n a r) h =
+    both_empty (names_of k (bound_names a)) (bound_names r) (none_below k (declares_none a) (bound_names a) (first_of_both (declares_none_at k (declares_none a)) (declares_none r) h) (no_names a))
+    (no_names r (second_of_both (declares_none_at k (declares_none a)) (declares_none r) h))
+
+-- ---- no imports, but in lists of a module's items
+
+abbrev pub lead_to_imports : Place → Bool
+lead_to_imports program_list = true
+lead_to_imports module_items = true
+lead_to_imports specifiers = true
+lead_to_imports imports = true
+lead_to_imports p = false
+
+name_leads_not : (f : FunctionKind) → lead_to_imports (name_place f) ≡ false
+name_leads_not function_kind.Arrow = refl
+name_leads_not f = refl
+
+statements_lead_not : (p : Place) → lead_to_imports p ≡ false → lead_to_imports (statements_place p) ≡ false
+statements_lead_not program_list h = absurd (true≢false h)
+statements_lead_not p h = refl
+
+specifiers_lead_not : (p : Place) → lead_to_imports p ≡ false → lead_to_imports (specifier_place p) ≡ false
+specifiers_lead_not specifiers h = absurd (true≢false h)
+specifiers_lead_not p h = refl
+
+import_fits_not : (p : Place) → lead_to_imports p ≡ false → fits p an_import ≡ true → ⊥
+import_fits_not module_items h f = true≢false h
+import_fits_not p h f = true≢false (sym f)
+
+imported_fits_not : (p : Place) → lead_to_imports p ≡ false → fits p an_imported ≡ true → ⊥
+imported_fits_not imports h f = true≢false h
+imported_fits_not p h f = true≢false (sym f)
+
+-- a place or another, which both lead to none
+neither_leads : (b : Bool) (p q : Place) → lead_to_imports p ≡ false → lead_to_imports q ≡ false → lead_to_imports (if b then p else q) ≡ false
+neither_leads b p q h g = either (λ r. lead_to_imports r ≡ false) b p q h g
+
+below_leads_not : (p : Place) (k : Kind) (i : ℕ) → lead_to_imports p ≡ false → fits p (sort_of k) ≡ true → lead_to_imports (place_below p k i) ≡ false
+below_leads_not p Kind.VariableDeclarator i h f = neither_leads (i == 0) names others refl refl
+below_leads_not p (Kind.Function how pure) i h f = neither_leads (i == 0) (name_place how) (if i == 1 then parameters else code) (name_leads_not how) (neither_leads (i == 1) parameters code refl refl)
+below_leads_not p Kind.CatchClause i h f = neither_leads (i == 0) names others refl refl
+below_leads_not p Kind.ForStatement i h f = neither_leads (i == 0) declared others refl refl
+below_leads_not p Kind.SwitchStatement i h f = neither_leads (i == 1) cases others refl refl
+below_leads_not p (Kind.Program source) i h f = absurd (never_fits p f)
+below_leads_not p Kind.Statements i h f = statements_lead_not p h
+below_leads_not p (Kind.ExportNamedDeclaration None) i h f = refl
+below_leads_not p (Kind.ExportNamedDeclaration (Some source)) i h f = refl
+below_leads_not p (Kind.ImportDeclaration source) i h f = absurd (import_fits_not p h f)
+below_leads_not p (Kind.ImportSpecifier name) i h f = neither_leads (i == 0) names no_node refl refl
+below_leads_not p Kind.ImportDefaultSpecifier i h f = neither_leads (i == 0) names no_node refl refl
+below_leads_not p Kind.ImportNamespaceSpecifier i h f = neither_leads (i == 0) names no_node refl refl
+below_leads_not p Kind.Specifiers i h f = specifiers_lead_not p h
+below_leads_not p k i h f = refl
+
+no_specifier : (source : Text) (p : Place) (k : Kind) (a : Forest) → lead_to_imports p ≡ false → fits p (sort_of k) ≡ true → import_decls source a ≡ []
+    → specifier_decls source k a (import_decls source a) ≡ []
+no_specifier source p (Kind.ImportSpecifier name) a h f e = absurd (imported_fits_not p h f)
+no_specifier source p Kind.ImportDefaultSpecifier a h f e = absurd (imported_fits_not p h f)
+no_specifier source p Kind.ImportNamespaceSpecifier a h f e = absurd (imported_fits_not p h f)
+no_specifier source p k a h f e = e
+
+no_imports : (source : Text) (ps : ℕ → Place) (at : ℕ) (t : Forest) → ((i : ℕ) → lead_to_imports (ps i) ≡ false) → well_placed ps at t ≡ true → import_decls source t ≡ []
+no_imports source ps at nothing h w = refl
+no_imports source ps at (absent r) h w = no_imports source ps (suc at) r h w
+no_imports source ps at (node k n a r) h w =
+    let here = placed_here ps at k n a r w in
+    both_empty (specifier_decls source k a (import_decls source a)) (import_decls source r)
+    (no_specifier source (ps at) k a (h at) here (no_imports source (place_below (ps at) k) 0 a (λ i. below_leads_not (ps at) k i (h at) here) (placed_below ps at k n a r w)))
+    (no_imports source ps (suc at) r h (placed_behind ps at k n a r w))
+
+-- ---- what lies below a node somewhere in a module
+
+abbrev PlacedBelow : Tree → Type 0
+PlacedBelow x = (p : Place) × (well_placed (place_below p x.kind) 0 x.below ≡ true)
+
+placed_there : (a : Around) (x : Tree) (ps : ℕ → Place) (at : ℕ) → well_placed ps at (plug a (Some x)) ≡ true → PlacedBelow x
+placed_there (first rest) x ps at w = (ps at, placed_below ps at x.kind x.note x.below rest w)
+placed_there (behind k n below a) x ps at w = placed_there a x ps (suc at) (placed_behind ps at k n below (plug a (Some x)) w)
+placed_there (behind_none a) x ps at w = placed_there a x ps (suc at) w
+placed_there (under k n a rest) x ps at w = placed_there a x (place_below (ps at) k) 0 (placed_below ps at k n (plug a (Some x)) rest w)
+
+not_nothing : (a : Around) (x : Tree) → plug a (Some x) ≡ nothing → ⊥
+not_nothing (first rest) x e = cc
+not_nothing (behind k n below a) x e = cc
+not_nothing (behind_none a) x e = cc
+not_nothing (under k n a rest) x e = cc
+
+abbrev begins_calm : Forest → Bool
+begins_calm (node k n a r) = is_calm k
+begins_calm t = false
+
+placed_in : (a : Around) (x : Tree) (source : SourceType) (n : Note) (t : Forest) (ps : ℕ → Place) → is_calm x.kind ≡ true
+    → plug a (Some x) ≡ node (Kind.Program source) n t nothing → well_placed ps 0 t ≡ true → PlacedBelow x
+placed_in (first rest) x source n t ps calm e w = absurd (true≢false (sym calm ∙ ap begins_calm e))
+placed_in (behind k i below a) x source n t ps calm e w = absurd (not_nothing a x (ap scope.behind e))
+placed_in (behind_none a) x source n t ps calm e w = absurd cc
+placed_in (under k i a rest) x source n t ps calm e w = placed_there a x ps 0 (subst (λ u. well_placed ps 0 u ≡ true) (sym (ap below_of e)) w)
+
+-- a node below which no place leads to imports
+pub no_imports_there : (n m : Note) (b : Forest) (a : Around) (x : Tree) → plug a (Some x) ≡ module_of n m b → is_well_placed (module_of n m b) ≡ true → is_calm x.kind ≡ true
+    → ((p : Place) (i : ℕ) → lead_to_imports (place_below p x.kind i) ≡ false) → (source : Text) → import_decls source x.below ≡ []
+no_imports_there n m b a x e w calm leads source =
+    let list = node Kind.Statements m b nothing in
+    let ps = place_below others (Kind.Program source_type.Module) in
+    let there = placed_in a x source_type.Module n list ps calm e (first_of_both (well_placed ps 0 list) (has_plain_values list) w) in
+    no_imports source (place_below there.0 x.kind) 0 x.below (leads there.0) there.1
+
+-- ---- what declares nothing
+
+pub record DeclaresNothing (t : Forest) : Type 0 where
+  pub bound : bound_names t ≡ []
+  pub imports : (source : Text) → import_decls source t ≡ []
+
+pub nothing_below : (k : Kind) (n : Note) (a r : Forest) → is_calm k ≡ true → DeclaresNothing (node k n a r) → DeclaresNothing a
+nothing_below k n a r calm h = record {
+  bound = sym (calm_names k (bound_names a) calm) ∙ first_empty (names_of k (bound_names a)) (bound_names r) h.bound;
+  imports = λ source. sym (calm_specifier source k a (import_decls source a) calm) ∙ first_empty (specifier_decls source k a (import_decls source a)) (import_decls source r) (h.imports source);
+}
+
+pub nothing_behind : (k : Kind) (n : Note) (a r : Forest) → DeclaresNothing (node k n a r) → DeclaresNothing r
+nothing_behind k n a r h = record {
+  bound = second_empty (names_of k (bound_names a)) (bound_names r) h.bound;
+  imports = λ source. second_empty (specifier_decls source k a (import_decls source a)) (import_decls source r) (h.imports source);
+}
+
+pub both_plainly : (a b : Forest) → DeclaresNothing a → DeclaresNothing b → Plainly a b
+both_plainly a b h g = record {
+  bound = h.bound ∙ sym g.bound;
+  vars = no_vars a h.bound ∙ sym (no_vars b g.bound);
+  imports = λ source. h.imports source ∙ sym (g.imports source);
+}
+
+-- ---- a node beside such as declare nothing
+
+pub alone_plainly : (k : Kind) (n : Note) (a r : Forest) → is_calm k ≡ true → DeclaresNothing r → Plainly (node k n a r) a
+alone_plainly k n a r calm h = record {
+  bound = ap₂ (λ v w. v ++ w) (calm_names k (bound_names a) calm) h.bound ∙ append-nil (bound_names a);
+  vars = ap₂ (λ v w. v ++ w) (calm_vars k a (var_names a) calm) (no_vars r h.bound) ∙ append-nil (var_names a);
+  imports = λ source. ap₂ (λ v w. v ++ w) (calm_specifier source k a (import_decls source a) calm) (h.imports source) ∙ append-nil (import_decls source a);
+}
+
+pub last_plainly : (k : Kind) (n : Note) (a r b : Forest) → DeclaresNothing (node k n a nothing) → Plainly r b → Plainly (node k n a r) b
+last_plainly k n a r b h g = record {
+  bound = ap (λ v. v ++ bound_names r) (first_empty (names_of k (bound_names a)) [] h.bound) ∙ g.bound;
+  vars = ap (λ v. v ++ var_names r) (first_empty (vars_of k a (var_names a)) [] (no_vars (node k n a nothing) h.bound)) ∙ g.vars;
+  imports = λ source. ap (λ v. v ++ import_decls source r) (first_empty (specifier_decls source k a (import_decls source a)) [] (h.imports source)) ∙ g.imports source;
+}
