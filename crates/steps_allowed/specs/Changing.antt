@@ -2,7 +2,7 @@
 -- isn't asked.
 use Rattle.std.specs.Prelude.{ℕ, suc, Bool, true, false, not, ◌&&◌, ◌||◌}
 use Rattle.js_syntax.specs.declared.node_kind.NodeKind.{NodeKind as Kind}
-use Rattle.js_syntax.specs.declared.node_kind.NodeKind.TheVariants.{EmptyStatement as empty_statement, ExpressionStatement as expression_statement, Function as function, VariableDeclaration as variable_declaration, VariableDeclarator as variable_declarator}
+use Rattle.js_syntax.specs.declared.node_kind.NodeKind.TheVariants.{EmptyStatement as empty_statement, ExpressionStatement as expression_statement, Function as function, VariableDeclaration as variable_declaration, VariableDeclarator as variable_declarator, ConditionalExpression as conditional_expression, IfStatement as if_statement, Literal as literal}
 use Rattle.js_syntax.specs.declared.kind.FunctionKind.TheVariants as function_kind
 use Rattle.js_syntax.specs.Node.{Forest, nothing, node, absent}
 use Rattle.min_pass.specs.declared.around.Around.{Around as Asked}
@@ -20,6 +20,10 @@ abbrev pub holds_declarators : Row → Bool
 holds_declarators item_declarators = true
 holds_declarators row = false
 
+abbrev pub begins_with_literal : Forest → Bool
+begins_with_literal (node (literal v) n below rest) = true
+begins_with_literal t = false
+
 -- Of a node; `evaluates` says whether the program has a direct call of `eval` somewhere.
 abbrev pub may_change_at : (evaluates : Bool) → Asked → Exposure → Kind → (below : Forest) → Bool
 may_change_at evaluates w e empty_statement below = holds_items w.row
@@ -27,6 +31,8 @@ may_change_at evaluates w e expression_statement below = not (begins_with_call b
 may_change_at evaluates w e (function function_kind.Declaration pure) below = holds_items w.row && not (function_is_exposed e)
 may_change_at evaluates w e variable_declarator below = holds_declarators w.row && not (e.declared_shared || evaluates)
 may_change_at evaluates w e (variable_declaration how) below = holds_items w.row && not (shares e how || evaluates)
+may_change_at evaluates w e conditional_expression below = begins_with_literal below
+may_change_at evaluates w e if_statement below = begins_with_literal below
 may_change_at evaluates w e k below = false
 
 -- of a row

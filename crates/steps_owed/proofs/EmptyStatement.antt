@@ -1,5 +1,5 @@
 -- What an empty statement that leaves its list owes.
-use Rattle.std.proofs.Common.{inl, refl, sym, ap, Some, subst, true, false}
+use Rattle.std.proofs.Common.{inl, arith, refl, sym, ap, Some, subst, true, false}
 use Rattle.js_syntax.specs.declared.node_kind.NodeKind.TheVariants.{EmptyStatement as empty_kind}
 use Rattle.js_syntax.specs.Node.{Tree, nothing}
 use Rattle.scope_rules.specs.Context.{outermost}
@@ -18,6 +18,7 @@ pub empty_statement_owes : (a : Around) (x : Tree) → EmptyStatement a x → Le
 empty_statement_owes a x (empty_statement_leaves n item) =
     let y : Tree = record { kind = empty_kind; note = n; below = nothing } in
     record {
+      weighs = Prim.omega arith;
       listed = inl item;
       no_directive = refl;
       no_call = record { counts = refl; lists = λ m. refl; begins = λ m. refl; calls = refl };

@@ -26,3 +26,4 @@ pub mod Made
 pub mod Undeclared
 pub mod KnownChoices
 pub mod PartRuns
+pub mod Calling

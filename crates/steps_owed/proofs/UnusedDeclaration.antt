@@ -1,5 +1,5 @@
 -- What a declaration of one declarator that nothing uses owes.
-use Rattle.std.proofs.Common.{inl, refl, ap, Some, true, false, not}
+use Rattle.std.proofs.Common.{inl, arith, refl, ap, Some, true, false, not}
 use Rattle.std.proofs.lemmas.Bool.{and_from}
 use Rattle.js_syntax.specs.declared.node_kind.NodeKind.TheVariants.{VariableDeclaration as variable_declaration, BindingName as binding_name}
 use Rattle.js_syntax.specs.Node.{Tree, nothing, node}
@@ -24,6 +24,7 @@ unused_declaration_owes a x (unused_declaration_leaves how n m l j name value it
     let y : Tree = record { kind = variable_declaration how; note = n; below = one_declarator m l inner } in
     let t = plug a (Some y) in
     record {
+      weighs = Prim.omega arith;
       listed = inl item;
       no_directive = refl;
       no_call = record { counts = refl; lists = λ m. refl; begins = λ m. refl; calls = refl };

@@ -1,5 +1,5 @@
 -- What a declarator that nothing uses owes, where others stay.
-use Rattle.std.proofs.Common.{inr, refl, ap, Some, true, false, not}
+use Rattle.std.proofs.Common.{inr, arith, refl, ap, Some, true, false, not}
 use Rattle.std.proofs.lemmas.Bool.{and_from}
 use Rattle.js_syntax.specs.declared.node_kind.NodeKind.TheVariants.{VariableDeclarator as variable_declarator, BindingName as binding_name}
 use Rattle.js_syntax.specs.Node.{Tree, nothing, node}
@@ -24,6 +24,7 @@ unused_declarator_owes a x (unused_declarator_leaves n m name value item others 
     let y : Tree = record { kind = variable_declarator; note = n; below = inner } in
     let t = plug a (Some y) in
     record {
+      weighs = Prim.omega arith;
       listed = inr (item, others);
       no_directive = refl;
       no_call = record { counts = refl; lists = λ m. refl; begins = λ m. refl; calls = refl };

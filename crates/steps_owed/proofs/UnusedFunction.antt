@@ -1,5 +1,5 @@
 -- What a function declaration that nothing uses owes.
-use Rattle.std.proofs.Common.{inl, refl, ap, Some, true, false, not}
+use Rattle.std.proofs.Common.{inl, arith, refl, ap, Some, true, false, not}
 use Rattle.std.proofs.lemmas.Bool.{and_from}
 use Rattle.js_syntax.specs.declared.node_kind.NodeKind.TheVariants.{Function as function, BindingName as binding_name}
 use Rattle.js_syntax.specs.declared.kind.FunctionKind.TheVariants as function_kind
@@ -23,6 +23,7 @@ unused_function_owes a x (unused_function_leaves pure n m name rest item own fre
     let y : Tree = record { kind = function function_kind.Declaration pure; note = n; below = node (binding_name name) m nothing rest } in
     let t = plug a (Some y) in
     record {
+      weighs = Prim.omega arith;
       listed = inl item;
       no_directive = refl;
       no_call = record { counts = refl; lists = λ m. refl; begins = λ m. refl; calls = refl };

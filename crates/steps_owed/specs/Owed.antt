@@ -1,25 +1,34 @@
 -- What a case of an edit owes, by its shape: all that the laws on edits ask of it.
-use Rattle.std.specs.Prelude.{◌≡◌, ◌⊎◌, ℕ, ◌+◌, Bool, true, false, Some}
-use Rattle.js_syntax.specs.Node.{Forest, Tree, alone}
+use Rattle.std.specs.Prelude.{◌≡◌, ◌⊎◌, ◌≤◌, ◌<◌, ℕ, ◌+◌, Bool, true, false, Some, if◌then◌else◌}
+use Rattle.js_syntax.specs.declared.node_kind.NodeKind.{NodeKind as Kind}
+use Rattle.js_syntax.specs.declared.node_kind.NodeKind.TheVariants.{ExpressionStatement as expression_statement}
+use Rattle.js_syntax.specs.Class.{root}
+use Rattle.js_syntax.specs.Node.{Forest, Tree, Note, alone, total, forest_of}
+use Rattle.js_tree.specs.Count.{one_each}
+use Rattle.js_meaning_near.specs.Near.{module_of}
+use Rattle.form_rules.specs.Form.{IsWellFormed}
 use Rattle.form_rules.specs.Scope.{declared}
-use Rattle.json_shape.specs.Shape.{is_directive_kind}
+use Rattle.json_shape.specs.Shape.{Fits, is_directive_kind}
 use Rattle.min_pass.specs.Around.{outermost as asked_of_program}
 use Rattle.scope_rules.specs.Context.{Context, inside}
 use Rattle.scope_rules.specs.Site.{opens_one, sites}
+use Rattle.scope_rules.specs.Table.{Scoping}
 use Rattle.scope_laws.specs.Place.{Around, plug}
 use Rattle.scope_laws.specs.Lists.{without}
 use Rattle.steps.specs.Steps as steps
-use Rattle.steps.specs.Steps.{Step}
+use Rattle.steps.specs.Steps.{Step, all_core}
 use Rattle.steps_names.specs.Placed.{is_well_placed}
 use Rattle.steps_keep_form.specs.Layout.{stands_right}
 use Rattle.steps_keep_form.specs.Sheds as shed
-use Rattle.steps_keep_form.specs.Sheds.{exports_none}
+use Rattle.steps_keep_form.specs.Sheds.{exports_none, Sheds}
 use Rattle.steps_fit.specs.Enclosed.{is_enclosed}
 use Rattle.steps_allowed.specs.Places.{asked_at, IsItem, IsDeclarator, has_other, At}
 use Rattle.steps_allowed.specs.Calls.{is_call, begins_with_call, counted, of_list, of_program}
 use Rattle.steps_allowed.specs.Exposure.{exposure, evaluates_somewhere}
 use Rattle.steps_allowed.specs.Changing.{may_change_at}
+use Rattle.steps_owed.specs.Comes.{Comes}
 use Rattle.steps_owed.specs.Good.{Good}
+use Rattle.steps_owed.specs.Kept.{IsKept}
 use Rattle.steps_owed.specs.Seeking.{Within, Seeks}
 use Rattle.steps_owed.specs.Unseen.{IsUnseen}
 
@@ -29,6 +38,10 @@ pub record IsOther (x : Tree) : Type 0 where
   pub lists : (m : ℕ) → of_list x.kind m ≡ 0
   pub begins : (m : ℕ) → of_program x.kind m ≡ 0
   pub calls : is_call x.kind ≡ false
+
+abbrev pub is_expression_statement : Kind → Bool
+is_expression_statement expression_statement = true
+is_expression_statement k = false
 
 -- edits of a node of this kind are among those of which `may_change_somewhere` tells
 abbrev pub MayChange : Around → Tree → Type 0
@@ -44,8 +57,13 @@ IsUnexported t x in_with c next =
     (z : shed.Around) → Within t (sites (inside c next x.kind x.below) 0 (next + opens_one x.kind x.below) x.below) → stands_right z.row x.kind x.below ≡ true → Seeks t z.sought z.exported c
     → exports_none z.exported (declared z.sought 0 (alone x.kind x.note x.below)) ≡ true
 
+-- nodes and statements of expressions: each edit leaves fewer of them
+abbrev pub weight : Kind → ℕ
+weight k = one_each k + (if is_expression_statement k then 1 else 0)
+
 -- An item that leaves its list.
 pub record Leaving (a : Around) (x : Tree) : Type 0 where
+  pub weighs : 1 ≤ weight x.kind
   pub listed : IsListed a
   pub no_directive : is_directive_kind x.kind ≡ false
   pub no_call : IsOther x
@@ -55,3 +73,19 @@ pub record Leaving (a : Around) (x : Tree) : Type 0 where
   pub unexported : At a (Some x) (IsUnexported (plug a (Some x)) x)
   -- of a core module it is a step, for which it is known that runs are kept
   pub step : is_well_placed (plug a (Some x)) ≡ true → Good (plug a (Some x)) → Step steps.outermost (plug a (Some x)) (without a)
+
+-- How it is known that a core module does what it did: by a step, or since the old node comes to what the new one does.
+pub data SameRuns (a : Around) (x y : Tree) : Type 0 where
+  by_step : (is_well_placed (plug a (Some x)) ≡ true → Good (plug a (Some x)) → Step steps.outermost (plug a (Some x)) (plug a (Some y))) → SameRuns a x y
+  by_coming : ((n m : Note) (b : Forest) → plug a (Some x) ≡ module_of n m b → Fits root (module_of n m b) → IsWellFormed (module_of n m b) → all_core (module_of n m b) ≡ true → Comes x y) → SameRuns a x y
+
+-- A node that becomes another in its place.
+pub record Becoming (a : Around) (x y : Tree) : Type 0 where
+  pub lighter : total weight (forest_of y) < total weight (forest_of x)
+  pub no_call : IsOther x
+  pub may_change : MayChange a x
+  -- the table of node types, the rules of form, and the table of scopes, symbols and references
+  pub fits : Fits root (plug a (Some x)) → Fits root (plug a (Some y))
+  pub sheds : Fits root (plug a (Some x)) → Sheds shed.outermost (plug a (Some x)) (plug a (Some y))
+  pub kept : Fits root (plug a (Some x)) → (s : Scoping) → IsKept s (plug a (Some x)) → IsKept s (plug a (Some y))
+  pub runs : SameRuns a x y

@@ -1,0 +1,150 @@
+-- No edit takes a call out of a program's own list.
+use Rattle.std.proofs.Common.{◌≡◌, ◌≤◌, ◌⊎◌, subst, ◌∙◌, ◌+◌, ℕ, suc, [], ◌∷◌, List, Bool, true, false, true≢false, ◌||◌, Option, Some, inl, inr, arith, refl, sym, ap, ap₂}
+use Rattle.js_syntax.specs.declared.node_kind.NodeKind.{NodeKind as Kind}
+use Rattle.js_syntax.specs.declared.node_kind.NodeKind.TheVariants.{Program as program, Statements as statements, ExpressionStatement as expression_statement, CallExpression as call_expression}
+use Rattle.js_syntax.specs.Node.{Forest, Tree, Note, nothing, node, absent, alone, bare}
+use Rattle.form_rules.specs.Samples.{a_module, one, does}
+use Rattle.min_pass.specs.declared.around.Around.{Around as Asked}
+use Rattle.min_pass.specs.declared.around.Row.{Row}
+use Rattle.min_pass.specs.declared.around.Row.TheVariants.{Items as items, Declarators as item_declarators}
+use Rattle.min_pass.specs.Around.{entered as asked_below, outermost as asked_of_program, is_with}
+use Rattle.scope_rules.specs.Context.{Context, inside}
+use Rattle.scope_rules.specs.Site.{BindingSite, opens_one, scope_count}
+use Rattle.scope_laws.specs.Place.{Around, first, behind, behind_none, under, plug}
+use Rattle.scope_laws.specs.Lists.{without}
+use Rattle.steps_allowed.specs.Silent.{IsSilentBelow, HoldsThere}
+use Rattle.steps_allowed.specs.Places.{asked_at}
+use Rattle.steps_owed.specs.Owed.{IsOther}
+use Rattle.steps_allowed.specs.Calls.{is_call, begins_with_call, counted, calls_in, of_list, calls_listed, of_program, root_calls}
+
+zero_plus : (n : ℕ) → 0 + n ≡ n
+zero_plus n = omega arith
+
+-- ---- spans and ids don't count
+
+pub bare_begins : (t : Forest) → begins_with_call (bare t) ≡ begins_with_call t
+bare_begins nothing = refl
+bare_begins (node k n below rest) = refl
+bare_begins (absent rest) = refl
+
+bare_calls : (t : Forest) → calls_in (bare t) ≡ calls_in t
+bare_calls nothing = refl
+bare_calls (node k n below rest) = ap₂ (λ b m. counted k b + m) (bare_begins below) (bare_calls rest)
+bare_calls (absent rest) = bare_calls rest
+
+bare_listed : (t : Forest) → calls_listed (bare t) ≡ calls_listed t
+bare_listed nothing = refl
+bare_listed (node k n below rest) = ap (of_list k) (bare_calls below)
+bare_listed (absent rest) = refl
+
+bare_root : (t : Forest) → root_calls (bare t) ≡ root_calls t
+bare_root nothing = refl
+bare_root (node k n below rest) = ap (of_program k) (bare_listed below)
+bare_root (absent rest) = refl
+
+-- ---- what counts for nothing, wherever it stands
+
+-- another in its place
+no_more : (k : Kind) (b c : Bool) → b ≡ false → counted k b ≤ counted k c
+no_more expression_statement b c e = subst (λ x. counted expression_statement x ≤ counted expression_statement c) (sym e) (Prim.omega arith)
+no_more k b c e = Prim.omega arith
+
+replaced_begins : (a : Around) (x y : Tree) → IsOther x → (begins_with_call (plug a (Some x)) ≡ false) ⊎ (begins_with_call (plug a (Some x)) ≡ begins_with_call (plug a (Some y)))
+replaced_begins (first rest) x y h = inl h.calls
+replaced_begins (behind k n below a) x y h = inr refl
+replaced_begins (behind_none a) x y h = inr refl
+replaced_begins (under k n a rest) x y h = inr refl
+
+replaced_below : (k : Kind) (a : Around) (x y : Tree) → IsOther x → counted k (begins_with_call (plug a (Some x))) ≤ counted k (begins_with_call (plug a (Some y)))
+replaced_below k a x y h = elim (replaced_begins a x y h) [
+  | inl e ↦ no_more k (begins_with_call (plug a (Some x))) (begins_with_call (plug a (Some y))) e
+  | inr e ↦ Prim.omega (arith, ap (counted k) e)
+]
+
+replaced_calls : (a : Around) (x y : Tree) → IsOther x → calls_in (plug a (Some x)) ≤ calls_in (plug a (Some y))
+replaced_calls (first rest) x y h = Prim.omega (arith, h.counts)
+replaced_calls (behind k n below a) x y h = Prim.omega (arith, replaced_calls a x y h)
+replaced_calls (behind_none a) x y h = replaced_calls a x y h
+replaced_calls (under k n a rest) x y h = Prim.omega (arith, replaced_below k a x y h)
+
+list_no_less : (k : Kind) (n m : ℕ) → n ≤ m → of_list k n ≤ of_list k m
+list_no_less statements n m h = h
+list_no_less k n m h = Prim.omega arith
+
+program_no_less : (k : Kind) (n m : ℕ) → n ≤ m → of_program k n ≤ of_program k m
+program_no_less (program source) n m h = h
+program_no_less k n m h = Prim.omega arith
+
+replaced_listed : (a : Around) (x y : Tree) → IsOther x → calls_listed (plug a (Some x)) ≤ calls_listed (plug a (Some y))
+replaced_listed (first rest) x y h = Prim.omega (arith, h.lists (calls_in x.below))
+replaced_listed (behind k n below a) x y h = Prim.omega arith
+replaced_listed (behind_none a) x y h = Prim.omega arith
+replaced_listed (under k n a rest) x y h = list_no_less k _ _ (replaced_calls a x y h)
+
+pub replaced_root : (a : Around) (x y : Tree) → IsOther x → root_calls (plug a (Some x)) ≤ root_calls (plug a (Some y))
+replaced_root (first rest) x y h = Prim.omega (arith, h.begins (calls_listed x.below))
+replaced_root (behind k n below a) x y h = Prim.omega arith
+replaced_root (behind_none a) x y h = Prim.omega arith
+replaced_root (under k n a rest) x y h = program_no_less k _ _ (replaced_listed a x y h)
+
+-- ---- the rows that something leaves
+
+abbrev pub takes : Row → Bool
+takes items = true
+takes item_declarators = true
+takes row = false
+
+leave_begins : (w : Asked) (a : Around) (x : Tree) → takes w.row ≡ false → takes (asked_at w a).row ≡ true → begins_with_call (plug a (Some x)) ≡ begins_with_call (without a)
+leave_begins w (first rest) x no_row row = absurd (true≢false (sym row ∙ no_row))
+leave_begins w (behind k n below a) x no_row row = refl
+leave_begins w (behind_none a) x no_row row = refl
+leave_begins w (under k n a rest) x no_row row = refl
+
+leave_below : (k : Kind) (w : Asked) (a : Around) (x : Tree) → takes (asked_at (asked_below w k) a).row ≡ true → counted k (begins_with_call (plug a (Some x))) ≡ counted k (begins_with_call (without a))
+leave_below expression_statement w a x row = ap (counted expression_statement) (leave_begins (asked_below w expression_statement) a x refl row)
+leave_below k w a x row = refl
+
+leave_calls : (w : Asked) (a : Around) (x : Tree) → IsOther x → takes (asked_at w a).row ≡ true → calls_in (plug a (Some x)) ≡ calls_in (without a)
+leave_calls w (first rest) x h row = ap (λ m. m + calls_in rest) h.counts ∙ zero_plus (calls_in rest)
+leave_calls w (behind k n below a) x h row = ap (λ m. counted k (begins_with_call below) + m) (leave_calls w a x h row)
+leave_calls w (behind_none a) x h row = leave_calls w a x h row
+leave_calls w (under k n a rest) x h row = ap (λ m. m + calls_in rest) (leave_below k w a x row)
+
+leave_list : (k : Kind) (w : Asked) (a : Around) (x : Tree) → IsOther x → takes (asked_at (asked_below w k) a).row ≡ true → of_list k (calls_in (plug a (Some x))) ≡ of_list k (calls_in (without a))
+leave_list statements w a x h row = leave_calls (asked_below w statements) a x h row
+leave_list k w a x h row = refl
+
+leave_listed : (w : Asked) (a : Around) (x : Tree) → IsOther x → takes w.row ≡ false → takes (asked_at w a).row ≡ true → calls_listed (plug a (Some x)) ≡ calls_listed (without a)
+leave_listed w (first rest) x h no_row row = absurd (true≢false (sym row ∙ no_row))
+leave_listed w (behind k n below a) x h no_row row = refl
+leave_listed w (behind_none a) x h no_row row = refl
+leave_listed w (under k n a rest) x h no_row row = leave_list k w a x h row
+
+leave_program : (k : Kind) (a : Around) (x : Tree) → IsOther x → takes (asked_at (asked_below (asked_of_program true) k) a).row ≡ true
+    → of_program k (calls_listed (plug a (Some x))) ≡ of_program k (calls_listed (without a))
+leave_program (program source_type) a x h row = leave_listed (asked_below (asked_of_program true) (program source_type)) a x h refl row
+leave_program k a x h row = refl
+
+pub leave_root : (a : Around) (x : Tree) → IsOther x → takes (asked_at (asked_of_program true) a).row ≡ true → root_calls (plug a (Some x)) ≡ root_calls (without a)
+leave_root (first rest) x h row = absurd (true≢false (sym row))
+leave_root (behind k n below a) x h row = refl
+leave_root (behind_none a) x h row = refl
+leave_root (under k n a rest) x h row = leave_program k a x h row
+
+-- ---- no call is silent
+
+call_acts : (bs : List BindingSite) (w : Bool) (c : Context) (next : ℕ) (pure optional : Bool) (l : Note) (inner : Forest) → IsSilentBelow bs w c next expression_statement (alone (call_expression pure optional) l inner) → ⊥
+call_acts bs w c next pure optional l inner (inl e, rest) = absurd (true≢false (sym e))
+call_acts bs w c next pure optional l inner (inr (inl (v, found)), rest) = absurd found
+call_acts bs w c next pure optional l inner (inr (inr (parts, below)), rest) = absurd (true≢false (sym parts))
+
+pub silent_is_no_call : (bs : List BindingSite) (w : Bool) (c : Context) (next : ℕ) (k : Kind) (l : Note) (inner : Forest) → IsSilentBelow bs w c next expression_statement (alone k l inner) → is_call k ≡ false
+silent_is_no_call bs w c next (call_expression pure optional) l inner h = absurd (call_acts bs w c next pure optional l inner h)
+silent_is_no_call bs w c next k l inner h = refl
+
+pub there : {holds : Bool → Context → ℕ → Type 0} {P : Type 0} (w : Bool) (contexts : ℕ → Context) (at next : ℕ) (a : Around) (x : Option Tree) → ((w : Bool) (c : Context) (next : ℕ) → holds w c next → P)
+    → HoldsThere w contexts at next a x holds → P
+there w contexts at next (first rest) x f h = f w (contexts at) next h
+there w contexts at next (behind k n below a) x f h = there w contexts (suc at) (next + scope_count (node k n below nothing)) a x f h
+there w contexts at next (behind_none a) x f h = there w contexts (suc at) next a x f h
+there w contexts at next (under k n a rest) x f h = there (w || is_with k) (inside (contexts at) next k (plug a x)) 0 (next + opens_one k (plug a x)) a x f h
