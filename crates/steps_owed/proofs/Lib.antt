@@ -27,3 +27,4 @@ pub mod Undeclared
 pub mod KnownChoices
 pub mod PartRuns
 pub mod Calling
+pub mod Changing
