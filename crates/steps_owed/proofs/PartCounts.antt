@@ -1,5 +1,5 @@
 -- The table stays exact, with shorter lists, when a node becomes a part of itself.
-use Rattle.std.proofs.Common.{◌≡◌, ◌∙◌, ◌++◌, ℕ, suc, Bool, true, false, List, [], append-nil, refl, sym, ap, ap₂, subst, inl, true≢false}
+use Rattle.std.proofs.Common.{◌≡◌, ◌∙◌, ◌++◌, ℕ, suc, Bool, true, false, List, append-nil, refl, sym, ap, ap₂, subst, inl, true≢false}
 use Rattle.std.specs.Prelude.{Some}
 use Rattle.js_syntax.specs.declared.node_kind.NodeKind.{NodeKind as Kind}
 use Rattle.js_syntax.specs.declared.node_kind.NodeKind.TheVariants.{Program as program}
@@ -52,8 +52,8 @@ module _ (k l : Kind) (i j : Note) (b p q r : Forest) (plain : Plain k) (before 
       let t = node k i (joined p (node l j b q)) r in
       let u = node l j b r in
       let marked =
-          exact_with_part none_gone source n a k l i j b p q r plain (λ aims at h. loses_same (hoisted aims at t) (hoisted aims at u) (same_declared aims at)) (same_scopes k l i j (joined p (node l j b q)) b r a) (λ z g. absurd (true≢false (sym g)))
-          kept.table unmarked (left t u) (λ z. refl) ((exact_is source n (counts.plug a t) kept.table).0 kept.exact) in
+      exact_with_part none_gone source n a k l i j b p q r plain (λ aims at h. loses_same (hoisted aims at t) (hoisted aims at u) (same_declared aims at)) (same_scopes k l i j (joined p (node l j b q)) b r a) (λ z g. absurd (true≢false (sym g)))
+      kept.table unmarked (left t u) (λ z. refl) ((exact_is source n (counts.plug a t) kept.table).0 kept.exact) in
       record {
         table = pruned (left t u) kept.table;
         shortens = prunes_shorten (left t u) s kept.table kept.shortens;

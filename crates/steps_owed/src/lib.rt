@@ -2,3 +2,5 @@
 //!
 //! The code is empty: each function's contract is a law.
 #![tactic(auto)]
+
+pub mod parts;
