@@ -8,7 +8,7 @@ use Rattle.js_syntax.specs.declared.scalar.SourceType.{SourceType}
 use Rattle.js_syntax.specs.Node.{Forest, Note, nothing, node, absent, joined}
 use Rattle.scope_laws.specs.Lists.{is_list}
 use Rattle.scope_counts.specs.Counts.{declared_by_program, Bound, Weight, free, within, weights_inside, own, refs, refs_of, symbol_with}
-use Rattle.scope_counts.specs.Edits.{Around, here, behind, behind_none, under, plug, program_with, SameScopes, in_list, Capped, Even}
+use Rattle.scope_counts.specs.Edits.{Around, here, behind, behind_none, under, plug, Rooted, below_program, beside_program, program_with, place_in, SameScopes, in_list, Capped, Even}
 use Rattle.scope_counts.specs.Losing.{gone_with, LosesAround, Related, LosesOutward, DeclaresGone, Plain}
 use Rattle.scope_counts.specs.Walks.{carried, carried_of, SameEntries, to_symbol, to_gone, mark_of, is_owner, owner_in, calls, calls_gone, lives_in, living}
 use Rattle.scope_counts.proofs.Edits.{even_weights, within_capped, inside_capped}
@@ -78,15 +78,34 @@ module _ (gone : ℕ → Bool) (s : ℕ) (c : Option ℕ → ℕ) {S : Type 0} (
         (carried_related wg ws vs (suc at) st rest small tiny related (Prim.omega (arith, none)))
         (subst (λ e. R (counted (weights_inside (symbol_with s c) k (plug a t) (ws at)) 0 (enters st k (plug a t)) (plug a t)) (counted (weights_inside (symbol_with s c) k (plug a u) (vs at)) 0 e (plug a u))) (same.0 st) inner)
 
-    pub program_says : (source : SourceType) (n : Note) (a : Around) (listed : Bool) (t u : Forest) → Says listed t u → LosesOutward gone listed t u → SameScopes a t u → SameEntries counts enters a t u → (listed ≡ true → in_list false a ≡ true) → (st : S)
-        → carried_of counts enters (gone_with gone c) st (program_with source n a t) ≡ 0 → R (carried_of counts enters (symbol_with s c) st (program_with source n a t)) (carried_of counts enters (symbol_with s c) st (program_with source n a u))
-    program_says source n a listed t u h outward scopes entries is st none =
-        let ds = declared_by_program (plug a t) in
-        let es = declared_by_program (plug a u) in
-        let no : Capped c free = λ x q. Prim.omega arith in
-        around_says listed t u h a (all_lose gone listed t u outward a scopes false is) entries false is (λ at. within (gone_with gone c) ds free) (λ at. within (symbol_with s c) ds free) (λ at. within (symbol_with s c) es free) 0 st
-        (λ f. absurd (true≢false (sym f))) (λ f. absurd (true≢false (sym f))) (λ f. absurd (true≢false (sym f)))
-        (λ i. within_capped s c ds free no) (λ i. within_capped s c es free no) (λ i. within_related gone s c ds es free free free (program_loses gone listed t u outward a scopes is) no no (λ x q z. refl)) none
+    before_it : (x y m n : ℕ) → x ≡ y → R m n → R (m + x) (n + y)
+    before_it x y m n e h =
+        let left : 0 + m + x ≡ m + x = Prim.omega arith in
+        let right : 0 + n + y ≡ n + y = Prim.omega arith in
+        subst (λ k. R (m + x) k) right (subst (λ k. R k (0 + n + y)) left (among 0 0 x y m n refl e h))
+
+    no_row : {P : Type 0} → false ≡ true → P
+    no_row f = absurd (true≢false (sym f))
+
+    no_weight : Capped c free
+    no_weight x q = Prim.omega arith
+
+    pub program_says : (p : Rooted) (listed : Bool) (t u : Forest) → Says listed t u → LosesOutward gone listed t u → SameScopes (place_in p) t u → SameEntries counts enters (place_in p) t u → (listed ≡ true → in_list false (place_in p) ≡ true) → (st : S)
+        → carried_of counts enters (gone_with gone c) st (program_with p t) ≡ 0 → R (carried_of counts enters (symbol_with s c) st (program_with p t)) (carried_of counts enters (symbol_with s c) st (program_with p u))
+    program_says (below_program source n a beside) listed t u h outward scopes entries is st none =
+        let ds = declared_by_program (plug a t) beside in
+        let es = declared_by_program (plug a u) beside in
+        let out = counted (λ at. free) 1 st beside in
+        before_it out out (counted (λ at. within (symbol_with s c) ds free) 0 st (plug a t)) (counted (λ at. within (symbol_with s c) es free) 0 st (plug a u)) refl
+        (around_says listed t u h a (all_lose gone listed t u outward a scopes false is) entries false is (λ at. within (gone_with gone c) ds free) (λ at. within (symbol_with s c) ds free) (λ at. within (symbol_with s c) es free) 0 st no_row no_row no_row
+        (λ i. within_capped s c ds free no_weight) (λ i. within_capped s c es free no_weight) (λ i. within_related gone s c ds es free free free (program_loses gone listed t u outward (below_program source n a beside) scopes is) no_weight no_weight (λ x q z. refl)) (Prim.omega (arith, none)))
+    program_says (beside_program source n below a) listed t u h outward scopes entries is st none =
+        let ds = declared_by_program below (plug a t) in
+        let es = declared_by_program below (plug a u) in
+        behind_it (counted (λ at. within (symbol_with s c) ds free) 0 st below) (counted (λ at. within (symbol_with s c) es free) 0 st below) (counted (λ at. free) 1 st (plug a t)) (counted (λ at. free) 1 st (plug a u))
+        (carried_related (λ at. within (gone_with gone c) ds free) (λ at. within (symbol_with s c) ds free) (λ at. within (symbol_with s c) es free) 0 st below (λ i. within_capped s c ds free no_weight) (λ i. within_capped s c es free no_weight)
+        (λ i. within_related gone s c ds es free free free (program_loses gone listed t u outward (beside_program source n below a) scopes is) no_weight no_weight (λ x q z. refl)) (Prim.omega (arith, none)))
+        (around_says listed t u h a (all_lose gone listed t u outward a scopes false is) entries false is (λ at. free) (λ at. free) (λ at. free) 1 st no_row no_row no_row (λ i. no_weight) (λ i. no_weight) (λ i x q z. refl) (Prim.omega (arith, none)))
 
   -- ---- the edits
 
@@ -167,18 +186,18 @@ same_owners o (behind k n b a) t u row is = same_owners o a t u row is
 same_owners o (behind_none a) t u row is = same_owners o a t u row is
 same_owners o (under k n a rest) t u row is = (λ outer. mark_stays a t u k outer is, same_owners o a t u (is_list k) is)
 
-pub calls_without : (gone : ℕ → Bool) (o : Option ℕ) (s : ℕ) (source : SourceType) (n : Note) (a : Around) (k : Kind) (i : Note) (b rest : Forest) → DeclaresGone gone k i b → SameScopes a (node k i b rest) rest → in_list false a ≡ true
-    → calls_gone gone o (program_with source n a (node k i b rest)) ≡ 0 → calls o s (program_with source n a rest) ≤ calls o s (program_with source n a (node k i b rest))
-calls_without gone o s source n a k i b rest h scopes is none =
-    program_says gone s (λ q. 1) (is_owner o) owner_in (λ m n. n ≤ m) (λ x y z w m n e f h. Prim.omega (arith, e, f, h)) source n a true (node k i b rest) rest (leaving_lowers gone s (λ q. 1) (is_owner o) owner_in k i b rest)
-    (leaving_loses gone k i b rest h) scopes (same_owners o a (node k i b rest) rest false is) (λ e. is) None none
+pub calls_without : (gone : ℕ → Bool) (o : Option ℕ) (s : ℕ) (p : Rooted) (k : Kind) (i : Note) (b rest : Forest) → DeclaresGone gone k i b → SameScopes (place_in p) (node k i b rest) rest → in_list false (place_in p) ≡ true
+    → calls_gone gone o (program_with p (node k i b rest)) ≡ 0 → calls o s (program_with p rest) ≤ calls o s (program_with p (node k i b rest))
+calls_without gone o s p k i b rest h scopes is none =
+    program_says gone s (λ q. 1) (is_owner o) owner_in (λ m n. n ≤ m) (λ x y z w m n e f h. Prim.omega (arith, e, f, h)) p true (node k i b rest) rest (leaving_lowers gone s (λ q. 1) (is_owner o) owner_in k i b rest)
+    (leaving_loses gone k i b rest h) scopes (same_owners o (place_in p) (node k i b rest) rest false is) (λ e. is) None none
 
-pub calls_with_part : (gone : ℕ → Bool) (o : Option ℕ) (s : ℕ) (source : SourceType) (n : Note) (a : Around) (k l : Kind) (i j : Note) (b p q r : Forest) → Plain k → LosesOutward gone false (node k i (joined p (node l j b q)) r) (node l j b r)
-    → SameScopes a (node k i (joined p (node l j b q)) r) (node l j b r) → SameEntries (is_owner o) owner_in a (node k i (joined p (node l j b q)) r) (node l j b r)
-    → calls_gone gone o (program_with source n a (node k i (joined p (node l j b q)) r)) ≡ 0 → calls o s (program_with source n a (node l j b r)) ≤ calls o s (program_with source n a (node k i (joined p (node l j b q)) r))
-calls_with_part gone o s source n a k l i j b p q r plain outward scopes entries none =
-    let whole = joined p (node l j b q) in
-    program_says gone s (λ q. 1) (is_owner o) owner_in (λ m n. n ≤ m) (λ x y z w m n e f h. Prim.omega (arith, e, f, h)) source n a false (node k i whole r) (node l j b r) (part_lowers gone s (λ q. 1) (is_owner o) owner_in k l i j b p q r plain (no_owner k plain whole))
+pub calls_with_part : (gone : ℕ → Bool) (o : Option ℕ) (s : ℕ) (p : Rooted) (k l : Kind) (i j : Note) (b v w r : Forest) → Plain k → LosesOutward gone false (node k i (joined v (node l j b w)) r) (node l j b r)
+    → SameScopes (place_in p) (node k i (joined v (node l j b w)) r) (node l j b r) → SameEntries (is_owner o) owner_in (place_in p) (node k i (joined v (node l j b w)) r) (node l j b r)
+    → calls_gone gone o (program_with p (node k i (joined v (node l j b w)) r)) ≡ 0 → calls o s (program_with p (node l j b r)) ≤ calls o s (program_with p (node k i (joined v (node l j b w)) r))
+calls_with_part gone o s p k l i j b v w r plain outward scopes entries none =
+    let whole = joined v (node l j b w) in
+    program_says gone s (λ q. 1) (is_owner o) owner_in (λ m n. n ≤ m) (λ x y z w m n e f h. Prim.omega (arith, e, f, h)) p false (node k i whole r) (node l j b r) (part_lowers gone s (λ q. 1) (is_owner o) owner_in k l i j b v w r plain (no_owner k plain whole))
     outward scopes entries (λ e. absurd (true≢false (sym e))) None none
   where
     no_owner : (k : Kind) → Plain k → (t : Forest) (outer : Option ℕ) → owner_in outer k t ≡ outer
@@ -206,13 +225,13 @@ all_live g ws at (absent t) = all_live g ws (suc at) t
 all_live g ws at (node k n b t) = ap₂ (λ (i j : ℕ). own (ws at) n k + i + j) (all_live g (weights_inside g k b (ws at)) 0 b) (all_live g ws (suc at) t)
 
 pub nothing_skipped : (g : Bound) (source : SourceType) (n : Note) (t rest : Forest) → living (λ k below. false) g (node (program source) n t rest) ≡ refs_of g (node (program source) n t rest)
-nothing_skipped g source n t rest = all_live g (λ at. within g (declared_by_program t) free) 0 t
+nothing_skipped g source n t rest = ap₂ (λ (i j : ℕ). i + j) (all_live g (λ at. within g (declared_by_program t rest) free) 0 t) (all_live g (λ at. free) 1 rest)
 
-pub living_without : (skips : Kind → Forest → Bool) (gone : ℕ → Bool) (s : ℕ) (c : Option ℕ → ℕ) (source : SourceType) (n : Note) (a : Around) (k : Kind) (i : Note) (b rest : Forest) → skips k b ≡ true → ((w : Weight) → own w i k ≡ 0) → DeclaresGone gone k i b
-    → SameScopes a (node k i b rest) rest → SameEntries (λ lives. lives) (lives_in skips) a (node k i b rest) rest → in_list false a ≡ true → living skips (gone_with gone c) (program_with source n a (node k i b rest)) ≡ 0
-    → living skips (symbol_with s c) (program_with source n a (node k i b rest)) ≡ living skips (symbol_with s c) (program_with source n a rest)
-living_without skips gone s c source n a k i b rest dead refers h scopes entries is none =
-    program_says gone s c (λ lives. lives) (lives_in skips) (λ m n. m ≡ n) (λ x y z w m n e f h. Prim.omega (arith, e, f, h)) source n a true (node k i b rest) rest
+pub living_without : (skips : Kind → Forest → Bool) (gone : ℕ → Bool) (s : ℕ) (c : Option ℕ → ℕ) (p : Rooted) (k : Kind) (i : Note) (b rest : Forest) → skips k b ≡ true → ((w : Weight) → own w i k ≡ 0) → DeclaresGone gone k i b
+    → SameScopes (place_in p) (node k i b rest) rest → SameEntries (λ lives. lives) (lives_in skips) (place_in p) (node k i b rest) rest → in_list false (place_in p) ≡ true → living skips (gone_with gone c) (program_with p (node k i b rest)) ≡ 0
+    → living skips (symbol_with s c) (program_with p (node k i b rest)) ≡ living skips (symbol_with s c) (program_with p rest)
+living_without skips gone s c p k i b rest dead refers h scopes entries is none =
+    program_says gone s c (λ lives. lives) (lives_in skips) (λ m n. m ≡ n) (λ x y z w m n e f h. Prim.omega (arith, e, f, h)) p true (node k i b rest) rest
     (leaving_keeps gone s c (λ lives. lives) (lives_in skips) k i b rest refers (λ ws st. ap (λ e. carried (λ lives. lives) (lives_in skips) (symbol_with s c) ws 0 e b) (dies st) ∙ dead_counts skips (symbol_with s c) ws 0 b))
     (leaving_loses gone k i b rest h) scopes entries (λ e. is) true none
   where

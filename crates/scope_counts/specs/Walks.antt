@@ -17,7 +17,7 @@ module _ {S : Type 0} (counts : S → Bool) (enters : S → Kind → (below : Fo
   carried g ws at s (node k n below rest) = cond (counts s) (own (ws at) n k) 0 + carried g (weights_inside g k below (ws at)) 0 (enters s k below) below + carried g ws (suc at) s rest
 
   abbrev pub carried_of : Bound → S → Forest → ℕ
-  carried_of g s (node (program source) n below rest) = carried g (λ at. within g (declared_by_program below) free) 0 s below
+  carried_of g s (node (program source) n below beside) = carried g (λ at. within g (declared_by_program below beside) free) 0 s below + carried g (λ at. free) 1 s beside
   carried_of g s t = 0
 
   -- the nodes around are entered with the one as with the other

@@ -9,14 +9,12 @@ use Rattle.js_syntax.specs.Node.{Forest, Tree, Note, nothing, node, absent}
 use Rattle.js_syntax.specs.Table.{Row, a_program, fields_of, type_of, stands}
 use Rattle.js_syntax.proofs.Truth.{first_of_both, second_of_both, both}
 use Rattle.json_shape.specs.Shape.{Values, kind_in, first_of, Fits}
-use Rattle.steps.specs.Steps.{is_single}
 use Rattle.scope_rules.specs.Table.{Scoping}
 use Rattle.scope_laws.specs.Place.{Around, first, behind, behind_none, under, plug}
 use Rattle.scope_counts.proofs.Leaving.{if_is_plain, conditional_is_plain}
 use Rattle.steps_allowed.specs.KnownConditional.{a_conditional, KnownConditional, consequent_is_taken, alternate_is_taken}
 use Rattle.steps_allowed.specs.KnownIf.{an_if, KnownIf, consequent_is_run, alternate_is_run}
 use Rattle.steps_fit.specs.Enclosed.{is_enclosed_at, is_enclosed}
-use Rattle.steps_fit.proofs.Enclosing.{fits_enclosed}
 use Rattle.steps_owed.specs.Kept.{is_program, IsKept}
 use Rattle.steps_owed.specs.Part.{DeclaresNothing, IsPart}
 use Rattle.steps_owed.proofs.Expressions.{expression_declares_nothing, parts_are_expressions}
@@ -89,14 +87,7 @@ if_is_part a x y (alternate_is_run v n m i j k l b c is branch none) e =
       after_declares = λ aims at. refl;
     }
 
--- ---- of a program that fits the table of node types
-
-fits_single : (t : Forest) → Fits root t → is_single t ≡ true
-fits_single nothing fits = absurd fits
-fits_single (absent t) fits = absurd fits.0
-fits_single (node k n b nothing) fits = refl
-fits_single (node k n b (node l m c t)) fits = absurd fits.1.0
-fits_single (node k n b (absent t)) fits = absurd fits.1.0
+-- ---- the table
 
 program_kind : (r : Row) (vs : Values (fields_of r)) (n : Note) (b t : Forest) → stands root (type_of r) ≡ Some (first_of r) → is_program (node (kind_in r vs) n b t) ≡ true
 program_kind a_program vs n b t e = refl
@@ -108,7 +99,7 @@ fits_program (absent t) fits = absurd fits.0
 fits_program (node k n b t) fits = subst (λ l. is_program (node l n b t) ≡ true) (sym fits.0.4) (program_kind fits.0.0 fits.0.1 n b t fits.0.2)
 
 pub conditional_kept : (a : Around) (x y : Tree) → KnownConditional x y → Fits root (plug a (Some x)) → (s : Scoping) → IsKept s (plug a (Some x)) → IsKept s (plug a (Some y))
-conditional_kept a x y known fits = parts_kept a x y (conditional_is_part a x y known fits) (fits_single (plug a (Some x)) fits) (fits_program (plug a (Some x)) fits)
+conditional_kept a x y known fits = parts_kept a x y (conditional_is_part a x y known fits) (fits_program (plug a (Some x)) fits)
 
-pub if_kept : (a : Around) (x y : Tree) → KnownIf x y → Fits root (plug a (Some x)) → (s : Scoping) → IsKept s (plug a (Some x)) → IsKept s (plug a (Some y))
-if_kept a x y known fits = parts_kept a x y (if_is_part a x y known (fits_enclosed (plug a (Some x)) fits)) (fits_single (plug a (Some x)) fits) (fits_program (plug a (Some x)) fits)
+pub if_kept : (a : Around) (x y : Tree) → KnownIf x y → is_enclosed (plug a (Some x)) ≡ true → is_program (plug a (Some x)) ≡ true → (s : Scoping) → IsKept s (plug a (Some x)) → IsKept s (plug a (Some y))
+if_kept a x y known e = parts_kept a x y (if_is_part a x y known e)

@@ -2,12 +2,17 @@
 use Rattle.std.proofs.Common.{◌≡◌, ◌∙◌, ◌+◌, ℕ, List, [], ◌∷◌, map, Bool, true, false, nat_eq, true≢false, slice_get, Option, Some, None, option_map, if◌then◌else◌, inl, inr, refl, sym, ap, subst, arith, eqb-true}
 use Rattle.std.specs.Prelude.{cond}
 use Rattle.std.proofs.lemmas.Option.{slice_get-map}
+use Rattle.js_syntax.specs.Node.{Forest}
 use Rattle.scope_rules.specs.Table.{Symbol, Scoping}
 use Rattle.scope_laws.specs.Exact.{Among}
 use Rattle.scope_laws.proofs.Bindings.{none_is_some, same_value}
 use Rattle.scope_counts.specs.Exact.{count, references_of}
 use Rattle.scope_counts.specs.Losing.{Prunes}
-use Rattle.steps_owed.specs.Kept.{Shortens}
+use Rattle.scope_counts.specs.Scopes.{ExactButMarks}
+use Rattle.scope_counts.specs.Edits.{Rooted, program_with}
+use Rattle.scope_counts.proofs.Tables.{marks_may_go}
+use Rattle.scope_counts.proofs.Whole.{exact_with}
+use Rattle.steps_owed.specs.Kept.{Shortens, IsKept}
 
 abbrev staying : (ℕ → Bool) → List ℕ → List ℕ
 staying away [] = []
@@ -78,4 +83,12 @@ prunes_shorten away s t shortens = record {
       let m = mapped (with_staying away) (slice_get t.symbols n) y (sym (slice_get-map (with_staying away) t.symbols n) ∙ e) in
       let h = shortens.symbols n m.value m.is in
       record { symbol = h.symbol; stood = h.stood; listed = λ id k. h.listed id (stays_among away m.value.references id (subst (λ (x : Symbol). Among id x.references) (sym m.gives) k)) };
+}
+
+-- a table that is exact but for what left is exact once that is out of its lists
+pub kept_but_marks : (p : Rooted) (away : ℕ → Bool) (t u : Forest) (s : Scoping) (kept : IsKept s (program_with p t)) → ExactButMarks kept.table away (program_with p u) → IsKept s (program_with p u)
+kept_but_marks p away t u s kept marked = record {
+  table = pruned away kept.table;
+  shortens = prunes_shorten away s kept.table kept.shortens;
+  exact = (exact_with p u (pruned away kept.table)).1 (marks_may_go away kept.table (pruned away kept.table) (program_with p u) (prunes away kept.table) marked);
 }
