@@ -131,7 +131,7 @@ module _ (a : Forest) where
 
 -- ---- trees
 
-enclosed : (t : Forest) (plan : Plan) → plan_passes is_sound plan ≡ true → Stand plan t → is_enclosed t ≡ true
+pub enclosed : (t : Forest) (plan : Plan) → plan_passes is_sound plan ≡ true → Stand plan t → is_enclosed t ≡ true
 enclosed nothing plan h st = refl
 enclosed (absent r) plan h st = enclosed r (behind plan hole) (behind_passes is_sound plan hole h) st.1
 enclosed (node k n a r) plan h st =

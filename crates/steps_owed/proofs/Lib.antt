@@ -28,3 +28,9 @@ pub mod KnownChoices
 pub mod PartRuns
 pub mod Calling
 pub mod Changing
+pub mod Places
+pub mod Pruning
+pub mod PartCounts
+pub mod Outward
+pub mod Expressions
+pub mod Branches

@@ -8,3 +8,4 @@
 
 pub mod tables;
 pub mod runs;
+pub mod parts;

@@ -1,0 +1,36 @@
+// What is counted by walks that carry something.
+ghost use Rattle.std.specs.Prelude.{◌≡◌, ◌≤◌, ℕ, Bool, true, false, nat_eq, Option};
+ghost use Rattle.js_syntax.specs.declared.node_kind.NodeKind.{NodeKind as Kind};
+ghost use Rattle.js_syntax.specs.declared.scalar.SourceType.{SourceType};
+ghost use Rattle.js_syntax.specs.Node.{Forest, Note, node, joined};
+ghost use Rattle.scope_counts.specs.Counts.{Bound, Weight, own, refs_of, symbol_with};
+ghost use Rattle.scope_counts.specs.Edits.{Rooted, program_with, place_in, SameScopes, in_list};
+ghost use Rattle.scope_counts.specs.Losing.{gone_with, LosesOutward, DeclaresGone, Plain};
+ghost use Rattle.scope_counts.specs.Walks.{SameEntries, is_owner, owner_in, calls, calls_gone, lives_in, living};
+
+/// Where a node leaves a list, or a part stands in the place of a whole, a function's declaration refers to no symbol more often
+/// than it did, if it didn't refer to what is gone.
+pub fn calls_become_fewer()
+    ensures leaving { (gone : ℕ → Bool) (o : Option ℕ) (s : ℕ) (p : Rooted) (k : Kind) (i : Note) (b rest : Forest) →
+        DeclaresGone gone k i b → SameScopes (place_in p) (node k i b rest) rest → in_list false (place_in p) ≡ true → calls_gone gone o (program_with p (node k i b rest)) ≡ 0 →
+        calls o s (program_with p rest) ≤ calls o s (program_with p (node k i b rest)) }
+    ensures parts { (gone : ℕ → Bool) (o : Option ℕ) (s : ℕ) (p : Rooted) (k l : Kind) (i j : Note) (b v w r : Forest) →
+        let t = node k i (joined v (node l j b w)) r in
+        let u = node l j b r in
+        Plain k → LosesOutward gone false t u → SameScopes (place_in p) t u → SameEntries (is_owner o) owner_in (place_in p) t u → calls_gone gone o (program_with p t) ≡ 0 →
+        calls o s (program_with p u) ≤ calls o s (program_with p t) }
+    ensures one { (z : ℕ) (o : Option ℕ) (t : Forest) → calls_gone (nat_eq z) o t ≡ calls o z t }
+{}
+
+/// Where nothing is held dead all is counted.
+pub fn what_lives_is_counted()
+    ensures { (g : Bound) (source : SourceType) (n : Note) (below rest : Forest) → living (λ k t. false) g (node (Kind.Program source) n below rest) ≡ refs_of g (node (Kind.Program source) n below rest) }
+{}
+
+/// A declaration that is held dead may leave a list: nothing counts otherwise, if nothing that lives refers to what is gone.
+pub fn dead_declarations_may_leave()
+    ensures { (skips : Kind → Forest → Bool) (gone : ℕ → Bool) (s : ℕ) (c : Option ℕ → ℕ) (p : Rooted) (k : Kind) (i : Note) (b rest : Forest) →
+        skips k b ≡ true → ((w : Weight) → own w i k ≡ 0) → DeclaresGone gone k i b → SameScopes (place_in p) (node k i b rest) rest → SameEntries (λ lives. lives) (lives_in skips) (place_in p) (node k i b rest) rest → in_list false (place_in p) ≡ true →
+        living skips (gone_with gone c) (program_with p (node k i b rest)) ≡ 0 →
+        living skips (symbol_with s c) (program_with p (node k i b rest)) ≡ living skips (symbol_with s c) (program_with p rest) }
+{}

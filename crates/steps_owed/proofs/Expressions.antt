@@ -1,0 +1,199 @@
+-- In trees that fit the table of node types expressions declare no name outside of functions and classes.
+use Rattle.std.proofs.Common.{◌≡◌, ◌∙◌, ℕ, suc, [], ◌∷◌, Bool, true, false, not, ◌&&◌, ◌||◌, inl, inr, refl, sym, ap}
+use Rattle.std.specs.Prelude.{Some}
+use Rattle.js_syntax.specs.Class.{Class, root, a_prologue, method_value, private_key, expression, expression_or_private, callee, argument, object_item, chain_part, template, quasi_item, simple_target, target, target_value, target_element, target_item}
+use Rattle.js_syntax.specs.declared.node_kind.NodeKind.{NodeKind as Kind}
+use Rattle.js_syntax.specs.declared.node_kind.NodeKind.TheVariants.{Function as function, Class as class, BindingName as binding_name, ConditionalExpression as conditional_expression, Hole as hole}
+use Rattle.js_syntax.specs.declared.kind.FunctionKind.TheVariants as function_kind
+use Rattle.js_syntax.specs.declared.kind.ClassKind.TheVariants as class_kind
+use Rattle.js_syntax.specs.Hint.{has, is_private}
+use Rattle.js_syntax.specs.Node.{Forest, Tree, nothing, node, absent}
+use Rattle.js_syntax.specs.Table.{Row, a_program, a_function_expression, an_arrow_function, a_class_expression, a_reference_name, a_target_name, a_private_name, a_literal, a_reg_exp, a_this_expression, a_super, an_array_expression, an_object_expression, a_property, a_method_property, a_sequence_expression, a_unary_expression, an_update_expression, a_binary_expression, an_in_expression, a_logical_expression, an_assignment_expression, a_compound_assignment, a_conditional_expression, a_call_expression, a_new_expression, a_member_expression, a_chain_expression, a_parenthesized_expression, a_parenthesized_target, a_template_literal, a_template_element, a_tagged_template_expression, a_spread_element, a_target_rest, a_target_object, a_target_array, a_target_property, a_target_default, a_new_target, an_import_meta, an_import_expression, fields_of}
+use Rattle.js_syntax.proofs.Truth.{first_of_both, second_of_both, both}
+use Rattle.json_shape.specs.Shape.{Values, kind_in, first_of, Place, one, maybe_one, beyond, key_node, key_apart, list, list_with_holes, body, item_or_hole, item_of_body, places, Plan, these, first_place, behind, IsOf, IsAt, Stand, Fits}
+use Rattle.json_shape.proofs.Choice.{is_list_kind}
+use Rattle.scope_laws.specs.Place as place
+use Rattle.scope_laws.specs.Place.{Around, plug}
+use Rattle.steps_allowed.specs.Branches.{declares_none_at, declares_none}
+use Rattle.steps_fit.proofs.CoreCalm.{rows_of}
+use Rattle.steps_fit.proofs.CoreRows.{takes_such, if_so, fields_pass}
+use Rattle.steps_fit.proofs.Enclosing.{enclosed}
+use Rattle.steps_fit.proofs.Holding.{is_sound, planned_below}
+use Rattle.steps_fit.proofs.Passing.{plan_passes, first_passes, behind_passes}
+use Rattle.steps_fit.proofs.Calm.{is_calm_class}
+use Rattle.steps_fit.proofs.Shut.{shut, takes_marked, shut_as_planned}
+use Rattle.steps_fit.specs.Hoisted.{holds_variables}
+use Rattle.steps_owed.specs.Part.{DeclaresNothing}
+use Rattle.steps_owed.proofs.Outward.{declares_nothing}
+
+-- ---- expressions, and what they are made of down to functions and classes
+
+abbrev of_expression : Class → Bool
+of_expression method_value = true
+of_expression private_key = true
+of_expression expression = true
+of_expression expression_or_private = true
+of_expression callee = true
+of_expression argument = true
+of_expression object_item = true
+of_expression chain_part = true
+of_expression template = true
+of_expression quasi_item = true
+of_expression simple_target = true
+of_expression target = true
+of_expression target_value = true
+of_expression target_element = true
+of_expression target_item = true
+of_expression c = false
+
+abbrev in_expression : Row → Bool
+in_expression a_function_expression = true
+in_expression an_arrow_function = true
+in_expression a_class_expression = true
+in_expression a_reference_name = true
+in_expression a_target_name = true
+in_expression a_private_name = true
+in_expression a_literal = true
+in_expression a_reg_exp = true
+in_expression a_this_expression = true
+in_expression a_super = true
+in_expression an_array_expression = true
+in_expression an_object_expression = true
+in_expression a_property = true
+in_expression a_method_property = true
+in_expression a_sequence_expression = true
+in_expression a_unary_expression = true
+in_expression an_update_expression = true
+in_expression a_binary_expression = true
+in_expression an_in_expression = true
+in_expression a_logical_expression = true
+in_expression an_assignment_expression = true
+in_expression a_compound_assignment = true
+in_expression a_conditional_expression = true
+in_expression a_call_expression = true
+in_expression a_new_expression = true
+in_expression a_member_expression = true
+in_expression a_chain_expression = true
+in_expression a_parenthesized_expression = true
+in_expression a_parenthesized_target = true
+in_expression a_template_literal = true
+in_expression a_template_element = true
+in_expression a_tagged_template_expression = true
+in_expression a_spread_element = true
+in_expression a_target_rest = true
+in_expression a_target_object = true
+in_expression a_target_array = true
+in_expression a_target_property = true
+in_expression a_target_default = true
+in_expression a_new_target = true
+in_expression an_import_meta = true
+in_expression an_import_expression = true
+in_expression r = false
+
+abbrev declares_itself : Kind → Bool
+declares_itself (binding_name x) = true
+declares_itself (function function_kind.Declaration pure) = true
+declares_itself (class class_kind.Declaration) = true
+declares_itself k = false
+
+-- what lies in a function or class doesn't matter
+abbrev lets : Kind → (at : ℕ) → Bool
+lets (function how pure) at = false
+lets (class how) at = false
+lets k at = true
+
+abbrev keeps_it : Row → Kind → Bool
+keeps_it r k = not (declares_itself k) && fields_pass (takes_marked of_expression (lets k)) 0 (fields_of r)
+
+closed : (c : Class) → (not (of_expression c) || takes_such in_expression c) ≡ true
+closed root = refl
+closed c = refl
+
+others : (r : Row) → (not (in_expression (first_of r)) || in_expression r) ≡ true
+others a_program = refl
+others r = refl
+
+keep : (r : Row) (vs : Values (fields_of r)) → (not (in_expression r) || keeps_it r (kind_in r vs)) ≡ true
+keep a_program vs = refl
+keep r vs = refl
+
+lists : (kind : Kind) → is_list_kind kind ≡ true → not (declares_itself kind) ≡ true
+lists (binding_name x) h = absurd cc
+lists (function how pure) h = absurd cc
+lists (class how) h = absurd cc
+lists kind h = refl
+
+fields : (r : Row) (vs : Values (fields_of r)) → in_expression r ≡ true → keeps_it r (kind_in r vs) ≡ true
+fields r vs h = if_so (in_expression r) (keeps_it r (kind_in r vs)) (keep r vs) h
+
+shut_declares : (at : ℕ) (t : Forest) → shut declares_itself lets (λ i. true) at t ≡ true → declares_none t ≡ true
+shut_declares at nothing h = refl
+shut_declares at (absent rest) h = shut_declares (suc at) rest h
+shut_declares at (node k n below rest) h =
+    let inner = shut declares_itself lets (λ i. lets k i) 0 below in
+    let later = shut declares_itself lets (λ i. true) (suc at) rest in
+    let further = second_of_both (not (declares_itself k)) (inner && later) h in
+    both (declares_none_at k (declares_none below)) (declares_none rest) (here k below (first_of_both (not (declares_itself k)) (inner && later) h) (first_of_both inner later further) (shut_declares 0 below))
+    (shut_declares (suc at) rest (second_of_both inner later further))
+  where
+    here : (k : Kind) (below : Forest) → not (declares_itself k) ≡ true → shut declares_itself lets (λ i. lets k i) 0 below ≡ true → (shut declares_itself lets (λ i. true) 0 below ≡ true → declares_none below ≡ true) → declares_none_at k (declares_none below) ≡ true
+    here (binding_name x) below h e f = h
+    here (function function_kind.Declaration pure) below h e f = h
+    here (function how pure) below h e f = refl
+    here (class class_kind.Declaration) below h e f = h
+    here (class class_kind.Expression) below h e f = refl
+    here k below h e f = f e
+
+-- an expression of the table
+pub expression_declares_none : (t : Forest) → Fits expression t → declares_none t ≡ true
+expression_declares_none t fits =
+    shut_declares 0 t
+    (shut_as_planned declares_itself lets of_expression in_expression lists refl (rows_of of_expression in_expression closed others) fields t (λ i. true) 0 (these (one expression ∷ [])) refl fits)
+
+pub expression_declares_nothing : (t : Forest) → Fits expression t → DeclaresNothing t
+expression_declares_nothing t fits = declares_nothing t (expression_declares_none t fits) (enclosed t (these (one expression ∷ [])) refl fits)
+
+-- ---- a conditional of such a tree
+
+abbrev is_conditional : Kind → Bool
+is_conditional conditional_expression = true
+is_conditional k = false
+
+abbrev Three : Forest → Type 0
+Three t = Stand (these (one expression ∷ one expression ∷ one expression ∷ [])) t
+
+row_three : (r : Row) (vs : Values (fields_of r)) (private : Bool) (a : Forest) → is_conditional (kind_in r vs) ≡ true → Stand (these (places private (fields_of r) vs)) a → Three a
+row_three a_conditional_expression vs private a h st = st
+row_three r vs private a h st = absurd cc
+
+three_of : (a : Forest) (c : Class) (k : Kind) → is_conditional k ≡ true → IsOf k a (λ p. Stand p a) c → Three a
+three_of a c k h of = row_three of.0 of.1 (has is_private a) a (ap is_conditional (sym of.4) ∙ h) of.5
+
+no_list : (kind : Kind) → is_list_kind kind ≡ true → is_conditional kind ≡ true → ⊥
+no_list conditional_expression h e = absurd cc
+no_list kind h e = absurd cc
+
+three_at : (a : Forest) (p : Place) (k : Kind) → is_sound p ≡ true → is_conditional k ≡ true → IsAt k a (λ p. Stand p a) p → Three a
+three_at a (one c) k s h of = three_of a c k h of
+three_at a (maybe_one c) k s h of = three_of a c k h of
+three_at a beyond k s h at = absurd at
+three_at a (key_apart may) k s h at = absurd at
+three_at a (key_node keys true) k s h at = three_of a private_key k h at.1
+three_at a (key_node keys false) k s h at = three_of a expression k h at
+three_at a (list kind c) k s h at = absurd (no_list kind (first_of_both (is_list_kind kind) (holds_variables kind || is_calm_class c) s) (ap is_conditional (sym at.0) ∙ h))
+three_at a (list_with_holes kind c) k s h at = absurd (no_list kind (first_of_both (is_list_kind kind) (holds_variables kind || is_calm_class c) s) (ap is_conditional (sym at.0) ∙ h))
+three_at a (body c) k s h at = absurd (no_list Kind.Statements refl (ap is_conditional (sym at.0) ∙ h))
+three_at a (item_or_hole c) k s h (inl at) = let e : is_conditional hole ≡ true = ap is_conditional (sym at.0) ∙ h in absurd cc
+three_at a (item_or_hole c) k s h (inr of) = three_of a c k h of
+three_at a (item_of_body c) k s h (inl of) = three_of a a_prologue k h of
+three_at a (item_of_body c) k s h (inr at) = three_of a c k h at.1
+
+three_below : (a : Around) (x : Tree) (plan : Plan) → plan_passes is_sound plan ≡ true → is_conditional x.kind ≡ true → Stand plan (plug a (Some x)) → Three x.below
+three_below (place.first rest) x plan s h st = three_at x.below (first_place plan) x.kind (first_passes is_sound plan refl s) h st.0
+three_below (place.behind k n below a) x plan s h st = three_below a x (behind plan k) (behind_passes is_sound plan k s) h st.1
+three_below (place.behind_none a) x plan s h st = three_below a x (behind plan hole) (behind_passes is_sound plan hole s) h st.1
+three_below (place.under k n a rest) x plan s h st = let planned = planned_below (plug a (Some x)) (first_place plan) k st.0 in three_below a x planned.0 planned.1 h planned.2
+
+-- what lies below it is its condition and its branches
+pub parts_are_expressions : (a : Around) (x : Tree) → x.kind ≡ conditional_expression → Fits root (plug a (Some x)) → Stand (these (one expression ∷ one expression ∷ one expression ∷ [])) x.below
+parts_are_expressions a x is fits = three_below a x (these (one root ∷ [])) refl (ap is_conditional is) fits

@@ -1,0 +1,34 @@
+// A node that becomes a part of itself.
+ghost use Rattle.std.specs.Prelude.{◌≡◌, true, Some};
+ghost use Rattle.js_syntax.specs.Class.{root, expression};
+ghost use Rattle.js_syntax.specs.Node.{Forest, Tree};
+ghost use Rattle.json_shape.specs.Shape.{Fits};
+ghost use Rattle.scope_rules.specs.Table.{Scoping};
+ghost use Rattle.scope_laws.specs.Place.{Around, plug};
+ghost use Rattle.steps_allowed.specs.KnownConditional.{KnownConditional};
+ghost use Rattle.steps_allowed.specs.KnownIf.{KnownIf};
+ghost use Rattle.steps_fit.specs.Enclosed.{is_enclosed};
+ghost use Rattle.steps_owed.specs.Kept.{is_program, IsKept};
+ghost use Rattle.steps_owed.specs.Part.{DeclaresNothing, IsPart};
+
+/// Law: the table of a program stays exact, with shorter lists, where a part of a node stands in its place.
+pub fn parts_keep_the_table()
+    ensures { (a : Around) (x y : Tree) → IsPart x y → is_program (plug a (Some x)) ≡ true → (s : Scoping) → IsKept s (plug a (Some x)) → IsKept s (plug a (Some y)) }
+{}
+
+/// Law: an expression that fits the table of node types declares no name around it.
+pub fn expressions_declare_nothing()
+    ensures { (t : Forest) → Fits expression t → DeclaresNothing t }
+{}
+
+/// Law: the branch that a literal takes is a part of the conditional or of the `if`.
+pub fn known_branches_are_parts()
+    ensures conditional { (a : Around) (x y : Tree) → KnownConditional x y → Fits root (plug a (Some x)) → IsPart x y }
+    ensures statement { (a : Around) (x y : Tree) → KnownIf x y → is_enclosed (plug a (Some x)) ≡ true → IsPart x y }
+{}
+
+/// Law: so the table of a program stays exact where that branch stands in their place.
+pub fn known_branches_keep_the_table()
+    ensures conditional { (a : Around) (x y : Tree) → KnownConditional x y → Fits root (plug a (Some x)) → (s : Scoping) → IsKept s (plug a (Some x)) → IsKept s (plug a (Some y)) }
+    ensures statement { (a : Around) (x y : Tree) → KnownIf x y → is_enclosed (plug a (Some x)) ≡ true → is_program (plug a (Some x)) ≡ true → (s : Scoping) → IsKept s (plug a (Some x)) → IsKept s (plug a (Some y)) }
+{}
