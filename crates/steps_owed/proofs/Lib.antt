@@ -26,3 +26,7 @@ pub mod Made
 pub mod Undeclared
 pub mod KnownChoices
 pub mod PartRuns
+pub mod FitsLeaving
+pub mod FitsBecoming
+pub mod FitsTaking
+pub mod FitsEdits

@@ -5,3 +5,4 @@ pub mod Unmarked
 pub mod Seeking
 pub mod Good
 pub mod Owed
+pub mod TakesPlace
