@@ -1,5 +1,6 @@
 pub mod Swept
 pub mod Rows
 pub mod Planned
+pub mod Inside
 pub mod Emptied
 pub mod Stepped

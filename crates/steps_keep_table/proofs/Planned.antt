@@ -1,36 +1,22 @@
 -- Plans of rows: a list goes on without one of its nodes.
-use Rattle.std.proofs.Common.{◌≡◌, List, [], ◌∷◌, Bool, true, false, not, ◌&&◌, refl, subst}
+use Rattle.std.proofs.Common.{◌≡◌, List, [], ◌∷◌, Bool, true, false, not, ◌&&◌, refl}
 use Rattle.js_syntax.specs.Class.{Class}
 use Rattle.js_syntax.specs.declared.value.Key.{Key}
 use Rattle.js_syntax.specs.declared.value.Key.TheVariants.{Name as key_name, Text as key_text, Number as key_number, Below as key_below}
 use Rattle.js_syntax.specs.declared.node_kind.NodeKind.{NodeKind as Kind}
-use Rattle.js_syntax.specs.declared.node_kind.NodeKind.TheVariants.{ExpressionStatement as expression_statement}
 use Rattle.js_syntax.specs.Field.{Keys, keeps, checks, a_key, child, maybe, each, each_or_hole, a_body, Field, field}
 use Rattle.js_syntax.specs.Node.{Forest}
-use Rattle.js_syntax.specs.Table.{Row as TableRow, a_program, fields_of, stands}
+use Rattle.js_syntax.specs.Table.{Row as TableRow, fields_of, stands}
 use Rattle.js_syntax.specs.declared.node_type.NodeType.TheVariants as type
 use Rattle.steps.specs.Steps.{Row}
 use Rattle.json_shape.specs.Shape.{Values, Place, key_place, list, list_with_holes, body, item_of_body, places, Plan, these, all, all_or_holes, all_of_body, first_place, behind, after_body_item, is_directive_kind, Stand}
 use Rattle.json_shape.proofs.Fitting.{takes_directive, body_of_all}
+use Rattle.json_shape.proofs.Choice.{is_list_kind, are_lists, lists_in}
 use Rattle.json_shape.proofs.FittingNodes.{are_bodies, bodies_in}
 use Rattle.steps_keep_table.proofs.Rows.{drops}
 use Rattle.js_syntax.proofs.Truth.{first_of_both, second_of_both, not_true, both}
 
--- ---- plans whose bodies have statements behind the directives, and whose lists are no statements
-
-abbrev pub is_statement : Kind → Bool
-is_statement expression_statement = true
-is_statement k = false
-
-abbrev are_lists : List Field → Bool
-are_lists [] = true
-are_lists (field name (each kind c) ∷ fs) = not (is_statement kind) && are_lists fs
-are_lists (field name (each_or_hole kind c) ∷ fs) = not (is_statement kind) && are_lists fs
-are_lists (f ∷ fs) = are_lists fs
-
-pub lists_in : (r : TableRow) → are_lists (fields_of r) ≡ true
-lists_in a_program = refl
-lists_in r = refl
+-- ---- plans whose bodies have statements behind the directives, and whose lists are lists
 
 abbrev pub is_body : Class → Bool
 is_body c = not (takes_directive (stands c type.ExpressionStatement))
@@ -38,8 +24,8 @@ is_body c = not (takes_directive (stands c type.ExpressionStatement))
 abbrev pub place_ok : Place → Bool
 place_ok (body c) = is_body c
 place_ok (item_of_body c) = is_body c
-place_ok (list kind c) = not (is_statement kind)
-place_ok (list_with_holes kind c) = not (is_statement kind)
+place_ok (list kind c) = is_list_kind kind
+place_ok (list_with_holes kind c) = is_list_kind kind
 place_ok p = true
 
 abbrev pub places_ok : List Place → Bool
@@ -114,9 +100,13 @@ behind_list (all_of_body c) k h = after_list c (is_directive_kind k)
 pub behind_suits : (row : Row) (plan : Plan) (k : Kind) → Suits row plan → Suits row (behind plan k)
 behind_suits row plan k suits = λ d. behind_list plan k (suits d)
 
--- a node of a list goes that is no directive: what stands behind it stands in its place
-pub gone : (plan : Plan) (k : Kind) (t : Forest) → plan_ok plan ≡ true → of_list plan ≡ true → is_directive_kind k ≡ false → Stand (behind plan k) t → Stand plan t
-gone (these ps) k t ok is other h = absurd cc
-gone (all c) k t ok is other h = h
-gone (all_or_holes c) k t ok is other h = h
-gone (all_of_body c) k t ok is other h = body_of_all c t (not_true _ ok) (subst (λ (d : Bool). Stand (after_body_item c d) t) other h)
+-- a node of a list goes: what stands behind it stands in its place
+body_without : (c : Class) (b : Bool) (t : Forest) → is_body c ≡ true → Stand (after_body_item c b) t → Stand (all_of_body c) t
+body_without c true t ok h = h
+body_without c false t ok h = body_of_all c t (not_true _ ok) h
+
+pub gone : (plan : Plan) (k : Kind) (t : Forest) → plan_ok plan ≡ true → of_list plan ≡ true → Stand (behind plan k) t → Stand plan t
+gone (these ps) k t ok is h = absurd cc
+gone (all c) k t ok is h = h
+gone (all_or_holes c) k t ok is h = h
+gone (all_of_body c) k t ok is h = body_without c (is_directive_kind k) t ok h

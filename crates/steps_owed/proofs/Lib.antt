@@ -34,3 +34,7 @@ pub mod PartCounts
 pub mod Outward
 pub mod Expressions
 pub mod Branches
+pub mod FitsLeaving
+pub mod FitsBecoming
+pub mod FitsTaking
+pub mod FitsEdits

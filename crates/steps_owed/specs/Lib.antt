@@ -6,3 +6,4 @@ pub mod Seeking
 pub mod Good
 pub mod Owed
 pub mod Part
+pub mod TakesPlace
