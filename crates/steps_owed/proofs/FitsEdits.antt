@@ -3,24 +3,15 @@ use Rattle.std.proofs.Common.{◌≡◌, [], ◌∷◌, subst}
 use Rattle.js_syntax.specs.Class.{root}
 use Rattle.js_syntax.specs.Node.{Forest, Tree, bare}
 use Rattle.scope_laws.specs.Place.{Around}
-use Rattle.steps_allowed.specs.Edits.{Becomes, silent_statement, known_conditional, known_if, Edit, leaves, becomes, TreeEdits, no_tree_edit, one_tree_edit, Edits, no_edit, one_edit}
+use Rattle.steps_allowed.specs.Edits.{Edit, leaves, becomes, TreeEdits, no_tree_edit, one_tree_edit, Edits, no_edit, one_edit}
 use Rattle.json_shape.specs.Shape.{one, these, Stand, Fits}
 use Rattle.json_shape.proofs.Standing.{bare_stands, stands_bare}
-use Rattle.steps_owed.specs.TakesPlace.{TakesPlace}
-use Rattle.steps_owed.proofs.Owed.{leaving}
+use Rattle.steps_owed.proofs.Owed.{leaving, becoming}
 use Rattle.steps_owed.proofs.FitsLeaving.{leaving_fits}
-use Rattle.steps_owed.proofs.FitsBecoming.{becoming_fits}
-use Rattle.steps_owed.proofs.FitsTaking.{empty_takes, conditional_takes, if_takes}
-
--- what becomes another may stand where it stood
-pub takes_place : (a : Around) (x y : Tree) → Becomes a x y → TakesPlace x y
-takes_place a x y (silent_statement empties) = empty_takes a x y empties
-takes_place a x y (known_conditional known) = conditional_takes x y known
-takes_place a x y (known_if known) = if_takes x y known
 
 pub edit_fits : (t u : Forest) → Edit t u → Fits root t → Fits root u
 edit_fits t u (leaves a x out) fits = leaving_fits a x (leaving a x out).listed fits
-edit_fits t u (becomes a x y into) fits = becoming_fits a x y (takes_place a x y into) fits
+edit_fits t u (becomes a x y into) fits = (becoming a x y into).fits fits
 
 pub tree_edits_fit : (t u : Forest) → TreeEdits t u → Fits root t → Fits root u
 tree_edits_fit t u (no_tree_edit v) fits = fits

@@ -47,10 +47,10 @@ takes_statements c t r takes stood = absurd cc
 
 -- so a node of the class that the parts have is of each class that takes the whole
 module _ (k : Kind) (below : Forest) where
-  as_conditional : (c : Class) → stands c type.ConditionalExpression ≡ Some a_conditional_expression → IsOf k below (λ p. Stand p below) expression → IsOf k below (λ p. Stand p below) c
+  pub as_conditional : (c : Class) → stands c type.ConditionalExpression ≡ Some a_conditional_expression → IsOf k below (λ p. Stand p below) expression → IsOf k below (λ p. Stand p below) c
   as_conditional c takes of = (of.0, of.1, takes_expressions c (type_of of.0) (first_of of.0) takes of.2, of.3, of.4, of.5)
 
-  as_if : (c : Class) → stands c type.IfStatement ≡ Some an_if_statement → IsOf k below (λ p. Stand p below) statement → IsOf k below (λ p. Stand p below) c
+  pub as_if : (c : Class) → stands c type.IfStatement ≡ Some an_if_statement → IsOf k below (λ p. Stand p below) statement → IsOf k below (λ p. Stand p below) c
   as_if c takes of = (of.0, of.1, takes_statements c (type_of of.0) (first_of of.0) takes of.2, of.3, of.4, of.5)
 
 -- ---- conditionals and `if` are of one row of the table
@@ -85,78 +85,16 @@ if_parts private r vs parts is stand = absurd cc
 
 -- a conditional, or an `if`, that fits stands where its class may, and its parts stand
 module _ (c : Class) (n : Note) (below : Forest) where
-  conditional_stood : Fits c (alone conditional_expression n below) → stands c type.ConditionalExpression ≡ Some a_conditional_expression
+  pub conditional_stood : Fits c (alone conditional_expression n below) → stands c type.ConditionalExpression ≡ Some a_conditional_expression
   conditional_stood fits = conditional_class c fits.0.0 fits.0.1 (ap is_conditional (sym fits.0.4)) fits.0.2
 
-  conditional_below : Fits c (alone conditional_expression n below) → Stand (these (one expression ∷ one expression ∷ one expression ∷ [])) below
+  pub conditional_below : Fits c (alone conditional_expression n below) → Stand (these (one expression ∷ one expression ∷ one expression ∷ [])) below
   conditional_below fits = conditional_parts (has is_private below) fits.0.0 fits.0.1 below (ap is_conditional (sym fits.0.4)) fits.0.5
 
-  if_stood : Fits c (alone if_statement n below) → stands c type.IfStatement ≡ Some an_if_statement
+  pub if_stood : Fits c (alone if_statement n below) → stands c type.IfStatement ≡ Some an_if_statement
   if_stood fits = if_class c fits.0.0 fits.0.1 (ap is_if (sym fits.0.4)) fits.0.2
 
-  if_below : Fits c (alone if_statement n below) → Stand (these (one expression ∷ one statement ∷ maybe_one statement ∷ [])) below
+  pub if_below : Fits c (alone if_statement n below) → Stand (these (one expression ∷ one statement ∷ maybe_one statement ∷ [])) below
   if_below fits = if_parts (has is_private below) fits.0.0 fits.0.1 below (ap is_if (sym fits.0.4)) fits.0.5
 
--- ---- the two choices
-
-blunt_told : (k : Kind) → is_blunt k ≡ true → is_told_by_class k ≡ true
-blunt_told (Kind.Literal v) blunt = refl
-blunt_told Kind.ThisExpression blunt = refl
-blunt_told Kind.ArrayExpression blunt = refl
-blunt_told Kind.ObjectExpression blunt = refl
-blunt_told Kind.SequenceExpression blunt = refl
-blunt_told (Kind.UnaryExpression o) blunt = refl
-blunt_told (Kind.UpdateExpression o prefix) blunt = refl
-blunt_told (Kind.BinaryExpression o) blunt = refl
-blunt_told (Kind.LogicalExpression o) blunt = refl
-blunt_told (Kind.AssignmentExpression o) blunt = refl
-blunt_told Kind.ConditionalExpression blunt = refl
-blunt_told (Kind.CallExpression optional pure) blunt = refl
-blunt_told (Kind.NewExpression pure) blunt = refl
-blunt_told k blunt = absurd cc
-
-branch_told : (k : Kind) → is_branch k ≡ true → is_told_by_class k ≡ true
-branch_told Kind.EmptyStatement branch = refl
-branch_told Kind.ExpressionStatement branch = refl
-branch_told Kind.BlockStatement branch = refl
-branch_told Kind.IfStatement branch = refl
-branch_told (Kind.BreakStatement label) branch = refl
-branch_told (Kind.ContinueStatement label) branch = refl
-branch_told Kind.ReturnStatement branch = refl
-branch_told Kind.ThrowStatement branch = refl
-branch_told Kind.SwitchStatement branch = refl
-branch_told Kind.TryStatement branch = refl
-branch_told k branch = absurd cc
-
-pub conditional_takes : (x y : Tree) → KnownConditional x y → TakesPlace x y
-conditional_takes x y (consequent_is_taken v n m i j k l b c truth blunt) = record {
-  classes = λ (to : Class) fits. (as_conditional k b to (conditional_stood to n x.below fits) (conditional_below to n x.below fits).1.0, tt);
-  old_told = refl;
-  new_told = blunt_told k blunt;
-}
-conditional_takes x y (alternate_is_taken v n m i j k l b c truth blunt) = record {
-  classes = λ (to : Class) fits. (as_conditional l c to (conditional_stood to n x.below fits) (conditional_below to n x.below fits).1.1.0, tt);
-  old_told = refl;
-  new_told = blunt_told l blunt;
-}
-
-pub if_takes : (x y : Tree) → KnownIf x y → TakesPlace x y
-if_takes x y (consequent_is_run v n m i k b alternate truth branch field none) = record {
-  classes = λ (to : Class) fits. (as_if k b to (if_stood to n x.below fits) (if_below to n x.below fits).1.0, tt);
-  old_told = refl;
-  new_told = branch_told k branch;
-}
-if_takes x y (alternate_is_run v n m i j k l b c truth branch none) = record {
-  classes = λ (to : Class) fits. (as_if l c to (if_stood to n x.below fits) (if_below to n x.below fits).1.1.0, tt);
-  old_told = refl;
-  new_told = branch_told l branch;
-}
-
 -- ---- an empty statement
-
-pub empty_takes : (a : Around) (x y : Tree) → SilentStatementEmpties a x y → TakesPlace x y
-empty_takes a x y (silent_statement_empties n m l k inner idle) = record {
-  classes = λ (to : Class) fits. (empty_of (alone k l inner) to fits.0, tt);
-  old_told = refl;
-  new_told = refl;
-}

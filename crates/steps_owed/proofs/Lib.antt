@@ -24,7 +24,6 @@ pub mod PartForm
 pub mod ExportsStay
 pub mod Made
 pub mod Undeclared
-pub mod KnownChoices
 pub mod PartRuns
 pub mod Calling
 pub mod Changing
@@ -33,8 +32,13 @@ pub mod Pruning
 pub mod PartCounts
 pub mod Outward
 pub mod Expressions
-pub mod Branches
 pub mod FitsLeaving
 pub mod FitsBecoming
 pub mod FitsTaking
 pub mod FitsEdits
+pub mod ChoiceRuns
+pub mod BranchKinds
+pub mod ByPart
+pub mod SilentStatement
+pub mod KnownConditional
+pub mod KnownIf

@@ -10,6 +10,8 @@ use Rattle.js_syntax.specs.declared.kind.ClassKind.{ClassKind}
 use Rattle.js_syntax.specs.declared.kind.ClassKind.TheVariants as class_kind
 use Rattle.js_syntax.specs.declared.kind.VariableKind.{VariableKind}
 use Rattle.js_syntax.specs.declared.kind.VariableKind.TheVariants as variable
+use Rattle.js_syntax.specs.declared.node_kind.NodeKind.TheVariants as kind
+use Rattle.js_syntax.specs.declared.value.LiteralValue.{LiteralValue}
 use Rattle.js_syntax.specs.Node.{Forest, Note, nothing, node, absent}
 use Rattle.js_syntax.proofs.Truth.{first_of_both, second_of_both}
 use Rattle.scope_rules.specs.Context.{has_second}
@@ -182,3 +184,7 @@ declares_nothing (node k n below rest) h e aims at =
     (node_declares (aims at) k n below (first_of_both (declares_none_at k (declares_none below)) (declares_none rest) h) (first_of_both (is_enclosed_at k below) (is_enclosed below && is_enclosed rest) e)
     (λ g f. declares_nothing below g (first_of_both (is_enclosed below) (is_enclosed rest) e_below) f 0))
     (declares_nothing rest (second_of_both (declares_none_at k (declares_none below)) (declares_none rest) h) (second_of_both (is_enclosed below) (is_enclosed rest) e_below) aims (suc at))
+
+-- a literal declares nothing, and what stands behind it may not either
+pub behind_literal : (v : LiteralValue) (m : Note) (t : Forest) → DeclaresNothing t → DeclaresNothing (node (kind.Literal v) m nothing t)
+behind_literal v m t h aims at = h aims (suc at)

@@ -82,7 +82,7 @@ none_below s (class class_kind.Declaration) a p f h = absurd cc
 none_below s (class class_kind.Expression) a p f h = ap (λ z. declared z p a) (class_seeks s) ∙ none_declared p a
 none_below s k a p f h = f (sought_below s k) p h
 
-nothing_declared : (s : Sought) (p : ℕ) (t : Forest) → declares_none t ≡ true → declared s p t ≡ []
+pub nothing_declared : (s : Sought) (p : ℕ) (t : Forest) → declares_none t ≡ true → declared s p t ≡ []
 nothing_declared s p nothing h = refl
 nothing_declared s p (absent r) h = nothing_declared s p r h
 nothing_declared s p (node k n a r) h =
@@ -94,35 +94,6 @@ nothing_declared s p (node k n a r) h =
 
 -- ---- branches
 
-blunt_unasked : (k : Kind) → is_blunt k ≡ true → (is_asked_for k ≡ false) × (is_statement k ≡ false)
-blunt_unasked (literal v) h = (refl, refl)
-blunt_unasked this_expression h = (refl, refl)
-blunt_unasked array_expression h = (refl, refl)
-blunt_unasked object_expression h = (refl, refl)
-blunt_unasked sequence_expression h = (refl, refl)
-blunt_unasked (unary_expression operator) h = (refl, refl)
-blunt_unasked (update_expression operator prefix) h = (refl, refl)
-blunt_unasked (binary_expression operator) h = (refl, refl)
-blunt_unasked (logical_expression operator) h = (refl, refl)
-blunt_unasked (assignment_expression operator) h = (refl, refl)
-blunt_unasked conditional_expression h = (refl, refl)
-blunt_unasked (call_expression optional pure) h = (refl, refl)
-blunt_unasked (new_expression pure) h = (refl, refl)
-blunt_unasked k h = absurd cc
-
-branch_unasked : (k : Kind) → is_branch k ≡ true → (is_asked_for k ≡ false) × (is_statement k ≡ true)
-branch_unasked empty_statement h = (refl, refl)
-branch_unasked expression_statement h = (refl, refl)
-branch_unasked block_statement h = (refl, refl)
-branch_unasked if_statement h = (refl, refl)
-branch_unasked (break_statement label) h = (refl, refl)
-branch_unasked (continue_statement label) h = (refl, refl)
-branch_unasked return_statement h = (refl, refl)
-branch_unasked throw_statement h = (refl, refl)
-branch_unasked switch_statement h = (refl, refl)
-branch_unasked try_statement h = (refl, refl)
-branch_unasked k h = absurd cc
-
 conditional_seeks : (s : Sought) → sought_below s conditional_expression ≡ none
 conditional_seeks none = refl
 conditional_seeks (names f) = refl
@@ -132,67 +103,11 @@ conditional_seeks variables = refl
 conditional_seeks function_scope = refl
 conditional_seeks (catch_scope f) = refl
 
-none_of_conditional : (t : Forest) (s : Sought) (p : ℕ) → declared (sought_below s conditional_expression) p t ≡ []
+pub none_of_conditional : (t : Forest) (s : Sought) (p : ℕ) → declared (sought_below s conditional_expression) p t ≡ []
 none_of_conditional t s p = ap (λ z. declared z p t) (conditional_seeks s) ∙ none_declared p t
 
 abbrev pub Stands : (x y : Tree) → Type 0
 Stands x y = StandsFor x.kind x.below y.kind y.below
-
-pub conditional_stands : (x y : Tree) → KnownConditional x y → Stands x y
-conditional_stands x y (consequent_is_taken v n m i j k l b c taken blunt) =
-    let unasked = blunt_unasked k blunt in
-    record {
-      before = node (literal v) m nothing nothing;
-      after = node l j c nothing;
-      note = i;
-      is_part = refl;
-      gives = refl;
-      unasked = unasked.0;
-      alike = unasked.1;
-      none_before = none_of_conditional (node (literal v) m nothing nothing);
-      none_after = none_of_conditional (node l j c nothing);
-    }
-conditional_stands x y (alternate_is_taken v n m i j k l b c taken blunt) =
-    let unasked = blunt_unasked l blunt in
-    record {
-      before = node (literal v) m nothing (node k i b nothing);
-      after = nothing;
-      note = j;
-      is_part = refl;
-      gives = refl;
-      unasked = unasked.0;
-      alike = unasked.1;
-      none_before = none_of_conditional (node (literal v) m nothing (node k i b nothing));
-      none_after = λ s p. refl;
-    }
-
-pub if_stands : (x y : Tree) → KnownIf x y → Stands x y
-if_stands x y (consequent_is_run v n m i k b alternate taken branch one silent) =
-    let unasked = branch_unasked k branch in
-    record {
-      before = node (literal v) m nothing nothing;
-      after = alternate;
-      note = i;
-      is_part = refl;
-      gives = refl;
-      unasked = unasked.0;
-      alike = unasked.1;
-      none_before = λ s p. nothing_declared (sought_below s if_statement) p (node (literal v) m nothing nothing) refl;
-      none_after = λ s p. nothing_declared (sought_below s if_statement) p alternate silent;
-    }
-if_stands x y (alternate_is_run v n m i j k l b c taken branch silent) =
-    let unasked = branch_unasked l branch in
-    record {
-      before = node (literal v) m nothing (node k i b nothing);
-      after = nothing;
-      note = j;
-      is_part = refl;
-      gives = refl;
-      unasked = unasked.0;
-      alike = unasked.1;
-      none_before = λ s p. nothing_declared (sought_below s if_statement) p (node (literal v) m nothing (node k i b nothing)) silent;
-      none_after = λ s p. refl;
-    }
 
 -- ---- wherever the node stands
 

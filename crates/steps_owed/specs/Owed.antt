@@ -29,6 +29,9 @@ use Rattle.steps_allowed.specs.Changing.{may_change_at}
 use Rattle.steps_owed.specs.Comes.{Comes}
 use Rattle.steps_owed.specs.Good.{Good}
 use Rattle.steps_owed.specs.Kept.{IsKept}
+use Rattle.steps_keep_form.specs.Part.{StandsFor}
+use Rattle.steps_owed.specs.Part.{IsPart}
+use Rattle.steps_owed.specs.TakesPlace.{TakesPlace}
 use Rattle.steps_owed.specs.Seeking.{Within, Seeks}
 use Rattle.steps_owed.specs.Unseen.{IsUnseen}
 
@@ -89,3 +92,16 @@ pub record Becoming (a : Around) (x y : Tree) : Type 0 where
   pub sheds : Fits root (plug a (Some x)) → Sheds shed.outermost (plug a (Some x)) (plug a (Some y))
   pub kept : Fits root (plug a (Some x)) → (s : Scoping) → IsKept s (plug a (Some x)) → IsKept s (plug a (Some y))
   pub runs : SameRuns a x y
+
+-- A node that becomes a part of it.
+pub record ByPart (a : Around) (x y : Tree) : Type 0 where
+  pub weighs : 1 ≤ weight x.kind
+  pub no_call : IsOther x
+  pub may_change : MayChange a x
+  -- the part may stand where the whole stood, by the table of node types and by the rules of form
+  pub takes : TakesPlace x y
+  pub stands : StandsFor x.kind x.below y.kind y.below
+  -- what is left out declares nothing around it
+  pub part : Fits root (plug a (Some x)) → IsPart x y
+  -- the whole comes to what the part does
+  pub coming : (n m : Note) (b : Forest) → plug a (Some x) ≡ module_of n m b → Fits root (module_of n m b) → IsWellFormed (module_of n m b) → all_core (module_of n m b) ≡ true → Comes x y

@@ -20,15 +20,3 @@ pub fn parts_keep_the_table()
 pub fn expressions_declare_nothing()
     ensures { (t : Forest) → Fits expression t → DeclaresNothing t }
 {}
-
-/// Law: the branch that a literal takes is a part of the conditional or of the `if`.
-pub fn known_branches_are_parts()
-    ensures conditional { (a : Around) (x y : Tree) → KnownConditional x y → Fits root (plug a (Some x)) → IsPart x y }
-    ensures statement { (a : Around) (x y : Tree) → KnownIf x y → is_enclosed (plug a (Some x)) ≡ true → IsPart x y }
-{}
-
-/// Law: so the table of a program stays exact where that branch stands in their place.
-pub fn known_branches_keep_the_table()
-    ensures conditional { (a : Around) (x y : Tree) → KnownConditional x y → Fits root (plug a (Some x)) → (s : Scoping) → IsKept s (plug a (Some x)) → IsKept s (plug a (Some y)) }
-    ensures statement { (a : Around) (x y : Tree) → KnownIf x y → is_enclosed (plug a (Some x)) ≡ true → is_program (plug a (Some x)) ≡ true → (s : Scoping) → IsKept s (plug a (Some x)) → IsKept s (plug a (Some y)) }
-{}

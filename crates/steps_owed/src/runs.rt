@@ -12,16 +12,6 @@ ghost use Rattle.steps_allowed.specs.KnownConditional.{KnownConditional};
 ghost use Rattle.steps_allowed.specs.KnownIf.{KnownIf};
 ghost use Rattle.steps_owed.specs.Comes.{Comes};
 
-/// Law: where a conditional or an `if` on a literal becomes the branch that is taken, the new module refines the old one.
-pub fn known_choices_refine()
-    ensures conditional { (n m : Note) (b : Forest) (a : Around) (x y : Tree) → KnownConditional x y → plug a (Some x) ≡ module_of n m b
-        → Fits root (module_of n m b) → IsWellFormed (module_of n m b) → all_core (module_of n m b) ≡ true
-        → Fits root (plug a (Some y)) → IsWellFormed (plug a (Some y)) → Refined (module_of n m b) (plug a (Some y)) }
-    ensures statement { (n m : Note) (b : Forest) (a : Around) (x y : Tree) → KnownIf x y → plug a (Some x) ≡ module_of n m b
-        → Fits root (module_of n m b) → IsWellFormed (module_of n m b) → all_core (module_of n m b) ≡ true
-        → Fits root (plug a (Some y)) → IsWellFormed (plug a (Some y)) → Refined (module_of n m b) (plug a (Some y)) }
-{}
-
 /// Law: where a node of a core module becomes a part that it comes to, the new module refines the old one, and is core.
 pub fn parts_refine()
     ensures refined { (n m : Note) (b : Forest) (a : Around) (x y : Tree) → Comes x y → plug a (Some x) ≡ module_of n m b

@@ -1,0 +1,37 @@
+-- What a node owes that becomes a part of it, it owes as one that becomes another.
+use Rattle.std.proofs.Common.{◌≡◌, ◌∙◌, ◌≤◌, ◌<◌, ◌+◌, ℕ, Some, true, arith, refl, sym, ap, subst}
+use Rattle.js_syntax.specs.declared.node_kind.NodeKind.{NodeKind as Kind}
+use Rattle.js_syntax.specs.Class.{root}
+use Rattle.js_syntax.specs.Node.{Forest, Tree, Note, nothing, node, absent, joined, total, forest_of}
+use Rattle.json_shape.specs.Shape.{Fits}
+use Rattle.scope_laws.specs.Place.{Around, plug}
+use Rattle.steps_fit.proofs.Enclosing.{fits_enclosed}
+use Rattle.steps_owed.specs.Owed.{weight, ByPart, Becoming, by_coming}
+use Rattle.steps_owed.proofs.FitsBecoming.{becoming_fits}
+use Rattle.steps_fit.proofs.Modules.{fits_program}
+use Rattle.steps_owed.proofs.PartForm.{part_sheds}
+use Rattle.steps_owed.proofs.PartCounts.{parts_kept}
+
+-- a part weighs no more than what it is a part of
+total_joined : (w : Kind → ℕ) (t u : Forest) → total w (joined t u) ≡ total w t + total w u
+total_joined w nothing u = refl
+total_joined w (absent r) u = total_joined w r u
+total_joined w (node k n b r) u =
+    let later = total_joined w r u in
+    Prim.omega (arith, later)
+
+lighter : (k l : Kind) (n m i : Note) (below b before after : Forest) → 1 ≤ weight k → below ≡ joined before (node l i b after) → total weight (node l m b nothing) < total weight (node k n below nothing)
+lighter k l n m i below b before after weighs is =
+    let whole = ap (total weight) is ∙ total_joined weight before (node l i b after) in
+    Prim.omega (arith, weighs, whole)
+
+pub by_part : (a : Around) (x y : Tree) → ByPart a x y → Becoming a x y
+by_part a x y owed = record {
+  lighter = lighter x.kind y.kind x.note y.note owed.stands.note x.below y.below owed.stands.before owed.stands.after owed.weighs owed.stands.is_part;
+  no_call = owed.no_call;
+  may_change = owed.may_change;
+  fits = becoming_fits a x y owed.takes;
+  sheds = part_sheds a x y owed.stands;
+  kept = λ fits s kept. parts_kept a x y (owed.part fits) (fits_program (plug a (Some x)) fits) s kept;
+  runs = by_coming owed.coming;
+}

@@ -1,0 +1,148 @@
+-- What an `if` on a literal owes, which becomes the branch that is taken.
+use Rattle.std.proofs.Common.{◌≡◌, ◌&&◌, [], ◌∷◌, true, false, Some, arith, refl, sym, ap, subst}
+use Rattle.js_syntax.specs.Class.{Class, root}
+use Rattle.js_syntax.specs.declared.node_kind.NodeKind.{NodeKind as Kind}
+use Rattle.js_syntax.specs.declared.node_kind.NodeKind.TheVariants.{Literal as literal, IfStatement as if_statement}
+use Rattle.js_syntax.specs.Node.{Note, Forest, Tree, nothing, node}
+use Rattle.js_meaning.specs.Scope.{import_decls}
+use Rattle.js_meaning.specs.Value.{Text}
+use Rattle.js_meaning_near.specs.Near.{is_calm, module_of}
+use Rattle.js_meaning_near.proofs.Branches.{if_holds, if_fails}
+use Rattle.json_shape.specs.Shape.{Fits}
+use Rattle.form_rules.specs.Form.{IsWellFormed}
+use Rattle.form_rules.specs.Scope.{sought_below}
+use Rattle.scope_counts.proofs.Leaving.{if_is_plain}
+use Rattle.scope_laws.specs.Place.{Around, plug}
+use Rattle.steps.specs.Steps.{all_core}
+use Rattle.steps_allowed.specs.KnownIf.{an_if, KnownIf, consequent_is_run, alternate_is_run}
+use Rattle.js_syntax.proofs.Truth.{both}
+use Rattle.steps_fit.specs.Enclosed.{is_enclosed_at, is_enclosed}
+use Rattle.steps_fit.proofs.Enclosing.{fits_enclosed}
+use Rattle.steps_owed.specs.Comes.{Comes}
+use Rattle.steps_owed.specs.Owed.{ByPart}
+use Rattle.steps_owed.specs.Part.{IsPart}
+use Rattle.steps_owed.specs.TakesPlace.{TakesPlace}
+use Rattle.steps_owed.proofs.BranchKinds.{branch_told, branch_calm, branch_unasked}
+use Rattle.steps_owed.proofs.ChoiceRuns.{consequent_core, alternate_core, imports_before, imports_behind, no_imports_below}
+use Rattle.steps_owed.proofs.FitsTaking.{as_if, if_stood, if_below}
+use Rattle.steps_owed.proofs.Inside.{enclosed_here, enclosed_below, enclosed_rest}
+use Rattle.steps_owed.proofs.Outward.{behind_literal, declares_nothing}
+use Rattle.steps_owed.proofs.PartForm.{Stands, nothing_declared}
+use Rattle.steps_owed.proofs.Undeclared.{no_names, DeclaresNothing, alone_plainly, last_plainly}
+use Rattle.steps_owed.proofs.Unseen.{enclosed_there}
+
+-- by the table of node types, and by the rules of form
+if_takes : (x y : Tree) → KnownIf x y → TakesPlace x y
+if_takes x y (consequent_is_run v n m i k b alternate truth branch field none) = record {
+  classes = λ (to : Class) fits. (as_if k b to (if_stood to n x.below fits) (if_below to n x.below fits).1.0, tt);
+  old_told = refl;
+  new_told = branch_told k branch;
+}
+if_takes x y (alternate_is_run v n m i j k l b c truth branch none) = record {
+  classes = λ (to : Class) fits. (as_if l c to (if_stood to n x.below fits) (if_below to n x.below fits).1.1.0, tt);
+  old_told = refl;
+  new_told = branch_told l branch;
+}
+
+if_stands : (x y : Tree) → KnownIf x y → Stands x y
+if_stands x y (consequent_is_run v n m i k b alternate taken branch one silent) =
+    let unasked = branch_unasked k branch in
+    record {
+      before = node (literal v) m nothing nothing;
+      after = alternate;
+      note = i;
+      is_part = refl;
+      gives = refl;
+      unasked = unasked.0;
+      alike = unasked.1;
+      none_before = λ s p. nothing_declared (sought_below s if_statement) p (node (literal v) m nothing nothing) refl;
+      none_after = λ s p. nothing_declared (sought_below s if_statement) p alternate silent;
+    }
+if_stands x y (alternate_is_run v n m i j k l b c taken branch silent) =
+    let unasked = branch_unasked l branch in
+    record {
+      before = node (literal v) m nothing (node k i b nothing);
+      after = nothing;
+      note = j;
+      is_part = refl;
+      gives = refl;
+      unasked = unasked.0;
+      alike = unasked.1;
+      none_before = λ s p. nothing_declared (sought_below s if_statement) p (node (literal v) m nothing (node k i b nothing)) silent;
+      none_after = λ s p. refl;
+    }
+
+-- by its table of names
+enclosed_alone : (k : Kind) (n : Note) (b r : Forest) → is_enclosed (node k n b r) ≡ true → is_enclosed (node k n b nothing) ≡ true
+enclosed_alone k n b r e = both (is_enclosed_at k b) (is_enclosed b && true) (enclosed_here k n b r e) (both (is_enclosed b) true (enclosed_below k n b r e) refl)
+
+if_is_part : (a : Around) (x y : Tree) → KnownIf x y → is_enclosed (plug a (Some x)) ≡ true → IsPart x y
+if_is_part a x y (consequent_is_run v n m i k b alternate truth branch field none) e =
+    let branches = enclosed_rest (literal v) m nothing (node k i b alternate) (enclosed_there a if_statement n x.below e).1 in
+    record {
+      before = node (literal v) m nothing nothing;
+      after = alternate;
+      stands = refl;
+      plain = if_is_plain;
+      before_declares = behind_literal v m nothing (λ aims at. refl);
+      after_declares = declares_nothing alternate none (enclosed_rest k i b alternate branches);
+    }
+if_is_part a x y (alternate_is_run v n m i j k l b c truth branch none) e =
+    let branches = enclosed_rest (literal v) m nothing (node k i b (node l j c nothing)) (enclosed_there a if_statement n x.below e).1 in
+    record {
+      before = node (literal v) m nothing (node k i b nothing);
+      after = nothing;
+      stands = refl;
+      plain = if_is_plain;
+      before_declares = behind_literal v m (node k i b nothing) (declares_nothing (node k i b nothing) none (enclosed_alone k i b (node l j c nothing) branches));
+      after_declares = λ aims at. refl;
+    }
+
+-- by its runs
+if_comes : (x y : Tree) → KnownIf x y → ((source : Text) → import_decls source x.below ≡ []) → Comes x y
+if_comes _ _ (consequent_is_run v n m i k b alternate truth branch field none) h =
+    let calm = branch_calm k branch in
+    let gone : DeclaresNothing alternate = record { bound = no_names alternate none; imports = λ source. imports_behind source k i b alternate (h source) } in
+    let plain = alone_plainly k i b alternate calm gone in
+    record {
+      comes = λ st. if_holds st v m i k b alternate truth calm field;
+      old_calm = refl;
+      new_calm = calm;
+      plainly = record { bound = plain.bound; vars = plain.vars; imports = plain.imports };
+      core = consequent_core Kind.IfStatement k n m i (Kind.Literal v) b alternate;
+    }
+if_comes _ _ (alternate_is_run v n m i j k l b c truth branch none) h =
+    let calm = branch_calm l branch in
+    let gone : DeclaresNothing (node k i b nothing) = record { bound = no_names (node k i b nothing) none; imports = λ source. imports_before source k i b (node l j c nothing) (h source) } in
+    let plain = last_plainly k i b (node l j c nothing) c gone (alone_plainly l j c nothing calm (record { bound = refl; imports = λ source. refl })) in
+    record {
+      comes = λ st. if_fails st v m i j k l b c truth calm;
+      old_calm = refl;
+      new_calm = calm;
+      plainly = record { bound = plain.bound; vars = plain.vars; imports = plain.imports };
+      core = alternate_core Kind.IfStatement k l n m i j (Kind.Literal v) b c;
+    }
+
+pub known_if_owes : (a : Around) (x y : Tree) → KnownIf x y → ByPart a x y
+known_if_owes a x y (consequent_is_run v n m i k b alternate truth branch field none) =
+    let known = consequent_is_run v n m i k b alternate truth branch field none in
+    record {
+      weighs = Prim.omega arith;
+      no_call = record { counts = refl; lists = λ m. refl; begins = λ m. refl; calls = refl };
+      may_change = refl;
+      takes = if_takes x y known;
+      stands = if_stands x y known;
+      part = λ fits. if_is_part a x y known (fits_enclosed (plug a (Some x)) fits);
+      coming = λ o p r is fits form core. if_comes x y known (no_imports_below o p r a x y is fits form core if_statement refl refl (λ p i. refl));
+    }
+known_if_owes a x y (alternate_is_run v n m i j k l b c truth branch none) =
+    let known = alternate_is_run v n m i j k l b c truth branch none in
+    record {
+      weighs = Prim.omega arith;
+      no_call = record { counts = refl; lists = λ m. refl; begins = λ m. refl; calls = refl };
+      may_change = refl;
+      takes = if_takes x y known;
+      stands = if_stands x y known;
+      part = λ fits. if_is_part a x y known (fits_enclosed (plug a (Some x)) fits);
+      coming = λ o p r is fits form core. if_comes x y known (no_imports_below o p r a x y is fits form core if_statement refl refl (λ p i. refl));
+    }
