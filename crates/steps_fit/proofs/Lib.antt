@@ -21,3 +21,8 @@ pub mod Arranged
 pub mod Shut
 pub mod Sets
 pub mod Enclosing
+pub mod Catches
+pub mod Plain
+pub mod Modules
+pub mod Notes
+pub mod Sensible

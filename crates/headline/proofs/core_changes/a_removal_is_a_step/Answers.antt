@@ -1,4 +1,4 @@
-use Rattle.headline.proofs.Here.{placed_values}
+use Rattle.steps_fit.proofs.Sensible.{placed_values}
 use Rattle.headline.proofs.Steps.{removal_steps}
 use Rattle.headline.proofs.core_changes.a_removal_is_a_step.Goals as goal
 

@@ -14,7 +14,7 @@ use Rattle.json_shape.proofs.Choice.{is_list_kind}
 use Rattle.steps_fit.proofs.CoreRows.{fields_pass, places_pass, places_so}
 use Rattle.steps_fit.proofs.Held.{core_below, core_behind}
 use Rattle.steps_fit.proofs.CoreCalm.{nameless_as_planned}
-use Rattle.headline.specs.Plain.{is_plain_statement, has_plain_statements}
+use Rattle.steps_fit.specs.Plain.{is_plain_statement, has_plain_statements}
 use Rattle.js_syntax.proofs.Truth.{first_of_both, second_of_both, both}
 
 -- ---- lists are of the kinds of lists
