@@ -18,9 +18,7 @@ use Rattle.headline.proofs.Refining.{removals_refine}
 use Rattle.headline.proofs.Passes.{numbered_same, shaken_comes}
 
 pub comes : (t : Forest) → Fits root t → IsWellFormed t → Removals t (shaken t)
-comes t fits form =
-    let s = sensible t fits form in
-    shaken_comes t (record { program = s.program; arranged = s.arranged; enclosed = s.enclosed })
+comes t fits form = shaken_comes t (sensible t fits form)
 
 -- with its nodes marked
 pub numbered_comes : (t : Forest) → Fits root t → IsWellFormed t → Removals t (numbered (shaken t))
