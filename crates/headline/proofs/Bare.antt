@@ -1,14 +1,10 @@
--- Notes are not seen by what is asked of rows, and a pass leaves a program a program.
-use Rattle.std.proofs.Common.{◌≡◌, ◌∙◌, ℕ, suc, Bool, true, false, true≢false, not, ◌&&◌, refl, sym, ap, ap₂}
+-- Whether a tree is arranged does not depend on its notes.
+use Rattle.std.proofs.Common.{◌≡◌, ◌∙◌, true, ◌&&◌, refl, sym, ap, ap₂}
 use Rattle.js_syntax.specs.declared.node_kind.NodeKind.{NodeKind as Kind}
-use Rattle.js_syntax.specs.declared.node_kind.NodeKind.TheVariants.{Program as program, EmptyStatement as empty_statement, ExpressionStatement as expression_statement, Function as function, VariableDeclaration as variable_declaration, VariableDeclarator as variable_declarator, Declarators as declarators, BindingName as binding_name, Class as class, Literal as literal, RegExp as reg_exp, Hole as hole, ReferenceName as reference_name}
+use Rattle.js_syntax.specs.declared.node_kind.NodeKind.TheVariants.{EmptyStatement as empty_statement, ExpressionStatement as expression_statement, Function as function, VariableDeclaration as variable_declaration, VariableDeclarator as variable_declarator, Declarators as declarators, BindingName as binding_name}
 use Rattle.js_syntax.specs.declared.kind.FunctionKind.TheVariants as function_kind
 use Rattle.js_syntax.specs.Node.{Forest, nothing, node, absent, bare}
-use Rattle.min_pass.specs.Around.{outermost}
-use Rattle.min_pass.specs.Pass.{Names, swept}
 use Rattle.steps_allowed.specs.Arranged.{is_nothing, is_single, is_field, is_leaf, begins_with_leaf, is_declarator, are_declarators, has_declarators, is_arranged_at, is_arranged}
-use Rattle.steps_fit.specs.Enclosed.{is_binding, is_var, inherits, passes, closed, is_name, begins_with_name, none, is_enclosed_at, is_enclosed}
-use Rattle.steps_owed.specs.Kept.{is_program}
 
 nothing_bare : (t : Forest) → is_nothing (bare t) ≡ is_nothing t
 nothing_bare nothing = refl
@@ -68,51 +64,3 @@ arranged_bare (node k n b r) = ap₂ (λ x y. x && y) (at_bare k b) (ap₂ (λ x
 -- what is asked of one tree holds of another that is the same but for notes
 pub arranged_as : (t u : Forest) → bare u ≡ bare t → is_arranged t ≡ true → is_arranged u ≡ true
 arranged_as t u e h = sym (arranged_bare u) ∙ ap is_arranged e ∙ arranged_bare t ∙ h
-
--- ---- names stand in their scopes
-
-name_bare : (k : Kind) (b : Forest) → is_name k (bare b) ≡ is_name k b
-name_bare (binding_name x) b = nothing_bare b
-name_bare k b = refl
-
-named_bare : (t : Forest) → begins_with_name (bare t) ≡ begins_with_name t
-named_bare nothing = refl
-named_bare (absent r) = refl
-named_bare (node k n b r) = name_bare k b
-
-closed_bare : (vars names : ℕ → Bool) (at : ℕ) (t : Forest) → closed vars names at (bare t) ≡ closed vars names at t
-closed_bare vars names at nothing = refl
-closed_bare vars names at (absent r) = closed_bare vars names (suc at) r
-closed_bare vars names at (node k n b r) =
-    ap (λ x. not (names at && is_binding k) && (not (vars at && is_var k) && x)) (ap₂ (λ x y. x && y) (closed_bare (λ i. vars at && passes k i) (λ i. names at && inherits k i) 0 b) (closed_bare vars names (suc at) r))
-
-enclosed_at_bare : (k : Kind) (b : Forest) → is_enclosed_at k (bare b) ≡ is_enclosed_at k b
-enclosed_at_bare (function how pure) b = ap₂ (λ x y. x && y) (named_bare b) (closed_bare none (inherits (function how pure)) 0 b)
-enclosed_at_bare (class how) b = ap₂ (λ x y. x && y) (named_bare b) (closed_bare (inherits (class how)) (inherits (class how)) 0 b)
-enclosed_at_bare (literal v) b = nothing_bare b
-enclosed_at_bare (reg_exp x) b = nothing_bare b
-enclosed_at_bare hole b = nothing_bare b
-enclosed_at_bare (reference_name x) b = nothing_bare b
-enclosed_at_bare k b = refl
-
-enclosed_bare : (t : Forest) → is_enclosed (bare t) ≡ is_enclosed t
-enclosed_bare nothing = refl
-enclosed_bare (absent r) = enclosed_bare r
-enclosed_bare (node k n b r) = ap₂ (λ x y. x && y) (enclosed_at_bare k b) (ap₂ (λ x y. x && y) (enclosed_bare b) (enclosed_bare r))
-
-pub enclosed_as : (t u : Forest) → bare u ≡ bare t → is_enclosed t ≡ true → is_enclosed u ≡ true
-enclosed_as t u e h = sym (enclosed_bare u) ∙ ap is_enclosed e ∙ enclosed_bare t ∙ h
-
--- ---- programs
-
-program_bare : (t : Forest) → is_program (bare t) ≡ is_program t
-program_bare (node (program source) n b r) = refl
-program_bare t = refl
-
-pub program_as : (t u : Forest) → bare u ≡ bare t → is_program t ≡ true → is_program u ≡ true
-program_as t u e h = sym (program_bare u) ∙ ap is_program e ∙ program_bare t ∙ h
-
-pub program_left : (names : Names) (knows : Bool) (t : Forest) → is_program t ≡ true → is_program (swept names (outermost knows) t) ≡ true
-program_left names true (node (program source) n b r) h = refl
-program_left names false (node (program source) n b r) h = refl
-program_left names knows t h = absurd (true≢false (sym h))

@@ -1,14 +1,9 @@
-pub mod Fitting
 pub mod Binding
 pub mod Cells
 pub mod Once
 pub mod Sound
-pub mod Catches
-pub mod Known
 pub mod Bare
 pub mod Telling
 pub mod Passes
-pub mod Modules
-pub mod Notes
 pub mod Refining
 pub mod Headline

@@ -1,6 +1,8 @@
 -- Passes lead by edits from a program to what is left of it.
-use Rattle.std.proofs.Common.{◌≡◌, ℕ, zero, suc, Bool, true, false, if◌then◌else◌, refl, sym}
+use Rattle.std.proofs.Common.{◌≡◌, ℕ, zero, suc, Bool, true, false, if◌then◌else◌, [], ◌∷◌, refl, sym}
+use Rattle.js_syntax.specs.Class.{root}
 use Rattle.js_syntax.specs.Node.{Forest, bare}
+use Rattle.json_shape.specs.Shape.{these, one, Fits}
 use Rattle.scope_rules.specs.Mark.{first_marks}
 use Rattle.scope_rules.specs.Table.{symbols_declared}
 use Rattle.scope_laws.proofs.Exact.{exact}
@@ -12,49 +14,48 @@ use Rattle.min_passes.specs.Passes.{names_in, next, has_next, settled, most_pass
 use Rattle.steps_allowed.specs.Arranged.{is_arranged}
 use Rattle.steps_allowed.specs.Edits.{Edits, no_edit}
 use Rattle.steps_allowed.proofs.Composing.{edits_follow, tree_edits_are_edits}
-use Rattle.steps_owed.specs.Kept.{is_program}
-use Rattle.steps_fit.specs.Enclosed.{is_enclosed}
-use Rattle.steps_pass.proofs.Changes.{Losses, losses_are_edits, losses_enclosed}
+use Rattle.steps_keep_table.proofs.Swept.{swept_stands}
+use Rattle.steps_fit.specs.Sensible.{IsSensible}
+use Rattle.steps_fit.proofs.Enclosing.{fits_enclosed}
+use Rattle.steps_fit.proofs.Modules.{fits_program}
+use Rattle.steps_fit.proofs.Notes.{fits_renoted}
+use Rattle.steps_pass.proofs.Changes.{losses_are_edits}
 use Rattle.steps_pass.proofs.Passing.{pass_comes}
 use Rattle.steps_pass.proofs.Clearing.{clearing_comes}
 use Rattle.steps_pass.proofs.Arranging.{arranged_left}
 use Rattle.headline.proofs.Telling.{tells_scopes}
-use Rattle.headline.proofs.Bare.{arranged_as, enclosed_as, program_as, program_left}
+use Rattle.headline.proofs.Bare.{arranged_as}
 
 pub numbered_same : (t : Forest) → bare (numbered t) ≡ bare t
 numbered_same t = bare_marked (first_marks (symbols_declared (found_of t).bindings)) t
 
--- what is asked of a program, whatever its notes
-pub record IsReady (t : Forest) : Type 0 where
-  pub program : is_program t ≡ true
-  pub arranged : is_arranged t ≡ true
-  pub enclosed : is_enclosed t ≡ true
+-- ---- what passes leave of a tree of the table is one
 
-numbered_ready : (t : Forest) → IsReady t → IsReady (numbered t)
-numbered_ready t r = record {
-  program = program_as t (numbered t) (numbered_same t) r.program;
-  arranged = arranged_as t (numbered t) (numbered_same t) r.arranged;
-  enclosed = enclosed_as t (numbered t) (numbered_same t) r.enclosed;
-}
+pub numbered_fits : (t : Forest) → Fits root t → Fits root (numbered t)
+numbered_fits t fits = fits_renoted t (numbered t) (sym (numbered_same t)) fits
+
+pub next_fits : (t : Forest) → Fits root t → Fits root (next t)
+next_fits t fits = swept_stands (names_in t) (numbered t) (outermost true) (these (one root ∷ [])) refl (λ d. absurd (cc d)) (numbered_fits t fits)
+
+pub cleared_fits : (t : Forest) → Fits root t → Fits root (cleared t)
+cleared_fits t fits = swept_stands no_names t (outermost false) (these (one root ∷ [])) refl (λ d. absurd (cc d)) fits
+
+-- What is asked of it for the next: of a sensible program it is known before the rules of form are seen to hold of what is left.
+record IsReady (t : Forest) : Type 0 where
+  fits : Fits root t
+  arranged : is_arranged t ≡ true
 
 -- ---- one pass
 
-next_loses : (t : Forest) → IsReady t → Losses (numbered t) (next t)
-next_loses t r =
-    let ready = numbered_ready t r in
-    pass_comes (table_of t) (numbered t) ready.program ready.arranged ready.enclosed (exact t) (tells_scopes t)
-
 next_comes : (t : Forest) → IsReady t → Edits t (next t)
-next_comes t r = edits_follow (no_edit t (numbered t) (sym (numbered_same t))) (tree_edits_are_edits (losses_are_edits (next_loses t r)))
+next_comes t r =
+    let fits = numbered_fits t r.fits in
+    let arranged = arranged_as t (numbered t) (numbered_same t) r.arranged in
+    edits_follow (no_edit t (numbered t) (sym (numbered_same t)))
+    (tree_edits_are_edits (losses_are_edits (pass_comes (table_of t) (numbered t) (fits_program (numbered t) fits) arranged (fits_enclosed (numbered t) fits) (exact t) (tells_scopes t))))
 
 next_ready : (t : Forest) → IsReady t → IsReady (next t)
-next_ready t r =
-    let ready = numbered_ready t r in
-    record {
-      program = program_left (names_in t) true (numbered t) ready.program;
-      arranged = arranged_left (names_in t) (outermost true) (numbered t) ready.arranged;
-      enclosed = losses_enclosed (next_loses t r) ready.enclosed;
-    }
+next_ready t r = record { fits = next_fits t r.fits; arranged = arranged_left (names_in t) (outermost true) (numbered t) (arranged_as t (numbered t) (numbered_same t) r.arranged) }
 
 -- ---- one after the other
 
@@ -66,11 +67,7 @@ settled_comes : (most : ℕ) (t : Forest) → IsReady t → Edits t (settled mos
 settled_comes zero t r = no_edit t t refl
 settled_comes (suc most) t r = settled_if most t (has_next t) (edits_follow (next_comes t r) (settled_comes most (next t) (next_ready t r)))
 
-pub shaken_comes : (t : Forest) → IsReady t → Edits t (shaken t)
-shaken_comes t r =
-    let clears = clearing_comes t r.arranged in
-    edits_follow (tree_edits_are_edits (losses_are_edits clears)) (settled_comes (most_passes (cleared t)) (cleared t) (record {
-      program = program_left no_names false t r.program;
-      arranged = arranged_left no_names (outermost false) t r.arranged;
-      enclosed = losses_enclosed clears r.enclosed;
-    }))
+pub shaken_comes : (t : Forest) → IsSensible t → Edits t (shaken t)
+shaken_comes t s =
+    edits_follow (tree_edits_are_edits (clearing_comes t s.arranged))
+    (settled_comes (most_passes (cleared t)) (cleared t) (record { fits = cleared_fits t s.fits; arranged = arranged_left no_names (outermost false) t s.arranged }))

@@ -2,22 +2,16 @@
 --
 -- A program is its tree (`Forest`, js_syntax/specs/Node). A host runs it by a script, with a bound on entries of functions and
 -- loops; a run is what the host sees, event by event, and how it ends (js_meaning/specs/Run, Trace, docs/MEANING.md).
-use Rattle.std.specs.Prelude.{◌≡◌, Bool, true, false}
-use Rattle.js_syntax.specs.declared.node_kind.NodeKind.{NodeKind as Kind}
-use Rattle.js_syntax.specs.declared.scalar.SourceType.TheVariants as source_type
-use Rattle.js_syntax.specs.Node.{Forest, node}
+use Rattle.std.specs.Prelude.{◌≡◌, true, false}
+use Rattle.js_syntax.specs.Node.{Forest}
 -- each run of the first is one of the second: the same where it ends or the host stops it, else a front of it; and the way back
 pub use Rattle.js_meaning.specs.Kept.{Kept, KeptBack}
 -- changes one after the other, each at one place and allowed on the tree as it is then
 pub use Rattle.steps_allowed.specs.Edits.{Edits}
 -- a pass over the tree would change something
 pub use Rattle.min_passes.specs.Passes.{has_next}
--- whether all nodes are of the core of the language, for which runs are defined (js_syntax/specs/Facts)
-pub use Rattle.steps.specs.Steps.{all_core}
-
-abbrev pub is_core_module : Forest → Bool
-is_core_module (node (Kind.Program source_type.Module) n a r) = all_core (node (Kind.Program source_type.Module) n a r)
-is_core_module t = false
+-- a module whose nodes are all of the core of the language, for which runs are defined
+pub use Rattle.steps_fit.specs.Sensible.{is_core_module}
 
 -- Of two programs the second is the first without its dead code.
 pub record Headline (t u : Forest) : Type 0 where

@@ -22,10 +22,8 @@ use Rattle.js_meaning_near.proofs.Signed.{signed_refines}
 use Rattle.min_passes.specs.Passes.{shaken}
 use Rattle.json_kept.proofs.SignsFit.{signable_may}
 use Rattle.headline.specs.Headline.{is_core_module}
-use Rattle.headline.proofs.Headline.{comes, module_refined, module_ended}
-use Rattle.headline.proofs.Known.{known}
-use Rattle.headline.proofs.Refining.{Ended}
-use Rattle.headline.proofs.Sound.{IsSound}
+use Rattle.steps_fit.specs.Sensible.{IsSensibleModule}
+use Rattle.headline.proofs.Headline.{comes, module_refines}
 use Rattle.headline_text.specs.Written.{written, IsWritable}
 use Rattle.headline_text.proofs.Left.{writable_signable, shaken_signable}
 
@@ -61,17 +59,16 @@ written_refines n m a place may =
 module_may : (n m : Note) (a : Forest) → MayBeSigned (module_of n m a) → MayBeSigned a
 module_may n m a may = may.1.1
 
-ended_refines : (u : Forest) → Ended u → MayBeSigned u → Refined u (written u)
-ended_refines u e may =
-    let m = e.is_module in
+left_refines : (u : Forest) → IsSensibleModule u → MayBeSigned u → Refined u (written u)
+left_refines u m may =
     subst (λ x. Refined x (written x)) (sym m.is)
-    (written_refines m.note m.list_note m.items (known.in_place m.note m.list_note m.items (subst IsSound m.is e.is_sound)) (module_may m.note m.list_note m.items (subst MayBeSigned m.is may)))
+    (written_refines m.note m.list_note m.items (subst (InPlace whole fields) m.is m.in_place) (module_may m.note m.list_note m.items (subst MayBeSigned m.is may)))
 
 -- ---- what was read
 
 pub written_refined : (bytes : List ℕ) (t : Forest) → IsReadAs bytes (Ok t) → IsWritable t → IsWellFormed t → is_core_module t ≡ true → Refined t (written (shaken t))
 written_refined bytes t read w form core =
     let fits : Fits root t = nodes_fit 128 root untyped read.1.0 t read.1.2 in
-    let steps = comes t fits form in
-    refined_joined t (shaken t) (written (shaken t)) (module_refined t fits form core (shaken t) steps)
-    (ended_refines (shaken t) (module_ended t fits form core (shaken t) steps) (signable_may (shaken t) (shaken_signable t (writable_signable bytes t read w))))
+    let refines = module_refines t (shaken t) fits form (comes t fits form) core in
+    refined_joined t (shaken t) (written (shaken t)) refines.refined
+    (left_refines (shaken t) refines.left (signable_may (shaken t) (shaken_signable t (writable_signable bytes t read w))))

@@ -1,29 +1,25 @@
 -- In a tree that fits the table of node types, and breaks no rule of form, the parts of statements stand where they are looked for.
-use Rattle.std.proofs.Common.{◌≡◌, inl, inr, List, [], ◌∷◌, Bool, true, false, ◌&&◌, ◌||◌, Some, refl, sym, ap, ◌∙◌}
-use Rattle.js_syntax.specs.Class.{Class, root, a_prologue, declarator_item, declared_name, binding, expression, private_key}
+use Rattle.std.proofs.Common.{◌≡◌, List, [], ◌∷◌, Bool, true, ◌&&◌, Some, refl, ap, ◌∙◌}
+use Rattle.js_syntax.specs.Class.{Class, root, declarator_item, declared_name, binding, expression}
 use Rattle.js_syntax.specs.declared.node_kind.NodeKind.{NodeKind as Kind}
-use Rattle.js_syntax.specs.declared.node_kind.NodeKind.TheVariants.{EmptyStatement as empty_statement, ExpressionStatement as expression_statement, Function as function, VariableDeclaration as variable_declaration, Declarators as declarators, Hole as hole}
+use Rattle.js_syntax.specs.declared.node_kind.NodeKind.TheVariants.{EmptyStatement as empty_statement, ExpressionStatement as expression_statement, Function as function, VariableDeclaration as variable_declaration, Declarators as declarators}
 use Rattle.js_syntax.specs.declared.kind.VariableKind.{VariableKind}
 use Rattle.js_syntax.specs.Hint.{has, is_private}
 use Rattle.js_syntax.specs.Node.{Note, Forest, nothing, node, absent}
 use Rattle.js_syntax.specs.Table.{Row, an_expression_statement, an_empty_statement, a_function_declaration, a_default_function, a_variable_declaration, a_variable_declarator, a_binding_name, fields_of, type_of, stands}
 use Rattle.form_rules.specs.Form.{IsWellFormed}
-use Rattle.json_shape.specs.Shape.{Values, kind_in, first_of, Place, one, maybe_one, beyond, key_node, key_apart, list, list_with_holes, body, item_or_hole, item_of_body, places, Plan, these, all, first_place, behind, IsOf, IsAt, Stand, Fits}
+use Rattle.json_shape.specs.Shape.{Values, kind_in, first_of, Place, one, maybe_one, list, places, these, all, IsOf, Stand, Fits}
 use Rattle.json_shape.proofs.Choice.{is_list_kind}
 use Rattle.steps_allowed.specs.Arranged.{is_nothing, is_single, is_field, is_leaf, begins_with_leaf, is_declarator, are_declarators, has_declarators, is_arranged_at, is_arranged}
-use Rattle.steps_fit.specs.Hoisted.{holds_variables}
-use Rattle.steps_fit.proofs.Passing.{plan_passes, first_passes, behind_passes}
-use Rattle.steps_fit.proofs.Calm.{is_calm_class}
-use Rattle.steps_fit.proofs.Holding.{is_sound, planned_below}
+use Rattle.steps_fit.proofs.Everywhere.{IsShown, fits_everywhere}
+use Rattle.steps_fit.proofs.Modules.{ends}
 use Rattle.steps_fit.proofs.Filled.{is_filled, are_filled, whole_filled}
 use Rattle.js_syntax.proofs.Truth.{first_of_both, second_of_both, both}
 
 -- ---- rows of fields
 
 pub none_there : (a : Forest) → Stand (these []) a → is_nothing a ≡ true
-none_there nothing h = refl
-none_there (absent r) h = absurd h.0
-none_there (node k n a r) h = absurd h.0
+none_there a h = ap is_nothing (ends a h)
 
 one_there : (c : Class) (a : Forest) → Stand (these (one c ∷ [])) a → is_single a ≡ true
 one_there c nothing h = absurd h
@@ -106,38 +102,20 @@ list_arranged (function how pure) a h = absurd cc
 list_arranged (variable_declaration how) a h = absurd cc
 list_arranged kind a h = refl
 
-module _ (a : Forest) where
-  arranged_of : (c : Class) (k : Kind) → is_filled k a ≡ true → IsOf k a (λ p. Stand p a) c → is_arranged_at k a ≡ true
-  arranged_of c k full of = ap (λ x. is_arranged_at x a) of.4 ∙ row_arranged of.0 of.1 (has is_private a) a (ap (λ x. is_filled x a) (sym of.4) ∙ full) of.5
-
-  arranged_list : (kind k : Kind) (c : Class) → k ≡ kind → (is_list_kind kind && (holds_variables kind || is_calm_class c)) ≡ true → is_arranged_at k a ≡ true
-  arranged_list kind k c is h = ap (λ x. is_arranged_at x a) is ∙ list_arranged kind a (first_of_both (is_list_kind kind) (holds_variables kind || is_calm_class c) h)
-
-  arranged_here : (p : Place) (k : Kind) → is_sound p ≡ true → is_filled k a ≡ true → IsAt k a (λ p. Stand p a) p → is_arranged_at k a ≡ true
-  arranged_here (one c) k h full of = arranged_of c k full of
-  arranged_here (maybe_one c) k h full of = arranged_of c k full of
-  arranged_here beyond k h full at = absurd at
-  arranged_here (key_apart may) k h full at = absurd at
-  arranged_here (key_node keys true) k h full at = arranged_of private_key k full at.1
-  arranged_here (key_node keys false) k h full at = arranged_of expression k full at
-  arranged_here (list kind c) k h full at = arranged_list kind k c at.0 h
-  arranged_here (list_with_holes kind c) k h full at = arranged_list kind k c at.0 h
-  arranged_here (body c) k h full at = ap (λ x. is_arranged_at x a) at.0
-  arranged_here (item_or_hole c) k h full (inl at) = ap (λ x. is_arranged_at x a) at.0
-  arranged_here (item_or_hole c) k h full (inr of) = arranged_of c k full of
-  arranged_here (item_of_body c) k h full (inl of) = arranged_of a_prologue k full of
-  arranged_here (item_of_body c) k h full (inr at) = arranged_of c k full at.1
-
 -- ---- trees
 
-arranged : (t : Forest) (plan : Plan) → plan_passes is_sound plan ≡ true → are_filled t ≡ true → Stand plan t → is_arranged t ≡ true
-arranged nothing plan h full st = refl
-arranged (absent r) plan h full st = arranged r (behind plan hole) (behind_passes is_sound plan hole h) full st.1
-arranged (node k n a r) plan h full st =
-    let planned = planned_below a (first_place plan) k st.0 in
-    let later = second_of_both (is_filled k a) (are_filled a && are_filled r) full in
-    both (is_arranged_at k a) (is_arranged a && is_arranged r) (arranged_here a (first_place plan) k (first_passes is_sound plan refl h) (first_of_both (is_filled k a) (are_filled a && are_filled r) full) st.0)
-    (both (is_arranged a) (is_arranged r) (arranged a planned.0 planned.1 (first_of_both (are_filled a) (are_filled r) later) planned.2) (arranged r (behind plan k) (behind_passes is_sound plan k h) (second_of_both (are_filled a) (are_filled r) later) st.1))
+shown : IsShown are_filled is_arranged_at is_arranged
+shown = record {
+  ends = refl;
+  passes_none = λ r h. h;
+  passes_node = λ k n a r h. h;
+  given_behind_none = λ r h. h;
+  given_below = λ k n a r h. first_of_both (are_filled a) (are_filled r) (second_of_both (is_filled k a) (are_filled a && are_filled r) h);
+  given_behind = λ k n a r h. second_of_both (are_filled a) (are_filled r) (second_of_both (is_filled k a) (are_filled a && are_filled r) h);
+  rows = λ r vs private n a rest full st. row_arranged r vs private a (first_of_both (is_filled (kind_in r vs) a) (are_filled a && are_filled rest) full) st;
+  lists = list_arranged;
+  holes = λ a st. refl;
+}
 
 pub fits_arranged : (t : Forest) → Fits root t → IsWellFormed t → is_arranged t ≡ true
-fits_arranged t fits whole = arranged t (these (one root ∷ [])) refl (whole_filled t whole) fits
+fits_arranged t fits whole = fits_everywhere are_filled is_arranged_at is_arranged shown t fits (whole_filled t whole)

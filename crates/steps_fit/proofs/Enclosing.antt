@@ -1,6 +1,6 @@
 -- In a tree that fits the table of node types names are declared where the table lets them be.
-use Rattle.std.proofs.Common.{◌≡◌, ℕ, suc, inl, inr, List, [], ◌∷◌, Bool, true, false, not, ◌&&◌, ◌||◌, refl, ap, ◌∙◌}
-use Rattle.js_syntax.specs.Class.{Class, root, a_prologue, declared_name, expression, no_node, private_key}
+use Rattle.std.proofs.Common.{◌≡◌, ℕ, suc, List, ◌∷◌, Bool, true, false, not, ◌&&◌, refl, ap, ◌∙◌}
+use Rattle.js_syntax.specs.Class.{Class, root, declared_name, no_node}
 use Rattle.js_syntax.specs.declared.node_kind.NodeKind.{NodeKind as Kind}
 use Rattle.js_syntax.specs.declared.node_kind.NodeKind.TheVariants.{Function as function, Class as class, ReferenceName as reference_name, Literal as literal, RegExp as reg_exp, Hole as hole}
 use Rattle.js_syntax.specs.declared.kind.FunctionKind.{FunctionKind}
@@ -10,13 +10,12 @@ use Rattle.js_syntax.specs.declared.kind.ClassKind.TheVariants as class_kind
 use Rattle.js_syntax.specs.Hint.{has, is_private}
 use Rattle.js_syntax.specs.Node.{Forest, nothing, node, absent}
 use Rattle.js_syntax.specs.Table.{Row, a_function_declaration, a_default_function, a_function_expression, an_arrow_function, a_class_declaration, a_default_class, a_class_expression, a_binding_name, a_reference_name, a_literal, a_text_literal, a_reg_exp, fields_of}
-use Rattle.json_shape.specs.Shape.{Values, kind_in, first_of, Place, one, maybe_one, beyond, key_node, key_apart, list, list_with_holes, body, item_or_hole, item_of_body, places, Plan, these, first_place, behind, IsOf, IsAt, Stand, Fits}
+use Rattle.json_shape.specs.Shape.{Values, kind_in, first_of, Place, one, maybe_one, places, these, IsOf, Stand, Fits, Plan}
 use Rattle.json_shape.proofs.Choice.{is_list_kind}
-use Rattle.steps_fit.specs.Hoisted.{holds_variables}
 use Rattle.steps_fit.proofs.CoreRows.{takes_such, taken}
-use Rattle.steps_fit.proofs.Passing.{plan_passes, first_passes, behind_passes}
-use Rattle.steps_fit.proofs.Calm.{is_calm_class}
-use Rattle.steps_fit.proofs.Holding.{is_sound, planned_below}
+use Rattle.steps_fit.proofs.Passing.{plan_passes}
+use Rattle.steps_fit.proofs.Holding.{is_sound}
+use Rattle.steps_fit.proofs.Everywhere.{IsShown, fits_everywhere, any_tree, everywhere}
 use Rattle.steps_fit.specs.Enclosed.{is_binding, is_var, inherits, passes, closed, is_name, begins_with_name, none, is_enclosed_at, is_enclosed}
 use Rattle.steps_fit.proofs.Shut.{shut, unmarked}
 use Rattle.steps_fit.proofs.Sets.{row_names, row_vars}
@@ -107,37 +106,23 @@ list_enclosed hole a h = absurd cc
 list_enclosed (reference_name x) a h = absurd cc
 list_enclosed kind a h = refl
 
-module _ (a : Forest) where
-  enclosed_of : (c : Class) (k : Kind) → IsOf k a (λ p. Stand p a) c → is_enclosed_at k a ≡ true
-  enclosed_of c k of = ap (λ x. is_enclosed_at x a) of.4 ∙ row_enclosed of.0 of.1 (has is_private a) a of.5
-
-  enclosed_list : (kind k : Kind) (c : Class) → k ≡ kind → (is_list_kind kind && (holds_variables kind || is_calm_class c)) ≡ true → is_enclosed_at k a ≡ true
-  enclosed_list kind k c is h = ap (λ x. is_enclosed_at x a) is ∙ list_enclosed kind a (first_of_both (is_list_kind kind) (holds_variables kind || is_calm_class c) h)
-
-  enclosed_here : (p : Place) (k : Kind) → is_sound p ≡ true → IsAt k a (λ p. Stand p a) p → is_enclosed_at k a ≡ true
-  enclosed_here (one c) k h of = enclosed_of c k of
-  enclosed_here (maybe_one c) k h of = enclosed_of c k of
-  enclosed_here beyond k h at = absurd at
-  enclosed_here (key_apart may) k h at = absurd at
-  enclosed_here (key_node keys true) k h at = enclosed_of private_key k at.1
-  enclosed_here (key_node keys false) k h at = enclosed_of expression k at
-  enclosed_here (list kind c) k h at = enclosed_list kind k c at.0 h
-  enclosed_here (list_with_holes kind c) k h at = enclosed_list kind k c at.0 h
-  enclosed_here (body c) k h at = ap (λ x. is_enclosed_at x a) at.0
-  enclosed_here (item_or_hole c) k h (inl at) = ap (λ x. is_enclosed_at x a) at.0 ∙ none_there a at.1
-  enclosed_here (item_or_hole c) k h (inr of) = enclosed_of c k of
-  enclosed_here (item_of_body c) k h (inl of) = enclosed_of a_prologue k of
-  enclosed_here (item_of_body c) k h (inr at) = enclosed_of c k at.1
-
 -- ---- trees
 
+shown : IsShown any_tree is_enclosed_at is_enclosed
+shown = record {
+  ends = refl;
+  passes_none = λ r h. h;
+  passes_node = λ k n a r h. h;
+  given_behind_none = λ r h. h;
+  given_below = λ k n a r h. h;
+  given_behind = λ k n a r h. h;
+  rows = λ r vs private n a rest g st. row_enclosed r vs private a st;
+  lists = list_enclosed;
+  holes = none_there;
+}
+
 pub enclosed : (t : Forest) (plan : Plan) → plan_passes is_sound plan ≡ true → Stand plan t → is_enclosed t ≡ true
-enclosed nothing plan h st = refl
-enclosed (absent r) plan h st = enclosed r (behind plan hole) (behind_passes is_sound plan hole h) st.1
-enclosed (node k n a r) plan h st =
-    let planned = planned_below a (first_place plan) k st.0 in
-    both (is_enclosed_at k a) (is_enclosed a && is_enclosed r) (enclosed_here a (first_place plan) k (first_passes is_sound plan refl h) st.0)
-    (both (is_enclosed a) (is_enclosed r) (enclosed a planned.0 planned.1 planned.2) (enclosed r (behind plan k) (behind_passes is_sound plan k h) st.1))
+enclosed t plan sound stands = everywhere any_tree is_enclosed_at is_enclosed shown t plan sound refl stands
 
 pub fits_enclosed : (t : Forest) → Fits root t → is_enclosed t ≡ true
-fits_enclosed t fits = enclosed t (these (one root ∷ [])) refl fits
+fits_enclosed t fits = fits_everywhere any_tree is_enclosed_at is_enclosed shown t fits refl

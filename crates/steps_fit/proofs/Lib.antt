@@ -17,7 +17,13 @@ pub mod Calm
 pub mod Holding
 pub mod Exception
 pub mod Filled
+pub mod Everywhere
 pub mod Arranged
 pub mod Shut
 pub mod Sets
 pub mod Enclosing
+pub mod Catches
+pub mod Plain
+pub mod Modules
+pub mod Notes
+pub mod Sensible

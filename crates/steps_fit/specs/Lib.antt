@@ -3,3 +3,4 @@ pub mod Hoisted
 pub mod Catches
 pub mod Enclosed
 pub mod Plain
+pub mod Sensible

@@ -3,11 +3,10 @@ ghost use Rattle.std.specs.Prelude.{◌≡◌, true};
 ghost use Rattle.js_syntax.specs.Class.{root};
 ghost use Rattle.js_syntax.specs.Node.{Forest};
 ghost use Rattle.json_shape.specs.Shape.{Fits};
-ghost use Rattle.form_rules.specs.Form.{IsWellFormed};
 ghost use Rattle.steps.specs.Steps.{all_core};
 ghost use Rattle.steps_names.specs.Placed.{is_well_placed};
-ghost use Rattle.steps_allowed.specs.Arranged.{is_arranged};
 ghost use Rattle.steps_fit.specs.Hoisted.{has_variables_in_place};
+ghost use Rattle.steps_fit.specs.Plain.{has_plain_statements};
 
 /// Law: in a tree that fits the table of node types, `var` is declared where statements stand. Static blocks of classes are left out:
 /// below a class's body one declares what no scope seeks there (`proofs/Exception.antt`). The core has none, and a program whose
@@ -17,7 +16,7 @@ pub fn without_static_blocks_variables_are_in_place()
     ensures placed { (t : Forest) → Fits root t → is_well_placed t ≡ true → has_variables_in_place t ≡ true }
 {}
 
-/// Law: in a tree that fits the table and breaks no rule of form, statements and declarations have the parts that steps look for.
-pub fn what_fits_is_arranged()
-    ensures { (t : Forest) → Fits root t → IsWellFormed t → is_arranged t ≡ true }
+/// Law: in a core tree that fits the table, statements of expressions declare no names.
+pub fn what_fits_has_plain_statements()
+    ensures { (t : Forest) → Fits root t → all_core t ≡ true → has_plain_statements t ≡ true }
 {}

@@ -14,7 +14,7 @@ use Rattle.steps_owed.proofs.PartCounts.{parts_kept}
 
 -- a part weighs no more than what it is a part of
 total_joined : (w : Kind → ℕ) (t u : Forest) → total w (joined t u) ≡ total w t + total w u
-total_joined w nothing u = refl
+total_joined w nothing u = Prim.omega arith
 total_joined w (absent r) u = total_joined w r u
 total_joined w (node k n b r) u =
     let later = total_joined w r u in

@@ -37,7 +37,7 @@ bare_listed nothing = refl
 bare_listed (node k n below rest) = ap (of_list k) (bare_calls below)
 bare_listed (absent rest) = refl
 
-bare_root : (t : Forest) → root_calls (bare t) ≡ root_calls t
+pub bare_root : (t : Forest) → root_calls (bare t) ≡ root_calls t
 bare_root nothing = refl
 bare_root (node k n below rest) = ap (of_program k) (bare_listed below)
 bare_root (absent rest) = refl

@@ -1,6 +1,6 @@
 -- What holds wherever a row stands in a program.
 use Rattle.std.proofs.Common.{◌≡◌, ℕ, suc, ◌+◌, true, ◌&&◌, [], refl, sym, subst, true≢false}
-use Rattle.std.proofs.lemmas.Bool.{and_parts, and_from}
+use Rattle.std.proofs.lemmas.Bool.{and_parts}
 use Rattle.js_syntax.specs.declared.node_kind.NodeKind.{NodeKind as Kind}
 use Rattle.js_syntax.specs.declared.scalar.SourceType.{SourceType}
 use Rattle.js_syntax.specs.Node.{Forest, nothing, node, absent, Note}
@@ -19,6 +19,7 @@ use Rattle.steps_names.proofs.Sites.{placed_here, placed_below, placed_behind}
 use Rattle.steps_names.proofs.Agreeing.{well_placed_agrees}
 use Rattle.steps_names.proofs.Standing.{declarations_of}
 use Rattle.steps_fit.specs.Plain.{is_plain_statement, has_plain_statements}
+use Rattle.steps_fit.specs.Sensible.{IsSensibleModule}
 use Rattle.steps_owed.specs.Good.{Good}
 use Rattle.steps_owed.proofs.KnownNames.{none_known, scope_known, AllKnown, all_known, known_below}
 use Rattle.steps_owed.proofs.Separate.{variables_below, ListApart, leads, statements_lead, lists_below, RowApart, apart_absent, apart_behind, apart_below}
@@ -52,10 +53,8 @@ plain_statement_here k n a r g = (and_parts (is_plain_statement k a) (has_plain_
 pub arranged_here : (k : Kind) (n : Note) (a r : Forest) → Good (node k n a r) → is_arranged_at k a ≡ true
 arranged_here k n a r g = (and_parts (is_arranged_at k a) (is_arranged a && is_arranged r) g.arranged).0
 
--- a program's values are asked of it where its declarations stand
-pub placed_values : (t : Forest) → is_well_placed t ≡ true → has_plain_values t ≡ true
-placed_values (node (Kind.Program source) n a nothing) w = and_from (has_plain_values a) true (and_parts (well_placed (place_below others (Kind.Program source)) 0 a) (has_plain_values a) w).1 refl
-placed_values t w = absurd (true≢false (sym w))
+pub good_module : (t : Forest) → IsSensibleModule t → Good t
+good_module t h = record { clear = h.clear; values = h.values; statements = h.statements; arranged = h.sensible.arranged }
 
 pub record Here (t : Forest) (w : Around) (cs : ℕ → Context) (at next : ℕ) (row : Forest) : Type 0 where
   pub stands : Stands t w cs at next row

@@ -1,5 +1,5 @@
 pub mod Inside
-pub mod Parts
+pub mod FunctionParts
 pub mod Unseen
 pub mod Unlisting
 pub mod KeptWithout
@@ -42,3 +42,5 @@ pub mod ByPart
 pub mod SilentStatement
 pub mod KnownConditional
 pub mod KnownIf
+pub mod Edited
+pub mod Refused

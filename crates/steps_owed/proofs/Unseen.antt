@@ -26,7 +26,7 @@ use Rattle.steps_allowed.specs.UnusedDeclaration.{SilentDeclaration, one_declara
 use Rattle.steps_fit.specs.Enclosed.{is_binding, is_enclosed_at, is_enclosed}
 use Rattle.steps_owed.specs.Unseen.{IsUnreferred, IsUnseen}
 use Rattle.steps_owed.proofs.Inside.{named, In}
-use Rattle.steps_owed.proofs.Parts.{nothing_there, Part, named_first, further, function_parts, function_behind}
+use Rattle.steps_owed.proofs.FunctionParts.{nothing_there, Part, named_first, further, function_parts, function_behind}
 use Rattle.steps_owed.proofs.Inside.{enclosed_here, enclosed_below, enclosed_rest}
 
 -- ---- at a place

@@ -1,16 +1,11 @@
 -- What becomes of a table while things leave its tree.
-use Rattle.std.specs.Prelude.{◌≡◌, ℕ, slice_get, Bool, true, false, Some}
-use Rattle.js_syntax.specs.declared.node_kind.NodeKind.TheVariants.{Program as program}
-use Rattle.js_syntax.specs.Node.{Forest, node}
+use Rattle.std.specs.Prelude.{◌≡◌, ℕ, slice_get, Some}
+use Rattle.js_syntax.specs.Node.{Forest}
 use Rattle.scope_rules.specs.Site.{ScopeSite, BindingSite, sites_of, scopes_among, bindings_among}
 use Rattle.scope_rules.specs.Table.{Symbol, Scoping}
 use Rattle.scope_table.specs.Reading.{scope_at, symbol_at}
 use Rattle.scope_laws.specs.Exact.{Among, Exact}
-
--- a tree of a program
-abbrev pub is_program : Forest → Bool
-is_program (node (program source) n below rest) = true
-is_program t = false
+pub use Rattle.steps_fit.specs.Sensible.{is_program}
 
 -- the symbol had the references that it has, and maybe more
 pub record HadMore (before : Scoping) (number : ℕ) (now : Symbol) : Type 0 where

@@ -17,7 +17,7 @@ use Rattle.steps_owed.specs.Unmarked.{name_unmarked, first_unmarked}
 use Rattle.steps_pass.specs.Cases.{declared_unmarked, exports_unmarked}
 use Rattle.steps_owed.specs.Kept.{IsKept, is_program}
 use Rattle.steps_owed.proofs.Inside.{named, enclosed_here, enclosed_below, enclosed_rest}
-use Rattle.steps_owed.proofs.Parts.{Part, named_first, further, unmarked_of, function_parts, class_parts}
+use Rattle.steps_owed.proofs.FunctionParts.{Part, named_first, further, unmarked_of, function_parts, class_parts}
 
 -- ---- below an export
 

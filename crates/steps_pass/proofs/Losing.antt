@@ -14,7 +14,7 @@ use Rattle.steps_owed.specs.Unmarked.{name_unmarked, first_unmarked}
 use Rattle.steps_pass.specs.Cases.{declared_unmarked, exports_unmarked}
 use Rattle.steps_owed.specs.Kept.{is_program}
 use Rattle.steps_owed.proofs.Inside.{closed_name, closed_var, closed_below, closed_rest}
-use Rattle.steps_owed.proofs.Parts.{name_leaf}
+use Rattle.steps_owed.proofs.FunctionParts.{name_leaf}
 use Rattle.steps_pass.proofs.Marks.{both_ways, either_way}
 use Rattle.steps_owed.proofs.Inside.{enclosed_here, enclosed_below, enclosed_rest}
 

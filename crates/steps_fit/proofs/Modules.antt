@@ -2,24 +2,27 @@
 use Rattle.std.proofs.Common.{◌≡◌, Bool, true, Some, [], ◌∷◌, refl, sym, ap₂, subst}
 use Rattle.js_syntax.specs.Class.{Class, root}
 use Rattle.js_syntax.specs.declared.node_kind.NodeKind.TheVariants.{Program as program, Statements as statements}
-use Rattle.js_syntax.specs.declared.scalar.SourceType.{SourceType}
+use Rattle.js_syntax.specs.declared.scalar.SourceType.TheVariants as source_type
 use Rattle.js_syntax.specs.Hint.{has, is_private}
 use Rattle.js_syntax.specs.Node.{Forest, Note, nothing, node, absent}
 use Rattle.js_syntax.specs.Table.{Row, a_program, fields_of, type_of, stands}
 use Rattle.json_shape.specs.Shape.{Values, kind_in, first_of, body, these, Stand, Fits, places}
-use Rattle.steps_owed.specs.Kept.{is_program}
+use Rattle.js_meaning_near.specs.Near.{module_of}
+use Rattle.steps_fit.specs.Sensible.{is_program}
 
-pub record IsListed (t : Forest) (source : SourceType) (n : Note) : Type 0 where
+-- a module, as its list of statements
+pub record IsModule (t : Forest) : Type 0 where
+  pub note : Note
   pub list_note : Note
   pub items : Forest
-  pub is : t ≡ node (program source) n (node statements list_note items nothing) nothing
+  pub is : t ≡ module_of note list_note items
 
 -- only a program's row stands at the root
 root_row : (P : Row → Type 0) (r : Row) → stands root (type_of r) ≡ Some (first_of r) → P a_program → P r
 root_row P a_program h p = p
 root_row P r h p = absurd cc
 
-ends : (r : Forest) → Stand (these []) r → r ≡ nothing
+pub ends : (r : Forest) → Stand (these []) r → r ≡ nothing
 ends nothing st = refl
 ends (absent r) st = absurd st.0
 ends (node k n a r) st = absurd st.0
@@ -35,11 +38,11 @@ one_list c (node k m b r) st = (m, b, ap₂ (λ x y. node x m b y) st.0.0 (ends 
 listed_below : (private : Bool) (a : Forest) (r : Row) (vs : Values (fields_of r)) → stands root (type_of r) ≡ Some (first_of r) → Stand (these (places private (fields_of r) vs)) a → OneList a
 listed_below private a r vs h st = root_row (λ row. (ws : Values (fields_of row)) → Stand (these (places private (fields_of row) ws)) a → OneList a) r h (λ ws s. one_list _ a s) vs st
 
-pub fits_listed : (source : SourceType) (n : Note) (a r : Forest) → Fits root (node (program source) n a r) → IsListed (node (program source) n a r) source n
-fits_listed source n a r fits =
+pub fits_module : (n : Note) (a r : Forest) → Fits root (node (program source_type.Module) n a r) → IsModule (node (program source_type.Module) n a r)
+fits_module n a r fits =
     let of = fits.0 in
     let below = listed_below (has is_private a) a of.0 of.1 of.2 of.5 in
-    record { list_note = below.0; items = below.1; is = ap₂ (λ x y. node (program source) n x y) below.2 (ends r fits.1) }
+    record { note = n; list_note = below.0; items = below.1; is = ap₂ (λ x y. node (program source_type.Module) n x y) below.2 (ends r fits.1) }
 
 -- a tree that fits the table is a program
 program_kind : (r : Row) (vs : Values (fields_of r)) (n : Note) (a b : Forest) → stands root (type_of r) ≡ Some (first_of r) → is_program (node (kind_in r vs) n a b) ≡ true
