@@ -14,7 +14,7 @@ use Rattle.json_shape.specs.Shape.{Fits}
 use Rattle.steps_fit.proofs.Sensible.{sensible, sensible_module}
 use Rattle.headline.specs.Headline.{is_core_module, Headline}
 use Rattle.headline.proofs.Sound.{Refines}
-use Rattle.headline.proofs.Refining.{removals_refine}
+use Rattle.headline.proofs.Refining.{edits_refine}
 use Rattle.headline.proofs.Passes.{numbered_same, shaken_comes}
 
 pub comes : (t : Forest) → Fits root t → IsWellFormed t → Edits t (shaken t)
@@ -27,7 +27,7 @@ numbered_comes t fits form = edits_follow (comes t fits form) (no_edit (shaken t
 -- ---- of core modules
 
 pub module_refines : (t u : Forest) → Fits root t → IsWellFormed t → Edits t u → is_core_module t ≡ true → Refines t u
-module_refines t u fits form steps core = removals_refine steps (sensible_module t core fits form)
+module_refines t u fits form steps core = edits_refine steps (sensible_module t core fits form)
 
 pub kept_by : (t u : Forest) → Fits root t → IsWellFormed t → Edits t u → is_core_module t ≡ true → Kept t u
 kept_by t u fits form steps core = refined_kept t u (module_refines t u fits form steps core).refined
@@ -37,7 +37,7 @@ back_by t u fits form steps core = refined_back t u (module_refines t u fits for
 
 pub headline_of : (t : Forest) → Fits root t → IsWellFormed t → Headline t (shaken t)
 headline_of t fits form = record {
-  steps = comes t fits form;
+  edits = comes t fits form;
   kept = kept_by t (shaken t) fits form (comes t fits form);
   back = back_by t (shaken t) fits form (comes t fits form);
   clean = shaken_is_clean t;

@@ -69,5 +69,5 @@ settled_comes (suc most) t r = settled_if most t (has_next t) (edits_follow (nex
 
 pub shaken_comes : (t : Forest) → IsSensible t → Edits t (shaken t)
 shaken_comes t s =
-    edits_follow (tree_edits_are_edits (clearing_comes t s.arranged))
+    edits_follow (tree_edits_are_edits (losses_are_edits (clearing_comes t s.arranged)))
     (settled_comes (most_passes (cleared t)) (cleared t) (record { fits = cleared_fits t s.fits; arranged = arranged_left no_names (outermost false) t s.arranged }))

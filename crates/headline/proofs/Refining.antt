@@ -1,16 +1,28 @@
 -- Edits lead from a core module to a program that refines it.
-use Rattle.std.proofs.Common.{◌≡◌, ◌∙◌, sym, ap, subst}
-use Rattle.js_syntax.specs.Node.{Forest, bare}
+use Rattle.std.proofs.Common.{◌≡◌, ◌∙◌, true, Some, sym, ap, subst}
+use Rattle.js_syntax.specs.Class.{root}
+use Rattle.js_syntax.specs.Node.{Forest, Tree, bare}
 use Rattle.js_meaning.specs.Kept.{Refined}
 use Rattle.js_meaning_near.specs.Near.{fields, module_of}
 use Rattle.js_meaning_near.specs.Avoid.{InPlace}
 use Rattle.js_meaning_near.specs.Fit.{whole}
 use Rattle.js_meaning_near.proofs.Near.{refines_with_other_notes}
-use Rattle.steps_allowed.specs.Edits.{Edits, no_edit, one_edit}
-use Rattle.steps_fit.specs.Sensible.{IsSensibleModule}
-use Rattle.steps_fit.proofs.Sensible.{module_renoted}
-use Rattle.headline.proofs.Here.{good_module}
-use Rattle.headline.proofs.Steps.{removal_steps}
+use Rattle.steps_allowed.specs.Edits.{Edit, leaves, becomes, Edits, no_edit, one_edit}
+use Rattle.steps.specs.Steps.{Step, outermost, all_core}
+use Rattle.steps_names.specs.Placed.{is_well_placed}
+use Rattle.json_shape.specs.Shape.{Fits}
+use Rattle.form_rules.specs.Form.{IsWellFormed}
+use Rattle.scope_laws.specs.Place.{Around, plug}
+use Rattle.scope_laws.specs.Lists.{without}
+use Rattle.steps_fit.specs.Sensible.{IsSensible, IsSensibleModule}
+use Rattle.steps_fit.proofs.Sensible.{of_module, module_renoted}
+use Rattle.steps_owed.specs.Comes.{Comes}
+use Rattle.steps_owed.specs.Good.{Good}
+use Rattle.steps_owed.specs.Owed.{SameRuns, by_step, by_coming}
+use Rattle.steps_owed.proofs.Edited.{edit_sensible}
+use Rattle.steps_owed.proofs.Here.{good_module}
+use Rattle.steps_owed.proofs.Owed.{leaving, becoming}
+use Rattle.steps_owed.proofs.PartRuns.{core_stays, parts_stay_modules, comes_refines}
 use Rattle.headline.proofs.Sound.{Refines, step_refines, refines_joined}
 
 -- ---- other notes
@@ -24,11 +36,36 @@ renoted t u e h =
           (refines_with_other_notes h.note h.list_note g.note g.list_note h.items g.items (subst (InPlace whole fields) h.is h.in_place) (sym (ap bare h.is) ∙ e ∙ ap bare g.is)));
     }
 
+-- ---- one edit
+
+stepped : (t u : Forest) → (is_well_placed t ≡ true → Good t → Step outermost t u) → IsSensibleModule t → Refines t u
+stepped t u step h = step_refines t u (step h.placed (good_module t h)) h
+
+-- a node that comes to another
+come : (a : Around) (x y : Tree) → Comes x y → IsSensibleModule (plug a (Some x)) → IsSensible (plug a (Some y)) → Refines (plug a (Some x)) (plug a (Some y))
+come a x y comes h g =
+    let fits = subst (Fits root) h.is h.sensible.fits in
+    let core = subst (λ t. all_core t ≡ true) h.is h.core in
+    let still = parts_stay_modules h.note h.list_note h.items a x y h.is comes fits in
+    record {
+      left = of_module (plug a (Some y)) (record { note = h.note; list_note = h.list_note; items = still.changed; is = still.is }) (core_stays x y comes a h.core) g;
+      refined = subst (λ t. Refined t (plug a (Some y))) (sym h.is) (comes_refines h.note h.list_note h.items a x y h.is comes fits core g.fits g.well_formed);
+    }
+
+becomes_refines : (a : Around) (x y : Tree) → SameRuns a x y → IsSensibleModule (plug a (Some x)) → IsSensible (plug a (Some y)) → Refines (plug a (Some x)) (plug a (Some y))
+becomes_refines a x y (by_step step) h g = stepped (plug a (Some x)) (plug a (Some y)) step h
+becomes_refines a x y (by_coming comes) h g =
+    come a x y (comes h.note h.list_note h.items h.is (subst (Fits root) h.is h.sensible.fits) (subst IsWellFormed h.is h.sensible.well_formed) (subst (λ t. all_core t ≡ true) h.is h.core)) h g
+
+edit_refines : (t u : Forest) → Edit t u → IsSensibleModule t → Refines t u
+edit_refines t u (leaves a x c) h = stepped (plug a (Some x)) (without a) (leaving a x c).step h
+edit_refines t u (becomes a x y c) h = becomes_refines a x y (becoming a x y c).runs h (edit_sensible t u (becomes a x y c) h.sensible)
+
 -- ---- one after the other
 
-pub removals_refine : {t u : Forest} → Edits t u → IsSensibleModule t → Refines t u
-removals_refine (no_edit t u e) h = renoted t u e h
-removals_refine (one_edit t v w u e step rest) h =
+pub edits_refine : {t u : Forest} → Edits t u → IsSensibleModule t → Refines t u
+edits_refine (no_edit t u e) h = renoted t u e h
+edits_refine (one_edit t v w u e edit rest) h =
     let before = renoted t v e h in
-    let after = step_refines v w (removal_steps v w step before.left.placed (good_module v before.left)) before.left in
-    refines_joined before (refines_joined after (removals_refine rest after.left))
+    let after = edit_refines v w edit before.left in
+    refines_joined before (refines_joined after (edits_refine rest after.left))

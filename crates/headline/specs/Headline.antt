@@ -6,7 +6,7 @@ use Rattle.std.specs.Prelude.{◌≡◌, true, false}
 use Rattle.js_syntax.specs.Node.{Forest}
 -- each run of the first is one of the second: the same where it ends or the host stops it, else a front of it; and the way back
 pub use Rattle.js_meaning.specs.Kept.{Kept, KeptBack}
--- changes one after the other, each at one place and allowed on the tree as it is then
+-- edits one after the other, each at one place and allowed on the tree as it is then
 pub use Rattle.steps_allowed.specs.Edits.{Edits}
 -- a pass over the tree would change something
 pub use Rattle.min_passes.specs.Passes.{has_next}
@@ -15,8 +15,8 @@ pub use Rattle.steps_fit.specs.Sensible.{is_core_module}
 
 -- Of two programs the second is the first without its dead code.
 pub record Headline (t u : Forest) : Type 0 where
-  -- changes lead from the one to the other: nothing else is done to the tree, whatever its nodes and its source type
-  pub steps : Edits t u
+  -- edits lead from the one to the other: nothing else is done to the tree, whatever its nodes and its source type
+  pub edits : Edits t u
   -- of a core module every run is kept: for every script and bound
   pub kept : is_core_module t ≡ true → Kept t u
   -- where a run of what is left ends or is stopped by the host, the old one was the same within the same bound, unless it was

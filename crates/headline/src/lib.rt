@@ -1,17 +1,16 @@
 //! Does what passes leave of a program do what the program did?
 //!
-//! `specs/Headline.antt` says it in one place: changes that are allowed lead from the program to what is left,
+//! `specs/Headline.antt` says it in one place: edits that are allowed lead from the program to what is left,
 //! of a core module every run is kept, and nothing is left that may go. `shaken` states that this holds of every
 //! program that fits the table of node types and breaks no rule of form.
 //!
-//! Two families of laws lead there. `core_changes`: each change that is allowed on a core module is a step, though the
-//! changes speak of scopes, bindings and references and the steps of the names that runs declare and look up.
-//! `kept_runs`: steps keep the runs of a core module with no premise but the module itself, since what the law of steps
-//! asks of a name whose declaration goes holds wherever the scopes are clear.
+//! Two families of laws lead there. `kept_runs`: steps keep the runs of a core module with no premise but the module itself,
+//! since what the law of steps asks of a name whose declaration goes holds wherever the scopes are clear. `edits`: so do
+//! edits, each of which is a step there, or lets a node come to what a part of it does.
 //!
 //! The code is empty: each function's contract is a law.
 #![tactic(auto)]
 
-pub mod core_changes;
+pub mod edits;
 pub mod kept_runs;
 pub mod shaken;

@@ -10,7 +10,8 @@ use Rattle.steps_allowed.specs.Edits.{Edits, no_edit}
 use Rattle.json_shape.specs.Shape.{Fits}
 use Rattle.headline.proofs.Passes.{numbered_same}
 use Rattle.headline.proofs.Headline.{numbered_comes, kept_by, back_by}
-use Rattle.steps_left.proofs.Formed.{removals_well_formed}
+use Rattle.steps_fit.proofs.Sensible.{sensible}
+use Rattle.steps_owed.proofs.Edited.{edits_sensible}
 use Rattle.steps_left.proofs.Fitting.{numbered_fits, left_fits}
 use Rattle.steps_left.proofs.Size.{left_nodes, left_levels, marked_nodes, marked_levels}
 use Rattle.min_passes.specs.Built.{Built}
@@ -47,11 +48,11 @@ is_left o t new s within form built clean =
     record {
       left = built.marked;
       scoping = built.table;
-      steps = comes;
+      edits = comes;
       kept = λ fits core. kept_by t new fits form (comes fits) core;
       back = λ fits core. back_by t new fits form (comes fits) core;
       fits = λ fits. subst (Fits root) (sym built.marked) (all_fits o t fits);
-      formed = λ fits. removals_well_formed t new (comes fits) fits form;
+      formed = λ fits. (edits_sensible (comes fits) (sensible t fits form)).well_formed;
       nodes = nodes;
       levels = deep;
       small = record { nodes = Prim.omega (arith, nodes, within.nodes); levels = Prim.omega (arith, deep, within.levels) };

@@ -22,7 +22,7 @@ pub record IsLeft (o : Option CompressOptions) (t new : Forest) (s : Scoping) : 
   pub scoping : s ≡ table_of (left_of o t)
   -- of a program that fits the table of node types: it came by changes that are allowed, keeps the runs of a core module, both
   -- ways, fits the table, and breaks no rule of form
-  pub steps : Fits root t → Edits t new
+  pub edits : Fits root t → Edits t new
   pub kept : Fits root t → is_core_module t ≡ true → Kept t new
   pub back : Fits root t → is_core_module t ≡ true → KeptBack t new
   pub fits : Fits root t → Fits root new

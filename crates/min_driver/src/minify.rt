@@ -168,7 +168,7 @@ impl Minifier {
         ensures left { IfOk result (λ _. forest_of program.new ≡ numbered (left_of self.options.compress (forest_of program.old))) }
         ensures iterations { IfOk result (λ r. r.iterations ≡ passes_by self.options.compress (forest_of program.old)) }
         ensures scoping { IfOk result (λ r. r.scoping ≡ table_of (left_of self.options.compress (forest_of program.old))) }
-        ensures steps { IfOk result (λ _. Fits root (forest_of program.old) → Edits (forest_of program.old) (forest_of program.new)) }
+        ensures edits { IfOk result (λ _. Fits root (forest_of program.old) → Edits (forest_of program.old) (forest_of program.new)) }
         ensures kept { IfOk result (λ _. Fits root (forest_of program.old) → is_core_module (forest_of program.old) ≡ true → Kept (forest_of program.old) (forest_of program.new)) }
         ensures back { IfOk result (λ _. Fits root (forest_of program.old) → is_core_module (forest_of program.old) ≡ true → KeptBack (forest_of program.old) (forest_of program.new)) }
         ensures fits { IfOk result (λ _. Fits root (forest_of program.old) → Fits root (forest_of program.new)) }

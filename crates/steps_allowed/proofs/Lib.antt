@@ -1,2 +1,2 @@
-mod Composing
+pub mod Composing
 mod Tried
