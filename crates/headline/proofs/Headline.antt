@@ -9,7 +9,6 @@ use Rattle.js_meaning.specs.Kept.{Kept, KeptBack, Refined}
 use Rattle.js_meaning.proofs.Kept.{refined_kept, refined_back}
 use Rattle.js_scoping.specs.Build.{numbered}
 use Rattle.min_passes.specs.Passes.{shaken}
-use Rattle.min_passes.proofs.Clean.{shaken_is_clean}
 use Rattle.steps_allowed.specs.Removes.{Removals, no_removal}
 use Rattle.steps_allowed.proofs.Composing.{removals_follow}
 use Rattle.json_shape.specs.Shape.{Fits}
@@ -19,6 +18,7 @@ use Rattle.headline.specs.Headline.{is_core_module, Headline}
 use Rattle.headline.proofs.Modules.{fits_listed, fits_program}
 use Rattle.headline.proofs.Refining.{removals_refine, Ended, removals_end}
 use Rattle.headline.proofs.Passes.{numbered_same, shaken_comes}
+use Rattle.headline.proofs.Shaking.{shaken_clean}
 
 pub comes : (t : Forest) → Fits root t → IsWellFormed t → Removals t (shaken t)
 comes t fits form = shaken_comes t (record { program = fits_program t fits; arranged = fits_arranged t fits form; enclosed = fits_enclosed t fits })
@@ -53,5 +53,5 @@ headline_of t fits form = record {
   steps = comes t fits form;
   kept = kept_by t (shaken t) fits form (comes t fits form);
   back = back_by t (shaken t) fits form (comes t fits form);
-  clean = shaken_is_clean t;
+  clean = shaken_clean t fits;
 }

@@ -18,3 +18,10 @@ pub mod Modules
 pub mod Notes
 pub mod Refining
 pub mod Headline
+pub mod Renoted
+pub mod Housed
+pub mod Exporting
+pub mod Reaching
+pub mod Dead
+pub mod Lost
+pub mod Shaking

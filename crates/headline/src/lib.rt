@@ -12,6 +12,7 @@
 //! The code is empty: each function's contract is a law.
 #![tactic(auto)]
 
+pub mod clean;
 pub mod core_changes;
 pub mod kept_runs;
 pub mod shaken;

@@ -1,0 +1,87 @@
+-- Which small programs have dead code.
+use Rattle.std.proofs.Common.{◌≡◌, inl, inr, [], ◌∷◌, pos, false, codes, refl}
+use Rattle.js_syntax.specs.Class.{root, statement, expression}
+use Rattle.js_syntax.specs.declared.node_kind.NodeKind.{NodeKind as Kind}
+use Rattle.js_syntax.specs.declared.scalar.SourceType.TheVariants as source_type
+use Rattle.js_syntax.specs.declared.kind.VariableKind.TheVariants as variable
+use Rattle.js_syntax.specs.declared.value.LiteralValue.{LiteralValue as Literal}
+use Rattle.js_syntax.specs.Node.{nothing, absent, nowhere, joined}
+use Rattle.js_syntax.specs.Table.{a_program, an_expression_statement, a_call_expression, a_reference_name, a_literal, a_binding_name, a_function_declaration, a_function_body, an_export_declaration, a_variable_declaration, a_variable_declarator}
+use Rattle.form_rules.specs.Samples.{no, a_module, a_script, a, binds, one, does, declares, function_a, block}
+use Rattle.json_shape.specs.Shape.{one as one_of, these, Stand, Fits}
+use Rattle.scope_laws.specs.Place.{Around, first, behind, under}
+use Rattle.steps_allowed.specs.Rows.{in_list, before, call_of_a, call_of_eval, exports_declaration, empty}
+use Rattle.headline.specs.Clean.{an_empty_statement, a_silent_statement, an_unused_function, an_unused_declarator, Clean}
+use Rattle.headline.proofs.Shaking.{quiet_clean}
+use Rattle.test_headline.specs.Rows as row
+
+-- ---- what has dead code
+
+-- 1;
+pub number_is_dead : Clean (a_module (does one ∷ [])) → ⊥
+number_is_dead c = c.nothing_is_dead (before []) _ refl (a_silent_statement (before []) nowhere one (inl refl, tt))
+
+-- { ; }
+pub empty_is_dead : Clean (a_module (block (empty ∷ []) ∷ [])) → ⊥
+empty_is_dead c =
+    let a = in_list (under Kind.BlockStatement nowhere (under Kind.Statements nowhere (first nothing) nothing) nothing) in
+    c.nothing_is_dead a _ refl (an_empty_statement a nowhere refl)
+
+-- function a() {}
+pub function_is_dead : Clean (a_module (function_a [] [] ∷ [])) → ⊥
+function_is_dead c = c.nothing_is_dead (before []) _ refl (an_unused_function (before []) false nowhere nowhere a _ refl refl (record { unreferred = λ r h e. h; unexported = λ e h s d. h }))
+
+-- behind the first of them
+abbrev second_declarator : Around
+second_declarator =
+    in_list (behind Kind.ExpressionStatement nowhere call_of_a
+    (under (Kind.VariableDeclaration variable.Let) nowhere (under Kind.Declarators nowhere (behind Kind.VariableDeclarator nowhere (joined (binds a) no) (first nothing)) nothing) nothing))
+
+pub declarator_is_dead : Clean row.of_two → ⊥
+declarator_is_dead c = c.nothing_is_dead second_declarator _ refl (an_unused_declarator second_declarator nowhere nowhere (codes "b") (absent nothing) refl refl (refl, tt) (record { unreferred = other; unexported = λ e h s d. h }))
+  where
+    other : _
+    other r (inl e) is = absurd cc
+    other r (inr h) is = h
+
+-- ---- what has none
+
+name_stands : Stand (these (one_of expression ∷ [])) call_of_a
+name_stands = ((a_call_expression, (false, (false, tt)), refl, tt, refl, ((a_reference_name, (a, tt), refl, tt, refl, tt), ((refl, tt), tt))), tt)
+
+eval_stands : Stand (these (one_of expression ∷ [])) call_of_eval
+eval_stands = ((a_call_expression, (false, (false, tt)), refl, tt, refl, ((a_reference_name, (codes "eval", tt), refl, tt, refl, tt), ((refl, tt), tt))), tt)
+
+function_stands : Stand (these (one_of statement ∷ [])) (function_a [] [])
+function_stands =
+    ((a_function_declaration, (false, tt), refl, tt, refl, ((a_binding_name, (a, tt), refl, tt, refl, tt), ((refl, tt), ((a_function_body, tt, refl, tt, refl, ((refl, tt), tt)), tt)))), tt)
+
+-- a();
+pub call_is_clean : Clean (a_module (does call_of_a ∷ []))
+call_is_clean = quiet_clean _ ((a_program, (source_type.Module, tt), refl, tt, refl, ((refl, (inr (refl, (an_expression_statement, tt, refl, tt, refl, name_stands)), tt)), tt)), tt) refl
+
+-- export function a() {}
+exported_fits : Fits root (a_module (exports_declaration (function_a [] []) ∷ []))
+exported_fits =
+    ((a_program, (source_type.Module, tt), refl, tt, refl, ((refl, (inr (refl, (an_export_declaration, tt, refl, tt, refl,
+    ((a_function_declaration, (false, tt), refl, tt, refl, function_stands.0.5), ((refl, tt), tt)))), tt)), tt)), tt)
+
+pub exported_is_clean : Clean (a_module (exports_declaration (function_a [] []) ∷ []))
+exported_is_clean = quiet_clean _ exported_fits refl
+
+-- let a = 1; eval();
+evaluated_fits : Fits root (a_module (declares variable.Let (binds a) one ∷ does call_of_eval ∷ []))
+evaluated_fits =
+    ((a_program, (source_type.Module, tt), refl, tt, refl, ((refl,
+    (inr (refl, (a_variable_declaration, (variable.Let, tt), refl, tt, refl, ((refl, ((a_variable_declarator, tt, refl, tt, refl, ((a_binding_name, (a, tt), refl, tt, refl, tt), ((a_literal, (Literal.Number (pos 1), tt), refl, tt, refl, tt), tt))), tt)), tt))),
+    ((an_expression_statement, tt, refl, tt, refl, eval_stands), tt))), tt)), tt)
+
+pub evaluated_is_clean : Clean (a_module (declares variable.Let (binds a) one ∷ does call_of_eval ∷ []))
+evaluated_is_clean = quiet_clean _ evaluated_fits refl
+
+-- function a() {} in a script
+global_fits : Fits root (a_script (function_a [] [] ∷ []))
+global_fits = ((a_program, (source_type.Script, tt), refl, tt, refl, ((refl, (inr (refl, function_stands.0), tt)), tt)), tt)
+
+pub global_is_clean : Clean (a_script (function_a [] [] ∷ []))
+global_is_clean = quiet_clean _ global_fits refl
