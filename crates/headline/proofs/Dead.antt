@@ -15,20 +15,18 @@ use Rattle.min_pass.specs.declared.around.Row.{Row}
 use Rattle.min_pass.specs.declared.around.Row.TheVariants.{Items as items, OfItem as of_item, Declarators as item_declarators, Other as other}
 use Rattle.min_pass.specs.Around.{outermost as asked_of_program}
 use Rattle.min_pass.specs.Pass.{Names, is_given, goes_in, is_empty_in, empties_in, goes, empties, changes}
-use Rattle.scope_rules.specs.declared.layer.Layer.{Layer}
 use Rattle.scope_rules.specs.Context.{Context, inside, outermost}
-use Rattle.scope_rules.specs.Site.{Site, BindingSite, ReferenceSite, own_sites, opens_one, scope_count, sites, sites_of, bindings_among, references_among}
-use Rattle.scope_rules.specs.Binding.{Binding, is_own_name, named_in, declared_by, binding_of}
+use Rattle.scope_rules.specs.Site.{BindingSite, ReferenceSite, own_sites, opens_one, scope_count, sites, sites_of, bindings_among, references_among}
+use Rattle.scope_rules.specs.Binding.{Binding, declared_by, binding_of}
 use Rattle.scope_rules.specs.Table.{Symbol, Reference, Scoping}
 use Rattle.scope_table.specs.Reading.{no_symbol, no_reference, scope_at, symbol_at, reference_at}
 use Rattle.scope_laws.specs.Exact.{Among, Exact}
 use Rattle.scope_laws.specs.Place.{Around, plug}
-use Rattle.scope_laws.proofs.Bindings.{none_is_some, same_value, declared_binding}
+use Rattle.scope_laws.proofs.Bindings.{none_is_some, declared_binding}
 use Rattle.min_passes.specs.Unused.{scope_has, is_sloppy_block, is_global, variable_is_unused, function_is_unused, without_exported, answers, is_script, names_of}
-use Rattle.steps_names.specs.Standing.{exported_sites, exported_declarations}
-use Rattle.steps_names.proofs.Sites.{binding_second}
-use Rattle.steps_allowed.specs.Silent.{read_in, IsFound, IsSilentNode, IsSilent, HoldsThere}
-use Rattle.steps_allowed.specs.Exposure.{Exposure, exposure, function_is_exposed, evaluates_somewhere, IsOwnFunction, IsOwnDeclarator}
+use Rattle.steps_names.specs.Standing.{exported_sites}
+use Rattle.steps_allowed.specs.Silent.{read_in, IsFound, IsSilentNode, IsSilent}
+use Rattle.steps_allowed.specs.Exposure.{Exposure, function_is_exposed, evaluates_somewhere, IsOwnFunction, IsOwnDeclarator}
 use Rattle.steps_allowed.specs.Removes.{a_node, a_function, a_declarator, asked_at, IsItem, IsDeclarator, At, IsFree, Free, FreeDeclarator, SilentStatement, SilentDeclarator}
 use Rattle.steps_pass.specs.Kept.{is_program, TellsScopes}
 use Rattle.steps_pass.proofs.Silent.{AllOf, of_left, of_right}
@@ -122,18 +120,21 @@ module _ (s : Scoping) (t : Forest) (exact : Exact s t) where
       let answer : asks entered.id ≡ true = ap (λ (x : Reference). is_some x.symbol) (get_or_from_slice_get s.references entered.id entered.entry no_reference entered.stands) ∙ ap is_some symbol in
       ap (is_marked (names_of s t).bound) entered.has_id ∙ answer_is asks (length s.references) entered.id (within s.references entered.id entered.entry entered.stands) ∙ answer
 
-  known : (cs : ℕ → Context) (at next : ℕ) (k : Kind) (n : Note) (below rest : Forest) → AllOf (references_among (sites_of t)) (sites cs at next (node k n below rest)) → IsFound (bindings_among (sites_of t)) (cs at) k n → is_known (names_of s t).bound k n ≡ true
+  known : (cs : ℕ → Context) (at next : ℕ) (k : Kind) (n : Note) (below rest : Forest) → AllOf (references_among (sites_of t)) (sites cs at next (node k n below rest))
+      → IsFound (bindings_among (sites_of t)) (cs at) k n → is_known (names_of s t).bound k n ≡ true
   known cs at next (reference_name x) n below rest m (inl e) = or_left (is_marked (names_of s t).bound n.id) (bytes_eq x (codes "undefined")) (bound_marked (read_in (cs at) n x) (m (read_in (cs at) n x) (inl refl)) e)
   known cs at next (reference_name x) n below rest m (inr e) = or_right (is_marked (names_of s t).bound n.id) (bytes_eq x (codes "undefined")) e
   known cs at next k n below rest m e = absurd e
 
-  idle_node : (w : Bool) (cs : ℕ → Context) (at next : ℕ) (k : Kind) (n : Note) (below rest : Forest) (parts : Type 0) → AllOf (references_among (sites_of t)) (sites cs at next (node k n below rest)) → (parts → may_have_effects (names_of s t).bound w below ≡ false)
+  idle_node : (w : Bool) (cs : ℕ → Context) (at next : ℕ) (k : Kind) (n : Note) (below rest : Forest) (parts : Type 0) → AllOf (references_among (sites_of t)) (sites cs at next (node k n below rest))
+      → (parts → may_have_effects (names_of s t).bound w below ≡ false)
       → IsSilentNode (bindings_among (sites_of t)) w (cs at) k n parts → has_effect (names_of s t).bound w k n (may_have_effects (names_of s t).bound w below) ≡ false
   idle_node w cs at next k n below rest parts m f (inl e) = idle_value (is_value k) w (is_known (names_of s t).bound k n) (runs_its_parts k) (may_have_effects (names_of s t).bound w below) e
   idle_node w cs at next k n below rest parts m f (inr (inl e)) = idle_name (is_value k) w (is_known (names_of s t).bound k n) (runs_its_parts k) (may_have_effects (names_of s t).bound w below) e.0 (known cs at next k n below rest m e.1)
   idle_node w cs at next k n below rest parts m f (inr (inr e)) = idle_parts (is_value k) w (is_known (names_of s t).bound k n) (runs_its_parts k) (may_have_effects (names_of s t).bound w below) e.0 (f e.1)
 
-  idle_row : (w : Bool) (cs : ℕ → Context) (at next : ℕ) (f : Forest) → AllOf (references_among (sites_of t)) (sites cs at next f) → IsSilent (bindings_among (sites_of t)) w cs at next f → may_have_effects (names_of s t).bound w f ≡ false
+  idle_row : (w : Bool) (cs : ℕ → Context) (at next : ℕ) (f : Forest) → AllOf (references_among (sites_of t)) (sites cs at next f) → IsSilent (bindings_among (sites_of t)) w cs at next f
+      → may_have_effects (names_of s t).bound w f ≡ false
   idle_row w cs at next nothing m h = refl
   idle_row w cs at next (absent rest) m h = idle_row w cs (suc at) next rest m h
   idle_row w cs at next (node k n below rest) m h =
@@ -149,7 +150,8 @@ module _ (s : Scoping) (t : Forest) (exact : Exact s t) where
   -- ---- what is free is marked
 
   -- an export whose number is that of a declaration that a statement makes is of that declaration
-  not_taken : (d : BindingSite) → Among d (bindings_among (sites_of t)) → IsHouse s d.layer → IsFree t (declared_by d) → (n : ℕ) → d.id ≡ Some n → Takes s t (exported_sites (λ at. outermost) 0 0 t) n → ⊥
+  not_taken : (d : BindingSite) → Among d (bindings_among (sites_of t)) → IsHouse s d.layer → IsFree t (declared_by d) → (n : ℕ) → d.id ≡ Some n → Takes s t (exported_sites (λ at. outermost) 0 0 t) n
+      → ⊥
   not_taken d stands house free n is h =
       let e = h.site in
       let same : declared_by e ≡ declared_by d = (exact.one_symbol e d (exported_stands (λ at. outermost) 0 0 t e h.stands) stands).0 (h.has_number ∙ sym is) in
@@ -174,7 +176,8 @@ module _ (s : Scoping) (t : Forest) (exact : Exact s t) where
 
   module _ (told : TellsScopes s t) (fits : Fits root t) (program : is_program t ≡ true) where
     -- marked, if the table answers so for its number
-    marked_so : (asks : Symbol → Bool) (d : BindingSite) (stands : Among d (bindings_among (sites_of t))) → IsHouse s d.layer → IsFree t (declared_by d) → asks (symbol_at s (exact.declared d stands).number) ≡ true
+    marked_so : (asks : Symbol → Bool) (d : BindingSite) (stands : Among d (bindings_among (sites_of t))) → IsHouse s d.layer → IsFree t (declared_by d)
+        → asks (symbol_at s (exact.declared d stands).number) ≡ true
         → is_marked (without_exported t (answers (λ y. asks (symbol_at s y)) (length s.symbols))) d.id ≡ true
     marked_so asks d stands house free e =
         let declared = exact.declared d stands in
@@ -186,7 +189,8 @@ module _ (s : Scoping) (t : Forest) (exact : Exact s t) where
           | inr h ↦ absurd (not_taken d stands house free declared.number declared.is_marked h)
         ]
 
-    function_marked : (c : Context) (e : Exposure) → Told s t c e → (d : BindingSite) → Among d (bindings_among (sites_of t)) → d.layer.scope ≡ c.block.scope → IsHouse s d.layer → IsFree t (declared_by d) → function_is_exposed e ≡ false
+    function_marked : (c : Context) (e : Exposure) → Told s t c e → (d : BindingSite) → Among d (bindings_among (sites_of t)) → d.layer.scope ≡ c.block.scope → IsHouse s d.layer
+        → IsFree t (declared_by d) → function_is_exposed e ≡ false
         → is_marked (names_of s t).functions d.id ≡ true
     function_marked c e tells d stands there house free own =
         let y = symbol_at s (exact.declared d stands).number in
@@ -200,7 +204,8 @@ module _ (s : Scoping) (t : Forest) (exact : Exact s t) where
         (ap (λ n. scope_has s n 512) (sym same) ∙ tells.evaluates ∙ second_of_neither e.names_shared e.evaluates shared))
         (ap (λ n. is_sloppy_block s n) (sym same) ∙ tells.sloppy ∙ second_of_neither (e.names_shared || e.evaluates) e.in_sloppy_block own))))
 
-    variable_marked : (c : Context) (e : Exposure) → Told s t c e → scope_has s 0 512 ≡ evaluates_somewhere t → (d : BindingSite) → Among d (bindings_among (sites_of t)) → d.layer.scope ≡ c.declaring.layer.scope → IsHouse s d.layer → IsFree t (declared_by d)
+    variable_marked : (c : Context) (e : Exposure) → Told s t c e → scope_has s 0 512 ≡ evaluates_somewhere t → (d : BindingSite) → Among d (bindings_among (sites_of t))
+        → d.layer.scope ≡ c.declaring.layer.scope → IsHouse s d.layer → IsFree t (declared_by d)
         → e.declared_shared || evaluates_somewhere t ≡ false → is_marked (names_of s t).variables d.id ≡ true
     variable_marked c e tells first_flags d stands there house free own =
         let y = symbol_at s (exact.declared d stands).number in
@@ -220,7 +225,8 @@ empties_so : (names : Names) (asked : Asked) (k : Kind) (below : Forest) → ask
 empties_so names asked k below knows = ap (λ b. if b then empties_in asked.row names asked.in_with k below else false) knows
 
 -- a silent statement goes from a list, and becomes empty elsewhere
-silent_gone : (names : Names) (row : Row) (w : Bool) (below : Forest) → may_have_effects names.bound w below ≡ false → (goes_in row names w expression_statement below || empties_in row names w expression_statement below) ≡ true
+silent_gone : (names : Names) (row : Row) (w : Bool) (below : Forest) → may_have_effects names.bound w below ≡ false
+    → (goes_in row names w expression_statement below || empties_in row names w expression_statement below) ≡ true
 silent_gone names items w below e = or_left (not (may_have_effects names.bound w below)) false (ap not e)
 silent_gone names of_item w below e = or_right false (not (may_have_effects names.bound w below)) (ap not e)
 silent_gone names item_declarators w below e = or_right false (not (may_have_effects names.bound w below)) (ap not e)
@@ -244,7 +250,8 @@ module _ (s : Scoping) (a : Around) where
       let names = names_of s t in
       true≢false (sym (goes_so names asked empty_statement nothing items f.reached.knows item) ∙ first_of_neither (goes names asked empty_statement nothing) (empties names asked empty_statement nothing) (not_gone s t empty_statement n nothing f.rest f.reached))
 
-  silent_case : (n : Note) (below : Forest) → IsLeft s (plug a (a_node expression_statement n below)) → At a (a_node expression_statement n below) (SilentStatement (plug a (a_node expression_statement n below)) below) → ⊥
+  silent_case : (n : Note) (below : Forest) → IsLeft s (plug a (a_node expression_statement n below))
+      → At a (a_node expression_statement n below) (SilentStatement (plug a (a_node expression_statement n below)) below) → ⊥
   silent_case n below left silent =
       let k = expression_statement in
       let x : Tree = record { kind = k; note = n; below = below } in
@@ -258,7 +265,8 @@ module _ (s : Scoping) (a : Around) where
       ap₂ (λ p q. p || q) (goes_so names asked k below asked.row f.reached.knows refl) (empties_so names asked k below f.reached.knows) ∙ silent_gone names asked.row asked.in_with below idle in
       true≢false (sym gone ∙ not_gone s t k n below f.rest f.reached)
 
-  function_case : (pure : Bool) (n m : Note) (x : List ℕ) (rest : Forest) → IsLeft s (plug a (a_function pure n m x rest)) → IsItem a → IsOwnFunction a (a_function pure n m x rest) → At a (a_function pure n m x rest) (Free (plug a (a_function pure n m x rest)) variable.Let x) → ⊥
+  function_case : (pure : Bool) (n m : Note) (x : List ℕ) (rest : Forest) → IsLeft s (plug a (a_function pure n m x rest)) → IsItem a → IsOwnFunction a (a_function pure n m x rest)
+      → At a (a_function pure n m x rest) (Free (plug a (a_function pure n m x rest)) variable.Let x) → ⊥
   function_case pure n m x rest left item own free =
       let k = function function_kind.Declaration pure in
       let below = node (binding_name x) m nothing rest in
@@ -275,7 +283,8 @@ module _ (s : Scoping) (a : Around) where
       true≢false (sym (goes_so names asked k below items f.reached.knows item ∙ marked) ∙ first_of_neither (goes names asked k below) (empties names asked k below) (not_gone s t k n below f.rest f.reached))
 
   declarator_case : (n m : Note) (x : List ℕ) (value : Forest) → IsLeft s (plug a (a_declarator n m x value)) → IsDeclarator a → IsOwnDeclarator a (a_declarator n m x value)
-      → At a (a_declarator n m x value) (SilentDeclarator (plug a (a_declarator n m x value)) (node (binding_name x) m nothing value)) → At a (a_declarator n m x value) (FreeDeclarator (plug a (a_declarator n m x value)) x) → ⊥
+      → At a (a_declarator n m x value) (SilentDeclarator (plug a (a_declarator n m x value)) (node (binding_name x) m nothing value))
+      → At a (a_declarator n m x value) (FreeDeclarator (plug a (a_declarator n m x value)) x) → ⊥
   declarator_case n m x value left declares own silent free =
       let k = variable_declarator in
       let below = node (binding_name x) m nothing value in

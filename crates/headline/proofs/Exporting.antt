@@ -1,5 +1,5 @@
 -- A mark goes from the names of a program only where an export is of a declaration with its number.
-use Rattle.std.proofs.Common.{◌≡◌, ◌∙◌, ◌⊎◌, inl, inr, ◌<◌, ◌+◌, ◌==◌, ℕ, zero, suc, List, [], ◌∷◌, ◌++◌, length, Bool, true, false, not, ◌&&◌, ◌||◌, if◌then◌else◌, true≢false, slice_get, slice_set, slice_index_or, Option, Some, None, refl, sym, ap, ap₂, subst, arith}
+use Rattle.std.proofs.Common.{◌≡◌, ◌∙◌, ◌⊎◌, inl, inr, ◌+◌, ◌==◌, ℕ, zero, suc, List, [], ◌∷◌, ◌++◌, Bool, true, false, not, ◌&&◌, ◌||◌, if◌then◌else◌, true≢false, slice_set, slice_index_or, Option, Some, None, refl, sym, ap, ap₂, subst, arith}
 use Rattle.js_syntax.specs.Class.{root}
 use Rattle.js_syntax.specs.declared.node_kind.NodeKind.{NodeKind as Kind}
 use Rattle.js_syntax.specs.declared.node_kind.NodeKind.TheVariants as kind
@@ -16,21 +16,21 @@ use Rattle.js_syntax.specs.Node.{Forest, nothing, node, absent, Note}
 use Rattle.json_shape.specs.Shape.{Fits}
 use Rattle.scope_rules.specs.declared.layer.Layer.{Layer}
 use Rattle.scope_rules.specs.declared.layer.Role.{Role}
-use Rattle.scope_rules.specs.Context.{Context, inside, outermost, used, below_it, of_method, in_variables, own_name_of, body_of}
-use Rattle.scope_rules.specs.Site.{Site, BindingSite, scope_bits, has_eval, name_sites, own_sites, opens_one, scope_count, sites, sites_of, bindings_among}
+use Rattle.scope_rules.specs.Context.{Context, inside, outermost, used, below_it, of_method, in_variables}
+use Rattle.scope_rules.specs.Site.{Site, BindingSite, scope_bits, has_eval, own_sites, opens_one, scope_count, sites, sites_of, bindings_among}
 use Rattle.scope_rules.specs.Binding.{is_own_name}
 use Rattle.scope_rules.specs.Table.{Scoping}
 use Rattle.scope_table.specs.Reading.{scope_at}
 use Rattle.scope_laws.specs.Exact.{Among}
 use Rattle.min_passes.specs.Unused.{has_bits, without, is_export, without_name, without_first, has_own_names, without_declared, without_exported}
-use Rattle.steps_names.specs.Standing.{is_export as is_export_node, exported_sites, exported_declarations}
+use Rattle.steps_names.specs.Standing.{is_export as is_export_node, exported_sites}
 use Rattle.steps_names.proofs.Sites.{binding_left, binding_right, binding_second, binding_third}
 use Rattle.steps_fit.proofs.Shut.{shut}
 use Rattle.steps_pass.specs.Kept.{is_program, TellsScopes}
 use Rattle.steps_pass.proofs.Exported.{same_export}
-use Rattle.steps_pass.proofs.Unexposed.{flags_of, first_scope, by_bits, ScopesFrom, from_left, from_right, own_count, node_count}
+use Rattle.steps_pass.proofs.Unexposed.{flags_of, by_bits, ScopesFrom, from_left, from_right, own_count, node_count}
 use Rattle.headline.proofs.Modules.{ends}
-use Rattle.headline.proofs.Housed.{is_block, stays_outside, everywhere, is_right, are_right, IsRightList, fits_right}
+use Rattle.headline.proofs.Housed.{is_block, stays_outside, everywhere, is_right, are_right, fits_right}
 use Rattle.js_syntax.proofs.Truth.{first_of_both, second_of_both, both, not_true}
 
 -- ---- layers that lists of statements have
@@ -154,7 +154,8 @@ module _ (s : Scoping) (t : Forest) where
   function_outer c next function_kind.Expression pure below h = inr (λ g. true≢false g.not_own)
   function_outer c next function_kind.Arrow pure below h = inr (λ g. true≢false g.not_own)
 
-  class_outer : (c : Context) (next : ℕ) (how : ClassKind) (below : Forest) → IsOutermost c → (scope_at s next).flags ≡ scope_bits c (kind.Class how) below → IsOuter (inside c next (kind.Class how) below 0).declaring.layer
+  class_outer : (c : Context) (next : ℕ) (how : ClassKind) (below : Forest) → IsOutermost c → (scope_at s next).flags ≡ scope_bits c (kind.Class how) below
+      → IsOuter (inside c next (kind.Class how) below 0).declaring.layer
   class_outer c next class_kind.Declaration below h flags = inl h.block
   class_outer c next class_kind.Expression below h flags = inr (λ g. true≢false (sym g.form ∙ ap has_form flags ∙ no_form true (has_eval below)))
 
@@ -179,7 +180,8 @@ module _ (s : Scoping) (t : Forest) where
   then_stays (inr h) f = inr h
 
   -- the name of a node
-  name_stays : (c : Context) (k : Kind) (m : Note) (below : Forest) (marks : List Bool) (n : ℕ) → IsOuter c.declaring.layer → IsMarked marks n → Stays (without_name k m marks) (own_sites c m k below) n
+  name_stays : (c : Context) (k : Kind) (m : Note) (below : Forest) (marks : List Bool) (n : ℕ) → IsOuter c.declaring.layer → IsMarked marks n
+      → Stays (without_name k m marks) (own_sites c m k below) n
   name_stays c (kind.BindingName x) m below marks n o h = elim (without_other m.id marks n h) [
     | inl g ↦ inl g
     | inr e ↦ inr (record { site = record { id = m.id; name = x; layer = c.declaring.layer; flags = c.declaring.flags; is_pure = c.declaring.is_pure; span = m.span }; stands = inl refl; has_number = e; outer = o })
@@ -205,7 +207,8 @@ module _ (s : Scoping) (t : Forest) where
       first_stays (inside (cs at) next (kind.Class how) below) (next + 1) below marks n (class_outer (cs at) next how below h flags) g
   own_stays cs at next k m below marks n e h f g = absurd (true≢false (sym e))
 
-  declared_stays : (f : Forest) (cs : ℕ → Context) (at next : ℕ) (marked : ℕ → Bool) (marks : List Bool) (n : ℕ) → ((i : ℕ) → IsOutermost (cs i)) → ((i : ℕ) → marked i ≡ true) → ScopesFrom s t next (sites cs at next f) → shut is_block stays_outside marked at f ≡ true
+  declared_stays : (f : Forest) (cs : ℕ → Context) (at next : ℕ) (marked : ℕ → Bool) (marks : List Bool) (n : ℕ) → ((i : ℕ) → IsOutermost (cs i)) → ((i : ℕ) → marked i ≡ true)
+      → ScopesFrom s t next (sites cs at next f) → shut is_block stays_outside marked at f ≡ true
       → IsMarked marks n → Stays (without_declared f marks) (sites cs at next f) n
   declared_stays nothing cs at next marked marks n o all from h g = inl g
   declared_stays (absent rest) cs at next marked marks n o all from h g = declared_stays rest cs (suc at) next marked marks n o all from h g
@@ -263,7 +266,8 @@ module _ (s : Scoping) (t : Forest) where
   export_names kind.ExportDefaultDeclaration e = refl
   export_names k e = absurd (true≢false (sym e))
 
-  items_stay : (f : Forest) (cs : ℕ → Context) (at next : ℕ) (marks : List Bool) (n : ℕ) → ((i : ℕ) → IsOutermost (cs i)) → ScopesFrom s t next (sites cs at next f) → are_right f ≡ true → IsMarked marks n → Stays (without_exported f marks) (exported_sites cs at next f) n
+  items_stay : (f : Forest) (cs : ℕ → Context) (at next : ℕ) (marks : List Bool) (n : ℕ) → ((i : ℕ) → IsOutermost (cs i)) → ScopesFrom s t next (sites cs at next f) → are_right f ≡ true
+      → IsMarked marks n → Stays (without_exported f marks) (exported_sites cs at next f) n
   items_stay nothing cs at next marks n o from h g = inl g
   items_stay (absent rest) cs at next marks n o from h g = items_stay rest cs (suc at) next marks n o from h g
   items_stay (node k m below rest) cs at next marks n o from h g =
@@ -292,7 +296,8 @@ module _ (s : Scoping) (t : Forest) where
   -- ---- a whole program
 
   module _ (told : TellsScopes s t) where
-    program_stays : (source : SourceType) (m l : Note) (items : Forest) → t ≡ node (kind.Program source) m (node kind.Statements l items nothing) nothing → are_right items ≡ true → (marks : List Bool) (n : ℕ) → IsMarked marks n
+    program_stays : (source : SourceType) (m l : Note) (items : Forest) → t ≡ node (kind.Program source) m (node kind.Statements l items nothing) nothing → are_right items ≡ true
+        → (marks : List Bool) (n : ℕ) → IsMarked marks n
         → Stays (without_exported t marks) (exported_sites (λ at. outermost) 0 0 t) n
     program_stays source m l items is right marks n g =
         let list = node kind.Statements l items nothing in

@@ -1,7 +1,7 @@
 -- In a program that fits the table of node types no declaration lies in the scope of a class or of a field's value, no export lies below
 -- a statement, and an exported declaration opens no scope but in functions and classes.
-use Rattle.std.proofs.Common.{◌≡◌, ℕ, suc, inl, inr, List, [], ◌∷◌, Bool, true, false, not, ◌&&◌, ◌||◌, if◌then◌else◌, refl, ap, ap₂, ◌∙◌}
-use Rattle.js_syntax.specs.Class.{Class, root, a_prologue, module_item, statement, default_export, declaration, class_block, class_item, expression, private_key}
+use Rattle.std.proofs.Common.{◌≡◌, ℕ, inl, inr, [], ◌∷◌, Bool, true, false, not, ◌&&◌, ◌||◌, if◌then◌else◌, refl, ap, ap₂, ◌∙◌}
+use Rattle.js_syntax.specs.Class.{Class, root, a_prologue, module_item, default_export, declaration, class_block, class_item, expression, private_key}
 use Rattle.js_syntax.specs.declared.node_kind.NodeKind.{NodeKind as Kind}
 use Rattle.js_syntax.specs.declared.node_kind.NodeKind.TheVariants.{Program as program, Function as function, Class as class, StaticBlock as static_block, PropertyDefinition as property_definition, BlockStatement as block_statement, SwitchStatement as switch_statement, WithStatement as with_statement, CatchClause as catch_clause, ForStatement as for_statement, ForInStatement as for_in_statement, ForOfStatement as for_of_statement, VariableDeclaration as variable_declaration, Statements as statements, Hole as hole, ExportNamedDeclaration as export_named_declaration, ExportDefaultDeclaration as export_default_declaration}
 use Rattle.js_syntax.specs.declared.kind.FunctionKind.TheVariants as function_kind
@@ -9,7 +9,7 @@ use Rattle.js_syntax.specs.declared.kind.ClassKind.TheVariants as class_kind
 use Rattle.js_syntax.specs.Hint.{has, is_private}
 use Rattle.js_syntax.specs.Node.{Forest, Note, nothing, node, absent}
 use Rattle.js_syntax.specs.Table.{Row, a_program, a_block_statement, a_function_body, a_with_statement, a_labeled_statement, an_if_statement, a_switch_statement, a_switch_case, a_try_statement, a_catch_clause, a_while_statement, a_do_while_statement, a_for_statement, a_for_in_statement, a_for_of_statement, a_function_declaration, a_default_function, a_variable_declaration, a_class_declaration, a_default_class, a_class_expression, a_class_body, a_property_definition, a_static_block, an_export_list, an_export_declaration, an_export_from, an_export_default_declaration, fields_of, type_of, stands}
-use Rattle.json_shape.specs.Shape.{Values, kind_in, first_of, Place, one, maybe_one, beyond, key_node, key_apart, list, list_with_holes, body, item_or_hole, item_of_body, places, Plan, these, all, all_or_holes, all_of_body, first_place, behind, after_body_item, is_directive_kind, IsOf, IsAt, Stand, Fits}
+use Rattle.json_shape.specs.Shape.{Values, kind_in, first_of, Place, one, maybe_one, beyond, key_node, key_apart, list, list_with_holes, body, item_or_hole, item_of_body, places, Plan, these, first_place, behind, after_body_item, is_directive_kind, IsOf, IsAt, Stand, Fits}
 use Rattle.json_shape.proofs.Choice.{is_list_kind}
 use Rattle.std.specs.Prelude.{Some}
 use Rattle.min_passes.specs.Unused.{is_export}
@@ -22,7 +22,7 @@ use Rattle.steps_fit.proofs.Passing.{plan_passes, first_passes, behind_passes}
 use Rattle.steps_fit.proofs.Holding.{is_sound, planned_below}
 use Rattle.steps_fit.proofs.Shut.{shut, takes_marked, row_passing, shut_as_planned}
 use Rattle.headline.proofs.Modules.{root_row, ends}
-use Rattle.js_syntax.proofs.Truth.{first_of_both, second_of_both, both}
+use Rattle.js_syntax.proofs.Truth.{first_of_both, both}
 
 -- ---- sets of rows
 
@@ -90,7 +90,8 @@ expressions_lists kind h = refl
 expressions_fields : (r : Row) (vs : Values (fields_of r)) → in_expressions r ≡ true → keeps_it is_declaration passes of_expressions r (kind_in r vs) ≡ true
 expressions_fields r vs h = if_so (in_expressions r) (keeps_it is_declaration passes of_expressions r (kind_in r vs)) (expressions_keep r vs) h
 
-row_declares : (marks : ℕ → Bool) (r : Row) (vs : Values (fields_of r)) (private : Bool) (a : Forest) → fields_pass (takes_marked of_expressions marks) 0 (fields_of r) ≡ true → Stand (these (places private (fields_of r) vs)) a → shut is_declaration passes marks 0 a ≡ true
+row_declares : (marks : ℕ → Bool) (r : Row) (vs : Values (fields_of r)) (private : Bool) (a : Forest) → fields_pass (takes_marked of_expressions marks) 0 (fields_of r) ≡ true
+    → Stand (these (places private (fields_of r) vs)) a → shut is_declaration passes marks 0 a ≡ true
 row_declares marks r vs private a h st =
     shut_as_planned is_declaration passes of_expressions in_expressions expressions_lists refl (rows_of of_expressions in_expressions expressions_closed expressions_others) expressions_fields
     a marks 0 (these (places private (fields_of r) vs)) (row_passing of_expressions marks r vs private h) st
@@ -216,7 +217,8 @@ exports_lists kind h = refl
 exports_fields : (r : Row) (vs : Values (fields_of r)) → in_exports r ≡ true → keeps_it is_block stays_outside of_exports r (kind_in r vs) ≡ true
 exports_fields r vs h = if_so (in_exports r) (keeps_it is_block stays_outside of_exports r (kind_in r vs)) (exports_keep r vs) h
 
-row_blocks : (marks : ℕ → Bool) (r : Row) (vs : Values (fields_of r)) (private : Bool) (a : Forest) → fields_pass (takes_marked of_exports marks) 0 (fields_of r) ≡ true → Stand (these (places private (fields_of r) vs)) a → shut is_block stays_outside marks 0 a ≡ true
+row_blocks : (marks : ℕ → Bool) (r : Row) (vs : Values (fields_of r)) (private : Bool) (a : Forest) → fields_pass (takes_marked of_exports marks) 0 (fields_of r) ≡ true
+    → Stand (these (places private (fields_of r) vs)) a → shut is_block stays_outside marks 0 a ≡ true
 row_blocks marks r vs private a h st =
     shut_as_planned is_block stays_outside of_exports in_exports exports_lists refl (rows_of of_exports in_exports exports_closed exports_others) exports_fields
     a marks 0 (these (places private (fields_of r) vs)) (row_passing of_exports marks r vs private h) st
@@ -259,7 +261,8 @@ others_lists kind h = refl
 others_fields : (r : Row) (vs : Values (fields_of r)) → in_others r ≡ true → keeps_it is_export everywhere of_others r (kind_in r vs) ≡ true
 others_fields r vs h = if_so (in_others r) (keeps_it is_export everywhere of_others r (kind_in r vs)) (others_keep r vs) h
 
-row_exports : (marks : ℕ → Bool) (r : Row) (vs : Values (fields_of r)) (private : Bool) (a : Forest) → fields_pass (takes_marked of_others marks) 0 (fields_of r) ≡ true → Stand (these (places private (fields_of r) vs)) a → shut is_export everywhere marks 0 a ≡ true
+row_exports : (marks : ℕ → Bool) (r : Row) (vs : Values (fields_of r)) (private : Bool) (a : Forest) → fields_pass (takes_marked of_others marks) 0 (fields_of r) ≡ true
+    → Stand (these (places private (fields_of r) vs)) a → shut is_export everywhere marks 0 a ≡ true
 row_exports marks r vs private a h st =
     shut_as_planned is_export everywhere of_others in_others others_lists refl (rows_of of_others in_others others_closed others_others) others_fields
     a marks 0 (these (places private (fields_of r) vs)) (row_passing of_others marks r vs private h) st
@@ -277,7 +280,8 @@ abbrev is_no_program : Row → Bool
 is_no_program a_program = false
 is_no_program r = true
 
-row_right : (r : Row) (vs : Values (fields_of r)) (private : Bool) (a : Forest) → is_no_program (first_of r) ≡ true → Stand (these (places private (fields_of r) vs)) a → is_right (kind_in r vs) a ≡ true
+row_right : (r : Row) (vs : Values (fields_of r)) (private : Bool) (a : Forest) → is_no_program (first_of r) ≡ true → Stand (these (places private (fields_of r) vs)) a
+    → is_right (kind_in r vs) a ≡ true
 row_right a_program vs private a h st = absurd cc
 row_right an_export_list vs private a h st = row_blocks (λ i. true) an_export_list vs private a refl st
 row_right an_export_declaration vs private a h st = row_blocks (λ i. true) an_export_declaration vs private a refl st

@@ -1,11 +1,10 @@
 -- A program without dead code is left as it is by a pass: what a pass would take is dead code.
-use Rattle.std.proofs.Common.{◌≡◌, ◌∙◌, ◌+◌, ℕ, List, [], ◌++◌, Bool, true, false, not, ◌&&◌, ◌||◌, Option, Some, true≢false, inl, refl, sym, ap, subst}
+use Rattle.std.proofs.Common.{◌≡◌, ◌∙◌, ◌+◌, ℕ, List, [], Bool, true, false, not, ◌&&◌, ◌||◌, Some, inl, refl, sym, ap, subst}
 use Rattle.std.proofs.lemmas.Bool.{and_parts, false_from_ne_true}
 use Rattle.js_syntax.specs.declared.node_kind.NodeKind.{NodeKind as Kind}
 use Rattle.js_syntax.specs.declared.node_kind.NodeKind.TheVariants.{EmptyStatement as empty_statement, ExpressionStatement as expression_statement, Function as function, VariableDeclaration as variable_declaration, VariableDeclarator as variable_declarator, Statements as statements, Declarators as declarators, BindingName as binding_name}
 use Rattle.js_syntax.specs.declared.kind.FunctionKind.{FunctionKind}
 use Rattle.js_syntax.specs.declared.kind.FunctionKind.TheVariants as function_kind
-use Rattle.js_syntax.specs.declared.kind.VariableKind.{VariableKind}
 use Rattle.js_syntax.specs.declared.kind.VariableKind.TheVariants as variable
 use Rattle.js_syntax.specs.Node.{Forest, Tree, Note, nothing, node, absent}
 use Rattle.js_effects.specs.Silence.{is_marked, may_have_effects}
@@ -13,15 +12,14 @@ use Rattle.min_pass.specs.declared.around.Row.{Row}
 use Rattle.min_pass.specs.declared.around.Row.TheVariants.{Items as items, OfItem as of_item, Declarators as item_declarators, Other as other}
 use Rattle.min_pass.specs.Around.{row_below, is_with, outermost as asked_of_program}
 use Rattle.min_pass.specs.Pass.{is_given, goes_as_declarator, one_stays, declaration_goes, function_goes, is_silent_statement, goes_as_item, goes_in, empties_in, goes, empties, loses, changes}
-use Rattle.scope_rules.specs.Context.{Context, inside, outermost}
+use Rattle.scope_rules.specs.Context.{inside, outermost}
 use Rattle.scope_rules.specs.Site.{own_sites, sites, sites_of, bindings_among}
 use Rattle.scope_rules.specs.Table.{Scoping}
 use Rattle.scope_laws.specs.Place.{Around, first, plug}
 use Rattle.min_passes.specs.Unused.{names_of}
 use Rattle.steps_names.proofs.Sites.{binding_second}
-use Rattle.steps_allowed.specs.Arranged.{begins_with_leaf, is_declarator, are_declarators, has_declarators, is_arranged_at, is_arranged}
-use Rattle.steps_allowed.specs.Removes.{a_node, a_function, a_declarator, asked_at, IsItem, IsDeclarator, At, SilentStatement, SilentDeclarator, Free, FreeDeclarator}
-use Rattle.steps_pass.specs.Kept.{IsKept}
+use Rattle.steps_allowed.specs.Arranged.{is_declarator, are_declarators, has_declarators, is_arranged_at, is_arranged}
+use Rattle.steps_allowed.specs.Removes.{a_function, a_declarator, asked_at, IsItem, IsDeclarator, SilentDeclarator, Free, FreeDeclarator}
 use Rattle.steps_pass.proofs.Silent.{all_there, holds_there, holds_of_declared, silent_statement}
 use Rattle.steps_pass.proofs.Standing.{function_own, declarator_own}
 use Rattle.steps_pass.proofs.Cases.{Holds, free_function, free_variable, all_declared, named_site, IsQuiet, silent_behind}
@@ -46,7 +44,8 @@ module _ (s : Scoping) (t : Forest) (a : Around) where
       let d = named_site (fs 0) m x in
       free_function s t v h d (all_of d (binding_second d (own_sites (cs place) n (function function_kind.Declaration pure) below) (sites fs 0 (next + 1) below) [] (inl refl))) e))
 
-  declarator_dead : (n m : Note) (x : List ℕ) (value : Forest) → Holds s (names_of s t) (plug a (a_declarator n m x value)) → IsDeclarator a → is_marked (names_of s t).variables m.id ≡ true → IsQuiet s t a value
+  declarator_dead : (n m : Note) (x : List ℕ) (value : Forest) → Holds s (names_of s t) (plug a (a_declarator n m x value)) → IsDeclarator a → is_marked (names_of s t).variables m.id ≡ true
+      → IsQuiet s t a value
       → IsDead (plug a (a_declarator n m x value)) a (a_declarator n m x value)
   declarator_dead n m x value h declarator e quiet =
       let y = a_declarator n m x value in
@@ -83,7 +82,8 @@ module _ (s : Scoping) (t : Forest) (h : Holds s (names_of s t) t) (clean : Clea
       let a = around p (first rest) in
       not_dead p x rest is (a_silent_statement a n below (silent_statement s t a n below (holds_here p x rest is).kept (subst (λ w. may_have_effects (names_of s t).bound w below ≡ false) (sym (with_there p rest)) e)))
 
-  no_function : (p : Path) (how : FunctionKind) (pure : Bool) (n : Note) (below rest : Forest) → t ≡ fill p (node (function how pure) n below rest) → row_at p ≡ items → is_arranged_at (function how pure) below ≡ true → function_goes (names_of s t) how below ≡ true → ⊥
+  no_function : (p : Path) (how : FunctionKind) (pure : Bool) (n : Note) (below rest : Forest) → t ≡ fill p (node (function how pure) n below rest) → row_at p ≡ items
+      → is_arranged_at (function how pure) below ≡ true → function_goes (names_of s t) how below ≡ true → ⊥
   no_function p function_kind.Declaration pure n (node (binding_name x) m nothing r) rest is row arranged e =
       let y : Tree = record { kind = function function_kind.Declaration pure; note = n; below = node (binding_name x) m nothing r } in
       not_dead p y rest is (function_dead s t (around p (first rest)) pure n m x r (holds_here p y rest is) (row_there p rest items row) e)
@@ -94,7 +94,8 @@ module _ (s : Scoping) (t : Forest) (h : Holds s (names_of s t) t) (clean : Clea
   no_function p function_kind.Declaration pure n (absent r) rest is row arranged e = wrong e
   no_function p how pure n below rest is row arranged e = wrong e
 
-  no_declarator : (p : Path) (n : Note) (below rest : Forest) → t ≡ fill p (node variable_declarator n below rest) → row_at p ≡ item_declarators → is_declarator variable_declarator below ≡ true → goes_as_declarator (names_of s t) (with_at p) variable_declarator below ≡ true → ⊥
+  no_declarator : (p : Path) (n : Note) (below rest : Forest) → t ≡ fill p (node variable_declarator n below rest) → row_at p ≡ item_declarators → is_declarator variable_declarator below ≡ true
+      → goes_as_declarator (names_of s t) (with_at p) variable_declarator below ≡ true → ⊥
   no_declarator p n (node (binding_name x) m nothing value) rest is row arranged e =
       let y : Tree = record { kind = variable_declarator; note = n; below = node (binding_name x) m nothing value } in
       let both = and_parts (is_marked (names_of s t).variables m.id) _ e in
@@ -159,7 +160,8 @@ module _ (s : Scoping) (t : Forest) (h : Holds s (names_of s t) t) (clean : Clea
   -- ---- what stays
 
   -- a declaration of which a declarator stays does so too
-  declaration_stays : (w : Bool) (below : Forest) → has_declarators below ≡ true → loses (names_of s t) (record { row = of_item; in_with = w || false; knows_names = true }) below ≡ false → declaration_goes (names_of s t) w below ≡ false
+  declaration_stays : (w : Bool) (below : Forest) → has_declarators below ≡ true → loses (names_of s t) (record { row = of_item; in_with = w || false; knows_names = true }) below ≡ false
+      → declaration_goes (names_of s t) w below ≡ false
   declaration_stays w (node declarators m (node k l c more) nothing) a e =
       let names = names_of s t in
       let v = (w || false) || false in
@@ -184,7 +186,8 @@ module _ (s : Scoping) (t : Forest) (h : Holds s (names_of s t) t) (clean : Clea
   item_stays p (variable_declaration how) n below rest is row a e = declaration_stays (with_at p) below a e
   item_stays p k n below rest is row a e = refl
 
-  declarator_stays : (p : Path) (k : Kind) (n : Note) (below rest : Forest) → t ≡ fill p (node k n below rest) → row_at p ≡ item_declarators → is_declarator k below ≡ true → goes_as_declarator (names_of s t) (with_at p) k below ≡ false
+  declarator_stays : (p : Path) (k : Kind) (n : Note) (below rest : Forest) → t ≡ fill p (node k n below rest) → row_at p ≡ item_declarators → is_declarator k below ≡ true
+      → goes_as_declarator (names_of s t) (with_at p) k below ≡ false
   declarator_stays p variable_declarator n below rest is row a = false_from_ne_true _ (λ g. no_declarator p n below rest is row a g)
   declarator_stays p k n below rest is row a = wrong a
 

@@ -1,5 +1,5 @@
 -- What is known at a place of a program that a pass leaves as it is: the way down to it, row by row.
-use Rattle.std.proofs.Common.{◌≡◌, ◌∙◌, ◌<◌, ◌+◌, ◌==◌, ℕ, zero, suc, List, [], ◌∷◌, ◌++◌, Bool, true, false, not, ◌&&◌, ◌||◌, if◌then◌else◌, true≢false, Option, Some, refl, sym, ap, ap₂, subst, arith}
+use Rattle.std.proofs.Common.{◌≡◌, ◌∙◌, ◌<◌, ◌+◌, ◌==◌, ℕ, suc, ◌++◌, Bool, true, false, not, ◌&&◌, ◌||◌, if◌then◌else◌, true≢false, Some, refl, sym, ap, subst, arith}
 use Rattle.js_syntax.specs.Class.{root}
 use Rattle.js_syntax.specs.declared.node_kind.NodeKind.{NodeKind as Kind}
 use Rattle.js_syntax.specs.declared.node_kind.NodeKind.TheVariants as kind
@@ -18,16 +18,16 @@ use Rattle.json_shape.specs.Shape.{Fits}
 use Rattle.min_pass.specs.declared.around.Around.{Around as Asked}
 use Rattle.min_pass.specs.declared.around.Row.{Row}
 use Rattle.min_pass.specs.declared.around.Row.TheVariants.{Items as items, OfItem as of_item, Declarators as item_declarators, Other as other}
-use Rattle.min_pass.specs.Around.{row_below, is_with, entered as asked_below, outermost as asked_of_program}
-use Rattle.min_pass.specs.Pass.{Names, goes, empties, loses, changes}
+use Rattle.min_pass.specs.Around.{row_below, entered as asked_below, outermost as asked_of_program}
+use Rattle.min_pass.specs.Pass.{goes, empties, loses, changes}
 use Rattle.scope_rules.specs.declared.layer.Layer.{Layer}
 use Rattle.scope_rules.specs.declared.layer.Role.{Role}
 use Rattle.scope_rules.specs.Context.{Context, opens, strict_in, inside, outermost, used, below_it, of_method, in_variables, in_block, in_function, at_function_name, at_class_name, at_parameters, body_of, parameters_of}
 use Rattle.scope_rules.specs.Binding.{is_own_name}
-use Rattle.scope_rules.specs.Site.{Site, scope_site, BindingSite, ReferenceSite, form_bits, scope_bits, scope_row, has_eval, name_sites, own_sites, opens_one, scope_count, sites, sites_of, bindings_among, references_among}
+use Rattle.scope_rules.specs.Site.{form_bits, scope_bits, scope_row, has_eval, name_sites, own_sites, opens_one, scope_count, sites, sites_of, bindings_among, references_among}
 use Rattle.scope_rules.specs.Table.{Scoping}
 use Rattle.scope_table.specs.Reading.{scope_at}
-use Rattle.scope_laws.specs.Place.{Around, first, behind, behind_none, under, placed, plug}
+use Rattle.scope_laws.specs.Place.{Around, first, behind, behind_none, under, plug}
 use Rattle.min_passes.specs.Unused.{has_bits, scope_has, is_sloppy_block, is_script, names_of}
 use Rattle.steps_allowed.specs.Silent.{HoldsThere}
 use Rattle.steps_allowed.specs.Removes.{asked_at, At}
@@ -188,7 +188,8 @@ module _ (s : Scoping) (t : Forest) where
   -- ---- marks
 
   -- below a node whose place is marked or not, what is marked declares nothing
-  marks_shut : (m : Bool) (k : Kind) (below : Forest) → is_housed_at k below ≡ true → shut is_declaration passes (λ (i : ℕ). m && passes k i) 0 below ≡ true → shut is_declaration passes (marks_below m k) 0 below ≡ true
+  marks_shut : (m : Bool) (k : Kind) (below : Forest) → is_housed_at k below ≡ true → shut is_declaration passes (λ (i : ℕ). m && passes k i) 0 below ≡ true
+      → shut is_declaration passes (marks_below m k) 0 below ≡ true
   marks_shut true k below h e = e
   marks_shut false (kind.Class how) below h e = h
   marks_shut false (kind.PropertyDefinition is_static key) below h e = h
@@ -217,7 +218,8 @@ module _ (s : Scoping) (t : Forest) where
     pub stays : loses (names_of s t) asked f ≡ false
 
   -- the layer of what a declaration declares
-  declares_inside : (row : Row) (c : Context) (next : ℕ) (k : Kind) (below : Forest) (at : ℕ) → (is_declaration k ≡ true → HasHouses c) → (IsDeclaring row → IsHouse s c.declaring.layer) → IsDeclaring (row_below row k) → IsHouse s (inside c next k below at).declaring.layer
+  declares_inside : (row : Row) (c : Context) (next : ℕ) (k : Kind) (below : Forest) (at : ℕ) → (is_declaration k ≡ true → HasHouses c) → (IsDeclaring row → IsHouse s c.declaring.layer)
+      → IsDeclaring (row_below row k) → IsHouse s (inside c next k below at).declaring.layer
   declares_inside items c next kind.Statements below at h o d = absurd d
   declares_inside of_item c next kind.Statements below at h o d = absurd d
   declares_inside item_declarators c next kind.Statements below at h o d = absurd d
@@ -331,7 +333,8 @@ module _ (s : Scoping) (t : Forest) where
     pub same_exposure : exposures at ≡ e
     pub there : holds asked.in_with (contexts at) next
 
-  found : (x : Tree) (holds : Bool → Context → ℕ → Type 0) (a : Around) (asked : Asked) (es : ℕ → Exposure) (cs : ℕ → Context) (at next : ℕ) → IsReached asked es cs at next (plug a (Some x)) → HoldsThere asked.in_with cs at next a (Some x) holds
+  found : (x : Tree) (holds : Bool → Context → ℕ → Type 0) (a : Around) (asked : Asked) (es : ℕ → Exposure) (cs : ℕ → Context) (at next : ℕ) → IsReached asked es cs at next (plug a (Some x))
+      → HoldsThere asked.in_with cs at next a (Some x) holds
       → IsFoundAt x holds (asked_at asked a) (exposed_at es at a (Some x))
   found x holds (first rest) asked es cs at next h there = record { exposures = es; contexts = cs; at = at; next = next; rest = rest; reached = h; same_exposure = refl; there = there }
   found x holds (behind k n below a) asked es cs at next h there = found x holds a asked es cs (suc at) (next + scope_count (node k n below nothing)) (reached_behind k n below (plug a (Some x)) h) there
@@ -351,7 +354,8 @@ module _ (s : Scoping) (source : SourceType) (n : Note) (below rest : Forest) wh
   abbrev the_program : Forest
   the_program = node (kind.Program source) n below rest
 
-  program_reached : TellsScopes s (node (kind.Program source) n below rest) → is_housed (node (kind.Program source) n below rest) ≡ true → changes (names_of s (node (kind.Program source) n below rest)) (node (kind.Program source) n below rest) ≡ false
+  program_reached : TellsScopes s (node (kind.Program source) n below rest) → is_housed (node (kind.Program source) n below rest) ≡ true
+      → changes (names_of s (node (kind.Program source) n below rest)) (node (kind.Program source) n below rest) ≡ false
       → IsReached s (node (kind.Program source) n below rest) (asked_below (asked_of_program true) (kind.Program source)) (exposed_inside (exposed_of (node (kind.Program source) n below rest) 0) (kind.Program source) below) (inside outermost 0 (kind.Program source) below) 0 1 below
   program_reached told house stays =
       let t = the_program in
@@ -385,7 +389,8 @@ module _ (s : Scoping) (source : SourceType) (n : Note) (below rest : Forest) wh
       }
 
 -- A place below a program that a pass leaves as it is.
-pub find : (s : Scoping) (a : Around) (x : Tree) (holds : Bool → Context → ℕ → Type 0) → TellsScopes s (plug a (Some x)) → Fits root (plug a (Some x)) → is_program (plug a (Some x)) ≡ true → ((rest : Forest) → is_program (node x.kind x.note x.below rest) ≡ false)
+pub find : (s : Scoping) (a : Around) (x : Tree) (holds : Bool → Context → ℕ → Type 0) → TellsScopes s (plug a (Some x)) → Fits root (plug a (Some x)) → is_program (plug a (Some x)) ≡ true
+    → ((rest : Forest) → is_program (node x.kind x.note x.below rest) ≡ false)
     → changes (names_of s (plug a (Some x))) (plug a (Some x)) ≡ false → At a (Some x) holds → IsFoundAt s (plug a (Some x)) x holds (asked_at (asked_of_program true) a) (exposure a (Some x))
 find s (first rest) x holds told fits p q stays there = absurd (true≢false (sym p ∙ q rest))
 find s (behind k n below a) x holds told fits p q stays there = absurd (plugged_some a x (ends (plug a (Some x)) fits.1))

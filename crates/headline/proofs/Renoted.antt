@@ -6,18 +6,15 @@ use mathlib.Core.Path.{fun_ext}
 use Rattle.js_syntax.specs.declared.node_kind.NodeKind.{NodeKind as Kind}
 use Rattle.js_syntax.specs.declared.node_kind.NodeKind.TheVariants.{Program as program, Function as function, Class as class, PropertyDefinition as property_definition, SwitchStatement as switch_statement, WithStatement as with_statement, StaticBlock as static_block, BlockStatement as block_statement, CatchClause as catch_clause, ForStatement as for_statement, ForInStatement as for_in_statement, ForOfStatement as for_of_statement, BindingName as binding_name, ReferenceName as reference_name, TargetName as target_name, EmptyStatement as empty_statement, ExpressionStatement as expression_statement, VariableDeclarator as variable_declarator}
 use Rattle.js_syntax.specs.declared.kind.FunctionKind.TheVariants as function_kind
-use Rattle.js_syntax.specs.declared.kind.ClassKind.TheVariants as class_kind
 use Rattle.js_syntax.specs.declared.kind.VariableKind.TheVariants as variable
 use Rattle.js_syntax.specs.declared.scalar.SourceType.TheVariants as source_type
-use Rattle.js_syntax.specs.declared.value.Key.TheVariants.{Below as key_below}
 use Rattle.js_syntax.specs.Node.{Forest, Tree, Note, nothing, node, absent, nowhere, bare, below_of}
 use Rattle.form_rules.specs.Context.{is_module, is_strict_list, is_strict_function}
 use Rattle.min_pass.specs.declared.around.Around.{Around as Asked}
-use Rattle.min_pass.specs.declared.around.Row.{Row}
 use Rattle.min_pass.specs.Around.{is_with, entered as asked_below, outermost as asked_of_program}
 use Rattle.min_pass.specs.Pass.{is_given}
 use Rattle.scope_rules.specs.declared.layer.Layer.{Layer}
-use Rattle.scope_rules.specs.Context.{Context, has_second, opens, strict_in, inside, outermost}
+use Rattle.scope_rules.specs.Context.{Context, opens, strict_in, inside, outermost}
 use Rattle.scope_rules.specs.Site.{Site, scope_site, binding_site, reference_site, ScopeSite, BindingSite, ReferenceSite, bit, form_bits, scope_bits, scope_row, has_eval, name_sites, own_sites, opens_one, scope_count, sites, sites_of, bindings_among, references_among}
 use Rattle.scope_rules.specs.Binding.{Binding, same_layer, is_declared, binding_layer, named_in, binding_of}
 use Rattle.scope_laws.specs.Exact.{Among}
@@ -27,7 +24,7 @@ use Rattle.scope_laws.proofs.Declared.{image}
 use Rattle.scope_laws.proofs.Numbers.{among_map}
 use Rattle.steps_names.specs.Standing.{is_export, exported_sites, exported_declarations}
 use Rattle.steps_allowed.specs.Silent.{read_in, IsFound, IsSilentNode, IsSilent, HoldsThere}
-use Rattle.steps_allowed.specs.Exposure.{Exposure, in_code, in_block, at_function_name, at_class_name, declaring, is_script_source, exposed_inside, is_script, beside_program, exposed_of, exposed_at, exposure, function_is_exposed, evaluates_somewhere, IsOwnFunction, IsOwnDeclarator}
+use Rattle.steps_allowed.specs.Exposure.{Exposure, at_function_name, at_class_name, declaring, is_script_source, exposed_inside, is_script, exposed_of, exposed_at, exposure, function_is_exposed, evaluates_somewhere, IsOwnFunction, IsOwnDeclarator}
 use Rattle.steps_allowed.specs.Removes.{a_node, a_function, a_declarator, asked_at, IsItem, IsDeclarator, At, IsFree, Free, FreeDeclarator, SilentStatement, SilentDeclarator}
 use Rattle.headline.specs.Clean.{IsDead, an_empty_statement, a_silent_statement, an_unused_function, an_unused_declarator, Clean}
 
@@ -107,7 +104,8 @@ exported_bare cs at next (node k n below rest) =
     (ap (λ (i : ℕ). exported_sites cs (suc at) i (bare rest)) (place_same next k n below) ∙ exported_bare cs (suc at) (next + scope_count (node k n below nothing)) rest)
     ∙ sym (map-append bare_site (if is_export k then all else some) outer)
   where
-    either : (b : Bool) → exported_sites (inside (cs at) next k below) 0 (next + opens_one k below) (bare below) ≡ map bare_site (exported_sites (inside (cs at) next k below) 0 (next + opens_one k below) below)
+    either : (b : Bool)
+        → exported_sites (inside (cs at) next k below) 0 (next + opens_one k below) (bare below) ≡ map bare_site (exported_sites (inside (cs at) next k below) 0 (next + opens_one k below) below)
         → (if b then sites (inside (cs at) next k below) 0 (next + opens_one k below) (bare below) else exported_sites (inside (cs at) next k below) 0 (next + opens_one k below) (bare below))
         ≡ map bare_site (if b then sites (inside (cs at) next k below) 0 (next + opens_one k below) below else exported_sites (inside (cs at) next k below) 0 (next + opens_one k below) below)
     either true e = sites_bare (inside (cs at) next k below) 0 (next + opens_one k below) below
@@ -210,12 +208,14 @@ found_as bs ds same c (reference_name x) n m (inl h) = inl (ap is_some (sym (sam
 found_as bs ds same c (reference_name x) n m (inr h) = inr h
 found_as bs ds same c k n m h = absurd h
 
-silent_node : (bs ds : List BindingSite) → ((r : ReferenceSite) → binding_of bs r ≡ binding_of ds r) → (w : Bool) (c : Context) (k : Kind) (n m : Note) (parts now : Type 0) → (parts → now) → IsSilentNode bs w c k n parts → IsSilentNode ds w c k m now
+silent_node : (bs ds : List BindingSite) → ((r : ReferenceSite) → binding_of bs r ≡ binding_of ds r) → (w : Bool) (c : Context) (k : Kind) (n m : Note) (parts now : Type 0) → (parts → now)
+    → IsSilentNode bs w c k n parts → IsSilentNode ds w c k m now
 silent_node bs ds same w c k n m parts now f (inl h) = inl h
 silent_node bs ds same w c k n m parts now f (inr (inl h)) = inr (inl (h.0, found_as bs ds same c k n m h.1))
 silent_node bs ds same w c k n m parts now f (inr (inr h)) = inr (inr (h.0, f h.1))
 
-silent_as : (bs ds : List BindingSite) → ((r : ReferenceSite) → binding_of bs r ≡ binding_of ds r) → (w : Bool) (cs : ℕ → Context) (at next : ℕ) (f g : Forest) → bare f ≡ bare g → IsSilent bs w cs at next f → IsSilent ds w cs at next g
+silent_as : (bs ds : List BindingSite) → ((r : ReferenceSite) → binding_of bs r ≡ binding_of ds r) → (w : Bool) (cs : ℕ → Context) (at next : ℕ) (f g : Forest) → bare f ≡ bare g
+    → IsSilent bs w cs at next f → IsSilent ds w cs at next g
 silent_as bs ds same w cs at next nothing nothing e h = tt
 silent_as bs ds same w cs at next nothing (absent g) e h = absurd (nothing_absent e)
 silent_as bs ds same w cs at next nothing (node l m c g) e h = absurd (nothing_node e)
@@ -292,7 +292,8 @@ exposed_same e k f g h = fun_ext (λ i. unseen (λ t. exposed_inside e k t i) (�
 
 -- ---- the same place
 
-weaker_there : (a : Around) (x : Option Tree) (w : Bool) (cs : ℕ → Context) (at next : ℕ) (P Q : Bool → Context → ℕ → Type 0) → ((v : Bool) (c : Context) (i : ℕ) → P v c i → Q v c i) → HoldsThere w cs at next a x P → HoldsThere w cs at next a x Q
+weaker_there : (a : Around) (x : Option Tree) (w : Bool) (cs : ℕ → Context) (at next : ℕ) (P Q : Bool → Context → ℕ → Type 0) → ((v : Bool) (c : Context) (i : ℕ) → P v c i → Q v c i)
+    → HoldsThere w cs at next a x P → HoldsThere w cs at next a x Q
 weaker_there (first rest) x w cs at next P Q f h = f w (cs at) next h
 weaker_there (behind k n b a) x w cs at next P Q f h = weaker_there a x w cs (suc at) (next + scope_count (node k n b nothing)) P Q f h
 weaker_there (behind_none a) x w cs at next P Q f h = weaker_there a x w cs (suc at) next P Q f h
@@ -389,7 +390,8 @@ module _ (t u : Forest) (e : bare t ≡ bare u) where
   evaluates_same : evaluates_somewhere t ≡ evaluates_somewhere u
   evaluates_same = unseen evaluates_somewhere below_bare t u e
 
-  silent_in : (w : Bool) (cs : ℕ → Context) (at next : ℕ) (f g : Forest) → bare f ≡ bare g → IsSilent (bindings_among (sites_of u)) w cs at next f → IsSilent (bindings_among (sites_of t)) w cs at next g
+  silent_in : (w : Bool) (cs : ℕ → Context) (at next : ℕ) (f g : Forest) → bare f ≡ bare g → IsSilent (bindings_among (sites_of u)) w cs at next f
+      → IsSilent (bindings_among (sites_of t)) w cs at next g
   silent_in w cs at next f g h s = silent_as (bindings_among (sites_of u)) (bindings_among (sites_of t)) (λ r. sym (same_binding t u e r)) w cs at next f g h s
 
   statement_as : (f g : Forest) → bare f ≡ bare g → (w : Bool) (c : Context) (next : ℕ) → SilentStatement u f w c next → SilentStatement t g w c next
@@ -406,7 +408,8 @@ module _ (t u : Forest) (e : bare t ≡ bare u) where
       by (absent r) = refl
       by (node k n b r) = refl
 
-  declarator_as : (x : List ℕ) (m n : Note) (f g : Forest) → bare f ≡ bare g → (w : Bool) (c : Context) (next : ℕ) → SilentDeclarator u (node (binding_name x) m nothing f) w c next → SilentDeclarator t (node (binding_name x) n nothing g) w c next
+  declarator_as : (x : List ℕ) (m n : Note) (f g : Forest) → bare f ≡ bare g → (w : Bool) (c : Context) (next : ℕ) → SilentDeclarator u (node (binding_name x) m nothing f) w c next
+      → SilentDeclarator t (node (binding_name x) n nothing g) w c next
   declarator_as x m n f g h w c next s = (ap (λ b. w && b) (sym (given_same f g h)) ∙ s.0, silent_in w (inside c next variable_declarator (node (binding_name x) m nothing f)) 1 (next + 0 + 0) f g h s.1)
 
 -- ---- rows that begin with a name
@@ -446,7 +449,8 @@ module _ (t u : Forest) (e : bare t ≡ bare u) (clean : Clean t) where
       let same : bare now ≡ bare then_ = sym (ap bare o.is) ∙ e ∙ ap bare is in
       ap (λ (es : ℕ → Exposure). exposed_at es 0 o.around (a_node k o.note o.below)) (unseen exposed_of beside_bare now then_ same) ∙ o.exposed (exposed_of then_) 0
 
-  evaluates_as : {k : Kind} {n : Note} {b : Forest} (a : Around) (o : Twin t a k n b) → u ≡ plug a (a_node k n b) → evaluates_somewhere (plug o.around (a_node k o.note o.below)) ≡ evaluates_somewhere (plug a (a_node k n b))
+  evaluates_as : {k : Kind} {n : Note} {b : Forest} (a : Around) (o : Twin t a k n b) → u ≡ plug a (a_node k n b)
+      → evaluates_somewhere (plug o.around (a_node k o.note o.below)) ≡ evaluates_somewhere (plug a (a_node k n b))
   evaluates_as a o is = unseen evaluates_somewhere below_bare _ _ (sym (ap bare o.is) ∙ e ∙ ap bare is)
 
   no_empty : (a : Around) (n : Note) → u ≡ plug a (a_node empty_statement n nothing) → IsItem a → ⊥
@@ -463,7 +467,8 @@ module _ (t u : Forest) (e : bare t ≡ bare u) (clean : Clean t) where
       (weaker_there o.around (a_node expression_statement o.note o.below) false (λ at. outermost) 0 0 (SilentStatement u b) (SilentStatement t o.below) (statement_as t u e b o.below (sym o.same))
       (o.holds (SilentStatement u b) false (λ at. outermost) 0 0 silent)))
 
-  no_function : (a : Around) (pure : Bool) (n m : Note) (x : List ℕ) (rest : Forest) → u ≡ plug a (a_function pure n m x rest) → IsItem a → IsOwnFunction a (a_function pure n m x rest) → At a (a_function pure n m x rest) (Free u variable.Let x) → ⊥
+  no_function : (a : Around) (pure : Bool) (n m : Note) (x : List ℕ) (rest : Forest) → u ≡ plug a (a_function pure n m x rest) → IsItem a → IsOwnFunction a (a_function pure n m x rest)
+      → At a (a_function pure n m x rest) (Free u variable.Let x) → ⊥
   no_function a pure n m x rest is item own free =
       let k = function function_kind.Declaration pure in
       let b = node (binding_name x) m nothing rest in

@@ -1,8 +1,11 @@
 //! Does what passes leave of a program do what the program did?
 //!
 //! `specs/Headline.antt` says it in one place: changes that are allowed lead from the program to what is left,
-//! of a core module every run is kept, and nothing is left that may go. `shaken` states that this holds of every
-//! program that fits the table of node types and breaks no rule of form.
+//! of a core module every run is kept, and no part of what is left is dead code. `shaken` states that this holds of
+//! every program that fits the table of node types and breaks no rule of form.
+//!
+//! `clean`: what dead code is stands in `specs/Clean.antt`, read off a tree by the bindings of its names. A pass leaves a
+//! program as it is exactly where it has none.
 //!
 //! Two families of laws lead there. `core_changes`: each change that is allowed on a core module is a step, though the
 //! changes speak of scopes, bindings and references and the steps of the names that runs declare and look up.

@@ -1,14 +1,18 @@
 -- Which small programs have dead code.
-use Rattle.std.proofs.Common.{◌≡◌, inl, inr, [], ◌∷◌, pos, false, codes, refl}
-use Rattle.js_syntax.specs.Class.{root, statement, expression}
+use Rattle.std.proofs.Common.{◌≡◌, ◌∙◌, inl, inr, [], ◌∷◌, pos, Bool, true, false, true≢false, Option, Some, None, bytes_eq, codes, refl, sym, ap}
+use Rattle.js_syntax.specs.Class.{root, expression, declared_name, binding_element, function_block}
 use Rattle.js_syntax.specs.declared.node_kind.NodeKind.{NodeKind as Kind}
 use Rattle.js_syntax.specs.declared.scalar.SourceType.TheVariants as source_type
 use Rattle.js_syntax.specs.declared.kind.VariableKind.TheVariants as variable
 use Rattle.js_syntax.specs.declared.value.LiteralValue.{LiteralValue as Literal}
-use Rattle.js_syntax.specs.Node.{nothing, absent, nowhere, joined}
+use Rattle.js_syntax.specs.Node.{nothing, absent, nowhere, joined, below_of}
 use Rattle.js_syntax.specs.Table.{a_program, an_expression_statement, a_call_expression, a_reference_name, a_literal, a_binding_name, a_function_declaration, a_function_body, an_export_declaration, a_variable_declaration, a_variable_declarator}
 use Rattle.form_rules.specs.Samples.{no, a_module, a_script, a, binds, one, does, declares, function_a, block}
-use Rattle.json_shape.specs.Shape.{one as one_of, these, Stand, Fits}
+use Rattle.json_shape.specs.Shape.{one as one_of, list, these, Stand, Fits}
+use Rattle.scope_rules.specs.Context.{body_of}
+use Rattle.scope_rules.specs.Site.{ReferenceSite, sites_of, bindings_among, references_among}
+use Rattle.scope_rules.specs.Binding.{Binding, named_in, binding_of}
+use Rattle.scope_laws.specs.Exact.{Among}
 use Rattle.scope_laws.specs.Place.{Around, first, behind, under}
 use Rattle.steps_allowed.specs.Rows.{in_list, before, call_of_a, call_of_eval, exports_declaration, empty}
 use Rattle.headline.specs.Clean.{an_empty_statement, a_silent_statement, an_unused_function, an_unused_declarator, Clean}
@@ -37,12 +41,17 @@ second_declarator =
     in_list (behind Kind.ExpressionStatement nowhere call_of_a
     (under (Kind.VariableDeclaration variable.Let) nowhere (under Kind.Declarators nowhere (behind Kind.VariableDeclarator nowhere (joined (binds a) no) (first nothing)) nothing) nothing))
 
+abbrev is_b : Option Binding → Bool
+is_b None = false
+is_b (Some b) = bytes_eq b.name (codes "b")
+
+b_is_unreferred : (r : ReferenceSite) → Among r (references_among (sites_of row.of_two)) → binding_of (bindings_among (sites_of row.of_two)) r ≡ Some (named_in (codes "b") (body_of 0)) → ⊥
+b_is_unreferred r (inl e) is = true≢false (sym (ap is_b (ap (binding_of (bindings_among (sites_of row.of_two))) e ∙ is)))
+b_is_unreferred r (inr h) is = h
+
 pub declarator_is_dead : Clean row.of_two → ⊥
-declarator_is_dead c = c.nothing_is_dead second_declarator _ refl (an_unused_declarator second_declarator nowhere nowhere (codes "b") (absent nothing) refl refl (refl, tt) (record { unreferred = other; unexported = λ e h s d. h }))
-  where
-    other : _
-    other r (inl e) is = absurd cc
-    other r (inr h) is = h
+declarator_is_dead c =
+    c.nothing_is_dead second_declarator _ refl (an_unused_declarator second_declarator nowhere nowhere (codes "b") (absent nothing) refl refl (refl, tt) (record { unreferred = b_is_unreferred; unexported = λ e h s d. h }))
 
 -- ---- what has none
 
@@ -52,9 +61,8 @@ name_stands = ((a_call_expression, (false, (false, tt)), refl, tt, refl, ((a_ref
 eval_stands : Stand (these (one_of expression ∷ [])) call_of_eval
 eval_stands = ((a_call_expression, (false, (false, tt)), refl, tt, refl, ((a_reference_name, (codes "eval", tt), refl, tt, refl, tt), ((refl, tt), tt))), tt)
 
-function_stands : Stand (these (one_of statement ∷ [])) (function_a [] [])
-function_stands =
-    ((a_function_declaration, (false, tt), refl, tt, refl, ((a_binding_name, (a, tt), refl, tt, refl, tt), ((refl, tt), ((a_function_body, tt, refl, tt, refl, ((refl, tt), tt)), tt)))), tt)
+function_parts : Stand (these (one_of declared_name ∷ list Kind.Parameters binding_element ∷ one_of function_block ∷ [])) (below_of (function_a [] []))
+function_parts = ((a_binding_name, (a, tt), refl, tt, refl, tt), ((refl, tt), ((a_function_body, tt, refl, tt, refl, ((refl, tt), tt)), tt)))
 
 -- a();
 pub call_is_clean : Clean (a_module (does call_of_a ∷ []))
@@ -64,7 +72,7 @@ call_is_clean = quiet_clean _ ((a_program, (source_type.Module, tt), refl, tt, r
 exported_fits : Fits root (a_module (exports_declaration (function_a [] []) ∷ []))
 exported_fits =
     ((a_program, (source_type.Module, tt), refl, tt, refl, ((refl, (inr (refl, (an_export_declaration, tt, refl, tt, refl,
-    ((a_function_declaration, (false, tt), refl, tt, refl, function_stands.0.5), ((refl, tt), tt)))), tt)), tt)), tt)
+    ((a_function_declaration, (false, tt), refl, tt, refl, function_parts), ((refl, tt), tt)))), tt)), tt)), tt)
 
 pub exported_is_clean : Clean (a_module (exports_declaration (function_a [] []) ∷ []))
 exported_is_clean = quiet_clean _ exported_fits refl
@@ -81,7 +89,7 @@ evaluated_is_clean = quiet_clean _ evaluated_fits refl
 
 -- function a() {} in a script
 global_fits : Fits root (a_script (function_a [] [] ∷ []))
-global_fits = ((a_program, (source_type.Script, tt), refl, tt, refl, ((refl, (inr (refl, function_stands.0), tt)), tt)), tt)
+global_fits = ((a_program, (source_type.Script, tt), refl, tt, refl, ((refl, (inr (refl, (a_function_declaration, (false, tt), refl, tt, refl, function_parts)), tt)), tt)), tt)
 
 pub global_is_clean : Clean (a_script (function_a [] [] ∷ []))
 global_is_clean = quiet_clean _ global_fits refl
