@@ -6,7 +6,7 @@ use Rattle.js_syntax.specs.declared.operator.UnaryOperator.TheVariants as unary
 use Rattle.js_syntax.specs.declared.value.LiteralValue.{LiteralValue as Literal}
 use Rattle.js_syntax.specs.Node.{Forest, joined}
 use Rattle.form_rules.specs.Samples as form
-use Rattle.steps_allowed.specs.Rows.{call_of_a}
+use Rattle.steps_allowed.specs.Rows.{call_of_a, exports_declaration}
 use Rattle.js_meaning.specs.Samples as sample
 use Rattle.js_meaning.specs.Examples.{g, function_g, says_number}
 
@@ -56,3 +56,11 @@ with_minus = sample.a_module (sample.says (sample.over (Kind.UnaryExpression una
 abbrev pub of_two : Forest
 of_two =
     form.a_module (form.does call_of_a ∷ form.over (Kind.VariableDeclaration variable.Let) (form.listed Kind.Declarators (form.over Kind.VariableDeclarator (joined (form.binds form.a) form.no) ∷ form.over Kind.VariableDeclarator (joined (form.binds (codes "b")) form.no) ∷ [])) ∷ [])
+
+-- { export let a; function a() {} }
+abbrev pub misplaced_export : Forest
+misplaced_export = form.a_module (form.block (exports_declaration (form.let_ form.a) ∷ form.function_a [] [] ∷ []) ∷ [])
+
+-- let; with no declarator
+abbrev pub declares_nothing : Forest
+declares_nothing = form.a_module (form.over (Kind.VariableDeclaration variable.Let) (form.listed Kind.Declarators []) ∷ [])
