@@ -34,11 +34,11 @@ use Rattle.steps_pass.proofs.Unexposed.{Told}
 use Rattle.steps_pass.proofs.Exported.{exported_stands}
 use Rattle.headline.specs.Clean.{IsDead, an_empty_statement, a_silent_statement, an_unused_function, an_unused_declarator, Clean}
 use Rattle.headline.proofs.Focus.{both_there, always}
-use Rattle.headline.proofs.Exporting.{has_form, IsHouse, IsMarked, IsOuter, Takes, mark_stays}
-use Rattle.headline.proofs.Reaching.{IsDeclaring, not_gone, houses_here, reached_below, reached_behind, find}
+use Rattle.headline.proofs.Exporting.{is_statement_scope, IsStatementLayer, IsMarked, IsOuter, Takes, mark_stays}
+use Rattle.headline.proofs.Reaching.{IsDeclaring, not_gone, layers_here, reached_below, reached_behind, find}
 use Rattle.js_syntax.proofs.Truth.{first_of_neither, second_of_neither, neither}
 
--- ---- answers
+-- ---- answers: each is given for its number
 
 asked_last : (xs : List Bool) (b : Bool) → slice_index_or (xs ++ (b ∷ [])) (length xs) false ≡ b
 asked_last [] b = refl
@@ -150,18 +150,18 @@ module _ (s : Scoping) (t : Forest) (exact : Exact s t) where
   -- ---- what is free is marked
 
   -- an export whose number is that of a declaration that a statement makes is of that declaration
-  not_taken : (d : BindingSite) → Among d (bindings_among (sites_of t)) → IsHouse s d.layer → IsFree t (declared_by d) → (n : ℕ) → d.id ≡ Some n → Takes s t (exported_sites (λ at. outermost) 0 0 t) n
+  not_taken : (d : BindingSite) → Among d (bindings_among (sites_of t)) → IsStatementLayer s d.layer → IsFree t (declared_by d) → (n : ℕ) → d.id ≡ Some n → Takes s t (exported_sites (λ at. outermost) 0 0 t) n
       → ⊥
-  not_taken d stands house free n is h =
+  not_taken d stands layer free n is h =
       let e = h.site in
       let same : declared_by e ≡ declared_by d = (exact.one_symbol e d (exported_stands (λ at. outermost) 0 0 t e h.stands) stands).0 (h.has_number ∙ sym is) in
       by h.outer same
     where
       by : IsOuter s t h.site.layer → declared_by h.site ≡ declared_by d → ⊥
       by (inl outermost_scope) same = free.unexported h.site h.stands outermost_scope same
-      by (inr no_house) same = no_house (record {
-        form = ap (λ (b : Binding). has_form (scope_at s b.scope).flags) same ∙ house.form;
-        not_own = ap (λ (b : Binding). b.is_own) same ∙ house.not_own;
+      by (inr no_layer) same = no_layer (record {
+        form = ap (λ (b : Binding). is_statement_scope (scope_at s b.scope).flags) same ∙ layer.form;
+        not_own = ap (λ (b : Binding). b.is_own) same ∙ layer.not_own;
       })
 
   unlisted : (d : BindingSite) (stands : Among d (bindings_among (sites_of t))) → IsFree t (declared_by d) → (length (symbol_at s (exact.declared d stands).number).references == 0) ≡ true
@@ -176,27 +176,27 @@ module _ (s : Scoping) (t : Forest) (exact : Exact s t) where
 
   module _ (told : TellsScopes s t) (fits : Fits root t) (program : is_program t ≡ true) where
     -- marked, if the table answers so for its number
-    marked_so : (asks : Symbol → Bool) (d : BindingSite) (stands : Among d (bindings_among (sites_of t))) → IsHouse s d.layer → IsFree t (declared_by d)
+    marked_so : (asks : Symbol → Bool) (d : BindingSite) (stands : Among d (bindings_among (sites_of t))) → IsStatementLayer s d.layer → IsFree t (declared_by d)
         → asks (symbol_at s (exact.declared d stands).number) ≡ true
         → is_marked (without_exported t (answers (λ y. asks (symbol_at s y)) (length s.symbols))) d.id ≡ true
-    marked_so asks d stands house free e =
+    marked_so asks d stands layer free e =
         let declared = exact.declared d stands in
         let all = answers (λ y. asks (symbol_at s y)) (length s.symbols) in
         let marked : IsMarked all declared.number = answer_is (λ y. asks (symbol_at s y)) (length s.symbols) declared.number (within s.symbols declared.number declared.symbol declared.stands) ∙ e in
         ap (is_marked (without_exported t all)) declared.is_marked
         ∙ elim (mark_stays s t told fits program all declared.number marked) [
           | inl g ↦ g
-          | inr h ↦ absurd (not_taken d stands house free declared.number declared.is_marked h)
+          | inr h ↦ absurd (not_taken d stands layer free declared.number declared.is_marked h)
         ]
 
-    function_marked : (c : Context) (e : Exposure) → Told s t c e → (d : BindingSite) → Among d (bindings_among (sites_of t)) → d.layer.scope ≡ c.block.scope → IsHouse s d.layer
+    function_marked : (c : Context) (e : Exposure) → Told s t c e → (d : BindingSite) → Among d (bindings_among (sites_of t)) → d.layer.scope ≡ c.block.scope → IsStatementLayer s d.layer
         → IsFree t (declared_by d) → function_is_exposed e ≡ false
         → is_marked (names_of s t).functions d.id ≡ true
-    function_marked c e tells d stands there house free own =
+    function_marked c e tells d stands there layer free own =
         let y = symbol_at s (exact.declared d stands).number in
         let same : c.block.scope ≡ y.scope = sym there ∙ sym (told.scopes d stands (exact.declared d stands).number (exact.declared d stands).is_marked) in
         let shared = first_of_neither (e.names_shared || e.evaluates) e.in_sloppy_block own in
-        marked_so (function_is_unused s (is_script t)) d stands house free
+        marked_so (function_is_unused s (is_script t)) d stands layer free
         (and_from (length y.references == 0) _ (unlisted d stands free)
         (ap not (neither (is_global (is_script t) y || scope_has s y.scope 512) (is_sloppy_block s y.scope)
         (neither (is_global (is_script t) y) (scope_has s y.scope 512)
@@ -205,12 +205,12 @@ module _ (s : Scoping) (t : Forest) (exact : Exact s t) where
         (ap (λ n. is_sloppy_block s n) (sym same) ∙ tells.sloppy ∙ second_of_neither (e.names_shared || e.evaluates) e.in_sloppy_block own))))
 
     variable_marked : (c : Context) (e : Exposure) → Told s t c e → scope_has s 0 512 ≡ evaluates_somewhere t → (d : BindingSite) → Among d (bindings_among (sites_of t))
-        → d.layer.scope ≡ c.declaring.layer.scope → IsHouse s d.layer → IsFree t (declared_by d)
+        → d.layer.scope ≡ c.declaring.layer.scope → IsStatementLayer s d.layer → IsFree t (declared_by d)
         → e.declared_shared || evaluates_somewhere t ≡ false → is_marked (names_of s t).variables d.id ≡ true
-    variable_marked c e tells first_flags d stands there house free own =
+    variable_marked c e tells first_flags d stands there layer free own =
         let y = symbol_at s (exact.declared d stands).number in
         let same : c.declaring.layer.scope ≡ y.scope = sym there ∙ sym (told.scopes d stands (exact.declared d stands).number (exact.declared d stands).is_marked) in
-        marked_so (variable_is_unused s (is_script t)) d stands house free
+        marked_so (variable_is_unused s (is_script t)) d stands layer free
         (and_from (length y.references == 0) _ (unlisted d stands free)
         (ap not (neither (is_global (is_script t) y) (scope_has s 0 512)
         (ap (λ n. is_script t && (n == 0)) (sym same) ∙ tells.declared ∙ first_of_neither e.declared_shared (evaluates_somewhere t) own)
@@ -279,7 +279,7 @@ module _ (s : Scoping) (a : Around) where
       let inside_it = inside c f.next k below 0 in
       let d : BindingSite = record { id = m.id; name = x; layer = inside_it.declaring.layer; flags = inside_it.declaring.flags; is_pure = inside_it.declaring.is_pure; span = m.span } in
       let stands = (reached_below s t k n below f.rest f.reached).bindings d (inl refl) in
-      let marked = function_marked s t left.exact left.told left.fits left.program c (f.exposures f.at) (f.reached.exposed f.at) d stands refl (houses_here s t k n below f.rest f.reached refl).block f.there (ap function_is_exposed f.same_exposure ∙ own) in
+      let marked = function_marked s t left.exact left.told left.fits left.program c (f.exposures f.at) (f.reached.exposed f.at) d stands refl (layers_here s t k n below f.rest f.reached refl).block f.there (ap function_is_exposed f.same_exposure ∙ own) in
       true≢false (sym (goes_so names asked k below items f.reached.knows item ∙ marked) ∙ first_of_neither (goes names asked k below) (empties names asked k below) (not_gone s t k n below f.rest f.reached))
 
   declarator_case : (n m : Note) (x : List ℕ) (value : Forest) → IsLeft s (plug a (a_declarator n m x value)) → IsDeclarator a → IsOwnDeclarator a (a_declarator n m x value)
@@ -299,8 +299,8 @@ module _ (s : Scoping) (a : Around) where
       let d : BindingSite = record { id = m.id; name = x; layer = inside_it.declaring.layer; flags = inside_it.declaring.flags; is_pure = inside_it.declaring.is_pure; span = m.span } in
       let inner = reached_below s t k n below f.rest f.reached in
       let behind_name = reached_behind s t (binding_name x) m nothing value inner in
-      let house = f.reached.declares (subst IsDeclaring (sym declares) tt) f.at in
-      let marked = variable_marked s t left.exact left.told left.fits left.program c (f.exposures f.at) (f.reached.exposed f.at) f.reached.evaluates d (inner.bindings d (inl refl)) refl house f.there.1
+      let layer = f.reached.declares (subst IsDeclaring (sym declares) tt) f.at in
+      let marked = variable_marked s t left.exact left.told left.fits left.program c (f.exposures f.at) (f.reached.exposed f.at) f.reached.evaluates d (inner.bindings d (inl refl)) refl layer f.there.1
       (ap (λ (e : Exposure). e.declared_shared || evaluates_somewhere t) f.same_exposure ∙ own) in
       let idle = idle_row s t left.exact asked.in_with (inside c f.next k below) 1 (f.next + opens_one k below + scope_count (node (binding_name x) m nothing nothing)) value behind_name.references f.there.0.1 in
       let quiet = neither (may_have_effects names.bound asked.in_with value) (asked.in_with && is_given value) idle f.there.0.0 in

@@ -30,22 +30,22 @@ use Rattle.steps_pass.specs.Kept.{is_program, TellsScopes}
 use Rattle.steps_pass.proofs.Exported.{same_export}
 use Rattle.steps_pass.proofs.Unexposed.{flags_of, by_bits, ScopesFrom, from_left, from_right, own_count, node_count}
 use Rattle.headline.proofs.Modules.{ends}
-use Rattle.headline.proofs.Housed.{is_block, stays_outside, everywhere, is_right, are_right, fits_right}
+use Rattle.headline.proofs.Declaring.{is_block, stays_outside, everywhere, is_right, are_right, fits_right}
 use Rattle.js_syntax.proofs.Truth.{first_of_both, second_of_both, both, not_true}
 
 -- ---- layers that lists of statements have
 
--- a scope with a form of its own, unlike those of classes and fields
-abbrev pub has_form : ℕ → Bool
-has_form flags = has_bits flags 2 || has_bits flags 4 || has_bits flags 16 || has_bits flags 64 || has_bits flags 128 || has_bits flags 256
+-- the flags of a scope in which statements stand, unlike those of classes and fields
+abbrev pub is_statement_scope : ℕ → Bool
+is_statement_scope flags = has_bits flags 2 || has_bits flags 4 || has_bits flags 16 || has_bits flags 64 || has_bits flags 128 || has_bits flags 256
 
 -- names that statements declare lie in such a layer
-pub record IsHouse (s : Scoping) (l : Layer) : Type 0 where
-  pub form : has_form (scope_at s l.scope).flags ≡ true
+pub record IsStatementLayer (s : Scoping) (l : Layer) : Type 0 where
+  pub form : is_statement_scope (scope_at s l.scope).flags ≡ true
   pub not_own : is_own_name l.part ≡ false
 
-no_form : (a b : Bool) → has_form (flags_of 0 a b) ≡ false
-no_form = by_bits (λ a b. has_form (flags_of 0 a b) ≡ false) refl refl refl refl
+no_form : (a b : Bool) → is_statement_scope (flags_of 0 a b) ≡ false
+no_form = by_bits (λ a b. is_statement_scope (flags_of 0 a b) ≡ false) refl refl refl refl
 
 -- ---- marks
 
@@ -72,7 +72,7 @@ without_other (Some m) marks n h = elim (set_other marks m n h) [
 module _ (s : Scoping) (t : Forest) where
   -- names of the program's own scope, and of a function's or class's own
   abbrev pub IsOuter : Layer → Type 0
-  IsOuter l = (l.scope ≡ 0) ⊎ (IsHouse s l → ⊥)
+  IsOuter l = (l.scope ≡ 0) ⊎ (IsStatementLayer s l → ⊥)
 
   -- a declaration among the sites has this number
   pub record Takes (ss : List Site) (n : ℕ) : Type 0 where
@@ -157,7 +157,7 @@ module _ (s : Scoping) (t : Forest) where
   class_outer : (c : Context) (next : ℕ) (how : ClassKind) (below : Forest) → IsOutermost c → (scope_at s next).flags ≡ scope_bits c (kind.Class how) below
       → IsOuter (inside c next (kind.Class how) below 0).declaring.layer
   class_outer c next class_kind.Declaration below h flags = inl h.block
-  class_outer c next class_kind.Expression below h flags = inr (λ g. true≢false (sym g.form ∙ ap has_form flags ∙ no_form true (has_eval below)))
+  class_outer c next class_kind.Expression below h flags = inr (λ g. true≢false (sym g.form ∙ ap is_statement_scope flags ∙ no_form true (has_eval below)))
 
   in_first : (xs ys : List Site) (n : ℕ) → Takes xs n → Takes (xs ++ ys) n
   in_first xs ys n h = record { site = h.site; stands = binding_left h.site xs ys h.stands; has_number = h.has_number; outer = h.outer }

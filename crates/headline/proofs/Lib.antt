@@ -19,7 +19,7 @@ pub mod Notes
 pub mod Refining
 pub mod Headline
 pub mod Renoted
-pub mod Housed
+pub mod Declaring
 pub mod Exporting
 pub mod Reaching
 pub mod Dead

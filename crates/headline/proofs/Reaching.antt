@@ -38,39 +38,39 @@ use Rattle.steps_pass.specs.Kept.{is_program, TellsScopes}
 use Rattle.steps_pass.proofs.Silent.{AllOf, of_left, of_right, AllDeclared}
 use Rattle.steps_pass.proofs.Unexposed.{flags_of, is_sloppy, by_bits, program_form, first_scope, declared_left, declared_right, Told, TellsFlags, told_inside, outside_stays, ScopesFrom, from_left, from_right, own_count, node_count, script_source, and_true}
 use Rattle.headline.proofs.Modules.{ends}
-use Rattle.headline.proofs.Housed.{is_declaration, is_housed_at, is_housed, fits_housed}
-use Rattle.headline.proofs.Exporting.{has_form, IsHouse}
+use Rattle.headline.proofs.Declaring.{is_declaration, classes_declare_none_at, classes_declare_none, fits_classes}
+use Rattle.headline.proofs.Exporting.{is_statement_scope, IsStatementLayer}
 use Rattle.js_syntax.proofs.Truth.{first_of_both, second_of_both, first_of_neither, second_of_neither, not_true}
 
 -- ---- forms of scopes
 
 -- the bits of a form are there, whatever the others
-abbrev IsShape : ℕ → Type 0
-IsShape form = (a b : Bool) → has_form (flags_of form a b) ≡ true
+abbrev IsTold : ℕ → Type 0
+IsTold form = (a b : Bool) → is_statement_scope (flags_of form a b) ≡ true
 
-function_shape : (how : FunctionKind) (constructs pure : Bool) → IsShape (form_bits (kind.Function how pure) constructs)
-function_shape function_kind.Arrow constructs pure = by_bits _ refl refl refl refl
-function_shape function_kind.Declaration true pure = by_bits _ refl refl refl refl
-function_shape function_kind.Declaration false pure = by_bits _ refl refl refl refl
-function_shape function_kind.Expression true pure = by_bits _ refl refl refl refl
-function_shape function_kind.Expression false pure = by_bits _ refl refl refl refl
+function_told : (how : FunctionKind) (constructs pure : Bool) → IsTold (form_bits (kind.Function how pure) constructs)
+function_told function_kind.Arrow constructs pure = by_bits _ refl refl refl refl
+function_told function_kind.Declaration true pure = by_bits _ refl refl refl refl
+function_told function_kind.Declaration false pure = by_bits _ refl refl refl refl
+function_told function_kind.Expression true pure = by_bits _ refl refl refl refl
+function_told function_kind.Expression false pure = by_bits _ refl refl refl refl
 
-program_shape : IsShape 2
-program_shape = by_bits _ refl refl refl refl
+program_told : IsTold 2
+program_told = by_bits _ refl refl refl refl
 
-static_shape : IsShape 16
-static_shape = by_bits _ refl refl refl refl
+static_told : IsTold 16
+static_told = by_bits _ refl refl refl refl
 
-block_shape : IsShape 64
-block_shape = by_bits _ refl refl refl refl
+block_told : IsTold 64
+block_told = by_bits _ refl refl refl refl
 
-catch_shape : IsShape 128
-catch_shape = by_bits _ refl refl refl refl
+catch_told : IsTold 128
+catch_told = by_bits _ refl refl refl refl
 
-with_shape : IsShape 256
-with_shape = by_bits _ refl refl refl refl
+with_told : IsTold 256
+with_told = by_bits _ refl refl refl refl
 
--- where no place is marked below others that are
+-- which places below a node are marked, where its own is or not
 abbrev marks_below : Bool → Kind → (at : ℕ) → Bool
 marks_below true k at = passes k at
 marks_below false (kind.Class how) at = inherits (kind.Class how) at
@@ -87,108 +87,108 @@ IsDeclaring other = ⊥
 module _ (s : Scoping) (t : Forest) where
   -- ---- layers of statements
 
-  pub record HasHouses (c : Context) : Type 0 where
-    pub block : IsHouse s c.block
-    pub variables : IsHouse s c.variables
+  pub record HasStatementLayers (c : Context) : Type 0 where
+    pub block : IsStatementLayer s c.block
+    pub variables : IsStatementLayer s c.variables
 
-  houses_if : {c d : Context} (b : Bool) → HasHouses c → HasHouses d → HasHouses (if b then c else d)
-  houses_if true h g = h
-  houses_if false h g = g
+  layers_if : {c d : Context} (b : Bool) → HasStatementLayers c → HasStatementLayers d → HasStatementLayers (if b then c else d)
+  layers_if true h g = h
+  layers_if false h g = g
 
-  houses_below : {c : Context} → HasHouses c → HasHouses (below_it c)
-  houses_below h = record { block = h.block; variables = h.variables }
+  layers_below : {c : Context} → HasStatementLayers c → HasStatementLayers (below_it c)
+  layers_below h = record { block = h.block; variables = h.variables }
 
-  houses_used : {c : Context} (r : Role) → HasHouses c → HasHouses (used r c)
-  houses_used r h = record { block = h.block; variables = h.variables }
+  layers_used : {c : Context} (r : Role) → HasStatementLayers c → HasStatementLayers (used r c)
+  layers_used r h = record { block = h.block; variables = h.variables }
 
-  houses_method : {c : Context} (how : MethodKind) → HasHouses c → HasHouses (of_method c how)
-  houses_method method_kind.Constructor h = record { block = h.block; variables = h.variables }
-  houses_method how h = houses_below h
+  layers_method : {c : Context} (how : MethodKind) → HasStatementLayers c → HasStatementLayers (of_method c how)
+  layers_method method_kind.Constructor h = record { block = h.block; variables = h.variables }
+  layers_method how h = layers_below h
 
-  houses_variables : {c : Context} (how : VariableKind) → HasHouses c → HasHouses (in_variables c how)
-  houses_variables variable.Var h = record { block = h.block; variables = h.variables }
-  houses_variables variable.Let h = record { block = h.block; variables = h.variables }
-  houses_variables variable.Const h = record { block = h.block; variables = h.variables }
+  layers_variables : {c : Context} (how : VariableKind) → HasStatementLayers c → HasStatementLayers (in_variables c how)
+  layers_variables variable.Var h = record { block = h.block; variables = h.variables }
+  layers_variables variable.Let h = record { block = h.block; variables = h.variables }
+  layers_variables variable.Const h = record { block = h.block; variables = h.variables }
 
-  layer_house : {c : Context} (how : VariableKind) → HasHouses c → IsHouse s (in_variables c how).declaring.layer
-  layer_house variable.Var h = h.variables
-  layer_house variable.Let h = h.block
-  layer_house variable.Const h = h.block
+  declared_layer : {c : Context} (how : VariableKind) → HasStatementLayers c → IsStatementLayer s (in_variables c how).declaring.layer
+  declared_layer variable.Var h = h.variables
+  declared_layer variable.Let h = h.block
+  declared_layer variable.Const h = h.block
 
-  layer_shape : (l : Layer) (flags : ℕ) → (scope_at s l.scope).flags ≡ flags → has_form flags ≡ true → is_own_name l.part ≡ false → IsHouse s l
-  layer_shape l flags e f o = record { form = ap has_form e ∙ f; not_own = o }
+  statement_layer : (l : Layer) (flags : ℕ) → (scope_at s l.scope).flags ≡ flags → is_statement_scope flags ≡ true → is_own_name l.part ≡ false → IsStatementLayer s l
+  statement_layer l flags e f o = record { form = ap is_statement_scope e ∙ f; not_own = o }
 
   -- at the name of a function or a class that is declared around
-  function_name_houses : {c : Context} (next : ℕ) (how : FunctionKind) (pure : Bool) → HasHouses c → HasHouses (at_function_name c next how pure)
-  function_name_houses next function_kind.Declaration pure h = record { block = h.block; variables = h.variables }
-  function_name_houses next function_kind.Expression pure h = record { block = h.block; variables = h.variables }
-  function_name_houses next function_kind.Arrow pure h = record { block = h.block; variables = h.variables }
+  function_name_layers : {c : Context} (next : ℕ) (how : FunctionKind) (pure : Bool) → HasStatementLayers c → HasStatementLayers (at_function_name c next how pure)
+  function_name_layers next function_kind.Declaration pure h = record { block = h.block; variables = h.variables }
+  function_name_layers next function_kind.Expression pure h = record { block = h.block; variables = h.variables }
+  function_name_layers next function_kind.Arrow pure h = record { block = h.block; variables = h.variables }
 
-  class_name_houses : {c : Context} (next : ℕ) (how : ClassKind) → HasHouses c → HasHouses (at_class_name c next how)
-  class_name_houses next class_kind.Declaration h = record { block = h.block; variables = h.variables }
-  class_name_houses next class_kind.Expression h = record { block = h.block; variables = h.variables }
+  class_name_layers : {c : Context} (next : ℕ) (how : ClassKind) → HasStatementLayers c → HasStatementLayers (at_class_name c next how)
+  class_name_layers next class_kind.Declaration h = record { block = h.block; variables = h.variables }
+  class_name_layers next class_kind.Expression h = record { block = h.block; variables = h.variables }
 
   module _ (c : Context) (next : ℕ) (below : Forest) where
     -- the layer of the body of the node's scope
-    house : (k : Kind) → (scope_at s next).flags ≡ scope_bits c k below → IsShape (form_bits k c.constructs) → IsHouse s (body_of next)
-    house k flags f = layer_shape (body_of next) (scope_bits c k below) flags (f (strict_in c k below) (has_eval (scope_row k below))) refl
+    body_layer : (k : Kind) → (scope_at s next).flags ≡ scope_bits c k below → IsTold (form_bits k c.constructs) → IsStatementLayer s (body_of next)
+    body_layer k flags f = statement_layer (body_of next) (scope_bits c k below) flags (f (strict_in c k below) (has_eval (scope_row k below))) refl
 
-    around : (k : Kind) → (scope_at s next).flags ≡ scope_bits c k below → IsShape (form_bits k c.constructs) → IsHouse s (parameters_of next)
-    around k flags f = layer_shape (parameters_of next) (scope_bits c k below) flags (f (strict_in c k below) (has_eval (scope_row k below))) refl
+    parameters_layer : (k : Kind) → (scope_at s next).flags ≡ scope_bits c k below → IsTold (form_bits k c.constructs) → IsStatementLayer s (parameters_of next)
+    parameters_layer k flags f = statement_layer (parameters_of next) (scope_bits c k below) flags (f (strict_in c k below) (has_eval (scope_row k below))) refl
 
-    function_houses : (b d : Bool) (how : FunctionKind) (pure strict : Bool) → (scope_at s next).flags ≡ scope_bits c (kind.Function how pure) below → (b ≡ true → HasHouses c)
-        → HasHouses (if b then at_function_name c next how pure else if d then at_parameters c next how strict else in_function c next how strict)
-    function_houses true d how pure strict flags h = function_name_houses next how pure (h refl)
-    function_houses false true how pure strict flags h = let l = around (kind.Function how pure) flags (function_shape how c.constructs pure) in record { block = l; variables = l }
-    function_houses false false how pure strict flags h = let l = house (kind.Function how pure) flags (function_shape how c.constructs pure) in record { block = l; variables = l }
+    function_layers : (b d : Bool) (how : FunctionKind) (pure strict : Bool) → (scope_at s next).flags ≡ scope_bits c (kind.Function how pure) below → (b ≡ true → HasStatementLayers c)
+        → HasStatementLayers (if b then at_function_name c next how pure else if d then at_parameters c next how strict else in_function c next how strict)
+    function_layers true d how pure strict flags h = function_name_layers next how pure (h refl)
+    function_layers false true how pure strict flags h = let l = parameters_layer (kind.Function how pure) flags (function_told how c.constructs pure) in record { block = l; variables = l }
+    function_layers false false how pure strict flags h = let l = body_layer (kind.Function how pure) flags (function_told how c.constructs pure) in record { block = l; variables = l }
 
-    named_outside : (m : Bool) (how : FunctionKind) (pure : Bool) (at : ℕ) → (m ≡ false → HasHouses c) → marks_below m (kind.Function how pure) at ≡ false → (at == 0) ≡ true → HasHouses c
+    named_outside : (m : Bool) (how : FunctionKind) (pure : Bool) (at : ℕ) → (m ≡ false → HasStatementLayers c) → marks_below m (kind.Function how pure) at ≡ false → (at == 0) ≡ true → HasStatementLayers c
     named_outside true how pure at h e is = absurd (true≢false (ap (λ b. if b then true else false) (sym is) ∙ e))
     named_outside false how pure at h e is = h refl
 
-    block_houses : (k : Kind) (strict : Bool) → (scope_at s next).flags ≡ scope_bits c k below → IsShape (form_bits k c.constructs) → HasHouses c → HasHouses (in_block c next strict)
-    block_houses k strict flags f h = record { block = house k flags f; variables = h.variables }
+    block_layers : (k : Kind) (strict : Bool) → (scope_at s next).flags ≡ scope_bits c k below → IsTold (form_bits k c.constructs) → HasStatementLayers c → HasStatementLayers (in_block c next strict)
+    block_layers k strict flags f h = record { block = body_layer k flags f; variables = h.variables }
 
-    class_houses : (b : Bool) (how : ClassKind) → (if b then false else true) ≡ false → HasHouses c → HasHouses (if b then at_class_name c next how else in_block c next true)
-    class_houses true how e h = class_name_houses next how h
-    class_houses false how e h = absurd (true≢false e)
+    class_layers : (b : Bool) (how : ClassKind) → (if b then false else true) ≡ false → HasStatementLayers c → HasStatementLayers (if b then at_class_name c next how else in_block c next true)
+    class_layers true how e h = class_name_layers next how h
+    class_layers false how e h = absurd (true≢false e)
 
-    houses_inside : (m : Bool) (k : Kind) (at : ℕ) → TellsFlags s t next c k below → (m ≡ false → HasHouses c) → marks_below m k at ≡ false → HasHouses (inside c next k below at)
-    houses_inside m (kind.Program source) at flags h e = let l = house (kind.Program source) (flags refl) program_shape in record { block = l; variables = l }
-    houses_inside m (kind.Function how pure) at flags h e = function_houses (at == 0) (at == 1) how pure _ (flags refl) (named_outside m how pure at h e)
-    houses_inside m kind.StaticBlock at flags h e = let l = house kind.StaticBlock (flags refl) static_shape in record { block = l; variables = l }
-    houses_inside true k at flags h e = absurd (true≢false e)
-    houses_inside false (kind.Class how) at flags h e = class_houses (at == 0) how e (h refl)
-    houses_inside false (kind.PropertyDefinition is_static key) at flags h e = absurd (true≢false e)
-    houses_inside false kind.BlockStatement at flags h e = block_houses kind.BlockStatement _ (flags refl) block_shape (h refl)
-    houses_inside false kind.SwitchStatement at flags h e = houses_if (at == 1) (block_houses kind.SwitchStatement _ (flags refl) block_shape (h refl)) (houses_below (h refl))
-    houses_inside false kind.WithStatement at flags h e = houses_if (at == 1) (block_houses kind.WithStatement _ (flags refl) with_shape (h refl)) (houses_below (h refl))
-    houses_inside false kind.CatchClause at flags h e =
-        let b = block_houses kind.CatchClause c.strict (flags refl) catch_shape (h refl) in
-        houses_if (at == 0) (record { block = b.block; variables = b.variables }) b
-    houses_inside false kind.ForStatement at flags h e = block_houses kind.ForStatement _ (flags refl) block_shape (h refl)
-    houses_inside false kind.ForInStatement at flags h e = let b = block_houses kind.ForInStatement c.strict (flags refl) block_shape (h refl) in houses_if (at == 0) (houses_used _ b) b
-    houses_inside false kind.ForOfStatement at flags h e = let b = block_houses kind.ForOfStatement c.strict (flags refl) block_shape (h refl) in houses_if (at == 0) (houses_used _ b) b
-    houses_inside false (kind.VariableDeclaration how) at flags h e = houses_variables how (h refl)
-    houses_inside false (kind.ImportDeclaration source) at flags h e = let o = h refl in record { block = o.block; variables = o.variables }
-    houses_inside false (kind.MethodDefinition how is_static key) at flags h e = houses_if (at == 1) (houses_method how (h refl)) (houses_below (h refl))
-    houses_inside false (kind.AssignmentExpression operator) at flags h e = houses_if (at == 0) (houses_used _ (h refl)) (houses_below (h refl))
-    houses_inside false (kind.UpdateExpression operator prefix) at flags h e = houses_used _ (h refl)
-    houses_inside false (kind.MemberExpression key optional) at flags h e = houses_if (at == 0) (houses_used _ (h refl)) (houses_below (h refl))
-    houses_inside false kind.ParenthesizedExpression at flags h e = houses_used _ (h refl)
-    houses_inside false kind.Elements at flags h e = houses_used _ (h refl)
-    houses_inside false kind.Properties at flags h e = houses_used _ (h refl)
-    houses_inside false kind.TargetArray at flags h e = houses_used _ (h refl)
-    houses_inside false kind.TargetObject at flags h e = houses_used _ (h refl)
-    houses_inside false (kind.TargetProperty key) at flags h e = houses_if (at == 1) (houses_used _ (h refl)) (houses_below (h refl))
-    houses_inside false kind.TargetDefault at flags h e = houses_if (at == 0) (houses_used _ (h refl)) (houses_below (h refl))
-    houses_inside false kind.TargetRest at flags h e = houses_used _ (h refl)
-    houses_inside false k at flags h e = houses_below (h refl)
+    layers_inside : (m : Bool) (k : Kind) (at : ℕ) → TellsFlags s t next c k below → (m ≡ false → HasStatementLayers c) → marks_below m k at ≡ false → HasStatementLayers (inside c next k below at)
+    layers_inside m (kind.Program source) at flags h e = let l = body_layer (kind.Program source) (flags refl) program_told in record { block = l; variables = l }
+    layers_inside m (kind.Function how pure) at flags h e = function_layers (at == 0) (at == 1) how pure _ (flags refl) (named_outside m how pure at h e)
+    layers_inside m kind.StaticBlock at flags h e = let l = body_layer kind.StaticBlock (flags refl) static_told in record { block = l; variables = l }
+    layers_inside true k at flags h e = absurd (true≢false e)
+    layers_inside false (kind.Class how) at flags h e = class_layers (at == 0) how e (h refl)
+    layers_inside false (kind.PropertyDefinition is_static key) at flags h e = absurd (true≢false e)
+    layers_inside false kind.BlockStatement at flags h e = block_layers kind.BlockStatement _ (flags refl) block_told (h refl)
+    layers_inside false kind.SwitchStatement at flags h e = layers_if (at == 1) (block_layers kind.SwitchStatement _ (flags refl) block_told (h refl)) (layers_below (h refl))
+    layers_inside false kind.WithStatement at flags h e = layers_if (at == 1) (block_layers kind.WithStatement _ (flags refl) with_told (h refl)) (layers_below (h refl))
+    layers_inside false kind.CatchClause at flags h e =
+        let b = block_layers kind.CatchClause c.strict (flags refl) catch_told (h refl) in
+        layers_if (at == 0) (record { block = b.block; variables = b.variables }) b
+    layers_inside false kind.ForStatement at flags h e = block_layers kind.ForStatement _ (flags refl) block_told (h refl)
+    layers_inside false kind.ForInStatement at flags h e = let b = block_layers kind.ForInStatement c.strict (flags refl) block_told (h refl) in layers_if (at == 0) (layers_used _ b) b
+    layers_inside false kind.ForOfStatement at flags h e = let b = block_layers kind.ForOfStatement c.strict (flags refl) block_told (h refl) in layers_if (at == 0) (layers_used _ b) b
+    layers_inside false (kind.VariableDeclaration how) at flags h e = layers_variables how (h refl)
+    layers_inside false (kind.ImportDeclaration source) at flags h e = let o = h refl in record { block = o.block; variables = o.variables }
+    layers_inside false (kind.MethodDefinition how is_static key) at flags h e = layers_if (at == 1) (layers_method how (h refl)) (layers_below (h refl))
+    layers_inside false (kind.AssignmentExpression operator) at flags h e = layers_if (at == 0) (layers_used _ (h refl)) (layers_below (h refl))
+    layers_inside false (kind.UpdateExpression operator prefix) at flags h e = layers_used _ (h refl)
+    layers_inside false (kind.MemberExpression key optional) at flags h e = layers_if (at == 0) (layers_used _ (h refl)) (layers_below (h refl))
+    layers_inside false kind.ParenthesizedExpression at flags h e = layers_used _ (h refl)
+    layers_inside false kind.Elements at flags h e = layers_used _ (h refl)
+    layers_inside false kind.Properties at flags h e = layers_used _ (h refl)
+    layers_inside false kind.TargetArray at flags h e = layers_used _ (h refl)
+    layers_inside false kind.TargetObject at flags h e = layers_used _ (h refl)
+    layers_inside false (kind.TargetProperty key) at flags h e = layers_if (at == 1) (layers_used _ (h refl)) (layers_below (h refl))
+    layers_inside false kind.TargetDefault at flags h e = layers_if (at == 0) (layers_used _ (h refl)) (layers_below (h refl))
+    layers_inside false kind.TargetRest at flags h e = layers_used _ (h refl)
+    layers_inside false k at flags h e = layers_below (h refl)
 
   -- ---- marks
 
   -- below a node whose place is marked or not, what is marked declares nothing
-  marks_shut : (m : Bool) (k : Kind) (below : Forest) → is_housed_at k below ≡ true → shut is_declaration passes (λ (i : ℕ). m && passes k i) 0 below ≡ true
+  marks_shut : (m : Bool) (k : Kind) (below : Forest) → classes_declare_none_at k below ≡ true → shut is_declaration passes (λ (i : ℕ). m && passes k i) 0 below ≡ true
       → shut is_declaration passes (marks_below m k) 0 below ≡ true
   marks_shut true k below h e = e
   marks_shut false (kind.Class how) below h e = h
@@ -201,30 +201,35 @@ module _ (s : Scoping) (t : Forest) where
 
   -- ---- a row
 
+  -- What is known of a row below a program t with the table s, of which a pass takes nothing: `next` is the number of its first scope.
   pub record IsReached (asked : Asked) (es : ℕ → Exposure) (cs : ℕ → Context) (at next : ℕ) (f : Forest) : Type 0 where
+    -- who else may use the names that it declares, as the table tells of their scopes
     pub exposed : (i : ℕ) → Told s t (cs i) (es i)
     pub outside : (i : ℕ) → (es i).outside ≡ false
     pub some : 0 < next
     pub scopes : ScopesFrom s t next (sites cs at next f)
+    -- its sites are sites of the program
     pub references : AllOf (references_among (sites_of t)) (sites cs at next f)
     pub bindings : AllDeclared (bindings_among (sites_of t)) (sites cs at next f)
+    -- at places that are marked nothing is declared; at the others names lie in layers of statements
     pub marks : ℕ → Bool
     pub shuts : shut is_declaration passes marks at f ≡ true
-    pub housed : is_housed f ≡ true
-    pub houses : (i : ℕ) → marks i ≡ false → HasHouses (cs i)
-    pub declares : IsDeclaring asked.row → (i : ℕ) → IsHouse s (cs i).declaring.layer
+    pub classes : classes_declare_none f ≡ true
+    pub layers : (i : ℕ) → marks i ≡ false → HasStatementLayers (cs i)
+    pub declares : IsDeclaring asked.row → (i : ℕ) → IsStatementLayer s (cs i).declaring.layer
+    -- of the pass
     pub knows : asked.knows_names ≡ true
     pub evaluates : scope_has s 0 512 ≡ evaluates_somewhere t
     pub stays : loses (names_of s t) asked f ≡ false
 
   -- the layer of what a declaration declares
-  declares_inside : (row : Row) (c : Context) (next : ℕ) (k : Kind) (below : Forest) (at : ℕ) → (is_declaration k ≡ true → HasHouses c) → (IsDeclaring row → IsHouse s c.declaring.layer)
-      → IsDeclaring (row_below row k) → IsHouse s (inside c next k below at).declaring.layer
+  declares_inside : (row : Row) (c : Context) (next : ℕ) (k : Kind) (below : Forest) (at : ℕ) → (is_declaration k ≡ true → HasStatementLayers c) → (IsDeclaring row → IsStatementLayer s c.declaring.layer)
+      → IsDeclaring (row_below row k) → IsStatementLayer s (inside c next k below at).declaring.layer
   declares_inside items c next kind.Statements below at h o d = absurd d
   declares_inside of_item c next kind.Statements below at h o d = absurd d
   declares_inside item_declarators c next kind.Statements below at h o d = absurd d
   declares_inside other c next kind.Statements below at h o d = absurd d
-  declares_inside items c next (kind.VariableDeclaration how) below at h o d = layer_house how (h refl)
+  declares_inside items c next (kind.VariableDeclaration how) below at h o d = declared_layer how (h refl)
   declares_inside of_item c next kind.Declarators below at h o d = o tt
   declares_inside items c next k below at h o d = absurd d
   declares_inside of_item c next k below at h o d = absurd d
@@ -246,10 +251,10 @@ module _ (s : Scoping) (t : Forest) where
         let inner = loses (names_of s t) (asked_below asked k) below in
         first_of_neither here inner (first_of_neither (here || inner) (loses (names_of s t) asked rest) h.stays)
 
-    pub houses_here : is_declaration k ≡ true → HasHouses (cs at)
-    houses_here e =
+    pub layers_here : is_declaration k ≡ true → HasStatementLayers (cs at)
+    layers_here e =
         let lets = λ (i : ℕ). h.marks at && passes k i in
-        h.houses at (unmarked_if (h.marks at) (is_declaration k) (first_of_both (not (h.marks at && is_declaration k)) (shut is_declaration passes lets 0 below && shut is_declaration passes h.marks (suc at) rest) h.shuts) e)
+        h.layers at (unmarked_if (h.marks at) (is_declaration k) (first_of_both (not (h.marks at && is_declaration k)) (shut is_declaration passes lets 0 below && shut is_declaration passes h.marks (suc at) rest) h.shuts) e)
 
     pub reached_below : IsReached (asked_below asked k) (exposed_inside (es at) k below) (inside (cs at) next k below) 0 (next + opens_one k below) below
     reached_below =
@@ -267,11 +272,11 @@ module _ (s : Scoping) (t : Forest) where
           references = of_right (references_among (sites_of t)) own inner (of_left (references_among (sites_of t)) (own ++ inner) outer h.references);
           bindings = declared_right (bindings_among (sites_of t)) own inner (declared_left (bindings_among (sites_of t)) (own ++ inner) outer h.bindings);
           marks = marks_below (h.marks at) k;
-          shuts = marks_shut (h.marks at) k below (first_of_both (is_housed_at k below) (is_housed below && is_housed rest) h.housed)
+          shuts = marks_shut (h.marks at) k below (first_of_both (classes_declare_none_at k below) (classes_declare_none below && classes_declare_none rest) h.classes)
               (first_of_both (shut is_declaration passes lets 0 below) (shut is_declaration passes h.marks (suc at) rest) (second_of_both (not (h.marks at && is_declaration k)) (shut is_declaration passes lets 0 below && shut is_declaration passes h.marks (suc at) rest) h.shuts));
-          housed = first_of_both (is_housed below) (is_housed rest) (second_of_both (is_housed_at k below) (is_housed below && is_housed rest) h.housed);
-          houses = λ i. houses_inside (cs at) next below (h.marks at) k i tells (h.houses at);
-          declares = λ d i. declares_inside asked.row (cs at) next k below i houses_here (λ d. h.declares d at) d;
+          classes = first_of_both (classes_declare_none below) (classes_declare_none rest) (second_of_both (classes_declare_none_at k below) (classes_declare_none below && classes_declare_none rest) h.classes);
+          layers = λ i. layers_inside (cs at) next below (h.marks at) k i tells (h.layers at);
+          declares = λ d i. declares_inside asked.row (cs at) next k below i layers_here (λ d. h.declares d at) d;
           knows = h.knows;
           evaluates = h.evaluates;
           stays = second_of_neither here lost (first_of_neither (here || lost) (loses (names_of s t) asked rest) h.stays);
@@ -294,8 +299,8 @@ module _ (s : Scoping) (t : Forest) where
           bindings = declared_right (bindings_among (sites_of t)) (own ++ inner) outer h.bindings;
           marks = h.marks;
           shuts = second_of_both (shut is_declaration passes lets 0 below) (shut is_declaration passes h.marks (suc at) rest) (second_of_both (not (h.marks at && is_declaration k)) (shut is_declaration passes lets 0 below && shut is_declaration passes h.marks (suc at) rest) h.shuts);
-          housed = second_of_both (is_housed below) (is_housed rest) (second_of_both (is_housed_at k below) (is_housed below && is_housed rest) h.housed);
-          houses = h.houses;
+          classes = second_of_both (classes_declare_none below) (classes_declare_none rest) (second_of_both (classes_declare_none_at k below) (classes_declare_none below && classes_declare_none rest) h.classes);
+          layers = h.layers;
           declares = h.declares;
           knows = h.knows;
           evaluates = h.evaluates;
@@ -312,8 +317,8 @@ module _ (s : Scoping) (t : Forest) where
     bindings = h.bindings;
     marks = h.marks;
     shuts = h.shuts;
-    housed = h.housed;
-    houses = h.houses;
+    classes = h.classes;
+    layers = h.layers;
     declares = h.declares;
     knows = h.knows;
     evaluates = h.evaluates;
@@ -354,10 +359,10 @@ module _ (s : Scoping) (source : SourceType) (n : Note) (below rest : Forest) wh
   abbrev the_program : Forest
   the_program = node (kind.Program source) n below rest
 
-  program_reached : TellsScopes s (node (kind.Program source) n below rest) → is_housed (node (kind.Program source) n below rest) ≡ true
+  program_reached : TellsScopes s (node (kind.Program source) n below rest) → classes_declare_none (node (kind.Program source) n below rest) ≡ true
       → changes (names_of s (node (kind.Program source) n below rest)) (node (kind.Program source) n below rest) ≡ false
       → IsReached s (node (kind.Program source) n below rest) (asked_below (asked_of_program true) (kind.Program source)) (exposed_inside (exposed_of (node (kind.Program source) n below rest) 0) (kind.Program source) below) (inside outermost 0 (kind.Program source) below) 0 1 below
-  program_reached told house stays =
+  program_reached told classes stays =
       let t = the_program in
       let strict = is_module source || is_strict_list below in
       let own = own_sites outermost n (kind.Program source) below in
@@ -368,7 +373,7 @@ module _ (s : Scoping) (source : SourceType) (n : Note) (below rest : Forest) wh
       let sloppy : is_sloppy_block s 0 ≡ false = ap is_sloppy flags ∙ program_form.sloppy strict (has_eval below) in
       let shared : is_script t && true ≡ is_script_source source = and_true (is_script t) ∙ script_source source n below rest in
       let from : ScopesFrom s t 0 (sites_of t) = λ m x e. (let same : m ≡ 0 + m = Prim.omega arith in subst (λ i. (scope_at s i).flags ≡ x.flags) same (told.flags m x e)) in
-      let l = layer_shape s t (body_of 0) (flags_of 2 strict (has_eval below)) flags (program_shape strict (has_eval below)) refl in
+      let l = statement_layer s t (body_of 0) (flags_of 2 strict (has_eval below)) flags (program_told strict (has_eval below)) refl in
       let here = goes (names_of s t) (asked_of_program true) (kind.Program source) below || empties (names_of s t) (asked_of_program true) (kind.Program source) below in
       let lost = loses (names_of s t) (asked_below (asked_of_program true) (kind.Program source)) below in
       record {
@@ -380,8 +385,8 @@ module _ (s : Scoping) (source : SourceType) (n : Note) (below rest : Forest) wh
         bindings = declared_right (bindings_among (sites_of t)) own inner (declared_left (bindings_among (sites_of t)) (own ++ inner) outer (λ b h. h));
         marks = λ i. false;
         shuts = unmarked is_declaration passes 0 below;
-        housed = first_of_both (is_housed below) (is_housed rest) house;
-        houses = λ i e. record { block = l; variables = l };
+        classes = first_of_both (classes_declare_none below) (classes_declare_none rest) classes;
+        layers = λ i e. record { block = l; variables = l };
         declares = λ d i. absurd d;
         knows = refl;
         evaluates = evaluates;
@@ -398,5 +403,5 @@ find s (behind_none a) x holds told fits p q stays there = absurd fits.0
 find s (under (kind.Program source) n a rest) x holds told fits p q stays there =
     let t = node (kind.Program source) n (plug a (Some x)) rest in
     found s t x holds a (asked_below (asked_of_program true) (kind.Program source)) (exposed_inside (exposed_of t 0) (kind.Program source) (plug a (Some x))) (inside outermost 0 (kind.Program source) (plug a (Some x))) 0 1
-    (program_reached s source n (plug a (Some x)) rest told (fits_housed t fits) stays) there
+    (program_reached s source n (plug a (Some x)) rest told (fits_classes t fits) stays) there
 find s (under k n a rest) x holds told fits p q stays there = absurd (true≢false (sym p))

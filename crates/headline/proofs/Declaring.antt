@@ -97,60 +97,60 @@ row_declares marks r vs private a h st =
     a marks 0 (these (places private (fields_of r) vs)) (row_passing of_expressions marks r vs private h) st
 
 -- No declaration lies below a class or a field, but in functions and static blocks.
-abbrev pub is_housed_at : Kind → (below : Forest) → Bool
-is_housed_at (class how) below = shut is_declaration passes (inherits (class how)) 0 below
-is_housed_at (property_definition is_static key) below = shut is_declaration passes (λ i. true) 0 below
-is_housed_at k below = true
+abbrev pub classes_declare_none_at : Kind → (below : Forest) → Bool
+classes_declare_none_at (class how) below = shut is_declaration passes (inherits (class how)) 0 below
+classes_declare_none_at (property_definition is_static key) below = shut is_declaration passes (λ i. true) 0 below
+classes_declare_none_at k below = true
 
-abbrev pub is_housed : Forest → Bool
-is_housed nothing = true
-is_housed (absent rest) = is_housed rest
-is_housed (node k n below rest) = is_housed_at k below && (is_housed below && is_housed rest)
+abbrev pub classes_declare_none : Forest → Bool
+classes_declare_none nothing = true
+classes_declare_none (absent rest) = classes_declare_none rest
+classes_declare_none (node k n below rest) = classes_declare_none_at k below && (classes_declare_none below && classes_declare_none rest)
 
-row_housed : (r : Row) (vs : Values (fields_of r)) (private : Bool) (a : Forest) → Stand (these (places private (fields_of r) vs)) a → is_housed_at (kind_in r vs) a ≡ true
-row_housed a_class_declaration vs private a st = row_declares (inherits (class class_kind.Declaration)) a_class_declaration vs private a refl st
-row_housed a_default_class vs private a st = row_declares (inherits (class class_kind.Declaration)) a_default_class vs private a refl st
-row_housed a_class_expression vs private a st = row_declares (inherits (class class_kind.Expression)) a_class_expression vs private a refl st
-row_housed a_property_definition vs private a st = row_declares (λ i. true) a_property_definition vs private a refl st
-row_housed r vs private a st = refl
+row_classes : (r : Row) (vs : Values (fields_of r)) (private : Bool) (a : Forest) → Stand (these (places private (fields_of r) vs)) a → classes_declare_none_at (kind_in r vs) a ≡ true
+row_classes a_class_declaration vs private a st = row_declares (inherits (class class_kind.Declaration)) a_class_declaration vs private a refl st
+row_classes a_default_class vs private a st = row_declares (inherits (class class_kind.Declaration)) a_default_class vs private a refl st
+row_classes a_class_expression vs private a st = row_declares (inherits (class class_kind.Expression)) a_class_expression vs private a refl st
+row_classes a_property_definition vs private a st = row_declares (λ i. true) a_property_definition vs private a refl st
+row_classes r vs private a st = refl
 
-list_housed : (kind : Kind) (a : Forest) → is_list_kind kind ≡ true → is_housed_at kind a ≡ true
-list_housed (class how) a h = absurd cc
-list_housed (property_definition is_static key) a h = absurd cc
-list_housed kind a h = refl
+list_classes : (kind : Kind) (a : Forest) → is_list_kind kind ≡ true → classes_declare_none_at kind a ≡ true
+list_classes (class how) a h = absurd cc
+list_classes (property_definition is_static key) a h = absurd cc
+list_classes kind a h = refl
 
 module _ (a : Forest) where
-  housed_of : (c : Class) (k : Kind) → IsOf k a (λ p. Stand p a) c → is_housed_at k a ≡ true
-  housed_of c k of = ap (λ x. is_housed_at x a) of.4 ∙ row_housed of.0 of.1 (has is_private a) a of.5
+  classes_of : (c : Class) (k : Kind) → IsOf k a (λ p. Stand p a) c → classes_declare_none_at k a ≡ true
+  classes_of c k of = ap (λ x. classes_declare_none_at x a) of.4 ∙ row_classes of.0 of.1 (has is_private a) a of.5
 
-  housed_list : (kind k : Kind) (c : Class) → k ≡ kind → (is_list_kind kind && (holds_variables kind || is_calm_class c)) ≡ true → is_housed_at k a ≡ true
-  housed_list kind k c is h = ap (λ x. is_housed_at x a) is ∙ list_housed kind a (first_of_both (is_list_kind kind) (holds_variables kind || is_calm_class c) h)
+  classes_list : (kind k : Kind) (c : Class) → k ≡ kind → (is_list_kind kind && (holds_variables kind || is_calm_class c)) ≡ true → classes_declare_none_at k a ≡ true
+  classes_list kind k c is h = ap (λ x. classes_declare_none_at x a) is ∙ list_classes kind a (first_of_both (is_list_kind kind) (holds_variables kind || is_calm_class c) h)
 
-  housed_here : (p : Place) (k : Kind) → is_sound p ≡ true → IsAt k a (λ p. Stand p a) p → is_housed_at k a ≡ true
-  housed_here (one c) k h of = housed_of c k of
-  housed_here (maybe_one c) k h of = housed_of c k of
-  housed_here beyond k h at = absurd at
-  housed_here (key_apart may) k h at = absurd at
-  housed_here (key_node keys true) k h at = housed_of private_key k at.1
-  housed_here (key_node keys false) k h at = housed_of expression k at
-  housed_here (list kind c) k h at = housed_list kind k c at.0 h
-  housed_here (list_with_holes kind c) k h at = housed_list kind k c at.0 h
-  housed_here (body c) k h at = ap (λ x. is_housed_at x a) at.0
-  housed_here (item_or_hole c) k h (inl at) = ap (λ x. is_housed_at x a) at.0
-  housed_here (item_or_hole c) k h (inr of) = housed_of c k of
-  housed_here (item_of_body c) k h (inl of) = housed_of a_prologue k of
-  housed_here (item_of_body c) k h (inr at) = housed_of c k at.1
+  classes_here : (p : Place) (k : Kind) → is_sound p ≡ true → IsAt k a (λ p. Stand p a) p → classes_declare_none_at k a ≡ true
+  classes_here (one c) k h of = classes_of c k of
+  classes_here (maybe_one c) k h of = classes_of c k of
+  classes_here beyond k h at = absurd at
+  classes_here (key_apart may) k h at = absurd at
+  classes_here (key_node keys true) k h at = classes_of private_key k at.1
+  classes_here (key_node keys false) k h at = classes_of expression k at
+  classes_here (list kind c) k h at = classes_list kind k c at.0 h
+  classes_here (list_with_holes kind c) k h at = classes_list kind k c at.0 h
+  classes_here (body c) k h at = ap (λ x. classes_declare_none_at x a) at.0
+  classes_here (item_or_hole c) k h (inl at) = ap (λ x. classes_declare_none_at x a) at.0
+  classes_here (item_or_hole c) k h (inr of) = classes_of c k of
+  classes_here (item_of_body c) k h (inl of) = classes_of a_prologue k of
+  classes_here (item_of_body c) k h (inr at) = classes_of c k at.1
 
-housed : (t : Forest) (plan : Plan) → plan_passes is_sound plan ≡ true → Stand plan t → is_housed t ≡ true
-housed nothing plan h st = refl
-housed (absent r) plan h st = housed r (behind plan hole) (behind_passes is_sound plan hole h) st.1
-housed (node k n a r) plan h st =
+classes : (t : Forest) (plan : Plan) → plan_passes is_sound plan ≡ true → Stand plan t → classes_declare_none t ≡ true
+classes nothing plan h st = refl
+classes (absent r) plan h st = classes r (behind plan hole) (behind_passes is_sound plan hole h) st.1
+classes (node k n a r) plan h st =
     let planned = planned_below a (first_place plan) k st.0 in
-    both (is_housed_at k a) (is_housed a && is_housed r) (housed_here a (first_place plan) k (first_passes is_sound plan refl h) st.0)
-    (both (is_housed a) (is_housed r) (housed a planned.0 planned.1 planned.2) (housed r (behind plan k) (behind_passes is_sound plan k h) st.1))
+    both (classes_declare_none_at k a) (classes_declare_none a && classes_declare_none r) (classes_here a (first_place plan) k (first_passes is_sound plan refl h) st.0)
+    (both (classes_declare_none a) (classes_declare_none r) (classes a planned.0 planned.1 planned.2) (classes r (behind plan k) (behind_passes is_sound plan k h) st.1))
 
-pub fits_housed : (t : Forest) → Fits root t → is_housed t ≡ true
-fits_housed t fits = housed t (these (one root ∷ [])) refl fits
+pub fits_classes : (t : Forest) → Fits root t → classes_declare_none t ≡ true
+fits_classes t fits = classes t (these (one root ∷ [])) refl fits
 
 -- ---- what is exported opens no scope but in functions and classes
 
