@@ -21,7 +21,6 @@ use Rattle.steps_fit.proofs.Calm.{is_calm_class}
 use Rattle.steps_fit.proofs.Passing.{plan_passes, first_passes, behind_passes}
 use Rattle.steps_fit.proofs.Holding.{is_sound, planned_below}
 use Rattle.steps_fit.proofs.Shut.{shut, takes_marked, row_passing, shut_as_planned}
-use Rattle.headline.proofs.Modules.{root_row, ends}
 use Rattle.js_syntax.proofs.Truth.{first_of_both, both}
 
 -- ---- sets of rows
@@ -309,6 +308,16 @@ pub record IsRightList (a : Forest) : Type 0 where
   pub items : Forest
   pub is : a ≡ node statements note items nothing
   pub right : are_right items ≡ true
+
+-- only a program's row stands at the root
+root_row : (P : Row → Type 0) (r : Row) → stands root (type_of r) ≡ Some (first_of r) → P a_program → P r
+root_row P a_program h p = p
+root_row P r h p = absurd cc
+
+pub ends : (r : Forest) → Stand (these []) r → r ≡ nothing
+ends nothing st = refl
+ends (absent r) st = absurd st.0
+ends (node k n a r) st = absurd st.0
 
 list_right : (a : Forest) → Stand (these (body module_item ∷ [])) a → IsRightList a
 list_right nothing st = absurd st

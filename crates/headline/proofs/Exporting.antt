@@ -29,8 +29,7 @@ use Rattle.steps_fit.proofs.Shut.{shut}
 use Rattle.steps_pass.specs.Kept.{is_program, TellsScopes}
 use Rattle.steps_pass.proofs.Exported.{same_export}
 use Rattle.steps_pass.proofs.Unexposed.{flags_of, by_bits, ScopesFrom, from_left, from_right, own_count, node_count}
-use Rattle.headline.proofs.Modules.{ends}
-use Rattle.headline.proofs.Declaring.{is_block, stays_outside, everywhere, is_right, are_right, fits_right}
+use Rattle.headline.proofs.Declaring.{is_block, stays_outside, everywhere, is_right, are_right, fits_right, ends}
 use Rattle.js_syntax.proofs.Truth.{first_of_both, second_of_both, both, not_true}
 
 -- ---- layers that lists of statements have

@@ -15,11 +15,11 @@ pub record IsListed (t : Forest) (source : SourceType) (n : Note) : Type 0 where
   pub is : t ≡ node (program source) n (node statements list_note items nothing) nothing
 
 -- only a program's row stands at the root
-pub root_row : (P : Row → Type 0) (r : Row) → stands root (type_of r) ≡ Some (first_of r) → P a_program → P r
+root_row : (P : Row → Type 0) (r : Row) → stands root (type_of r) ≡ Some (first_of r) → P a_program → P r
 root_row P a_program h p = p
 root_row P r h p = absurd cc
 
-pub ends : (r : Forest) → Stand (these []) r → r ≡ nothing
+ends : (r : Forest) → Stand (these []) r → r ≡ nothing
 ends nothing st = refl
 ends (absent r) st = absurd st.0
 ends (node k n a r) st = absurd st.0

@@ -37,8 +37,7 @@ use Rattle.steps_fit.proofs.Shut.{shut, unmarked}
 use Rattle.steps_pass.specs.Kept.{is_program, TellsScopes}
 use Rattle.steps_pass.proofs.Silent.{AllOf, of_left, of_right, AllDeclared}
 use Rattle.steps_pass.proofs.Unexposed.{flags_of, is_sloppy, by_bits, program_form, first_scope, declared_left, declared_right, Told, TellsFlags, told_inside, outside_stays, ScopesFrom, from_left, from_right, own_count, node_count, script_source, and_true}
-use Rattle.headline.proofs.Modules.{ends}
-use Rattle.headline.proofs.Declaring.{is_declaration, classes_declare_none_at, classes_declare_none, fits_classes}
+use Rattle.headline.proofs.Declaring.{is_declaration, classes_declare_none_at, classes_declare_none, fits_classes, ends}
 use Rattle.headline.proofs.Exporting.{is_statement_scope, IsStatementLayer}
 use Rattle.js_syntax.proofs.Truth.{first_of_both, second_of_both, first_of_neither, second_of_neither, not_true}
 
