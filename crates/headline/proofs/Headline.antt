@@ -7,7 +7,6 @@ use Rattle.js_meaning.specs.Kept.{Kept, KeptBack}
 use Rattle.js_meaning.proofs.Kept.{refined_kept, refined_back}
 use Rattle.js_scoping.specs.Build.{numbered}
 use Rattle.min_passes.specs.Passes.{shaken}
-use Rattle.min_passes.proofs.Clean.{shaken_is_clean}
 use Rattle.steps_allowed.specs.Edits.{Edits, no_edit}
 use Rattle.steps_allowed.proofs.Composing.{edits_follow}
 use Rattle.json_shape.specs.Shape.{Fits}
@@ -16,6 +15,7 @@ use Rattle.headline.specs.Headline.{is_core_module, Headline}
 use Rattle.headline.proofs.Sound.{Refines}
 use Rattle.headline.proofs.Refining.{edits_refine}
 use Rattle.headline.proofs.Passes.{numbered_same, shaken_comes}
+use Rattle.headline.proofs.Shaking.{shaken_clean}
 
 pub comes : (t : Forest) → Fits root t → IsWellFormed t → Edits t (shaken t)
 comes t fits form = shaken_comes t (sensible t fits form)
@@ -40,5 +40,5 @@ headline_of t fits form = record {
   edits = comes t fits form;
   kept = kept_by t (shaken t) fits form (comes t fits form);
   back = back_by t (shaken t) fits form (comes t fits form);
-  clean = shaken_is_clean t;
+  clean = shaken_clean t fits;
 }

@@ -7,3 +7,10 @@ pub mod Telling
 pub mod Passes
 pub mod Refining
 pub mod Headline
+pub mod Renoted
+pub mod Declaring
+pub mod Exporting
+pub mod Reaching
+pub mod Dead
+pub mod Lost
+pub mod Shaking

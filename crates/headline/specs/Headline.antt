@@ -8,8 +8,8 @@ use Rattle.js_syntax.specs.Node.{Forest}
 pub use Rattle.js_meaning.specs.Kept.{Kept, KeptBack}
 -- edits one after the other, each at one place and allowed on the tree as it is then
 pub use Rattle.steps_allowed.specs.Edits.{Edits}
--- a pass over the tree would change something
-pub use Rattle.min_passes.specs.Passes.{has_next}
+-- whether a part of the tree is dead code
+pub use Rattle.headline.specs.Clean.{Clean}
 -- a module whose nodes are all of the core of the language, for which runs are defined
 pub use Rattle.steps_fit.specs.Sensible.{is_core_module}
 
@@ -22,5 +22,5 @@ pub record Headline (t u : Forest) : Type 0 where
   -- where a run of what is left ends or is stopped by the host, the old one was the same within the same bound, unless it was
   -- uncovered
   pub back : is_core_module t ≡ true → KeptBack t u
-  -- nothing is left that may go
-  pub clean : has_next u ≡ false
+  -- no part of it is dead code
+  pub clean : Clean u

@@ -1,8 +1,11 @@
 //! Does what passes leave of a program do what the program did?
 //!
 //! `specs/Headline.antt` says it in one place: edits that are allowed lead from the program to what is left,
-//! of a core module every run is kept, and nothing is left that may go. `shaken` states that this holds of every
-//! program that fits the table of node types and breaks no rule of form.
+//! of a core module every run is kept, and no part of what is left is dead code. `shaken` states that this holds of
+//! every program that fits the table of node types and breaks no rule of form.
+//!
+//! `clean`: what dead code is stands in `specs/Clean.antt`, read off a tree by the bindings of its names. A pass leaves a
+//! program as it is exactly where it has none.
 //!
 //! Two families of laws lead there. `kept_runs`: steps keep the runs of a core module with no premise but the module itself,
 //! since what the law of steps asks of a name whose declaration goes holds wherever the scopes are clear. `edits`: so do
@@ -11,6 +14,7 @@
 //! The code is empty: each function's contract is a law.
 #![tactic(auto)]
 
+pub mod clean;
 pub mod edits;
 pub mod kept_runs;
 pub mod shaken;

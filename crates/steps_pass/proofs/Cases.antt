@@ -82,23 +82,23 @@ kept_at_first s t exact = record { table = s; shortens = record { same_entries =
 pub holds_at_first : (s : Scoping) (t : Forest) → is_program t ≡ true → is_enclosed t ≡ true → Exact s t → TellsScopes s t → Holds s (names_of s t) t
 holds_at_first s t p e exact told = record { program = p; enclosed = e; kept = kept_at_first s t exact; variables = exports_unmarks t _; functions = exports_unmarks t _; unexposed = first_hidden s t p told }
 
-free_function : (s : Scoping) (t v : Forest) → Holds s (names_of s t) v → (d : BindingSite) → Among d (bindings_among (sites_of v)) → is_marked (names_of s t).functions d.id ≡ true → IsFree v (declared_by d)
+pub free_function : (s : Scoping) (t v : Forest) → Holds s (names_of s t) v → (d : BindingSite) → Among d (bindings_among (sites_of v)) → is_marked (names_of s t).functions d.id ≡ true → IsFree v (declared_by d)
 free_function s t v h d stands marked = record {
   unreferred = function_unreferred s t v h.kept d stands marked;
   unexported = unexported (names_of s t).functions s v h.kept h.program h.enclosed h.functions d stands marked;
 }
 
-free_variable : (s : Scoping) (t v : Forest) → Holds s (names_of s t) v → (d : BindingSite) → Among d (bindings_among (sites_of v)) → is_marked (names_of s t).variables d.id ≡ true → IsFree v (declared_by d)
+pub free_variable : (s : Scoping) (t v : Forest) → Holds s (names_of s t) v → (d : BindingSite) → Among d (bindings_among (sites_of v)) → is_marked (names_of s t).variables d.id ≡ true → IsFree v (declared_by d)
 free_variable s t v h d stands marked = record {
   unreferred = variable_unreferred s t v h.kept d stands marked;
   unexported = unexported (names_of s t).variables s v h.kept h.program h.enclosed h.variables d stands marked;
 }
 
-all_declared : (a : Around) (x : Option Tree) → AllDeclared (bindings_among (sites_of (plug a x))) (sites_there a x)
+pub all_declared : (a : Around) (x : Option Tree) → AllDeclared (bindings_among (sites_of (plug a x))) (sites_there a x)
 all_declared a x = stands_there a x
 
 -- the site of the name that a row begins with
-abbrev named_site : Context → Note → List ℕ → BindingSite
+abbrev pub named_site : Context → Note → List ℕ → BindingSite
 named_site c m x = record { id = m.id; name = x; layer = c.declaring.layer; flags = c.declaring.flags; is_pure = c.declaring.is_pure; span = m.span }
 
 -- as `declarator_goes` asks it
@@ -126,7 +126,7 @@ statement_may_empty s t a n m l k inner kept silent = emptying_loss a _ _ (silen
 
 -- ---- declarators
 
-silent_behind : (s : Scoping) (t v : Forest) → IsKept s v → (w : Bool) (cs : ℕ → Context) (at next : ℕ) (n m : Note) (x : List ℕ) (value : Forest)
+pub silent_behind : (s : Scoping) (t v : Forest) → IsKept s v → (w : Bool) (cs : ℕ → Context) (at next : ℕ) (n m : Note) (x : List ℕ) (value : Forest)
     → AllOf (references_among (sites_of v)) (sites cs at next (node variable_declarator n (node (binding_name x) m nothing value) nothing))
     → (may_have_effects (names_of s t).bound w value || w && is_given value) ≡ false → SilentDeclarator v (node (binding_name x) m nothing value) w (cs at) next
 silent_behind s t v kept w cs at next n m x value all_of e =

@@ -60,7 +60,7 @@ declared_names marks cs at next (node k n below rest) b l w e h =
 
 -- ---- all exports
 
-same_export : (k : Kind) → is_export_node k ≡ is_export k
+pub same_export : (k : Kind) → is_export_node k ≡ is_export k
 same_export (Kind.ExportNamedDeclaration source) = refl
 same_export Kind.ExportDefaultDeclaration = refl
 same_export k = refl
@@ -114,7 +114,7 @@ program_exports marks (node k n below rest) b p w e h = by k p w e h
 
 -- ---- they are declarations
 
-exported_stands : (cs : ℕ → Context) (at next : ℕ) (t : Forest) (b : BindingSite) → Among b (bindings_among (exported_sites cs at next t)) → Among b (bindings_among (sites cs at next t))
+pub exported_stands : (cs : ℕ → Context) (at next : ℕ) (t : Forest) (b : BindingSite) → Among b (bindings_among (exported_sites cs at next t)) → Among b (bindings_among (sites cs at next t))
 exported_stands cs at next nothing b h = absurd h
 exported_stands cs at next (absent rest) b h = exported_stands cs (suc at) next rest b h
 exported_stands cs at next (node k n below rest) b h =

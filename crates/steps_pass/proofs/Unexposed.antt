@@ -36,7 +36,7 @@ use Rattle.js_syntax.proofs.Truth.{first_of_neither, second_of_neither, neither,
 
 -- ---- numbers
 
-not_zero : (n : ℕ) → 0 < n → (n == 0) ≡ false
+pub not_zero : (n : ℕ) → 0 < n → (n == 0) ≡ false
 not_zero n h = false_from_ne_true (n == 0) (λ e. Prim.omega (arith, h, eqb-true n 0 e))
 
 and_false : (b : Bool) → b && false ≡ false
@@ -98,34 +98,34 @@ count cs at next (node k n below rest) =
     ∙ ap₂ (λ (a b : ℕ). a + b) (own_scopes (opens k below) _ (name_sites (cs at) n k) (no_scopes (cs at) n k)) (count (inside (cs at) next k below) 0 (next + opens_one k below) below))
     (count cs (suc at) (next + scope_count (node k n below nothing)) rest)
 
-first_scope : (b : Bool) (x : ScopeSite) (names more others : List Site) → b ≡ true → slice_get (scopes_among ((((if b then scope_site x ∷ [] else []) ++ names) ++ more) ++ others)) 0 ≡ Some x
+pub first_scope : (b : Bool) (x : ScopeSite) (names more others : List Site) → b ≡ true → slice_get (scopes_among ((((if b then scope_site x ∷ [] else []) ++ names) ++ more) ++ others)) 0 ≡ Some x
 first_scope true x names more others e = refl
 first_scope false x names more others e = absurd (true≢false (sym e))
 
-declared_left : (all : List BindingSite) (xs ys : List Site) → AllDeclared all (xs ++ ys) → AllDeclared all xs
+pub declared_left : (all : List BindingSite) (xs ys : List Site) → AllDeclared all (xs ++ ys) → AllDeclared all xs
 declared_left all xs ys m = λ b h. m b (subst (Among b) (sym (bindings_append xs ys)) (among_left b (bindings_among xs) (bindings_among ys) h))
 
-declared_right : (all : List BindingSite) (xs ys : List Site) → AllDeclared all (xs ++ ys) → AllDeclared all ys
+pub declared_right : (all : List BindingSite) (xs ys : List Site) → AllDeclared all (xs ++ ys) → AllDeclared all ys
 declared_right all xs ys m = λ b h. m b (subst (Among b) (sym (bindings_append xs ys)) (among_right b (bindings_among xs) (bindings_among ys) h))
 
 -- ---- bits of flags
 
-abbrev flags_of : (form : ℕ) → (strict evaluates : Bool) → ℕ
+abbrev pub flags_of : (form : ℕ) → (strict evaluates : Bool) → ℕ
 flags_of form strict evaluates = bit strict 1 + form + bit evaluates 512
 
-abbrev is_sloppy : ℕ → Bool
+abbrev pub is_sloppy : ℕ → Bool
 is_sloppy flags = not (has_bits flags 1 || has_bits flags 2 || has_bits flags 4 || has_bits flags 16)
 
-by_bits : (P : Bool → Bool → Type 0) → P true true → P true false → P false true → P false false → (a b : Bool) → P a b
+pub by_bits : (P : Bool → Bool → Type 0) → P true true → P true false → P false true → P false false → (a b : Bool) → P a b
 by_bits P f g h i true true = f
 by_bits P f g h i true false = g
 by_bits P f g h i false true = h
 by_bits P f g h i false false = i
 
 -- a form of scope's bits leave the bit of `eval` free, and make the scope a block of sloppy code or not
-record IsForm (form : ℕ) (is_block : Bool) : Type 0 where
-  evaluates : (a b : Bool) → has_bits (flags_of form a b) 512 ≡ b
-  sloppy : (a b : Bool) → is_sloppy (flags_of form a b) ≡ is_block && not a
+pub record IsForm (form : ℕ) (is_block : Bool) : Type 0 where
+  pub evaluates : (a b : Bool) → has_bits (flags_of form a b) 512 ≡ b
+  pub sloppy : (a b : Bool) → is_sloppy (flags_of form a b) ≡ is_block && not a
 
 function_form : (how : FunctionKind) (constructs pure : Bool) → IsForm (form_bits (kind.Function how pure) constructs) false
 function_form function_kind.Arrow constructs pure = record { evaluates = by_bits _ refl refl refl refl; sloppy = by_bits _ refl refl refl refl }
@@ -134,7 +134,7 @@ function_form function_kind.Declaration false pure = record { evaluates = by_bit
 function_form function_kind.Expression true pure = record { evaluates = by_bits _ refl refl refl refl; sloppy = by_bits _ refl refl refl refl }
 function_form function_kind.Expression false pure = record { evaluates = by_bits _ refl refl refl refl; sloppy = by_bits _ refl refl refl refl }
 
-program_form : IsForm 2 false
+pub program_form : IsForm 2 false
 program_form = record { evaluates = by_bits _ refl refl refl refl; sloppy = by_bits _ refl refl refl refl }
 
 static_form : IsForm 16 false
@@ -155,15 +155,15 @@ plain_form = record { evaluates = by_bits _ refl refl refl refl; sloppy = by_bit
 module _ (s : Scoping) (t : Forest) where
   -- ---- what the table tells of a context
 
-  record Told (c : Context) (e : Exposure) : Type 0 where
-    strict : c.strict ≡ e.strict
-    names : is_script t && (c.block.scope == 0) ≡ e.names_shared
-    variables : is_script t && (c.variables.scope == 0) ≡ e.variables_shared
-    declared : is_script t && (c.declaring.layer.scope == 0) ≡ e.declared_shared
-    evaluates : scope_has s c.block.scope 512 ≡ e.evaluates
-    sloppy : is_sloppy_block s c.block.scope ≡ e.in_sloppy_block
+  pub record Told (c : Context) (e : Exposure) : Type 0 where
+    pub strict : c.strict ≡ e.strict
+    pub names : is_script t && (c.block.scope == 0) ≡ e.names_shared
+    pub variables : is_script t && (c.variables.scope == 0) ≡ e.variables_shared
+    pub declared : is_script t && (c.declaring.layer.scope == 0) ≡ e.declared_shared
+    pub evaluates : scope_has s c.block.scope 512 ≡ e.evaluates
+    pub sloppy : is_sloppy_block s c.block.scope ≡ e.in_sloppy_block
 
-  own_scope : (n : ℕ) → 0 < n → is_script t && (n == 0) ≡ false
+  pub own_scope : (n : ℕ) → 0 < n → is_script t && (n == 0) ≡ false
   own_scope n h = ap (λ (b : Bool). is_script t && b) (not_zero n h) ∙ and_false (is_script t)
 
   told_if : {c d : Context} {e f : Exposure} (b : Bool) → Told c e → Told d f → Told (if b then c else d) (if b then e else f)
@@ -228,7 +228,7 @@ module _ (s : Scoping) (t : Forest) where
   told_variables {c = c} {e = e} variable.Let below next at h = told_declares c.block 2 false e.names_shared h h.names
   told_variables {c = c} {e = e} variable.Const below next at h = told_declares c.block 6 false e.names_shared h h.names
 
-  abbrev TellsFlags : (next : ℕ) → Context → Kind → (below : Forest) → Type 0
+  abbrev pub TellsFlags : (next : ℕ) → Context → Kind → (below : Forest) → Type 0
   TellsFlags next c k below = opens k below ≡ true → (scope_at s next).flags ≡ scope_bits c k below
 
   told_field : {c : Context} {e : Exposure} (next : ℕ) (is_static : _) (key : _) (below : Forest) (at : ℕ) (b : Bool) → has_second below ≡ b → 0 < next → TellsFlags next c (kind.PropertyDefinition is_static key) below → Told c e
@@ -263,7 +263,7 @@ module _ (s : Scoping) (t : Forest) where
         sloppy = ap is_sloppy (flags refl) ∙ f.sloppy strict (has_eval below);
       }))
 
-  told_inside : {c : Context} {e : Exposure} (next : ℕ) (k : Kind) (below : Forest) → 0 < next → e.outside ≡ false → TellsFlags next c k below → Told c e → (at : ℕ) → Told (inside c next k below at) (exposed_inside e k below at)
+  pub told_inside : {c : Context} {e : Exposure} (next : ℕ) (k : Kind) (below : Forest) → 0 < next → e.outside ≡ false → TellsFlags next c k below → Told c e → (at : ℕ) → Told (inside c next k below at) (exposed_inside e k below at)
   told_inside {c = c} {e = e} next (kind.Program source) below some o flags h at =
       let strict = is_module source || is_strict_list below in
       subst (λ (b : Bool). Told (in_body c next strict) (in_code e (b && is_script_source source) strict below)) (sym o) (told_body next 2 strict strict below some program_form (flags refl) refl h)
@@ -311,7 +311,7 @@ module _ (s : Scoping) (t : Forest) where
   outside_class e class_kind.Declaration o = o
   outside_class e class_kind.Expression o = o
 
-  outside_stays : (k : Kind) (e : Exposure) (below : Forest) (at : ℕ) → e.outside ≡ false → (exposed_inside e k below at).outside ≡ false
+  pub outside_stays : (k : Kind) (e : Exposure) (below : Forest) (at : ℕ) → e.outside ≡ false → (exposed_inside e k below at).outside ≡ false
   outside_stays (kind.Program source) e below at o = refl
   outside_stays (kind.Function how pure) e below at o = outside_if _ _ (at == 0) (outside_function e how o) (outside_if _ _ (at == 1) refl refl)
   outside_stays (kind.Class how) e below at o = outside_if _ _ (at == 0) (outside_class e how o) o
@@ -330,22 +330,22 @@ module _ (s : Scoping) (t : Forest) where
 
   -- ---- the scopes of a row, from a number on
 
-  abbrev ScopesFrom : (next : ℕ) → List Site → Type 0
+  abbrev pub ScopesFrom : (next : ℕ) → List Site → Type 0
   ScopesFrom next ss = (n : ℕ) (x : ScopeSite) → slice_get (scopes_among ss) n ≡ Some x → (scope_at s (next + n)).flags ≡ x.flags
 
-  from_left : (next : ℕ) (xs ys : List Site) → ScopesFrom next (xs ++ ys) → ScopesFrom next xs
+  pub from_left : (next : ℕ) (xs ys : List Site) → ScopesFrom next (xs ++ ys) → ScopesFrom next xs
   from_left next xs ys f n x e = f n x (subst (λ l. slice_get l n ≡ Some x) (sym (scopes_append xs ys)) (get_left (scopes_among xs) (scopes_among ys) n x e))
 
-  from_right : (next number : ℕ) (xs ys : List Site) → length (scopes_among xs) ≡ number → ScopesFrom next (xs ++ ys) → ScopesFrom (next + number) ys
+  pub from_right : (next number : ℕ) (xs ys : List Site) → length (scopes_among xs) ≡ number → ScopesFrom next (xs ++ ys) → ScopesFrom (next + number) ys
   from_right next number xs ys c f n x e =
       let same : next + (length (scopes_among xs) + n) ≡ next + number + n = Prim.omega (arith, c) in
       subst (λ m. (scope_at s m).flags ≡ x.flags) same
       (f (length (scopes_among xs) + n) x (subst (λ l. slice_get l (length (scopes_among xs) + n) ≡ Some x) (sym (scopes_append xs ys)) (get_right (scopes_among xs) (scopes_among ys) n x e)))
 
-  own_count : (c : Context) (n : Note) (k : Kind) (below : Forest) → length (scopes_among (own_sites c n k below)) ≡ opens_one k below
+  pub own_count : (c : Context) (n : Note) (k : Kind) (below : Forest) → length (scopes_among (own_sites c n k below)) ≡ opens_one k below
   own_count c n k below = own_scopes (opens k below) _ (name_sites c n k) (no_scopes c n k)
 
-  node_count : (cs : ℕ → Context) (at next : ℕ) (k : Kind) (n : Note) (below : Forest)
+  pub node_count : (cs : ℕ → Context) (at next : ℕ) (k : Kind) (n : Note) (below : Forest)
       → length (scopes_among (own_sites (cs at) n k below ++ sites (inside (cs at) next k below) 0 (next + opens_one k below) below)) ≡ scope_count (node k n below nothing)
   node_count cs at next k n below =
       let inner = sites (inside (cs at) next k below) 0 (next + opens_one k below) below in
@@ -426,12 +426,12 @@ module _ (s : Scoping) (t : Forest) where
 
 -- ---- whole programs
 
-script_source : (source : SourceType) (n : Note) (below rest : Forest) → is_script (node (kind.Program source) n below rest) ≡ is_script_source source
+pub script_source : (source : SourceType) (n : Note) (below rest : Forest) → is_script (node (kind.Program source) n below rest) ≡ is_script_source source
 script_source source_type.Script n below rest = refl
 script_source source_type.Module n below rest = refl
 script_source source_type.CommonJs n below rest = refl
 
-and_true : (b : Bool) → b && true ≡ b
+pub and_true : (b : Bool) → b && true ≡ b
 and_true true = refl
 and_true false = refl
 

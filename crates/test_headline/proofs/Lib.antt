@@ -1,3 +1,4 @@
 mod Runs
 mod Refused
 mod Left
+mod Dead

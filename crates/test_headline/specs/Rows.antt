@@ -1,10 +1,12 @@
 -- Small modules.
-use Rattle.std.specs.Prelude.{negsuc, [], ◌∷◌, None}
+use Rattle.std.specs.Prelude.{negsuc, [], ◌∷◌, None, codes}
 use Rattle.js_syntax.specs.declared.node_kind.NodeKind.{NodeKind as Kind}
 use Rattle.js_syntax.specs.declared.kind.VariableKind.TheVariants as variable
 use Rattle.js_syntax.specs.declared.operator.UnaryOperator.TheVariants as unary
 use Rattle.js_syntax.specs.declared.value.LiteralValue.{LiteralValue as Literal}
-use Rattle.js_syntax.specs.Node.{Forest}
+use Rattle.js_syntax.specs.Node.{Forest, joined}
+use Rattle.form_rules.specs.Samples as form
+use Rattle.steps_allowed.specs.Rows.{call_of_a, exports_declaration}
 use Rattle.js_meaning.specs.Samples as sample
 use Rattle.js_meaning.specs.Examples.{g, function_g, says_number}
 
@@ -49,3 +51,16 @@ with_negative = sample.a_module (sample.says (sample.leaf (Kind.Literal (Literal
 -- f(-4); with unary minus
 abbrev pub with_minus : Forest
 with_minus = sample.a_module (sample.says (sample.over (Kind.UnaryExpression unary.UnaryNegation) (sample.number_of 4) ∷ []) ∷ [])
+
+-- a(); let a, b;
+abbrev pub of_two : Forest
+of_two =
+    form.a_module (form.does call_of_a ∷ form.over (Kind.VariableDeclaration variable.Let) (form.listed Kind.Declarators (form.over Kind.VariableDeclarator (joined (form.binds form.a) form.no) ∷ form.over Kind.VariableDeclarator (joined (form.binds (codes "b")) form.no) ∷ [])) ∷ [])
+
+-- { export let a; function a() {} }
+abbrev pub misplaced_export : Forest
+misplaced_export = form.a_module (form.block (exports_declaration (form.let_ form.a) ∷ form.function_a [] [] ∷ []) ∷ [])
+
+-- let; with no declarator
+abbrev pub declares_nothing : Forest
+declares_nothing = form.a_module (form.over (Kind.VariableDeclaration variable.Let) (form.listed Kind.Declarators []) ∷ [])

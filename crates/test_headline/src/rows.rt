@@ -1,13 +1,16 @@
 // Small modules that the headline is tried on. Each is a contract, so that the check computes it.
-ghost use Rattle.std.specs.Prelude.{◌≡◌, [], ◌∷◌};
+ghost use Rattle.std.specs.Prelude.{◌≡◌, [], ◌∷◌, true, false};
+ghost use Rattle.js_syntax.specs.Class.{root};
 ghost use Rattle.js_syntax.specs.declared.kind.VariableKind.TheVariants as variable;
 ghost use Rattle.js_syntax.specs.Node.{bare};
 ghost use Rattle.js_meaning.specs.Kept.{Kept, KeptBack};
 ghost use Rattle.form_rules.specs.Samples.{a_module, a_script, a, binds, one, does, declares, function_a, block};
-ghost use Rattle.min_passes.specs.Passes.{shaken};
+ghost use Rattle.json_shape.specs.Shape.{Fits};
+ghost use Rattle.min_passes.specs.Passes.{has_next, shaken};
+ghost use Rattle.headline.specs.Clean.{Clean};
 ghost use Rattle.headline.specs.Headline.{Headline};
 ghost use Rattle.headline_text.specs.Written.{written};
-ghost use Rattle.steps_allowed.specs.Rows.{call_of_eval};
+ghost use Rattle.steps_allowed.specs.Rows.{call_of_a, call_of_eval, exports_declaration, empty};
 ghost use Rattle.test_headline.specs.Rows as row;
 
 /// `export let g = 1;` doesn't become empty: at its end the host sees an export less.
@@ -47,6 +50,33 @@ pub fn what_others_may_use_stays()
 /// `1;` doesn't stay.
 pub fn dead_code_goes()
     ensures { Headline row.dead row.dead → ⊥ }
+{}
+
+/// `1;` is dead code, and so are `{ ; }`'s empty statement, a function that nothing calls, and one of two declarators.
+pub fn dead_code_is_told()
+    ensures number { Clean (a_module (does one ∷ [])) → ⊥ }
+    ensures empty { Clean (a_module (block (empty ∷ []) ∷ [])) → ⊥ }
+    ensures function { Clean (a_module (function_a [] [] ∷ [])) → ⊥ }
+    ensures declarator { Clean row.of_two → ⊥ }
+{}
+
+/// A call is none, nor a function that is exported, a variable beside a direct call of `eval`, and a function of a script.
+pub fn what_others_may_use_is_no_dead_code()
+    ensures call { Clean (a_module (does call_of_a ∷ [])) }
+    ensures exported { Clean (a_module (exports_declaration (function_a [] []) ∷ [])) }
+    ensures evaluated { Clean (a_module (declares variable.Let (binds a) one ∷ does call_of_eval ∷ [])) }
+    ensures global { Clean (a_script (function_a [] [] ∷ [])) }
+{}
+
+/// That a pass leaves what is clean alone is asked of programs of the table: by an export in a block it keeps a function of
+/// the block's that nothing refers to. And that it leaves nothing else, of programs that break no rule of form: it takes a
+/// declaration without declarators, which declares nothing that could be dead.
+pub fn premises_of_clean_are_needed()
+    ensures quiet { has_next row.misplaced_export ≡ false }
+    ensures dead { Clean row.misplaced_export → ⊥ }
+    ensures fits { Fits root row.declares_nothing }
+    ensures clean { Clean row.declares_nothing }
+    ensures goes { has_next row.declares_nothing ≡ true }
 {}
 
 /// `f(1); 2;` becomes `f(1);`.

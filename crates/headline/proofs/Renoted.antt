@@ -1,0 +1,518 @@
+-- A program without dead code has none with other notes.
+use Rattle.std.proofs.Common.{◌≡◌, ◌∙◌, ◌+◌, ℕ, suc, List, [], ◌∷◌, ◌++◌, map, Bool, true, false, not, ◌&&◌, ◌||◌, ◌==◌, Option, Some, None, is_some, option_map, if◌then◌else◌, refl, sym, ap, ap₂, subst, arith, inl, inr}
+use Rattle.std.proofs.lemmas.List.{map-append}
+use Rattle.std.specs.Str.{bytes_eq}
+use mathlib.Core.Path.{fun_ext}
+use Rattle.js_syntax.specs.declared.node_kind.NodeKind.{NodeKind as Kind}
+use Rattle.js_syntax.specs.declared.node_kind.NodeKind.TheVariants.{Program as program, Function as function, Class as class, PropertyDefinition as property_definition, SwitchStatement as switch_statement, WithStatement as with_statement, StaticBlock as static_block, BlockStatement as block_statement, CatchClause as catch_clause, ForStatement as for_statement, ForInStatement as for_in_statement, ForOfStatement as for_of_statement, BindingName as binding_name, ReferenceName as reference_name, TargetName as target_name, EmptyStatement as empty_statement, ExpressionStatement as expression_statement, VariableDeclarator as variable_declarator}
+use Rattle.js_syntax.specs.declared.kind.FunctionKind.TheVariants as function_kind
+use Rattle.js_syntax.specs.declared.kind.VariableKind.TheVariants as variable
+use Rattle.js_syntax.specs.declared.scalar.SourceType.TheVariants as source_type
+use Rattle.js_syntax.specs.Node.{Forest, Tree, Note, nothing, node, absent, nowhere, bare, below_of}
+use Rattle.form_rules.specs.Context.{is_module, is_strict_list, is_strict_function}
+use Rattle.min_pass.specs.declared.around.Around.{Around as Asked}
+use Rattle.min_pass.specs.Around.{is_with, entered as asked_below, outermost as asked_of_program}
+use Rattle.min_pass.specs.Pass.{is_given}
+use Rattle.scope_rules.specs.declared.layer.Layer.{Layer}
+use Rattle.scope_rules.specs.Context.{Context, opens, strict_in, inside, outermost}
+use Rattle.scope_rules.specs.Site.{Site, scope_site, binding_site, reference_site, ScopeSite, BindingSite, ReferenceSite, bit, form_bits, scope_bits, scope_row, has_eval, name_sites, own_sites, opens_one, scope_count, sites, sites_of, bindings_among, references_among}
+use Rattle.scope_rules.specs.Binding.{Binding, same_layer, is_declared, binding_layer, named_in, binding_of}
+use Rattle.scope_laws.specs.Exact.{Among}
+use Rattle.scope_laws.specs.Place.{Around, first, behind, behind_none, under, plug}
+use Rattle.scope_laws.proofs.Notes.{unseen, opens_bare, scope_count_bare, scope_bits_bare, inside_bare}
+use Rattle.scope_laws.proofs.Declared.{image}
+use Rattle.scope_laws.proofs.Numbers.{among_map}
+use Rattle.steps_names.specs.Standing.{is_export, exported_sites, exported_declarations}
+use Rattle.steps_allowed.specs.Silent.{read_in, IsFound, IsSilentNode, IsSilent, HoldsThere}
+use Rattle.steps_allowed.specs.Exposure.{Exposure, at_function_name, at_class_name, declaring, is_script_source, exposed_inside, is_script, exposed_of, exposed_at, exposure, function_is_exposed, evaluates_somewhere, IsOwnFunction, IsOwnDeclarator}
+use Rattle.steps_allowed.specs.Places.{a_node, asked_at, IsItem, IsDeclarator, At}
+use Rattle.steps_allowed.specs.Free.{IsFree, Free, FreeDeclarator}
+use Rattle.steps_allowed.specs.SilentStatement.{SilentStatement}
+use Rattle.steps_allowed.specs.UnusedFunction.{a_function}
+use Rattle.steps_allowed.specs.UnusedDeclarator.{a_declarator, SilentDeclarator}
+use Rattle.headline.specs.Clean.{IsDead, an_empty_statement, a_silent_statement, an_unused_function, an_unused_declarator, Clean}
+
+-- ---- sites without ids and spans
+
+abbrev bare_binding : BindingSite → BindingSite
+bare_binding b = record { id = None; name = b.name; layer = b.layer; flags = b.flags; is_pure = b.is_pure; span = nowhere.span }
+
+abbrev bare_reference : ReferenceSite → ReferenceSite
+bare_reference r = record { id = None; name = r.name; scope = r.scope; layers = r.layers; flags = r.flags }
+
+abbrev bare_scope : ScopeSite → ScopeSite
+bare_scope s = record { id = None; parent = s.parent; flags = s.flags }
+
+abbrev bare_site : Site → Site
+bare_site (scope_site s) = scope_site (bare_scope s)
+bare_site (binding_site b) = binding_site (bare_binding b)
+bare_site (reference_site r) = reference_site (bare_reference r)
+
+scope_or_none : (b : Bool) (s : ScopeSite) → (if b then scope_site (bare_scope s) ∷ [] else []) ≡ map bare_site (if b then scope_site s ∷ [] else [])
+scope_or_none true s = refl
+scope_or_none false s = refl
+
+names_bare : (c : Context) (n : Note) (k : Kind) → name_sites c nowhere k ≡ map bare_site (name_sites c n k)
+names_bare c n (binding_name x) = refl
+names_bare c n (reference_name x) = refl
+names_bare c n (target_name x) = refl
+names_bare c n k = refl
+
+own_bare : (c : Context) (n : Note) (k : Kind) (t : Forest) → own_sites c nowhere k (bare t) ≡ map bare_site (own_sites c n k t)
+own_bare c n k t =
+    let here : ScopeSite = record { id = n.id; parent = c.scope; flags = scope_bits c k t } in
+    ap₂ (λ xs ys. xs ++ ys)
+    (ap₂ (λ b flags. if b then scope_site (record { id = None; parent = c.scope; flags = flags }) ∷ [] else []) (opens_bare k t) (scope_bits_bare c k t) ∙ scope_or_none (opens k t) here)
+    (names_bare c n k)
+    ∙ sym (map-append bare_site (if opens k t then scope_site here ∷ [] else []) (name_sites c n k))
+
+inside_same : (c : Context) (next : ℕ) (k : Kind) (f g : Forest) → bare f ≡ bare g → inside c next k f ≡ inside c next k g
+inside_same c next k f g e = fun_ext (λ i. unseen (λ t. inside c next k t i) (λ t. inside_bare c next k t i) f g e)
+
+opens_same : (k : Kind) (f g : Forest) → bare f ≡ bare g → opens_one k f ≡ opens_one k g
+opens_same k f g e = ap (λ b. if b then 1 else 0) (unseen (opens k) (opens_bare k) f g e)
+
+bare_bare : (t : Forest) → bare (bare t) ≡ bare t
+bare_bare nothing = refl
+bare_bare (absent rest) = ap absent (bare_bare rest)
+bare_bare (node k n below rest) = ap₂ (λ x y. node k nowhere x y) (bare_bare below) (bare_bare rest)
+
+place_same : (next : ℕ) (k : Kind) (n : Note) (below : Forest) → next + scope_count (node k nowhere (bare below) nothing) ≡ next + scope_count (node k n below nothing)
+place_same next k n below = ap (λ (i : ℕ). next + i) (scope_count_bare (node k n below nothing))
+
+sites_bare : (cs : ℕ → Context) (at next : ℕ) (t : Forest) → sites cs at next (bare t) ≡ map bare_site (sites cs at next t)
+sites_bare cs at next nothing = refl
+sites_bare cs at next (absent rest) = sites_bare cs (suc at) next rest
+sites_bare cs at next (node k n below rest) =
+    let c = cs at in
+    let own = own_sites c n k below in
+    let inner = sites (inside c next k below) 0 (next + opens_one k below) below in
+    let outer = sites cs (suc at) (next + scope_count (node k n below nothing)) rest in
+    ap₂ (λ xs ys. xs ++ ys)
+    (ap₂ (λ xs ys. xs ++ ys) (own_bare c n k below)
+    (ap₂ (λ f (i : ℕ). sites f 0 (next + i) (bare below)) (inside_same c next k (bare below) below (bare_bare below)) (opens_same k (bare below) below (bare_bare below)) ∙ sites_bare (inside c next k below) 0 (next + opens_one k below) below))
+    (ap (λ (i : ℕ). sites cs (suc at) i (bare rest)) (place_same next k n below) ∙ sites_bare cs (suc at) (next + scope_count (node k n below nothing)) rest)
+    ∙ sym (map-append bare_site (own ++ inner) outer ∙ ap (λ xs. xs ++ map bare_site outer) (map-append bare_site own inner))
+
+exported_bare : (cs : ℕ → Context) (at next : ℕ) (t : Forest) → exported_sites cs at next (bare t) ≡ map bare_site (exported_sites cs at next t)
+exported_bare cs at next nothing = refl
+exported_bare cs at next (absent rest) = exported_bare cs (suc at) next rest
+exported_bare cs at next (node k n below rest) =
+    let c = cs at in
+    let all = sites (inside c next k below) 0 (next + opens_one k below) below in
+    let some = exported_sites (inside c next k below) 0 (next + opens_one k below) below in
+    let outer = exported_sites cs (suc at) (next + scope_count (node k n below nothing)) rest in
+    ap₂ (λ xs ys. xs ++ ys)
+    (ap₂ (λ f (i : ℕ). if is_export k then sites f 0 (next + i) (bare below) else exported_sites f 0 (next + i) (bare below)) (inside_same c next k (bare below) below (bare_bare below)) (opens_same k (bare below) below (bare_bare below))
+    ∙ either (is_export k) (exported_bare (inside c next k below) 0 (next + opens_one k below) below))
+    (ap (λ (i : ℕ). exported_sites cs (suc at) i (bare rest)) (place_same next k n below) ∙ exported_bare cs (suc at) (next + scope_count (node k n below nothing)) rest)
+    ∙ sym (map-append bare_site (if is_export k then all else some) outer)
+  where
+    either : (b : Bool)
+        → exported_sites (inside (cs at) next k below) 0 (next + opens_one k below) (bare below) ≡ map bare_site (exported_sites (inside (cs at) next k below) 0 (next + opens_one k below) below)
+        → (if b then sites (inside (cs at) next k below) 0 (next + opens_one k below) (bare below) else exported_sites (inside (cs at) next k below) 0 (next + opens_one k below) (bare below))
+        ≡ map bare_site (if b then sites (inside (cs at) next k below) 0 (next + opens_one k below) below else exported_sites (inside (cs at) next k below) 0 (next + opens_one k below) below)
+    either true e = sites_bare (inside (cs at) next k below) 0 (next + opens_one k below) below
+    either false e = e
+
+bindings_bare : (ss : List Site) → bindings_among (map bare_site ss) ≡ map bare_binding (bindings_among ss)
+bindings_bare [] = refl
+bindings_bare (scope_site s ∷ ss) = bindings_bare ss
+bindings_bare (binding_site s ∷ ss) = ap (λ zs. bare_binding s ∷ zs) (bindings_bare ss)
+bindings_bare (reference_site s ∷ ss) = bindings_bare ss
+
+references_bare : (ss : List Site) → references_among (map bare_site ss) ≡ map bare_reference (references_among ss)
+references_bare [] = refl
+references_bare (scope_site s ∷ ss) = references_bare ss
+references_bare (binding_site s ∷ ss) = references_bare ss
+references_bare (reference_site s ∷ ss) = ap (λ zs. bare_reference s ∷ zs) (references_bare ss)
+
+-- ---- bindings
+
+declared_bare : (bs : List BindingSite) (l : Layer) (x : List ℕ) → is_declared (map bare_binding bs) l x ≡ is_declared bs l x
+declared_bare [] l x = refl
+declared_bare (b ∷ bs) l x = ap (λ d. same_layer b.layer l && bytes_eq b.name x || d) (declared_bare bs l x)
+
+layer_bare : (bs : List BindingSite) (ls : List Layer) (x : List ℕ) → binding_layer (map bare_binding bs) ls x ≡ binding_layer bs ls x
+layer_bare bs [] x = refl
+layer_bare bs (l ∷ ls) x = ap₂ (λ d o. if d then Some l else o) (declared_bare bs l x) (layer_bare bs ls x)
+
+binding_bare : (bs : List BindingSite) (r : ReferenceSite) → binding_of (map bare_binding bs) r ≡ binding_of bs r
+binding_bare bs r = ap (option_map (named_in r.name)) (layer_bare bs r.layers r.name)
+
+module _ (t u : Forest) (e : bare t ≡ bare u) where
+  same_bindings : map bare_binding (bindings_among (sites_of t)) ≡ map bare_binding (bindings_among (sites_of u))
+  same_bindings = unseen (λ f. map bare_binding (bindings_among (sites_of f)))
+      (λ f. ap (λ ss. map bare_binding (bindings_among ss)) (sites_bare (λ at. outermost) 0 0 f) ∙ ap (map bare_binding) (bindings_bare (sites_of f)) ∙ twice (bindings_among (sites_of f))) t u e
+    where
+      twice : (bs : List BindingSite) → map bare_binding (map bare_binding bs) ≡ map bare_binding bs
+      twice [] = refl
+      twice (b ∷ bs) = ap (λ zs. bare_binding b ∷ zs) (twice bs)
+
+  same_references : map bare_reference (references_among (sites_of t)) ≡ map bare_reference (references_among (sites_of u))
+  same_references = unseen (λ f. map bare_reference (references_among (sites_of f)))
+      (λ f. ap (λ ss. map bare_reference (references_among ss)) (sites_bare (λ at. outermost) 0 0 f) ∙ ap (map bare_reference) (references_bare (sites_of f)) ∙ twice (references_among (sites_of f))) t u e
+    where
+      twice : (rs : List ReferenceSite) → map bare_reference (map bare_reference rs) ≡ map bare_reference rs
+      twice [] = refl
+      twice (r ∷ rs) = ap (λ zs. bare_reference r ∷ zs) (twice rs)
+
+  same_exports : map bare_binding (exported_declarations t) ≡ map bare_binding (exported_declarations u)
+  same_exports = unseen (λ f. map bare_binding (exported_declarations f))
+      (λ f. ap (λ ss. map bare_binding (bindings_among ss)) (exported_bare (λ at. outermost) 0 0 f) ∙ ap (map bare_binding) (bindings_bare (exported_sites (λ at. outermost) 0 0 f)) ∙ twice (exported_declarations f)) t u e
+    where
+      twice : (bs : List BindingSite) → map bare_binding (map bare_binding bs) ≡ map bare_binding bs
+      twice [] = refl
+      twice (b ∷ bs) = ap (λ zs. bare_binding b ∷ zs) (twice bs)
+
+  same_binding : (r : ReferenceSite) → binding_of (bindings_among (sites_of t)) r ≡ binding_of (bindings_among (sites_of u)) r
+  same_binding r = sym (binding_bare (bindings_among (sites_of t)) r) ∙ ap (λ bs. binding_of bs r) same_bindings ∙ binding_bare (bindings_among (sites_of u)) r
+
+  -- what is free in the one is free in the other
+  free_as : (b : Binding) → IsFree u b → IsFree t b
+  free_as b f = record {
+    unreferred = λ r h is.
+        let i = image bare_reference (references_among (sites_of u)) (bare_reference r) (subst (Among (bare_reference r)) same_references (among_map bare_reference r (references_among (sites_of t)) h)) in
+        f.unreferred i.item i.stands (ap (binding_of (bindings_among (sites_of u))) i.gives ∙ sym (same_binding r) ∙ is);
+    unexported = λ d h outer is.
+        let i = image bare_binding (exported_declarations u) (bare_binding d) (subst (Among (bare_binding d)) same_exports (among_map bare_binding d (exported_declarations t) h)) in
+        f.unexported i.item i.stands (ap (λ (x : BindingSite). x.layer.scope) i.gives ∙ outer) (ap (λ (x : BindingSite). named_in x.name x.layer) i.gives ∙ is);
+  }
+
+-- ---- two trees node by node
+
+same_below : {k l : Kind} {a b c d : Forest} → node k nowhere a c ≡ node l nowhere b d → a ≡ b
+same_below e = cc
+
+same_rest : {k l : Kind} {a b c d : Forest} → node k nowhere a c ≡ node l nowhere b d → c ≡ d
+same_rest e = cc
+
+same_kind : {k l : Kind} {a b c d : Forest} → node k nowhere a c ≡ node l nowhere b d → k ≡ l
+same_kind e = cc
+
+same_absent : {c d : Forest} → absent c ≡ absent d → c ≡ d
+same_absent e = cc
+
+nothing_node : {k : Kind} {n : Note} {a c : Forest} → nothing ≡ node k n a c → ⊥
+nothing_node e = cc
+
+nothing_absent : {c : Forest} → nothing ≡ absent c → ⊥
+nothing_absent e = cc
+
+absent_node : {k : Kind} {n : Note} {a c d : Forest} → absent d ≡ node k n a c → ⊥
+absent_node e = cc
+
+place_as : (next : ℕ) (k : Kind) (n m : Note) (f g : Forest) → bare f ≡ bare g → next + scope_count (node k n f nothing) ≡ next + scope_count (node k m g nothing)
+place_as next k n m f g e = ap (λ (i : ℕ). next + i) (unseen scope_count scope_count_bare (node k n f nothing) (node k m g nothing) (ap (λ x. node k nowhere x nothing) e))
+
+-- ---- what is silent
+
+found_as : (bs ds : List BindingSite) → ((r : ReferenceSite) → binding_of bs r ≡ binding_of ds r) → (c : Context) (k : Kind) (n m : Note) → IsFound bs c k n → IsFound ds c k m
+found_as bs ds same c (reference_name x) n m (inl h) = inl (ap is_some (sym (same (read_in c m x))) ∙ h)
+found_as bs ds same c (reference_name x) n m (inr h) = inr h
+found_as bs ds same c k n m h = absurd h
+
+silent_node : (bs ds : List BindingSite) → ((r : ReferenceSite) → binding_of bs r ≡ binding_of ds r) → (w : Bool) (c : Context) (k : Kind) (n m : Note) (parts now : Type 0) → (parts → now)
+    → IsSilentNode bs w c k n parts → IsSilentNode ds w c k m now
+silent_node bs ds same w c k n m parts now f (inl h) = inl h
+silent_node bs ds same w c k n m parts now f (inr (inl h)) = inr (inl (h.0, found_as bs ds same c k n m h.1))
+silent_node bs ds same w c k n m parts now f (inr (inr h)) = inr (inr (h.0, f h.1))
+
+silent_as : (bs ds : List BindingSite) → ((r : ReferenceSite) → binding_of bs r ≡ binding_of ds r) → (w : Bool) (cs : ℕ → Context) (at next : ℕ) (f g : Forest) → bare f ≡ bare g
+    → IsSilent bs w cs at next f → IsSilent ds w cs at next g
+silent_as bs ds same w cs at next nothing nothing e h = tt
+silent_as bs ds same w cs at next nothing (absent g) e h = absurd (nothing_absent e)
+silent_as bs ds same w cs at next nothing (node l m c g) e h = absurd (nothing_node e)
+silent_as bs ds same w cs at next (absent f) nothing e h = absurd (nothing_absent (sym e))
+silent_as bs ds same w cs at next (absent f) (absent g) e h = silent_as bs ds same w cs (suc at) next f g (same_absent e) h
+silent_as bs ds same w cs at next (absent f) (node l m c g) e h = absurd (absent_node e)
+silent_as bs ds same w cs at next (node k n b f) nothing e h = absurd (nothing_node (sym e))
+silent_as bs ds same w cs at next (node k n b f) (absent g) e h = absurd (absent_node (sym e))
+silent_as bs ds same w cs at next (node k n b f) (node l m c g) e h =
+    let inner = same_below e in
+    let after = next + scope_count (node k n b nothing) in
+    let parts : IsSilent bs w (inside (cs at) next k b) 0 (next + opens_one k b) b → IsSilent ds w (inside (cs at) next k c) 0 (next + opens_one k c) c = λ p.
+    subst (λ (i : ℕ). IsSilent ds w (inside (cs at) next k c) 0 (next + i) c) (opens_same k b c inner)
+    (subst (λ (es : ℕ → Context). IsSilent ds w es 0 (next + opens_one k b) c) (inside_same (cs at) next k b c inner) (silent_as bs ds same w (inside (cs at) next k b) 0 (next + opens_one k b) b c inner p)) in
+    let here : IsSilent ds w cs at next (node k m c g) = (
+      silent_node bs ds same w (cs at) k n m (IsSilent bs w (inside (cs at) next k b) 0 (next + opens_one k b) b) (IsSilent ds w (inside (cs at) next k c) 0 (next + opens_one k c) c) parts h.0,
+      subst (λ (i : ℕ). IsSilent ds w cs (suc at) i g) (place_as next k n m b c inner) (silent_as bs ds same w cs (suc at) after f g (same_rest e) h.1),
+    ) in
+    subst (λ j. IsSilent ds w cs at next (node j m c g)) (same_kind e) here
+
+-- ---- exposures
+
+same_bit : (form : ℕ) (s t a b : Bool) → bit s 1 + form + bit a 512 ≡ bit t 1 + form + bit b 512 → a ≡ b
+same_bit form s t true true e = refl
+same_bit form s t false false e = refl
+same_bit form true true true false e = absurd (Prim.omega (arith, e))
+same_bit form true false true false e = absurd (Prim.omega (arith, e))
+same_bit form false true true false e = absurd (Prim.omega (arith, e))
+same_bit form false false true false e = absurd (Prim.omega (arith, e))
+same_bit form true true false true e = absurd (Prim.omega (arith, e))
+same_bit form true false false true e = absurd (Prim.omega (arith, e))
+same_bit form false true false true e = absurd (Prim.omega (arith, e))
+same_bit form false false false true e = absurd (Prim.omega (arith, e))
+
+-- of the row that lies in a node's scope
+evals_bare : (k : Kind) (t : Forest) → has_eval (scope_row k (bare t)) ≡ has_eval (scope_row k t)
+evals_bare k t = same_bit (form_bits k false) (strict_in outermost k (bare t)) (strict_in outermost k t) (has_eval (scope_row k (bare t))) (has_eval (scope_row k t)) (scope_bits_bare outermost k t)
+
+eval_bare : (t : Forest) → has_eval (bare t) ≡ has_eval t
+eval_bare t = evals_bare block_statement t
+
+strict_list_bare : (t : Forest) → is_strict_list (bare t) ≡ is_strict_list t
+strict_list_bare t = ap (λ (c : Context). c.strict) (inside_bare outermost 0 (program source_type.Script) t 0)
+
+strict_function_bare : (t : Forest) → is_strict_function (bare t) ≡ is_strict_function t
+strict_function_bare t = ap (λ (c : Context). c.strict) (inside_bare outermost 0 (function function_kind.Declaration false) t 2)
+
+-- in code and in a block, by whether it evaluates
+abbrev code_with : Exposure → (shared strict evaluates : Bool) → Exposure
+code_with e shared strict b = record { outside = false; strict = strict; variables_shared = shared; names_shared = shared; declared_shared = e.declared_shared; evaluates = b; in_sloppy_block = false }
+
+abbrev block_with : Exposure → (strict evaluates : Bool) → Exposure
+block_with e strict b =
+    record { outside = e.outside; strict = strict; variables_shared = e.variables_shared; names_shared = false; declared_shared = e.declared_shared; evaluates = b; in_sloppy_block = not strict }
+
+exposed_bare : (e : Exposure) (k : Kind) (t : Forest) (at : ℕ) → exposed_inside e k (bare t) at ≡ exposed_inside e k t at
+exposed_bare e (program source) t at = ap₂ (λ a b. code_with e (e.outside && is_script_source source) (is_module source || a) b) (strict_list_bare t) (eval_bare t)
+exposed_bare e (function how pure) t at =
+    ap₂ (λ a b. if at == 0 then at_function_name e how else if at == 1 then declaring (code_with e false (e.strict || a) b) false else code_with e false (e.strict || a) b) (strict_function_bare t) (eval_bare t)
+exposed_bare e (class how) t at = ap (λ b. if at == 0 then at_class_name e how else block_with e true b) (eval_bare t)
+exposed_bare e static_block t at = ap (code_with e false e.strict) (eval_bare t)
+exposed_bare e (property_definition is_static key) t at = ap₂ (λ a b. if a && at == 1 then block_with e e.strict b else e) (opens_bare (property_definition is_static key) t) (evals_bare (property_definition is_static key) t)
+exposed_bare e block_statement t at = ap (block_with e e.strict) (eval_bare t)
+exposed_bare e switch_statement t at = ap (λ b. if at == 1 then block_with e e.strict b else e) (evals_bare switch_statement t)
+exposed_bare e with_statement t at = ap (λ b. if at == 1 then block_with e e.strict b else e) (evals_bare with_statement t)
+exposed_bare e catch_clause t at = ap (λ b. if at == 0 then declaring (block_with e e.strict b) false else block_with e e.strict b) (eval_bare t)
+exposed_bare e for_statement t at = ap (block_with e e.strict) (eval_bare t)
+exposed_bare e for_in_statement t at = ap (block_with e e.strict) (eval_bare t)
+exposed_bare e for_of_statement t at = ap (block_with e e.strict) (eval_bare t)
+exposed_bare e k t at = refl
+
+exposed_same : (e : Exposure) (k : Kind) (f g : Forest) → bare f ≡ bare g → exposed_inside e k f ≡ exposed_inside e k g
+exposed_same e k f g h = fun_ext (λ i. unseen (λ t. exposed_inside e k t i) (λ t. exposed_bare e k t i) f g h)
+
+-- ---- the same place
+
+weaker_there : (a : Around) (x : Option Tree) (w : Bool) (cs : ℕ → Context) (at next : ℕ) (P Q : Bool → Context → ℕ → Type 0) → ((v : Bool) (c : Context) (i : ℕ) → P v c i → Q v c i)
+    → HoldsThere w cs at next a x P → HoldsThere w cs at next a x Q
+weaker_there (first rest) x w cs at next P Q f h = f w (cs at) next h
+weaker_there (behind k n b a) x w cs at next P Q f h = weaker_there a x w cs (suc at) (next + scope_count (node k n b nothing)) P Q f h
+weaker_there (behind_none a) x w cs at next P Q f h = weaker_there a x w cs (suc at) next P Q f h
+weaker_there (under k n a rest) x w cs at next P Q f h = weaker_there a x (w || is_with k) (inside (cs at) next k (plug a x)) 0 (next + opens_one k (plug a x)) P Q f h
+
+-- The place in another tree, with what stands there.
+record Twin (t : Forest) (a : Around) (k : Kind) (n : Note) (b : Forest) : Type 1 where
+  around : Around
+  note : Note
+  below : Forest
+  is : t ≡ plug around (a_node k note below)
+  same : bare below ≡ bare b
+  asked : (w : Asked) → asked_at w around ≡ asked_at w a
+  exposed : (es : ℕ → Exposure) (at : ℕ) → exposed_at es at around (a_node k note below) ≡ exposed_at es at a (a_node k n b)
+  holds : (P : Bool → Context → ℕ → Type 0) (w : Bool) (cs : ℕ → Context) (at next : ℕ) → HoldsThere w cs at next a (a_node k n b) P → HoldsThere w cs at next around (a_node k note below) P
+
+twin : (a : Around) (k : Kind) (n : Note) (b : Forest) (t : Forest) → bare t ≡ bare (plug a (a_node k n b)) → Twin t a k n b
+twin (first rest) k n b nothing e = absurd (nothing_node e)
+twin (first rest) k n b (absent r) e = absurd (absent_node e)
+twin (first rest) k n b (node l m c r) e = record {
+  around = first r;
+  note = m;
+  below = c;
+  is = ap (λ j. node j m c r) (same_kind e);
+  same = same_below e;
+  asked = λ w. refl;
+  exposed = λ es at. refl;
+  holds = λ P w cs at next h. h;
+}
+twin (behind j i d a) k n b nothing e = absurd (nothing_node e)
+twin (behind j i d a) k n b (absent r) e = absurd (absent_node e)
+twin (behind j i d a) k n b (node l m c r) e =
+    let o = twin a k n b r (same_rest e) in
+    record {
+      around = behind j m c o.around;
+      note = o.note;
+      below = o.below;
+      is = ap₂ (λ x y. node x m c y) (same_kind e) o.is;
+      same = o.same;
+      asked = o.asked;
+      exposed = λ es at. o.exposed es (suc at);
+      holds = λ P w cs at next h. subst (λ (q : ℕ). HoldsThere w cs (suc at) q o.around (a_node k o.note o.below) P) (sym (place_as next j m i c d (same_below e))) (o.holds P w cs (suc at) (next + scope_count (node j i d nothing)) h);
+    }
+twin (behind_none a) k n b nothing e = absurd (nothing_absent e)
+twin (behind_none a) k n b (node l m c r) e = absurd (absent_node (sym e))
+twin (behind_none a) k n b (absent r) e =
+    let o = twin a k n b r (same_absent e) in
+    record {
+      around = behind_none o.around;
+      note = o.note;
+      below = o.below;
+      is = ap absent o.is;
+      same = o.same;
+      asked = o.asked;
+      exposed = λ es at. o.exposed es (suc at);
+      holds = λ P w cs at next h. o.holds P w cs (suc at) next h;
+    }
+twin (under j i a rest) k n b nothing e = absurd (nothing_node e)
+twin (under j i a rest) k n b (absent r) e = absurd (absent_node e)
+twin (under j i a rest) k n b (node l m c r) e =
+    let o = twin a k n b c (same_below e) in
+    let x = a_node k n b in
+    let y = a_node k o.note o.below in
+    let inner : bare (plug a x) ≡ bare (plug o.around y) = sym (same_below e) ∙ ap bare o.is in
+    record {
+      around = under j m o.around r;
+      note = o.note;
+      below = o.below;
+      is = ap₂ (λ x y. node x m y r) (same_kind e) o.is;
+      same = o.same;
+      asked = λ w. o.asked (asked_below w j);
+      exposed = λ es at. ap (λ (fs : ℕ → Exposure). exposed_at fs 0 o.around y) (sym (exposed_same (es at) j (plug a x) (plug o.around y) inner)) ∙ o.exposed (exposed_inside (es at) j (plug a x)) 0;
+      holds = λ P w cs at next h.
+          subst (λ (q : ℕ). HoldsThere (w || is_with j) (inside (cs at) next j (plug o.around y)) 0 (next + q) o.around y P) (opens_same j (plug a x) (plug o.around y) inner)
+          (subst (λ (ds : ℕ → Context). HoldsThere (w || is_with j) ds 0 (next + opens_one j (plug a x)) o.around y P) (inside_same (cs at) next j (plug a x) (plug o.around y) inner)
+          (o.holds P (w || is_with j) (inside (cs at) next j (plug a x)) 0 (next + opens_one j (plug a x)) h));
+    }
+
+-- ---- whole programs
+
+script_bare : (t : Forest) → is_script (bare t) ≡ is_script t
+script_bare (node (program source) n below rest) = refl
+script_bare t = refl
+
+below_bare : (t : Forest) → has_eval (below_of (bare t)) ≡ has_eval (below_of t)
+below_bare nothing = refl
+below_bare (absent rest) = refl
+below_bare (node k n below rest) = eval_bare below
+
+beside_bare : (t : Forest) → exposed_of (bare t) ≡ exposed_of t
+beside_bare t = fun_ext (λ i. ap₂ (λ s b. record { outside = i == 0; strict = false; variables_shared = s; names_shared = s; declared_shared = s; evaluates = b; in_sloppy_block = false }) (script_bare t) (below_bare t))
+
+module _ (t u : Forest) (e : bare t ≡ bare u) where
+  evaluates_same : evaluates_somewhere t ≡ evaluates_somewhere u
+  evaluates_same = unseen evaluates_somewhere below_bare t u e
+
+  silent_in : (w : Bool) (cs : ℕ → Context) (at next : ℕ) (f g : Forest) → bare f ≡ bare g → IsSilent (bindings_among (sites_of u)) w cs at next f
+      → IsSilent (bindings_among (sites_of t)) w cs at next g
+  silent_in w cs at next f g h s = silent_as (bindings_among (sites_of u)) (bindings_among (sites_of t)) (λ r. sym (same_binding t u e r)) w cs at next f g h s
+
+  statement_as : (f g : Forest) → bare f ≡ bare g → (w : Bool) (c : Context) (next : ℕ) → SilentStatement u f w c next → SilentStatement t g w c next
+  statement_as f g h w c next s =
+      subst (λ (i : ℕ). IsSilent (bindings_among (sites_of t)) w (inside c next expression_statement g) 0 (next + i) g) (opens_same expression_statement f g h)
+      (subst (λ (ds : ℕ → Context). IsSilent (bindings_among (sites_of t)) w ds 0 (next + opens_one expression_statement f) g) (inside_same c next expression_statement f g h)
+      (silent_in w (inside c next expression_statement f) 0 (next + opens_one expression_statement f) f g h s))
+
+  given_same : (f g : Forest) → bare f ≡ bare g → is_given f ≡ is_given g
+  given_same f g h = unseen is_given by f g h
+    where
+      by : (x : Forest) → is_given (bare x) ≡ is_given x
+      by nothing = refl
+      by (absent r) = refl
+      by (node k n b r) = refl
+
+  declarator_as : (x : List ℕ) (m n : Note) (f g : Forest) → bare f ≡ bare g → (w : Bool) (c : Context) (next : ℕ) → SilentDeclarator u (node (binding_name x) m nothing f) w c next
+      → SilentDeclarator t (node (binding_name x) n nothing g) w c next
+  declarator_as x m n f g h w c next s = (ap (λ b. w && b) (sym (given_same f g h)) ∙ s.0, silent_in w (inside c next variable_declarator (node (binding_name x) m nothing f)) 1 (next + 0 + 0) f g h s.1)
+
+-- ---- rows that begin with a name
+
+record Begins (f : Forest) (x : List ℕ) (rest : Forest) : Type 0 where
+  note : Note
+  rest_now : Forest
+  is : f ≡ node (binding_name x) note nothing rest_now
+  same : bare rest ≡ bare rest_now
+
+nothing_bare : (f : Forest) → bare f ≡ nothing → f ≡ nothing
+nothing_bare nothing e = refl
+nothing_bare (absent r) e = absurd (nothing_absent (sym e))
+nothing_bare (node k n b r) e = absurd (nothing_node (sym e))
+
+begins : (f : Forest) (x : List ℕ) (m : Note) (rest : Forest) → bare f ≡ bare (node (binding_name x) m nothing rest) → Begins f x rest
+begins nothing x m rest e = absurd (nothing_node e)
+begins (absent r) x m rest e = absurd (absent_node e)
+begins (node k n b r) x m rest e = record { note = n; rest_now = r; is = ap₂ (λ j c. node j n c r) (same_kind e) (nothing_bare b (same_below e)); same = sym (same_rest e) }
+
+-- ---- dead code
+
+module _ (t u : Forest) (e : bare t ≡ bare u) (clean : Clean t) where
+  other_place : (a : Around) (k : Kind) (n : Note) (b : Forest) → u ≡ plug a (a_node k n b) → Twin t a k n b
+  other_place a k n b is = twin a k n b t (e ∙ ap bare is)
+
+  item_as : {k : Kind} {n : Note} {b : Forest} (a : Around) (o : Twin t a k n b) → IsItem a → IsItem o.around
+  item_as a o h = ap (λ (w : Asked). w.row) (o.asked (asked_of_program true)) ∙ h
+
+  declares_as : {k : Kind} {n : Note} {b : Forest} (a : Around) (o : Twin t a k n b) → IsDeclarator a → IsDeclarator o.around
+  declares_as a o h = ap (λ (w : Asked). w.row) (o.asked (asked_of_program true)) ∙ h
+
+  exposure_as : {k : Kind} {n : Note} {b : Forest} (a : Around) (o : Twin t a k n b) → u ≡ plug a (a_node k n b) → exposure o.around (a_node k o.note o.below) ≡ exposure a (a_node k n b)
+  exposure_as {k = k} {n = n} {b = b} a o is =
+      let now = plug o.around (a_node k o.note o.below) in
+      let then_ = plug a (a_node k n b) in
+      let same : bare now ≡ bare then_ = sym (ap bare o.is) ∙ e ∙ ap bare is in
+      ap (λ (es : ℕ → Exposure). exposed_at es 0 o.around (a_node k o.note o.below)) (unseen exposed_of beside_bare now then_ same) ∙ o.exposed (exposed_of then_) 0
+
+  evaluates_as : {k : Kind} {n : Note} {b : Forest} (a : Around) (o : Twin t a k n b) → u ≡ plug a (a_node k n b)
+      → evaluates_somewhere (plug o.around (a_node k o.note o.below)) ≡ evaluates_somewhere (plug a (a_node k n b))
+  evaluates_as a o is = unseen evaluates_somewhere below_bare _ _ (sym (ap bare o.is) ∙ e ∙ ap bare is)
+
+  no_empty : (a : Around) (n : Note) → u ≡ plug a (a_node empty_statement n nothing) → IsItem a → ⊥
+  no_empty a n is item =
+      let o = other_place a empty_statement n nothing is in
+      let below = nothing_bare o.below o.same in
+      clean.nothing_is_dead o.around (a_node empty_statement o.note nothing) (o.is ∙ ap (λ b. plug o.around (a_node empty_statement o.note b)) below) (an_empty_statement o.around o.note (item_as a o item))
+
+  no_silent : (a : Around) (n : Note) (b : Forest) → u ≡ plug a (a_node expression_statement n b) → At a (a_node expression_statement n b) (SilentStatement u b) → ⊥
+  no_silent a n b is silent =
+      let o = other_place a expression_statement n b is in
+      clean.nothing_is_dead o.around (a_node expression_statement o.note o.below) o.is
+      (a_silent_statement o.around o.note o.below
+      (weaker_there o.around (a_node expression_statement o.note o.below) false (λ at. outermost) 0 0 (SilentStatement u b) (SilentStatement t o.below) (statement_as t u e b o.below (sym o.same))
+      (o.holds (SilentStatement u b) false (λ at. outermost) 0 0 silent)))
+
+  no_function : (a : Around) (pure : Bool) (n m : Note) (x : List ℕ) (rest : Forest) → u ≡ plug a (a_function pure n m x rest) → IsItem a → IsOwnFunction a (a_function pure n m x rest)
+      → At a (a_function pure n m x rest) (Free u variable.Let x) → ⊥
+  no_function a pure n m x rest is item own free =
+      let k = function function_kind.Declaration pure in
+      let b = node (binding_name x) m nothing rest in
+      let o = other_place a k n b is in
+      let f = begins o.below x m rest o.same in
+      let now : (t ≡ plug o.around (a_node k o.note o.below)) × (function_is_exposed (exposure o.around (a_node k o.note o.below)) ≡ false) × At o.around (a_node k o.note o.below) (Free t variable.Let x) = (
+        o.is,
+        ap function_is_exposed (exposure_as a o is) ∙ own,
+        weaker_there o.around (a_node k o.note o.below) false (λ at. outermost) 0 0 (Free u variable.Let x) (Free t variable.Let x) (λ v c i h. free_as t u e (named_in x c.block) h)
+            (o.holds (Free u variable.Let x) false (λ at. outermost) 0 0 free),
+      ) in
+      let there = subst (λ d. (t ≡ plug o.around (a_node k o.note d)) × (function_is_exposed (exposure o.around (a_node k o.note d)) ≡ false) × At o.around (a_node k o.note d) (Free t variable.Let x)) f.is now in
+      clean.nothing_is_dead o.around (a_function pure o.note f.note x f.rest_now) there.0 (an_unused_function o.around pure o.note f.note x f.rest_now (item_as a o item) there.1 there.2)
+
+  no_declarator : (a : Around) (n m : Note) (x : List ℕ) (value : Forest) → u ≡ plug a (a_declarator n m x value) → IsDeclarator a → IsOwnDeclarator a (a_declarator n m x value)
+      → At a (a_declarator n m x value) (SilentDeclarator u (node (binding_name x) m nothing value)) → At a (a_declarator n m x value) (FreeDeclarator u x) → ⊥
+  no_declarator a n m x value is declares own silent free =
+      let k = variable_declarator in
+      let b = node (binding_name x) m nothing value in
+      let o = other_place a k n b is in
+      let f = begins o.below x m value o.same in
+      let quiet = SilentDeclarator t (node (binding_name x) f.note nothing f.rest_now) in
+      let now : (t ≡ plug o.around (a_node k o.note o.below)) × ((exposure o.around (a_node k o.note o.below)).declared_shared || evaluates_somewhere (plug o.around (a_node k o.note o.below)) ≡ false)
+      × At o.around (a_node k o.note o.below) quiet × At o.around (a_node k o.note o.below) (FreeDeclarator t x) = (
+        o.is,
+        ap₂ (λ (q : Exposure) v. q.declared_shared || v) (exposure_as a o is) (evaluates_as a o is) ∙ own,
+        weaker_there o.around (a_node k o.note o.below) false (λ at. outermost) 0 0 (SilentDeclarator u b) quiet (declarator_as t u e x m f.note value f.rest_now f.same) (o.holds (SilentDeclarator u b) false (λ at. outermost) 0 0 silent),
+        weaker_there o.around (a_node k o.note o.below) false (λ at. outermost) 0 0 (FreeDeclarator u x) (FreeDeclarator t x) (λ v c i h. free_as t u e (named_in x c.declaring.layer) h)
+            (o.holds (FreeDeclarator u x) false (λ at. outermost) 0 0 free),
+      ) in
+      let there = subst (λ d. (t ≡ plug o.around (a_node k o.note d)) × ((exposure o.around (a_node k o.note d)).declared_shared || evaluates_somewhere (plug o.around (a_node k o.note d)) ≡ false)
+      × At o.around (a_node k o.note d) quiet × At o.around (a_node k o.note d) (FreeDeclarator t x)) f.is now in
+      clean.nothing_is_dead o.around (a_declarator o.note f.note x f.rest_now) there.0
+      (an_unused_declarator o.around o.note f.note x f.rest_now (declares_as a o declares) there.1 there.2 there.3)
+
+  none_dead : (a : Around) (x : Option Tree) → u ≡ plug a x → IsDead u a x → ⊥
+  none_dead a x is (an_empty_statement b n item) = no_empty b n is item
+  none_dead a x is (a_silent_statement b n below silent) = no_silent b n below is silent
+  none_dead a x is (an_unused_function b pure n m y rest item own free) = no_function b pure n m y rest is item own free
+  none_dead a x is (an_unused_declarator b n m y value item own silent free) = no_declarator b n m y value is item own silent free
+
+pub clean_as : (t u : Forest) → bare t ≡ bare u → Clean t → Clean u
+clean_as t u e clean = record { nothing_is_dead = none_dead t u e clean }

@@ -1,0 +1,32 @@
+-- What a program without dead code is: read off its tree alone, by the bindings of its names.
+use Rattle.std.specs.Prelude.{◌≡◌, ℕ, List, Bool, Option}
+use Rattle.js_syntax.specs.declared.node_kind.NodeKind.TheVariants.{EmptyStatement as empty_statement, ExpressionStatement as expression_statement, BindingName as binding_name}
+use Rattle.js_syntax.specs.declared.kind.VariableKind.TheVariants as variable
+use Rattle.js_syntax.specs.Node.{Forest, Tree, Note, nothing, node}
+use Rattle.scope_laws.specs.Place.{Around, plug}
+-- where a node stands; what is silent there; which binding no reference has and no export is of
+use Rattle.steps_allowed.specs.Places.{a_node, IsItem, IsDeclarator, At}
+use Rattle.steps_allowed.specs.Free.{Free, FreeDeclarator}
+use Rattle.steps_allowed.specs.SilentStatement.{SilentStatement}
+use Rattle.steps_allowed.specs.UnusedFunction.{a_function}
+use Rattle.steps_allowed.specs.UnusedDeclarator.{a_declarator, SilentDeclarator}
+-- whose names only the tree's references may use
+use Rattle.steps_allowed.specs.Exposure.{IsOwnFunction, IsOwnDeclarator}
+
+-- A part of a program, at a place in it, is dead code.
+pub data IsDead (t : Forest) : Around → Option Tree → Type 0 where
+  -- an empty statement in a list of statements
+  an_empty_statement : (a : Around) (n : Note) → IsItem a → IsDead t a (a_node empty_statement n nothing)
+  -- a statement, wherever it stands, whose expression is silent there
+  a_silent_statement : (a : Around) (n : Note) (below : Forest) → At a (a_node expression_statement n below) (SilentStatement t below) → IsDead t a (a_node expression_statement n below)
+  -- a function declaration in a list of statements, whose name nothing refers to, no export is of and no other code may use
+  an_unused_function : (a : Around) (pure : Bool) (n m : Note) (x : List ℕ) (rest : Forest) → IsItem a → IsOwnFunction a (a_function pure n m x rest) → At a (a_function pure n m x rest) (Free t variable.Let x)
+      → IsDead t a (a_function pure n m x rest)
+  -- a declarator of such a name, the only one or one of several of a declaration in a list of statements, with a silent initialiser
+  -- or none
+  an_unused_declarator : (a : Around) (n m : Note) (x : List ℕ) (value : Forest) → IsDeclarator a → IsOwnDeclarator a (a_declarator n m x value)
+      → At a (a_declarator n m x value) (SilentDeclarator t (node (binding_name x) m nothing value)) → At a (a_declarator n m x value) (FreeDeclarator t x) → IsDead t a (a_declarator n m x value)
+
+-- No part of the program is dead code.
+pub record Clean (t : Forest) : Type 0 where
+  pub nothing_is_dead : (a : Around) (x : Option Tree) → t ≡ plug a x → IsDead t a x → ⊥

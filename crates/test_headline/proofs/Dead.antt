@@ -1,0 +1,194 @@
+-- Which small programs have dead code.
+use Rattle.std.proofs.Common.{◌≡◌, ◌∙◌, inl, inr, [], ◌∷◌, pos, Bool, true, false, ◌||◌, true≢false, Option, Some, None, bytes_eq, codes, refl, sym, ap, arith}
+use Rattle.std.proofs.lemmas.Bool.{or_left, or_right}
+use Rattle.js_syntax.specs.Class.{root, expression, declared_name, binding_element, function_block}
+use Rattle.js_syntax.specs.declared.node_kind.NodeKind.{NodeKind as Kind}
+use Rattle.js_syntax.specs.declared.scalar.SourceType.TheVariants as source_type
+use Rattle.js_syntax.specs.declared.kind.VariableKind.TheVariants as variable
+use Rattle.js_syntax.specs.declared.value.LiteralValue.{LiteralValue as Literal}
+use Rattle.js_syntax.specs.Node.{Forest, Tree, nothing, node, absent, nowhere, joined, below_of}
+use Rattle.js_syntax.specs.Table.{a_program, an_expression_statement, a_call_expression, a_reference_name, a_literal, a_binding_name, a_function_declaration, a_function_body, an_export_declaration, a_variable_declaration, a_variable_declarator}
+use Rattle.form_rules.specs.Samples.{listed, no, a_module, a_script, a, binds, one, does, declares, let_, function_a, block}
+use Rattle.json_shape.specs.Shape.{one as one_of, list, these, Stand, Fits}
+use Rattle.scope_rules.specs.Context.{body_of}
+use Rattle.scope_rules.specs.Site.{BindingSite, ReferenceSite, sites_of, bindings_among, references_among}
+use Rattle.scope_rules.specs.Binding.{Binding, named_in, declared_by, binding_of}
+use Rattle.scope_laws.specs.Exact.{Among}
+use Rattle.scope_laws.specs.Place.{Around, first, behind, behind_none, under, plug}
+use Rattle.steps_names.specs.Standing.{exported_declarations}
+use Rattle.steps_allowed.specs.Rows.{in_list, before, call_of_a, call_of_eval, exports_declaration, empty}
+use Rattle.min_passes.specs.Passes.{has_next}
+use Rattle.headline.specs.Clean.{IsDead, an_empty_statement, a_silent_statement, an_unused_function, an_unused_declarator, Clean}
+use Rattle.headline.proofs.Shaking.{quiet_clean}
+use Rattle.test_headline.specs.Rows as row
+
+-- ---- what has dead code
+
+-- 1;
+pub number_is_dead : Clean (a_module (does one ∷ [])) → ⊥
+number_is_dead c = c.nothing_is_dead (before []) _ refl (a_silent_statement (before []) nowhere one (inl refl, tt))
+
+-- { ; }
+pub empty_is_dead : Clean (a_module (block (empty ∷ []) ∷ [])) → ⊥
+empty_is_dead c =
+    let a = in_list (under Kind.BlockStatement nowhere (under Kind.Statements nowhere (first nothing) nothing) nothing) in
+    c.nothing_is_dead a _ refl (an_empty_statement a nowhere refl)
+
+-- function a() {}
+pub function_is_dead : Clean (a_module (function_a [] [] ∷ [])) → ⊥
+function_is_dead c = c.nothing_is_dead (before []) _ refl (an_unused_function (before []) false nowhere nowhere a _ refl refl (record { unreferred = λ r h e. h; unexported = λ e h s d. h }))
+
+-- behind the first of them
+abbrev second_declarator : Around
+second_declarator =
+    in_list (behind Kind.ExpressionStatement nowhere call_of_a
+    (under (Kind.VariableDeclaration variable.Let) nowhere (under Kind.Declarators nowhere (behind Kind.VariableDeclarator nowhere (joined (binds a) no) (first nothing)) nothing) nothing))
+
+abbrev is_b : Option Binding → Bool
+is_b None = false
+is_b (Some b) = bytes_eq b.name (codes "b")
+
+b_is_unreferred : (r : ReferenceSite) → Among r (references_among (sites_of row.of_two)) → binding_of (bindings_among (sites_of row.of_two)) r ≡ Some (named_in (codes "b") (body_of 0)) → ⊥
+b_is_unreferred r (inl e) is = true≢false (sym (ap is_b (ap (binding_of (bindings_among (sites_of row.of_two))) e ∙ is)))
+b_is_unreferred r (inr h) is = h
+
+pub declarator_is_dead : Clean row.of_two → ⊥
+declarator_is_dead c =
+    c.nothing_is_dead second_declarator _ refl (an_unused_declarator second_declarator nowhere nowhere (codes "b") (absent nothing) refl refl (refl, tt) (record { unreferred = b_is_unreferred; unexported = λ e h s d. h }))
+
+-- ---- what has none
+
+name_stands : Stand (these (one_of expression ∷ [])) call_of_a
+name_stands = ((a_call_expression, (false, (false, tt)), refl, tt, refl, ((a_reference_name, (a, tt), refl, tt, refl, tt), ((refl, tt), tt))), tt)
+
+eval_stands : Stand (these (one_of expression ∷ [])) call_of_eval
+eval_stands = ((a_call_expression, (false, (false, tt)), refl, tt, refl, ((a_reference_name, (codes "eval", tt), refl, tt, refl, tt), ((refl, tt), tt))), tt)
+
+function_parts : Stand (these (one_of declared_name ∷ list Kind.Parameters binding_element ∷ one_of function_block ∷ [])) (below_of (function_a [] []))
+function_parts = ((a_binding_name, (a, tt), refl, tt, refl, tt), ((refl, tt), ((a_function_body, tt, refl, tt, refl, ((refl, tt), tt)), tt)))
+
+-- a();
+pub call_is_clean : Clean (a_module (does call_of_a ∷ []))
+call_is_clean = quiet_clean _ ((a_program, (source_type.Module, tt), refl, tt, refl, ((refl, (inr (refl, (an_expression_statement, tt, refl, tt, refl, name_stands)), tt)), tt)), tt) refl
+
+-- export function a() {}
+exported_fits : Fits root (a_module (exports_declaration (function_a [] []) ∷ []))
+exported_fits = (
+  (
+    a_program,
+    (source_type.Module, tt),
+    refl,
+    tt,
+    refl,
+    (
+      (
+        refl,
+        (
+          inr (
+            refl,
+            (
+              an_export_declaration,
+              tt,
+              refl,
+              tt,
+              refl,
+              ((a_function_declaration, (false, tt), refl, tt, refl, function_parts), ((refl, tt), tt)),
+            ),
+          ),
+          tt,
+        ),
+      ),
+      tt,
+    ),
+  ),
+  tt,
+)
+
+pub exported_is_clean : Clean (a_module (exports_declaration (function_a [] []) ∷ []))
+exported_is_clean = quiet_clean _ exported_fits refl
+
+-- let a = 1; eval();
+evaluated_fits : Fits root (a_module (declares variable.Let (binds a) one ∷ does call_of_eval ∷ []))
+evaluated_fits = (
+  (
+    a_program,
+    (source_type.Module, tt),
+    refl,
+    tt,
+    refl,
+    (
+      (
+        refl,
+        (
+          inr (refl, (a_variable_declaration, (variable.Let, tt), refl, tt, refl, ((refl, ((a_variable_declarator, tt, refl, tt, refl, ((a_binding_name, (a, tt), refl, tt, refl, tt), ((a_literal, (Literal.Number (pos 1), tt), refl, tt, refl, tt), tt))), tt)), tt))),
+          ((an_expression_statement, tt, refl, tt, refl, eval_stands), tt),
+        ),
+      ),
+      tt,
+    ),
+  ),
+  tt,
+)
+
+pub evaluated_is_clean : Clean (a_module (declares variable.Let (binds a) one ∷ does call_of_eval ∷ []))
+evaluated_is_clean = quiet_clean _ evaluated_fits refl
+
+-- function a() {} in a script
+global_fits : Fits root (a_script (function_a [] [] ∷ []))
+global_fits = ((a_program, (source_type.Script, tt), refl, tt, refl, ((refl, (inr (refl, (a_function_declaration, (false, tt), refl, tt, refl, function_parts)), tt)), tt)), tt)
+
+pub global_is_clean : Clean (a_script (function_a [] [] ∷ []))
+global_is_clean = quiet_clean _ global_fits refl
+
+-- ---- what the premises are for
+
+-- behind the export
+abbrev behind_export : Around
+behind_export =
+    in_list (under Kind.BlockStatement nowhere (under Kind.Statements nowhere (behind (Kind.ExportNamedDeclaration None) nowhere (joined (let_ a) (listed Kind.Specifiers [])) (first nothing)) nothing) nothing)
+
+-- The name is one of the block's, which exports nothing; but the pass keeps what an export seems to be of.
+pub misplaced_stays : has_next row.misplaced_export ≡ false
+misplaced_stays = refl
+
+pub misplaced_is_dead : Clean row.misplaced_export → ⊥
+misplaced_is_dead c = c.nothing_is_dead behind_export _ refl (an_unused_function behind_export false nowhere nowhere a _ refl refl (record { unreferred = λ r h e. h; unexported = not_exported }))
+  where
+    not_exported : (e : BindingSite) → Among e (exported_declarations row.misplaced_export) → e.layer.scope ≡ 0 → declared_by e ≡ named_in a (body_of 1) → ⊥
+    not_exported e (inl is) outer same = Prim.omega (arith, ap (λ (x : BindingSite). x.layer.scope) is ∙ outer)
+    not_exported e (inr h) outer same = h
+
+-- kinds of which a part of a program may be dead code
+abbrev is_suspect : Kind → Bool
+is_suspect Kind.EmptyStatement = true
+is_suspect Kind.ExpressionStatement = true
+is_suspect (Kind.Function how pure) = true
+is_suspect Kind.VariableDeclarator = true
+is_suspect k = false
+
+abbrev has_suspect : Forest → Bool
+has_suspect nothing = false
+has_suspect (absent rest) = has_suspect rest
+has_suspect (node k n below rest) = is_suspect k || (has_suspect below || has_suspect rest)
+
+suspect_there : (a : Around) (x : Tree) → is_suspect x.kind ≡ true → has_suspect (plug a (Some x)) ≡ true
+suspect_there (first rest) x h = or_left (is_suspect x.kind) (has_suspect x.below || has_suspect rest) h
+suspect_there (behind k n b a) x h = or_right (is_suspect k) (has_suspect b || has_suspect (plug a (Some x))) (or_right (has_suspect b) (has_suspect (plug a (Some x))) (suspect_there a x h))
+suspect_there (behind_none a) x h = suspect_there a x h
+suspect_there (under k n a rest) x h = or_right (is_suspect k) (has_suspect (plug a (Some x)) || has_suspect rest) (or_left (has_suspect (plug a (Some x))) (has_suspect rest) (suspect_there a x h))
+
+dead_suspect : (t : Forest) (a : Around) (x : Option Tree) → t ≡ plug a x → IsDead t a x → has_suspect t ≡ true
+dead_suspect t a x is (an_empty_statement b n item) = ap has_suspect is ∙ suspect_there b _ refl
+dead_suspect t a x is (a_silent_statement b n below silent) = ap has_suspect is ∙ suspect_there b _ refl
+dead_suspect t a x is (an_unused_function b pure n m y rest item own free) = ap has_suspect is ∙ suspect_there b _ refl
+dead_suspect t a x is (an_unused_declarator b n m y value item own silent free) = ap has_suspect is ∙ suspect_there b _ refl
+
+-- The pass takes a declaration of which no declarator stays, also where it has none.
+pub nothing_declared_is_clean : Clean row.declares_nothing
+nothing_declared_is_clean = record { nothing_is_dead = λ a x is dead. true≢false (sym (dead_suspect row.declares_nothing a x is dead)) }
+
+pub nothing_declared_goes : has_next row.declares_nothing ≡ true
+nothing_declared_goes = refl
+
+pub nothing_declared_fits : Fits root row.declares_nothing
+nothing_declared_fits = ((a_program, (source_type.Module, tt), refl, tt, refl, ((refl, (inr (refl, (a_variable_declaration, (variable.Let, tt), refl, tt, refl, ((refl, tt), tt))), tt)), tt)), tt)
