@@ -38,8 +38,8 @@ renoted t u e h =
 
 -- ---- one edit
 
-stepped : (t u : Forest) → (is_well_placed t ≡ true → Good t → Step outermost t u) → IsSensibleModule t → Refines t u
-stepped t u step h = step_refines t u (step h.placed (good_module t h)) h
+stepped : (t u : Forest) → (is_well_placed t ≡ true → Good t → Step outermost t u) → IsSensibleModule t → IsSensible u → Refines t u
+stepped t u step h g = step_refines t u (step h.placed (good_module t h)) h g
 
 -- a node that comes to another
 come : (a : Around) (x y : Tree) → Comes x y → IsSensibleModule (plug a (Some x)) → IsSensible (plug a (Some y)) → Refines (plug a (Some x)) (plug a (Some y))
@@ -53,12 +53,12 @@ come a x y comes h g =
     }
 
 becomes_refines : (a : Around) (x y : Tree) → SameRuns a x y → IsSensibleModule (plug a (Some x)) → IsSensible (plug a (Some y)) → Refines (plug a (Some x)) (plug a (Some y))
-becomes_refines a x y (by_step step) h g = stepped (plug a (Some x)) (plug a (Some y)) step h
+becomes_refines a x y (by_step step) h g = stepped (plug a (Some x)) (plug a (Some y)) step h g
 becomes_refines a x y (by_coming comes) h g =
     come a x y (comes h.note h.list_note h.items h.is (subst (Fits root) h.is h.sensible.fits) (subst IsWellFormed h.is h.sensible.well_formed) (subst (λ t. all_core t ≡ true) h.is h.core)) h g
 
 edit_refines : (t u : Forest) → Edit t u → IsSensibleModule t → Refines t u
-edit_refines t u (leaves a x c) h = stepped (plug a (Some x)) (without a) (leaving a x c).step h
+edit_refines t u (leaves a x c) h = stepped (plug a (Some x)) (without a) (leaving a x c).step h (edit_sensible t u (leaves a x c) h.sensible)
 edit_refines t u (becomes a x y c) h = becomes_refines a x y (becoming a x y c).runs h (edit_sensible t u (becomes a x y c) h.sensible)
 
 -- ---- one after the other

@@ -1,23 +1,19 @@
--- A step leads from a sensible module to another, which refines it.
+-- A step from a sensible module leads to one that refines it.
 use Rattle.std.proofs.Common.{◌≡◌, true, refl, sym, subst}
 use Rattle.js_syntax.specs.declared.node_kind.NodeKind.{NodeKind as Kind}
 use Rattle.js_syntax.specs.declared.scalar.SourceType.TheVariants as source_type
 use Rattle.js_syntax.specs.Node.{Note, Forest, nothing, alone}
 use Rattle.js_meaning.specs.Kept.{Refined}
-use Rattle.js_meaning.proofs.Kept.{refined_same, refined_joined}
+use Rattle.js_meaning.proofs.Kept.{refined_joined}
 use Rattle.js_meaning_near.specs.Near.{module_of}
-use Rattle.steps.specs.Steps.{Around, entered, outermost, Step, inside, behind_node, Steps, no_step, one_step, all_core}
+use Rattle.steps.specs.Steps.{Around, entered, outermost, Step, inside, behind_node, all_core}
 use Rattle.steps.proofs.Steps.{step_core}
-use Rattle.steps_keep_form.specs.Sheds as shed
-use Rattle.steps_keep_form.proofs.Form.{stays_well_formed}
-use Rattle.steps_keep_form.proofs.Steps.{step_sheds}
 use Rattle.steps_keep_runs.proofs.Modules.{nothing_stays}
 use Rattle.steps_keep_runs.proofs.Whole as refining
-use Rattle.steps_keep_table.proofs.Stepped.{step_fits}
 use Rattle.steps_fit.specs.Sensible.{IsSensible, IsSensibleModule}
 use Rattle.steps_fit.proofs.Held.{core_below}
 use Rattle.steps_fit.proofs.Modules.{IsModule}
-use Rattle.steps_fit.proofs.Sensible.{sensible, of_module}
+use Rattle.steps_fit.proofs.Sensible.{of_module}
 use Rattle.headline.proofs.Once.{module_once}
 
 -- what another program has, by a step or by changes
@@ -40,27 +36,18 @@ module_stays n m a _ (behind_node s) = absurd (nothing_stays s)
 
 -- ---- one step
 
-sensible_step : (t u : Forest) → Step outermost t u → IsSensible t → IsSensible u
-sensible_step t u s h = sensible u (step_fits s h.fits) (stays_well_formed t u (step_sheds s shed.outermost tt tt h.laid_out) h.well_formed)
-
 statements_core : (n m : Note) (a : Forest) → all_core (module_of n m a) ≡ true → all_core a ≡ true
 statements_core n m a core = core_below Kind.Statements m a nothing (core_below (Kind.Program source_type.Module) n (alone Kind.Statements m a) nothing core)
 
-module_step : (n m : Note) (a u : Forest) → Step outermost (module_of n m a) u → IsSensibleModule (module_of n m a) → Refines (module_of n m a) u
-module_step n m a u s h =
-    let left = of_module u (module_stays n m a u s) (step_core s h.core) (sensible_step (module_of n m a) u s h.sensible) in
+module_step : (n m : Note) (a u : Forest) → Step outermost (module_of n m a) u → IsSensibleModule (module_of n m a) → IsSensible u → Refines (module_of n m a) u
+module_step n m a u s h g =
+    let left = of_module u (module_stays n m a u s) (step_core s h.core) g in
     record { left = left; refined = refining.module_once n m a u s h.formed (statements_core n m a h.core) h.in_place (module_once n m a u s h.formed left.placed h.clear) }
 
-pub step_refines : (t u : Forest) → Step outermost t u → IsSensibleModule t → Refines t u
-step_refines t u s h = subst (λ x. Step outermost x u → IsSensibleModule x → Refines x u) (sym h.is) (module_step h.note h.list_note h.items u) s h
+pub step_refines : (t u : Forest) → Step outermost t u → IsSensibleModule t → IsSensible u → Refines t u
+step_refines t u s h g = subst (λ x. Step outermost x u → IsSensibleModule x → Refines x u) (sym h.is) (λ step before. module_step h.note h.list_note h.items u step before g) s h
 
 -- ---- one after the other
 
 pub refines_joined : {t u v : Forest} → Refines t u → Refines u v → Refines t v
 refines_joined {t} {u} {v} h g = record { left = g.left; refined = refined_joined t u v h.refined g.refined }
-
-pub steps_refine : {t u : Forest} → Steps t u → IsSensibleModule t → Refines t u
-steps_refine no_step h = record { left = h; refined = refined_same _ }
-steps_refine (one_step {t = t} {u = u} s more) h =
-    let first = step_refines t u s h in
-    refines_joined first (steps_refine more first.left)

@@ -7,9 +7,9 @@
 //! `clean`: what dead code is stands in `specs/Clean.antt`, read off a tree by the bindings of its names. A pass leaves a
 //! program as it is exactly where it has none.
 //!
-//! Two families of laws lead there. `kept_runs`: steps keep the runs of a core module with no premise but the module itself,
-//! since what the law of steps asks of a name whose declaration goes holds wherever the scopes are clear. `edits`: so do
-//! edits, each of which is a step there, or lets a node come to what a part of it does.
+//! Two families of laws lead there. `kept_runs`: a step refines a core module with no premise but that both are sensible,
+//! since what the law of steps asks of a name whose declaration goes holds wherever the scopes are clear. `edits`: edits
+//! keep runs, each of which is a step there, or lets a node come to what a part of it does.
 //!
 //! The code is empty: each function's contract is a law.
 #![tactic(auto)]

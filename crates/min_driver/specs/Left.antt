@@ -13,14 +13,14 @@ use Rattle.scope_rules.specs.Binding.{resolved_references}
 use Rattle.scope_rules.specs.Table.{Scoping}
 use Rattle.headline.specs.Headline.{Edits, Kept, KeptBack, is_core_module}
 use Rattle.min_driver.specs.Limit.{IsWithinLimits}
-use Rattle.min_driver.specs.Minify.{left_of, IsCleanBy}
+use Rattle.min_driver.specs.Minify.{left_of, IsCleanBy, IsSettledBy}
 use Rattle.min_driver.specs.declared.options.CompressOptions.{CompressOptions}
 
 -- of the tree `t`, by these options, the tree `new` is left, with its table
 pub record IsLeft (o : Option CompressOptions) (t new : Forest) (s : Scoping) : Type 0 where
   pub left : new ≡ numbered (left_of o t)
   pub scoping : s ≡ table_of (left_of o t)
-  -- of a program that fits the table of node types: it came by changes that are allowed, keeps the runs of a core module, both
+  -- of a program that fits the table of node types: it came by edits that are allowed, keeps the runs of a core module, both
   -- ways, fits the table, and breaks no rule of form
   pub edits : Fits root t → Edits t new
   pub kept : Fits root t → is_core_module t ≡ true → Kept t new
@@ -31,8 +31,10 @@ pub record IsLeft (o : Option CompressOptions) (t new : Forest) (s : Scoping) : 
   pub nodes : node_count new ≤ node_count t
   pub levels : levels new ≤ levels t
   pub small : IsWithinLimits new
-  -- nothing more may go, and the table tells of it
-  pub clean : IsCleanBy o s new
+  -- no part of it is dead code, by these options
+  pub clean : Fits root t → IsCleanBy o new
+  -- another pass would change nothing, and the table tells of it
+  pub settled : IsSettledBy o s new
   pub exact : Exact s new
   pub matches : Matches s new
   pub resolved : count_by (λ r. is_some r.symbol) s.references ≡ resolved_references (left_of o t)

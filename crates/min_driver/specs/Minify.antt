@@ -2,7 +2,8 @@
 use Rattle.std.specs.Prelude.{◌≡◌, ◌+◌, ℕ, Option, Some, None, min}
 use Rattle.js_syntax.specs.Node.{Forest}
 use Rattle.js_tree.specs.Count.{node_count, levels}
-use Rattle.min_passes.specs.Passes.{shaken, passes_of, IsClean}
+use Rattle.headline.specs.Clean.{Clean}
+use Rattle.min_passes.specs.Passes.{shaken, passes_of, IsSettled}
 use Rattle.scope_rules.specs.Table.{Scoping}
 use Rattle.form_rules.specs.Break.{at_place}
 use Rattle.form_rules.specs.Form.{first_broken}
@@ -21,10 +22,15 @@ abbrev pub passes_by : Option CompressOptions → Forest → ℕ
 passes_by None t = 0
 passes_by (Some options) t = passes_of t
 
--- with options nothing is left that may go or become empty
-abbrev pub IsCleanBy : Option CompressOptions → Scoping → Forest → Type 0
-IsCleanBy None s t = Unit {0}
-IsCleanBy (Some options) s t = IsClean s t
+-- with options no part of what is left is dead code
+abbrev pub IsCleanBy : Option CompressOptions → Forest → Type 0
+IsCleanBy None t = Unit {0}
+IsCleanBy (Some options) t = Clean t
+
+-- nor would another pass, by the table, change anything
+abbrev pub IsSettledBy : Option CompressOptions → Scoping → Forest → Type 0
+IsSettledBy None s t = Unit {0}
+IsSettledBy (Some options) s t = IsSettled s t
 
 -- both counts, each capped one past its limit
 abbrev pub IsCounted : (nodes levels : ℕ) → Forest → Type 0

@@ -8,10 +8,10 @@ ghost use Rattle.form_rules.specs.Form.{IsWellFormed};
 ghost use Rattle.js_scoping.specs.Build.{table_of, numbered};
 ghost use Rattle.min_driver.specs.Left.{IsLeft};
 ghost use Rattle.min_driver.specs.Limit.{IsWithinLimits};
-ghost use Rattle.min_driver.specs.Minify.{left_of, passes_by, IsCleanBy, IsCause};
+ghost use Rattle.min_driver.specs.Minify.{left_of, passes_by, IsCleanBy, IsSettledBy, IsCause};
 ghost use Rattle.min_driver.specs.Options.{IsSmallest};
 ghost use Rattle.min_passes.specs.Built.{Built};
-ghost use Rattle.min_passes.specs.Passes.{shaken, passes_of, IsClean};
+ghost use Rattle.min_passes.specs.Passes.{shaken, passes_of, IsSettled};
 ghost use Rattle.scope_laws.specs.Exact.{Exact};
 ghost use Rattle.scope_rules.specs.Binding.{resolved_references};
 ghost use Rattle.scope_match.specs.Matches.{Matches};
@@ -89,7 +89,7 @@ fn compress(alloc: Global, program: Program) -> Result<(Program, MinifierReturn)
     requires within { IsWithinLimits (forest_of program) }
     ensures built { IfOk result (λ r. Built (forest_of r.0) r.1.scoping (shaken (forest_of program))) }
     ensures iterations { IfOk result (λ r. r.1.iterations ≡ passes_of (forest_of program)) }
-    ensures clean { IfOk result (λ r. IsClean r.1.scoping (forest_of r.0)) }
+    ensures settled { IfOk result (λ r. IsSettled r.1.scoping (forest_of r.0)) }
 {
     let Shaken {
         program: left,
@@ -176,7 +176,8 @@ impl Minifier {
         ensures nodes { IfOk result (λ _. node_count (forest_of program.new) ≤ node_count (forest_of program.old)) }
         ensures levels { IfOk result (λ _. levels (forest_of program.new) ≤ levels (forest_of program.old)) }
         ensures small { IfOk result (λ _. IsWithinLimits (forest_of program.new)) }
-        ensures clean { IfOk result (λ r. IsCleanBy self.options.compress r.scoping (forest_of program.new)) }
+        ensures clean { IfOk result (λ _. Fits root (forest_of program.old) → IsCleanBy self.options.compress (forest_of program.new)) }
+        ensures settled { IfOk result (λ r. IsSettledBy self.options.compress r.scoping (forest_of program.new)) }
         ensures exact { IfOk result (λ r. Exact r.scoping (forest_of program.new)) }
         ensures matches { IfOk result (λ r. Matches r.scoping (forest_of program.new)) }
         ensures resolved { IfOk result (λ r. count_by (λ r. is_some r.symbol) r.scoping.references ≡ resolved_references (left_of self.options.compress (forest_of program.old))) }

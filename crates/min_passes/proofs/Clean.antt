@@ -14,7 +14,7 @@ use Rattle.min_pass.proofs.Fewer.{may_go, less_left}
 use Rattle.min_pass.specs.Pass.{no_names, cleared, changes}
 use Rattle.min_passes.specs.Unused.{names_of}
 use Rattle.scope_rules.specs.Table.{Scoping, symbols_declared}
-use Rattle.min_passes.specs.Passes.{names_in, next, has_next, settled, most_passes, shaken, IsClean}
+use Rattle.min_passes.specs.Passes.{names_in, next, has_next, settled, most_passes, shaken, IsSettled}
 
 -- A node counts once, but an expression statement twice: it may become an empty one.
 abbrev heft : Kind → ℕ
@@ -67,5 +67,5 @@ shaken_is_clean t = settled_is_clean (most_passes (cleared t)) (cleared t) (heft
 pub small_cleared : (t left : Forest) → node_count t < 2 ^ 32 → left ≡ cleared t → node_count left < 2 ^ 32
 small_cleared t left small is = Prim.omega (arith, small, swept_lighter one_each (Prim.omega arith) no_names (outermost false) t, ap node_count is)
 
-pub clean_left : (t left : Forest) (s : Scoping) → left ≡ numbered (settled (most_passes t) t) → s ≡ table_of (settled (most_passes t) t) → IsClean s left
+pub clean_left : (t left : Forest) (s : Scoping) → left ≡ numbered (settled (most_passes t) t) → s ≡ table_of (settled (most_passes t) t) → IsSettled s left
 clean_left t left s trees table = ap₂ (λ (v : Forest) (x : Scoping). changes (names_of x v) v) trees table ∙ settled_is_clean (most_passes t) t (hefts_fit t)

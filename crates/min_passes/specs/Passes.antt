@@ -40,5 +40,5 @@ abbrev pub passes_of : Forest → ℕ
 passes_of t = passes_within (most_passes (cleared t)) (cleared t)
 
 -- By what a table says of the names of a tree, nothing of it may go or become empty.
-abbrev pub IsClean : Scoping → Forest → Type 0
-IsClean s t = changes (names_of s t) t ≡ false
+abbrev pub IsSettled : Scoping → Forest → Type 0
+IsSettled s t = changes (names_of s t) t ≡ false

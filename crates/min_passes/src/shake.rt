@@ -3,7 +3,7 @@ ghost use Rattle.std.specs.Prelude.{◌≡◌, ◌<◌, ◌^◌, IfOk};
 ghost use Rattle.js_syntax.specs.Node.{forest_of};
 ghost use Rattle.js_tree.specs.Count.{node_count};
 ghost use Rattle.min_passes.specs.Built.{Built};
-ghost use Rattle.min_passes.specs.Passes.{settled, passes_within, most_passes, shaken, passes_of, IsClean};
+ghost use Rattle.min_passes.specs.Passes.{settled, passes_within, most_passes, shaken, passes_of, IsSettled};
 
 use crate::next::next_pass;
 use js_scoping::{Scoping, build};
@@ -56,7 +56,7 @@ pub fn shake_program(alloc: Global, program: Program) -> Result<Shaken, AllocErr
     requires small { node_count (forest_of program) < 2 ^ 32 }
     ensures built { IfOk result (λ s. Built (forest_of s.program) s.scoping (shaken (forest_of program))) }
     ensures iterations { IfOk result (λ s. s.iterations ≡ passes_of (forest_of program)) }
-    ensures clean { IfOk result (λ s. IsClean s.scoping (forest_of s.program)) }
+    ensures settled { IfOk result (λ s. IsSettled s.scoping (forest_of s.program)) }
 {
     let cleared = clear_program(alloc, program)?;
     let left = settle(alloc, cleared)?;

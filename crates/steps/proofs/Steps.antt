@@ -4,7 +4,7 @@ use Rattle.js_syntax.specs.declared.node_kind.NodeKind.{NodeKind as Kind}
 use Rattle.js_syntax.specs.Node.{Forest, nothing, node, alone}
 use Rattle.js_syntax.specs.Facts.{is_core}
 use Rattle.js_syntax.specs.declared.kind.FunctionKind.TheVariants as function_kind
-use Rattle.steps.specs.Steps.{Around, Step, empty_statement_leaves, unused_function_leaves, unused_declarator_leaves, unused_declaration_leaves, silent_statement_empties, inside, behind_node, behind_absent, Steps, no_step, one_step, all_core}
+use Rattle.steps.specs.Steps.{Around, Step, empty_statement_leaves, unused_function_leaves, unused_declarator_leaves, unused_declaration_leaves, silent_statement_empties, inside, behind_node, behind_absent, all_core}
 use Rattle.js_syntax.proofs.Truth.{first_of_both, second_of_both, both}
 
 -- of a node: its kind, what lies below it, and what stands behind it
@@ -27,11 +27,3 @@ step_core (silent_statement_empties {k = k} {l = l} {a = a} {r = r} h) e = core_
 step_core (inside {k = k} {a = a} {b = b} {r = r} s) e = both (is_core k) _ (core_kind k a r e) (both (all_core b) _ (step_core s (core_below k a r e)) (core_behind k a r e))
 step_core (behind_node {k = k} {a = a} {r = r} s) e = both (is_core k) _ (core_kind k a r e) (both (all_core a) _ (core_below k a r e) (step_core s (core_behind k a r e)))
 step_core (behind_absent s) e = step_core s e
-
-pub steps_core : {t u : Forest} → Steps t u → all_core t ≡ true → all_core u ≡ true
-steps_core no_step e = e
-steps_core (one_step s ss) e = steps_core ss (step_core s e)
-
-pub steps_joined : {t u v : Forest} → Steps t u → Steps u v → Steps t v
-steps_joined no_step more = more
-steps_joined (one_step s ss) more = one_step s (steps_joined ss more)

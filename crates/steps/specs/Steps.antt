@@ -98,11 +98,6 @@ pub data Step : Around → (t u : Forest) → Type 0 where
   behind_node : {w : Around} {k : Kind} {n : Note} {a r s : Forest} → Step w r s → Step w (node k n a r) (node k n a s)
   behind_absent : {w : Around} {r s : Forest} → Step w r s → Step w (absent r) (absent s)
 
--- steps of a program, one after the other
-pub data Steps : (t u : Forest) → Type 0 where
-  no_step : {t : Forest} → Steps t t
-  one_step : {t u v : Forest} → Step outermost t u → Steps u v → Steps t v
-
 -- whether all of a tree's nodes are core
 abbrev pub all_core : Forest → Bool
 all_core nothing = true

@@ -7,21 +7,11 @@ ghost use Rattle.js_meaning.specs.Meaning.{eval};
 ghost use Rattle.js_effects.specs.Silence.{may_have_effects};
 ghost use Rattle.js_effects_quiet.specs.Silent.{HasBinding, HoldsOfBound, QuietRow};
 ghost use Rattle.steps.specs.Names.{is_among, may_act};
-ghost use Rattle.steps.specs.Steps.{Step, Steps, Around, all_core};
+ghost use Rattle.steps.specs.Steps.{Step, Around, all_core};
 
 /// A step leaves a core tree core.
 pub fn a_step_keeps_core()
     ensures { (w : Around) (t u : Forest) → Step w t u → all_core t ≡ true → all_core u ≡ true }
-{}
-
-/// So do steps one after the other.
-pub fn steps_keep_core()
-    ensures { (t u : Forest) → Steps t u → all_core t ≡ true → all_core u ≡ true }
-{}
-
-/// Steps after steps are steps.
-pub fn steps_compose()
-    ensures { (t u v : Forest) → Steps t u → Steps u v → Steps t v }
 {}
 
 /// What may not act where certain names are declared is quiet in every environment that binds them.

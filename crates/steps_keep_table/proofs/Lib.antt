@@ -3,4 +3,3 @@ pub mod Rows
 pub mod Planned
 pub mod Inside
 pub mod Emptied
-pub mod Stepped

@@ -12,4 +12,4 @@ returns-in-None-clause-left c =
 pub returns-in-Some-clause-left : goal.returns-in-Some-clause-left
 returns-in-Some-clause-left c =
     subst (λ o. IfOk c.compress.result (λ r. IsLeft o (forest_of c.args.program) (forest_of r.0) r.1.scoping)) (sym c.in-Some.is)
-    (all_left (λ r. forest_of r.0) (λ r. r.1.scoping) (forest_of c.args.program) c.requires.within c.requires.well_formed (Some c.in-Some.field-0) c.compress.result c.compress.ensures.built c.compress.ensures.clean)
+    (all_left (λ r. forest_of r.0) (λ r. r.1.scoping) (forest_of c.args.program) c.requires.within c.requires.well_formed (Some c.in-Some.field-0) c.compress.result c.compress.ensures.built c.compress.ensures.settled)
