@@ -44,3 +44,5 @@ pub mod KnownConditional
 pub mod KnownIf
 pub mod Edited
 pub mod Refused
+pub mod Outlying
+pub mod UnseenCounts
