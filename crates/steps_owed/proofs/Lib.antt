@@ -1,8 +1,6 @@
 pub mod Inside
 pub mod FunctionParts
 pub mod Unseen
-pub mod Unlisting
-pub mod KeptWithout
 pub mod Exports
 pub mod Seeking
 pub mod SilentSought

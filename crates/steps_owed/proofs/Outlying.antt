@@ -22,6 +22,7 @@ use Rattle.scope_counts.proofs.Counting.{Fresh, program_fresh, outside_fresh, fr
 use Rattle.scope_counts.proofs.Scopes.{below_or_above}
 use Rattle.scope_counts.proofs.Whole.{same_layer_same, InLayer, from_decls}
 use Rattle.steps_owed.specs.Kept.{is_program}
+use Rattle.steps_owed.proofs.Places.{IsInside}
 
 -- ---- what is declared in one of two layers
 
@@ -192,14 +193,14 @@ module _ (x : Tree) (a : Aims) (d : Decl) (i : Among d (named a x.note x.kind ++
       let s = there_declares (inside (cs at) next k (plug place (Some x))) 0 (next + opens_one k (plug place (Some x))) place (fresh_below cs at next k (plug place (Some x)) fresh) in
       record { site = s.site; stands = s.stands; outlies = Prim.omega (arith, s.outlies); is = s.is }
 
-  -- in a program that the node isn't
-  pub declares_before : (place : Around) → ((rest : Forest) → is_program (node x.kind x.note x.below rest) ≡ false) → is_program (plug place (Some x)) ≡ true → Declares (bindings_among (sites_there place (Some x))) (scopes_before place (Some x)) d
-  declares_before (first rest) other e = absurd (true≢false (sym e ∙ other rest))
-  declares_before (behind (program source) n b place) other e =
+  -- in a program
+  pub declares_before : (place : Around) → IsInside place → is_program (plug place (Some x)) ≡ true → Declares (bindings_among (sites_there place (Some x))) (scopes_before place (Some x)) d
+  declares_before (first rest) lies e = absurd (lies rest refl)
+  declares_before (behind (program source) n b place) lies e =
       let s = there_declares (λ at. outermost) 1 (0 + scope_count (node (program source) n b nothing)) place (outside_fresh (0 + scope_count (node (program source) n b nothing)) (Prim.omega arith)) in
       record { site = s.site; stands = s.stands; outlies = Prim.omega (arith, s.outlies); is = s.is }
-  declares_before (behind k n b place) other e = absurd cc
-  declares_before (behind_none place) other e = absurd (true≢false (sym e))
-  declares_before (under (program source) n place rest) other e =
+  declares_before (behind k n b place) lies e = absurd cc
+  declares_before (behind_none place) lies e = absurd (true≢false (sym e))
+  declares_before (under (program source) n place rest) lies e =
       let s = there_declares (inside outermost 0 (program source) (plug place (Some x))) 0 1 place (program_fresh source (plug place (Some x))) in record { site = s.site; stands = s.stands; outlies = Prim.omega (arith, s.outlies); is = s.is }
-  declares_before (under k n place rest) other e = absurd cc
+  declares_before (under k n place rest) lies e = absurd cc

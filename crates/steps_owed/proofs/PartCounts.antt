@@ -15,7 +15,7 @@ use Rattle.scope_counts.proofs.Stays.{exact_with_part}
 use Rattle.scope_counts.proofs.Whole.{exact_with}
 use Rattle.steps_owed.specs.Kept.{is_program, IsKept}
 use Rattle.steps_owed.specs.Part.{DeclaresNothing, IsPart}
-use Rattle.steps_owed.proofs.Places.{place_of, rest_of, same_scopes, is_rooted}
+use Rattle.steps_owed.proofs.Places.{place_of, rest_of, same_scopes, inside_program, is_rooted}
 use Rattle.steps_owed.proofs.Pruning.{kept_but_marks}
 
 -- ---- what is declared around
@@ -59,7 +59,7 @@ no_program k n below rest plain = refl
 
 pub parts_kept : (a : Around) (x y : Tree) → IsPart x y → is_program (plug a (Some x)) ≡ true → (s : Scoping) → IsKept s (plug a (Some x)) → IsKept s (plug a (Some y))
 parts_kept a x y part is s kept =
-    let place = is_rooted a x (λ rest. no_program x.kind x.note x.below rest part.plain) is in
+    let place = is_rooted a x (inside_program a x is (λ rest. no_program x.kind x.note x.below rest part.plain)) is in
     let whole = joined part.before (node y.kind y.note y.below part.after) in
     let rest = rest_of a in
     let stands : node x.kind x.note x.below rest ≡ node x.kind x.note whole rest = ap (λ t. node x.kind x.note t rest) part.stands in

@@ -1,5 +1,5 @@
 -- A place is one of scope_counts, in front of the rest of its row.
-use Rattle.std.proofs.Common.{◌≡◌, ◌∙◌, Bool, true, false, true≢false, refl, sym, ap}
+use Rattle.std.proofs.Common.{◌≡◌, ◌∙◌, Bool, true, false, true≢false, refl, sym, ap, subst}
 use Rattle.js_syntax.specs.declared.node_kind.NodeKind.{NodeKind as Kind}
 use Rattle.js_syntax.specs.declared.node_kind.NodeKind.TheVariants.{Program as program, PropertyDefinition as property_definition}
 use Rattle.js_syntax.specs.Node.{Forest, Tree, Note, node, absent}
@@ -76,10 +76,19 @@ pub record IsRooted (a : Around) : Type 0 where
   pub with_none : without a ≡ counts.program_with rooted (rest_of a)
   pub listed : is_listed false a ≡ counts.in_list false (counts.place_in rooted)
 
--- it is no program itself
-pub is_rooted : (a : Around) (x : Tree) → ((rest : Forest) → is_program (node x.kind x.note x.below rest) ≡ false) → is_program (plug a (Some x)) ≡ true → IsRooted a
-is_rooted (first rest) x other e = absurd (true≢false (sym e ∙ other rest))
-is_rooted (behind (program source) n below a) x other e = record {
+-- it is not the place of the tree itself
+abbrev pub IsInside : Around → Type 0
+IsInside a = (rest : Forest) → a ≡ first rest → ⊥
+
+pub inside_program : (a : Around) (x : Tree) → is_program (plug a (Some x)) ≡ true → ((rest : Forest) → is_program (node x.kind x.note x.below rest) ≡ false) → IsInside a
+inside_program a x e other rest is = true≢false (sym (subst (λ b. is_program (plug b (Some x)) ≡ true) is e) ∙ other rest)
+
+pub inside_list : (a : Around) → is_listed false a ≡ true → IsInside a
+inside_list a e rest is = true≢false (sym (subst (λ b. is_listed false b ≡ true) is e))
+
+pub is_rooted : (a : Around) (x : Tree) → IsInside a → is_program (plug a (Some x)) ≡ true → IsRooted a
+is_rooted (first rest) x inside e = absurd (inside rest refl)
+is_rooted (behind (program source) n below a) x inside e = record {
   rooted = counts.beside_program source n below (place_of a);
   inner = a;
   place_is = refl;
@@ -87,9 +96,9 @@ is_rooted (behind (program source) n below a) x other e = record {
   with_none = ap (λ t. node (program source) n below t) (without_is a);
   listed = listed_is false a;
 }
-is_rooted (behind k n below a) x other e = absurd cc
-is_rooted (behind_none a) x other e = absurd (true≢false (sym e))
-is_rooted (under (program source) n a rest) x other e = record {
+is_rooted (behind k n below a) x inside e = absurd cc
+is_rooted (behind_none a) x inside e = absurd (true≢false (sym e))
+is_rooted (under (program source) n a rest) x inside e = record {
   rooted = counts.below_program source n (place_of a) rest;
   inner = a;
   place_is = refl;
@@ -97,4 +106,4 @@ is_rooted (under (program source) n a rest) x other e = record {
   with_none = ap (λ t. node (program source) n t rest) (without_is a);
   listed = listed_is false a;
 }
-is_rooted (under k n a rest) x other e = absurd cc
+is_rooted (under k n a rest) x inside e = absurd cc

@@ -19,7 +19,8 @@ use Rattle.steps_fit.specs.Enclosed.{is_enclosed}
 use Rattle.steps_owed.specs.Kept.{is_program, IsKept}
 use Rattle.steps_owed.specs.Owed.{IsListed, Leaving}
 use Rattle.steps_owed.proofs.Unseen.{unseen_statement}
-use Rattle.steps_owed.proofs.KeptWithout.{kept_without, kept_emptied}
+use Rattle.steps_owed.proofs.Places.{inside_program}
+use Rattle.steps_owed.proofs.UnseenCounts.{unseen_leaves, unseen_empties}
 
 -- ---- items and declarators stand in lists
 
@@ -47,37 +48,18 @@ listed_at w row (under k n a rest) from e = listed_at (asked_below w k) (is_list
 pub stands_in_list : (a : Around) (row : Row) → (asked_at (asked_of_program true) a).row ≡ row → is_row_of_list row ≡ true → is_listed false a ≡ true
 stands_in_list a row is e = listed_at (asked_of_program true) false a (λ h. h) (ap is_row_of_list is ∙ e)
 
--- ---- each place in a program but its own lies in a scope
-
-first_opens : (k : Kind) (n : Note) (t rest : Forest) → is_program (node k n t rest) ≡ true → opens k t ≡ true
-first_opens (program source) n t rest e = refl
-first_opens k n t rest e = absurd (true≢false (sym e))
-
-one_of : (k : Kind) (t : Forest) → opens k t ≡ true → opens_one k t ≡ 1
-one_of k t e = ap (λ (b : Bool). bit b 1) e
-
-pub within_program : (a : Around) (x : Option Tree) → is_program (plug a x) ≡ true → ((rest : Forest) → is_program (plug (first rest) x) ≡ false) → 0 < scopes_before a x
-within_program (first rest) x e no_own = absurd (true≢false (sym e ∙ no_own rest))
-within_program (behind k n below a) x e no_own = Prim.omega (arith, one_of k below (first_opens k n below (plug a x) e))
-within_program (behind_none a) x e no_own = absurd (true≢false (sym e))
-within_program (under k n a rest) x e no_own = Prim.omega (arith, one_of k (plug a x) (first_opens k n (plug a x) rest e))
-
 -- ---- each shape
 
 pub in_list : (a : Around) → IsListed a → is_listed false a ≡ true
 in_list a (inl item) = stands_in_list a items item refl
 in_list a (inr declarator) = stands_in_list a item_declarators declarator.0 refl
 
-no_program : (k : Kind) (n : Note) (below rest : Forest) → of_program k 1 ≡ 0 → is_program (node k n below rest) ≡ false
-no_program (program source) n below rest e = absurd (Prim.omega (arith, e))
-no_program k n below rest e = refl
-
 pub leaving_keeps : (a : Around) (x : Tree) → Leaving a x → is_program (plug a (Some x)) ≡ true → is_enclosed (plug a (Some x)) ≡ true → (s : Scoping) → IsKept s (plug a (Some x)) → IsKept s (without a)
 leaving_keeps a x owed e w s kept =
-    kept_without a (Some x) (in_list a owed.listed) (within_program a (Some x) e (λ rest. no_program x.kind x.note x.below rest (owed.no_call.begins 1))) (owed.unseen w) s kept
+    unseen_leaves a x (owed.unseen w) e (in_list a owed.listed) s kept
 
 pub emptied_keeps : (a : Around) (n m l : Note) (k : Kind) (inner : Forest) → At a (a_statement n l k inner) (SilentStatement (plug a (a_statement n l k inner)) (alone k l inner)) → is_program (plug a (a_statement n l k inner)) ≡ true
     → is_enclosed (plug a (a_statement n l k inner)) ≡ true → (s : Scoping) → IsKept s (plug a (a_statement n l k inner)) → IsKept s (plug a (a_node empty_statement m nothing))
 emptied_keeps a n m l k inner silent e w s kept =
     let x : Tree = record { kind = expression_statement; note = n; below = alone k l inner } in
-    kept_emptied a x m (within_program a (Some x) e (λ rest. refl)) (unseen_statement a n l k inner w silent) s kept
+    unseen_empties a x (unseen_statement a n l k inner w silent) e (inside_program a x e (λ rest. refl)) m s kept

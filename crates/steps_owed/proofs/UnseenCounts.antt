@@ -21,7 +21,7 @@ use Rattle.scope_counts.proofs.Whole.{exact_with}
 use Rattle.steps_owed.specs.Kept.{is_program, IsKept}
 use Rattle.steps_owed.specs.Unseen.{IsUnreferred, IsUnseen}
 use Rattle.steps_owed.proofs.Outlying.{declares_before}
-use Rattle.steps_owed.proofs.Places.{place_of, rest_of, same_scopes, is_rooted}
+use Rattle.steps_owed.proofs.Places.{place_of, rest_of, same_scopes, IsInside, inside_list, is_rooted}
 use Rattle.steps_owed.proofs.Pruning.{kept_but_marks}
 
 -- ---- symbols that list no reference
@@ -82,10 +82,10 @@ module _ (t u : Forest) where
 
 -- ---- at a place
 
-module _ (a : Around) (x : Tree) (other : (rest : Forest) → is_program (node x.kind x.note x.below rest) ≡ false) (unseen : IsUnseen a (Some x)) (is : is_program (plug a (Some x)) ≡ true) where
-  declares_gone : (s : Scoping) → Exact s (plug a (Some x)) → DeclaresGone (unlisted s) x.kind x.note x.below
-  declares_gone s exact aims d i =
-      let b = declares_before x aims d i a other is in
+module _ (a : Around) (x : Tree) (unseen : IsUnseen a (Some x)) (is : is_program (plug a (Some x)) ≡ true) where
+  declares_gone : IsInside a → (s : Scoping) → Exact s (plug a (Some x)) → DeclaresGone (unlisted s) x.kind x.note x.below
+  declares_gone inside s exact aims d i =
+      let b = declares_before x aims d i a inside is in
       subst (λ (e : Decl). is_gone (unlisted s) e.symbol ≡ true) b.is
       (elim (unseen b.site b.stands) [
         | inl w ↦ absurd (Prim.omega (arith, w.from, b.outlies))
@@ -98,27 +98,28 @@ module _ (a : Around) (x : Tree) (other : (rest : Forest) → is_program (node x
   -- it leaves a list
   pub unseen_leaves : is_listed false a ≡ true → (s : Scoping) → IsKept s (plug a (Some x)) → IsKept s (without a)
   unseen_leaves listed s kept =
-      let place = is_rooted a x other is in
+      let inside = inside_list a listed in
+      let place = is_rooted a x inside is in
       let p = place.rooted in
       let rest = rest_of a in
       let old : IsKept s (program_with p whole) = subst (IsKept s) (place.with_node x) kept in
       let exact : ExactButMarks old.table unmarked (program_with p whole) = (exact_with p whole old.table).0 old.exact in
-      let gone = declares_gone old.table (subst (Exact old.table) (sym (place.with_node x)) old.exact) in
+      let gone = declares_gone inside old.table (subst (Exact old.table) (sym (place.with_node x)) old.exact) in
       let in_it : in_list false (place_in p) ≡ true = sym place.listed ∙ listed in
       subst (IsKept s) (sym place.with_none)
       (kept_but_marks p (left whole rest) whole rest s old
       (exact_without (unlisted old.table) p x.kind x.note x.below rest gone (listed_scopes whole rest (place_in p) false in_it) in_it (users_leave old.table p whole rest exact) old.table unmarked (left whole rest) (λ r. refl) exact))
 
   -- an empty statement comes in its place
-  pub unseen_empties : (n : Note) (s : Scoping) → IsKept s (plug a (Some x)) → IsKept s (plug a (Some (record { kind = empty_statement; note = n; below = nothing })))
-  unseen_empties n s kept =
-      let place = is_rooted a x other is in
+  pub unseen_empties : IsInside a → (n : Note) (s : Scoping) → IsKept s (plug a (Some x)) → IsKept s (plug a (Some (record { kind = empty_statement; note = n; below = nothing })))
+  unseen_empties inside n s kept =
+      let place = is_rooted a x inside is in
       let p = place.rooted in
       let rest = rest_of a in
       let empty = node empty_statement n nothing rest in
       let old : IsKept s (program_with p whole) = subst (IsKept s) (place.with_node x) kept in
       let exact : ExactButMarks old.table unmarked (program_with p whole) = (exact_with p whole old.table).0 old.exact in
-      let gone = declares_gone old.table (subst (Exact old.table) (sym (place.with_node x)) old.exact) in
+      let gone = declares_gone inside old.table (subst (Exact old.table) (sym (place.with_node x)) old.exact) in
       let scopes : SameScopes (place_in p) whole empty = subst (λ b. SameScopes b whole empty) (sym place.place_is) (same_scopes x.kind empty_statement x.note n x.below nothing rest (place_of place.inner)) in
       subst (IsKept s) (sym (place.with_node (record { kind = empty_statement; note = n; below = nothing })))
       (kept_but_marks p (left whole empty) whole empty s old (exact_emptied (unlisted old.table) p x.kind x.note n x.below rest gone scopes (users_leave old.table p whole empty exact) old.table unmarked (left whole empty) (λ r. refl) exact))
