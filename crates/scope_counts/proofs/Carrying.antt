@@ -180,11 +180,15 @@ mark_stays (under l n a rest) t u (function function_kind.Declaration pure) oute
     first l = refl
 mark_stays (under l n a rest) t u k outer is = refl
 
-same_owners : (o : Option ℕ) (a : Around) (t u : Forest) (row : Bool) → in_list row a ≡ true → SameEntries (is_owner o) owner_in a t u
+pub same_owners : (o : Option ℕ) (a : Around) (t u : Forest) (row : Bool) → in_list row a ≡ true → SameEntries (is_owner o) owner_in a t u
 same_owners o here t u row is = tt
 same_owners o (behind k n b a) t u row is = same_owners o a t u row is
 same_owners o (behind_none a) t u row is = same_owners o a t u row is
 same_owners o (under k n a rest) t u row is = (λ outer. mark_stays a t u k outer is, same_owners o a t u (is_list k) is)
+
+pub no_owner : (k : Kind) → Plain k → (t : Forest) (outer : Option ℕ) → owner_in outer k t ≡ outer
+no_owner (function how pure) plain t outer = absurd (true≢false (plain.opens_none t))
+no_owner k plain t outer = refl
 
 pub calls_without : (gone : ℕ → Bool) (o : Option ℕ) (s : ℕ) (p : Rooted) (k : Kind) (i : Note) (b rest : Forest) → DeclaresGone gone k i b → SameScopes (place_in p) (node k i b rest) rest → in_list false (place_in p) ≡ true
     → calls_gone gone o (program_with p (node k i b rest)) ≡ 0 → calls o s (program_with p rest) ≤ calls o s (program_with p (node k i b rest))
@@ -199,10 +203,6 @@ calls_with_part gone o s p k l i j b v w r plain outward scopes entries none =
     let whole = joined v (node l j b w) in
     program_says gone s (λ q. 1) (is_owner o) owner_in (λ m n. n ≤ m) (λ x y z w m n e f h. Prim.omega (arith, e, f, h)) p false (node k i whole r) (node l j b r) (part_lowers gone s (λ q. 1) (is_owner o) owner_in k l i j b v w r plain (no_owner k plain whole))
     outward scopes entries (λ e. absurd (true≢false (sym e))) None none
-  where
-    no_owner : (k : Kind) → Plain k → (t : Forest) (outer : Option ℕ) → owner_in outer k t ≡ outer
-    no_owner (function how pure) plain t outer = absurd (true≢false (plain.opens_none t))
-    no_owner k plain t outer = refl
 
 -- what is bound to one symbol
 pub one_gone : (z : ℕ) (o : Option ℕ) (t : Forest) → calls_gone (nat_eq z) o t ≡ calls o z t

@@ -3,14 +3,29 @@ ghost use Rattle.std.specs.Prelude.{◌≡◌, ◌≤◌, ℕ, Bool, true, false
 ghost use Rattle.js_syntax.specs.declared.node_kind.NodeKind.{NodeKind as Kind};
 ghost use Rattle.js_syntax.specs.declared.scalar.SourceType.{SourceType};
 ghost use Rattle.js_syntax.specs.Node.{Forest, Note, node, joined};
+ghost use Rattle.scope_rules.specs.Table.{Scoping};
 ghost use Rattle.scope_counts.specs.Counts.{Bound, Weight, own, refs_of, symbol_with};
 ghost use Rattle.scope_counts.specs.Edits.{Rooted, program_with, place_in, SameScopes, in_list};
-ghost use Rattle.scope_counts.specs.Losing.{gone_with, LosesOutward, DeclaresGone, Plain};
+ghost use Rattle.scope_counts.specs.Losing.{gone_with, LosesOutward, UsersLeave, DeclaresGone, Plain};
+ghost use Rattle.scope_counts.specs.Scopes.{ExactButMarks};
 ghost use Rattle.scope_counts.specs.Walks.{SameEntries, is_owner, owner_in, calls, calls_gone, lives_in, living};
 
-/// Where a node leaves a list, or a part stands in the place of a whole, a function's declaration refers to no symbol more often
-/// than it did, if it didn't refer to what is gone.
+/// Where a node leaves a list, or a part stands in the place of a whole, and what uses something that is gone leaves with it, a
+/// function's declaration refers to no symbol more often than it did.
 pub fn calls_become_fewer()
+    ensures leaving { (gone : ℕ → Bool) (o : Option ℕ) (z : ℕ) (p : Rooted) (k : Kind) (i : Note) (b rest : Forest) →
+        let t = node k i b rest in
+        DeclaresGone gone k i b → SameScopes (place_in p) t rest → in_list false (place_in p) ≡ true → UsersLeave gone (program_with p t) t rest →
+        (s : Scoping) (before : ℕ → Bool) → ExactButMarks s before (program_with p t) → calls o z (program_with p rest) ≤ calls o z (program_with p t) }
+    ensures parts { (gone : ℕ → Bool) (o : Option ℕ) (z : ℕ) (p : Rooted) (k l : Kind) (i j : Note) (b v w r : Forest) →
+        let t = node k i (joined v (node l j b w)) r in
+        let u = node l j b r in
+        Plain k → LosesOutward gone false t u → SameScopes (place_in p) t u → SameEntries (is_owner o) owner_in (place_in p) t u → UsersLeave gone (program_with p t) t u →
+        (s : Scoping) (before : ℕ → Bool) → ExactButMarks s before (program_with p t) → calls o z (program_with p u) ≤ calls o z (program_with p t) }
+{}
+
+/// So it is whatever the table, of a declaration that doesn't refer to what is gone.
+pub fn uncalled_nodes_may_leave()
     ensures leaving { (gone : ℕ → Bool) (o : Option ℕ) (s : ℕ) (p : Rooted) (k : Kind) (i : Note) (b rest : Forest) →
         DeclaresGone gone k i b → SameScopes (place_in p) (node k i b rest) rest → in_list false (place_in p) ≡ true → calls_gone gone o (program_with p (node k i b rest)) ≡ 0 →
         calls o s (program_with p rest) ≤ calls o s (program_with p (node k i b rest)) }

@@ -1,5 +1,5 @@
-use Rattle.scope_counts.proofs.Carrying.{calls_without, calls_with_part, one_gone}
+use Rattle.scope_counts.proofs.Fewer.{exact_calls_without, exact_calls_with_part}
 use Rattle.scope_counts.proofs.walks.calls_become_fewer.Goals as goal
 
 pub returns : goal.returns
-returns c = record { leaving = calls_without; parts = calls_with_part; one = one_gone }
+returns c = record { leaving = exact_calls_without; parts = exact_calls_with_part }
