@@ -40,7 +40,8 @@ module _ (gone : ℕ → Bool) (s : ℕ) (c : Option ℕ → ℕ) {S : Type 0} (
   carried_related wg ws vs at st (node k n b t) small tiny related e =
       ap₂ (λ (i j : ℕ). i + j)
       (ap₂ (λ (i j : ℕ). i + j) (own_counted (counts st) (wg at) (ws at) (vs at) n k (related at) (Prim.omega (arith, e)))
-      (carried_related (weights_inside (gone_with gone c) k b (wg at)) (weights_inside (symbol_with s c) k b (ws at)) (weights_inside (symbol_with s c) k b (vs at)) 0 (enters st k b) b (inside_capped s c k b (ws at) (small at)) (inside_capped s c k b (vs at) (tiny at))
+      (carried_related (weights_inside (gone_with gone c) k b (wg at)) (weights_inside (symbol_with s c) k b (ws at)) (weights_inside (symbol_with s c) k b (vs at)) 0 (enters st k b) b
+      (inside_capped s c k b (ws at) (small at)) (inside_capped s c k b (vs at) (tiny at))
       (below_related gone s c k b (wg at) (ws at) (vs at) (small at) (tiny at) (related at)) (Prim.omega (arith, e))))
       (carried_related wg ws vs (suc at) st t small tiny related (Prim.omega (arith, e)))
 
@@ -58,25 +59,33 @@ module _ (gone : ℕ → Bool) (s : ℕ) (c : Option ℕ → ℕ) {S : Type 0} (
         let right : y + n + 0 ≡ y + n = Prim.omega arith in
         subst (λ k. R (x + m) k) right (subst (λ k. R k (y + n + 0)) left (among x y 0 0 m n e refl h))
 
-    pub around_says : (listed : Bool) (t u : Forest) → Says listed t u → (a : Around) → LosesAround gone a t u → SameEntries counts enters a t u → (row : Bool) → (listed ≡ true → in_list row a ≡ true) → Says row (plug a t) (plug a u)
+    pub around_says : (listed : Bool) (t u : Forest) → Says listed t u → (a : Around) → LosesAround gone a t u → SameEntries counts enters a t u → (row : Bool)
+        → (listed ≡ true → in_list row a ≡ true) → Says row (plug a t) (plug a u)
     around_says listed t u h here loses same row is wg ws vs at st eg ew ev small tiny related none = h wg ws vs at st (λ l. eg (is l)) (λ l. ew (is l)) (λ l. ev (is l)) small tiny related none
     around_says listed t u h (behind k n b a) loses same row is wg ws vs at st eg ew ev small tiny related none =
-        behind_it (cond (counts st) (own (ws at) n k) 0 + counted (weights_inside (symbol_with s c) k b (ws at)) 0 (enters st k b) b) (cond (counts st) (own (vs at) n k) 0 + counted (weights_inside (symbol_with s c) k b (vs at)) 0 (enters st k b) b)
+        behind_it (cond (counts st) (own (ws at) n k) 0 + counted (weights_inside (symbol_with s c) k b (ws at)) 0 (enters st k b) b)
+        (cond (counts st) (own (vs at) n k) 0 + counted (weights_inside (symbol_with s c) k b (vs at)) 0 (enters st k b) b)
         (counted ws (suc at) st (plug a t)) (counted vs (suc at) st (plug a u))
         (ap₂ (λ (i j : ℕ). i + j) (own_counted (counts st) (wg at) (ws at) (vs at) n k (related at) (Prim.omega (arith, none)))
-        (carried_related (weights_inside (gone_with gone c) k b (wg at)) (weights_inside (symbol_with s c) k b (ws at)) (weights_inside (symbol_with s c) k b (vs at)) 0 (enters st k b) b (inside_capped s c k b (ws at) (small at)) (inside_capped s c k b (vs at) (tiny at))
+        (carried_related (weights_inside (gone_with gone c) k b (wg at)) (weights_inside (symbol_with s c) k b (ws at)) (weights_inside (symbol_with s c) k b (vs at)) 0 (enters st k b) b
+        (inside_capped s c k b (ws at) (small at)) (inside_capped s c k b (vs at) (tiny at))
         (below_related gone s c k b (wg at) (ws at) (vs at) (small at) (tiny at) (related at)) (Prim.omega (arith, none))))
         (around_says listed t u h a loses same row is wg ws vs (suc at) st eg ew ev small tiny related (Prim.omega (arith, none)))
-    around_says listed t u h (behind_none a) loses same row is wg ws vs at st eg ew ev small tiny related none = around_says listed t u h a loses same row is wg ws vs (suc at) st eg ew ev small tiny related none
+    around_says listed t u h (behind_none a) loses same row is wg ws vs at st eg ew ev small tiny related none =
+        around_says listed t u h a loses same row is wg ws vs (suc at) st eg ew ev small tiny related none
     around_says listed t u h (under k n a rest) loses same row is wg ws vs at st eg ew ev small tiny related none =
-        let inner = around_says listed t u h a loses.2 same.1 (is_list k) is (weights_inside (gone_with gone c) k (plug a t) (wg at)) (weights_inside (symbol_with s c) k (plug a t) (ws at)) (weights_inside (symbol_with s c) k (plug a u) (vs at)) 0 (enters st k (plug a t))
+        let inner = around_says listed t u h a loses.2 same.1 (is_list k) is (weights_inside (gone_with gone c) k (plug a t) (wg at)) (weights_inside (symbol_with s c) k (plug a t) (ws at))
+        (weights_inside (symbol_with s c) k (plug a u) (vs at)) 0 (enters st k (plug a t))
         (even_weights (gone_with gone c) k (plug a t) (wg at)) (even_weights (symbol_with s c) k (plug a t) (ws at)) (even_weights (symbol_with s c) k (plug a u) (vs at))
         (inside_capped s c k (plug a t) (ws at) (small at)) (inside_capped s c k (plug a u) (vs at) (tiny at))
         (inside_related gone s c k (plug a t) (plug a u) (wg at) (ws at) (vs at) loses.0 loses.1 (small at) (tiny at) (related at)) (Prim.omega (arith, none)) in
-        among (cond (counts st) (own (ws at) n k) 0) (cond (counts st) (own (vs at) n k) 0) (counted ws (suc at) st rest) (counted vs (suc at) st rest) (counted (weights_inside (symbol_with s c) k (plug a t) (ws at)) 0 (enters st k (plug a t)) (plug a t)) (counted (weights_inside (symbol_with s c) k (plug a u) (vs at)) 0 (enters st k (plug a u)) (plug a u))
+        among (cond (counts st) (own (ws at) n k) 0) (cond (counts st) (own (vs at) n k) 0) (counted ws (suc at) st rest) (counted vs (suc at) st rest)
+        (counted (weights_inside (symbol_with s c) k (plug a t) (ws at)) 0 (enters st k (plug a t)) (plug a t))
+        (counted (weights_inside (symbol_with s c) k (plug a u) (vs at)) 0 (enters st k (plug a u)) (plug a u))
         (own_counted (counts st) (wg at) (ws at) (vs at) n k (related at) (Prim.omega (arith, none)))
         (carried_related wg ws vs (suc at) st rest small tiny related (Prim.omega (arith, none)))
-        (subst (λ e. R (counted (weights_inside (symbol_with s c) k (plug a t) (ws at)) 0 (enters st k (plug a t)) (plug a t)) (counted (weights_inside (symbol_with s c) k (plug a u) (vs at)) 0 e (plug a u))) (same.0 st) inner)
+        (subst (λ e. R (counted (weights_inside (symbol_with s c) k (plug a t) (ws at)) 0 (enters st k (plug a t)) (plug a t))
+        (counted (weights_inside (symbol_with s c) k (plug a u) (vs at)) 0 e (plug a u))) (same.0 st) inner)
 
     before_it : (x y m n : ℕ) → x ≡ y → R m n → R (m + x) (n + y)
     before_it x y m n e h =
@@ -90,22 +99,31 @@ module _ (gone : ℕ → Bool) (s : ℕ) (c : Option ℕ → ℕ) {S : Type 0} (
     no_weight : Capped c free
     no_weight x q = Prim.omega arith
 
-    pub program_says : (p : Rooted) (listed : Bool) (t u : Forest) → Says listed t u → LosesOutward gone listed t u → SameScopes (place_in p) t u → SameEntries counts enters (place_in p) t u → (listed ≡ true → in_list false (place_in p) ≡ true) → (st : S)
-        → carried_of counts enters (gone_with gone c) st (program_with p t) ≡ 0 → R (carried_of counts enters (symbol_with s c) st (program_with p t)) (carried_of counts enters (symbol_with s c) st (program_with p u))
+    pub program_says : (p : Rooted) (listed : Bool) (t u : Forest) → Says listed t u → LosesOutward gone listed t u → SameScopes (place_in p) t u
+        → SameEntries counts enters (place_in p) t u → (listed ≡ true → in_list false (place_in p) ≡ true) → (st : S)
+        → carried_of counts enters (gone_with gone c) st (program_with p t) ≡ 0 → R (carried_of counts enters (symbol_with s c) st (program_with p t))
+        (carried_of counts enters (symbol_with s c) st (program_with p u))
     program_says (below_program source n a beside) listed t u h outward scopes entries is st none =
         let ds = declared_by_program (plug a t) beside in
         let es = declared_by_program (plug a u) beside in
         let out = counted (λ at. free) 1 st beside in
         before_it out out (counted (λ at. within (symbol_with s c) ds free) 0 st (plug a t)) (counted (λ at. within (symbol_with s c) es free) 0 st (plug a u)) refl
-        (around_says listed t u h a (all_lose gone listed t u outward a scopes false is) entries false is (λ at. within (gone_with gone c) ds free) (λ at. within (symbol_with s c) ds free) (λ at. within (symbol_with s c) es free) 0 st no_row no_row no_row
-        (λ i. within_capped s c ds free no_weight) (λ i. within_capped s c es free no_weight) (λ i. within_related gone s c ds es free free free (program_loses gone listed t u outward (below_program source n a beside) scopes is) no_weight no_weight (λ x q z. refl)) (Prim.omega (arith, none)))
+        (around_says listed t u h a (all_lose gone listed t u outward a scopes false is) entries false is (λ at. within (gone_with gone c) ds free) (λ at. within (symbol_with s c) ds free)
+        (λ at. within (symbol_with s c) es free) 0 st no_row no_row no_row
+        (λ i. within_capped s c ds free no_weight) (λ i. within_capped s c es free no_weight)
+        (λ i. within_related gone s c ds es free free free (program_loses gone listed t u outward (below_program source n a beside) scopes is) no_weight no_weight (λ x q z. refl))
+        (Prim.omega (arith, none)))
     program_says (beside_program source n below a) listed t u h outward scopes entries is st none =
         let ds = declared_by_program below (plug a t) in
         let es = declared_by_program below (plug a u) in
-        behind_it (counted (λ at. within (symbol_with s c) ds free) 0 st below) (counted (λ at. within (symbol_with s c) es free) 0 st below) (counted (λ at. free) 1 st (plug a t)) (counted (λ at. free) 1 st (plug a u))
-        (carried_related (λ at. within (gone_with gone c) ds free) (λ at. within (symbol_with s c) ds free) (λ at. within (symbol_with s c) es free) 0 st below (λ i. within_capped s c ds free no_weight) (λ i. within_capped s c es free no_weight)
-        (λ i. within_related gone s c ds es free free free (program_loses gone listed t u outward (beside_program source n below a) scopes is) no_weight no_weight (λ x q z. refl)) (Prim.omega (arith, none)))
-        (around_says listed t u h a (all_lose gone listed t u outward a scopes false is) entries false is (λ at. free) (λ at. free) (λ at. free) 1 st no_row no_row no_row (λ i. no_weight) (λ i. no_weight) (λ i x q z. refl) (Prim.omega (arith, none)))
+        behind_it (counted (λ at. within (symbol_with s c) ds free) 0 st below) (counted (λ at. within (symbol_with s c) es free) 0 st below) (counted (λ at. free) 1 st (plug a t))
+        (counted (λ at. free) 1 st (plug a u))
+        (carried_related (λ at. within (gone_with gone c) ds free) (λ at. within (symbol_with s c) ds free) (λ at. within (symbol_with s c) es free) 0 st below
+        (λ i. within_capped s c ds free no_weight) (λ i. within_capped s c es free no_weight)
+        (λ i. within_related gone s c ds es free free free (program_loses gone listed t u outward (beside_program source n below a) scopes is) no_weight no_weight (λ x q z. refl))
+        (Prim.omega (arith, none)))
+        (around_says listed t u h a (all_lose gone listed t u outward a scopes false is) entries false is (λ at. free) (λ at. free) (λ at. free) 1 st no_row no_row no_row (λ i. no_weight)
+        (λ i. no_weight) (λ i x q z. refl) (Prim.omega (arith, none)))
 
   -- ---- the edits
 
@@ -115,13 +133,15 @@ module _ (gone : ℕ → Bool) (s : ℕ) (c : Option ℕ → ℕ) {S : Type 0} (
   carried_even g ws even i j st (node k n b t) =
       ap₂ (λ (w : Weight) (m : ℕ). cond (counts st) (own w n k) 0 + carried counts enters g (weights_inside g k b w) 0 (enters st k b) b + m) (even i j) (carried_even g ws even (suc i) (suc j) st t)
 
-  carried_joined : (g : Bound) (ws : ℕ → Weight) → Even ws → (i : ℕ) (st : S) (t u : Forest) → carried counts enters g ws i st (joined t u) ≡ carried counts enters g ws i st t + carried counts enters g ws i st u
+  carried_joined : (g : Bound) (ws : ℕ → Weight) → Even ws → (i : ℕ) (st : S) (t u : Forest)
+      → carried counts enters g ws i st (joined t u) ≡ carried counts enters g ws i st t + carried counts enters g ws i st u
   carried_joined g ws even i st nothing u = Prim.omega arith
   carried_joined g ws even i st (absent t) u = Prim.omega (arith, carried_joined g ws even (suc i) st t u, carried_even g ws even (suc i) i st u)
   carried_joined g ws even i st (node k n b t) u = Prim.omega (arith, carried_joined g ws even (suc i) st t u, carried_even g ws even (suc i) i st u)
 
   -- what stands behind a node that leaves
-  rest_related : (k : Kind) (n : Note) (b t : Forest) (wg ws vs : ℕ → Weight) (at : ℕ) (st : S) → Even wg → Even vs → AllCapped ws → AllCapped vs → AllRelated wg ws vs → lost wg at st (node k n b t) ≡ 0 → counted ws (suc at) st t ≡ counted vs at st t
+  rest_related : (k : Kind) (n : Note) (b t : Forest) (wg ws vs : ℕ → Weight) (at : ℕ) (st : S) → Even wg → Even vs → AllCapped ws → AllCapped vs → AllRelated wg ws vs
+      → lost wg at st (node k n b t) ≡ 0 → counted ws (suc at) st t ≡ counted vs at st t
   rest_related k n b t wg ws vs at st eg ev small tiny related none =
       carried_related wg ws vs (suc at) st t small tiny related (Prim.omega (arith, none)) ∙ carried_even (symbol_with s c) vs ev (suc at) at st t
 
@@ -129,7 +149,8 @@ module _ (gone : ℕ → Bool) (s : ℕ) (c : Option ℕ → ℕ) {S : Type 0} (
   leaving_lowers k n b rest wg ws vs at st eg ew ev small tiny related none = Prim.omega (arith, rest_related k n b rest wg ws vs at st (eg refl) (ev refl) small tiny related none)
 
   -- where nothing is counted in it
-  pub leaving_keeps : (k : Kind) (n : Note) (b rest : Forest) → ((w : Weight) → own w n k ≡ 0) → ((ws : ℕ → Weight) (st : S) → counted ws 0 (enters st k b) b ≡ 0) → Says (λ m n. m ≡ n) (λ x y z w m n e f h. Prim.omega (arith, e, f, h)) true (node k n b rest) rest
+  pub leaving_keeps : (k : Kind) (n : Note) (b rest : Forest) → ((w : Weight) → own w n k ≡ 0) → ((ws : ℕ → Weight) (st : S) → counted ws 0 (enters st k b) b ≡ 0)
+      → Says (λ m n. m ≡ n) (λ x y z w m n e f h. Prim.omega (arith, e, f, h)) true (node k n b rest) rest
   leaving_keeps k n b rest refers inner wg ws vs at st eg ew ev small tiny related none =
       Prim.omega (arith, own_none (counts st), inner (weights_inside (symbol_with s c) k b (ws at)) st, rest_related k n b rest wg ws vs at st (eg refl) (ev refl) small tiny related none)
     where
@@ -137,7 +158,8 @@ module _ (gone : ℕ → Bool) (s : ℕ) (c : Option ℕ → ℕ) {S : Type 0} (
       own_none true = refers (ws at)
       own_none false = refl
 
-  pub part_lowers : (k l : Kind) (n i : Note) (b p q r : Forest) → Plain k → ((st : S) → enters st k (joined p (node l i b q)) ≡ st) → Says (λ m n. n ≤ m) (λ x y z w m n e f h. Prim.omega (arith, e, f, h)) false (node k n (joined p (node l i b q)) r) (node l i b r)
+  pub part_lowers : (k l : Kind) (n i : Note) (b p q r : Forest) → Plain k → ((st : S) → enters st k (joined p (node l i b q)) ≡ st)
+      → Says (λ m n. n ≤ m) (λ x y z w m n e f h. Prim.omega (arith, e, f, h)) false (node k n (joined p (node l i b q)) r) (node l i b r)
   part_lowers k l n i b p q r plain enter wg ws vs at st eg ew ev small tiny related none =
       let g = symbol_with s c in
       let h = gone_with gone c in
@@ -147,13 +169,17 @@ module _ (gone : ℕ → Bool) (s : ℕ) (c : Option ℕ → ℕ) {S : Type 0} (
       let same_weight : inner 0 ≡ ws at = weights_plain g k whole (ws at) plain 0 in
       let same_gone : gone_inner 0 ≡ wg at = weights_plain h k whole (wg at) plain 0 in
       let entered : carried counts enters g inner 0 (enters st k whole) whole ≡ carried counts enters g inner 0 st whole = ap (λ e. carried counts enters g inner 0 e whole) (enter st) in
-      let gone_entered : carried counts enters h gone_inner 0 (enters st k whole) whole ≡ carried counts enters h gone_inner 0 st whole = ap (λ e. carried counts enters h gone_inner 0 e whole) (enter st) in
-      let one : carried counts enters g inner 0 st (node l i b nothing) ≡ carried counts enters g ws at st (node l i b nothing) = ap (λ (w : Weight). cond (counts st) (own w i l) 0 + carried counts enters g (weights_inside g l b w) 0 (enters st l b) b + 0) same_weight in
-      let gone_one : carried counts enters h gone_inner 0 st (node l i b nothing) ≡ carried counts enters h wg at st (node l i b nothing) = ap (λ (w : Weight). cond (counts st) (own w i l) 0 + carried counts enters h (weights_inside h l b w) 0 (enters st l b) b + 0) same_gone in
+      let gone_entered : carried counts enters h gone_inner 0 (enters st k whole) whole ≡ carried counts enters h gone_inner 0 st whole =
+      ap (λ e. carried counts enters h gone_inner 0 e whole) (enter st) in
+      let one : carried counts enters g inner 0 st (node l i b nothing) ≡ carried counts enters g ws at st (node l i b nothing) =
+      ap (λ (w : Weight). cond (counts st) (own w i l) 0 + carried counts enters g (weights_inside g l b w) 0 (enters st l b) b + 0) same_weight in
+      let gone_one : carried counts enters h gone_inner 0 st (node l i b nothing) ≡ carried counts enters h wg at st (node l i b nothing) =
+      ap (λ (w : Weight). cond (counts st) (own w i l) 0 + carried counts enters h (weights_inside h l b w) 0 (enters st l b) b + 0) same_gone in
       let split = carried_joined g inner (even_plain g k whole (ws at) plain) 0 st p (node l i b q) in
       let gone_split = carried_joined h gone_inner (even_plain h k whole (wg at) plain) 0 st p (node l i b q) in
       let rest_same : counted ws (suc at) st r ≡ counted vs (suc at) st r = carried_related wg ws vs (suc at) st r small tiny related (Prim.omega (arith, none)) in
-      let node_same : counted ws at st (node l i b nothing) ≡ counted vs at st (node l i b nothing) = carried_related wg ws vs at st (node l i b nothing) small tiny related (Prim.omega (arith, none, gone_entered, gone_split, gone_one)) in
+      let node_same : counted ws at st (node l i b nothing) ≡ counted vs at st (node l i b nothing) =
+      carried_related wg ws vs at st (node l i b nothing) small tiny related (Prim.omega (arith, none, gone_entered, gone_split, gone_one)) in
       Prim.omega (arith, entered, split, one, rest_same, node_same)
 
 -- ---- calls
@@ -190,18 +216,22 @@ pub no_owner : (k : Kind) → Plain k → (t : Forest) (outer : Option ℕ) → 
 no_owner (function how pure) plain t outer = absurd (true≢false (plain.opens_none t))
 no_owner k plain t outer = refl
 
-pub calls_without : (gone : ℕ → Bool) (o : Option ℕ) (s : ℕ) (p : Rooted) (k : Kind) (i : Note) (b rest : Forest) → DeclaresGone gone k i b → SameScopes (place_in p) (node k i b rest) rest → in_list false (place_in p) ≡ true
+pub calls_without : (gone : ℕ → Bool) (o : Option ℕ) (s : ℕ) (p : Rooted) (k : Kind) (i : Note) (b rest : Forest) → DeclaresGone gone k i b
+    → SameScopes (place_in p) (node k i b rest) rest → in_list false (place_in p) ≡ true
     → calls_gone gone o (program_with p (node k i b rest)) ≡ 0 → calls o s (program_with p rest) ≤ calls o s (program_with p (node k i b rest))
 calls_without gone o s p k i b rest h scopes is none =
-    program_says gone s (λ q. 1) (is_owner o) owner_in (λ m n. n ≤ m) (λ x y z w m n e f h. Prim.omega (arith, e, f, h)) p true (node k i b rest) rest (leaving_lowers gone s (λ q. 1) (is_owner o) owner_in k i b rest)
+    program_says gone s (λ q. 1) (is_owner o) owner_in (λ m n. n ≤ m) (λ x y z w m n e f h. Prim.omega (arith, e, f, h)) p true (node k i b rest) rest
+    (leaving_lowers gone s (λ q. 1) (is_owner o) owner_in k i b rest)
     (leaving_loses gone k i b rest h) scopes (same_owners o (place_in p) (node k i b rest) rest false is) (λ e. is) None none
 
-pub calls_with_part : (gone : ℕ → Bool) (o : Option ℕ) (s : ℕ) (p : Rooted) (k l : Kind) (i j : Note) (b v w r : Forest) → Plain k → LosesOutward gone false (node k i (joined v (node l j b w)) r) (node l j b r)
+pub calls_with_part : (gone : ℕ → Bool) (o : Option ℕ) (s : ℕ) (p : Rooted) (k l : Kind) (i j : Note) (b v w r : Forest) → Plain k
+    → LosesOutward gone false (node k i (joined v (node l j b w)) r) (node l j b r)
     → SameScopes (place_in p) (node k i (joined v (node l j b w)) r) (node l j b r) → SameEntries (is_owner o) owner_in (place_in p) (node k i (joined v (node l j b w)) r) (node l j b r)
     → calls_gone gone o (program_with p (node k i (joined v (node l j b w)) r)) ≡ 0 → calls o s (program_with p (node l j b r)) ≤ calls o s (program_with p (node k i (joined v (node l j b w)) r))
 calls_with_part gone o s p k l i j b v w r plain outward scopes entries none =
     let whole = joined v (node l j b w) in
-    program_says gone s (λ q. 1) (is_owner o) owner_in (λ m n. n ≤ m) (λ x y z w m n e f h. Prim.omega (arith, e, f, h)) p false (node k i whole r) (node l j b r) (part_lowers gone s (λ q. 1) (is_owner o) owner_in k l i j b v w r plain (no_owner k plain whole))
+    program_says gone s (λ q. 1) (is_owner o) owner_in (λ m n. n ≤ m) (λ x y z w m n e f h. Prim.omega (arith, e, f, h)) p false (node k i whole r) (node l j b r)
+    (part_lowers gone s (λ q. 1) (is_owner o) owner_in k l i j b v w r plain (no_owner k plain whole))
     outward scopes entries (λ e. absurd (true≢false (sym e))) None none
 
 -- what is bound to one symbol
@@ -227,12 +257,15 @@ all_live g ws at (node k n b t) = ap₂ (λ (i j : ℕ). own (ws at) n k + i + j
 pub nothing_skipped : (g : Bound) (source : SourceType) (n : Note) (t rest : Forest) → living (λ k below. false) g (node (program source) n t rest) ≡ refs_of g (node (program source) n t rest)
 nothing_skipped g source n t rest = ap₂ (λ (i j : ℕ). i + j) (all_live g (λ at. within g (declared_by_program t rest) free) 0 t) (all_live g (λ at. free) 1 rest)
 
-pub living_without : (skips : Kind → Forest → Bool) (gone : ℕ → Bool) (s : ℕ) (c : Option ℕ → ℕ) (p : Rooted) (k : Kind) (i : Note) (b rest : Forest) → skips k b ≡ true → ((w : Weight) → own w i k ≡ 0) → DeclaresGone gone k i b
-    → SameScopes (place_in p) (node k i b rest) rest → SameEntries (λ lives. lives) (lives_in skips) (place_in p) (node k i b rest) rest → in_list false (place_in p) ≡ true → living skips (gone_with gone c) (program_with p (node k i b rest)) ≡ 0
+pub living_without : (skips : Kind → Forest → Bool) (gone : ℕ → Bool) (s : ℕ) (c : Option ℕ → ℕ) (p : Rooted) (k : Kind) (i : Note) (b rest : Forest) → skips k b ≡ true
+    → ((w : Weight) → own w i k ≡ 0) → DeclaresGone gone k i b
+    → SameScopes (place_in p) (node k i b rest) rest → SameEntries (λ lives. lives) (lives_in skips) (place_in p) (node k i b rest) rest → in_list false (place_in p) ≡ true → living skips
+    (gone_with gone c) (program_with p (node k i b rest)) ≡ 0
     → living skips (symbol_with s c) (program_with p (node k i b rest)) ≡ living skips (symbol_with s c) (program_with p rest)
 living_without skips gone s c p k i b rest dead refers h scopes entries is none =
     program_says gone s c (λ lives. lives) (lives_in skips) (λ m n. m ≡ n) (λ x y z w m n e f h. Prim.omega (arith, e, f, h)) p true (node k i b rest) rest
-    (leaving_keeps gone s c (λ lives. lives) (lives_in skips) k i b rest refers (λ ws st. ap (λ e. carried (λ lives. lives) (lives_in skips) (symbol_with s c) ws 0 e b) (dies st) ∙ dead_counts skips (symbol_with s c) ws 0 b))
+    (leaving_keeps gone s c (λ lives. lives) (lives_in skips) k i b rest refers
+    (λ ws st. ap (λ e. carried (λ lives. lives) (lives_in skips) (symbol_with s c) ws 0 e b) (dies st) ∙ dead_counts skips (symbol_with s c) ws 0 b))
     (leaving_loses gone k i b rest h) scopes entries (λ e. is) true none
   where
     dies : (st : Bool) → (st && not (skips k b)) ≡ false

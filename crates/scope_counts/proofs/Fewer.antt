@@ -46,14 +46,16 @@ module _ {S : Type 0} (counts : S → Bool) (enters : S → Kind → (below : Fo
   own_less false w v n k h = Prim.omega arith
 
   -- what counts less at each name counts less
-  carried_less : (g h : Bound) → ((n q : Option ℕ) → g n q ≤ h n q) → (ws vs : ℕ → Weight) (at : ℕ) (st : S) (t : Forest) → ((i : ℕ) (x : List ℕ) (q : Option ℕ) → ws i x q ≤ vs i x q) → carried counts enters g ws at st t ≤ carried counts enters h vs at st t
+  carried_less : (g h : Bound) → ((n q : Option ℕ) → g n q ≤ h n q) → (ws vs : ℕ → Weight) (at : ℕ) (st : S) (t : Forest) → ((i : ℕ) (x : List ℕ) (q : Option ℕ) → ws i x q ≤ vs i x q)
+      → carried counts enters g ws at st t ≤ carried counts enters h vs at st t
   carried_less g h each ws vs at st nothing r = Prim.omega arith
   carried_less g h each ws vs at st (absent t) r = carried_less g h each ws vs (suc at) st t r
   carried_less g h each ws vs at st (node k n b t) r =
       Prim.omega (
         arith,
         own_less (counts st) (ws at) (vs at) n k (r at),
-        carried_less g h each (weights_inside g k b (ws at)) (weights_inside h k b (vs at)) 0 (enters st k b) b (λ i x q. inside_both (λ m n. m ≤ n) x q g h (λ n. each n q) k b (ws at) (vs at) (r at x q) i),
+        carried_less g h each (weights_inside g k b (ws at)) (weights_inside h k b (vs at)) 0 (enters st k b) b
+            (λ i x q. inside_both (λ m n. m ≤ n) x q g h (λ n. each n q) k b (ws at) (vs at) (r at x q) i),
         carried_less g h each ws vs (suc at) st t r,
       )
 
@@ -65,13 +67,15 @@ module _ {S : Type 0} (counts : S → Bool) (enters : S → Kind → (below : Fo
     own_same false w v n k r e = refl
 
     -- where each reference counts the same
-    carried_same : (ws vs : ℕ → Weight) (at : ℕ) (st : S) (t : Forest) → ((i : ℕ) (x : List ℕ) (q : Option ℕ) → P q → ws i x q ≡ vs i x q) → EachReference (λ x q. P q) t → carried counts enters g ws at st t ≡ carried counts enters h vs at st t
+    carried_same : (ws vs : ℕ → Weight) (at : ℕ) (st : S) (t : Forest) → ((i : ℕ) (x : List ℕ) (q : Option ℕ) → P q → ws i x q ≡ vs i x q) → EachReference (λ x q. P q) t
+        → carried counts enters g ws at st t ≡ carried counts enters h vs at st t
     carried_same ws vs at st nothing r e = refl
     carried_same ws vs at st (absent t) r e = carried_same ws vs (suc at) st t r e
     carried_same ws vs at st (node k n b t) r e =
         ap₂ (λ (i j : ℕ). i + j)
         (ap₂ (λ (i j : ℕ). i + j) (own_same (counts st) (ws at) (vs at) n k (r at) e.0)
-        (carried_same (weights_inside g k b (ws at)) (weights_inside h k b (vs at)) 0 (enters st k b) b (λ i x q p. inside_both (λ m n. m ≡ n) x q g h (λ n. each n q p) k b (ws at) (vs at) (r at x q p) i) e.1))
+        (carried_same (weights_inside g k b (ws at)) (weights_inside h k b (vs at)) 0 (enters st k b) b
+        (λ i x q p. inside_both (λ m n. m ≡ n) x q g h (λ n. each n q p) k b (ws at) (vs at) (r at x q p) i) e.1))
         (carried_same ws vs (suc at) st t r e.2)
 
 -- ---- which references stay
@@ -125,7 +129,8 @@ module _ (gone : ℕ → Bool) (t u : Forest) {S : Type 0} (counts : S → Bool)
   gone_small : (n q : Option ℕ) → gone_with gone (stays t u) n q ≤ stays t u q
   gone_small n q = small_cond (is_gone gone n) (stays t u q) 0 (stays t u q) (Prim.omega arith) (Prim.omega arith)
 
-  carried_none : (wg : ℕ → Weight) (ws : ℕ → ℕ → Weight) (at : ℕ) (st : S) (f : Forest) → ((i : ℕ) → Capped (stays t u) (wg i)) → ((i : ℕ) → Agrees (wg i) (λ r. ws r i)) → ((r : ℕ) → left t u r ≡ false → refs (gone_by gone r) (ws r) at f ≡ 0) → carried counts enters of_staying wg at st f ≡ 0
+  carried_none : (wg : ℕ → Weight) (ws : ℕ → ℕ → Weight) (at : ℕ) (st : S) (f : Forest) → ((i : ℕ) → Capped (stays t u) (wg i)) → ((i : ℕ) → Agrees (wg i) (λ r. ws r i))
+      → ((r : ℕ) → left t u r ≡ false → refs (gone_by gone r) (ws r) at f ≡ 0) → carried counts enters of_staying wg at st f ≡ 0
   carried_none wg ws at st nothing small agrees h = refl
   carried_none wg ws at st (absent f) small agrees h = carried_none wg ws (suc at) st f small agrees h
   carried_none wg ws at st (node k n b f) small agrees h =
@@ -138,25 +143,29 @@ module _ (gone : ℕ → Bool) (t u : Forest) {S : Type 0} (counts : S → Bool)
         carried_none wg ws (suc at) st f small agrees (λ r e. Prim.omega (arith, h r e)),
       )
 
-  program_none : (source : SourceType) (n : Note) (below beside : Forest) (st : S) → ((r : ℕ) → left t u r ≡ false → refs_of (gone_by gone r) (node (program source) n below beside) ≡ 0) → carried_of counts enters of_staying st (node (program source) n below beside) ≡ 0
+  program_none : (source : SourceType) (n : Note) (below beside : Forest) (st : S) → ((r : ℕ) → left t u r ≡ false → refs_of (gone_by gone r) (node (program source) n below beside) ≡ 0)
+      → carried_of counts enters of_staying st (node (program source) n below beside) ≡ 0
   program_none source n below beside st h =
       let ds = declared_by_program below beside in
       let no : Capped (stays t u) free = λ x q. Prim.omega arith in
       Prim.omega (
         arith,
-        carried_none (λ at. within of_staying ds free) (λ r at. within (gone_by gone r) ds free) 0 st below (λ i x q. within_both (λ m n. m ≤ stays t u q) x q of_staying of_staying (λ n. gone_small n q) ds free free (no x q))
+        carried_none (λ at. within of_staying ds free) (λ r at. within (gone_by gone r) ds free) 0 st below
+            (λ i x q. within_both (λ m n. m ≤ stays t u q) x q of_staying of_staying (λ n. gone_small n q) ds free free (no x q))
             (λ i r e x. within_both (λ m n. m ≡ n) x (Some r) of_staying (gone_by gone r) (same_gone r e) ds free free refl) (λ r e. Prim.omega (arith, h r e)),
         carried_none (λ at. free) (λ r at. free) 1 st beside (λ i. no) (λ i r e x. refl) (λ r e. Prim.omega (arith, h r e)),
       )
 
-  none_of_program : (p : Rooted) (f : Forest) (st : S) → ((r : ℕ) → left t u r ≡ false → refs_of (gone_by gone r) (program_with p f) ≡ 0) → carried_of counts enters of_staying st (program_with p f) ≡ 0
+  none_of_program : (p : Rooted) (f : Forest) (st : S) → ((r : ℕ) → left t u r ≡ false → refs_of (gone_by gone r) (program_with p f) ≡ 0)
+      → carried_of counts enters of_staying st (program_with p f) ≡ 0
   none_of_program (below_program source n a beside) f st h = program_none source n (plug a f) beside st h
   none_of_program (beside_program source n below a) f st h = program_none source n below (plug a f) st h
 
 -- ---- a program
 
 module _ {S : Type 0} (counts : S → Bool) (enters : S → Kind → (below : Forest) → S) (g h : Bound) where
-  less_of : ((n q : Option ℕ) → g n q ≤ h n q) → (source : SourceType) (n : Note) (below beside : Forest) (st : S) → carried_of counts enters g st (node (program source) n below beside) ≤ carried_of counts enters h st (node (program source) n below beside)
+  less_of : ((n q : Option ℕ) → g n q ≤ h n q) → (source : SourceType) (n : Note) (below beside : Forest) (st : S)
+      → carried_of counts enters g st (node (program source) n below beside) ≤ carried_of counts enters h st (node (program source) n below beside)
   less_of each source n below beside st =
       let ds = declared_by_program below beside in
       Prim.omega (
@@ -169,7 +178,8 @@ module _ {S : Type 0} (counts : S → Bool) (enters : S → Kind → (below : Fo
   less_with each (below_program source n a beside) f st = less_of each source n (plug a f) beside st
   less_with each (beside_program source n below a) f st = less_of each source n below (plug a f) st
 
-  same_of : (P : Option ℕ → Type 0) → ((n q : Option ℕ) → P q → g n q ≡ h n q) → (source : SourceType) (n : Note) (below beside : Forest) (st : S) → EachReference (λ x q. P q) (node (program source) n below beside)
+  same_of : (P : Option ℕ → Type 0) → ((n q : Option ℕ) → P q → g n q ≡ h n q) → (source : SourceType) (n : Note) (below beside : Forest) (st : S)
+      → EachReference (λ x q. P q) (node (program source) n below beside)
       → carried_of counts enters g st (node (program source) n below beside) ≡ carried_of counts enters h st (node (program source) n below beside)
   same_of P each source n below beside st e =
       let ds = declared_by_program below beside in
@@ -177,7 +187,8 @@ module _ {S : Type 0} (counts : S → Bool) (enters : S → Kind → (below : Fo
       (carried_same counts enters P g h each (λ at. within g ds free) (λ at. within h ds free) 0 st below (λ i x q r. within_both (λ m n. m ≡ n) x q g h (λ n. each n q r) ds free free refl) e.1)
       (carried_same counts enters P g h each (λ at. free) (λ at. free) 1 st beside (λ i x q r. refl) e.2)
 
-  same_with : (P : Option ℕ → Type 0) → ((n q : Option ℕ) → P q → g n q ≡ h n q) → (p : Rooted) (f : Forest) (st : S) → EachReference (λ x q. P q) (program_with p f) → carried_of counts enters g st (program_with p f) ≡ carried_of counts enters h st (program_with p f)
+  same_with : (P : Option ℕ → Type 0) → ((n q : Option ℕ) → P q → g n q ≡ h n q) → (p : Rooted) (f : Forest) (st : S) → EachReference (λ x q. P q) (program_with p f)
+      → carried_of counts enters g st (program_with p f) ≡ carried_of counts enters h st (program_with p f)
   same_with P each (below_program source n a beside) f st e = same_of P each source n (plug a f) beside st e
   same_with P each (beside_program source n below a) f st e = same_of P each source n below (plug a f) st e
 
@@ -206,7 +217,8 @@ module _ (gone : ℕ → Bool) (p : Rooted) (listed : Bool) (t u : Forest) (h : 
       none (suc m) f = absurd (true≢false (sym (f (Prim.omega arith)) ∙ e))
 
   pub falls : {S : Type 0} (counts : S → Bool) (enters : S → Kind → (below : Forest) → S) (st : S) (z : ℕ)
-      → (carried_of counts enters (gone_with gone (stays t u)) st (program_with p t) ≡ 0 → carried_of counts enters (symbol_with z (stays t u)) st (program_with p u) ≤ carried_of counts enters (symbol_with z (stays t u)) st (program_with p t))
+      → (carried_of counts enters (gone_with gone (stays t u)) st (program_with p t) ≡ 0 → carried_of counts enters (symbol_with z (stays t u)) st (program_with p u) ≤ carried_of counts enters
+      (symbol_with z (stays t u)) st (program_with p t))
       → carried_of counts enters (to_symbol z) st (program_with p u) ≤ carried_of counts enters (to_symbol z) st (program_with p t)
   falls counts enters st z says =
       Prim.omega (
@@ -216,21 +228,27 @@ module _ (gone : ℕ → Bool) (p : Rooted) (listed : Bool) (t u : Forest) (h : 
         less_with counts enters (symbol_with z (stays t u)) (to_symbol z) (λ n q. at_most_one z n (stays t u q) (stays_once t u q)) p t st,
       )
 
-pub exact_calls_without : (gone : ℕ → Bool) (o : Option ℕ) (z : ℕ) (p : Rooted) (k : Kind) (i : Note) (b rest : Forest) → DeclaresGone gone k i b → SameScopes (place_in p) (node k i b rest) rest → in_list false (place_in p) ≡ true
-    → UsersLeave gone (program_with p (node k i b rest)) (node k i b rest) rest → (s : Scoping) (before : ℕ → Bool) → ExactButMarks s before (program_with p (node k i b rest)) → calls o z (program_with p rest) ≤ calls o z (program_with p (node k i b rest))
+pub exact_calls_without : (gone : ℕ → Bool) (o : Option ℕ) (z : ℕ) (p : Rooted) (k : Kind) (i : Note) (b rest : Forest) → DeclaresGone gone k i b
+    → SameScopes (place_in p) (node k i b rest) rest → in_list false (place_in p) ≡ true
+    → UsersLeave gone (program_with p (node k i b rest)) (node k i b rest) rest → (s : Scoping) (before : ℕ → Bool) → ExactButMarks s before (program_with p (node k i b rest)) → calls o z
+    (program_with p rest) ≤ calls o z (program_with p (node k i b rest))
 exact_calls_without gone o z p k i b rest h scopes is leave s before x =
     let t = node k i b rest in
     falls gone p true t rest (leaving gone k i b rest) leave s before x (is_owner o) owner_in None z
-    (program_says gone z (stays t rest) (is_owner o) owner_in (λ m n. n ≤ m) (λ x y z w m n e f h. Prim.omega (arith, e, f, h)) p true t rest (leaving_lowers gone z (stays t rest) (is_owner o) owner_in k i b rest) (leaving_loses gone k i b rest h) scopes
+    (program_says gone z (stays t rest) (is_owner o) owner_in (λ m n. n ≤ m) (λ x y z w m n e f h. Prim.omega (arith, e, f, h)) p true t rest
+    (leaving_lowers gone z (stays t rest) (is_owner o) owner_in k i b rest) (leaving_loses gone k i b rest h) scopes
     (same_owners o (place_in p) t rest false is) (λ e. is) None)
 
-pub exact_calls_with_part : (gone : ℕ → Bool) (o : Option ℕ) (z : ℕ) (p : Rooted) (k l : Kind) (i j : Note) (b v w r : Forest) → Plain k → LosesOutward gone false (node k i (joined v (node l j b w)) r) (node l j b r)
+pub exact_calls_with_part : (gone : ℕ → Bool) (o : Option ℕ) (z : ℕ) (p : Rooted) (k l : Kind) (i j : Note) (b v w r : Forest) → Plain k
+    → LosesOutward gone false (node k i (joined v (node l j b w)) r) (node l j b r)
     → SameScopes (place_in p) (node k i (joined v (node l j b w)) r) (node l j b r) → SameEntries (is_owner o) owner_in (place_in p) (node k i (joined v (node l j b w)) r) (node l j b r)
-    → UsersLeave gone (program_with p (node k i (joined v (node l j b w)) r)) (node k i (joined v (node l j b w)) r) (node l j b r) → (s : Scoping) (before : ℕ → Bool) → ExactButMarks s before (program_with p (node k i (joined v (node l j b w)) r))
+    → UsersLeave gone (program_with p (node k i (joined v (node l j b w)) r)) (node k i (joined v (node l j b w)) r) (node l j b r) → (s : Scoping) (before : ℕ → Bool) → ExactButMarks s before
+    (program_with p (node k i (joined v (node l j b w)) r))
     → calls o z (program_with p (node l j b r)) ≤ calls o z (program_with p (node k i (joined v (node l j b w)) r))
 exact_calls_with_part gone o z p k l i j b v w r plain outward scopes entries leave s before x =
     let whole = joined v (node l j b w) in
     let t = node k i whole r in
     let u = node l j b r in
     falls gone p false t u (part_thins gone k l i j b v w r plain) leave s before x (is_owner o) owner_in None z
-    (program_says gone z (stays t u) (is_owner o) owner_in (λ m n. n ≤ m) (λ x y z w m n e f h. Prim.omega (arith, e, f, h)) p false t u (part_lowers gone z (stays t u) (is_owner o) owner_in k l i j b v w r plain (no_owner k plain whole)) outward scopes entries (λ e. absurd (true≢false (sym e))) None)
+    (program_says gone z (stays t u) (is_owner o) owner_in (λ m n. n ≤ m) (λ x y z w m n e f h. Prim.omega (arith, e, f, h)) p false t u
+    (part_lowers gone z (stays t u) (is_owner o) owner_in k l i j b v w r plain (no_owner k plain whole)) outward scopes entries (λ e. absurd (true≢false (sym e))) None)

@@ -39,13 +39,15 @@ pub fn uncalled_nodes_may_leave()
 
 /// Where nothing is held dead all is counted.
 pub fn what_lives_is_counted()
-    ensures { (g : Bound) (source : SourceType) (n : Note) (below rest : Forest) → living (λ k t. false) g (node (Kind.Program source) n below rest) ≡ refs_of g (node (Kind.Program source) n below rest) }
+    ensures { (g : Bound) (source : SourceType) (n : Note) (below rest : Forest) →
+        let t = node (Kind.Program source) n below rest in living (λ k b. false) g t ≡ refs_of g t }
 {}
 
 /// A declaration that is held dead may leave a list: nothing counts otherwise, if nothing that lives refers to what is gone.
 pub fn dead_declarations_may_leave()
     ensures { (skips : Kind → Forest → Bool) (gone : ℕ → Bool) (s : ℕ) (c : Option ℕ → ℕ) (p : Rooted) (k : Kind) (i : Note) (b rest : Forest) →
-        skips k b ≡ true → ((w : Weight) → own w i k ≡ 0) → DeclaresGone gone k i b → SameScopes (place_in p) (node k i b rest) rest → SameEntries (λ lives. lives) (lives_in skips) (place_in p) (node k i b rest) rest → in_list false (place_in p) ≡ true →
-        living skips (gone_with gone c) (program_with p (node k i b rest)) ≡ 0 →
-        living skips (symbol_with s c) (program_with p (node k i b rest)) ≡ living skips (symbol_with s c) (program_with p rest) }
+        let t = node k i b rest in
+        skips k b ≡ true → ((w : Weight) → own w i k ≡ 0) → DeclaresGone gone k i b → SameScopes (place_in p) t rest → SameEntries (λ lives. lives) (lives_in skips) (place_in p) t rest →
+        in_list false (place_in p) ≡ true → living skips (gone_with gone c) (program_with p t) ≡ 0 →
+        living skips (symbol_with s c) (program_with p t) ≡ living skips (symbol_with s c) (program_with p rest) }
 {}

@@ -133,10 +133,12 @@ shut_declares at (node k n below rest) h =
     let inner = shut declares_itself lets (λ i. lets k i) 0 below in
     let later = shut declares_itself lets (λ i. true) (suc at) rest in
     let further = second_of_both (not (declares_itself k)) (inner && later) h in
-    both (declares_none_at k (declares_none below)) (declares_none rest) (here k below (first_of_both (not (declares_itself k)) (inner && later) h) (first_of_both inner later further) (shut_declares 0 below))
+    both (declares_none_at k (declares_none below)) (declares_none rest)
+    (here k below (first_of_both (not (declares_itself k)) (inner && later) h) (first_of_both inner later further) (shut_declares 0 below))
     (shut_declares (suc at) rest (second_of_both inner later further))
   where
-    here : (k : Kind) (below : Forest) → not (declares_itself k) ≡ true → shut declares_itself lets (λ i. lets k i) 0 below ≡ true → (shut declares_itself lets (λ i. true) 0 below ≡ true → declares_none below ≡ true) → declares_none_at k (declares_none below) ≡ true
+    here : (k : Kind) (below : Forest) → not (declares_itself k) ≡ true → shut declares_itself lets (λ i. lets k i) 0 below ≡ true
+        → (shut declares_itself lets (λ i. true) 0 below ≡ true → declares_none below ≡ true) → declares_none_at k (declares_none below) ≡ true
     here (binding_name x) below h e f = h
     here (function function_kind.Declaration pure) below h e f = h
     here (function how pure) below h e f = refl

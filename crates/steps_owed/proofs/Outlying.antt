@@ -1,5 +1,5 @@
 -- What a node declares around it, it declares in a scope that stands before.
-use Rattle.std.proofs.Common.{◌≡◌, ◌∙◌, ◌<◌, ◌≤◌, ◌+◌, ◌⊎◌, inl, inr, ℕ, suc, Bool, true, false, ◌&&◌, ◌==◌, List, [], ◌∷◌, ◌++◌, if◌then◌else◌, append-nil, refl, sym, ap, subst, arith, true≢false}
+use Rattle.std.proofs.Common.{◌≡◌, ◌∙◌, ◌<◌, ◌+◌, ◌⊎◌, inl, inr, ℕ, suc, Bool, true, false, ◌&&◌, ◌==◌, List, [], ◌∷◌, ◌++◌, if◌then◌else◌, append-nil, refl, sym, ap, subst, arith, true≢false}
 use Rattle.std.specs.Prelude.{Some}
 use Rattle.js_syntax.specs.declared.node_kind.NodeKind.{NodeKind as Kind}
 use Rattle.js_syntax.specs.declared.node_kind.NodeKind.TheVariants.{Program as program, Function as function, Class as class, PropertyDefinition as property_definition, StaticBlock as static_block, BlockStatement as block_statement, WithStatement as with_statement, SwitchStatement as switch_statement, CatchClause as catch_clause, ForStatement as for_statement, ForInStatement as for_in_statement, ForOfStatement as for_of_statement, VariableDeclaration as variable_declaration, ImportDeclaration as import_declaration, BindingName as binding_name}
@@ -16,11 +16,11 @@ use Rattle.scope_rules.specs.Site.{BindingSite, opens_one, scope_count, sites, b
 use Rattle.scope_laws.specs.Exact.{Among}
 use Rattle.scope_laws.specs.Place.{Around, first, behind, behind_none, under, plug, there, scopes_before, sites_there}
 use Rattle.scope_laws.proofs.Declared.{among_left, among_right, among_cases}
-use Rattle.scope_counts.specs.Counts.{Decl, Aims, everywhere, no_part, aims_of_body, aims_of_block, aims_of_parameters, aims_of_variables, aims_of_function_name, aims_of_class_name, naming_in, aims_inside, named, hoisted}
+use Rattle.scope_counts.specs.Counts.{Decl, Aims, no_part, aims_of_body, aims_of_block, aims_of_parameters, aims_of_variables, aims_of_function_name, aims_of_class_name, naming_in, aims_inside, named, hoisted}
 use Rattle.scope_counts.proofs.Layers.{aims_at}
 use Rattle.scope_counts.proofs.Counting.{Fresh, program_fresh, outside_fresh, fresh_below, fresh_behind, hoisted_are}
 use Rattle.scope_counts.proofs.Scopes.{below_or_above}
-use Rattle.scope_counts.proofs.Whole.{same_layer_same, InLayer, from_decls}
+use Rattle.scope_counts.proofs.Whole.{same_layer_same, from_decls}
 use Rattle.steps_owed.specs.Kept.{is_program}
 use Rattle.steps_owed.proofs.Places.{IsInside}
 
@@ -100,7 +100,8 @@ module _ (a b c : Aims) (h : Splits a b c) where
       go false e j = absurd j
   named_splits n k d i = absurd i
 
-in_three : (d : Decl) (xs ys zs us vs ws fs gs hs : List Decl) → (Among d xs → Among d us ⊎ Among d fs) → (Among d ys → Among d vs ⊎ Among d gs) → (Among d zs → Among d ws ⊎ Among d hs) → Among d (xs ++ ys ++ zs) → Among d (us ++ vs ++ ws) ⊎ Among d (fs ++ gs ++ hs)
+in_three : (d : Decl) (xs ys zs us vs ws fs gs hs : List Decl) → (Among d xs → Among d us ⊎ Among d fs) → (Among d ys → Among d vs ⊎ Among d gs) → (Among d zs → Among d ws ⊎ Among d hs)
+    → Among d (xs ++ ys ++ zs) → Among d (us ++ vs ++ ws) ⊎ Among d (fs ++ gs ++ hs)
 in_three d xs ys zs us vs ws fs gs hs f g h i = elim (among_cases d (xs ++ ys) zs i) [
   | inl j ↦ elim (among_cases d xs ys j) [
     | inl k ↦ elim (f k) [
@@ -122,7 +123,8 @@ hoisted_splits : (a b c : ℕ → Aims) → ((i : ℕ) → Splits (a i) (b i) (c
 hoisted_splits a b c h at nothing d i = absurd i
 hoisted_splits a b c h at (absent t) d i = hoisted_splits a b c h (suc at) t d i
 hoisted_splits a b c h at (node k n t rest) d i =
-    in_three d (named (a at) n k) (hoisted (aims_inside no_part (a at) k t) 0 t) (hoisted a (suc at) rest) (named (b at) n k) (hoisted (aims_inside no_part (b at) k t) 0 t) (hoisted b (suc at) rest) (named (c at) n k) (hoisted (aims_inside no_part (c at) k t) 0 t) (hoisted c (suc at) rest)
+    in_three d (named (a at) n k) (hoisted (aims_inside no_part (a at) k t) 0 t) (hoisted a (suc at) rest) (named (b at) n k) (hoisted (aims_inside no_part (b at) k t) 0 t)
+    (hoisted b (suc at) rest) (named (c at) n k) (hoisted (aims_inside no_part (c at) k t) 0 t) (hoisted c (suc at) rest)
     (named_splits (a at) (b at) (c at) (h at) n k d)
     (hoisted_splits (aims_inside no_part (a at) k t) (aims_inside no_part (b at) k t) (aims_inside no_part (c at) k t) (inside_splits (a at) (b at) (c at) (h at) k t) 0 t d)
     (hoisted_splits a b c h (suc at) rest d) i
@@ -153,41 +155,50 @@ pub record Declares (bs : List BindingSite) (limit : ℕ) (d : Decl) : Type 0 wh
   pub outlies : site.layer.scope < limit
   pub is : record { name = site.name; symbol = site.id } ≡ d
 
-of_layer : (cs : ℕ → Context) (at next : ℕ) (t : Forest) (l : Layer) → l.scope < next → (d : Decl) → Among d (hoisted (λ i. aims_at l (cs i)) at t) → Declares (bindings_among (sites cs at next t)) next d
+of_layer : (cs : ℕ → Context) (at next : ℕ) (t : Forest) (l : Layer) → l.scope < next → (d : Decl) → Among d (hoisted (λ i. aims_at l (cs i)) at t)
+    → Declares (bindings_among (sites cs at next t)) next d
 of_layer cs at next t l h d i =
     let x = from_decls l (bindings_among (sites cs at next t)) d (subst (Among d) (sym (hoisted_are l cs (λ i. aims_at l (cs i)) at next t h (λ i. refl))) i) in
     record { site = x.site; stands = x.stands; outlies = subst (λ (m : Layer). m.scope < next) (sym x.there) h; is = x.is }
 
 -- a name that the node declares outward stands in a layer of the context
-node_declares : (cs : ℕ → Context) (at next : ℕ) (k : Kind) (n : Note) (b : Forest) → Fresh cs next → (a : Aims) (d : Decl) → Among d (named a n k ++ hoisted (aims_inside no_part a k b) 0 b) → Declares (bindings_among (sites cs at next (node k n b nothing))) next d
+node_declares : (cs : ℕ → Context) (at next : ℕ) (k : Kind) (n : Note) (b : Forest) → Fresh cs next → (a : Aims) (d : Decl)
+    → Among d (named a n k ++ hoisted (aims_inside no_part a k b) 0 b) → Declares (bindings_among (sites cs at next (node k n b nothing))) next d
 node_declares cs at next k n b fresh a d i =
     let t = node k n b nothing in
     let c = cs at in
     let all : Among d (hoisted (λ i. a) at t) = subst (Among d) (sym (append-nil (named a n k ++ hoisted (aims_inside no_part a k b) 0 b))) i in
     elim (hoisted_splits (λ i. a) (λ i. only_variables) (λ i. not_variables) (λ i. record { variables = λ e. inl refl; block = λ e. inr refl; naming = λ e. inr refl }) at t d all) [
-      | inl j ↦ by c.variables (λ e. true≢false (sym (same_layer_same c.variables) ∙ ap (λ (x : Aims). x.variables) e)) only_variables (record { variables = λ e. inl (same_layer_same c.variables); block = never; naming = never }) j
+      | inl j ↦ by c.variables (λ e. true≢false (sym (same_layer_same c.variables) ∙ ap (λ (x : Aims). x.variables) e)) only_variables
+          (record { variables = λ e. inl (same_layer_same c.variables); block = never; naming = never }) j
       | inr j ↦ elim (hoisted_splits (λ i. not_variables) (λ i. only_block) (λ i. only_naming) (λ i. record { variables = never; block = λ e. inl refl; naming = λ e. inr refl }) at t d j) [
-        | inl l ↦ by c.block (λ e. true≢false (sym (same_layer_same c.block) ∙ ap (λ (x : Aims). x.block) e)) only_block (record { variables = never; block = λ e. inl (same_layer_same c.block); naming = never }) l
-        | inr l ↦ by c.declaring.layer (λ e. true≢false (sym (same_layer_same c.declaring.layer) ∙ ap (λ (x : Aims). x.naming) e)) only_naming (record { variables = never; block = never; naming = λ e. inl (same_layer_same c.declaring.layer) }) l
+        | inl l ↦ by c.block (λ e. true≢false (sym (same_layer_same c.block) ∙ ap (λ (x : Aims). x.block) e)) only_block
+            (record { variables = never; block = λ e. inl (same_layer_same c.block); naming = never }) l
+        | inr l ↦ by c.declaring.layer (λ e. true≢false (sym (same_layer_same c.declaring.layer) ∙ ap (λ (x : Aims). x.naming) e)) only_naming
+            (record { variables = never; block = never; naming = λ e. inl (same_layer_same c.declaring.layer) }) l
       ]
     ]
   where
-    here : (l : Layer) (a : Aims) → Splits a (aims_at l (cs at)) (aims_at l (cs at)) → Among d (hoisted (λ i. a) at (node k n b nothing)) → Among d (hoisted (λ i. aims_at l (cs i)) at (node k n b nothing))
+    here : (l : Layer) (a : Aims) → Splits a (aims_at l (cs at)) (aims_at l (cs at)) → Among d (hoisted (λ i. a) at (node k n b nothing))
+        → Among d (hoisted (λ i. aims_at l (cs i)) at (node k n b nothing))
     here l a h j = elim (hoisted_splits (λ i. a) (λ i. aims_at l (cs at)) (λ i. aims_at l (cs at)) (λ i. h) at (node k n b nothing) d j) [
       | inl m ↦ m
       | inr m ↦ m
     ]
 
-    by : (l : Layer) → (aims_at l (cs at) ≡ record { variables = false; block = false; naming = false } → ⊥) → (a : Aims) → Splits a (aims_at l (cs at)) (aims_at l (cs at)) → Among d (hoisted (λ i. a) at (node k n b nothing)) → Declares (bindings_among (sites cs at next (node k n b nothing))) next d
+    by : (l : Layer) → (aims_at l (cs at) ≡ record { variables = false; block = false; naming = false } → ⊥) → (a : Aims) → Splits a (aims_at l (cs at)) (aims_at l (cs at))
+        → Among d (hoisted (λ i. a) at (node k n b nothing)) → Declares (bindings_among (sites cs at next (node k n b nothing))) next d
     by l used a h j = of_layer cs at next (node k n b nothing) l (outer_layer cs next at fresh l used) d (here l a h j)
 
 -- ---- at a place
 
 module _ (x : Tree) (a : Aims) (d : Decl) (i : Among d (named a x.note x.kind ++ hoisted (aims_inside no_part a x.kind x.below) 0 x.below)) where
   there_declares : (cs : ℕ → Context) (at next : ℕ) (place : Around) → Fresh cs next → Declares (bindings_among (there cs at next place (Some x))) (next + scopes_before place (Some x)) d
-  there_declares cs at next (first rest) fresh = let s = node_declares cs at next x.kind x.note x.below fresh a d i in record { site = s.site; stands = s.stands; outlies = Prim.omega (arith, s.outlies); is = s.is }
+  there_declares cs at next (first rest) fresh =
+      let s = node_declares cs at next x.kind x.note x.below fresh a d i in record { site = s.site; stands = s.stands; outlies = Prim.omega (arith, s.outlies); is = s.is }
   there_declares cs at next (behind k n b place) fresh =
-      let s = there_declares cs (suc at) (next + scope_count (node k n b nothing)) place (fresh_behind cs next (scope_count (node k n b nothing)) fresh) in record { site = s.site; stands = s.stands; outlies = Prim.omega (arith, s.outlies); is = s.is }
+      let s = there_declares cs (suc at) (next + scope_count (node k n b nothing)) place
+      (fresh_behind cs next (scope_count (node k n b nothing)) fresh) in record { site = s.site; stands = s.stands; outlies = Prim.omega (arith, s.outlies); is = s.is }
   there_declares cs at next (behind_none place) fresh = there_declares cs (suc at) next place fresh
   there_declares cs at next (under k n place rest) fresh =
       let s = there_declares (inside (cs at) next k (plug place (Some x))) 0 (next + opens_one k (plug place (Some x))) place (fresh_below cs at next k (plug place (Some x)) fresh) in
@@ -202,5 +213,6 @@ module _ (x : Tree) (a : Aims) (d : Decl) (i : Among d (named a x.note x.kind ++
   declares_before (behind k n b place) lies e = absurd cc
   declares_before (behind_none place) lies e = absurd (true≢false (sym e))
   declares_before (under (program source) n place rest) lies e =
-      let s = there_declares (inside outermost 0 (program source) (plug place (Some x))) 0 1 place (program_fresh source (plug place (Some x))) in record { site = s.site; stands = s.stands; outlies = Prim.omega (arith, s.outlies); is = s.is }
+      let s = there_declares (inside outermost 0 (program source) (plug place (Some x))) 0 1 place
+      (program_fresh source (plug place (Some x))) in record { site = s.site; stands = s.stands; outlies = Prim.omega (arith, s.outlies); is = s.is }
   declares_before (under k n place rest) lies e = absurd cc

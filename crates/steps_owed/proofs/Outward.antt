@@ -54,7 +54,9 @@ module _ (v m : Bool) (a : Aims) (h : Shuts v m a) where
   in_parameters : (b c : Bool) → Shuts b c (aims_of_parameters no_part)
   in_parameters b c = record { block = refl; variables = never; naming = never }
 
-  function_shuts : (z o : Bool) (how : FunctionKind) → Shuts (v && (if z then true else false)) (m && (if z then false else if o then false else true)) (if z then aims_of_function_name no_part a how else if o then aims_of_parameters no_part else aims_of_body no_part a)
+  function_shuts : (z o : Bool) (how : FunctionKind)
+      → Shuts (v && (if z then true else false)) (m && (if z then false else if o then false else true))
+      (if z then aims_of_function_name no_part a how else if o then aims_of_parameters no_part else aims_of_body no_part a)
   function_shuts true o function_kind.Declaration = at_name
   function_shuts true o how = at_no_name
   function_shuts false true how = in_parameters (v && false) (m && false)
@@ -130,11 +132,13 @@ behind_is vars names k n below rest e =
     second_of_both inner later (second_of_both (not (vars 0 && is_var k)) (inner && later) (second_of_both (not (names 0 && is_binding k)) (not (vars 0 && is_var k) && (inner && later)) e))
 
 -- a row that begins with a name, or with none, which declares elsewhere
-named_first : (vars names : ℕ → Bool) (aims : ℕ → Aims) (t : Forest) → (aims 0).naming ≡ false → ((i : ℕ) → 1 ≤ i → Shuts (vars i) (names i) (aims i)) → begins_with_name t ≡ true → closed vars names 0 t ≡ true → hoisted aims 0 t ≡ []
+named_first : (vars names : ℕ → Bool) (aims : ℕ → Aims) (t : Forest) → (aims 0).naming ≡ false → ((i : ℕ) → 1 ≤ i → Shuts (vars i) (names i) (aims i)) → begins_with_name t ≡ true
+    → closed vars names 0 t ≡ true → hoisted aims 0 t ≡ []
 named_first vars names aims nothing unnamed h b e = refl
 named_first vars names aims (absent rest) unnamed h b e = closed_declares vars names aims 1 rest h e
 named_first vars names aims (node (binding_name x) n nothing rest) unnamed h b e =
-    three_empty (named (aims 0) n (binding_name x)) [] (hoisted aims 1 rest) (ap (λ c. if c then record { name = x; symbol = n.id } ∷ [] else []) unnamed) refl (closed_declares vars names aims 1 rest h (behind_is vars names (binding_name x) n nothing rest e))
+    three_empty (named (aims 0) n (binding_name x)) [] (hoisted aims 1 rest) (ap (λ c. if c then record { name = x; symbol = n.id } ∷ [] else []) unnamed) refl
+    (closed_declares vars names aims 1 rest h (behind_is vars names (binding_name x) n nothing rest e))
 named_first vars names aims (node (binding_name x) n (node l m d c) rest) unnamed h b e = absurd (true≢false (sym b))
 named_first vars names aims (node (binding_name x) n (absent c) rest) unnamed h b e = absurd (true≢false (sym b))
 named_first vars names aims (node k n below rest) unnamed h b e = absurd cc
@@ -148,11 +152,13 @@ function_inside a how true o e = absurd (true≢false e)
 function_inside a how false true e = record { block = refl; variables = never; naming = never }
 function_inside a how false false e = record { block = refl; variables = never; naming = λ f. refl }
 
-class_inside : (a : Aims) (how : ClassKind) (z : Bool) → z ≡ false → Shuts (if z then false else true) (if z then false else true) (if z then aims_of_class_name no_part a how else aims_of_block no_part a)
+class_inside : (a : Aims) (how : ClassKind) (z : Bool) → z ≡ false
+    → Shuts (if z then false else true) (if z then false else true) (if z then aims_of_class_name no_part a how else aims_of_block no_part a)
 class_inside a how true e = absurd (true≢false e)
 class_inside a how false e = record { block = refl; variables = λ f. refl; naming = λ f. refl }
 
-function_declares : (a : Aims) (how : FunctionKind) (pure : Bool) (below : Forest) → (aims_of_function_name no_part a how).naming ≡ false → is_enclosed_at (function how pure) below ≡ true → hoisted (aims_inside no_part a (function how pure) below) 0 below ≡ []
+function_declares : (a : Aims) (how : FunctionKind) (pure : Bool) (below : Forest) → (aims_of_function_name no_part a how).naming ≡ false
+    → is_enclosed_at (function how pure) below ≡ true → hoisted (aims_inside no_part a (function how pure) below) 0 below ≡ []
 function_declares a how pure below unnamed e =
     named_first none (inherits (function how pure)) (aims_inside no_part a (function how pure) below) below unnamed (λ i h. function_inside a how (i == 0) (i == 1) (not_first i h))
     (first_of_both (begins_with_name below) (closed none (inherits (function how pure)) 0 below) e) (second_of_both (begins_with_name below) (closed none (inherits (function how pure)) 0 below) e)
@@ -165,7 +171,8 @@ class_declares a below e =
 
 -- ---- trees
 
-node_declares : (a : Aims) (k : Kind) (n : Note) (below : Forest) → declares_none_at k (declares_none below) ≡ true → is_enclosed_at k below ≡ true → (declares_none below ≡ true → (aims : ℕ → Aims) → hoisted aims 0 below ≡ [])
+node_declares : (a : Aims) (k : Kind) (n : Note) (below : Forest) → declares_none_at k (declares_none below) ≡ true → is_enclosed_at k below ≡ true
+    → (declares_none below ≡ true → (aims : ℕ → Aims) → hoisted aims 0 below ≡ [])
     → named a n k ++ hoisted (aims_inside no_part a k below) 0 below ≡ []
 node_declares a (binding_name x) n below h e inner = absurd (true≢false (sym h))
 node_declares a (function function_kind.Declaration pure) n below h e inner = absurd (true≢false (sym h))
@@ -181,7 +188,8 @@ declares_nothing (absent rest) h e aims at = declares_nothing rest h e aims (suc
 declares_nothing (node k n below rest) h e aims at =
     let e_below = second_of_both (is_enclosed_at k below) (is_enclosed below && is_enclosed rest) e in
     ap₂ (λ ds es. ds ++ es)
-    (node_declares (aims at) k n below (first_of_both (declares_none_at k (declares_none below)) (declares_none rest) h) (first_of_both (is_enclosed_at k below) (is_enclosed below && is_enclosed rest) e)
+    (node_declares (aims at) k n below (first_of_both (declares_none_at k (declares_none below)) (declares_none rest) h)
+    (first_of_both (is_enclosed_at k below) (is_enclosed below && is_enclosed rest) e)
     (λ g f. declares_nothing below g (first_of_both (is_enclosed below) (is_enclosed rest) e_below) f 0))
     (declares_nothing rest (second_of_both (declares_none_at k (declares_none below)) (declares_none rest) h) (second_of_both (is_enclosed below) (is_enclosed rest) e_below) aims (suc at))
 

@@ -43,7 +43,8 @@ module _ (k l : Kind) (i j : Note) (b p q r : Forest) (plain : Plain k) (before 
   loses_same : (ds es : List Decl) → ds ≡ es → Loses none_gone ds es
   loses_same ds es e = subst (Loses none_gone ds) e (record { found = λ x. inl refl; among = λ d h. h })
 
-  pub part_keeps : (place : Rooted) → SameScopes (place_in place) (node k i (joined p (node l j b q)) r) (node l j b r) → (s : Scoping) → IsKept s (program_with place (node k i (joined p (node l j b q)) r)) → IsKept s (program_with place (node l j b r))
+  pub part_keeps : (place : Rooted) → SameScopes (place_in place) (node k i (joined p (node l j b q)) r) (node l j b r) → (s : Scoping)
+      → IsKept s (program_with place (node k i (joined p (node l j b q)) r)) → IsKept s (program_with place (node l j b r))
   part_keeps place scopes s kept =
       let t = node k i (joined p (node l j b q)) r in
       let u = node l j b r in
@@ -65,5 +66,6 @@ parts_kept a x y part is s kept =
     let stands : node x.kind x.note x.below rest ≡ node x.kind x.note whole rest = ap (λ t. node x.kind x.note t rest) part.stands in
     subst (IsKept s) (sym (place.with_node y))
     (part_keeps x.kind y.kind x.note y.note y.below part.before part.after rest part.plain part.before_declares part.after_declares place.rooted
-    (subst (λ b. SameScopes b (node x.kind x.note whole rest) (node y.kind y.note y.below rest)) (sym place.place_is) (same_scopes x.kind y.kind x.note y.note whole y.below rest (place_of place.inner))) s
+    (subst (λ b. SameScopes b (node x.kind x.note whole rest) (node y.kind y.note y.below rest)) (sym place.place_is)
+    (same_scopes x.kind y.kind x.note y.note whole y.below rest (place_of place.inner))) s
     (subst (IsKept s) (place.with_node x ∙ ap (program_with place.rooted) stands) kept))

@@ -47,7 +47,8 @@ count_staying away r (i ∷ ids) = go (away i) (away r) (nat_eq r i) refl refl r
     apart : (b : Bool) → nat_eq r i ≡ true → away i ≡ true → away r ≡ b → b ≡ true
     apart b e h g = sym g ∙ ap away (eqb-true r i e) ∙ h
 
-    go : (b c e : Bool) → away i ≡ b → away r ≡ c → nat_eq r i ≡ e → count r (staying away ids) ≡ cond c 0 (count r ids) → count r (if b then staying away ids else i ∷ staying away ids) ≡ cond c 0 (cond e 1 0 + count r ids)
+    go : (b c e : Bool) → away i ≡ b → away r ≡ c → nat_eq r i ≡ e → count r (staying away ids) ≡ cond c 0 (count r ids)
+        → count r (if b then staying away ids else i ∷ staying away ids) ≡ cond c 0 (cond e 1 0 + count r ids)
     go true true e h g f later = later
     go true false true h g f later = absurd (true≢false (sym (apart false f h g)))
     go true false false h g f later = Prim.omega (arith, later)

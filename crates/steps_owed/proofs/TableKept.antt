@@ -1,19 +1,16 @@
 -- An edit of a program leaves a table that is exact, with shorter lists: by shape.
-use Rattle.std.proofs.Common.{◌≡◌, ◌∙◌, ◌<◌, ◌⊎◌, inl, inr, Bool, true, false, true≢false, Option, Some, refl, sym, ap, arith}
+use Rattle.std.proofs.Common.{◌≡◌, ◌∙◌, inl, inr, Bool, true, false, true≢false, Some, refl, sym, ap}
 use Rattle.js_syntax.specs.declared.node_kind.NodeKind.{NodeKind as Kind}
-use Rattle.js_syntax.specs.declared.node_kind.NodeKind.TheVariants.{Program as program, Statements as statements, VariableDeclaration as variable_declaration, Declarators as declarators, EmptyStatement as empty_statement, ExpressionStatement as expression_statement}
-use Rattle.js_syntax.specs.Node.{Forest, Tree, Note, nothing, node, alone}
+use Rattle.js_syntax.specs.declared.node_kind.NodeKind.TheVariants.{Statements as statements, VariableDeclaration as variable_declaration, Declarators as declarators, EmptyStatement as empty_statement, ExpressionStatement as expression_statement}
+use Rattle.js_syntax.specs.Node.{Forest, Tree, Note, nothing, alone}
 use Rattle.min_pass.specs.declared.around.Around.{Around as Asked}
 use Rattle.min_pass.specs.declared.around.Row.{Row}
 use Rattle.min_pass.specs.declared.around.Row.TheVariants.{Items as items, OfItem as of_item, Declarators as item_declarators, Other as other}
 use Rattle.min_pass.specs.Around.{row_below, entered as asked_below, outermost as asked_of_program}
-use Rattle.scope_rules.specs.Context.{opens}
-use Rattle.scope_rules.specs.Site.{bit, opens_one}
 use Rattle.scope_rules.specs.Table.{Scoping}
-use Rattle.scope_laws.specs.Place.{Around, first, behind, behind_none, under, plug, scopes_before}
+use Rattle.scope_laws.specs.Place.{Around, first, behind, behind_none, under, plug}
 use Rattle.scope_laws.specs.Lists.{is_list, is_listed, without}
 use Rattle.steps_allowed.specs.Places.{a_node, asked_at, At}
-use Rattle.steps_allowed.specs.Calls.{of_program}
 use Rattle.steps_allowed.specs.SilentStatement.{a_statement, SilentStatement}
 use Rattle.steps_fit.specs.Enclosed.{is_enclosed}
 use Rattle.steps_owed.specs.Kept.{is_program, IsKept}

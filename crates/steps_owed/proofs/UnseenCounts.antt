@@ -1,16 +1,16 @@
 -- The table stays exact, with shorter lists, when a node leaves a list or becomes empty, where what it declares is unseen.
-use Rattle.std.proofs.Common.{◌≡◌, ◌∙◌, ◌<◌, ◌≤◌, inl, inr, ℕ, Bool, true, false, List, [], ◌∷◌, ◌++◌, Option, Some, None, slice_get, true≢false, refl, sym, ap, subst, arith}
+use Rattle.std.proofs.Common.{◌≡◌, ◌∙◌, inl, inr, ℕ, Bool, true, false, List, [], ◌∷◌, Option, Some, true≢false, refl, sym, ap, subst, arith}
 use Rattle.js_syntax.specs.declared.node_kind.NodeKind.{NodeKind as Kind}
 use Rattle.js_syntax.specs.declared.node_kind.NodeKind.TheVariants.{PropertyDefinition as property_definition, EmptyStatement as empty_statement}
-use Rattle.js_syntax.specs.Node.{Forest, Tree, Note, nothing, node, absent}
+use Rattle.js_syntax.specs.Node.{Forest, Tree, Note, nothing, node}
 use Rattle.scope_rules.specs.Context.{is_there, has_second, opens}
-use Rattle.scope_rules.specs.Site.{BindingSite, sites_of, bindings_among, references_among}
+use Rattle.scope_rules.specs.Site.{BindingSite, sites_of, bindings_among}
 use Rattle.scope_rules.specs.Table.{Symbol, Scoping}
 use Rattle.scope_laws.specs.Exact.{Among, Exact}
-use Rattle.scope_laws.specs.Place.{Around, plug, scopes_before}
+use Rattle.scope_laws.specs.Place.{Around, plug}
 use Rattle.scope_laws.specs.Lists.{is_list, without, is_listed}
 use Rattle.scope_laws.proofs.Around.{stands_there}
-use Rattle.scope_counts.specs.Counts.{Decl, Aims, no_part, aims_inside, named, hoisted, uses}
+use Rattle.scope_counts.specs.Counts.{Decl}
 use Rattle.scope_counts.specs.Exact.{count, references_of, lists_of}
 use Rattle.scope_counts.specs.Edits as counts
 use Rattle.scope_counts.specs.Edits.{Rooted, program_with, place_in, SameScopes, in_list}
@@ -108,7 +108,8 @@ module _ (a : Around) (x : Tree) (unseen : IsUnseen a (Some x)) (is : is_program
       let in_it : in_list false (place_in p) ≡ true = sym place.listed ∙ listed in
       subst (IsKept s) (sym place.with_none)
       (kept_but_marks p (left whole rest) whole rest s old
-      (exact_without (unlisted old.table) p x.kind x.note x.below rest gone (listed_scopes whole rest (place_in p) false in_it) in_it (users_leave old.table p whole rest exact) old.table unmarked (left whole rest) (λ r. refl) exact))
+      (exact_without (unlisted old.table) p x.kind x.note x.below rest gone (listed_scopes whole rest (place_in p) false in_it) in_it
+      (users_leave old.table p whole rest exact) old.table unmarked (left whole rest) (λ r. refl) exact))
 
   -- an empty statement comes in its place
   pub unseen_empties : IsInside a → (n : Note) (s : Scoping) → IsKept s (plug a (Some x)) → IsKept s (plug a (Some (record { kind = empty_statement; note = n; below = nothing })))
@@ -120,6 +121,8 @@ module _ (a : Around) (x : Tree) (unseen : IsUnseen a (Some x)) (is : is_program
       let old : IsKept s (program_with p whole) = subst (IsKept s) (place.with_node x) kept in
       let exact : ExactButMarks old.table unmarked (program_with p whole) = (exact_with p whole old.table).0 old.exact in
       let gone = declares_gone inside old.table (subst (Exact old.table) (sym (place.with_node x)) old.exact) in
-      let scopes : SameScopes (place_in p) whole empty = subst (λ b. SameScopes b whole empty) (sym place.place_is) (same_scopes x.kind empty_statement x.note n x.below nothing rest (place_of place.inner)) in
+      let scopes : SameScopes (place_in p) whole empty = subst (λ b. SameScopes b whole empty) (sym place.place_is)
+      (same_scopes x.kind empty_statement x.note n x.below nothing rest (place_of place.inner)) in
       subst (IsKept s) (sym (place.with_node (record { kind = empty_statement; note = n; below = nothing })))
-      (kept_but_marks p (left whole empty) whole empty s old (exact_emptied (unlisted old.table) p x.kind x.note n x.below rest gone scopes (users_leave old.table p whole empty exact) old.table unmarked (left whole empty) (λ r. refl) exact))
+      (kept_but_marks p (left whole empty) whole empty s old
+      (exact_emptied (unlisted old.table) p x.kind x.note n x.below rest gone scopes (users_leave old.table p whole empty exact) old.table unmarked (left whole empty) (λ r. refl) exact))
