@@ -244,7 +244,7 @@ one_gone z o t = ap (λ (g : Bound). carried_of (is_owner o) owner_in g None t) 
 
 -- ---- what is held dead
 
-dead_counts : (skips : Kind → Forest → Bool) (g : Bound) (ws : ℕ → Weight) (at : ℕ) (t : Forest) → carried (λ lives. lives) (lives_in skips) g ws at false t ≡ 0
+pub dead_counts : (skips : Kind → Forest → Bool) (g : Bound) (ws : ℕ → Weight) (at : ℕ) (t : Forest) → carried (λ lives. lives) (lives_in skips) g ws at false t ≡ 0
 dead_counts skips g ws at nothing = refl
 dead_counts skips g ws at (absent t) = dead_counts skips g ws (suc at) t
 dead_counts skips g ws at (node k n b t) = Prim.omega (arith, dead_counts skips g (weights_inside g k b (ws at)) 0 b, dead_counts skips g ws (suc at) t)

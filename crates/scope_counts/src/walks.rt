@@ -6,9 +6,9 @@ ghost use Rattle.js_syntax.specs.Node.{Forest, Note, node, joined};
 ghost use Rattle.scope_rules.specs.Table.{Scoping};
 ghost use Rattle.scope_counts.specs.Counts.{Bound, Weight, own, refs_of, symbol_with};
 ghost use Rattle.scope_counts.specs.Edits.{Rooted, program_with, place_in, SameScopes, in_list};
-ghost use Rattle.scope_counts.specs.Losing.{gone_with, LosesOutward, UsersLeave, DeclaresGone, Plain};
+ghost use Rattle.scope_counts.specs.Losing.{is_gone, gone_with, LosesOutward, UsersLeave, DeclaresGone, Plain};
 ghost use Rattle.scope_counts.specs.Scopes.{ExactButMarks};
-ghost use Rattle.scope_counts.specs.Walks.{SameEntries, is_owner, owner_in, calls, calls_gone, lives_in, living};
+ghost use Rattle.scope_counts.specs.Walks.{SameEntries, to_symbol, to_gone, is_owner, owner_in, calls, calls_gone, lives_in, is_dead, living};
 
 /// Where a node leaves a list, or a part stands in the place of a whole, and what uses something that is gone leaves with it, a
 /// function's declaration refers to no symbol more often than it did.
@@ -41,6 +41,14 @@ pub fn uncalled_nodes_may_leave()
 pub fn what_lives_is_counted()
     ensures { (g : Bound) (source : SourceType) (n : Note) (below rest : Forest) →
         let t = node (Kind.Program source) n below rest in living (λ k b. false) g t ≡ refs_of g t }
+{}
+
+/// What no living function refers to, and nothing outside of functions, isn't counted where the dead are left out.
+pub fn what_no_living_function_calls_is_not_counted()
+    ensures symbol { (dead : ℕ → Bool) (s : ℕ) (source : SourceType) (n : Note) (below rest : Forest) →
+        let t = node (Kind.Program source) n below rest in ((o : Option ℕ) → is_gone dead o ≡ false → calls o s t ≡ 0) → living (is_dead dead) (to_symbol s) t ≡ 0 }
+    ensures gone { (dead gone : ℕ → Bool) (source : SourceType) (n : Note) (below rest : Forest) →
+        let t = node (Kind.Program source) n below rest in ((o : Option ℕ) → is_gone dead o ≡ false → calls_gone gone o t ≡ 0) → living (is_dead dead) (to_gone gone) t ≡ 0 }
 {}
 
 /// A declaration that is held dead may leave a list: nothing counts otherwise, if nothing that lives refers to what is gone.
