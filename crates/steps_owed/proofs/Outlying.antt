@@ -149,21 +149,22 @@ outer_layer cs next i fresh l used = elim (below_or_above l.scope next) [
   | inr h ↦ absurd (used (fresh l h i))
 ]
 
-pub record Declares (bs : List BindingSite) (limit : ℕ) (d : Decl) : Type 0 where
+-- one of these sites declares it, in a scope whose number is below the limit
+pub record IsDeclaredBefore (bs : List BindingSite) (limit : ℕ) (d : Decl) : Type 0 where
   pub site : BindingSite
   pub stands : Among site bs
   pub outlies : site.layer.scope < limit
   pub is : record { name = site.name; symbol = site.id } ≡ d
 
 of_layer : (cs : ℕ → Context) (at next : ℕ) (t : Forest) (l : Layer) → l.scope < next → (d : Decl) → Among d (hoisted (λ i. aims_at l (cs i)) at t)
-    → Declares (bindings_among (sites cs at next t)) next d
+    → IsDeclaredBefore (bindings_among (sites cs at next t)) next d
 of_layer cs at next t l h d i =
     let x = from_decls l (bindings_among (sites cs at next t)) d (subst (Among d) (sym (hoisted_are l cs (λ i. aims_at l (cs i)) at next t h (λ i. refl))) i) in
     record { site = x.site; stands = x.stands; outlies = subst (λ (m : Layer). m.scope < next) (sym x.there) h; is = x.is }
 
 -- a name that the node declares outward stands in a layer of the context
 node_declares : (cs : ℕ → Context) (at next : ℕ) (k : Kind) (n : Note) (b : Forest) → Fresh cs next → (a : Aims) (d : Decl)
-    → Among d (named a n k ++ hoisted (aims_inside no_part a k b) 0 b) → Declares (bindings_among (sites cs at next (node k n b nothing))) next d
+    → Among d (named a n k ++ hoisted (aims_inside no_part a k b) 0 b) → IsDeclaredBefore (bindings_among (sites cs at next (node k n b nothing))) next d
 node_declares cs at next k n b fresh a d i =
     let t = node k n b nothing in
     let c = cs at in
@@ -187,13 +188,13 @@ node_declares cs at next k n b fresh a d i =
     ]
 
     by : (l : Layer) → (aims_at l (cs at) ≡ record { variables = false; block = false; naming = false } → ⊥) → (a : Aims) → Splits a (aims_at l (cs at)) (aims_at l (cs at))
-        → Among d (hoisted (λ i. a) at (node k n b nothing)) → Declares (bindings_among (sites cs at next (node k n b nothing))) next d
+        → Among d (hoisted (λ i. a) at (node k n b nothing)) → IsDeclaredBefore (bindings_among (sites cs at next (node k n b nothing))) next d
     by l used a h j = of_layer cs at next (node k n b nothing) l (outer_layer cs next at fresh l used) d (here l a h j)
 
 -- ---- at a place
 
 module _ (x : Tree) (a : Aims) (d : Decl) (i : Among d (named a x.note x.kind ++ hoisted (aims_inside no_part a x.kind x.below) 0 x.below)) where
-  there_declares : (cs : ℕ → Context) (at next : ℕ) (place : Around) → Fresh cs next → Declares (bindings_among (there cs at next place (Some x))) (next + scopes_before place (Some x)) d
+  there_declares : (cs : ℕ → Context) (at next : ℕ) (place : Around) → Fresh cs next → IsDeclaredBefore (bindings_among (there cs at next place (Some x))) (next + scopes_before place (Some x)) d
   there_declares cs at next (first rest) fresh =
       let s = node_declares cs at next x.kind x.note x.below fresh a d i in record { site = s.site; stands = s.stands; outlies = Prim.omega (arith, s.outlies); is = s.is }
   there_declares cs at next (behind k n b place) fresh =
@@ -205,7 +206,7 @@ module _ (x : Tree) (a : Aims) (d : Decl) (i : Among d (named a x.note x.kind ++
       record { site = s.site; stands = s.stands; outlies = Prim.omega (arith, s.outlies); is = s.is }
 
   -- in a program
-  pub declares_before : (place : Around) → IsInside place → is_program (plug place (Some x)) ≡ true → Declares (bindings_among (sites_there place (Some x))) (scopes_before place (Some x)) d
+  pub declares_before : (place : Around) → IsInside place → is_program (plug place (Some x)) ≡ true → IsDeclaredBefore (bindings_among (sites_there place (Some x))) (scopes_before place (Some x)) d
   declares_before (first rest) lies e = absurd (lies rest refl)
   declares_before (behind (program source) n b place) lies e =
       let s = there_declares (λ at. outermost) 1 (0 + scope_count (node (program source) n b nothing)) place (outside_fresh (0 + scope_count (node (program source) n b nothing)) (Prim.omega arith)) in
