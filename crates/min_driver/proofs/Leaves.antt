@@ -8,14 +8,14 @@ use Rattle.js_scoping.specs.Build.{numbered}
 use Rattle.scope_rules.specs.Table.{Scoping}
 use Rattle.steps_allowed.specs.Edits.{Edits, no_edit}
 use Rattle.json_shape.specs.Shape.{Fits}
-use Rattle.headline.proofs.Passes.{numbered_same}
+use Rattle.headline.proofs.Passes.{numbered_same, numbered_fits}
 use Rattle.headline.proofs.Renoted.{clean_as}
 use Rattle.headline.proofs.Shaking.{shaken_clean}
 use Rattle.min_passes.specs.Passes.{shaken}
 use Rattle.headline.proofs.Headline.{numbered_comes, kept_by, back_by}
 use Rattle.steps_fit.proofs.Sensible.{sensible}
 use Rattle.steps_owed.proofs.Edited.{edits_sensible}
-use Rattle.steps_left.proofs.Fitting.{numbered_fits, left_fits}
+use Rattle.steps_left.proofs.Fitting.{left_fits}
 use Rattle.steps_left.proofs.Size.{left_nodes, left_levels, marked_nodes, marked_levels}
 use Rattle.min_passes.specs.Built.{Built}
 use Rattle.min_driver.specs.Left.{IsLeft}
