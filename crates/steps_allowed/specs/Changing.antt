@@ -2,7 +2,7 @@
 -- isn't asked.
 use Rattle.std.specs.Prelude.{ℕ, suc, Bool, true, false, not, ◌&&◌, ◌||◌}
 use Rattle.js_syntax.specs.declared.node_kind.NodeKind.{NodeKind as Kind}
-use Rattle.js_syntax.specs.declared.node_kind.NodeKind.TheVariants.{EmptyStatement as empty_statement, ExpressionStatement as expression_statement, Function as function, VariableDeclaration as variable_declaration, VariableDeclarator as variable_declarator, ConditionalExpression as conditional_expression, IfStatement as if_statement, Literal as literal}
+use Rattle.js_syntax.specs.declared.node_kind.NodeKind.TheVariants.{EmptyStatement as empty_statement, ExpressionStatement as expression_statement, Function as function, VariableDeclaration as variable_declaration, VariableDeclarator as variable_declarator, Program as program, Statements as statements, Declarators as declarators, Parameters as parameters, FunctionBody as function_body, BlockStatement as block_statement, CallExpression as call_expression, Arguments as arguments, BindingName as binding_name, ReferenceName as reference_name, Literal as literal}
 use Rattle.js_syntax.specs.declared.kind.FunctionKind.TheVariants as function_kind
 use Rattle.js_syntax.specs.Node.{Forest, nothing, node, absent}
 use Rattle.min_pass.specs.declared.around.Around.{Around as Asked}
@@ -20,9 +20,20 @@ abbrev pub holds_declarators : Row → Bool
 holds_declarators item_declarators = true
 holds_declarators row = false
 
-abbrev pub begins_with_literal : Forest → Bool
-begins_with_literal (node (literal v) n below rest) = true
-begins_with_literal t = false
+-- kinds of which no edit makes anything, and which none takes out of a list
+abbrev pub always_stays : Kind → Bool
+always_stays (program source) = true
+always_stays statements = true
+always_stays declarators = true
+always_stays parameters = true
+always_stays function_body = true
+always_stays block_statement = true
+always_stays (call_expression pure optional) = true
+always_stays arguments = true
+always_stays (binding_name x) = true
+always_stays (reference_name x) = true
+always_stays (literal v) = true
+always_stays k = false
 
 -- Of a node; `evaluates` says whether the program has a direct call of `eval` somewhere.
 abbrev pub may_change_at : (evaluates : Bool) → Asked → Exposure → Kind → (below : Forest) → Bool
@@ -31,9 +42,7 @@ may_change_at evaluates w e expression_statement below = not (begins_with_call b
 may_change_at evaluates w e (function function_kind.Declaration pure) below = holds_items w.row && not (function_is_exposed e)
 may_change_at evaluates w e variable_declarator below = holds_declarators w.row && not (e.declared_shared || evaluates)
 may_change_at evaluates w e (variable_declaration how) below = holds_items w.row && not (shares e how || evaluates)
-may_change_at evaluates w e conditional_expression below = begins_with_literal below
-may_change_at evaluates w e if_statement below = begins_with_literal below
-may_change_at evaluates w e k below = false
+may_change_at evaluates w e k below = not (always_stays k)
 
 -- of a row
 abbrev pub may_change : (evaluates : Bool) → Asked → (exposures : ℕ → Exposure) → (at : ℕ) → Forest → Bool

@@ -20,7 +20,7 @@ use Rattle.steps_allowed.specs.Places.{a_node, asked_at}
 use Rattle.steps_owed.specs.Owed.{MayChange}
 use Rattle.steps_owed.proofs.Calling.{bare_begins}
 use Rattle.steps_allowed.specs.Exposure.{Exposure, declaring, is_script_source, is_script, at_function_name, at_class_name, exposed_inside, exposed_of, exposed_at, exposure, evaluates_somewhere}
-use Rattle.steps_allowed.specs.Changing.{begins_with_literal, may_change_at, may_change, may_change_somewhere}
+use Rattle.steps_allowed.specs.Changing.{may_change_at, may_change, may_change_somewhere}
 use Rattle.steps_owed.proofs.Calling.{bare_begins, silent_is_no_call, there}
 use Rattle.js_syntax.proofs.Truth.{first_of_either, second_of_either}
 
@@ -132,17 +132,9 @@ bare_inside (kind.VariableDeclaration how) e below at = refl
 bare_inside (kind.ImportDeclaration source) e below at = refl
 bare_inside k e below at = refl
 
-bare_literal : (t : Forest) → begins_with_literal (bare t) ≡ begins_with_literal t
-bare_literal nothing = refl
-bare_literal (absent rest) = refl
-bare_literal (node (kind.Literal v) n below rest) = refl
-bare_literal (node k n below rest) = refl
-
 bare_at : (evaluates : Bool) (w : Asked) (e : Exposure) (k : Kind) (below : Forest) → may_change_at evaluates w e k (bare below) ≡ may_change_at evaluates w e k below
 bare_at evaluates w e kind.ExpressionStatement below = ap not (bare_begins below)
 bare_at evaluates w e (kind.Function function_kind.Declaration pure) below = refl
-bare_at evaluates w e kind.ConditionalExpression below = bare_literal below
-bare_at evaluates w e kind.IfStatement below = bare_literal below
 bare_at evaluates w e k below = refl
 
 bare_row : (evaluates : Bool) (w : Asked) (es fs : ℕ → Exposure) (at : ℕ) (t : Forest) → ((i : ℕ) → es i ≡ fs i) → may_change evaluates w es at (bare t) ≡ may_change evaluates w fs at t
