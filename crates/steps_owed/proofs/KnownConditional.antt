@@ -3,6 +3,7 @@ use Rattle.std.proofs.Common.{◌≡◌, [], ◌∷◌, true, false, Some, arith
 use Rattle.js_syntax.specs.Class.{Class, root, expression}
 use Rattle.js_syntax.specs.declared.node_kind.NodeKind.{NodeKind as Kind}
 use Rattle.js_syntax.specs.declared.node_kind.NodeKind.TheVariants.{Literal as literal}
+use Rattle.js_syntax.specs.declared.value.LiteralValue.{LiteralValue}
 use Rattle.js_syntax.specs.Node.{Note, Forest, Tree, nothing, node}
 use Rattle.js_meaning.specs.Scope.{bound_names}
 use Rattle.js_meaning_near.specs.Near.{is_calm, module_of}
@@ -126,26 +127,19 @@ module _ (n m : Note) (b : Forest) (a : Around) (x y : Tree) (is : plug a (Some 
   comes : KnownConditional x y → x.kind ≡ Kind.ConditionalExpression → Comes x y
   comes known kind = conditional_comes x y known (record { bound = conditional_bounds kind; imports = no_imports_below n m b a x y is fits form core Kind.ConditionalExpression kind refl (λ p i. refl) })
 
+known_owes : (n m : Note) (v : LiteralValue) (branches : Forest) (a : Around) (y : Tree) → KnownConditional (a_conditional n m v branches) y → ByPart a (a_conditional n m v branches) y
+known_owes n m v branches a y known =
+    let x = a_conditional n m v branches in
+    record {
+      weighs = Prim.omega arith;
+      no_call = record { counts = refl; lists = λ i. refl; begins = λ i. refl; calls = refl };
+      may_change = refl;
+      takes = conditional_takes x y known;
+      stands = conditional_stands x y known;
+      part = conditional_is_part a x y known;
+      coming = λ o p r is fits form core. comes o p r a x y is fits form core known refl;
+    }
+
 pub known_conditional_owes : (a : Around) (x y : Tree) → KnownConditional x y → ByPart a x y
-known_conditional_owes a x y (consequent_is_taken v n m i j k l b c truth blunt) =
-    let known = consequent_is_taken v n m i j k l b c truth blunt in
-    record {
-      weighs = Prim.omega arith;
-      no_call = record { counts = refl; lists = λ m. refl; begins = λ m. refl; calls = refl };
-      may_change = refl;
-      takes = conditional_takes x y known;
-      stands = conditional_stands x y known;
-      part = conditional_is_part a x y known;
-      coming = λ o p r is fits form core. comes o p r a x y is fits form core known refl;
-    }
-known_conditional_owes a x y (alternate_is_taken v n m i j k l b c truth blunt) =
-    let known = alternate_is_taken v n m i j k l b c truth blunt in
-    record {
-      weighs = Prim.omega arith;
-      no_call = record { counts = refl; lists = λ m. refl; begins = λ m. refl; calls = refl };
-      may_change = refl;
-      takes = conditional_takes x y known;
-      stands = conditional_stands x y known;
-      part = conditional_is_part a x y known;
-      coming = λ o p r is fits form core. comes o p r a x y is fits form core known refl;
-    }
+known_conditional_owes a x y (consequent_is_taken v n m i j k l b c truth blunt) = known_owes n m v (node k i b (node l j c nothing)) a y (consequent_is_taken v n m i j k l b c truth blunt)
+known_conditional_owes a x y (alternate_is_taken v n m i j k l b c truth blunt) = known_owes n m v (node k i b (node l j c nothing)) a y (alternate_is_taken v n m i j k l b c truth blunt)

@@ -3,6 +3,7 @@ use Rattle.std.proofs.Common.{◌≡◌, ◌&&◌, [], ◌∷◌, true, false, S
 use Rattle.js_syntax.specs.Class.{Class, root}
 use Rattle.js_syntax.specs.declared.node_kind.NodeKind.{NodeKind as Kind}
 use Rattle.js_syntax.specs.declared.node_kind.NodeKind.TheVariants.{Literal as literal, IfStatement as if_statement}
+use Rattle.js_syntax.specs.declared.value.LiteralValue.{LiteralValue}
 use Rattle.js_syntax.specs.Node.{Note, Forest, Tree, nothing, node}
 use Rattle.js_meaning.specs.Scope.{import_decls}
 use Rattle.js_meaning.specs.Value.{Text}
@@ -123,26 +124,19 @@ if_comes _ _ (alternate_is_run v n m i j k l b c truth branch none) h =
       core = alternate_core Kind.IfStatement k l n m i j (Kind.Literal v) b c;
     }
 
+known_owes : (n m : Note) (v : LiteralValue) (branches : Forest) (a : Around) (y : Tree) → KnownIf (an_if n m v branches) y → ByPart a (an_if n m v branches) y
+known_owes n m v branches a y known =
+    let x = an_if n m v branches in
+    record {
+      weighs = Prim.omega arith;
+      no_call = record { counts = refl; lists = λ i. refl; begins = λ i. refl; calls = refl };
+      may_change = refl;
+      takes = if_takes x y known;
+      stands = if_stands x y known;
+      part = λ fits. if_is_part a x y known (fits_enclosed (plug a (Some x)) fits);
+      coming = λ o p r is fits form core. if_comes x y known (no_imports_below o p r a x y is fits form core if_statement refl refl (λ q i. refl));
+    }
+
 pub known_if_owes : (a : Around) (x y : Tree) → KnownIf x y → ByPart a x y
-known_if_owes a x y (consequent_is_run v n m i k b alternate truth branch field none) =
-    let known = consequent_is_run v n m i k b alternate truth branch field none in
-    record {
-      weighs = Prim.omega arith;
-      no_call = record { counts = refl; lists = λ m. refl; begins = λ m. refl; calls = refl };
-      may_change = refl;
-      takes = if_takes x y known;
-      stands = if_stands x y known;
-      part = λ fits. if_is_part a x y known (fits_enclosed (plug a (Some x)) fits);
-      coming = λ o p r is fits form core. if_comes x y known (no_imports_below o p r a x y is fits form core if_statement refl refl (λ p i. refl));
-    }
-known_if_owes a x y (alternate_is_run v n m i j k l b c truth branch none) =
-    let known = alternate_is_run v n m i j k l b c truth branch none in
-    record {
-      weighs = Prim.omega arith;
-      no_call = record { counts = refl; lists = λ m. refl; begins = λ m. refl; calls = refl };
-      may_change = refl;
-      takes = if_takes x y known;
-      stands = if_stands x y known;
-      part = λ fits. if_is_part a x y known (fits_enclosed (plug a (Some x)) fits);
-      coming = λ o p r is fits form core. if_comes x y known (no_imports_below o p r a x y is fits form core if_statement refl refl (λ p i. refl));
-    }
+known_if_owes a x y (consequent_is_run v n m i k b alternate truth branch field none) = known_owes n m v (node k i b alternate) a y (consequent_is_run v n m i k b alternate truth branch field none)
+known_if_owes a x y (alternate_is_run v n m i j k l b c truth branch none) = known_owes n m v (node k i b (node l j c nothing)) a y (alternate_is_run v n m i j k l b c truth branch none)
