@@ -1,5 +1,5 @@
 -- The definitions, tried on small programs.
-use Rattle.std.proofs.Common.{[], ◌∷◌, pos, false, true≢false, inl, inr, refl, sym, Some}
+use Rattle.std.proofs.Common.{[], ◌∷◌, pos, false, true≢false, inl, inr, refl, sym}
 use Rattle.js_syntax.specs.declared.node_kind.NodeKind.{NodeKind as Kind}
 use Rattle.js_syntax.specs.declared.kind.VariableKind.TheVariants as variable
 use Rattle.js_syntax.specs.declared.value.LiteralValue.TheVariants as value

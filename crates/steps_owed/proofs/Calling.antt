@@ -1,9 +1,8 @@
 -- No edit takes a call out of a program's own list.
-use Rattle.std.proofs.Common.{◌≡◌, ◌≤◌, ◌⊎◌, subst, ◌∙◌, ◌+◌, ℕ, suc, [], ◌∷◌, List, Bool, true, false, true≢false, ◌||◌, Option, Some, inl, inr, arith, refl, sym, ap, ap₂}
+use Rattle.std.proofs.Common.{◌≡◌, ◌≤◌, ◌⊎◌, subst, ◌∙◌, ◌+◌, ℕ, suc, List, Bool, true, false, true≢false, ◌||◌, Option, Some, inl, inr, arith, refl, sym, ap, ap₂}
 use Rattle.js_syntax.specs.declared.node_kind.NodeKind.{NodeKind as Kind}
 use Rattle.js_syntax.specs.declared.node_kind.NodeKind.TheVariants.{Program as program, Statements as statements, ExpressionStatement as expression_statement, CallExpression as call_expression}
 use Rattle.js_syntax.specs.Node.{Forest, Tree, Note, nothing, node, absent, alone, bare}
-use Rattle.form_rules.specs.Samples.{a_module, one, does}
 use Rattle.min_pass.specs.declared.around.Around.{Around as Asked}
 use Rattle.min_pass.specs.declared.around.Row.{Row}
 use Rattle.min_pass.specs.declared.around.Row.TheVariants.{Items as items, Declarators as item_declarators}

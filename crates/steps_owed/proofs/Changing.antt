@@ -1,27 +1,23 @@
 -- Where nothing may change, nothing does.
-use Rattle.std.proofs.Common.{◌≡◌, ◌∙◌, ◌==◌, ℕ, suc, [], ◌∷◌, Bool, true, false, not, ◌&&◌, ◌||◌, true≢false, if◌then◌else◌, Some, None, is_some, codes, bytes_eq, arith, refl, sym, ap, ap₂}
-use Rattle.std.proofs.lemmas.Bool.{and_from}
+use Rattle.std.proofs.Common.{◌≡◌, ◌∙◌, ◌==◌, ℕ, suc, Bool, true, false, not, ◌&&◌, ◌||◌, if◌then◌else◌, Some, None, is_some, codes, bytes_eq, refl, ap, ap₂}
 use Rattle.js_syntax.specs.declared.node_kind.NodeKind.{NodeKind as Kind}
 use Rattle.js_syntax.specs.declared.node_kind.NodeKind.TheVariants as kind
 use Rattle.js_syntax.specs.declared.kind.FunctionKind.TheVariants as function_kind
-use Rattle.js_syntax.specs.declared.kind.VariableKind.TheVariants as variable
-use Rattle.js_syntax.specs.Node.{Forest, Tree, Note, nothing, node, absent, alone, bare, below_of, total}
+use Rattle.js_syntax.specs.Node.{Forest, Tree, Note, nothing, node, absent, bare, below_of}
 use Rattle.js_tree.specs.Names.{eval_name, eval_of_call}
 use Rattle.form_rules.specs.Context.{has_use_strict, is_module, is_strict_list, is_strict_function, behind_first}
-use Rattle.form_rules.specs.Samples.{a_module, a_script, a, binds, one, does, declares, function_a, block}
+use Rattle.form_rules.specs.Samples.{a}
 use Rattle.min_pass.specs.declared.around.Around.{Around as Asked}
 use Rattle.min_pass.specs.Around.{entered as asked_below, outermost as asked_of_program}
 use Rattle.scope_rules.specs.Context.{is_there, has_second}
 use Rattle.scope_rules.specs.Site.{has_eval}
-use Rattle.scope_rules.specs.Mark.{own_binding}
 use Rattle.scope_laws.specs.Place.{Around, first, behind, behind_none, under, plug}
-use Rattle.steps_allowed.specs.Calls.{is_call}
 use Rattle.steps_allowed.specs.Places.{a_node, asked_at}
 use Rattle.steps_owed.specs.Owed.{MayChange}
 use Rattle.steps_owed.proofs.Calling.{bare_begins}
 use Rattle.steps_allowed.specs.Exposure.{Exposure, declaring, is_script_source, is_script, at_function_name, at_class_name, exposed_inside, exposed_of, exposed_at, exposure, evaluates_somewhere}
 use Rattle.steps_allowed.specs.Changing.{may_change_at, may_change, may_change_somewhere}
-use Rattle.steps_owed.proofs.Calling.{bare_begins, silent_is_no_call, there}
+use Rattle.steps_owed.proofs.Calling.{bare_begins}
 use Rattle.js_syntax.proofs.Truth.{first_of_either, second_of_either}
 
 -- ---- a change is one that may be

@@ -1,28 +1,21 @@
 -- What is known of a branch of a choice in a core module.
-use Rattle.std.proofs.Common.{◌≡◌, ◌∙◌, ℕ, [], ◌∷◌, true, false, Some, refl, sym, ap, subst, true≢false}
-use Rattle.js_syntax.specs.Class.{root, expression}
+use Rattle.std.proofs.Common.{◌≡◌, ◌∙◌, ℕ, [], true, false, Some, refl, sym, ap, subst}
+use Rattle.js_syntax.specs.Class.{root}
 use Rattle.js_syntax.specs.declared.node_kind.NodeKind.{NodeKind as Kind}
 use Rattle.js_syntax.specs.declared.scalar.SourceType.TheVariants as source_type
 use Rattle.js_syntax.specs.Node.{Note, Forest, Tree, nothing, node, forest_of}
-use Rattle.js_meaning.specs.Scope.{bound_names, specifier_decls, import_decls}
+use Rattle.js_meaning.specs.Scope.{specifier_decls, import_decls}
 use Rattle.js_meaning.specs.Value.{Text}
-use Rattle.js_meaning_near.specs.Near.{is_calm, is_blunt, module_of}
-use Rattle.js_meaning_near.proofs.Branches.{condition_holds, condition_fails, if_holds, if_fails}
-use Rattle.json_shape.specs.Shape.{one, these, Fits}
+use Rattle.js_meaning_near.specs.Near.{is_calm, module_of}
+use Rattle.json_shape.specs.Shape.{Fits}
 use Rattle.form_rules.specs.Form.{IsWellFormed}
 use Rattle.scope_laws.specs.Place.{Around, first, behind, behind_none, under, plug}
 use Rattle.steps.specs.Steps.{all_core}
-use Rattle.steps_allowed.specs.Branches.{is_branch}
-use Rattle.steps_allowed.specs.KnownConditional.{KnownConditional, consequent_is_taken, alternate_is_taken}
-use Rattle.steps_allowed.specs.KnownIf.{KnownIf, consequent_is_run, alternate_is_run}
 use Rattle.steps_keep_form.proofs.Rules.{first_empty, second_empty, both_empty}
 use Rattle.steps_names.specs.Placed.{Place, place_below, is_well_placed}
-use Rattle.steps_fit.proofs.CoreCalm.{nameless_as_planned}
 use Rattle.steps_fit.proofs.Formed.{program_well_placed}
 use Rattle.steps_fit.proofs.Held.{core_below, core_behind, core_alone}
-use Rattle.steps_owed.specs.Comes.{Comes}
-use Rattle.steps_owed.proofs.Made.{MadeBy, made_there, conditional_stands}
-use Rattle.steps_owed.proofs.Undeclared.{no_names, lead_to_imports, no_imports_there, DeclaresNothing, nothing_below, nothing_behind, both_plainly, alone_plainly, last_plainly}
+use Rattle.steps_owed.proofs.Undeclared.{lead_to_imports, no_imports_there}
 
 -- a part of the row below a node is core where the node is
 pub consequent_core : (above k : Kind) (n m i : Note) (t : Kind) (b r : Forest) → all_core (node above n (node t m nothing (node k i b r)) nothing) ≡ true → all_core (node k i b nothing) ≡ true

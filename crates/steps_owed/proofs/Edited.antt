@@ -1,8 +1,7 @@
 -- What holds behind an edit, by its shape.
-use Rattle.std.proofs.Common.{◌≡◌, ◌∙◌, ◌≤◌, ◌<◌, ◌+◌, ℕ, true, false, true≢false, Some, inl, inr, arith, sym, ap, refl}
+use Rattle.std.proofs.Common.{◌≡◌, ◌∙◌, ◌≤◌, ◌<◌, true, false, true≢false, Some, inl, inr, arith, sym, ap}
 use Rattle.js_syntax.specs.Class.{root}
-use Rattle.js_syntax.specs.declared.node_kind.NodeKind.{NodeKind as Kind}
-use Rattle.js_syntax.specs.Node.{Forest, Tree, Note, nothing, node, absent, bare, total, forest_of}
+use Rattle.js_syntax.specs.Node.{Forest, Tree, bare, total, forest_of}
 use Rattle.json_shape.specs.Shape.{Fits}
 use Rattle.scope_rules.specs.Table.{Scoping}
 use Rattle.scope_laws.specs.Place.{Around, first, behind, behind_none, under, plug}
@@ -18,7 +17,7 @@ use Rattle.steps_fit.proofs.Sensible.{sensible, renoted}
 use Rattle.steps_fit.proofs.Enclosing.{fits_enclosed}
 use Rattle.steps_fit.proofs.Modules.{fits_program}
 use Rattle.steps_owed.specs.Kept.{IsKept}
-use Rattle.steps_owed.specs.Owed.{weight, IsListed}
+use Rattle.steps_owed.specs.Owed.{weight}
 use Rattle.steps_owed.proofs.Calling.{takes, leave_root, replaced_root, bare_root}
 use Rattle.steps_owed.proofs.Changing.{owed_may_change, bare_changes}
 use Rattle.steps_owed.proofs.FitsEdits.{edit_fits}
@@ -72,10 +71,13 @@ edit_lighter t u (becomes a x y c) = replaced_lighter a x y (becoming a x y c).l
 pub edit_calls : (t u : Forest) → Edit t u → root_calls t ≤ root_calls u
 edit_calls t u (leaves a x c) =
     let owed = leaving a x c in
-    Prim.omega (arith, leave_root a x owed.no_call (elim owed.listed [
-      | inl e ↦ ap takes e
-      | inr e ↦ ap takes e.0
-    ]))
+    Prim.omega (
+      arith,
+      leave_root a x owed.no_call (elim owed.listed [
+        | inl e ↦ ap takes e
+        | inr e ↦ ap takes e.0
+      ]),
+    )
 edit_calls t u (becomes a x y c) = replaced_root a x y (becoming a x y c).no_call
 
 bare_calls : (t u : Forest) → bare t ≡ bare u → root_calls t ≡ root_calls u

@@ -1,5 +1,5 @@
 -- What an empty statement that leaves its list owes.
-use Rattle.std.proofs.Common.{inl, arith, refl, sym, ap, Some, subst, true, false}
+use Rattle.std.proofs.Common.{inl, arith, refl, ap, Some, subst, false}
 use Rattle.js_syntax.specs.declared.node_kind.NodeKind.TheVariants.{EmptyStatement as empty_kind}
 use Rattle.js_syntax.specs.Node.{Tree, nothing}
 use Rattle.scope_rules.specs.Context.{outermost}

@@ -1,5 +1,5 @@
 -- A name that a program exports without declaring it there is one that a reference reads in the program's own scope.
-use Rattle.std.proofs.Common.{◌≡◌, ◌∙◌, ◌⊎◌, inl, inr, ℕ, suc, ◌+◌, Bool, true, false, ◌||◌, List, [], ◌∷◌, ◌++◌, None, bytes_eq, refl, sym, ap, subst, true≢false}
+use Rattle.std.proofs.Common.{◌≡◌, ◌∙◌, ◌⊎◌, inl, inr, ℕ, suc, ◌+◌, true, ◌||◌, List, [], ◌∷◌, ◌++◌, None, bytes_eq, refl, sym, ap, subst, true≢false}
 use Rattle.std.proofs.lemmas.Bool.{or_cases}
 use Rattle.std.proofs.lemmas.Slice.Eq.{bytes_eq-Decides}
 use Rattle.js_syntax.specs.declared.node_kind.NodeKind.{NodeKind as Kind}

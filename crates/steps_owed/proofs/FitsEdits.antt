@@ -1,8 +1,7 @@
 -- An edit of a tree that fits the table of node types leads to one that fits.
 use Rattle.std.proofs.Common.{◌≡◌, [], ◌∷◌, subst}
 use Rattle.js_syntax.specs.Class.{root}
-use Rattle.js_syntax.specs.Node.{Forest, Tree, bare}
-use Rattle.scope_laws.specs.Place.{Around}
+use Rattle.js_syntax.specs.Node.{Forest, bare}
 use Rattle.steps_allowed.specs.Edits.{Edit, leaves, becomes, TreeEdits, no_tree_edit, one_tree_edit, Edits, no_edit, one_edit}
 use Rattle.json_shape.specs.Shape.{one, these, Stand, Fits}
 use Rattle.json_shape.proofs.Standing.{bare_stands, stands_bare}

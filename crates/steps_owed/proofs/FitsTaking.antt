@@ -1,21 +1,14 @@
 -- Which nodes may take the place of others: a part of a choice that of the choice, an empty statement that of one of an expression.
-use Rattle.std.proofs.Common.{◌≡◌, [], ◌∷◌, Bool, true, false, Some, refl, sym, ap}
+use Rattle.std.proofs.Common.{◌≡◌, [], ◌∷◌, Bool, true, false, Some, sym, ap}
 use Rattle.js_syntax.specs.Class.{Class, module_item, statement, expression, arrow_body, for_init, default_export, expression_or_private, callee, argument}
 use Rattle.js_syntax.specs.declared.node_kind.NodeKind.{NodeKind as Kind}
 use Rattle.js_syntax.specs.declared.node_kind.NodeKind.TheVariants.{ConditionalExpression as conditional_expression, IfStatement as if_statement}
 use Rattle.js_syntax.specs.Hint.{has, is_private}
-use Rattle.js_syntax.specs.Node.{Forest, Note, Tree, alone}
+use Rattle.js_syntax.specs.Node.{Forest, Note, alone}
 use Rattle.js_syntax.specs.Table.{Row as TableRow, a_conditional_expression, an_if_statement, fields_of, type_of, stands}
 use Rattle.js_syntax.specs.declared.node_type.NodeType.{NodeType}
 use Rattle.js_syntax.specs.declared.node_type.NodeType.TheVariants as type
-use Rattle.scope_laws.specs.Place.{Around}
 use Rattle.json_shape.specs.Shape.{Values, kind_in, first_of, one, maybe_one, places, these, IsOf, Stand, Fits}
-use Rattle.steps_keep_table.proofs.Emptied.{empty_of}
-use Rattle.steps_allowed.specs.Branches.{is_blunt, is_branch}
-use Rattle.steps_allowed.specs.KnownConditional.{KnownConditional, consequent_is_taken, alternate_is_taken}
-use Rattle.steps_allowed.specs.KnownIf.{KnownIf, consequent_is_run, alternate_is_run}
-use Rattle.steps_allowed.specs.SilentStatement.{SilentStatementEmpties, silent_statement_empties}
-use Rattle.steps_owed.specs.TakesPlace.{is_told_by_class, TakesPlace}
 
 -- ---- a class that takes conditionals takes expressions, and one that takes `if` takes statements
 

@@ -7,7 +7,7 @@ use Rattle.js_syntax.specs.Node.{Forest, nothing, node, absent, Note}
 use Rattle.js_meaning.specs.Scope.{var_names, item_decls, vars_of, lexical}
 use Rattle.steps.specs.Names.{names_declared}
 use Rattle.steps.specs.Steps.{Around, entered, outermost}
-use Rattle.steps_fit.specs.Clear.{Apart, Clear}
+use Rattle.steps_fit.specs.Clear.{Apart}
 use Rattle.steps_allowed.specs.Arranged.{is_arranged_at, is_arranged}
 use Rattle.scope_rules.specs.Context.{Context, inside, body_of, outermost as outermost_context}
 use Rattle.scope_rules.specs.Site.{opens_one, scope_count}

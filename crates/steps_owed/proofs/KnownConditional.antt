@@ -1,5 +1,5 @@
 -- What a conditional on a literal owes, which becomes the branch that is taken.
-use Rattle.std.proofs.Common.{◌≡◌, [], ◌∷◌, true, false, Some, arith, refl, sym, ap, subst}
+use Rattle.std.proofs.Common.{◌≡◌, [], ◌∷◌, true, Some, arith, refl, sym, ap, subst}
 use Rattle.js_syntax.specs.Class.{Class, root, expression}
 use Rattle.js_syntax.specs.declared.node_kind.NodeKind.{NodeKind as Kind}
 use Rattle.js_syntax.specs.declared.node_kind.NodeKind.TheVariants.{Literal as literal}

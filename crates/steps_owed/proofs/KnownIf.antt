@@ -1,20 +1,16 @@
 -- What an `if` on a literal owes, which becomes the branch that is taken.
-use Rattle.std.proofs.Common.{◌≡◌, ◌&&◌, [], ◌∷◌, true, false, Some, arith, refl, sym, ap, subst}
-use Rattle.js_syntax.specs.Class.{Class, root}
+use Rattle.std.proofs.Common.{◌≡◌, ◌&&◌, [], true, Some, arith, refl}
+use Rattle.js_syntax.specs.Class.{Class}
 use Rattle.js_syntax.specs.declared.node_kind.NodeKind.{NodeKind as Kind}
 use Rattle.js_syntax.specs.declared.node_kind.NodeKind.TheVariants.{Literal as literal, IfStatement as if_statement}
 use Rattle.js_syntax.specs.declared.value.LiteralValue.{LiteralValue}
 use Rattle.js_syntax.specs.Node.{Note, Forest, Tree, nothing, node}
 use Rattle.js_meaning.specs.Scope.{import_decls}
 use Rattle.js_meaning.specs.Value.{Text}
-use Rattle.js_meaning_near.specs.Near.{is_calm, module_of}
 use Rattle.js_meaning_near.proofs.Branches.{if_holds, if_fails}
-use Rattle.json_shape.specs.Shape.{Fits}
-use Rattle.form_rules.specs.Form.{IsWellFormed}
 use Rattle.form_rules.specs.Scope.{sought_below}
 use Rattle.scope_counts.proofs.Leaving.{if_is_plain}
 use Rattle.scope_laws.specs.Place.{Around, plug}
-use Rattle.steps.specs.Steps.{all_core}
 use Rattle.steps_allowed.specs.KnownIf.{an_if, KnownIf, consequent_is_run, alternate_is_run}
 use Rattle.js_syntax.proofs.Truth.{both}
 use Rattle.steps_fit.specs.Enclosed.{is_enclosed_at, is_enclosed}

@@ -3,7 +3,7 @@ use Rattle.std.proofs.Common.{◌≡◌, ℕ, ◌+◌, suc, Bool, true, false, n
 use Rattle.js_tree.specs.Count.{one_each, node_count}
 use Rattle.js_syntax.specs.Class.{root}
 use Rattle.js_syntax.specs.declared.node_kind.NodeKind.{NodeKind as Kind}
-use Rattle.js_syntax.specs.declared.node_kind.NodeKind.TheVariants.{BindingName as binding_name, Function as function, Class as class, Literal as literal, ThisExpression as this_expression, ArrayExpression as array_expression, ObjectExpression as object_expression, SequenceExpression as sequence_expression, UnaryExpression as unary_expression, UpdateExpression as update_expression, BinaryExpression as binary_expression, LogicalExpression as logical_expression, AssignmentExpression as assignment_expression, ConditionalExpression as conditional_expression, CallExpression as call_expression, NewExpression as new_expression, EmptyStatement as empty_statement, ExpressionStatement as expression_statement, BlockStatement as block_statement, IfStatement as if_statement, BreakStatement as break_statement, ContinueStatement as continue_statement, ReturnStatement as return_statement, ThrowStatement as throw_statement, SwitchStatement as switch_statement, TryStatement as try_statement}
+use Rattle.js_syntax.specs.declared.node_kind.NodeKind.TheVariants.{BindingName as binding_name, Function as function, Class as class, ConditionalExpression as conditional_expression}
 use Rattle.js_syntax.specs.declared.kind.FunctionKind.TheVariants as function_kind
 use Rattle.js_syntax.specs.declared.kind.ClassKind.TheVariants as class_kind
 use Rattle.js_syntax.specs.Node.{Forest, Tree, nothing, node, absent, alone}
@@ -15,10 +15,8 @@ use Rattle.form_rules.specs.Rules.{length_of}
 use Rattle.json_shape.specs.Shape.{Fits}
 use Rattle.scope_laws.specs.Place as place
 use Rattle.scope_laws.specs.Place.{first, behind, behind_none, under, plug}
-use Rattle.steps_allowed.specs.Branches.{is_blunt, is_branch, declares_none_at, declares_none}
-use Rattle.steps_allowed.specs.KnownConditional.{KnownConditional, consequent_is_taken, alternate_is_taken}
-use Rattle.steps_allowed.specs.KnownIf.{KnownIf, consequent_is_run, alternate_is_run}
-use Rattle.steps_keep_form.specs.Part.{gives_way, is_statement, is_asked_for, StandsFor}
+use Rattle.steps_allowed.specs.Branches.{declares_none_at, declares_none}
+use Rattle.steps_keep_form.specs.Part.{gives_way, StandsFor}
 use Rattle.steps_keep_form.specs.Sheds.{Row, of_declarators, row_below, asked_below, may_give_way, keeps_one, Around, entered, outermost, Sheds, keeps_absent, keeps, becomes}
 use Rattle.steps_keep_form.proofs.Firm.{may_all_give_way, fits_may_give_way}
 use Rattle.steps_keep_form.proofs.Rows.{itself, keeps_itself}

@@ -12,7 +12,7 @@ use Rattle.form_rules.specs.Rules.{Exported, is_exported, first_below, locals_am
 use Rattle.scope_rules.specs.declared.layer.Layer.{Layer}
 use Rattle.scope_rules.specs.declared.layer.Role.TheVariants.{Write as write}
 use Rattle.scope_rules.specs.Context.{Context, inside, body_of, in_block, declares, below_it, used}
-use Rattle.scope_rules.specs.Site.{Site, BindingSite, ReferenceSite, own_sites, opens_one, scope_count, sites, sites_of, bindings_among, references_among}
+use Rattle.scope_rules.specs.Site.{Site, BindingSite, own_sites, opens_one, scope_count, sites, sites_of, bindings_among}
 use Rattle.scope_rules.specs.Binding.{is_declared, binding_layer, named_in, binding_of}
 use Rattle.scope_laws.specs.Exact.{Among}
 use Rattle.steps_names.proofs.Lists.{either}
@@ -22,7 +22,7 @@ use Rattle.steps_allowed.specs.Free.{IsFree}
 use Rattle.steps_keep_form.specs.Sheds.{Row, row_below, exported_below, sought_inside}
 use Rattle.steps_keep_form.specs.Layout.{stands_right, is_laid_out}
 use Rattle.steps_owed.specs.Seeking.{Within, IsRead, AllRead, Seeks}
-use Rattle.steps_owed.proofs.Exports.{Reads, exported_is_read}
+use Rattle.steps_owed.proofs.Exports.{exported_is_read}
 
 -- ---- what stands in a part of the tree stands in the tree
 

@@ -1,12 +1,9 @@
 -- By an edit a program that is laid out sheds what it may shed.
-use Rattle.std.proofs.Common.{◌≡◌, ◌∙◌, ◌⊎◌, inl, inr, ℕ, suc, ◌+◌, ◌==◌, Bool, true, false, not, ◌||◌, Option, Some, List, refl, sym, ap, subst, true≢false, arith}
+use Rattle.std.proofs.Common.{◌≡◌, ◌∙◌, ◌⊎◌, inl, inr, ℕ, suc, ◌+◌, ◌==◌, Bool, true, false, not, ◌||◌, Option, Some, refl, sym, ap, subst, true≢false, arith}
 use Rattle.std.proofs.lemmas.Bool.Decides.{nat_tests}
 use Rattle.js_syntax.specs.declared.node_kind.NodeKind.{NodeKind as Kind}
-use Rattle.js_syntax.specs.declared.node_kind.NodeKind.TheVariants.{Program as program, Statements as statements, EmptyStatement as empty_statement, ExpressionStatement as expression_statement, Function as function, BindingName as binding_name, VariableDeclaration as variable_declaration, Declarators as declarators, VariableDeclarator as variable_declarator}
-use Rattle.js_syntax.specs.declared.kind.FunctionKind.TheVariants as function_kind
-use Rattle.js_syntax.specs.declared.kind.VariableKind.{VariableKind}
-use Rattle.js_syntax.specs.declared.kind.VariableKind.TheVariants as variable
-use Rattle.js_syntax.specs.Node.{Note, Forest, Tree, nothing, node, absent, alone}
+use Rattle.js_syntax.specs.declared.node_kind.NodeKind.TheVariants.{Statements as statements, EmptyStatement as empty_statement, ExpressionStatement as expression_statement, VariableDeclaration as variable_declaration, Declarators as declarators}
+use Rattle.js_syntax.specs.Node.{Note, Forest, Tree, nothing, node, absent}
 use Rattle.js_syntax.proofs.Truth.{not_true, second_of_either}
 use Rattle.form_rules.specs.Context.{has_use_strict}
 use Rattle.form_rules.specs.Rules.{length_of}
@@ -16,7 +13,7 @@ use Rattle.min_pass.specs.declared.around.Row.{Row as AskedRow}
 use Rattle.min_pass.specs.declared.around.Row.TheVariants.{Items as items, OfItem as of_item, Declarators as item_declarators, Other as other}
 use Rattle.min_pass.specs.Around.{is_with, row_below as asked_row_below, entered as asked_below, outermost as asked_of_program}
 use Rattle.scope_rules.specs.Context.{Context, inside, outermost as outermost_context}
-use Rattle.scope_rules.specs.Site.{BindingSite, opens_one, scope_count, sites, sites_of, bindings_among}
+use Rattle.scope_rules.specs.Site.{opens_one, scope_count, sites}
 use Rattle.scope_laws.specs.Place.{Around as Place, first, behind, behind_none, under, plug}
 use Rattle.scope_laws.specs.Lists.{without}
 use Rattle.steps_allowed.specs.Silent.{HoldsThere}
@@ -27,7 +24,6 @@ use Rattle.steps_keep_form.specs.Sheds as shed
 use Rattle.steps_keep_form.specs.Layout.{is_parts, stands_right, is_laid_out, IsLaidOut}
 use Rattle.steps_keep_form.proofs.Laid.{laid_absent, laid_order, laid_right, laid_below, laid_behind}
 use Rattle.steps_keep_form.proofs.Rows.{itself, keeps_itself}
-use Rattle.form_rules.specs.Scope.{declared}
 use Rattle.steps_owed.specs.Seeking.{Within, Seeks}
 use Rattle.steps_owed.proofs.Seeking.{within_below, within_later, seeks_inside}
 

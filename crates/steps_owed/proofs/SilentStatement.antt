@@ -1,8 +1,8 @@
 -- What a statement of a silent expression owes, which becomes empty.
-use Rattle.std.proofs.Common.{◌≡◌, ◌<◌, ◌+◌, false, not, Some, arith, refl, ap}
+use Rattle.std.proofs.Common.{◌≡◌, false, not, Some, arith, refl, ap}
 use Rattle.js_syntax.specs.Class.{Class}
 use Rattle.js_syntax.specs.declared.node_kind.NodeKind.{NodeKind as Kind}
-use Rattle.js_syntax.specs.Node.{Note, Forest, Tree, nothing, alone}
+use Rattle.js_syntax.specs.Node.{Tree, alone}
 use Rattle.scope_laws.specs.Place.{Around, plug}
 use Rattle.steps_keep_table.proofs.Emptied.{empty_of}
 use Rattle.steps_allowed.specs.Calls.{is_call, counted}

@@ -1,7 +1,6 @@
 -- What leaves by a change declares no name that is exported.
-use Rattle.std.proofs.Common.{◌≡◌, ◌∙◌, ℕ, suc, ◌+◌, Bool, true, not, ◌&&◌, List, [], ◌∷◌, ◌++◌, inl, refl, ap}
-use Rattle.js_syntax.specs.declared.node_kind.NodeKind.{NodeKind as Kind}
-use Rattle.js_syntax.specs.declared.node_kind.NodeKind.TheVariants.{BindingName as binding_name, Function as function, VariableDeclaration as variable_declaration, Declarators as declarators, VariableDeclarator as variable_declarator, EmptyStatement as empty_statement}
+use Rattle.std.proofs.Common.{◌≡◌, ℕ, ◌+◌, Bool, true, List, [], ◌++◌, inl, refl, ap}
+use Rattle.js_syntax.specs.declared.node_kind.NodeKind.TheVariants.{BindingName as binding_name, Function as function, VariableDeclaration as variable_declaration, Declarators as declarators, VariableDeclarator as variable_declarator}
 use Rattle.js_syntax.specs.declared.kind.FunctionKind.TheVariants as function_kind
 use Rattle.js_syntax.specs.declared.kind.VariableKind.{VariableKind}
 use Rattle.js_syntax.specs.declared.kind.VariableKind.TheVariants as variable_kind
@@ -11,12 +10,11 @@ use Rattle.form_rules.specs.declared.sought.Sort.TheVariants.{Lexical as lexical
 use Rattle.form_rules.specs.declared.sought.Sought.{Sought}
 use Rattle.form_rules.specs.declared.sought.Sought.TheVariants.{Nothing as none, Names as names, Bound as bound, Scope as scope, Variables as variables, FunctionScope as function_scope, CatchScope as catch_scope}
 use Rattle.form_rules.specs.Scope.{Declared, declared}
-use Rattle.form_rules.specs.Rules.{Exported, is_exported}
+use Rattle.form_rules.specs.Rules.{Exported}
 use Rattle.scope_rules.specs.declared.layer.Layer.{Layer}
-use Rattle.scope_rules.specs.Context.{Context, inside, at_function_name, in_variables}
-use Rattle.scope_rules.specs.Site.{Site, BindingSite, own_sites, opens_one, scope_count, sites, bindings_among}
+use Rattle.scope_rules.specs.Context.{Context, inside, in_variables}
+use Rattle.scope_rules.specs.Site.{BindingSite, own_sites, opens_one, scope_count, sites}
 use Rattle.scope_rules.specs.Binding.{named_in}
-use Rattle.scope_laws.specs.Exact.{Among}
 use Rattle.steps_names.specs.Standing.{layer_of}
 use Rattle.steps_names.proofs.Sites.{binding_left}
 use Rattle.steps_allowed.specs.Free.{IsFree}

@@ -9,7 +9,6 @@ use Rattle.steps_allowed.specs.Edits.{Leaves, Edit, leaves, becomes, silent_stat
 use Rattle.steps_allowed.specs.SilentStatement.{SilentStatementEmpties, silent_statement_empties}
 use Rattle.steps_fit.specs.Enclosed.{is_enclosed}
 use Rattle.steps_owed.specs.Kept.{is_program, IsKept}
-use Rattle.steps_owed.specs.Owed.{Leaving}
 use Rattle.steps_owed.proofs.Owed.{leaving}
 use Rattle.steps_owed.proofs.TableKept.{in_list, leaving_keeps, emptied_keeps}
 use Rattle.steps_pass.proofs.Losing.{Loses, without_loses, emptied_loses, program_stays, enclosed_stays}

@@ -10,7 +10,7 @@ use Rattle.scope_rules.specs.Table.{Reference}
 use Rattle.scope_laws.specs.Place.{Around, first, behind, under}
 use Rattle.scope_laws.proofs.Bindings.{same_value}
 use Rattle.steps_allowed.specs.SilentStatement.{silent_statement_empties}
-use Rattle.steps_allowed.specs.Edits.{Edit, leaves, becomes, silent_statement}
+use Rattle.steps_allowed.specs.Edits.{Edit, becomes, silent_statement}
 use Rattle.steps_owed.specs.Kept.{IsKept}
 use Rattle.steps_pass.specs.Samples.{misplaced_table, misplaced_marked, numbered, without_number}
 

@@ -1,13 +1,6 @@
 -- What leaves a tree declares nothing that is seen, and no export is of what has no mark.
-use Rattle.std.specs.Prelude.{◌≡◌, ◌⊎◌, List, Bool, true, not, ◌&&◌, if◌then◌else◌, Option, Some}
-use Rattle.js_syntax.specs.declared.node_kind.NodeKind.{NodeKind as Kind}
-use Rattle.js_syntax.specs.Node.{Forest, Tree, Note, nothing, node, absent}
-use Rattle.js_effects.specs.Silence.{is_marked}
-use Rattle.scope_rules.specs.Site.{BindingSite, ReferenceSite, sites_of, bindings_among, references_among}
-use Rattle.scope_rules.specs.Binding.{declared_by, binding_of}
-use Rattle.scope_laws.specs.Exact.{Among}
-use Rattle.scope_laws.specs.Place.{Around, plug, sites_there}
-use Rattle.scope_laws.specs.Keeping.{IsWithin}
+use Rattle.std.specs.Prelude.{List, Bool, true, ◌&&◌, if◌then◌else◌}
+use Rattle.js_syntax.specs.Node.{Forest, nothing, node, absent}
 use Rattle.min_passes.specs.Unused.{is_export, has_own_names}
 use Rattle.steps_owed.specs.Unmarked.{name_unmarked, first_unmarked}
 
