@@ -1,4 +1,4 @@
--- A conditional whose condition is a literal becomes the branch that is taken (13.14).
+-- A conditional whose condition is a literal becomes the branch that is taken (ECMA-262 13.14).
 use Rattle.std.specs.Prelude.{◌≡◌, true, false}
 use Rattle.js_syntax.specs.declared.node_kind.NodeKind.{NodeKind as Kind}
 use Rattle.js_syntax.specs.declared.node_kind.NodeKind.TheVariants.{ConditionalExpression as conditional_expression, Literal as literal}

@@ -1,4 +1,4 @@
--- An `if` on a literal becomes the branch that is taken, where the other declares no name (14.6).
+-- An `if` on a literal becomes the branch that is taken, where the other declares no name (ECMA-262 14.6).
 use Rattle.std.specs.Prelude.{◌≡◌, true, false}
 use Rattle.js_syntax.specs.declared.node_kind.NodeKind.{NodeKind as Kind}
 use Rattle.js_syntax.specs.declared.node_kind.NodeKind.TheVariants.{IfStatement as if_statement, Literal as literal}

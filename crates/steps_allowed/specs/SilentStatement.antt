@@ -1,4 +1,4 @@
--- A statement of a silent expression becomes empty, wherever it stands (14.5).
+-- A statement of a silent expression becomes empty, wherever it stands (ECMA-262 14.5).
 use Rattle.std.specs.Prelude.{ℕ, Bool, Option}
 use Rattle.js_syntax.specs.declared.node_kind.NodeKind.{NodeKind as Kind}
 use Rattle.js_syntax.specs.declared.node_kind.NodeKind.TheVariants.{EmptyStatement as empty_statement, ExpressionStatement as expression_statement}

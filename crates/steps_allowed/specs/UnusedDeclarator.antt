@@ -1,5 +1,5 @@
 -- A declarator of a name that nothing refers to, and that no other code may use, with a silent initialiser or none, leaves
--- the others of an item (14.3.1, 14.3.2).
+-- the others of an item (ECMA-262 14.3.1, 14.3.2).
 use Rattle.std.specs.Prelude.{◌≡◌, ℕ, List, Bool, true, false, Option}
 use Rattle.js_syntax.specs.declared.node_kind.NodeKind.TheVariants.{VariableDeclarator as variable_declarator, BindingName as binding_name}
 use Rattle.js_syntax.specs.Node.{Forest, Tree, Note, nothing, node}

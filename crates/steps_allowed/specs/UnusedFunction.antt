@@ -1,4 +1,4 @@
--- A function declaration that nothing refers to, and that no other code may use, leaves a list of statements (15.2).
+-- A function declaration that nothing refers to, and that no other code may use, leaves a list of statements (ECMA-262 15.2).
 use Rattle.std.specs.Prelude.{ℕ, List, Bool, Option}
 use Rattle.js_syntax.specs.declared.node_kind.NodeKind.TheVariants.{Function as function, BindingName as binding_name}
 use Rattle.js_syntax.specs.declared.kind.FunctionKind.TheVariants as function_kind

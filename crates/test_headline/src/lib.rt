@@ -4,7 +4,7 @@
 //! tries it on small modules: the empty program, a program without a call that stood there, one without a
 //! function that is called, one without a loop that never ends, and one in which dead code is left are refused.
 //! Each is refused by what runs show, or by dead code that is left. Programs that lost what other code than
-//! their references may use are refused by the list of changes, by laws of `steps_allowed`.
+//! their references may use are refused by the list of edits, by laws of `steps_owed`.
 //!
 //! What dead code is (`Clean`) is tried too: four small programs have some and four have none, and a program that doesn't
 //! fit the table, or breaks a rule of form, shows what the laws on it ask for.
