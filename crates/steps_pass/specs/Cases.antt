@@ -7,7 +7,6 @@ use Rattle.scope_rules.specs.Site.{BindingSite, ReferenceSite, sites_of, binding
 use Rattle.scope_rules.specs.Binding.{declared_by, binding_of}
 use Rattle.scope_laws.specs.Exact.{Among}
 use Rattle.scope_laws.specs.Place.{Around, plug, sites_there}
-use Rattle.scope_laws.specs.Keeping.{IsWithin}
 use Rattle.min_passes.specs.Unused.{is_export, has_own_names}
 use Rattle.steps_owed.specs.Unmarked.{name_unmarked, first_unmarked}
 
