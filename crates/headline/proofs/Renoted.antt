@@ -20,8 +20,7 @@ use Rattle.scope_rules.specs.Binding.{Binding, same_layer, is_declared, binding_
 use Rattle.scope_laws.specs.Exact.{Among}
 use Rattle.scope_laws.specs.Place.{Around, first, behind, behind_none, under, plug}
 use Rattle.scope_laws.proofs.Notes.{unseen, opens_bare, scope_count_bare, scope_bits_bare, inside_bare}
-use Rattle.scope_laws.proofs.Declared.{image}
-use Rattle.scope_laws.proofs.Numbers.{among_map}
+use Rattle.scope_laws.proofs.Among.{among_map, image}
 use Rattle.steps_names.specs.Standing.{is_export, exported_sites, exported_declarations}
 use Rattle.steps_allowed.specs.Silent.{read_in, IsFound, IsSilentNode, IsSilent, HoldsThere}
 use Rattle.steps_allowed.specs.Exposure.{Exposure, at_function_name, at_class_name, declaring, is_script_source, exposed_inside, is_script, exposed_of, exposed_at, exposure, function_is_exposed, evaluates_somewhere, IsOwnFunction, IsOwnDeclarator}

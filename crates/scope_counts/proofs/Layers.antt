@@ -1,5 +1,5 @@
 -- What a context says of one layer.
-use Rattle.std.proofs.Common.{◌≡◌, ◌∙◌, ℕ, suc, List, [], ◌∷◌, ◌++◌, map, Bool, true, false, ◌&&◌, ◌||◌, ◌==◌, nat_eq, true≢false, if◌then◌else◌, refl, ap, ap₂, arith, eq-eqb, eqb-true}
+use Rattle.std.proofs.Common.{◌≡◌, ◌∙◌, ℕ, suc, List, [], ◌∷◌, ◌++◌, map, Bool, true, false, ◌&&◌, ◌||◌, ◌==◌, nat_eq, true≢false, if◌then◌else◌, refl, sym, ap, ap₂, arith, eq-eqb, eqb-true}
 use Rattle.std.proofs.lemmas.Bool.{false_from_ne_true}
 use Rattle.js_syntax.specs.declared.node_kind.NodeKind.{NodeKind as Kind}
 use Rattle.js_syntax.specs.declared.node_kind.NodeKind.TheVariants.{Program as program, Function as function, Class as class, MethodDefinition as method_definition, PropertyDefinition as property_definition, StaticBlock as static_block, BlockStatement as block_statement, WithStatement as with_statement, SwitchStatement as switch_statement, CatchClause as catch_clause, ForStatement as for_statement, ForInStatement as for_in_statement, ForOfStatement as for_of_statement, VariableDeclaration as variable_declaration, AssignmentExpression as assignment_expression, MemberExpression as member_expression, TargetProperty as target_property, TargetDefault as target_default}
@@ -19,7 +19,6 @@ use Rattle.scope_rules.specs.declared.layer.Part.TheVariants.{Body as body}
 use Rattle.scope_rules.specs.declared.layer.Role.TheVariants.{Write as write}
 use Rattle.scope_rules.specs.Context.{Context, has_second, opens, in_block, below_it, used, role_of, role_of_object, of_method, declares, body_of, in_variables, at_function_name, at_class_name, at_parameters, in_function, layers_of_parameters, inside}
 use Rattle.scope_rules.specs.Binding.{same_part, same_layer}
-use Rattle.scope_laws.proofs.Moving.{no_number}
 use Rattle.scope_counts.specs.Counts.{Aims, nowhere_near, Own, no_part, this_part, naming_in, aims_of_body, aims_of_block, aims_of_parameters, aims_of_variables, aims_of_function_name, aims_of_class_name, aims_inside, parts_of_parameters, parts_in}
 
 abbrev pub aims_at : Layer → Context → Aims
@@ -184,6 +183,23 @@ aims_in_this c n p k t h at =
     let e = eq-eqb n n refl in
     let own : own_part n (part_of n p) ≡ this_part p = λ i. λ q. e i && same_part q p in
     aims_in (part_of n p) c n k t at ∙ ap₂ (λ o b. aims_inside o b k t at) own h
+
+-- a node that makes no scope needs no number for one
+no_number : (c : Context) (m n : ℕ) (k : Kind) (t : Forest) → opens k t ≡ false → (at : ℕ) → inside c m k t at ≡ inside c n k t at
+no_number c m n (program source) t e at = absurd (true≢false e)
+no_number c m n (function how pure) t e at = absurd (true≢false e)
+no_number c m n (class how) t e at = absurd (true≢false e)
+no_number c m n static_block t e at = absurd (true≢false e)
+no_number c m n block_statement t e at = absurd (true≢false e)
+no_number c m n for_statement t e at = absurd (true≢false e)
+no_number c m n for_in_statement t e at = absurd (true≢false e)
+no_number c m n for_of_statement t e at = absurd (true≢false e)
+no_number c m n switch_statement t e at = absurd (true≢false e)
+no_number c m n catch_clause t e at = absurd (true≢false e)
+no_number c m n with_statement t e at = absurd (true≢false e)
+no_number c m n (property_definition is_static key) t e at =
+    ap (λ b. if b && at == 1 then in_block c m c.strict else below_it c) e ∙ sym (ap (λ b. if b && at == 1 then in_block c n c.strict else below_it c) e)
+no_number c m n k t e at = refl
 
 pub still : (l : Layer) (c : Context) (n : ℕ) (k : Kind) (t : Forest) → aims_at l c ≡ nowhere_near → (opens k t ≡ true → nat_eq n l.scope ≡ false) → (at : ℕ) → aims_at l (inside c n k t at) ≡ nowhere_near
 still l c n k t h differs at = go (opens k t) refl

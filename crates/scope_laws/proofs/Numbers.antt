@@ -6,14 +6,8 @@ use Rattle.scope_rules.specs.Site.{BindingSite}
 use Rattle.scope_rules.specs.Binding.{Binding, declared_by}
 use Rattle.scope_rules.specs.Table.{same_binding, is_among, new_behind, symbols_of, number_from, is_number, references_to, symbol_at, symbols_from}
 use Rattle.scope_laws.specs.Exact.{Among, NoneTwice}
+use Rattle.scope_laws.proofs.Among.{among_map}
 use Rattle.scope_laws.proofs.Bindings.{none_is_some, same_value, same_binding_true, same_binding_same}
-
--- ---- lists
-
-pub among_map : {X Y : Type 0} (f : X → Y) (x : X) (xs : List X) → Among x xs → Among (f x) (map f xs)
-among_map f x [] h = h
-among_map f x (y ∷ ys) (inl e) = inl (ap f e)
-among_map f x (y ∷ ys) (inr h) = inr (among_map f x ys h)
 
 -- ---- the number of a binding
 

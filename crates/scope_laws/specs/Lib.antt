@@ -2,11 +2,6 @@ pub mod Renumbered
 pub mod Exact
 pub mod Counted
 pub mod Place
-pub mod Moved
-pub mod Keeping
 pub mod Rows
-pub mod Kept
 pub mod Lists
-pub mod Follows
-pub mod Rewriting
 pub mod Parents

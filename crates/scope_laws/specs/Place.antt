@@ -1,9 +1,9 @@
 -- A place in a tree, and what stands around it.
-use Rattle.std.specs.Prelude.{◌≡◌, ℕ, suc, ◌+◌, List, [], ◌++◌, Option, Some, None}
+use Rattle.std.specs.Prelude.{ℕ, suc, ◌+◌, ◌<◌, ◌≤◌, List, [], ◌++◌, Option, Some, None}
 use Rattle.js_syntax.specs.declared.node_kind.NodeKind.{NodeKind as Kind}
 use Rattle.js_syntax.specs.Node.{Forest, Tree, Note, nothing, node, absent}
-use Rattle.scope_rules.specs.Context.{Context, opens, inside, outermost}
-use Rattle.scope_rules.specs.Site.{Site, own_sites, opens_one, scope_count, sites}
+use Rattle.scope_rules.specs.Context.{Context, inside, outermost}
+use Rattle.scope_rules.specs.Site.{Site, BindingSite, own_sites, opens_one, scope_count, sites}
 
 -- a tree without what stands at one place: the first of a row, one behind a node or behind a field that is not there, or one
 -- below a node
@@ -55,12 +55,10 @@ scopes_before (behind k n below a) x = scope_count (node k n below nothing) + sc
 scopes_before (behind_none a) x = scopes_before a x
 scopes_before (under k n a rest) x = opens_one k (plug a x) + scopes_before a x
 
--- the nodes around make scopes with the one as with the other: only a field's value decides that
-abbrev pub SameScopes : Around → (x y : Option Tree) → Type 0
-SameScopes (first rest) x y = Unit {0}
-SameScopes (behind k n below a) x y = SameScopes a x y
-SameScopes (behind_none a) x y = SameScopes a x y
-SameScopes (under k n a rest) x y = (opens k (plug a x) ≡ opens k (plug a y)) × SameScopes a x y
+-- the declaration lies in a scope of what stands there
+pub record IsWithin (a : Around) (x : Option Tree) (b : BindingSite) : Type 0 where
+  pub from : scopes_before a x ≤ b.layer.scope
+  pub to : b.layer.scope < scopes_before a x + scope_count (one_place x)
 
 -- ---- in a whole tree
 
@@ -72,6 +70,3 @@ sites_there a x = there (λ at. outermost) 0 0 a x
 
 abbrev pub sites_after : Around → Option Tree → List Site
 sites_after a x = after (λ at. outermost) 0 0 a x
-
-abbrev pub sites_around : Around → Option Tree → List Site
-sites_around a x = sites_before a x ++ sites_after a x

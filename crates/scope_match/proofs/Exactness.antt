@@ -6,8 +6,8 @@ use Rattle.scope_rules.specs.Binding.{Binding, declared_by, binding_of}
 use Rattle.scope_rules.specs.Table.{Symbol, Reference, Scoping, symbols_of, symbol_of, symbol_used, symbol_declared, symbol_at, reference_at, references_to, number_or_none, scoping_of}
 use Rattle.scope_laws.specs.Exact.{Among, NoneTwice, Names, IsNamed, IsEntered, IsDeclared, IsListed, ExactFor}
 use Rattle.scope_laws.proofs.Bindings.{none_is_some, same_value, declared_binding}
-use Rattle.scope_laws.proofs.Declared.{image}
-use Rattle.scope_laws.proofs.Numbers.{among_map, numbered, one_number, has_symbol, listed_at, at_listed, symbols_at}
+use Rattle.scope_laws.proofs.Among.{among_map, image}
+use Rattle.scope_laws.proofs.Numbers.{numbered, one_number, has_symbol, listed_at, at_listed, symbols_at}
 use Rattle.scope_table.specs.Reading.{symbol_at as symbol_numbered, reference_at as entry_at, no_symbol, no_reference}
 use Rattle.scope_match.specs.Matches.{Marks, mark_at, marks_at, MatchesFound}
 use Rattle.scope_match.specs.Leftover.{LeavesNothing}

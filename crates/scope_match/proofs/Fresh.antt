@@ -9,7 +9,7 @@ use Rattle.scope_rules.specs.Mark.{first_marks, marked}
 use Rattle.scope_laws.specs.Renumbered.{reference_with, scopes_from as scopes_marked, bindings_with, references_from, found_renumbered}
 use Rattle.scope_laws.specs.Exact.{Among, NoneTwice}
 use Rattle.scope_laws.proofs.Bindings.{same_binding_of}
-use Rattle.scope_laws.proofs.Declared.{among_cases}
+use Rattle.scope_laws.proofs.Among.{among_cases}
 use Rattle.scope_laws.proofs.Marking.{found_marked}
 use Rattle.scope_laws.proofs.Numbers.{listed_once}
 use Rattle.scope_table.specs.Reading.{no_scope, no_symbol, scope_at, reference_at as entry_at, symbol_at as symbol_numbered}

@@ -14,7 +14,7 @@ use Rattle.scope_rules.specs.Context.{Context, inside, body_of, in_block, below_
 use Rattle.scope_rules.specs.Site.{Site, scope_site, binding_site, reference_site, BindingSite, ReferenceSite, own_sites, opens_one, scope_count, sites, bindings_among, references_among}
 use Rattle.scope_laws.specs.Exact.{Among}
 use Rattle.scope_laws.proofs.Around.{references_append}
-use Rattle.scope_laws.proofs.Declared.{among_left, among_right, among_cases}
+use Rattle.scope_laws.proofs.Among.{among_left, among_right, among_cases}
 use Rattle.steps_names.specs.Placed.{a_name, Place, sort_of, place_below, fits, well_placed}
 use Rattle.steps_names.proofs.Lists.{either}
 use Rattle.steps_names.proofs.Taking.{names_fit, never_fits, Kept, kept}

@@ -15,7 +15,7 @@ use Rattle.scope_rules.specs.Context.{Context, has_second, inside, outermost}
 use Rattle.scope_rules.specs.Site.{BindingSite, opens_one, scope_count, sites, bindings_among}
 use Rattle.scope_laws.specs.Exact.{Among}
 use Rattle.scope_laws.specs.Place.{Around, first, behind, behind_none, under, plug, there, scopes_before, sites_there}
-use Rattle.scope_laws.proofs.Declared.{among_left, among_right, among_cases}
+use Rattle.scope_laws.proofs.Among.{among_left, among_right, among_cases}
 use Rattle.scope_counts.specs.Counts.{Decl, Aims, no_part, aims_of_body, aims_of_block, aims_of_parameters, aims_of_variables, aims_of_function_name, aims_of_class_name, naming_in, aims_inside, named, hoisted}
 use Rattle.scope_counts.proofs.Layers.{aims_at}
 use Rattle.scope_counts.proofs.Counting.{Fresh, program_fresh, outside_fresh, fresh_below, fresh_behind, hoisted_are}

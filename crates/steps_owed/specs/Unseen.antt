@@ -4,8 +4,7 @@ use Rattle.js_syntax.specs.Node.{Forest, Tree}
 use Rattle.scope_rules.specs.Site.{BindingSite, ReferenceSite, sites_of, bindings_among, references_among}
 use Rattle.scope_rules.specs.Binding.{declared_by, binding_of}
 use Rattle.scope_laws.specs.Exact.{Among}
-use Rattle.scope_laws.specs.Place.{Around, plug, sites_there}
-use Rattle.scope_laws.specs.Keeping.{IsWithin}
+use Rattle.scope_laws.specs.Place.{Around, plug, IsWithin, sites_there}
 
 -- no reference has the binding of the declaration
 abbrev pub IsUnreferred : Forest → BindingSite → Type 0

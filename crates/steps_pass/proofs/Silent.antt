@@ -13,9 +13,8 @@ use Rattle.scope_rules.specs.Binding.{binding_of}
 use Rattle.scope_rules.specs.Table.{Scoping}
 use Rattle.scope_laws.specs.Exact.{Among}
 use Rattle.scope_laws.specs.Place.{Around, first, behind, behind_none, under, one_place, plug, there, sites_before, sites_there, sites_after}
-use Rattle.scope_laws.proofs.Declared.{among_left, among_right}
-use Rattle.scope_laws.proofs.Around.{references_append}
-use Rattle.scope_laws.proofs.Kept.{three}
+use Rattle.scope_laws.proofs.Among.{among_left, among_right}
+use Rattle.scope_laws.proofs.Around.{references_append, references_split}
 use Rattle.min_passes.specs.Unused.{names_of}
 use Rattle.steps_allowed.specs.Silent.{read_in, IsFound, IsSilentNode, IsSilent, HoldsThere}
 use Rattle.steps_allowed.specs.Places.{a_node, asked_at, At}
@@ -109,7 +108,7 @@ module _ (s : Scoping) (t v : Forest) (kept : IsKept s v) where
 
 pub all_there : (a : Around) (x : Option Tree) → AllOf (references_among (sites_of (plug a x))) (sites_there a x)
 all_there a x = λ r h.
-    subst (Among r) (sym (three a x))
+    subst (Among r) (sym (references_split a x))
     (among_right r (references_among (sites_before a x)) (references_among (sites_there a x) ++ references_among (sites_after a x)) (among_left r (references_among (sites_there a x)) (references_among (sites_after a x)) h))
 
 abbrev pub AllDeclared : List BindingSite → List Site → Type 0

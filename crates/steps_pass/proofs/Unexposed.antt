@@ -25,7 +25,7 @@ use Rattle.scope_rules.specs.Site.{Site, scope_site, ScopeSite, BindingSite, bit
 use Rattle.scope_rules.specs.Table.{Scoping}
 use Rattle.scope_table.specs.Reading.{scope_at, symbol_at}
 use Rattle.scope_laws.specs.Exact.{Among}
-use Rattle.scope_laws.proofs.Declared.{among_left, among_right}
+use Rattle.scope_laws.proofs.Among.{among_left, among_right}
 use Rattle.min_passes.specs.Unused.{has_bits, scope_has, is_sloppy_block, is_global, is_script, names_of}
 use Rattle.steps_allowed.specs.Exposure.{Exposure, in_code, in_block, declaring, is_script_source, at_function_name, at_class_name, exposed_inside, exposed_of, function_is_exposed, evaluates_somewhere}
 use Rattle.steps_pass.specs.Exposed.{unexposed_at, unexposed, IsUnexposed}
