@@ -1,17 +1,14 @@
 -- What passes leave is a program without dead code.
-use Rattle.std.proofs.Common.{◌≡◌, ℕ, zero, suc, Bool, true, false, if◌then◌else◌, [], ◌∷◌, refl, sym, subst}
+use Rattle.std.proofs.Common.{◌≡◌, ℕ, zero, suc, Bool, true, false, if◌then◌else◌, sym}
 use Rattle.js_syntax.specs.Class.{root}
-use Rattle.js_syntax.specs.Node.{Forest, bare}
+use Rattle.js_syntax.specs.Node.{Forest}
 use Rattle.form_rules.specs.Form.{IsWellFormed}
-use Rattle.json_shape.specs.Shape.{these, one, Stand, Fits}
-use Rattle.json_shape.proofs.Standing.{bare_stands, stands_bare}
+use Rattle.json_shape.specs.Shape.{Fits}
 use Rattle.scope_laws.proofs.Exact.{exact}
 use Rattle.js_scoping.specs.Build.{table_of, numbered}
-use Rattle.min_pass.specs.Around.{outermost}
-use Rattle.min_pass.specs.Pass.{no_names, cleared}
-use Rattle.min_passes.specs.Passes.{names_in, next, has_next, settled, most_passes, shaken}
+use Rattle.min_pass.specs.Pass.{cleared}
+use Rattle.min_passes.specs.Passes.{next, has_next, settled, most_passes, shaken}
 use Rattle.min_passes.proofs.Clean.{shaken_is_clean}
-use Rattle.steps_keep_table.proofs.Swept.{swept_stands}
 use Rattle.steps_fit.proofs.Arranged.{fits_arranged}
 use Rattle.steps_fit.proofs.Enclosing.{fits_enclosed}
 use Rattle.steps_pass.proofs.Cases.{holds_at_first}
@@ -19,24 +16,12 @@ use Rattle.headline.specs.Clean.{Clean}
 use Rattle.steps_fit.proofs.Modules.{fits_program}
 use Rattle.headline.proofs.Telling.{tells_scopes}
 use Rattle.headline.proofs.Bare.{arranged_as}
-use Rattle.headline.proofs.Passes.{numbered_same}
+use Rattle.headline.proofs.Passes.{numbered_same, numbered_fits, next_fits, cleared_fits}
 use Rattle.headline.proofs.Renoted.{clean_as}
 use Rattle.headline.proofs.Dead.{left_clean}
 use Rattle.headline.proofs.Lost.{left_as_it_is}
 
 -- ---- trees of the table
-
-fits_as : (t u : Forest) → bare t ≡ bare u → Fits root t → Fits root u
-fits_as t u e fits = stands_bare u (these (one root ∷ [])) (subst (Stand (these (one root ∷ []))) e (bare_stands t (these (one root ∷ [])) fits))
-
-numbered_fits : (t : Forest) → Fits root t → Fits root (numbered t)
-numbered_fits t fits = fits_as t (numbered t) (sym (numbered_same t)) fits
-
-next_fits : (t : Forest) → Fits root t → Fits root (next t)
-next_fits t fits = swept_stands (names_in t) (numbered t) (outermost true) (these (one root ∷ [])) refl (λ d. absurd (cc d)) (numbered_fits t fits)
-
-cleared_fits : (t : Forest) → Fits root t → Fits root (cleared t)
-cleared_fits t fits = swept_stands no_names t (outermost false) (these (one root ∷ [])) refl (λ d. absurd (cc d)) fits
 
 fits_either : (most : ℕ) (t : Forest) (b : Bool) → Fits root t → Fits root (settled most (next t)) → Fits root (if b then settled most (next t) else t)
 fits_either most t true now later = later
