@@ -1,21 +1,19 @@
 -- A program without dead code has none with other notes.
-use Rattle.std.proofs.Common.{◌≡◌, ◌∙◌, ◌+◌, ℕ, suc, List, [], ◌∷◌, ◌++◌, map, Bool, true, false, not, ◌&&◌, ◌||◌, ◌==◌, Option, Some, None, is_some, option_map, if◌then◌else◌, refl, sym, ap, ap₂, subst, arith, inl, inr}
+use Rattle.std.proofs.Common.{◌≡◌, ◌∙◌, ◌+◌, ℕ, suc, List, [], ◌∷◌, ◌++◌, map, Bool, true, false, ◌&&◌, ◌||◌, Option, Some, None, is_some, option_map, if◌then◌else◌, refl, sym, ap, ap₂, subst, inl, inr}
 use Rattle.std.proofs.lemmas.List.{map-append}
 use Rattle.std.specs.Str.{bytes_eq}
 use mathlib.Core.Path.{fun_ext}
 use Rattle.js_syntax.specs.declared.node_kind.NodeKind.{NodeKind as Kind}
-use Rattle.js_syntax.specs.declared.node_kind.NodeKind.TheVariants.{Program as program, Function as function, Class as class, PropertyDefinition as property_definition, SwitchStatement as switch_statement, WithStatement as with_statement, StaticBlock as static_block, BlockStatement as block_statement, CatchClause as catch_clause, ForStatement as for_statement, ForInStatement as for_in_statement, ForOfStatement as for_of_statement, BindingName as binding_name, ReferenceName as reference_name, TargetName as target_name, EmptyStatement as empty_statement, ExpressionStatement as expression_statement, VariableDeclarator as variable_declarator}
+use Rattle.js_syntax.specs.declared.node_kind.NodeKind.TheVariants.{Function as function, BindingName as binding_name, ReferenceName as reference_name, TargetName as target_name, EmptyStatement as empty_statement, ExpressionStatement as expression_statement, VariableDeclarator as variable_declarator}
 use Rattle.js_syntax.specs.declared.kind.FunctionKind.TheVariants as function_kind
 use Rattle.js_syntax.specs.declared.kind.VariableKind.TheVariants as variable
-use Rattle.js_syntax.specs.declared.scalar.SourceType.TheVariants as source_type
-use Rattle.js_syntax.specs.Node.{Forest, Tree, Note, nothing, node, absent, nowhere, bare, below_of}
-use Rattle.form_rules.specs.Context.{is_module, is_strict_list, is_strict_function}
+use Rattle.js_syntax.specs.Node.{Forest, Tree, Note, nothing, node, absent, nowhere, bare}
 use Rattle.min_pass.specs.declared.around.Around.{Around as Asked}
 use Rattle.min_pass.specs.Around.{is_with, entered as asked_below, outermost as asked_of_program}
 use Rattle.min_pass.specs.Pass.{is_given}
 use Rattle.scope_rules.specs.declared.layer.Layer.{Layer}
-use Rattle.scope_rules.specs.Context.{Context, opens, strict_in, inside, outermost}
-use Rattle.scope_rules.specs.Site.{Site, scope_site, binding_site, reference_site, ScopeSite, BindingSite, ReferenceSite, bit, form_bits, scope_bits, scope_row, has_eval, name_sites, own_sites, opens_one, scope_count, sites, sites_of, bindings_among, references_among}
+use Rattle.scope_rules.specs.Context.{Context, opens, inside, outermost}
+use Rattle.scope_rules.specs.Site.{Site, scope_site, binding_site, reference_site, ScopeSite, BindingSite, ReferenceSite, scope_bits, name_sites, own_sites, opens_one, scope_count, sites, sites_of, bindings_among, references_among}
 use Rattle.scope_rules.specs.Binding.{Binding, same_layer, is_declared, binding_layer, named_in, binding_of}
 use Rattle.scope_laws.specs.Exact.{Among}
 use Rattle.scope_laws.specs.Place.{Around, first, behind, behind_none, under, plug}
@@ -23,12 +21,14 @@ use Rattle.scope_laws.proofs.Notes.{unseen, opens_bare, scope_count_bare, scope_
 use Rattle.scope_laws.proofs.Among.{among_map, image}
 use Rattle.steps_names.specs.Standing.{is_export, exported_sites, exported_declarations}
 use Rattle.steps_allowed.specs.Silent.{read_in, IsFound, IsSilentNode, IsSilent, HoldsThere}
-use Rattle.steps_allowed.specs.Exposure.{Exposure, at_function_name, at_class_name, declaring, is_script_source, exposed_inside, is_script, exposed_of, exposed_at, exposure, function_is_exposed, evaluates_somewhere, IsOwnFunction, IsOwnDeclarator}
+use Rattle.steps_allowed.specs.Exposure.{Exposure, exposed_inside, exposed_of, exposed_at, exposure, function_is_exposed, evaluates_somewhere, IsOwnFunction, IsOwnDeclarator}
 use Rattle.steps_allowed.specs.Places.{a_node, asked_at, IsItem, IsDeclarator, At}
 use Rattle.steps_allowed.specs.Free.{IsFree, Free, FreeDeclarator}
 use Rattle.steps_allowed.specs.SilentStatement.{SilentStatement}
 use Rattle.steps_allowed.specs.UnusedFunction.{a_function}
 use Rattle.steps_allowed.specs.UnusedDeclarator.{a_declarator, SilentDeclarator}
+use Rattle.steps_owed.proofs.ExposedBare.{bare_inside, bare_below, bare_exposed}
+use Rattle.steps_owed.proofs.Focus.{follows_there}
 use Rattle.headline.specs.Clean.{IsDead, an_empty_statement, a_silent_statement, an_unused_function, an_unused_declarator, Clean}
 
 -- ---- sites without ids and spans
@@ -241,66 +241,10 @@ silent_as bs ds same w cs at next (node k n b f) (node l m c g) e h =
 
 -- ---- exposures
 
-same_bit : (form : ℕ) (s t a b : Bool) → bit s 1 + form + bit a 512 ≡ bit t 1 + form + bit b 512 → a ≡ b
-same_bit form s t true true e = refl
-same_bit form s t false false e = refl
-same_bit form true true true false e = absurd (Prim.omega (arith, e))
-same_bit form true false true false e = absurd (Prim.omega (arith, e))
-same_bit form false true true false e = absurd (Prim.omega (arith, e))
-same_bit form false false true false e = absurd (Prim.omega (arith, e))
-same_bit form true true false true e = absurd (Prim.omega (arith, e))
-same_bit form true false false true e = absurd (Prim.omega (arith, e))
-same_bit form false true false true e = absurd (Prim.omega (arith, e))
-same_bit form false false false true e = absurd (Prim.omega (arith, e))
-
--- of the row that lies in a node's scope
-evals_bare : (k : Kind) (t : Forest) → has_eval (scope_row k (bare t)) ≡ has_eval (scope_row k t)
-evals_bare k t = same_bit (form_bits k false) (strict_in outermost k (bare t)) (strict_in outermost k t) (has_eval (scope_row k (bare t))) (has_eval (scope_row k t)) (scope_bits_bare outermost k t)
-
-eval_bare : (t : Forest) → has_eval (bare t) ≡ has_eval t
-eval_bare t = evals_bare block_statement t
-
-strict_list_bare : (t : Forest) → is_strict_list (bare t) ≡ is_strict_list t
-strict_list_bare t = ap (λ (c : Context). c.strict) (inside_bare outermost 0 (program source_type.Script) t 0)
-
-strict_function_bare : (t : Forest) → is_strict_function (bare t) ≡ is_strict_function t
-strict_function_bare t = ap (λ (c : Context). c.strict) (inside_bare outermost 0 (function function_kind.Declaration false) t 2)
-
--- in code and in a block, by whether it evaluates
-abbrev code_with : Exposure → (shared strict evaluates : Bool) → Exposure
-code_with e shared strict b = record { outside = false; strict = strict; variables_shared = shared; names_shared = shared; declared_shared = e.declared_shared; evaluates = b; in_sloppy_block = false }
-
-abbrev block_with : Exposure → (strict evaluates : Bool) → Exposure
-block_with e strict b =
-    record { outside = e.outside; strict = strict; variables_shared = e.variables_shared; names_shared = false; declared_shared = e.declared_shared; evaluates = b; in_sloppy_block = not strict }
-
-exposed_bare : (e : Exposure) (k : Kind) (t : Forest) (at : ℕ) → exposed_inside e k (bare t) at ≡ exposed_inside e k t at
-exposed_bare e (program source) t at = ap₂ (λ a b. code_with e (e.outside && is_script_source source) (is_module source || a) b) (strict_list_bare t) (eval_bare t)
-exposed_bare e (function how pure) t at =
-    ap₂ (λ a b. if at == 0 then at_function_name e how else if at == 1 then declaring (code_with e false (e.strict || a) b) false else code_with e false (e.strict || a) b) (strict_function_bare t) (eval_bare t)
-exposed_bare e (class how) t at = ap (λ b. if at == 0 then at_class_name e how else block_with e true b) (eval_bare t)
-exposed_bare e static_block t at = ap (code_with e false e.strict) (eval_bare t)
-exposed_bare e (property_definition is_static key) t at = ap₂ (λ a b. if a && at == 1 then block_with e e.strict b else e) (opens_bare (property_definition is_static key) t) (evals_bare (property_definition is_static key) t)
-exposed_bare e block_statement t at = ap (block_with e e.strict) (eval_bare t)
-exposed_bare e switch_statement t at = ap (λ b. if at == 1 then block_with e e.strict b else e) (evals_bare switch_statement t)
-exposed_bare e with_statement t at = ap (λ b. if at == 1 then block_with e e.strict b else e) (evals_bare with_statement t)
-exposed_bare e catch_clause t at = ap (λ b. if at == 0 then declaring (block_with e e.strict b) false else block_with e e.strict b) (eval_bare t)
-exposed_bare e for_statement t at = ap (block_with e e.strict) (eval_bare t)
-exposed_bare e for_in_statement t at = ap (block_with e e.strict) (eval_bare t)
-exposed_bare e for_of_statement t at = ap (block_with e e.strict) (eval_bare t)
-exposed_bare e k t at = refl
-
 exposed_same : (e : Exposure) (k : Kind) (f g : Forest) → bare f ≡ bare g → exposed_inside e k f ≡ exposed_inside e k g
-exposed_same e k f g h = fun_ext (λ i. unseen (λ t. exposed_inside e k t i) (λ t. exposed_bare e k t i) f g h)
+exposed_same e k f g h = fun_ext (λ i. unseen (λ t. exposed_inside e k t i) (λ t. bare_inside k e t i) f g h)
 
 -- ---- the same place
-
-weaker_there : (a : Around) (x : Option Tree) (w : Bool) (cs : ℕ → Context) (at next : ℕ) (P Q : Bool → Context → ℕ → Type 0) → ((v : Bool) (c : Context) (i : ℕ) → P v c i → Q v c i)
-    → HoldsThere w cs at next a x P → HoldsThere w cs at next a x Q
-weaker_there (first rest) x w cs at next P Q f h = f w (cs at) next h
-weaker_there (behind k n b a) x w cs at next P Q f h = weaker_there a x w cs (suc at) (next + scope_count (node k n b nothing)) P Q f h
-weaker_there (behind_none a) x w cs at next P Q f h = weaker_there a x w cs (suc at) next P Q f h
-weaker_there (under k n a rest) x w cs at next P Q f h = weaker_there a x (w || is_with k) (inside (cs at) next k (plug a x)) 0 (next + opens_one k (plug a x)) P Q f h
 
 -- The place in another tree, with what stands there.
 record Twin (t : Forest) (a : Around) (k : Kind) (n : Note) (b : Forest) : Type 1 where
@@ -377,21 +321,12 @@ twin (under j i a rest) k n b (node l m c r) e =
 
 -- ---- whole programs
 
-script_bare : (t : Forest) → is_script (bare t) ≡ is_script t
-script_bare (node (program source) n below rest) = refl
-script_bare t = refl
-
-below_bare : (t : Forest) → has_eval (below_of (bare t)) ≡ has_eval (below_of t)
-below_bare nothing = refl
-below_bare (absent rest) = refl
-below_bare (node k n below rest) = eval_bare below
-
 beside_bare : (t : Forest) → exposed_of (bare t) ≡ exposed_of t
-beside_bare t = fun_ext (λ i. ap₂ (λ s b. record { outside = i == 0; strict = false; variables_shared = s; names_shared = s; declared_shared = s; evaluates = b; in_sloppy_block = false }) (script_bare t) (below_bare t))
+beside_bare t = fun_ext (bare_exposed t)
 
 module _ (t u : Forest) (e : bare t ≡ bare u) where
   evaluates_same : evaluates_somewhere t ≡ evaluates_somewhere u
-  evaluates_same = unseen evaluates_somewhere below_bare t u e
+  evaluates_same = unseen evaluates_somewhere bare_below t u e
 
   silent_in : (w : Bool) (cs : ℕ → Context) (at next : ℕ) (f g : Forest) → bare f ≡ bare g → IsSilent (bindings_among (sites_of u)) w cs at next f
       → IsSilent (bindings_among (sites_of t)) w cs at next g
@@ -454,7 +389,7 @@ module _ (t u : Forest) (e : bare t ≡ bare u) (clean : Clean t) where
 
   evaluates_as : {k : Kind} {n : Note} {b : Forest} (a : Around) (o : Twin t a k n b) → u ≡ plug a (a_node k n b)
       → evaluates_somewhere (plug o.around (a_node k o.note o.below)) ≡ evaluates_somewhere (plug a (a_node k n b))
-  evaluates_as a o is = unseen evaluates_somewhere below_bare _ _ (sym (ap bare o.is) ∙ e ∙ ap bare is)
+  evaluates_as a o is = unseen evaluates_somewhere bare_below _ _ (sym (ap bare o.is) ∙ e ∙ ap bare is)
 
   no_empty : (a : Around) (n : Note) → u ≡ plug a (a_node empty_statement n nothing) → IsItem a → ⊥
   no_empty a n is item =
@@ -467,7 +402,7 @@ module _ (t u : Forest) (e : bare t ≡ bare u) (clean : Clean t) where
       let o = other_place a expression_statement n b is in
       clean.nothing_is_dead o.around (a_node expression_statement o.note o.below) o.is
       (a_silent_statement o.around o.note o.below
-      (weaker_there o.around (a_node expression_statement o.note o.below) false (λ at. outermost) 0 0 (SilentStatement u b) (SilentStatement t o.below) (statement_as t u e b o.below (sym o.same))
+      (follows_there (SilentStatement u b) (SilentStatement t o.below) (statement_as t u e b o.below (sym o.same)) (a_node expression_statement o.note o.below) o.around false (λ at. outermost) 0 0
       (o.holds (SilentStatement u b) false (λ at. outermost) 0 0 silent)))
 
   no_function : (a : Around) (pure : Bool) (n m : Note) (x : List ℕ) (rest : Forest) → u ≡ plug a (a_function pure n m x rest) → IsItem a → IsOwnFunction a (a_function pure n m x rest)
@@ -480,7 +415,7 @@ module _ (t u : Forest) (e : bare t ≡ bare u) (clean : Clean t) where
       let now : (t ≡ plug o.around (a_node k o.note o.below)) × (function_is_exposed (exposure o.around (a_node k o.note o.below)) ≡ false) × At o.around (a_node k o.note o.below) (Free t variable.Let x) = (
         o.is,
         ap function_is_exposed (exposure_as a o is) ∙ own,
-        weaker_there o.around (a_node k o.note o.below) false (λ at. outermost) 0 0 (Free u variable.Let x) (Free t variable.Let x) (λ v c i h. free_as t u e (named_in x c.block) h)
+        follows_there (Free u variable.Let x) (Free t variable.Let x) (λ v c i h. free_as t u e (named_in x c.block) h) (a_node k o.note o.below) o.around false (λ at. outermost) 0 0
             (o.holds (Free u variable.Let x) false (λ at. outermost) 0 0 free),
       ) in
       let there = subst (λ d. (t ≡ plug o.around (a_node k o.note d)) × (function_is_exposed (exposure o.around (a_node k o.note d)) ≡ false) × At o.around (a_node k o.note d) (Free t variable.Let x)) f.is now in
@@ -498,8 +433,8 @@ module _ (t u : Forest) (e : bare t ≡ bare u) (clean : Clean t) where
       × At o.around (a_node k o.note o.below) quiet × At o.around (a_node k o.note o.below) (FreeDeclarator t x) = (
         o.is,
         ap₂ (λ (q : Exposure) v. q.declared_shared || v) (exposure_as a o is) (evaluates_as a o is) ∙ own,
-        weaker_there o.around (a_node k o.note o.below) false (λ at. outermost) 0 0 (SilentDeclarator u b) quiet (declarator_as t u e x m f.note value f.rest_now f.same) (o.holds (SilentDeclarator u b) false (λ at. outermost) 0 0 silent),
-        weaker_there o.around (a_node k o.note o.below) false (λ at. outermost) 0 0 (FreeDeclarator u x) (FreeDeclarator t x) (λ v c i h. free_as t u e (named_in x c.declaring.layer) h)
+        follows_there (SilentDeclarator u b) quiet (declarator_as t u e x m f.note value f.rest_now f.same) (a_node k o.note o.below) o.around false (λ at. outermost) 0 0 (o.holds (SilentDeclarator u b) false (λ at. outermost) 0 0 silent),
+        follows_there (FreeDeclarator u x) (FreeDeclarator t x) (λ v c i h. free_as t u e (named_in x c.declaring.layer) h) (a_node k o.note o.below) o.around false (λ at. outermost) 0 0
             (o.holds (FreeDeclarator u x) false (λ at. outermost) 0 0 free),
       ) in
       let there = subst (λ d. (t ≡ plug o.around (a_node k o.note d)) × ((exposure o.around (a_node k o.note d)).declared_shared || evaluates_somewhere (plug o.around (a_node k o.note d)) ≡ false)

@@ -24,6 +24,7 @@ pub mod Made
 pub mod Undeclared
 pub mod PartRuns
 pub mod Calling
+pub mod ExposedBare
 pub mod Changing
 pub mod Places
 pub mod Pruning
