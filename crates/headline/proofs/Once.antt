@@ -14,13 +14,13 @@ use Rattle.js_meaning_near.specs.Near.{module_of}
 use Rattle.js_meaning_near.specs.Avoid.{declares, Dropped, dropped_here, dropped_later, HasCells}
 use Rattle.js_meaning_near.proofs.Avoid.{fewer_itself, dropped_first, dropped_second, itself}
 use Rattle.steps.specs.Names.{is_among, refers}
-use Rattle.steps.specs.Steps.{other, Around, entered, outermost, is_used, Step, empty_statement_leaves, unused_function_leaves, unused_declarator_leaves, unused_declaration_leaves, silent_statement_empties, inside, behind_node, behind_absent}
+use Rattle.steps.specs.Steps.{other, Around, entered, outermost, is_used, Step, leaves, empties, inside, behind_node, behind_absent}
 use Rattle.steps_keep_runs.specs.Formed.{holds_well, still, heads, is_formed}
 use Rattle.steps_keep_runs.specs.Drop.{Drop, no_drop, of_block, of_function, declared_so, out_of_block, outside, dropped}
 use Rattle.steps_keep_runs.specs.Once.{OnceAt, OnceIn, Once}
 use Rattle.steps_keep_runs.proofs.Calm.{form_holds, form_heads, form_below, form_behind}
 use Rattle.steps_keep_runs.proofs.Lists.{Less, less_here, less_later, less_dropped, VarsChange, LexicalChange, vars_step, lexical_step}
-use Rattle.steps_keep_runs.proofs.Names.{declares_among}
+use Rattle.steps_keep_runs.proofs.Names.{declares_among, passing_free}
 use Rattle.steps_keep_runs.proofs.Scopes.{Inner, inner, step_behind, DeclsChange, function_change, formed_behind, holds_behind}
 use Rattle.steps_keep_runs.proofs.Modules.{nothing_stays}
 use Rattle.steps_names.specs.Placed.{Place, program_list, module_items, lists, case_items, sort_of, place_below, function_place, fits, well_placed, has_plain_values, is_well_placed}
@@ -30,41 +30,6 @@ use Rattle.steps_fit.specs.Clear.{ClearAt, Clear}
 use Rattle.headline.proofs.Binding.{Lacks, undeclared_left, undeclared_right, undeclared_so, Free, row_free, items_place, code_free, row_binds}
 use Rattle.headline.proofs.Cells.{dropped_cells, once_cells, row_cells}
 use Rattle.js_syntax.proofs.Truth.{second_of_either, first_of_both, second_of_both, second_of_neither}
-
--- ---- no `var` of a name that goes passes through its scope
-
-stays_out : (d : Drop) (x : Text) → out_of_block d ≡ of_block x → ⊥
-stays_out no_drop x e = cc
-stays_out (of_block y) x e = cc
-stays_out (of_function y) x e = cc
-
-abbrev name_in : Text → Drop → Text
-name_in z (of_block x) = x
-name_in z d = z
-
-passing_leaf : (w : Around) (how : VariableKind) (x y : Text) → is_used w how x ≡ false → declared_so how x ≡ of_block y → Lacks y w.passing
-passing_leaf w variable.Var x y e f = absurd (cc)
-passing_leaf w variable.Let x y e f = subst (λ z. Lacks z w.passing) (ap (name_in x) f) (second_of_neither (refers x w.block) (is_among w.passing x) e)
-passing_leaf w variable.Const x y e f = subst (λ z. Lacks z w.passing) (ap (name_in x) f) (second_of_neither (refers x w.block) (is_among w.passing x) e)
-
-passing_inside : (w : Around) (k : Kind) (a : Forest) (d : Drop) (x : Text) → outside k d ≡ of_block x → (d ≡ of_block x → Lacks x (entered w k a).passing) → Lacks x w.passing
-passing_inside w (Kind.Program source) a d x e h = absurd (cc)
-passing_inside w (Kind.Function f pure) a d x e h = absurd (cc)
-passing_inside w Kind.BlockStatement a d x e h = absurd (stays_out d x e)
-passing_inside w Kind.Cases a d x e h = absurd (stays_out d x e)
-passing_inside w Kind.ForStatement a d x e h = absurd (stays_out d x e)
-passing_inside w Kind.CatchClause a d x e h = absurd (stays_out d x e)
-passing_inside w k a d x e h = h e
-
-passing_free : {w : Around} {t u : Forest} (s : Step w t u) (x : Text) → dropped s ≡ of_block x → Lacks x w.passing
-passing_free (empty_statement_leaves h) x e = absurd (cc)
-passing_free (unused_function_leaves {w = w} {x = y} h g) x e = passing_leaf w variable.Let y x g e
-passing_free (unused_declarator_leaves {w = w} {how = how} {x = y} h g v) x e = passing_leaf w how y x g e
-passing_free (unused_declaration_leaves {w = w} {how = how} {x = y} h g v) x e = passing_leaf w how y x g e
-passing_free (silent_statement_empties h) x e = absurd (cc)
-passing_free (inside {w = w} {k = k} {a = a} s) x e = passing_inside w k a (dropped s) x e (λ f. passing_free s x f)
-passing_free (behind_node s) x e = passing_free s x e
-passing_free (behind_absent s) x e = passing_free s x e
 
 -- ---- what goes was declared
 
@@ -137,11 +102,8 @@ once_at w {a} {b} Kind.Cases s (of_block x) e m g f p i o c =
 once_at w k s d e m g f p i o c = tt
 
 once_step : {w : Around} {t u : Forest} (s : Step w t u) (places : ℕ → Place) (at : ℕ) → is_formed t ≡ true → well_placed places at u ≡ true → Clear t → Once s
-once_step (empty_statement_leaves h) places at f o c = tt
-once_step (unused_function_leaves h g) places at f o c = tt
-once_step (unused_declarator_leaves h g v) places at f o c = tt
-once_step (unused_declaration_leaves h g v) places at f o c = tt
-once_step (silent_statement_empties h) places at f o c = tt
+once_step (leaves g) places at f o c = tt
+once_step (empties h) places at f o c = tt
 once_step (inside {w = w} {k = k} {a = a} {b = b} {r = r} s) places at f o c =
     let i = and_parts (fits (places at) (sort_of k)) _ o in
     let j = and_parts (well_placed (place_below (places at) k) 0 b) _ i.1 in

@@ -10,7 +10,7 @@ use Rattle.js_meaning.specs.Scope.{Decl, waiting, all_so, named_so, first_of, fi
 use Rattle.js_meaning.specs.Module.{names_in}
 use Rattle.js_meaning_near.specs.Names.{Names, Lone, FillableIf, Decls, no_decls, Copied, declared}
 use Rattle.js_meaning_near.specs.Near as near
-use Rattle.js_meaning_near.specs.Near.{fields, Idle, idle_empty, idle_expression, idle_function, idle_declarator, idle_bare_declarator, idle_declaration, all_idle, one_idle, Change, statement_emptied, Near, near_nothing, near_absent, near_node, near_closure, near_hoisted, near_uncovered, changed, leaves, Code, near_code, Heads}
+use Rattle.js_meaning_near.specs.Near.{fields, Idle, idle_empty, idle_expression, idle_function, idle_declarator, idle_bare_declarator, idle_declaration, all_idle, one_idle, Change, statement_emptied, Near, near_nothing, near_absent, near_node, near_closure, near_hoisted, near_uncovered, changed, Code, near_code, Heads}
 use Rattle.js_meaning_near.specs.Fit.{names_after, Part, whole, others, part_of, NodeFits, Fits}
 use Rattle.js_meaning_near.specs.Avoid.{declares}
 use Rattle.js_meaning_near.proofs.Avoid.{after_plain}
@@ -18,12 +18,12 @@ use Rattle.js_meaning_near.proofs.Fit.{decls_to, same_copied, fit}
 use Rattle.js_meaning_near.proofs.Once.{node_stays}
 use Rattle.steps.specs.Names.{is_among, names_declared}
 use Rattle.steps.specs.Steps as steps
-use Rattle.steps.specs.Steps.{items, of_item, declarators, other, row_below, Around, entered, Initialiser, no_initialiser, silent_initialiser, Step, empty_statement_leaves, unused_function_leaves, unused_declarator_leaves, unused_declaration_leaves, silent_statement_empties, inside, behind_node, behind_absent}
+use Rattle.steps.specs.Steps.{items, of_item, declarators, other, row_below, Around, entered, Initialiser, no_initialiser, silent_initialiser, Goes, empty_statement, unused_function, unused_declarator, unused_declaration, Step, leaves, empties, inside, behind_node, behind_absent}
 use Rattle.steps_keep_runs.specs.Formed.{may_hold, holds_well, still, is_formed}
-use Rattle.steps_keep_runs.specs.Drop.{Drop, no_drop, of_block, of_function, declared_so, out_of_block, outside, dropped}
+use Rattle.steps_keep_runs.specs.Drop.{Drop, no_drop, of_block, of_function, declared_so, out_of_block, outside, drop_of, dropped}
 use Rattle.steps_keep_runs.specs.Tidy.{TidyAt, Tidy}
 use Rattle.steps_keep_runs.proofs.Silent.{Declare, silent}
-use Rattle.steps_keep_runs.proofs.Calm.{items_other, declarators_other, entered_row, still_stays, first_stays, form_holds, form_heads, form_below, form_behind}
+use Rattle.steps_keep_runs.proofs.Calm.{items_other, declarators_other, leaves_no_other, entered_row, still_stays, first_stays, form_holds, form_heads, form_below, form_behind}
 use Rattle.steps_keep_runs.proofs.Lists.{LexicalChange, lexical_step, lexical_same, not_block, NotBlock}
 use Rattle.steps_keep_runs.proofs.Names.{names_all_so, declare_within, Stays, stays_fits, stays_lone, stays_behind, stays_absent, stays_others, stays_others_absent, Crossed, inner_free, inner_front, declare_code, through}
 use Rattle.steps_keep_runs.proofs.Scopes.{if_core, same_rows, function_change, Entered, enter_code, enter_block, outer, IsBlock, is_block, is_cases, is_for, is_catch, InTidy, stays_below, for_first, object_keys}
@@ -61,12 +61,24 @@ agree_other r p e = record { list = λ f. absurd (items_other f e); declarators 
 
 -- what leaves a list
 
-leave : {p : near.Row} {st : Names} {k : Kind} {n : Note} {a r : Forest} → p ≡ near.items → Idle st k a → Near p st r r → Near p st (node k n a r) r
-leave {st = st} {k = k} {n = n} {a = a} {r = r} e i o = subst (λ p. Near p st r r → Near p st (node k n a r) r) (sym e) (leaves i) o
-
 idle_declared : {st : Names} {names : List Text} {x : Text} {m : Note} {v : Forest} → Declare st names → Lone (st x) → Initialiser names v → Idle st Kind.VariableDeclarator (node (Kind.BindingName x) m nothing v)
 idle_declared d l no_initialiser = idle_bare_declarator l
 idle_declared {names = names} d l (silent_initialiser {k = k} {n = n} {a = a} i) = idle_declarator l (silent names k n a d i.silent)
+
+leaves_list : {w : Around} {p : near.Row} {k : Kind} {a : Forest} → Goes w k a → Agree w.row p → p ≡ near.items
+leaves_list (empty_statement h) i = i.list h
+leaves_list (unused_function h u) i = i.list h
+leaves_list (unused_declarator {how = how} h u v) i = i.declarators how h
+leaves_list (unused_declaration h u v) i = i.list h
+
+leaves_idle : {w : Around} {p : near.Row} {st : Names} {k : Kind} {a r : Forest} (h : Goes w k a) → Declare st w.names → Stays (drop_of h) whole st p r → Idle st k a
+leaves_idle (empty_statement h) d g = idle_empty
+leaves_idle (unused_function h u) d g = idle_function g.lone
+leaves_idle {p = p} {st = st} {r = r} (unused_declarator {how = how} {x = x} h u v) d g = idle_declared d (stays_lone how x whole st p r g) v
+leaves_idle {p = p} {st = st} {r = r} (unused_declaration {how = how} {x = x} h u v) d g = idle_declaration (one_idle (idle_declared d (stays_lone how x whole st p r g) v) all_idle)
+
+leave : {w : Around} {p : near.Row} {st : Names} {k : Kind} {n : Note} {a r : Forest} (h : Goes w k a) → Agree w.row p → Declare st w.names → Stays (drop_of h) whole st p r → Near p st r r → Near p st (node k n a r) r
+leave {st = st} {k = k} {n = n} {a = a} {r = r} h i d g o = subst (λ p. Near p st r r → Near p st (node k n a r) r) (sym (leaves_list h i)) (near.leaves (leaves_idle h d g)) o
 
 -- behind the first field of a function, where that holds still
 
@@ -174,24 +186,16 @@ inside_core w {n} {a} {b} {r} k s above p st false c m f d g t h = near_uncovere
 
 pub near_step : {w : Around} {t u : Forest} (q : Part) (s : Step w t u) (above : Kind) (p : near.Row) (st : Names) → holds_well above t ≡ true → is_formed t ≡ true → Agree w.row p → OthersOk q w.row t → Declare st w.names → Stays (dropped s) q st p u → Tidy s
     → Near p st (part_of q t) (part_of q u)
-near_step whole (empty_statement_leaves {r = r} h) above p st m f i o d g t = leave (i.list h) idle_empty (fit whole p st r (stays_fits no_drop whole st p r g))
-near_step whole (unused_function_leaves {x = x} {r = r} h j) above p st m f i o d g t = leave (i.list h) (idle_function g.lone) (fit whole p st r (stays_fits (of_block x) whole st p r g))
-near_step whole (unused_declarator_leaves {how = how} {x = x} {r = r} h j v) above p st m f i o d g t =
-    leave (i.declarators how h) (idle_declared d (stays_lone how x whole st p r g) v) (fit whole p st r (stays_fits (declared_so how x) whole st p r g))
-near_step whole (unused_declaration_leaves {how = how} {x = x} {r = r} h j v) above p st m f i o d g t =
-    leave (i.list h) (idle_declaration (one_idle (idle_declared d (stays_lone how x whole st p r g) v) all_idle)) (fit whole p st r (stays_fits (declared_so how x) whole st p r g))
-near_step whole (silent_statement_empties {w = w} {k = k} {m = n} {l = l} {a = a} {r = r} h) above p st m f i o d g t =
+near_step whole (leaves {r = r} h) above p st m f i o d g t = leave h i d g (fit whole p st r (stays_fits (drop_of h) whole st p r g))
+near_step whole (empties {w = w} {k = k} {m = n} {l = l} {a = a} {r = r} h) above p st m f i o d g t =
     changed (statement_emptied (silent w.names k l a d h.silent)) (fit whole p st r (stays_fits no_drop whole st p (node Kind.EmptyStatement n nothing r) g).1)
 near_step whole (inside {w = w} {k = k} {a = a} {r = r} s) above p st m f i o d g t =
     inside_core w k s above p st (is_core k) refl (first_of_both (may_hold above k) (holds_well above r) m) f d g t.0 (λ q p st i o d g. near_step q s k p st (form_holds k a r f) (form_below k a r f) i o d g t.1)
 near_step whole (behind_node {k = k} {n = n} {a = a} {r = r} {s = z} s) above p st m f i o d g t =
     node_stays p st k n a (stays_fits (dropped s) whole st p (node k n a z) g).0 (near_step whole s above p st (second_of_both (may_hold above k) (holds_well above r) m) (form_behind k a r f) i tt d (stays_behind (dropped s) st p k n a z g) t)
 near_step whole (behind_absent {s = z} s) above p st m f i o d g t = near_absent (near_step whole s above p st m f i tt d (stays_absent (dropped s) st p z g) t)
-near_step others (empty_statement_leaves h) above p st m f i o d g t = absurd (items_other h o.0)
-near_step others (unused_function_leaves h j) above p st m f i o d g t = absurd (items_other h o.0)
-near_step others (unused_declarator_leaves h j v) above p st m f i o d g t = absurd (declarators_other h o.0)
-near_step others (unused_declaration_leaves h j v) above p st m f i o d g t = absurd (items_other h o.0)
-near_step others (silent_statement_empties h) above p st m f i o d g t = absurd (true≢false (sym o.1))
+near_step others (leaves h) above p st m f i o d g t = absurd (leaves_no_other h o.0)
+near_step others (empties h) above p st m f i o d g t = absurd (true≢false (sym o.1))
 near_step others (inside {n = n} s) above p st m f i o d g t = absurd (still_stays (inside {n = n} {r = nothing} s) o.0 o.1)
 near_step others (behind_node {k = k} {n = n} {a = a} {r = r} {s = z} s) above p st m f i o d g t =
     near_step whole s above p st (second_of_both (may_hold above k) (holds_well above r) m) (form_behind k a r f) i tt d (stays_others (dropped s) st p k n a z g) t

@@ -12,11 +12,11 @@ use Rattle.js_meaning_near.specs.Near.{Row, fields, row_below, ReceiverOk, is_ro
 use Rattle.js_meaning_near.specs.Fit.{whole, others, IfCore}
 use Rattle.js_meaning_near.specs.Avoid.{declares, Dropped, NodeInPlace, InPlace, NodeAvoids, Avoids, Unless}
 use Rattle.js_meaning_near.proofs.Avoid.{fewer_itself, dropped_first, dropped_second}
-use Rattle.steps.specs.Steps.{other, Around, Step, empty_statement_leaves, unused_function_leaves, unused_declarator_leaves, unused_declaration_leaves, silent_statement_empties, inside, behind_node, behind_absent}
+use Rattle.steps.specs.Steps.{other, Around, Step, leaves, empties, inside, behind_node, behind_absent}
 use Rattle.steps_keep_runs.specs.Formed.{may_hold, holds_well, still, calm, heads, is_formed}
 use Rattle.steps_keep_runs.specs.Drop.{Drop, no_drop, of_block, of_function, out_of_block, dropped}
 use Rattle.steps_keep_runs.specs.Tidy.{Clear, TidyAt}
-use Rattle.steps_keep_runs.proofs.Calm.{items_other, declarators_other, still_stays, first_stays, form_below, form_behind, Alike, alike_nothing, alike_absent, alike_same, alike_node, alike_function, calm_step, same_lexical}
+use Rattle.steps_keep_runs.proofs.Calm.{leaves_no_other, still_stays, first_stays, form_below, form_behind, Alike, alike_nothing, alike_absent, alike_same, alike_node, alike_function, calm_step, same_lexical}
 use Rattle.steps_keep_runs.proofs.Lists.{LexicalChange, VarsChange, vars_step, lexical_step, less_dropped}
 use Rattle.steps_keep_runs.proofs.Names.{Stays, StaysBut, Crossed, crossed_plain, crossed_block, crossed_function, crossed_through}
 use Rattle.js_syntax.proofs.Truth.{first_of_both, second_of_both, both}
@@ -31,21 +31,15 @@ pub data Inner {w : Around} {a b : Forest} (s : Step w a b) : Type 0 where
   inner : (z : Step w (behind a) (behind b)) → dropped z ≡ dropped s → Inner s
 
 pub step_behind : {w : Around} {a b : Forest} (s : Step w a b) → w.row ≡ other → still (first_of a) ≡ true → Inner s
-step_behind (empty_statement_leaves h) g e = absurd (items_other h g)
-step_behind (unused_function_leaves h i) g e = absurd (items_other h g)
-step_behind (unused_declarator_leaves h i j) g e = absurd (declarators_other h g)
-step_behind (unused_declaration_leaves h i j) g e = absurd (items_other h g)
-step_behind (silent_statement_empties h) g e = absurd (true≢false (sym e))
+step_behind (leaves h) g e = absurd (leaves_no_other h g)
+step_behind (empties h) g e = absurd (true≢false (sym e))
 step_behind (inside {n = n} s) g e = absurd (still_stays (inside {n = n} {r = nothing} s) g e)
 step_behind (behind_node s) g e = inner s refl
 step_behind (behind_absent s) g e = inner s refl
 
 pub same_rows : {w : Around} {a b : Forest} → Step w a b → w.row ≡ other → is_row a ≡ is_row b
-same_rows (empty_statement_leaves h) g = absurd (items_other h g)
-same_rows (unused_function_leaves h i) g = absurd (items_other h g)
-same_rows (unused_declarator_leaves h i j) g = absurd (declarators_other h g)
-same_rows (unused_declaration_leaves h i j) g = absurd (items_other h g)
-same_rows (silent_statement_empties h) g = refl
+same_rows (leaves h) g = absurd (leaves_no_other h g)
+same_rows (empties h) g = refl
 same_rows (inside s) g = refl
 same_rows (behind_node s) g = refl
 same_rows (behind_absent s) g = refl
@@ -209,11 +203,8 @@ formed_alone k a r e =
     both (holds_well k a && heads k a) (is_formed a && true) (first_of_both (holds_well k a && heads k a) (is_formed a && is_formed r) e) (both (is_formed a) true (form_below k a r e) refl)
 
 pub for_first : {w : Around} {a b : Forest} → Step w a b → w.row ≡ other → calm (first_of a) ≡ true → is_formed a ≡ true → lexical (first_of a) ≡ lexical (first_of b)
-for_first (empty_statement_leaves h) g c e = absurd (items_other h g)
-for_first (unused_function_leaves h i) g c e = absurd (items_other h g)
-for_first (unused_declarator_leaves h i j) g c e = absurd (declarators_other h g)
-for_first (unused_declaration_leaves h i j) g c e = absurd (items_other h g)
-for_first (silent_statement_empties h) g c e = refl
+for_first (leaves h) g c e = absurd (leaves_no_other h g)
+for_first (empties h) g c e = refl
 for_first (inside {k = k} {n = n} {a = a} {r = r} s) g c e = same_lexical (calm_step (inside {n = n} {r = nothing} s) g c (formed_alone k a r e)).alike
 for_first (behind_node s) g c e = refl
 for_first (behind_absent s) g c e = refl

@@ -19,7 +19,8 @@ use Rattle.steps_keep_runs.specs.Once.{OnceIn, Once}
 use Rattle.steps_keep_runs.proofs.Calm.{form_holds, form_below}
 use Rattle.steps_keep_runs.proofs.Formed.{formed_step}
 use Rattle.steps_keep_runs.proofs.Modules.{place_step, nothing_stays, module_step}
-use Rattle.steps_keep_runs.proofs.Once.{scope_free, name_free, refers_step, scope_block, scope_function, clear_row, once_tidy}
+use Rattle.steps_keep_runs.proofs.Names.{block_free, variables_free}
+use Rattle.steps_keep_runs.proofs.Once.{name_free, refers_step, clear_row, once_tidy}
 use Rattle.steps_keep_runs.proofs.Shown.{exports_avoid}
 use Rattle.js_syntax.proofs.Truth.{first_of_neither}
 
@@ -31,12 +32,12 @@ top_tidy : (m : Note) (a b : Forest) (s : Step (at_top m a) a b) (d : Drop) → 
     → OnceIn (Kind.Program source_type.Module) (alone Kind.Statements m b) d → TidyAt (Kind.Program source_type.Module) (alone Kind.Statements m b) d
 top_tidy m a b s no_drop e f h g i o = tt
 top_tidy m a b s (of_block x) e f h g i o =
-    let free : refers x a ≡ false = first_of_neither (refers x a) false (scope_block (at_top m a) (dropped s) x e (scope_free s x (inl e))) in (
+    let free : refers x a ≡ false = first_of_neither (refers x a) false (block_free s x e) in (
       exports_avoid x b (name_free s x (inl e) f) (refers_step s x (inl e) f free),
       clear_row s x Kind.Statements whole near.items (module_decls b) (inl e) f h g free (λ t. t) o.0 o.1 i,
     )
 top_tidy m a b s (of_function x) e f h g i o =
-    let free : refers x a ≡ false = first_of_neither (refers x a) false (scope_function (at_top m a) (dropped s) x e (scope_free s x (inr e))) in (
+    let free : refers x a ≡ false = first_of_neither (refers x a) false (variables_free s x e) in (
       exports_avoid x b (name_free s x (inr e) f) (refers_step s x (inr e) f free),
       clear_row s x Kind.Statements whole near.items (module_decls b) (inr e) f h g free (λ t. t) o.0 o.1 i,
     )

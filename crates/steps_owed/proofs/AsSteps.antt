@@ -83,7 +83,7 @@ module _ (a : Place) where
       let x : Tree = record { kind = Kind.ExpressionStatement; note = n; below = expression } in
       let t = plug a (Some x) in
       let f = focused x (SilentStatement t expression) a refl w good silent in
-      f.keeps (record { kind = Kind.EmptyStatement; note = m; below = nothing }) (steps.silent_statement_empties (record {
+      f.keeps (record { kind = Kind.EmptyStatement; note = m; below = nothing }) (steps.empties (record {
         silent = silent_row (declarations_of t) f.around.names f.in_with (inside (f.contexts f.at) f.next Kind.ExpressionStatement expression) 0 (f.next + opens_one Kind.ExpressionStatement expression) expression (λ i. f.here.known.0) f.there;
         declares = no_names (bound_names expression) (plain_statement_here Kind.ExpressionStatement n expression f.rest f.here.good);
       }))
