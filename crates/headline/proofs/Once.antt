@@ -22,7 +22,7 @@ use Rattle.steps_keep_runs.proofs.Calm.{form_holds, form_heads, form_below, form
 use Rattle.steps_keep_runs.proofs.Lists.{Less, less_here, less_later, less_dropped, VarsChange, LexicalChange, vars_step, lexical_step}
 use Rattle.steps_keep_runs.proofs.Names.{declares_among, passing_free}
 use Rattle.steps_keep_runs.proofs.Scopes.{Inner, inner, step_behind, DeclsChange, function_change, formed_behind, holds_behind}
-use Rattle.steps_keep_runs.proofs.Modules.{nothing_stays}
+use Rattle.steps_keep_runs.proofs.Modules.{module_lists, InItems, in_items, in_its_items}
 use Rattle.steps_names.specs.Placed.{Place, program_list, module_items, lists, case_items, sort_of, place_below, function_place, fits, well_placed, has_plain_values, is_well_placed}
 use Rattle.steps_names.proofs.Lists.{in_left, in_right}
 use Rattle.steps_names.proofs.Taking.{never_fits}
@@ -114,38 +114,28 @@ once_step (behind_absent s) places at f o c = once_step s places (suc at) f o c
 
 -- ---- modules
 
-module_lists : (d : Drop) (xs ys : List Text) (ds es : List Decl) → VarsChange d xs ys → LexicalChange d ds es → DeclsChange d (decl this_name ready ∷ (all_so ready xs ++ ds)) (decl this_name ready ∷ (all_so ready ys ++ es))
-module_lists no_drop xs ys ds es v l = ap (λ m. decl this_name ready ∷ (all_so ready m ++ ds)) v ∙ ap (λ n. decl this_name ready ∷ (all_so ready ys ++ n)) l
-module_lists (of_block x) xs ys ds es v l = subst (λ m. Dropped x (decl this_name ready ∷ (all_so ready xs ++ ds)) (decl this_name ready ∷ (all_so ready m ++ es))) v (dropped_later (dropped_second (fewer_itself x (all_so ready xs)) l))
-module_lists (of_function x) xs ys ds es v l = subst (λ m. Dropped x (decl this_name ready ∷ (all_so ready xs ++ ds)) (decl this_name ready ∷ (all_so ready ys ++ m))) l (dropped_later (dropped_first (less_dropped ready v) (fewer_itself x ds)))
-
 items_free : (x : Text) (b : Forest) → declares (module_decls b) x ≡ false → Free x (λ i. module_items) 0 b
 items_free x b e =
     let h : Lacks x (names_in (all_so ready (var_names b) ++ lexical b)) = undeclared_right x (decl this_name ready ∷ []) (all_so ready (var_names b) ++ lexical b) (sym (declares_among (module_decls b) x) ∙ e) in
     let v : Lacks x (var_names b) = undeclared_so x ready (var_names b) (undeclared_left x (all_so ready (var_names b)) (lexical b) h) in
     row_free x (λ i. module_items) 0 b (λ i n. items_place x module_items b refl refl (undeclared_right x (all_so ready (var_names b)) (lexical b) h) v)
 
-items_once : (x : Text) (m : Note) (a b : Forest) → Dropped x (module_decls a) (module_decls b) → well_placed (λ i. module_items) 0 b ≡ true → ClearAt (Kind.Program source_type.Module) (alone Kind.Statements m a) → OnceAt x (module_decls b) b
-items_once x m a b d w c = (once_cells x (module_decls a) (module_decls b) d (c x), λ e. row_binds x (λ i. module_items) 0 b w (items_free x b e))
-
--- around the statements of a module
-abbrev around_list : Note → Forest → Around
-around_list m a = entered outermost (Kind.Program source_type.Module) (alone Kind.Statements m a)
+list_once : (x : Text) (m : Note) (a b : Forest) → Dropped x (module_decls a) (module_decls b) → well_placed (λ i. module_items) 0 b ≡ true → ClearAt (Kind.Program source_type.Module) (alone Kind.Statements m a) → OnceAt x (module_decls b) b
+list_once x m a b d w c = (once_cells x (module_decls a) (module_decls b) d (c x), λ e. row_binds x (λ i. module_items) 0 b w (items_free x b e))
 
 top_once : (m : Note) (a b : Forest) (d : Drop) → DeclsChange d (module_decls a) (module_decls b) → well_placed (λ i. module_items) 0 b ≡ true → ClearAt (Kind.Program source_type.Module) (alone Kind.Statements m a) → OnceIn (Kind.Program source_type.Module) (alone Kind.Statements m b) d
 top_once m a b no_drop h w c = tt
-top_once m a b (of_block x) h w c = items_once x m a b h w c
-top_once m a b (of_function x) h w c = items_once x m a b h w c
+top_once m a b (of_block x) h w c = list_once x m a b h w c
+top_once m a b (of_function x) h w c = list_once x m a b h w c
 
-list_once : (m : Note) (a b : Forest) (s : Step (around_list m a) (alone Kind.Statements m a) b) → is_formed (alone Kind.Statements m a) ≡ true → well_placed (λ i. program_list) 0 b ≡ true → ClearAt (Kind.Program source_type.Module) (alone Kind.Statements m a) → Clear a
-    → OnceIn (Kind.Program source_type.Module) b (dropped s) × Once s
-list_once m a _ (inside {b = b} s) f w c h =
-    let g : is_formed a ≡ true = form_below Kind.Statements a nothing f in
-    let l : holds_well Kind.Statements a ≡ true = form_holds Kind.Statements a nothing f in
-    let o : well_placed (λ i. module_items) 0 b ≡ true = (and_parts (well_placed (λ i. module_items) 0 b) true w).0 in
-    (top_once m a b (dropped s) (module_lists (dropped s) (var_names a) (var_names b) (lexical a) (lexical b) (vars_step s Kind.Statements l (inl refl) g) (lexical_step s Kind.Statements l refl (inl refl) g)) o c, (tt, once_step s (λ i. module_items) 0 g o h))
-list_once m a _ (behind_node s) f w c h = absurd (nothing_stays s)
+items_once : (n m : Note) (a u : Forest) (s : Step outermost (module_of n m a) u) → InItems n m a u s → is_formed (module_of n m a) ≡ true → is_well_placed u ≡ true → Clear (module_of n m a) → Once s
+items_once n m a _ _ (in_items {b = b} s) f w c =
+    let h : is_formed (alone Kind.Statements m a) ≡ true = form_below (Kind.Program source_type.Module) (alone Kind.Statements m a) nothing f in
+    let g : is_formed a ≡ true = form_below Kind.Statements a nothing h in
+    let l : holds_well Kind.Statements a ≡ true = form_holds Kind.Statements a nothing h in
+    let v : well_placed (λ i. program_list) 0 (alone Kind.Statements m b) ≡ true = (and_parts (well_placed (λ i. program_list) 0 (alone Kind.Statements m b)) (has_plain_values (alone Kind.Statements m b)) w).0 in
+    let o : well_placed (λ i. module_items) 0 b ≡ true = (and_parts (well_placed (λ i. module_items) 0 b) true v).0 in
+    (top_once m a b (dropped s) (module_lists (dropped s) (var_names a) (var_names b) (lexical a) (lexical b) (vars_step s Kind.Statements l (inl refl) g) (lexical_step s Kind.Statements l refl (inl refl) g)) o c.0, (tt, once_step s (λ i. module_items) 0 g o c.1.1))
 
 pub module_once : (n m : Note) (a u : Forest) (s : Step outermost (module_of n m a) u) → is_formed (module_of n m a) ≡ true → is_well_placed u ≡ true → Clear (module_of n m a) → Once s
-module_once n m a _ (inside {b = b} s) f w c = list_once m a b s (form_below (Kind.Program source_type.Module) (alone Kind.Statements m a) nothing f) (and_parts (well_placed (λ i. program_list) 0 b) (has_plain_values b) w).0 c.0 c.1.1
-module_once n m a _ (behind_node s) f w c = absurd (nothing_stays s)
+module_once n m a u s f w c = items_once n m a u s (in_its_items n m a u s) f w c

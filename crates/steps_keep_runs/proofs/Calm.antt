@@ -15,18 +15,20 @@ use Rattle.js_syntax.proofs.Truth.{first_of_both, second_of_both}
 
 -- rows
 
-pub items_other : {r : Row} → r ≡ items → r ≡ other → ⊥
-items_other e f = cc
+abbrev pub is_list : Row → Bool
+is_list items = true
+is_list (declarators how) = true
+is_list r = false
 
-pub declarators_other : {r : Row} {how : VariableKind} → r ≡ declarators how → r ≡ other → ⊥
-declarators_other e f = cc
+-- what leaves a row leaves a list
+pub leaves_list : {w : Around} {k : Kind} {a : Forest} → Goes w k a → is_list w.row ≡ true
+leaves_list (empty_statement h) = ap is_list h
+leaves_list (unused_function h u) = ap is_list h
+leaves_list (unused_declarator h u i) = ap is_list h
+leaves_list (unused_declaration h u i) = ap is_list h
 
--- only lists of statements and of declarators are left
 pub leaves_no_other : {w : Around} {k : Kind} {a : Forest} → Goes w k a → w.row ≡ other → ⊥
-leaves_no_other (empty_statement h) e = items_other h e
-leaves_no_other (unused_function h u) e = items_other h e
-leaves_no_other (unused_declarator h u i) e = declarators_other h e
-leaves_no_other (unused_declaration h u i) e = items_other h e
+leaves_no_other g e = true≢false (sym (leaves_list g) ∙ ap is_list e)
 
 pub entered_row : (w : Around) (k : Kind) (a : Forest) → (entered w k a).row ≡ row_below w.row k a
 entered_row w (Kind.Program source) a = refl

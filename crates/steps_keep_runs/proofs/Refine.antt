@@ -23,7 +23,7 @@ use Rattle.steps_keep_runs.specs.Formed.{may_hold, holds_well, still, is_formed}
 use Rattle.steps_keep_runs.specs.Drop.{Drop, no_drop, of_block, of_function, declared_so, out_of_block, outside, drop_of, dropped}
 use Rattle.steps_keep_runs.specs.Tidy.{TidyAt, Tidy}
 use Rattle.steps_keep_runs.proofs.Silent.{Declare, silent}
-use Rattle.steps_keep_runs.proofs.Calm.{items_other, declarators_other, leaves_no_other, entered_row, still_stays, first_stays, form_holds, form_heads, form_below, form_behind}
+use Rattle.steps_keep_runs.proofs.Calm.{is_list, leaves_list, leaves_no_other, entered_row, still_stays, first_stays, form_holds, form_heads, form_below, form_behind}
 use Rattle.steps_keep_runs.proofs.Lists.{LexicalChange, lexical_step, lexical_same, not_block, NotBlock}
 use Rattle.steps_keep_runs.proofs.Names.{names_all_so, declare_within, Stays, stays_fits, stays_lone, stays_behind, stays_absent, stays_others, stays_others_absent, Crossed, inner_free, inner_front, declare_code, through}
 use Rattle.steps_keep_runs.proofs.Scopes.{if_core, same_rows, function_change, Entered, enter_code, enter_block, outer, IsBlock, is_block, is_cases, is_for, is_catch, InTidy, stays_below, for_first, object_keys}
@@ -31,33 +31,23 @@ use Rattle.js_syntax.proofs.Truth.{first_of_both, second_of_both}
 
 -- how the rows of steps and of nearness agree: what may leave stands in a list
 
-pub record Agree (r : steps.Row) (p : near.Row) : Type 0 where
-  pub list : r ≡ items → p ≡ near.items
-  pub declarators : (how : VariableKind) → r ≡ steps.declarators how → p ≡ near.items
+abbrev pub Agree : (r : steps.Row) (p : near.Row) → Type 0
+Agree r p = is_list r ≡ true → p ≡ near.items
 
-below_items : (r : steps.Row) (k : Kind) (a : Forest) → row_below r k a ≡ items → near.row_below k ≡ near.items
-below_items r Kind.Statements a e = refl
-below_items r Kind.Declarators a e = refl
-below_items items (Kind.VariableDeclaration how) a e = absurd (cc)
-below_items (of_item h) (Kind.VariableDeclaration how) a e = absurd (cc)
-below_items (declarators h) (Kind.VariableDeclaration how) a e = absurd (cc)
-below_items other (Kind.VariableDeclaration how) a e = absurd (cc)
-below_items r k a e = absurd (cc)
-
-below_declarators : (r : steps.Row) (k : Kind) (a : Forest) (how : VariableKind) → row_below r k a ≡ declarators how → near.row_below k ≡ near.items
-below_declarators r Kind.Statements a how e = refl
-below_declarators r Kind.Declarators a how e = refl
-below_declarators items (Kind.VariableDeclaration h) a how e = absurd (cc)
-below_declarators (of_item g) (Kind.VariableDeclaration h) a how e = absurd (cc)
-below_declarators (declarators g) (Kind.VariableDeclaration h) a how e = absurd (cc)
-below_declarators other (Kind.VariableDeclaration h) a how e = absurd (cc)
-below_declarators r k a how e = absurd (cc)
+below_list : (r : steps.Row) (k : Kind) (a : Forest) → is_list (row_below r k a) ≡ true → near.row_below k ≡ near.items
+below_list r Kind.Statements a e = refl
+below_list r Kind.Declarators a e = refl
+below_list items (Kind.VariableDeclaration how) a e = absurd (cc)
+below_list (of_item h) (Kind.VariableDeclaration how) a e = absurd (cc)
+below_list (declarators h) (Kind.VariableDeclaration how) a e = absurd (cc)
+below_list other (Kind.VariableDeclaration how) a e = absurd (cc)
+below_list r k a e = absurd (cc)
 
 agree_below : (w : Around) (k : Kind) (a : Forest) → Agree (entered w k a).row (near.row_below k)
-agree_below w k a = record { list = λ e. below_items w.row k a (sym (entered_row w k a) ∙ e); declarators = λ how e. below_declarators w.row k a how (sym (entered_row w k a) ∙ e) }
+agree_below w k a e = below_list w.row k a (ap is_list (sym (entered_row w k a)) ∙ e)
 
 agree_other : (r : steps.Row) (p : near.Row) → r ≡ other → Agree r p
-agree_other r p e = record { list = λ f. absurd (items_other f e); declarators = λ how f. absurd (declarators_other f e) }
+agree_other r p e f = absurd (true≢false (sym f ∙ ap is_list e))
 
 -- what leaves a list
 
@@ -65,20 +55,14 @@ idle_declared : {st : Names} {names : List Text} {x : Text} {m : Note} {v : Fore
 idle_declared d l no_initialiser = idle_bare_declarator l
 idle_declared {names = names} d l (silent_initialiser {k = k} {n = n} {a = a} i) = idle_declarator l (silent names k n a d i.silent)
 
-leaves_list : {w : Around} {p : near.Row} {k : Kind} {a : Forest} → Goes w k a → Agree w.row p → p ≡ near.items
-leaves_list (empty_statement h) i = i.list h
-leaves_list (unused_function h u) i = i.list h
-leaves_list (unused_declarator {how = how} h u v) i = i.declarators how h
-leaves_list (unused_declaration h u v) i = i.list h
-
-leaves_idle : {w : Around} {p : near.Row} {st : Names} {k : Kind} {a r : Forest} (h : Goes w k a) → Declare st w.names → Stays (drop_of h) whole st p r → Idle st k a
-leaves_idle (empty_statement h) d g = idle_empty
-leaves_idle (unused_function h u) d g = idle_function g.lone
-leaves_idle {p = p} {st = st} {r = r} (unused_declarator {how = how} {x = x} h u v) d g = idle_declared d (stays_lone how x whole st p r g) v
-leaves_idle {p = p} {st = st} {r = r} (unused_declaration {how = how} {x = x} h u v) d g = idle_declaration (one_idle (idle_declared d (stays_lone how x whole st p r g) v) all_idle)
+leaves_idle : {w : Around} {st : Names} {k : Kind} {a : Forest} (p : near.Row) (r : Forest) (h : Goes w k a) → Declare st w.names → Stays (drop_of h) whole st p r → Idle st k a
+leaves_idle p r (empty_statement h) d g = idle_empty
+leaves_idle p r (unused_function h u) d g = idle_function g.lone
+leaves_idle {st = st} p r (unused_declarator {how = how} {x = x} h u v) d g = idle_declared d (stays_lone how x whole st p r g) v
+leaves_idle {st = st} p r (unused_declaration {how = how} {x = x} h u v) d g = idle_declaration (one_idle (idle_declared d (stays_lone how x whole st p r g) v) all_idle)
 
 leave : {w : Around} {p : near.Row} {st : Names} {k : Kind} {n : Note} {a r : Forest} (h : Goes w k a) → Agree w.row p → Declare st w.names → Stays (drop_of h) whole st p r → Near p st r r → Near p st (node k n a r) r
-leave {st = st} {k = k} {n = n} {a = a} {r = r} h i d g o = subst (λ p. Near p st r r → Near p st (node k n a r) r) (sym (leaves_list h i)) (near.leaves (leaves_idle h d g)) o
+leave {p = p} {st = st} {k = k} {n = n} {a = a} {r = r} h i d g o = subst (λ p. Near p st r r → Near p st (node k n a r) r) (sym (i (leaves_list h))) (near.leaves (leaves_idle p r h d g)) o
 
 -- behind the first field of a function, where that holds still
 

@@ -73,7 +73,7 @@ module _ (a : Place) where
   empty_step n w good item =
       let x : Tree = record { kind = Kind.EmptyStatement; note = n; below = nothing } in
       let f = focused x (λ b c i. Unit {0}) a refl w good (always (Some x) a false (λ i. outermost_context) 0 0) in
-      f.leaves (steps.empty_statement_leaves (f.item item))
+      f.leaves (steps.leaves (steps.empty_statement (f.item item)))
 
   -- a statement becomes empty
   pub statement_step : (n m l : Note) (k : Kind) (inner : Forest) → is_well_placed (plug a (a_statement n l k inner)) ≡ true → Good (plug a (a_statement n l k inner))
