@@ -1,7 +1,7 @@
 -- What steps keep.
 use Rattle.std.proofs.Common.{◌≡◌, true, ◌&&◌}
 use Rattle.js_syntax.specs.declared.node_kind.NodeKind.{NodeKind as Kind}
-use Rattle.js_syntax.specs.Node.{Forest, nothing, node, alone}
+use Rattle.js_syntax.specs.Node.{Forest, alone}
 use Rattle.js_syntax.specs.Facts.{is_core}
 use Rattle.steps.specs.Steps.{Around, Step, leaves, empties, inside, behind_node, behind_absent, all_core}
 use Rattle.js_syntax.proofs.Truth.{first_of_both, second_of_both, both}

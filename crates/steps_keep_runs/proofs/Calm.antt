@@ -4,7 +4,6 @@ use Rattle.js_syntax.specs.declared.node_kind.NodeKind.{NodeKind as Kind}
 use Rattle.js_syntax.specs.Node.{Forest, nothing, node, absent, Note, nowhere}
 use Rattle.js_syntax.specs.declared.kind.FunctionKind.{FunctionKind}
 use Rattle.js_syntax.specs.declared.kind.FunctionKind.TheVariants as function_kind
-use Rattle.js_syntax.specs.declared.kind.VariableKind.{VariableKind}
 use Rattle.js_syntax.specs.declared.kind.VariableKind.TheVariants as variable
 use Rattle.js_syntax.specs.declared.kind.ClassKind.TheVariants as class_kind
 use Rattle.js_meaning.specs.Scope.{first_of, first_name, names_of, bound_names, vars_of, var_names, item_decls, lexical, waiting, all_so, named_so, or_default}

@@ -1,8 +1,6 @@
 -- Steps of a core module, one after the other.
 use Rattle.std.proofs.Common.{◌≡◌, true}
-use Rattle.js_syntax.specs.declared.node_kind.NodeKind.{NodeKind as Kind}
-use Rattle.js_syntax.specs.declared.scalar.SourceType.TheVariants as source_type
-use Rattle.js_syntax.specs.Node.{Forest, nothing, Note, alone}
+use Rattle.js_syntax.specs.Node.{Forest, Note}
 use Rattle.js_meaning.specs.Kept.{Refined}
 use Rattle.js_meaning.proofs.Kept.{refined_same, refined_joined}
 use Rattle.js_meaning_near.specs.Near.{fields, module_of}

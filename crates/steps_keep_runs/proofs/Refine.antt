@@ -4,7 +4,6 @@ use Rattle.js_syntax.specs.declared.node_kind.NodeKind.{NodeKind as Kind}
 use Rattle.js_syntax.specs.Node.{Forest, nothing, node, Note}
 use Rattle.js_syntax.specs.Facts.{is_core}
 use Rattle.js_syntax.specs.declared.kind.FunctionKind.TheVariants as function_kind
-use Rattle.js_syntax.specs.declared.kind.VariableKind.{VariableKind}
 use Rattle.js_meaning.specs.Value.{Text}
 use Rattle.js_meaning.specs.Scope.{Decl, waiting, all_so, named_so, first_of, first_name, bound_names, lexical, function_decls}
 use Rattle.js_meaning.specs.Module.{names_in}
@@ -20,7 +19,7 @@ use Rattle.steps.specs.Names.{is_among, names_declared}
 use Rattle.steps.specs.Steps as steps
 use Rattle.steps.specs.Steps.{items, of_item, declarators, other, row_below, Around, entered, Initialiser, no_initialiser, silent_initialiser, Goes, empty_statement, unused_function, unused_declarator, unused_declaration, Step, leaves, empties, inside, behind_node, behind_absent}
 use Rattle.steps_keep_runs.specs.Formed.{may_hold, holds_well, still, is_formed}
-use Rattle.steps_keep_runs.specs.Drop.{Drop, no_drop, of_block, of_function, declared_so, out_of_block, outside, drop_of, dropped}
+use Rattle.steps_keep_runs.specs.Drop.{Drop, no_drop, of_block, of_function, out_of_block, outside, drop_of, dropped}
 use Rattle.steps_keep_runs.specs.Tidy.{TidyAt, Tidy}
 use Rattle.steps_keep_runs.proofs.Silent.{Declare, silent}
 use Rattle.steps_keep_runs.proofs.Calm.{is_list, leaves_list, leaves_no_other, entered_row, still_stays, first_stays, form_holds, form_heads, form_below, form_behind}

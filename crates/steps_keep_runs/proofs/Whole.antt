@@ -10,7 +10,7 @@ use Rattle.js_meaning_near.specs.Near.{fields, module_of}
 use Rattle.js_meaning_near.specs.Fit.{whole}
 use Rattle.js_meaning_near.specs.Avoid.{InPlace}
 use Rattle.steps.specs.Names.{refers}
-use Rattle.steps.specs.Steps.{Around, entered, outermost, Step, inside, all_core}
+use Rattle.steps.specs.Steps.{outermost, Step, inside, all_core}
 use Rattle.steps.proofs.Steps.{step_core}
 use Rattle.steps_keep_runs.specs.Formed.{holds_well, is_formed}
 use Rattle.steps_keep_runs.specs.Drop.{Drop, no_drop, of_block, of_function, dropped}
