@@ -128,14 +128,17 @@ top_once m a b no_drop h w c = tt
 top_once m a b (of_block x) h w c = list_once x m a b h w c
 top_once m a b (of_function x) h w c = list_once x m a b h w c
 
-items_once : (n m : Note) (a u : Forest) (s : Step outermost (module_of n m a) u) → InItems n m a u s → is_formed (module_of n m a) ≡ true → is_well_placed u ≡ true → Clear (module_of n m a) → Once s
+items_once : (n m : Note) (a u : Forest) (s : Step outermost (module_of n m a) u) → InItems n m a u s
+    → is_formed (module_of n m a) ≡ true → is_well_placed u ≡ true → Clear (module_of n m a) → Once s
 items_once n m a _ _ (in_items {b = b} s) f w c =
     let h : is_formed (alone Kind.Statements m a) ≡ true = form_below (Kind.Program source_type.Module) (alone Kind.Statements m a) nothing f in
     let g : is_formed a ≡ true = form_below Kind.Statements a nothing h in
     let l : holds_well Kind.Statements a ≡ true = form_holds Kind.Statements a nothing h in
-    let v : well_placed (λ i. program_list) 0 (alone Kind.Statements m b) ≡ true = (and_parts (well_placed (λ i. program_list) 0 (alone Kind.Statements m b)) (has_plain_values (alone Kind.Statements m b)) w).0 in
+    let k : Forest = alone Kind.Statements m b in
+    let v : well_placed (λ i. program_list) 0 k ≡ true = (and_parts (well_placed (λ i. program_list) 0 k) (has_plain_values k) w).0 in
     let o : well_placed (λ i. module_items) 0 b ≡ true = (and_parts (well_placed (λ i. module_items) 0 b) true v).0 in
-    (top_once m a b (dropped s) (module_lists (dropped s) (var_names a) (var_names b) (lexical a) (lexical b) (vars_step s Kind.Statements l (inl refl) g) (lexical_step s Kind.Statements l refl (inl refl) g)) o c.0, (tt, once_step s (λ i. module_items) 0 g o c.1.1))
+    let d = module_lists (dropped s) (var_names a) (var_names b) (lexical a) (lexical b) (vars_step s Kind.Statements l (inl refl) g) (lexical_step s Kind.Statements l refl (inl refl) g) in
+    (top_once m a b (dropped s) d o c.0, (tt, once_step s (λ i. module_items) 0 g o c.1.1))
 
 pub module_once : (n m : Note) (a u : Forest) (s : Step outermost (module_of n m a) u) → is_formed (module_of n m a) ≡ true → is_well_placed u ≡ true → Clear (module_of n m a) → Once s
 module_once n m a u s f w c = items_once n m a u s (in_its_items n m a u s) f w c

@@ -19,7 +19,8 @@ use Rattle.steps_keep_runs.proofs.Whole.{module_once}
 data IsModule (n m : Note) : Forest → Type 0 where
   is_module : {a : Forest} → is_formed (module_of n m a) ≡ true → all_core a ≡ true → InPlace whole fields (module_of n m a) → IsModule n m (module_of n m a)
 
-module_after : (n m : Note) (a u : Forest) (s : Step outermost (module_of n m a) u) → InItems n m a u s → is_formed (module_of n m a) ≡ true → all_core a ≡ true → InPlace whole fields (module_of n m a) → IsModule n m u
+module_after : (n m : Note) (a u : Forest) (s : Step outermost (module_of n m a) u) → InItems n m a u s
+    → is_formed (module_of n m a) ≡ true → all_core a ≡ true → InPlace whole fields (module_of n m a) → IsModule n m u
 module_after n m a _ z (in_items s) f c i = is_module (formed_step z f) (step_core s c) (place_step whole fields z i)
 
 after : (n m : Note) (t u : Forest) → IsModule n m t → Step outermost t u → IsModule n m u

@@ -117,9 +117,6 @@ place_step others p (behind_absent s) i = place_step whole p s i
 
 -- a step of a whole module
 
-nothing_stays : {w : Around} {u : Forest} → Step w nothing u → ⊥
-nothing_stays s = elim s [ ]
-
 clear_if : (d : Drop) (m : Note) (b : Forest) → TidyAt (Kind.Program source_type.Module) (alone Kind.Statements m b) d → ClearIf d b
 clear_if no_drop m b t = tt
 clear_if (of_block x) m b t = t
@@ -132,14 +129,16 @@ pub data InItems (n m : Note) (a : Forest) : (u : Forest) → Step outermost (mo
 pub in_its_items : (n m : Note) (a u : Forest) (s : Step outermost (module_of n m a) u) → InItems n m a u s
 in_its_items n m a _ (inside (inside s)) = in_items s
 in_its_items n m a _ (inside (leaves g)) = elim g [ ]
-in_its_items n m a _ (inside (behind_node s)) = absurd (nothing_stays s)
+in_its_items n m a _ (inside (behind_node s)) = elim s [ ]
 in_its_items n m a _ (leaves g) = elim g [ ]
-in_its_items n m a _ (behind_node s) = absurd (nothing_stays s)
+in_its_items n m a _ (behind_node s) = elim s [ ]
 
-items_refine : (n m : Note) (a u : Forest) (s : Step outermost (module_of n m a) u) → InItems n m a u s → is_formed (module_of n m a) ≡ true → InPlace whole fields (module_of n m a) → Tidy s → Refined (module_of n m a) u
+items_refine : (n m : Note) (a u : Forest) (s : Step outermost (module_of n m a) u) → InItems n m a u s
+    → is_formed (module_of n m a) ≡ true → InPlace whole fields (module_of n m a) → Tidy s → Refined (module_of n m a) u
 items_refine n m a _ _ (in_items {b = b} s) f i t =
     let g : is_formed (alone Kind.Statements m a) ≡ true = form_below (Kind.Program source_type.Module) (alone Kind.Statements m a) nothing f in
-    near_refines n m n m (step_near m a b s (form_holds Kind.Statements a nothing g) (form_below Kind.Statements a nothing g) (place_step whole near.items s i.0.1.0.1) (clear_if (dropped s) m b t.0) t.1.1)
+    near_refines n m n m (step_near m a b s (form_holds Kind.Statements a nothing g) (form_below Kind.Statements a nothing g)
+    (place_step whole near.items s i.0.1.0.1) (clear_if (dropped s) m b t.0) t.1.1)
 
 pub module_step : (n m : Note) (a u : Forest) (s : Step outermost (module_of n m a) u) → is_formed (module_of n m a) ≡ true → InPlace whole fields (module_of n m a) → Tidy s → Refined (module_of n m a) u
 module_step n m a u s f i t = items_refine n m a u s (in_its_items n m a u s) f i t

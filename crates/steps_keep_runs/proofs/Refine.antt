@@ -60,7 +60,8 @@ leaves_idle p r (unused_function h u) d g = idle_function g.lone
 leaves_idle {st = st} p r (unused_declarator {how = how} {x = x} h u v) d g = idle_declared d (stays_lone how x whole st p r g) v
 leaves_idle {st = st} p r (unused_declaration {how = how} {x = x} h u v) d g = idle_declaration (one_idle (idle_declared d (stays_lone how x whole st p r g) v) all_idle)
 
-leave : {w : Around} {p : near.Row} {st : Names} {k : Kind} {n : Note} {a r : Forest} (h : Goes w k a) → Agree w.row p → Declare st w.names → Stays (drop_of h) whole st p r → Near p st r r → Near p st (node k n a r) r
+leave : {w : Around} {p : near.Row} {st : Names} {k : Kind} {n : Note} {a r : Forest} (h : Goes w k a) → Agree w.row p → Declare st w.names → Stays (drop_of h) whole st p r
+    → Near p st r r → Near p st (node k n a r) r
 leave {p = p} {st = st} {k = k} {n = n} {a = a} {r = r} h i d g o = subst (λ p. Near p st r r → Near p st (node k n a r) r) (sym (i (leaves_list h))) (near.leaves (leaves_idle p r h d g)) o
 
 -- behind the first field of a function, where that holds still

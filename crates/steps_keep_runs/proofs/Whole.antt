@@ -38,7 +38,8 @@ top_tidy m a b s (of_function x) e f h g i o =
       clear_row s x Kind.Statements whole near.items (module_decls b) (inr e) f h g free (λ t. t) o.0 o.1 i,
     )
 
-module_tidy : (n m : Note) (a u : Forest) (s : Step outermost (module_of n m a) u) → InItems n m a u s → is_formed (module_of n m a) ≡ true → all_core a ≡ true → InPlace whole fields (module_of n m a) → Once s → Tidy s
+module_tidy : (n m : Note) (a u : Forest) (s : Step outermost (module_of n m a) u) → InItems n m a u s
+    → is_formed (module_of n m a) ≡ true → all_core a ≡ true → InPlace whole fields (module_of n m a) → Once s → Tidy s
 module_tidy n m a _ _ (in_items {b = b} s) f c i o =
     let g : is_formed (alone Kind.Statements m a) ≡ true = form_below (Kind.Program source_type.Module) (alone Kind.Statements m a) nothing f in
     let h : is_formed a ≡ true = form_below Kind.Statements a nothing g in
