@@ -3,8 +3,6 @@ use Rattle.std.proofs.Common.{◌≡◌, ◌∙◌, inl, inr, ℕ, suc, List, []
 use Rattle.std.proofs.lemmas.Bool.{and_parts, or_left}
 use Rattle.js_syntax.specs.declared.node_kind.NodeKind.{NodeKind as Kind}
 use Rattle.js_syntax.specs.declared.scalar.SourceType.TheVariants as source_type
-use Rattle.js_syntax.specs.declared.kind.VariableKind.{VariableKind}
-use Rattle.js_syntax.specs.declared.kind.VariableKind.TheVariants as variable
 use Rattle.js_syntax.specs.declared.kind.FunctionKind.{FunctionKind}
 use Rattle.js_syntax.specs.Node.{Forest, nothing, node, absent, Note, alone}
 use Rattle.js_meaning.specs.Value.{Text, this_name}
@@ -12,14 +10,14 @@ use Rattle.js_meaning.specs.Scope.{Decl, decl, ready, all_so, first_of, behind, 
 use Rattle.js_meaning.specs.Module.{names_in}
 use Rattle.js_meaning_near.specs.Near.{module_of}
 use Rattle.js_meaning_near.specs.Avoid.{declares, Dropped, dropped_here, dropped_later, HasCells}
-use Rattle.js_meaning_near.proofs.Avoid.{fewer_itself, dropped_first, dropped_second, itself}
-use Rattle.steps.specs.Names.{is_among, refers}
-use Rattle.steps.specs.Steps.{other, Around, entered, outermost, is_used, Step, leaves, empties, inside, behind_node, behind_absent}
+use Rattle.js_meaning_near.proofs.Avoid.{itself}
+use Rattle.steps.specs.Names.{is_among}
+use Rattle.steps.specs.Steps.{other, Around, entered, outermost, Step, leaves, empties, inside, behind_node, behind_absent}
 use Rattle.steps_keep_runs.specs.Formed.{holds_well, still, heads, is_formed}
-use Rattle.steps_keep_runs.specs.Drop.{Drop, no_drop, of_block, of_function, declared_so, out_of_block, outside, dropped}
+use Rattle.steps_keep_runs.specs.Drop.{Drop, no_drop, of_block, of_function, dropped}
 use Rattle.steps_keep_runs.specs.Once.{OnceAt, OnceIn, Once}
 use Rattle.steps_keep_runs.proofs.Calm.{form_holds, form_heads, form_below, form_behind}
-use Rattle.steps_keep_runs.proofs.Lists.{Less, less_here, less_later, less_dropped, VarsChange, LexicalChange, vars_step, lexical_step}
+use Rattle.steps_keep_runs.proofs.Lists.{Less, less_here, less_later, VarsChange, LexicalChange, vars_step, lexical_step}
 use Rattle.steps_keep_runs.proofs.Names.{declares_among, passing_free}
 use Rattle.steps_keep_runs.proofs.Scopes.{Inner, inner, step_behind, DeclsChange, function_change, formed_behind, holds_behind}
 use Rattle.steps_keep_runs.proofs.Modules.{module_lists, InItems, in_items, in_its_items}
@@ -29,7 +27,7 @@ use Rattle.steps_names.proofs.Taking.{never_fits}
 use Rattle.steps_fit.specs.Clear.{ClearAt, Clear}
 use Rattle.headline.proofs.Binding.{Lacks, undeclared_left, undeclared_right, undeclared_so, Free, row_free, items_place, code_free, row_binds}
 use Rattle.headline.proofs.Cells.{dropped_cells, once_cells, row_cells}
-use Rattle.js_syntax.proofs.Truth.{second_of_either, first_of_both, second_of_both, second_of_neither}
+use Rattle.js_syntax.proofs.Truth.{second_of_either, first_of_both, second_of_both}
 
 -- ---- what goes was declared
 
