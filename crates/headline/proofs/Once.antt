@@ -1,25 +1,25 @@
 -- Where the scopes of a module are clear, a name whose declaration goes stands in its scope no more, or what stays of it has cells.
-use Rattle.std.proofs.Common.{◌≡◌, ◌∙◌, inl, inr, ℕ, suc, List, [], ◌∷◌, ◌++◌, Bool, true, false, bytes_eq, refl, sym, ap, subst}
+use Rattle.std.proofs.Common.{◌≡◌, ◌∙◌, inl, inr, ℕ, suc, List, [], ◌∷◌, ◌++◌, true, false, bytes_eq, refl, sym, ap, subst}
 use Rattle.std.proofs.lemmas.Bool.{and_parts, or_left}
 use Rattle.js_syntax.specs.declared.node_kind.NodeKind.{NodeKind as Kind}
 use Rattle.js_syntax.specs.declared.scalar.SourceType.TheVariants as source_type
 use Rattle.js_syntax.specs.declared.kind.FunctionKind.{FunctionKind}
 use Rattle.js_syntax.specs.Node.{Forest, nothing, node, absent, Note, alone}
 use Rattle.js_meaning.specs.Value.{Text, this_name}
-use Rattle.js_meaning.specs.Scope.{Decl, decl, ready, all_so, first_of, behind, var_names, lexical, function_decls, module_decls}
+use Rattle.js_meaning.specs.Scope.{Decl, decl, ready, all_so, behind, var_names, lexical, function_decls, module_decls}
 use Rattle.js_meaning.specs.Module.{names_in}
 use Rattle.js_meaning_near.specs.Near.{module_of}
 use Rattle.js_meaning_near.specs.Avoid.{declares, Dropped, dropped_here, dropped_later, HasCells}
 use Rattle.js_meaning_near.proofs.Avoid.{itself}
 use Rattle.steps.specs.Names.{is_among}
-use Rattle.steps.specs.Steps.{other, Around, entered, outermost, Step, leaves, empties, inside, behind_node, behind_absent}
-use Rattle.steps_keep_runs.specs.Formed.{holds_well, still, heads, is_formed}
+use Rattle.steps.specs.Steps.{Around, entered, outermost, Step, leaves, empties, inside, behind_node, behind_absent}
+use Rattle.steps_keep_runs.specs.Formed.{holds_well, heads, is_formed}
 use Rattle.steps_keep_runs.specs.Drop.{Drop, no_drop, of_block, of_function, dropped}
 use Rattle.steps_keep_runs.specs.Once.{OnceAt, OnceIn, Once}
 use Rattle.steps_keep_runs.proofs.Calm.{form_holds, form_heads, form_below, form_behind}
 use Rattle.steps_keep_runs.proofs.Lists.{Less, less_here, less_later, VarsChange, LexicalChange, vars_step, lexical_step}
 use Rattle.steps_keep_runs.proofs.Names.{declares_among, passing_free}
-use Rattle.steps_keep_runs.proofs.Scopes.{Inner, inner, step_behind, DeclsChange, function_change, formed_behind, holds_behind}
+use Rattle.steps_keep_runs.proofs.Scopes.{DeclsChange, BodyChange, body_change, function_change}
 use Rattle.steps_keep_runs.proofs.Modules.{module_lists, InItems, in_items, in_its_items}
 use Rattle.steps_names.specs.Placed.{Place, program_list, module_items, lists, case_items, sort_of, place_below, function_place, fits, well_placed, has_plain_values, is_well_placed}
 use Rattle.steps_names.proofs.Lists.{in_left, in_right}
@@ -27,7 +27,7 @@ use Rattle.steps_names.proofs.Taking.{never_fits}
 use Rattle.steps_fit.specs.Clear.{ClearAt, Clear}
 use Rattle.headline.proofs.Binding.{Lacks, undeclared_left, undeclared_right, undeclared_so, Free, row_free, items_place, code_free, row_binds}
 use Rattle.headline.proofs.Cells.{dropped_cells, once_cells, row_cells}
-use Rattle.js_syntax.proofs.Truth.{second_of_either, first_of_both, second_of_both}
+use Rattle.js_syntax.proofs.Truth.{second_of_either}
 
 -- ---- what goes was declared
 
@@ -49,25 +49,8 @@ goes_among no_drop xs ys ds es v l = tt
 goes_among (of_block x) xs ys ds es v l = in_right xs (names_in ds) x (dropped_among l)
 goes_among (of_function x) xs ys ds es v l = in_left xs (names_in ds) x (less_among v)
 
--- in a function's body
-body_among : {w : Around} {a b : Forest} (f : FunctionKind) (pure : Bool) (s : Step w a b) → w.row ≡ other → holds_well (Kind.Function f pure) a ≡ true → heads (Kind.Function f pure) a ≡ true → is_formed a ≡ true
-    → AmongIf (dropped s) (var_names (behind (behind a)) ++ names_in (lexical (behind (behind a))))
-body_among {w} {a} {b} f pure s g m h e = go (step_behind s g (first_of_both (still (first_of a)) (still (first_of (behind a))) h))
-  where
-    k : Kind
-    k = Kind.Function f pure
-
-    holds : holds_well k (behind a) ≡ true
-    holds = holds_behind k a m
-
-    second : (z : Step w (behind a) (behind b)) → dropped z ≡ dropped s → Inner z → AmongIf (dropped s) (var_names (behind (behind a)) ++ names_in (lexical (behind (behind a))))
-    second z d (inner y c) =
-        let v = vars_step y k (holds_behind k (behind a) holds) (inr g) (formed_behind (behind a) (formed_behind a e)) in
-        let l = lexical_step y k (holds_behind k (behind a) holds) refl (inr g) (formed_behind (behind a) (formed_behind a e)) in
-        subst (λ o. AmongIf o (var_names (behind (behind a)) ++ names_in (lexical (behind (behind a))))) (c ∙ d) (goes_among (dropped y) (var_names (behind (behind a))) (var_names (behind (behind b))) (lexical (behind (behind a))) (lexical (behind (behind b))) v l)
-
-    go : Inner s → AmongIf (dropped s) (var_names (behind (behind a)) ++ names_in (lexical (behind (behind a))))
-    go (inner z d) = second z d (step_behind z g (second_of_both (still (first_of a)) (still (first_of (behind a))) h))
+body_among : {w : Around} {a b : Forest} (s : Step w a b) → BodyChange (dropped s) a b → AmongIf (dropped s) (var_names (behind (behind a)) ++ names_in (lexical (behind (behind a))))
+body_among {a = a} {b = b} s c = goes_among (dropped s) (var_names (behind (behind a))) (var_names (behind (behind b))) (lexical (behind (behind a))) (lexical (behind (behind b))) c.vars c.lexical
 
 -- ---- by scopes
 
@@ -88,9 +71,9 @@ same_vars_after x d xs ys e v h = ap (λ zs. is_among zs x) (sym (subst (λ o. V
 once_at : (w : Around) {a b : Forest} (k : Kind) (s : Step (entered w k a) a b) (d : Drop) → dropped s ≡ d → holds_well k a ≡ true → heads k a ≡ true → is_formed a ≡ true → (p : Place) → fits p (sort_of k) ≡ true → well_placed (place_below p k) 0 b ≡ true → ClearAt k a → OnceIn k b d
 once_at w (Kind.Program source) s d e m g f p i o c = absurd (never_fits p i)
 once_at w {a} {b} (Kind.Function how pure) s (of_block x) e m g f p i o c =
-    function_once x how a b (subst (λ v. DeclsChange v (function_decls how a) (function_decls how b)) e (function_change how pure s refl m g f)) (c x (subst (λ v. AmongIf v (var_names (behind (behind a)) ++ names_in (lexical (behind (behind a))))) e (body_among how pure s refl m g f))) o
+    function_once x how a b (subst (λ v. DeclsChange v (function_decls how a) (function_decls how b)) e (function_change how pure s refl m g f)) (c x (subst (λ v. AmongIf v (var_names (behind (behind a)) ++ names_in (lexical (behind (behind a))))) e (body_among s (body_change how pure s refl m g f)))) o
 once_at w {a} {b} (Kind.Function how pure) s (of_function x) e m g f p i o c =
-    function_once x how a b (subst (λ v. DeclsChange v (function_decls how a) (function_decls how b)) e (function_change how pure s refl m g f)) (c x (subst (λ v. AmongIf v (var_names (behind (behind a)) ++ names_in (lexical (behind (behind a))))) e (body_among how pure s refl m g f))) o
+    function_once x how a b (subst (λ v. DeclsChange v (function_decls how a) (function_decls how b)) e (function_change how pure s refl m g f)) (c x (subst (λ v. AmongIf v (var_names (behind (behind a)) ++ names_in (lexical (behind (behind a))))) e (body_among s (body_change how pure s refl m g f)))) o
 once_at w {a} {b} Kind.BlockStatement s (of_block x) e m g f p i o c =
     let v : Lacks x (var_names b) = same_vars_after x (dropped s) (var_names a) (var_names b) e (vars_step s Kind.BlockStatement m (inr refl) f) (passing_free s x e) in
     block_once x lists a b o (row_cells x (λ i. lists) 0 b (λ i. refl) o) (λ l. row_free x (λ i. lists) 0 b (λ i n. items_place x lists b refl refl l v))

@@ -6,7 +6,8 @@ use Rattle.js_syntax.specs.declared.kind.FunctionKind.{FunctionKind}
 use Rattle.js_syntax.specs.declared.kind.FunctionKind.TheVariants as function_kind
 use Rattle.js_syntax.specs.declared.kind.VariableKind.TheVariants as variable
 use Rattle.js_syntax.specs.declared.kind.ClassKind.TheVariants as class_kind
-use Rattle.js_meaning.specs.Scope.{first_of, first_name, names_of, bound_names, vars_of, var_names, item_decls, lexical, waiting, all_so, named_so, or_default}
+use Rattle.js_meaning.specs.Scope.{first_of, behind, first_name, names_of, bound_names, vars_of, var_names, item_decls, lexical, waiting, all_so, named_so, or_default}
+use Rattle.js_meaning_near.specs.Near.{is_row}
 use Rattle.steps.specs.Steps.{Row, items, declarators, other, row_below, Around, entered, Goes, empty_statement, unused_function, unused_declarator, unused_declaration, Step, leaves, empties, inside, behind_node, behind_absent}
 use Rattle.steps_keep_runs.specs.Formed.{is_plain, still, calm_at, calm, heads, holds_well, is_formed}
 use Rattle.steps_keep_runs.specs.Drop.{no_drop, outside, dropped}
@@ -57,16 +58,19 @@ still_stays (behind_node {k = k} {a = a} {r = r} s) g e = still_stays s g (secon
 still_stays (behind_absent s) g e = still_stays s g e
 
 -- A step in a row whose first node holds still lies behind it.
-pub record Behind (a b : Forest) : Type 0 where
+pub record Behind {w : Around} {a b : Forest} (s : Step w a b) : Type 0 where
   pub first : first_of a ≡ first_of b
   pub name : first_name a ≡ first_name b
+  pub rows : is_row a ≡ is_row b
+  pub step : Step w (behind a) (behind b)
+  pub drops : dropped step ≡ dropped s
 
-pub first_stays : {w : Around} {a b : Forest} → Step w a b → w.row ≡ other → still (first_of a) ≡ true → Behind a b
+pub first_stays : {w : Around} {a b : Forest} (s : Step w a b) → w.row ≡ other → still (first_of a) ≡ true → Behind s
 first_stays (leaves h) g e = absurd (leaves_no_other h g)
 first_stays (empties h) g e = absurd (true≢false (sym e))
-first_stays (inside {w = w} {k = k} {n = n} {a = a} {b = b} s) g e = absurd (still_stays (inside {n = n} {r = nothing} s) g e)
-first_stays (behind_node s) g e = record { first = refl; name = refl }
-first_stays (behind_absent s) g e = record { first = refl; name = refl }
+first_stays (inside {n = n} s) g e = absurd (still_stays (inside {n = n} {r = nothing} s) g e)
+first_stays (behind_node s) g e = record { first = refl; name = refl; rows = refl; step = s; drops = refl }
+first_stays (behind_absent s) g e = record { first = refl; name = refl; rows = refl; step = s; drops = refl }
 
 -- the form of a node
 

@@ -6,7 +6,6 @@ use Rattle.js_meaning.specs.Scope.{first_of, behind}
 use Rattle.steps.specs.Steps.{other, Around, entered, Step, leaves, empties, inside, behind_node, behind_absent}
 use Rattle.steps_keep_runs.specs.Formed.{may_hold, holds_well, is_plain, still, calm_at, calm, heads, is_formed}
 use Rattle.steps_keep_runs.proofs.Calm.{leaves_no_other, still_stays, first_stays, form_holds, form_heads, form_below, form_behind}
-use Rattle.steps_keep_runs.proofs.Scopes.{Inner, inner, step_behind}
 use Rattle.js_syntax.proofs.Truth.{first_of_both, second_of_both, both}
 
 holds_step : {w : Around} {t u : Forest} (k : Kind) → Step w t u → holds_well k t ≡ true → holds_well k u ≡ true
@@ -35,16 +34,11 @@ calm_first (behind_node s) g e = e
 calm_first (behind_absent s) g e = e
 
 function_heads : {w : Around} {a b : Forest} (s : Step w a b) → w.row ≡ other → (still (first_of a) && still (first_of (behind a))) ≡ true → (still (first_of b) && still (first_of (behind b))) ≡ true
-function_heads {w} {a} {b} s g e = go (step_behind s g first)
-  where
-    first : still (first_of a) ≡ true
-    first = first_of_both (still (first_of a)) (still (first_of (behind a))) e
-
-    second : still (first_of (behind a)) ≡ true
-    second = second_of_both (still (first_of a)) (still (first_of (behind a))) e
-
-    go : Inner s → (still (first_of b) && still (first_of (behind b))) ≡ true
-    go (inner z d) = both (still (first_of b)) _ (ap still (sym (first_stays s g first).first) ∙ first) (ap still (sym (first_stays z g second).first) ∙ second)
+function_heads {w} {a} {b} s g e =
+    let first : still (first_of a) ≡ true = first_of_both (still (first_of a)) (still (first_of (behind a))) e in
+    let second : still (first_of (behind a)) ≡ true = second_of_both (still (first_of a)) (still (first_of (behind a))) e in
+    let i = first_stays s g first in
+    both (still (first_of b)) _ (ap still (sym i.first) ∙ first) (ap still (sym (first_stays i.step g second).first) ∙ second)
 
 heads_step : (w : Around) {a b : Forest} (k : Kind) → Step (entered w k a) a b → heads k a ≡ true → heads k b ≡ true
 heads_step w (Kind.VariableDeclaration how) s e = calm_stays s e

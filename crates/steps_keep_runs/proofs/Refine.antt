@@ -25,7 +25,7 @@ use Rattle.steps_keep_runs.proofs.Silent.{Declare, silent}
 use Rattle.steps_keep_runs.proofs.Calm.{is_list, leaves_list, leaves_no_other, entered_row, still_stays, first_stays, form_holds, form_heads, form_below, form_behind}
 use Rattle.steps_keep_runs.proofs.Lists.{LexicalChange, lexical_step, lexical_same, not_block, NotBlock}
 use Rattle.steps_keep_runs.proofs.Names.{names_all_so, declare_within, Stays, stays_fits, stays_lone, stays_behind, stays_absent, stays_others, stays_others_absent, Crossed, inner_free, inner_front, declare_code, through}
-use Rattle.steps_keep_runs.proofs.Scopes.{if_core, same_rows, function_change, Entered, enter_code, enter_block, outer, IsBlock, is_block, is_cases, is_for, is_catch, InTidy, stays_below, for_first, object_keys}
+use Rattle.steps_keep_runs.proofs.Scopes.{if_core, function_change, Entered, enter_code, enter_block, outer, IsBlock, is_block, is_cases, is_for, is_catch, InTidy, stays_below, for_first, object_keys}
 use Rattle.js_syntax.proofs.Truth.{first_of_both, second_of_both}
 
 -- how the rows of steps and of nearness agree: what may leave stands in a list
@@ -100,11 +100,12 @@ near_inside w {n} {a} {b} {r} (Kind.Function function_kind.Declaration pure) s a
     let k : Kind = Kind.Function function_kind.Declaration pure in
     let fits : Fits whole p st (node k n b r) = stays_fits no_drop whole st p (node k n b r) g in
     let still_first : still (first_of a) ≡ true = first_of_both (still (first_of a)) _ (form_heads k a r f) in
-    let name : first_name a ≡ first_name b = (first_stays s refl still_first).name in
+    let front = first_stays s refl still_first in
+    let name : first_name a ≡ first_name b = front.name in
     let e : Entered (dropped s) function_kind.Declaration st (function_decls function_kind.Declaration a) (function_decls function_kind.Declaration b) b =
     enter_code (dropped s) function_kind.Declaration pure st (function_decls function_kind.Declaration a) b (function_change function_kind.Declaration pure s refl (form_holds k a r f) (form_heads k a r f) (form_below k a r f)) g.0 g.1.0 t in
     near_hoisted name (subst (FillableIf st) (sym name) fits.0.0.0)
-    (near_code e.crossed.decls e.receiver (same_rows s refl) (h others fields e.crossed.within (agree_other _ fields refl) (refl, still_first) (declare_code [] w.names e.crossed.decls d) e.crossed.stays))
+    (near_code e.crossed.decls e.receiver front.rows (h others fields e.crossed.within (agree_other _ fields refl) (refl, still_first) (declare_code [] w.names e.crossed.decls d) e.crossed.stays))
     (fit whole p st r fits.1)
 near_inside w {n} {a} {b} {r} (Kind.Function function_kind.Arrow pure) s above p st c m f d g t h =
     let k : Kind = Kind.Function function_kind.Arrow pure in
@@ -113,20 +114,21 @@ near_inside w {n} {a} {b} {r} (Kind.Function function_kind.Arrow pure) s above p
     let e : Entered (dropped s) function_kind.Arrow st (function_decls function_kind.Arrow a) (function_decls function_kind.Arrow b) b =
     enter_code (dropped s) function_kind.Arrow pure st (function_decls function_kind.Arrow a) b (function_change function_kind.Arrow pure s refl (form_holds k a r f) (form_heads k a r f) (form_below k a r f)) g.0 g.1.0 t in
     near_closure tt refl no_decls tt
-    (near_code e.crossed.decls e.receiver (same_rows s refl) (h others fields e.crossed.within (agree_other _ fields refl) (refl, still_first) (declare_code [] w.names e.crossed.decls d) e.crossed.stays))
+    (near_code e.crossed.decls e.receiver (first_stays s refl still_first).rows (h others fields e.crossed.within (agree_other _ fields refl) (refl, still_first) (declare_code [] w.names e.crossed.decls d) e.crossed.stays))
     (fit whole p st r fits.1)
 near_inside w {n} {a} {b} {r} (Kind.Function function_kind.Expression pure) s above p st c m f d g t h =
     let k : Kind = Kind.Function function_kind.Expression pure in
     let fits : Fits whole p st (node k n b r) = stays_fits no_drop whole st p (node k n b r) g in
     let still_first : still (first_of a) ≡ true = first_of_both (still (first_of a)) _ (form_heads k a r f) in
-    let name : first_name a ≡ first_name b = (first_stays s refl still_first).name in
+    let front = first_stays s refl still_first in
+    let name : first_name a ≡ first_name b = front.name in
     let own : List Decl = named_so (waiting true) (first_name a) in
     let around : Names = names_after st own in
     let ds : Decls st own (named_so (waiting true) (first_name b)) around = decls_to st (ap (named_so (waiting true)) name) in
     let e : Entered (dropped s) function_kind.Expression around (function_decls function_kind.Expression a) (function_decls function_kind.Expression b) b =
     enter_code (dropped s) function_kind.Expression pure around (function_decls function_kind.Expression a) b (function_change function_kind.Expression pure s refl (form_holds k a r f) (form_heads k a r f) (form_below k a r f)) (λ x. after_plain own st x (g.0 x)) g.1.0 t in
     near_closure tt name ds (subst (λ o. FillableIf (names_after st (named_so (waiting true) o)) o) (sym name) fits.0.0.0)
-    (near_code e.crossed.decls e.receiver (same_rows s refl) (h others fields e.crossed.within (agree_other _ fields refl) (refl, still_first) (declare_code (names_in own) w.names e.crossed.decls (declare_within (names_in own) w.names ds refl d)) e.crossed.stays))
+    (near_code e.crossed.decls e.receiver front.rows (h others fields e.crossed.within (agree_other _ fields refl) (refl, still_first) (declare_code (names_in own) w.names e.crossed.decls (declare_within (names_in own) w.names ds refl d)) e.crossed.stays))
     (fit whole p st r fits.1)
 near_inside w {n} {a} {b} {r} Kind.BlockStatement s above p st c m f d g t h =
     let k : Kind = Kind.BlockStatement in
