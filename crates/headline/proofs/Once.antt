@@ -1,70 +1,33 @@
 -- Where the scopes of a module are clear, a name whose declaration goes stands in its scope no more, or what stays of it has cells.
-use Rattle.std.proofs.Common.{◌≡◌, ◌∙◌, inl, inr, ℕ, suc, List, [], ◌∷◌, ◌++◌, Bool, true, false, bytes_eq, refl, sym, ap, subst}
+use Rattle.std.proofs.Common.{◌≡◌, ◌∙◌, inl, inr, ℕ, suc, List, [], ◌∷◌, ◌++◌, true, false, bytes_eq, refl, sym, ap, subst}
 use Rattle.std.proofs.lemmas.Bool.{and_parts, or_left}
 use Rattle.js_syntax.specs.declared.node_kind.NodeKind.{NodeKind as Kind}
 use Rattle.js_syntax.specs.declared.scalar.SourceType.TheVariants as source_type
-use Rattle.js_syntax.specs.declared.kind.VariableKind.{VariableKind}
-use Rattle.js_syntax.specs.declared.kind.VariableKind.TheVariants as variable
 use Rattle.js_syntax.specs.declared.kind.FunctionKind.{FunctionKind}
 use Rattle.js_syntax.specs.Node.{Forest, nothing, node, absent, Note, alone}
 use Rattle.js_meaning.specs.Value.{Text, this_name}
-use Rattle.js_meaning.specs.Scope.{Decl, decl, ready, all_so, first_of, behind, var_names, lexical, function_decls, module_decls}
+use Rattle.js_meaning.specs.Scope.{Decl, decl, ready, all_so, behind, var_names, lexical, function_decls, module_decls}
 use Rattle.js_meaning.specs.Module.{names_in}
 use Rattle.js_meaning_near.specs.Near.{module_of}
 use Rattle.js_meaning_near.specs.Avoid.{declares, Dropped, dropped_here, dropped_later, HasCells}
-use Rattle.js_meaning_near.proofs.Avoid.{fewer_itself, dropped_first, dropped_second, itself}
-use Rattle.steps.specs.Names.{is_among, refers}
-use Rattle.steps.specs.Steps.{other, Around, entered, outermost, is_used, Step, empty_statement_leaves, unused_function_leaves, unused_declarator_leaves, unused_declaration_leaves, silent_statement_empties, inside, behind_node, behind_absent}
-use Rattle.steps_keep_runs.specs.Formed.{holds_well, still, heads, is_formed}
-use Rattle.steps_keep_runs.specs.Drop.{Drop, no_drop, of_block, of_function, declared_so, out_of_block, outside, dropped}
+use Rattle.js_meaning_near.proofs.Avoid.{itself}
+use Rattle.steps.specs.Names.{is_among}
+use Rattle.steps.specs.Steps.{Around, entered, outermost, Step, leaves, empties, inside, behind_node, behind_absent}
+use Rattle.steps_keep_runs.specs.Formed.{holds_well, heads, is_formed}
+use Rattle.steps_keep_runs.specs.Drop.{Drop, no_drop, of_block, of_function, dropped}
 use Rattle.steps_keep_runs.specs.Once.{OnceAt, OnceIn, Once}
 use Rattle.steps_keep_runs.proofs.Calm.{form_holds, form_heads, form_below, form_behind}
-use Rattle.steps_keep_runs.proofs.Lists.{Less, less_here, less_later, less_dropped, VarsChange, LexicalChange, vars_step, lexical_step}
-use Rattle.steps_keep_runs.proofs.Names.{declares_among}
-use Rattle.steps_keep_runs.proofs.Scopes.{Inner, inner, step_behind, DeclsChange, function_change, formed_behind, holds_behind}
-use Rattle.steps_keep_runs.proofs.Modules.{nothing_stays}
+use Rattle.steps_keep_runs.proofs.Lists.{Less, less_here, less_later, VarsChange, LexicalChange, vars_step, lexical_step}
+use Rattle.steps_keep_runs.proofs.Names.{declares_among, passing_free}
+use Rattle.steps_keep_runs.proofs.Scopes.{DeclsChange, BodyChange, body_change, function_change}
+use Rattle.steps_keep_runs.proofs.Modules.{module_lists, InItems, in_items, in_its_items}
 use Rattle.steps_names.specs.Placed.{Place, program_list, module_items, lists, case_items, sort_of, place_below, function_place, fits, well_placed, has_plain_values, is_well_placed}
 use Rattle.steps_names.proofs.Lists.{in_left, in_right}
 use Rattle.steps_names.proofs.Taking.{never_fits}
 use Rattle.steps_fit.specs.Clear.{ClearAt, Clear}
 use Rattle.headline.proofs.Binding.{Lacks, undeclared_left, undeclared_right, undeclared_so, Free, row_free, items_place, code_free, row_binds}
 use Rattle.headline.proofs.Cells.{dropped_cells, once_cells, row_cells}
-use Rattle.js_syntax.proofs.Truth.{second_of_either, first_of_both, second_of_both, second_of_neither}
-
--- ---- no `var` of a name that goes passes through its scope
-
-stays_out : (d : Drop) (x : Text) → out_of_block d ≡ of_block x → ⊥
-stays_out no_drop x e = cc
-stays_out (of_block y) x e = cc
-stays_out (of_function y) x e = cc
-
-abbrev name_in : Text → Drop → Text
-name_in z (of_block x) = x
-name_in z d = z
-
-passing_leaf : (w : Around) (how : VariableKind) (x y : Text) → is_used w how x ≡ false → declared_so how x ≡ of_block y → Lacks y w.passing
-passing_leaf w variable.Var x y e f = absurd (cc)
-passing_leaf w variable.Let x y e f = subst (λ z. Lacks z w.passing) (ap (name_in x) f) (second_of_neither (refers x w.block) (is_among w.passing x) e)
-passing_leaf w variable.Const x y e f = subst (λ z. Lacks z w.passing) (ap (name_in x) f) (second_of_neither (refers x w.block) (is_among w.passing x) e)
-
-passing_inside : (w : Around) (k : Kind) (a : Forest) (d : Drop) (x : Text) → outside k d ≡ of_block x → (d ≡ of_block x → Lacks x (entered w k a).passing) → Lacks x w.passing
-passing_inside w (Kind.Program source) a d x e h = absurd (cc)
-passing_inside w (Kind.Function f pure) a d x e h = absurd (cc)
-passing_inside w Kind.BlockStatement a d x e h = absurd (stays_out d x e)
-passing_inside w Kind.Cases a d x e h = absurd (stays_out d x e)
-passing_inside w Kind.ForStatement a d x e h = absurd (stays_out d x e)
-passing_inside w Kind.CatchClause a d x e h = absurd (stays_out d x e)
-passing_inside w k a d x e h = h e
-
-passing_free : {w : Around} {t u : Forest} (s : Step w t u) (x : Text) → dropped s ≡ of_block x → Lacks x w.passing
-passing_free (empty_statement_leaves h) x e = absurd (cc)
-passing_free (unused_function_leaves {w = w} {x = y} h g) x e = passing_leaf w variable.Let y x g e
-passing_free (unused_declarator_leaves {w = w} {how = how} {x = y} h g v) x e = passing_leaf w how y x g e
-passing_free (unused_declaration_leaves {w = w} {how = how} {x = y} h g v) x e = passing_leaf w how y x g e
-passing_free (silent_statement_empties h) x e = absurd (cc)
-passing_free (inside {w = w} {k = k} {a = a} s) x e = passing_inside w k a (dropped s) x e (λ f. passing_free s x f)
-passing_free (behind_node s) x e = passing_free s x e
-passing_free (behind_absent s) x e = passing_free s x e
+use Rattle.js_syntax.proofs.Truth.{second_of_either}
 
 -- ---- what goes was declared
 
@@ -86,25 +49,8 @@ goes_among no_drop xs ys ds es v l = tt
 goes_among (of_block x) xs ys ds es v l = in_right xs (names_in ds) x (dropped_among l)
 goes_among (of_function x) xs ys ds es v l = in_left xs (names_in ds) x (less_among v)
 
--- in a function's body
-body_among : {w : Around} {a b : Forest} (f : FunctionKind) (pure : Bool) (s : Step w a b) → w.row ≡ other → holds_well (Kind.Function f pure) a ≡ true → heads (Kind.Function f pure) a ≡ true → is_formed a ≡ true
-    → AmongIf (dropped s) (var_names (behind (behind a)) ++ names_in (lexical (behind (behind a))))
-body_among {w} {a} {b} f pure s g m h e = go (step_behind s g (first_of_both (still (first_of a)) (still (first_of (behind a))) h))
-  where
-    k : Kind
-    k = Kind.Function f pure
-
-    holds : holds_well k (behind a) ≡ true
-    holds = holds_behind k a m
-
-    second : (z : Step w (behind a) (behind b)) → dropped z ≡ dropped s → Inner z → AmongIf (dropped s) (var_names (behind (behind a)) ++ names_in (lexical (behind (behind a))))
-    second z d (inner y c) =
-        let v = vars_step y k (holds_behind k (behind a) holds) (inr g) (formed_behind (behind a) (formed_behind a e)) in
-        let l = lexical_step y k (holds_behind k (behind a) holds) refl (inr g) (formed_behind (behind a) (formed_behind a e)) in
-        subst (λ o. AmongIf o (var_names (behind (behind a)) ++ names_in (lexical (behind (behind a))))) (c ∙ d) (goes_among (dropped y) (var_names (behind (behind a))) (var_names (behind (behind b))) (lexical (behind (behind a))) (lexical (behind (behind b))) v l)
-
-    go : Inner s → AmongIf (dropped s) (var_names (behind (behind a)) ++ names_in (lexical (behind (behind a))))
-    go (inner z d) = second z d (step_behind z g (second_of_both (still (first_of a)) (still (first_of (behind a))) h))
+body_among : {w : Around} {a b : Forest} (s : Step w a b) → BodyChange (dropped s) a b → AmongIf (dropped s) (var_names (behind (behind a)) ++ names_in (lexical (behind (behind a))))
+body_among {a = a} {b = b} s c = goes_among (dropped s) (var_names (behind (behind a))) (var_names (behind (behind b))) (lexical (behind (behind a))) (lexical (behind (behind b))) c.vars c.lexical
 
 -- ---- by scopes
 
@@ -125,9 +71,9 @@ same_vars_after x d xs ys e v h = ap (λ zs. is_among zs x) (sym (subst (λ o. V
 once_at : (w : Around) {a b : Forest} (k : Kind) (s : Step (entered w k a) a b) (d : Drop) → dropped s ≡ d → holds_well k a ≡ true → heads k a ≡ true → is_formed a ≡ true → (p : Place) → fits p (sort_of k) ≡ true → well_placed (place_below p k) 0 b ≡ true → ClearAt k a → OnceIn k b d
 once_at w (Kind.Program source) s d e m g f p i o c = absurd (never_fits p i)
 once_at w {a} {b} (Kind.Function how pure) s (of_block x) e m g f p i o c =
-    function_once x how a b (subst (λ v. DeclsChange v (function_decls how a) (function_decls how b)) e (function_change how pure s refl m g f)) (c x (subst (λ v. AmongIf v (var_names (behind (behind a)) ++ names_in (lexical (behind (behind a))))) e (body_among how pure s refl m g f))) o
+    function_once x how a b (subst (λ v. DeclsChange v (function_decls how a) (function_decls how b)) e (function_change how pure s refl m g f)) (c x (subst (λ v. AmongIf v (var_names (behind (behind a)) ++ names_in (lexical (behind (behind a))))) e (body_among s (body_change how pure s refl m g f)))) o
 once_at w {a} {b} (Kind.Function how pure) s (of_function x) e m g f p i o c =
-    function_once x how a b (subst (λ v. DeclsChange v (function_decls how a) (function_decls how b)) e (function_change how pure s refl m g f)) (c x (subst (λ v. AmongIf v (var_names (behind (behind a)) ++ names_in (lexical (behind (behind a))))) e (body_among how pure s refl m g f))) o
+    function_once x how a b (subst (λ v. DeclsChange v (function_decls how a) (function_decls how b)) e (function_change how pure s refl m g f)) (c x (subst (λ v. AmongIf v (var_names (behind (behind a)) ++ names_in (lexical (behind (behind a))))) e (body_among s (body_change how pure s refl m g f)))) o
 once_at w {a} {b} Kind.BlockStatement s (of_block x) e m g f p i o c =
     let v : Lacks x (var_names b) = same_vars_after x (dropped s) (var_names a) (var_names b) e (vars_step s Kind.BlockStatement m (inr refl) f) (passing_free s x e) in
     block_once x lists a b o (row_cells x (λ i. lists) 0 b (λ i. refl) o) (λ l. row_free x (λ i. lists) 0 b (λ i n. items_place x lists b refl refl l v))
@@ -137,11 +83,8 @@ once_at w {a} {b} Kind.Cases s (of_block x) e m g f p i o c =
 once_at w k s d e m g f p i o c = tt
 
 once_step : {w : Around} {t u : Forest} (s : Step w t u) (places : ℕ → Place) (at : ℕ) → is_formed t ≡ true → well_placed places at u ≡ true → Clear t → Once s
-once_step (empty_statement_leaves h) places at f o c = tt
-once_step (unused_function_leaves h g) places at f o c = tt
-once_step (unused_declarator_leaves h g v) places at f o c = tt
-once_step (unused_declaration_leaves h g v) places at f o c = tt
-once_step (silent_statement_empties h) places at f o c = tt
+once_step (leaves g) places at f o c = tt
+once_step (empties h) places at f o c = tt
 once_step (inside {w = w} {k = k} {a = a} {b = b} {r = r} s) places at f o c =
     let i = and_parts (fits (places at) (sort_of k)) _ o in
     let j = and_parts (well_placed (place_below (places at) k) 0 b) _ i.1 in
@@ -152,38 +95,31 @@ once_step (behind_absent s) places at f o c = once_step s places (suc at) f o c
 
 -- ---- modules
 
-module_lists : (d : Drop) (xs ys : List Text) (ds es : List Decl) → VarsChange d xs ys → LexicalChange d ds es → DeclsChange d (decl this_name ready ∷ (all_so ready xs ++ ds)) (decl this_name ready ∷ (all_so ready ys ++ es))
-module_lists no_drop xs ys ds es v l = ap (λ m. decl this_name ready ∷ (all_so ready m ++ ds)) v ∙ ap (λ n. decl this_name ready ∷ (all_so ready ys ++ n)) l
-module_lists (of_block x) xs ys ds es v l = subst (λ m. Dropped x (decl this_name ready ∷ (all_so ready xs ++ ds)) (decl this_name ready ∷ (all_so ready m ++ es))) v (dropped_later (dropped_second (fewer_itself x (all_so ready xs)) l))
-module_lists (of_function x) xs ys ds es v l = subst (λ m. Dropped x (decl this_name ready ∷ (all_so ready xs ++ ds)) (decl this_name ready ∷ (all_so ready ys ++ m))) l (dropped_later (dropped_first (less_dropped ready v) (fewer_itself x ds)))
-
 items_free : (x : Text) (b : Forest) → declares (module_decls b) x ≡ false → Free x (λ i. module_items) 0 b
 items_free x b e =
     let h : Lacks x (names_in (all_so ready (var_names b) ++ lexical b)) = undeclared_right x (decl this_name ready ∷ []) (all_so ready (var_names b) ++ lexical b) (sym (declares_among (module_decls b) x) ∙ e) in
     let v : Lacks x (var_names b) = undeclared_so x ready (var_names b) (undeclared_left x (all_so ready (var_names b)) (lexical b) h) in
     row_free x (λ i. module_items) 0 b (λ i n. items_place x module_items b refl refl (undeclared_right x (all_so ready (var_names b)) (lexical b) h) v)
 
-items_once : (x : Text) (m : Note) (a b : Forest) → Dropped x (module_decls a) (module_decls b) → well_placed (λ i. module_items) 0 b ≡ true → ClearAt (Kind.Program source_type.Module) (alone Kind.Statements m a) → OnceAt x (module_decls b) b
-items_once x m a b d w c = (once_cells x (module_decls a) (module_decls b) d (c x), λ e. row_binds x (λ i. module_items) 0 b w (items_free x b e))
-
--- around the statements of a module
-abbrev around_list : Note → Forest → Around
-around_list m a = entered outermost (Kind.Program source_type.Module) (alone Kind.Statements m a)
+list_once : (x : Text) (m : Note) (a b : Forest) → Dropped x (module_decls a) (module_decls b) → well_placed (λ i. module_items) 0 b ≡ true → ClearAt (Kind.Program source_type.Module) (alone Kind.Statements m a) → OnceAt x (module_decls b) b
+list_once x m a b d w c = (once_cells x (module_decls a) (module_decls b) d (c x), λ e. row_binds x (λ i. module_items) 0 b w (items_free x b e))
 
 top_once : (m : Note) (a b : Forest) (d : Drop) → DeclsChange d (module_decls a) (module_decls b) → well_placed (λ i. module_items) 0 b ≡ true → ClearAt (Kind.Program source_type.Module) (alone Kind.Statements m a) → OnceIn (Kind.Program source_type.Module) (alone Kind.Statements m b) d
 top_once m a b no_drop h w c = tt
-top_once m a b (of_block x) h w c = items_once x m a b h w c
-top_once m a b (of_function x) h w c = items_once x m a b h w c
+top_once m a b (of_block x) h w c = list_once x m a b h w c
+top_once m a b (of_function x) h w c = list_once x m a b h w c
 
-list_once : (m : Note) (a b : Forest) (s : Step (around_list m a) (alone Kind.Statements m a) b) → is_formed (alone Kind.Statements m a) ≡ true → well_placed (λ i. program_list) 0 b ≡ true → ClearAt (Kind.Program source_type.Module) (alone Kind.Statements m a) → Clear a
-    → OnceIn (Kind.Program source_type.Module) b (dropped s) × Once s
-list_once m a _ (inside {b = b} s) f w c h =
-    let g : is_formed a ≡ true = form_below Kind.Statements a nothing f in
-    let l : holds_well Kind.Statements a ≡ true = form_holds Kind.Statements a nothing f in
-    let o : well_placed (λ i. module_items) 0 b ≡ true = (and_parts (well_placed (λ i. module_items) 0 b) true w).0 in
-    (top_once m a b (dropped s) (module_lists (dropped s) (var_names a) (var_names b) (lexical a) (lexical b) (vars_step s Kind.Statements l (inl refl) g) (lexical_step s Kind.Statements l refl (inl refl) g)) o c, (tt, once_step s (λ i. module_items) 0 g o h))
-list_once m a _ (behind_node s) f w c h = absurd (nothing_stays s)
+items_once : (n m : Note) (a u : Forest) (s : Step outermost (module_of n m a) u) → InItems n m a u s
+    → is_formed (module_of n m a) ≡ true → is_well_placed u ≡ true → Clear (module_of n m a) → Once s
+items_once n m a _ _ (in_items {b = b} s) f w c =
+    let h : is_formed (alone Kind.Statements m a) ≡ true = form_below (Kind.Program source_type.Module) (alone Kind.Statements m a) nothing f in
+    let g : is_formed a ≡ true = form_below Kind.Statements a nothing h in
+    let l : holds_well Kind.Statements a ≡ true = form_holds Kind.Statements a nothing h in
+    let k : Forest = alone Kind.Statements m b in
+    let v : well_placed (λ i. program_list) 0 k ≡ true = (and_parts (well_placed (λ i. program_list) 0 k) (has_plain_values k) w).0 in
+    let o : well_placed (λ i. module_items) 0 b ≡ true = (and_parts (well_placed (λ i. module_items) 0 b) true v).0 in
+    let d = module_lists (dropped s) (var_names a) (var_names b) (lexical a) (lexical b) (vars_step s Kind.Statements l (inl refl) g) (lexical_step s Kind.Statements l refl (inl refl) g) in
+    (top_once m a b (dropped s) d o c.0, (tt, once_step s (λ i. module_items) 0 g o c.1.1))
 
 pub module_once : (n m : Note) (a u : Forest) (s : Step outermost (module_of n m a) u) → is_formed (module_of n m a) ≡ true → is_well_placed u ≡ true → Clear (module_of n m a) → Once s
-module_once n m a _ (inside {b = b} s) f w c = list_once m a b s (form_below (Kind.Program source_type.Module) (alone Kind.Statements m a) nothing f) (and_parts (well_placed (λ i. program_list) 0 b) (has_plain_values b) w).0 c.0 c.1.1
-module_once n m a _ (behind_node s) f w c = absurd (nothing_stays s)
+module_once n m a u s f w c = items_once n m a u s (in_its_items n m a u s) f w c

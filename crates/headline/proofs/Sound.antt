@@ -6,9 +6,9 @@ use Rattle.js_syntax.specs.Node.{Note, Forest, nothing, alone}
 use Rattle.js_meaning.specs.Kept.{Refined}
 use Rattle.js_meaning.proofs.Kept.{refined_joined}
 use Rattle.js_meaning_near.specs.Near.{module_of}
-use Rattle.steps.specs.Steps.{Around, entered, outermost, Step, inside, behind_node, all_core}
+use Rattle.steps.specs.Steps.{outermost, Step, all_core}
 use Rattle.steps.proofs.Steps.{step_core}
-use Rattle.steps_keep_runs.proofs.Modules.{nothing_stays}
+use Rattle.steps_keep_runs.proofs.Modules.{InItems, in_items, in_its_items}
 use Rattle.steps_keep_runs.proofs.Whole as refining
 use Rattle.steps_fit.specs.Sensible.{IsSensible, IsSensibleModule}
 use Rattle.steps_fit.proofs.Held.{core_below}
@@ -23,16 +23,8 @@ pub record Refines (t u : Forest) : Type 0 where
 
 -- ---- a step of a module leads to a module
 
-abbrev around_list : Note → Forest → Around
-around_list m a = entered outermost (Kind.Program source_type.Module) (alone Kind.Statements m a)
-
-list_stays : (n m : Note) (a b : Forest) → Step (around_list m a) (alone Kind.Statements m a) b → IsModule (alone (Kind.Program source_type.Module) n b)
-list_stays n m a _ (inside {b = b} s) = record { note = n; list_note = m; items = b; is = refl }
-list_stays n m a _ (behind_node s) = absurd (nothing_stays s)
-
-module_stays : (n m : Note) (a u : Forest) → Step outermost (module_of n m a) u → IsModule u
-module_stays n m a _ (inside {b = b} s) = list_stays n m a b s
-module_stays n m a _ (behind_node s) = absurd (nothing_stays s)
+module_stays : (n m : Note) (a u : Forest) (s : Step outermost (module_of n m a) u) → InItems n m a u s → IsModule u
+module_stays n m a _ _ (in_items {b = b} s) = record { note = n; list_note = m; items = b; is = refl }
 
 -- ---- one step
 
@@ -41,7 +33,7 @@ statements_core n m a core = core_below Kind.Statements m a nothing (core_below 
 
 module_step : (n m : Note) (a u : Forest) → Step outermost (module_of n m a) u → IsSensibleModule (module_of n m a) → IsSensible u → Refines (module_of n m a) u
 module_step n m a u s h g =
-    let left = of_module u (module_stays n m a u s) (step_core s h.core) g in
+    let left = of_module u (module_stays n m a u s (in_its_items n m a u s)) (step_core s h.core) g in
     record { left = left; refined = refining.module_once n m a u s h.formed (statements_core n m a h.core) h.in_place (module_once n m a u s h.formed left.placed h.clear) }
 
 pub step_refines : (t u : Forest) → Step outermost t u → IsSensibleModule t → IsSensible u → Refines t u

@@ -1,10 +1,9 @@
 -- What steps keep.
 use Rattle.std.proofs.Common.{◌≡◌, true, ◌&&◌}
 use Rattle.js_syntax.specs.declared.node_kind.NodeKind.{NodeKind as Kind}
-use Rattle.js_syntax.specs.Node.{Forest, nothing, node, alone}
+use Rattle.js_syntax.specs.Node.{Forest, alone}
 use Rattle.js_syntax.specs.Facts.{is_core}
-use Rattle.js_syntax.specs.declared.kind.FunctionKind.TheVariants as function_kind
-use Rattle.steps.specs.Steps.{Around, Step, empty_statement_leaves, unused_function_leaves, unused_declarator_leaves, unused_declaration_leaves, silent_statement_empties, inside, behind_node, behind_absent, all_core}
+use Rattle.steps.specs.Steps.{Around, Step, leaves, empties, inside, behind_node, behind_absent, all_core}
 use Rattle.js_syntax.proofs.Truth.{first_of_both, second_of_both, both}
 
 -- of a node: its kind, what lies below it, and what stands behind it
@@ -18,12 +17,8 @@ core_behind : (k : Kind) (a r : Forest) → (is_core k && (all_core a && all_cor
 core_behind k a r e = second_of_both (all_core a) _ (second_of_both (is_core k) _ e)
 
 pub step_core : {w : Around} {t u : Forest} → Step w t u → all_core t ≡ true → all_core u ≡ true
-step_core (empty_statement_leaves {r = r} h) e = core_behind Kind.EmptyStatement nothing r e
-step_core (unused_function_leaves {pure = pure} {x = x} {m = m} {a = a} {r = r} h g) e = core_behind (Kind.Function function_kind.Declaration pure) (node (Kind.BindingName x) m nothing a) r e
-step_core (unused_declarator_leaves {x = x} {m = m} {v = v} {r = r} h g f) e = core_behind Kind.VariableDeclarator (node (Kind.BindingName x) m nothing v) r e
-step_core (unused_declaration_leaves {how = how} {x = x} {m = m} {l = l} {j = j} {v = v} {r = r} h g f) e =
-    core_behind (Kind.VariableDeclaration how) (alone Kind.Declarators m (alone Kind.VariableDeclarator l (node (Kind.BindingName x) j nothing v))) r e
-step_core (silent_statement_empties {k = k} {l = l} {a = a} {r = r} h) e = core_behind Kind.ExpressionStatement (alone k l a) r e
+step_core (leaves {k = k} {a = a} {r = r} g) e = core_behind k a r e
+step_core (empties {k = k} {l = l} {a = a} {r = r} h) e = core_behind Kind.ExpressionStatement (alone k l a) r e
 step_core (inside {k = k} {a = a} {b = b} {r = r} s) e = both (is_core k) _ (core_kind k a r e) (both (all_core b) _ (step_core s (core_below k a r e)) (core_behind k a r e))
 step_core (behind_node {k = k} {a = a} {r = r} s) e = both (is_core k) _ (core_kind k a r e) (both (all_core a) _ (core_below k a r e) (step_core s (core_behind k a r e)))
 step_core (behind_absent s) e = step_core s e

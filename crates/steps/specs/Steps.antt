@@ -78,21 +78,25 @@ pub data Initialiser (names : List Text) : Forest → Type 0 where
   no_initialiser : Initialiser names (absent nothing)
   silent_initialiser : {k : Kind} {n : Note} {a : Forest} → Idle names k n a → Initialiser names (alone k n a)
 
+-- What may leave the row in which it stands, by what stands around that.
+pub data Goes (w : Around) : Kind → (below : Forest) → Type 0 where
+  -- an empty statement, out of a list of statements
+  empty_statement : w.row ≡ items → Goes w Kind.EmptyStatement nothing
+  -- a function declaration that nothing refers to, likewise
+  unused_function : {pure : Bool} {x : Text} {m : Note} {a : Forest} → w.row ≡ items → is_used w variable.Let x ≡ false
+      → Goes w (Kind.Function function_kind.Declaration pure) (node (Kind.BindingName x) m nothing a)
+  -- a declarator of a name that nothing refers to, with a silent initialiser or none, out of the declarators of an item
+  unused_declarator : {how : VariableKind} {x : Text} {m : Note} {v : Forest} → w.row ≡ declarators how → is_used w how x ≡ false → Initialiser w.names v
+      → Goes w Kind.VariableDeclarator (node (Kind.BindingName x) m nothing v)
+  -- the item, where it is the only one
+  unused_declaration : {how : VariableKind} {x : Text} {m l j : Note} {v : Forest} → w.row ≡ items → is_used w how x ≡ false → Initialiser w.names v
+      → Goes w (Kind.VariableDeclaration how) (alone Kind.Declarators m (alone Kind.VariableDeclarator l (node (Kind.BindingName x) j nothing v)))
+
 -- One step, by what stands around the row.
 pub data Step : Around → (t u : Forest) → Type 0 where
-  -- an empty statement leaves a list of statements
-  empty_statement_leaves : {w : Around} {n : Note} {r : Forest} → w.row ≡ items → Step w (node Kind.EmptyStatement n nothing r) r
-  -- so does a function declaration that nothing refers to
-  unused_function_leaves : {w : Around} {pure : Bool} {x : Text} {n m : Note} {a r : Forest} → w.row ≡ items → is_used w variable.Let x ≡ false
-      → Step w (node (Kind.Function function_kind.Declaration pure) n (node (Kind.BindingName x) m nothing a) r) r
-  -- a declarator of a name that nothing refers to, with a silent initialiser or none, leaves the declarators of an item
-  unused_declarator_leaves : {w : Around} {how : VariableKind} {x : Text} {n m : Note} {v r : Forest} → w.row ≡ declarators how → is_used w how x ≡ false → Initialiser w.names v
-      → Step w (node Kind.VariableDeclarator n (node (Kind.BindingName x) m nothing v) r) r
-  -- the item leaves where it is the only one
-  unused_declaration_leaves : {w : Around} {how : VariableKind} {x : Text} {n m l j : Note} {v r : Forest} → w.row ≡ items → is_used w how x ≡ false → Initialiser w.names v
-      → Step w (node (Kind.VariableDeclaration how) n (alone Kind.Declarators m (alone Kind.VariableDeclarator l (node (Kind.BindingName x) j nothing v))) r) r
+  leaves : {w : Around} {k : Kind} {n : Note} {a r : Forest} → Goes w k a → Step w (node k n a r) r
   -- a statement of a silent expression becomes empty, wherever it stands
-  silent_statement_empties : {w : Around} {k : Kind} {n m l : Note} {a r : Forest} → Idle w.names k l a → Step w (node Kind.ExpressionStatement n (alone k l a) r) (node Kind.EmptyStatement m nothing r)
+  empties : {w : Around} {k : Kind} {n m l : Note} {a r : Forest} → Idle w.names k l a → Step w (node Kind.ExpressionStatement n (alone k l a) r) (node Kind.EmptyStatement m nothing r)
   -- a step further in, or further on
   inside : {w : Around} {k : Kind} {n : Note} {a b r : Forest} → Step (entered w k a) a b → Step w (node k n a r) (node k n b r)
   behind_node : {w : Around} {k : Kind} {n : Note} {a r s : Forest} → Step w r s → Step w (node k n a r) (node k n a s)

@@ -4,22 +4,31 @@ use Rattle.js_syntax.specs.declared.node_kind.NodeKind.{NodeKind as Kind}
 use Rattle.js_syntax.specs.Node.{Forest, nothing, node, absent, Note, nowhere}
 use Rattle.js_syntax.specs.declared.kind.FunctionKind.{FunctionKind}
 use Rattle.js_syntax.specs.declared.kind.FunctionKind.TheVariants as function_kind
-use Rattle.js_syntax.specs.declared.kind.VariableKind.{VariableKind}
 use Rattle.js_syntax.specs.declared.kind.VariableKind.TheVariants as variable
 use Rattle.js_syntax.specs.declared.kind.ClassKind.TheVariants as class_kind
-use Rattle.js_meaning.specs.Scope.{first_of, first_name, names_of, bound_names, vars_of, var_names, item_decls, lexical, waiting, all_so, named_so, or_default}
-use Rattle.steps.specs.Steps.{Row, items, declarators, other, row_below, Around, entered, Step, empty_statement_leaves, unused_function_leaves, unused_declarator_leaves, unused_declaration_leaves, silent_statement_empties, inside, behind_node, behind_absent}
+use Rattle.js_meaning.specs.Scope.{first_of, behind, first_name, names_of, bound_names, vars_of, var_names, item_decls, lexical, waiting, all_so, named_so, or_default}
+use Rattle.js_meaning_near.specs.Near.{is_row}
+use Rattle.steps.specs.Steps.{Row, items, declarators, other, row_below, Around, entered, Goes, empty_statement, unused_function, unused_declarator, unused_declaration, Step, leaves, empties, inside, behind_node, behind_absent}
 use Rattle.steps_keep_runs.specs.Formed.{is_plain, still, calm_at, calm, heads, holds_well, is_formed}
 use Rattle.steps_keep_runs.specs.Drop.{no_drop, outside, dropped}
 use Rattle.js_syntax.proofs.Truth.{first_of_both, second_of_both}
 
 -- rows
 
-pub items_other : {r : Row} → r ≡ items → r ≡ other → ⊥
-items_other e f = cc
+abbrev pub is_list : Row → Bool
+is_list items = true
+is_list (declarators how) = true
+is_list r = false
 
-pub declarators_other : {r : Row} {how : VariableKind} → r ≡ declarators how → r ≡ other → ⊥
-declarators_other e f = cc
+-- what leaves a row leaves a list
+pub leaves_list : {w : Around} {k : Kind} {a : Forest} → Goes w k a → is_list w.row ≡ true
+leaves_list (empty_statement h) = ap is_list h
+leaves_list (unused_function h u) = ap is_list h
+leaves_list (unused_declarator h u i) = ap is_list h
+leaves_list (unused_declaration h u i) = ap is_list h
+
+pub leaves_no_other : {w : Around} {k : Kind} {a : Forest} → Goes w k a → w.row ≡ other → ⊥
+leaves_no_other g e = true≢false (sym (leaves_list g) ∙ ap is_list e)
 
 pub entered_row : (w : Around) (k : Kind) (a : Forest) → (entered w k a).row ≡ row_below w.row k a
 entered_row w (Kind.Program source) a = refl
@@ -40,11 +49,8 @@ other_below w k a h e = entered_row w k a ∙ ap (λ r. row_below r k a) h ∙ p
 -- no step
 
 pub still_stays : {w : Around} {t u : Forest} → Step w t u → w.row ≡ other → still t ≡ true → ⊥
-still_stays (empty_statement_leaves h) g e = items_other h g
-still_stays (unused_function_leaves h i) g e = items_other h g
-still_stays (unused_declarator_leaves h i j) g e = declarators_other h g
-still_stays (unused_declaration_leaves h i j) g e = items_other h g
-still_stays (silent_statement_empties h) g e = true≢false (sym e)
+still_stays (leaves h) g e = leaves_no_other h g
+still_stays (empties h) g e = true≢false (sym e)
 still_stays (inside {w = w} {k = k} {a = a} {r = r} s) g e =
     let f = first_of_both (is_plain k && still a) (still r) e in
     still_stays s (other_below w k a g (first_of_both (is_plain k) (still a) f)) (second_of_both (is_plain k) (still a) f)
@@ -52,19 +58,19 @@ still_stays (behind_node {k = k} {a = a} {r = r} s) g e = still_stays s g (secon
 still_stays (behind_absent s) g e = still_stays s g e
 
 -- A step in a row whose first node holds still lies behind it.
-pub record Behind (a b : Forest) : Type 0 where
+pub record Behind {w : Around} {a b : Forest} (s : Step w a b) : Type 0 where
   pub first : first_of a ≡ first_of b
   pub name : first_name a ≡ first_name b
+  pub rows : is_row a ≡ is_row b
+  pub step : Step w (behind a) (behind b)
+  pub drops : dropped step ≡ dropped s
 
-pub first_stays : {w : Around} {a b : Forest} → Step w a b → w.row ≡ other → still (first_of a) ≡ true → Behind a b
-first_stays (empty_statement_leaves h) g e = absurd (items_other h g)
-first_stays (unused_function_leaves h i) g e = absurd (items_other h g)
-first_stays (unused_declarator_leaves h i j) g e = absurd (declarators_other h g)
-first_stays (unused_declaration_leaves h i j) g e = absurd (items_other h g)
-first_stays (silent_statement_empties h) g e = absurd (true≢false (sym e))
-first_stays (inside {w = w} {k = k} {n = n} {a = a} {b = b} s) g e = absurd (still_stays (inside {n = n} {r = nothing} s) g e)
-first_stays (behind_node s) g e = record { first = refl; name = refl }
-first_stays (behind_absent s) g e = record { first = refl; name = refl }
+pub first_stays : {w : Around} {a b : Forest} (s : Step w a b) → w.row ≡ other → still (first_of a) ≡ true → Behind s
+first_stays (leaves h) g e = absurd (leaves_no_other h g)
+first_stays (empties h) g e = absurd (true≢false (sym e))
+first_stays (inside {n = n} s) g e = absurd (still_stays (inside {n = n} {r = nothing} s) g e)
+first_stays (behind_node s) g e = record { first = refl; name = refl; rows = refl; step = s; drops = refl }
+first_stays (behind_absent s) g e = record { first = refl; name = refl; rows = refl; step = s; drops = refl }
 
 -- the form of a node
 
@@ -127,11 +133,8 @@ calm_node_step k s g (inl v) f h = absurd v
 calm_node_step {w} {n} {a} {b} {r} k s g (inr v) f h = let c = h (g v.0) v.1 in record { alike = alike_node (λ i. i) c.alike (alike_itself r); drops = ap (outside k) c.drops ∙ outside_none k }
 
 pub calm_step : {w : Around} {t u : Forest} (s : Step w t u) → w.row ≡ other → calm t ≡ true → is_formed t ≡ true → Calmly s
-calm_step (empty_statement_leaves h) g e f = absurd (items_other h g)
-calm_step (unused_function_leaves h i) g e f = absurd (items_other h g)
-calm_step (unused_declarator_leaves h i j) g e f = absurd (declarators_other h g)
-calm_step (unused_declaration_leaves h i j) g e f = absurd (items_other h g)
-calm_step (silent_statement_empties h) g e f = absurd (true≢false (sym e))
+calm_step (leaves h) g e f = absurd (leaves_no_other h g)
+calm_step (empties h) g e f = absurd (true≢false (sym e))
 calm_step (inside {w = w} {k = k} {n = n} {a = a} {b = b} {r = r} s) g e f =
     calm_node_step k s (other_below w k a g) (calm_node k (calm a) (first_of_both (calm_at k (calm a)) (calm r) e)) f (λ i j. calm_step s i j (form_below k a r f))
 calm_step (behind_node {k = k} {a = a} {r = r} s) g e f =

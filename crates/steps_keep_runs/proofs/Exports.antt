@@ -8,7 +8,7 @@ use Rattle.js_syntax.specs.declared.kind.FunctionKind.TheVariants as function_ki
 use Rattle.js_meaning.specs.Value.{Text}
 use Rattle.js_meaning.specs.Scope.{first_name, waiting, named_so}
 use Rattle.js_meaning.specs.Module.{requests_of, requests, entry_local, specifier_of, local_entries, foreign_of, foreign_entries, same_names, names_in, declared_in, declared_entries, default_local, list_below, entries_of, entries, star_of, stars}
-use Rattle.steps.specs.Steps.{items, Around, entered, Step, empty_statement_leaves, unused_function_leaves, unused_declarator_leaves, unused_declaration_leaves, silent_statement_empties, inside, behind_node, behind_absent}
+use Rattle.steps.specs.Steps.{items, Around, entered, Goes, empty_statement, unused_function, unused_declarator, unused_declaration, Step, leaves, empties, inside, behind_node, behind_absent}
 use Rattle.steps_keep_runs.specs.Formed.{heads, is_formed}
 use Rattle.steps_keep_runs.proofs.Calm.{form_heads, form_below, form_behind, Alike, alike_nothing, alike_absent, alike_same, alike_node, alike_function, alike_itself, IsImport, calm_step, same_first_name, same_bounds, same_lexical, lexical_at}
 
@@ -82,33 +82,36 @@ entries_inside w {a} {b} Kind.ExportDefaultDeclaration s e f = entries_alike Kin
 entries_inside w (Kind.ExportAllDeclaration (Some name) source) s e f = refl
 entries_inside w k s e f = refl
 
+-- what leaves a list exports nothing, and asks for no other module
+record Private (k : Kind) (a : Forest) : Type 0 where
+  entries : entries_of k a ≡ []
+  stars : star_of k ≡ []
+  requests : requests_of k ≡ []
+
+leaves_private : {w : Around} {k : Kind} {a : Forest} → Goes w k a → Private k a
+leaves_private (empty_statement h) = record { entries = refl; stars = refl; requests = refl }
+leaves_private (unused_function h u) = record { entries = refl; stars = refl; requests = refl }
+leaves_private (unused_declarator h u i) = record { entries = refl; stars = refl; requests = refl }
+leaves_private (unused_declaration h u i) = record { entries = refl; stars = refl; requests = refl }
+
 -- of a list of items
 pub step_entries : {w : Around} {t u : Forest} → Step w t u → w.row ≡ items → is_formed t ≡ true → entries t ≡ entries u
-step_entries (empty_statement_leaves h) i f = refl
-step_entries (unused_function_leaves h g) i f = refl
-step_entries (unused_declarator_leaves h g v) i f = refl
-step_entries (unused_declaration_leaves h g v) i f = refl
-step_entries (silent_statement_empties h) i f = refl
+step_entries (leaves {r = r} g) i f = ap (λ l. l ++ entries r) (leaves_private g).entries
+step_entries (empties h) i f = refl
 step_entries (inside {w = w} {k = k} {a = a} {r = r} s) i f = ap (λ l. l ++ entries r) (entries_inside w k s (form_heads k a r f) (form_below k a r f))
 step_entries (behind_node {k = k} {a = a} {r = r} s) i f = ap (λ l. entries_of k a ++ l) (step_entries s i (form_behind k a r f))
 step_entries (behind_absent s) i f = step_entries s i f
 
 pub step_stars : {w : Around} {t u : Forest} → Step w t u → stars t ≡ stars u
-step_stars (empty_statement_leaves h) = refl
-step_stars (unused_function_leaves h g) = refl
-step_stars (unused_declarator_leaves h g v) = refl
-step_stars (unused_declaration_leaves h g v) = refl
-step_stars (silent_statement_empties h) = refl
+step_stars (leaves {r = r} g) = ap (λ l. l ++ stars r) (leaves_private g).stars
+step_stars (empties h) = refl
 step_stars (inside s) = refl
 step_stars (behind_node {k = k} s) = ap (λ l. star_of k ++ l) (step_stars s)
 step_stars (behind_absent s) = step_stars s
 
 pub step_requests : {w : Around} {t u : Forest} → Step w t u → requests t ≡ requests u
-step_requests (empty_statement_leaves h) = refl
-step_requests (unused_function_leaves h g) = refl
-step_requests (unused_declarator_leaves h g v) = refl
-step_requests (unused_declaration_leaves h g v) = refl
-step_requests (silent_statement_empties h) = refl
+step_requests (leaves {r = r} g) = ap (λ l. l ++ requests r) (leaves_private g).requests
+step_requests (empties h) = refl
 step_requests (inside s) = refl
 step_requests (behind_node {k = k} s) = ap (λ l. requests_of k ++ l) (step_requests s)
 step_requests (behind_absent s) = step_requests s

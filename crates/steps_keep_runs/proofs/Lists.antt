@@ -9,10 +9,10 @@ use Rattle.js_meaning.specs.Value.{Text}
 use Rattle.js_meaning.specs.Scope.{Way, Decl, first_of, names_of, bound_names, vars_of, var_names, item_decls, lexical, waiting, all_so, named_so, or_default}
 use Rattle.js_meaning_near.specs.Avoid.{Dropped, dropped_here, dropped_later}
 use Rattle.js_meaning_near.proofs.Avoid.{fewer_itself, dropped_first, dropped_second}
-use Rattle.steps.specs.Steps.{Row, items, of_item, declarators, other, is_single, row_below, Around, entered, Initialiser, no_initialiser, silent_initialiser, Step, empty_statement_leaves, unused_function_leaves, unused_declarator_leaves, unused_declaration_leaves, silent_statement_empties, inside, behind_node, behind_absent}
+use Rattle.steps.specs.Steps.{Row, items, of_item, declarators, other, is_single, row_below, Around, entered, Initialiser, no_initialiser, silent_initialiser, Goes, empty_statement, unused_function, unused_declarator, unused_declaration, Step, leaves, empties, inside, behind_node, behind_absent}
 use Rattle.steps_keep_runs.specs.Formed.{holds_statements, is_function, is_cases, is_switch, may_hold, holds_well, is_plain, still, calm_at, calm, heads, is_formed}
-use Rattle.steps_keep_runs.specs.Drop.{Drop, no_drop, of_block, of_function, declared_so, out_of_block, outside, dropped}
-use Rattle.steps_keep_runs.proofs.Calm.{items_other, declarators_other, entered_row, other_below, still_stays, first_stays, form_holds, form_heads, form_below, form_behind, alike_same, alike_absent, alike_node, alike_itself, Calmly, calm_step, calm_inside, same_bounds, same_vars, same_lexical}
+use Rattle.steps_keep_runs.specs.Drop.{Drop, no_drop, of_block, of_function, declared_so, out_of_block, outside, drop_of, dropped}
+use Rattle.steps_keep_runs.proofs.Calm.{leaves_no_other, entered_row, other_below, still_stays, first_stays, form_holds, form_heads, form_below, form_behind, alike_same, alike_absent, alike_node, alike_itself, Calmly, calm_step, calm_inside, same_bounds, same_vars, same_lexical}
 use Rattle.js_syntax.proofs.Truth.{first_of_both, second_of_both}
 
 -- a list, and the list without one of the names
@@ -165,12 +165,12 @@ gone_absent s (nothing_gone c) = nothing_gone (record { alike = alike_absent c.a
 gone_absent s (one_gone x d l v) = one_gone x d l v
 
 pub decl_step : {w : Around} {t u : Forest} (how : VariableKind) (s : Step w t u) → InItem how w.row → calm t ≡ true → is_formed t ≡ true → Gone how s
-decl_step how (empty_statement_leaves h) i e f = absurd (item_items i h)
-decl_step how (unused_function_leaves h g) i e f = absurd (item_items i h)
-decl_step how (unused_declarator_leaves {x = x} {n = n} {m = m} {v = v} {r = r} h g z) i e f =
+decl_step how (leaves (empty_statement h)) i e f = absurd (item_items i h)
+decl_step how (leaves (unused_function h u)) i e f = absurd (item_items i h)
+decl_step how (leaves {n = n} {r = r} (unused_declarator {x = x} {m = m} {v = v} h u z)) i e f =
     one_gone x (ap (λ d. declared_so d x) (same_kind i h)) (declarator_gone x n m v r (initialiser_bounds z)) (ap (λ l. l ++ var_names r) (no_vars v (initialiser_bounds z)))
-decl_step how (unused_declaration_leaves h g v) i e f = absurd (item_items i h)
-decl_step how (silent_statement_empties h) i e f = absurd (true≢false (sym e))
+decl_step how (leaves (unused_declaration h u z)) i e f = absurd (item_items i h)
+decl_step how (empties h) i e f = absurd (true≢false (sym e))
 decl_step how (inside {k = k} {a = a} {r = r} s) i e f = decl_inside how k s i (first_of_both (calm_at k (calm a)) (calm r) e) f (λ g c. decl_step how s (inr g) c (form_below k a r f))
 decl_step how (behind_node {k = k} {a = a} {r = r} s) i e f = gone_behind s (decl_step how s i (second_of_both (calm_at k (calm a)) (calm r) e) (form_behind k a r f))
 decl_step how (behind_absent s) i e f = gone_absent s (decl_step how s i e f)
@@ -246,17 +246,32 @@ vars_inside w {a} {b} Kind.ForStatement s above m i e f h = vars_out (var_names 
 vars_inside w {a} {b} Kind.CatchClause s above m i e f h = vars_out (var_names a) (var_names b) (dropped s) (h (list_below w Kind.CatchClause a i tt))
 vars_inside w {a} k s above m i e f h = h (list_below w k a i tt)
 
+-- what leaves a list takes the declarations of one name with it, or none
+
 declaration_vars : (how : VariableKind) (x : Text) (m l j : Note) (v : Forest) → bound_names v ≡ [] → VarsChange (declared_so how x) (vars_of (Kind.VariableDeclaration how) (alone Kind.Declarators m (alone Kind.VariableDeclarator l (node (Kind.BindingName x) j nothing v))) ((var_names v ++ []) ++ [])) []
 declaration_vars variable.Var x m l j v e = subst (λ n. Less x n []) (sym (ap₂ (λ b c. (((x ∷ b) ++ []) ++ []) ++ ((c ++ []) ++ [])) e (no_vars v e))) less_here
 declaration_vars variable.Let x m l j v e = ap (λ c. (c ++ []) ++ []) (no_vars v e)
 declaration_vars variable.Const x m l j v e = ap (λ c. (c ++ []) ++ []) (no_vars v e)
 
+declaration_lexical : (how : VariableKind) (x : Text) (m l j : Note) (v : Forest) → bound_names v ≡ [] → LexicalChange (declared_so how x) (item_decls (Kind.VariableDeclaration how) (alone Kind.Declarators m (alone Kind.VariableDeclarator l (node (Kind.BindingName x) j nothing v))) []) []
+declaration_lexical variable.Var x m l j v e = refl
+declaration_lexical variable.Let x m l j v e = subst (λ b. Dropped x (all_so (waiting false) (((x ∷ b) ++ []) ++ [])) []) (sym e) (dropped_here (fewer_itself x []))
+declaration_lexical variable.Const x m l j v e = subst (λ b. Dropped x (all_so (waiting true) (((x ∷ b) ++ []) ++ [])) []) (sym e) (dropped_here (fewer_itself x []))
+
+record ListLoses (d : Drop) (k : Kind) (a : Forest) : Type 0 where
+  vars : VarsChange d (vars_of k a (var_names a)) []
+  lexical : LexicalChange d (item_decls k a (lexical a)) []
+
+list_loses : {w : Around} {k : Kind} {a : Forest} (g : Goes w k a) → InList w.row → ListLoses (drop_of g) k a
+list_loses (empty_statement h) i = record { vars = refl; lexical = refl }
+list_loses (unused_function {x = x} h u) i = record { vars = refl; lexical = dropped_here (fewer_itself x []) }
+list_loses (unused_declarator h u z) i = absurd (list_declarators i h)
+list_loses (unused_declaration {how = how} {x = x} {m = m} {l = l} {j = j} {v = v} h u z) i =
+    record { vars = declaration_vars how x m l j v (initialiser_bounds z); lexical = declaration_lexical how x m l j v (initialiser_bounds z) }
+
 pub vars_step : {w : Around} {t u : Forest} (s : Step w t u) (above : Kind) → holds_well above t ≡ true → InList w.row → is_formed t ≡ true → VarsChange (dropped s) (var_names t) (var_names u)
-vars_step (empty_statement_leaves h) above m i f = refl
-vars_step (unused_function_leaves h g) above m i f = refl
-vars_step (unused_declarator_leaves h g v) above m i f = absurd (list_declarators i h)
-vars_step (unused_declaration_leaves {how = how} {x = x} {m = m} {l = l} {j = j} {v = v} {r = r} h g z) above q i f = vars_back _ [] (declared_so how x) (var_names r) (declaration_vars how x m l j v (initialiser_bounds z))
-vars_step (silent_statement_empties {k = k} {l = n} {a = a} {r = r} h) above m i f = ap (λ l. l ++ var_names r) (no_vars (alone k n a) h.declares)
+vars_step (leaves {r = r} g) above m i f = vars_back _ [] (drop_of g) (var_names r) (list_loses g i).vars
+vars_step (empties {k = k} {l = n} {a = a} {r = r} h) above m i f = ap (λ l. l ++ var_names r) (no_vars (alone k n a) h.declares)
 vars_step (inside {k = k} {a = a} {b = b} {r = r} s) above m i f =
     vars_back _ _ (outside k (dropped s)) (var_names r) (vars_inside _ k s above (first_of_both (may_hold above k) (holds_well above r) m) i (form_heads k a r f) (form_below k a r f) (λ j. vars_step s k (form_holds k a r f) j (form_below k a r f)))
 vars_step (behind_node {k = k} {a = a} {r = r} {s = z} s) above m i f =
@@ -305,11 +320,8 @@ not_block_inside w {a} Kind.ExpressionStatement s above m g i e f h = h (ap (λ 
 not_block_inside w {a} k s above m g i e f h = h (other_below w k a i refl) refl
 
 pub not_block : {w : Around} {t u : Forest} (s : Step w t u) (above : Kind) → holds_well above t ≡ true → holds_lists above ≡ false → w.row ≡ other → is_formed t ≡ true → NotBlock (dropped s)
-not_block (empty_statement_leaves h) above m g i f = tt
-not_block (unused_function_leaves h j) above m g i f = absurd (items_other h i)
-not_block (unused_declarator_leaves h j v) above m g i f = absurd (declarators_other h i)
-not_block (unused_declaration_leaves h j v) above m g i f = absurd (items_other h i)
-not_block (silent_statement_empties h) above m g i f = tt
+not_block (leaves h) above m g i f = absurd (leaves_no_other h i)
+not_block (empties h) above m g i f = tt
 not_block (inside {k = k} {a = a} {r = r} s) above m g i f =
     not_block_inside _ k s above (first_of_both (may_hold above k) (holds_well above r) m) g i (form_heads k a r f) (form_below k a r f) (λ j l. not_block s k (form_holds k a r f) l j (form_below k a r f))
 not_block (behind_node {k = k} {a = a} {r = r} s) above m g i f = not_block s above (second_of_both (may_hold above k) (holds_well above r) m) g i (form_behind k a r f)
@@ -357,17 +369,9 @@ lexical_inside w {a} Kind.ExpressionStatement s above m n i l e f h = lexical_sa
     row_expression (inr i) = ap (λ r. row_below r Kind.ExpressionStatement a) i
 lexical_inside w {a} k s above m n i l e f h = lexical_same [] [] (dropped s) (not_block s k l refl (row_other w k a i tt refl) f) refl
 
-declaration_lexical : (how : VariableKind) (x : Text) (m l j : Note) (v : Forest) → bound_names v ≡ [] → LexicalChange (declared_so how x) (item_decls (Kind.VariableDeclaration how) (alone Kind.Declarators m (alone Kind.VariableDeclarator l (node (Kind.BindingName x) j nothing v))) []) []
-declaration_lexical variable.Var x m l j v e = refl
-declaration_lexical variable.Let x m l j v e = subst (λ b. Dropped x (all_so (waiting false) (((x ∷ b) ++ []) ++ [])) []) (sym e) (dropped_here (fewer_itself x []))
-declaration_lexical variable.Const x m l j v e = subst (λ b. Dropped x (all_so (waiting true) (((x ∷ b) ++ []) ++ [])) []) (sym e) (dropped_here (fewer_itself x []))
-
 pub lexical_step : {w : Around} {t u : Forest} (s : Step w t u) (above : Kind) → holds_well above t ≡ true → is_switch above ≡ false → InList w.row → is_formed t ≡ true → LexicalChange (dropped s) (lexical t) (lexical u)
-lexical_step (empty_statement_leaves h) above m n i f = refl
-lexical_step (unused_function_leaves {x = x} {r = r} h g) above m n i f = dropped_here (fewer_itself x (lexical r))
-lexical_step (unused_declarator_leaves h g v) above m n i f = absurd (list_declarators i h)
-lexical_step (unused_declaration_leaves {how = how} {x = x} {m = m} {l = l} {j = j} {v = v} {r = r} h g z) above q n i f = lexical_back _ [] (declared_so how x) (lexical r) (declaration_lexical how x m l j v (initialiser_bounds z))
-lexical_step (silent_statement_empties h) above m n i f = refl
+lexical_step (leaves {r = r} g) above m n i f = lexical_back _ [] (drop_of g) (lexical r) (list_loses g i).lexical
+lexical_step (empties h) above m n i f = refl
 lexical_step (inside {k = k} {a = a} {b = b} {r = r} s) above m n i f =
     lexical_back _ _ (outside k (dropped s)) (lexical r) (lexical_inside _ k s above (first_of_both (may_hold above k) (holds_well above r) m) n i (form_holds k a r f) (form_heads k a r f) (form_below k a r f) (λ q j. lexical_step s k (form_holds k a r f) q j (form_below k a r f)))
 lexical_step (behind_node {k = k} {a = a} {r = r} {s = z} s) above m n i f =

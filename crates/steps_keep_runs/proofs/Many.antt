@@ -1,42 +1,30 @@
 -- Steps of a core module, one after the other.
 use Rattle.std.proofs.Common.{◌≡◌, true}
-use Rattle.js_syntax.specs.declared.node_kind.NodeKind.{NodeKind as Kind}
-use Rattle.js_syntax.specs.declared.scalar.SourceType.TheVariants as source_type
-use Rattle.js_syntax.specs.Node.{Forest, nothing, Note, alone}
+use Rattle.js_syntax.specs.Node.{Forest, Note}
 use Rattle.js_meaning.specs.Kept.{Refined}
 use Rattle.js_meaning.proofs.Kept.{refined_same, refined_joined}
 use Rattle.js_meaning_near.specs.Near.{fields, module_of}
 use Rattle.js_meaning_near.specs.Fit.{whole}
 use Rattle.js_meaning_near.specs.Avoid.{InPlace}
-use Rattle.steps.specs.Steps.{Around, entered, outermost, Step, inside, behind_node, all_core}
+use Rattle.steps.specs.Steps.{outermost, Step, all_core}
 use Rattle.steps.proofs.Steps.{step_core}
 use Rattle.steps_keep_runs.specs.Formed.{is_formed}
 use Rattle.steps_keep_runs.specs.Once.{Once}
 use Rattle.steps_keep_runs.specs.Many.{CoreSteps, no_step, one_step}
 use Rattle.steps_keep_runs.proofs.Formed.{formed_step}
-use Rattle.steps_keep_runs.proofs.Modules.{place_step, nothing_stays}
+use Rattle.steps_keep_runs.proofs.Modules.{place_step, InItems, in_items, in_its_items}
 use Rattle.steps_keep_runs.proofs.Whole.{module_once}
 
 -- a core module that is formed
 data IsModule (n m : Note) : Forest → Type 0 where
   is_module : {a : Forest} → is_formed (module_of n m a) ≡ true → all_core a ≡ true → InPlace whole fields (module_of n m a) → IsModule n m (module_of n m a)
 
--- around its list
-abbrev in_program : Note → Forest → Around
-in_program m a = entered outermost (Kind.Program source_type.Module) (alone Kind.Statements m a)
-
-list_after : (n m : Note) (a b : Forest) (s : Step (in_program m a) (alone Kind.Statements m a) b) → is_formed (module_of n m a) ≡ true → all_core a ≡ true → InPlace whole fields (module_of n m a) → IsModule n m (alone (Kind.Program source_type.Module) n b)
-list_after n m a _ (inside {b = b} s) f c i =
-    let z : Step outermost (module_of n m a) (module_of n m b) = inside {w = outermost} {k = Kind.Program source_type.Module} {n = n} {r = nothing} (inside {w = in_program m a} {k = Kind.Statements} {n = m} {r = nothing} s) in
-    is_module (formed_step z f) (step_core s c) (place_step whole fields z i)
-list_after n m a _ (behind_node s) f c i = absurd (nothing_stays s)
-
-module_after : (n m : Note) (a u : Forest) (s : Step outermost (module_of n m a) u) → is_formed (module_of n m a) ≡ true → all_core a ≡ true → InPlace whole fields (module_of n m a) → IsModule n m u
-module_after n m a _ (inside {b = b} s) f c i = list_after n m a b s f c i
-module_after n m a _ (behind_node s) f c i = absurd (nothing_stays s)
+module_after : (n m : Note) (a u : Forest) (s : Step outermost (module_of n m a) u) → InItems n m a u s
+    → is_formed (module_of n m a) ≡ true → all_core a ≡ true → InPlace whole fields (module_of n m a) → IsModule n m u
+module_after n m a _ z (in_items s) f c i = is_module (formed_step z f) (step_core s c) (place_step whole fields z i)
 
 after : (n m : Note) (t u : Forest) → IsModule n m t → Step outermost t u → IsModule n m u
-after n m _ u (is_module {a = a} f c i) s = module_after n m a u s f c i
+after n m _ u (is_module {a = a} f c i) s = module_after n m a u s (in_its_items n m a u s) f c i
 
 one : (n m : Note) (t u : Forest) → IsModule n m t → (s : Step outermost t u) → Once s → Refined t u
 one n m _ u (is_module {a = a} f c i) s o = module_once n m a u s f c i o

@@ -16,7 +16,7 @@ use Rattle.js_meaning_near.specs.Fit.{Part, whole, others, IfCore}
 use Rattle.js_meaning_near.specs.Avoid.{Dropped, dropped_later, InPlace, NodeInPlace, ExportsAvoid}
 use Rattle.js_meaning_near.proofs.Avoid.{fewer_itself, dropped_first, dropped_second}
 use Rattle.js_meaning_near.proofs.Contexts.{near_refines}
-use Rattle.steps.specs.Steps.{Around, entered, outermost, Step, empty_statement_leaves, unused_function_leaves, unused_declarator_leaves, unused_declaration_leaves, silent_statement_empties, inside, behind_node, behind_absent}
+use Rattle.steps.specs.Steps.{Around, entered, outermost, Step, leaves, empties, inside, behind_node, behind_absent}
 use Rattle.steps_keep_runs.specs.Formed.{holds_well, is_formed}
 use Rattle.steps_keep_runs.specs.Drop.{Drop, no_drop, of_block, of_function, dropped}
 use Rattle.steps_keep_runs.specs.Tidy.{ClearModule, TidyAt, Tidy}
@@ -28,7 +28,7 @@ use Rattle.steps_keep_runs.proofs.Scopes.{DeclsChange}
 use Rattle.steps_keep_runs.proofs.Refine.{near_step}
 use Rattle.steps_keep_runs.proofs.Exports.{step_entries, step_stars, step_requests}
 
-module_lists : (d : Drop) (xs ys : List Text) (ds es : List Decl) → VarsChange d xs ys → LexicalChange d ds es → DeclsChange d (decl this_name ready ∷ (all_so ready xs ++ ds)) (decl this_name ready ∷ (all_so ready ys ++ es))
+pub module_lists : (d : Drop) (xs ys : List Text) (ds es : List Decl) → VarsChange d xs ys → LexicalChange d ds es → DeclsChange d (decl this_name ready ∷ (all_so ready xs ++ ds)) (decl this_name ready ∷ (all_so ready ys ++ es))
 module_lists no_drop xs ys ds es v l = ap₂ (λ m n. decl this_name ready ∷ (all_so ready m ++ n)) v l
 module_lists (of_block x) xs ys ds es v l = subst (λ m. Dropped x (decl this_name ready ∷ (all_so ready xs ++ ds)) (decl this_name ready ∷ (all_so ready m ++ es))) v (dropped_later (dropped_second (fewer_itself x (all_so ready xs)) l))
 module_lists (of_function x) xs ys ds es v l = subst (λ m. Dropped x (decl this_name ready ∷ (all_so ready xs ++ ds)) (decl this_name ready ∷ (all_so ready ys ++ m))) l (dropped_later (dropped_first (less_dropped ready v) (fewer_itself x ds)))
@@ -69,8 +69,12 @@ opened no_drop a b c i t = let z = crossed_plain no_names (module_decls a) (modu
 opened (of_block x) a b c i t = let z = crossed_block x no_names (module_decls a) (module_decls b) whole near.items b (λ x. tt) c t.1 in record { crossed = z; exports = exports_avoiding x z.within (entries b) z.stays.plain t.0 }
 opened (of_function x) a b c i t = let z = crossed_function x no_names (module_decls a) (module_decls b) whole near.items b (λ x. tt) c t.1 in record { crossed = z; exports = exports_avoiding x z.within (entries b) z.stays.plain t.0 }
 
-abbrev top : Note → Forest → Around
-top m a = entered (entered outermost (Kind.Program source_type.Module) (alone Kind.Statements m a)) Kind.Statements a
+-- around the list of its items, and around these
+abbrev pub in_program : Note → Forest → Around
+in_program m a = entered outermost (Kind.Program source_type.Module) (alone Kind.Statements m a)
+
+abbrev pub top : Note → Forest → Around
+top m a = entered (in_program m a) Kind.Statements a
 
 top_names : (m : Note) (a : Forest) → names_in (module_decls (alone Kind.Statements m a)) ≡ names_in (module_decls a)
 top_names m a = ap₂ (λ xs ds. names_in (decl this_name ready ∷ (all_so ready xs ++ ds))) (append-nil (var_names a)) (append-nil (lexical a))
@@ -85,7 +89,7 @@ step_near m a b s h f i c t =
     let o : Opened (dropped s) a b = opened (dropped s) a b (module_lists (dropped s) (var_names a) (var_names b) (lexical a) (lexical b) v l) i c in
     let e : entries a ≡ entries b = step_entries s refl f in
     near_module o.crossed.decls e (subst (ExportsOk o.crossed.within) (sym e) o.exports) (step_stars s) (step_requests s)
-    (near_step whole s Kind.Statements near.items o.crossed.within h f (record { list = λ e. refl; declarators = λ how e. refl }) tt (declare_within (names_in (module_decls (alone Kind.Statements m a))) [] o.crossed.decls (top_names m a) no_names_yet) o.crossed.stays t)
+    (near_step whole s Kind.Statements near.items o.crossed.within h f (λ e. refl) tt (declare_within (names_in (module_decls (alone Kind.Statements m a))) [] o.crossed.decls (top_names m a) no_names_yet) o.crossed.stays t)
 
 -- cases stay in switches
 
@@ -100,40 +104,41 @@ others_of_whole p (absent r) i = i
 others_of_whole p (node k n a r) i = i.1
 
 pub place_step : {w : Around} {t u : Forest} (q : Part) (p : near.Row) → Step w t u → InPlace q p t → InPlace q p u
-place_step whole p (empty_statement_leaves h) i = i.1
-place_step whole p (unused_function_leaves h g) i = i.1
-place_step whole p (unused_declarator_leaves h g v) i = i.1
-place_step whole p (unused_declaration_leaves h g v) i = i.1
-place_step whole p (silent_statement_empties h) i = ((tt, tt), i.1)
+place_step whole p (leaves g) i = i.1
+place_step whole p (empties h) i = ((tt, tt), i.1)
 place_step whole p (inside {k = k} s) i = (place_map p k (is_core k) (λ q r j. place_step q r s j) i.0, i.1)
 place_step whole p (behind_node s) i = (i.0, place_step whole p s i.1)
 place_step whole p (behind_absent s) i = place_step whole p s i
-place_step others p (empty_statement_leaves {r = r} h) i = others_of_whole p r i
-place_step others p (unused_function_leaves {r = r} h g) i = others_of_whole p r i
-place_step others p (unused_declarator_leaves {r = r} h g v) i = others_of_whole p r i
-place_step others p (unused_declaration_leaves {r = r} h g v) i = others_of_whole p r i
-place_step others p (silent_statement_empties h) i = i
+place_step others p (leaves {r = r} g) i = others_of_whole p r i
+place_step others p (empties h) i = i
 place_step others p (inside s) i = i
 place_step others p (behind_node s) i = place_step whole p s i
 place_step others p (behind_absent s) i = place_step whole p s i
 
 -- a step of a whole module
 
-pub nothing_stays : {w : Around} {u : Forest} → Step w nothing u → ⊥
-nothing_stays s = elim s [ ]
-
 clear_if : (d : Drop) (m : Note) (b : Forest) → TidyAt (Kind.Program source_type.Module) (alone Kind.Statements m b) d → ClearIf d b
 clear_if no_drop m b t = tt
 clear_if (of_block x) m b t = t
 clear_if (of_function x) m b t = t
 
-list_refines : (n m : Note) (a b : Forest) (s : Step (entered outermost (Kind.Program source_type.Module) (alone Kind.Statements m a)) (alone Kind.Statements m a) b) → is_formed (module_of n m a) ≡ true → InPlace whole fields (module_of n m a) → TidyAt (Kind.Program source_type.Module) b (dropped s) → Tidy s
-    → Refined (module_of n m a) (alone (Kind.Program source_type.Module) n b)
-list_refines n m a _ (inside {b = b} s) f i c t =
+-- such a step lies in the module's list
+pub data InItems (n m : Note) (a : Forest) : (u : Forest) → Step outermost (module_of n m a) u → Type 0 where
+  in_items : {b : Forest} (s : Step (top m a) a b) → InItems n m a (module_of n m b) (inside (inside s))
+
+pub in_its_items : (n m : Note) (a u : Forest) (s : Step outermost (module_of n m a) u) → InItems n m a u s
+in_its_items n m a _ (inside (inside s)) = in_items s
+in_its_items n m a _ (inside (leaves g)) = elim g [ ]
+in_its_items n m a _ (inside (behind_node s)) = elim s [ ]
+in_its_items n m a _ (leaves g) = elim g [ ]
+in_its_items n m a _ (behind_node s) = elim s [ ]
+
+items_refine : (n m : Note) (a u : Forest) (s : Step outermost (module_of n m a) u) → InItems n m a u s
+    → is_formed (module_of n m a) ≡ true → InPlace whole fields (module_of n m a) → Tidy s → Refined (module_of n m a) u
+items_refine n m a _ _ (in_items {b = b} s) f i t =
     let g : is_formed (alone Kind.Statements m a) ≡ true = form_below (Kind.Program source_type.Module) (alone Kind.Statements m a) nothing f in
-    near_refines n m n m (step_near m a b s (form_holds Kind.Statements a nothing g) (form_below Kind.Statements a nothing g) (place_step whole near.items s i.0.1.0.1) (clear_if (dropped s) m b c) t.1)
-list_refines n m a _ (behind_node s) f i c t = absurd (nothing_stays s)
+    near_refines n m n m (step_near m a b s (form_holds Kind.Statements a nothing g) (form_below Kind.Statements a nothing g)
+    (place_step whole near.items s i.0.1.0.1) (clear_if (dropped s) m b t.0) t.1.1)
 
 pub module_step : (n m : Note) (a u : Forest) (s : Step outermost (module_of n m a) u) → is_formed (module_of n m a) ≡ true → InPlace whole fields (module_of n m a) → Tidy s → Refined (module_of n m a) u
-module_step n m a _ (inside {b = b} s) f i t = list_refines n m a b s f i t.0 t.1
-module_step n m a _ (behind_node s) f i t = absurd (nothing_stays s)
+module_step n m a u s f i t = items_refine n m a u s (in_its_items n m a u s) f i t

@@ -15,13 +15,13 @@ use Rattle.js_meaning_near.specs.Avoid.{declares, Dropped, Dropping, InPlace, Av
 use Rattle.js_meaning_near.proofs.Avoid.{after_plain, dropped_decls, fits_clear, fits_avoiding}
 use Rattle.js_meaning_near.proofs.Fit.{decls_to}
 use Rattle.steps.specs.Names.{is_among, names_declared, refers}
-use Rattle.steps.specs.Steps.{Around, entered, is_used, Step, empty_statement_leaves, unused_function_leaves, unused_declarator_leaves, unused_declaration_leaves, silent_statement_empties, inside, behind_node, behind_absent}
+use Rattle.steps.specs.Steps.{Around, in_block, entered, is_used, Goes, empty_statement, unused_function, unused_declarator, unused_declaration, Step, leaves, empties, inside, behind_node, behind_absent}
 use Rattle.steps.proofs.Among.{among_joined}
-use Rattle.steps_keep_runs.specs.Drop.{Drop, no_drop, of_block, of_function, declared_so, out_of_block, outside, dropped}
+use Rattle.steps_keep_runs.specs.Drop.{Drop, no_drop, of_block, of_function, declared_so, out_of_block, outside, drop_of, dropped}
 use Rattle.steps_keep_runs.specs.Tidy.{Clear}
 use Rattle.steps_keep_runs.proofs.Silent.{Declare}
 use Rattle.steps_keep_runs.proofs.Lists.{LexicalChange}
-use Rattle.js_syntax.proofs.Truth.{not_false, first_of_neither, second_of_neither}
+use Rattle.js_syntax.proofs.Truth.{not_false, first_of_neither, second_of_neither, neither}
 
 pub declares_among : (ds : List Decl) (x : Text) → declares ds x ≡ is_among (names_in ds) x
 declares_among [] x = refl
@@ -187,48 +187,64 @@ crossed_through x st ds es p b g l c f e n a = record {
   };
 }
 
--- where a `var` is taken away, no scope in between declares its name
-
-pub out_function : (d : Drop) (x : Text) → out_of_block d ≡ of_function x → d ≡ of_function x
-out_function no_drop x e = absurd (cc)
-out_function (of_block y) x e = absurd (cc)
-out_function (of_function y) x e = e
-
-abbrev name_in : Text → Drop → Text
-name_in z (of_function x) = x
-name_in z d = z
-
-declared_function : (how : VariableKind) (x y : Text) → declared_so how x ≡ of_function y → (how ≡ variable.Var) × (x ≡ y)
-declared_function variable.Var x y e = (refl, ap (name_in x) e)
-declared_function variable.Let x y e = absurd (cc)
-declared_function variable.Const x y e = absurd (cc)
-
-used_inner : (w : Around) (how : VariableKind) (x y : Text) → is_used w how x ≡ false → declared_so how x ≡ of_function y → is_among w.inner y ≡ false
-used_inner w how x y e f =
-    let h = declared_function how x y f in
-    subst (λ z. is_among w.inner z ≡ false) h.1 (second_of_neither (refers x w.variables) (is_among w.inner x) (subst (λ v. is_used w v x ≡ false) h.0 e))
-
 pub inner_front : (new old : List Text) (x : Text) → is_among (new ++ old) x ≡ false → (is_among new x ≡ false) × (is_among old x ≡ false)
 inner_front new old x e = let i = sym (among_joined new old x) ∙ e in (first_of_neither _ (is_among old x) i, second_of_neither (is_among new x) _ i)
 
-inner_inside : (w : Around) (k : Kind) (a : Forest) (d : Drop) (x : Text) → outside k d ≡ of_function x → (d ≡ of_function x → is_among (entered w k a).inner x ≡ false) → is_among w.inner x ≡ false
-inner_inside w (Kind.Program source) a d x e h = absurd (cc)
-inner_inside w (Kind.Function f pure) a d x e h = absurd (cc)
-inner_inside w Kind.BlockStatement a d x e h = (inner_front (names_declared Kind.BlockStatement a) w.inner x (h (out_function d x e))).1
-inner_inside w Kind.Cases a d x e h = (inner_front (names_declared Kind.Cases a) w.inner x (h (out_function d x e))).1
-inner_inside w Kind.ForStatement a d x e h = (inner_front (names_declared Kind.ForStatement a) w.inner x (h (out_function d x e))).1
-inner_inside w Kind.CatchClause a d x e h = (inner_front (names_declared Kind.CatchClause a) w.inner x (h (out_function d x e))).1
-inner_inside w k a d x e h = h e
+-- a declaration that goes is used neither where it stands nor further out
+
+abbrev pub Unused : Around → Drop → Type 0
+Unused w no_drop = Unit {0}
+Unused w (of_block x) = is_used w variable.Let x ≡ false
+Unused w (of_function x) = is_used w variable.Var x ≡ false
+
+unused_so : (w : Around) (how : VariableKind) (x : Text) → is_used w how x ≡ false → Unused w (declared_so how x)
+unused_so w variable.Var x u = u
+unused_so w variable.Let x u = u
+unused_so w variable.Const x u = u
+
+unused_out : (w : Around) (k : Kind) (a : Forest) (d : Drop) → Unused (in_block w k a) d → Unused w (out_of_block d)
+unused_out w k a no_drop u = tt
+unused_out w k a (of_block x) u = tt
+unused_out w k a (of_function x) u =
+    neither (refers x w.variables) _ (first_of_neither _ (is_among (in_block w k a).inner x) u) (inner_front (names_declared k a) w.inner x (second_of_neither (refers x w.variables) _ u)).1
+
+unused_outside : (w : Around) (k : Kind) (a : Forest) (d : Drop) → Unused (entered w k a) d → Unused w (outside k d)
+unused_outside w (Kind.Program source) a d u = tt
+unused_outside w (Kind.Function f pure) a d u = tt
+unused_outside w Kind.BlockStatement a d u = unused_out w Kind.BlockStatement a d u
+unused_outside w Kind.Cases a d u = unused_out w Kind.Cases a d u
+unused_outside w Kind.ForStatement a d u = unused_out w Kind.ForStatement a d u
+unused_outside w Kind.CatchClause a d u = unused_out w Kind.CatchClause a d u
+unused_outside w k a no_drop u = u
+unused_outside w k a (of_block x) u = u
+unused_outside w k a (of_function x) u = u
+
+leaves_unused : {w : Around} {k : Kind} {a : Forest} (g : Goes w k a) → Unused w (drop_of g)
+leaves_unused (empty_statement h) = tt
+leaves_unused (unused_function h u) = u
+leaves_unused {w} (unused_declarator {how = how} {x = x} h u i) = unused_so w how x u
+leaves_unused {w} (unused_declaration {how = how} {x = x} h u i) = unused_so w how x u
+
+step_unused : {w : Around} {t u : Forest} (s : Step w t u) → Unused w (dropped s)
+step_unused (leaves g) = leaves_unused g
+step_unused (empties h) = tt
+step_unused (inside {w = w} {k = k} {a = a} s) = unused_outside w k a (dropped s) (step_unused s)
+step_unused (behind_node s) = step_unused s
+step_unused (behind_absent s) = step_unused s
+
+-- so nothing in its scope refers to it, and no `var` passes through, or no scope in between declares its name
+
+pub block_free : {w : Around} {t u : Forest} (s : Step w t u) (x : Text) → dropped s ≡ of_block x → refers x w.block ≡ false
+block_free {w} s x e = first_of_neither _ (is_among w.passing x) (subst (Unused w) e (step_unused s))
+
+pub passing_free : {w : Around} {t u : Forest} (s : Step w t u) (x : Text) → dropped s ≡ of_block x → is_among w.passing x ≡ false
+passing_free {w} s x e = second_of_neither (refers x w.block) _ (subst (Unused w) e (step_unused s))
+
+pub variables_free : {w : Around} {t u : Forest} (s : Step w t u) (x : Text) → dropped s ≡ of_function x → refers x w.variables ≡ false
+variables_free {w} s x e = first_of_neither _ (is_among w.inner x) (subst (Unused w) e (step_unused s))
 
 pub inner_free : {w : Around} {t u : Forest} (s : Step w t u) (x : Text) → dropped s ≡ of_function x → is_among w.inner x ≡ false
-inner_free (empty_statement_leaves h) x e = absurd (cc)
-inner_free (unused_function_leaves h g) x e = absurd (cc)
-inner_free (unused_declarator_leaves {w = w} {how = how} {x = y} h g v) x e = used_inner w how y x g e
-inner_free (unused_declaration_leaves {w = w} {how = how} {x = y} h g v) x e = used_inner w how y x g e
-inner_free (silent_statement_empties h) x e = absurd (cc)
-inner_free (inside {w = w} {k = k} {a = a} s) x e = inner_inside w k a (dropped s) x e (λ f. inner_free s x f)
-inner_free (behind_node s) x e = inner_free s x e
-inner_free (behind_absent s) x e = inner_free s x e
+inner_free {w} s x e = second_of_neither (refers x w.variables) _ (subst (Unused w) e (step_unused s))
 
 left_among : (xs ys : List Text) (y : Text) → is_among xs y ≡ true → is_among (xs ++ ys) y ≡ true
 left_among xs ys y e = among_joined xs ys y ∙ ap (λ (b : Bool). b || is_among ys y) e

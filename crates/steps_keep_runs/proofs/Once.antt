@@ -3,7 +3,6 @@ use Rattle.std.proofs.Common.{◌≡◌, ◌⊎◌, inl, inr, List, Bool, true, 
 use Rattle.js_syntax.specs.declared.node_kind.NodeKind.{NodeKind as Kind}
 use Rattle.js_syntax.specs.Node.{Forest, nothing, node, Note, alone}
 use Rattle.js_syntax.specs.Facts.{is_core}
-use Rattle.js_syntax.specs.declared.kind.FunctionKind.TheVariants as function_kind
 use Rattle.js_syntax.specs.declared.kind.VariableKind.{VariableKind}
 use Rattle.js_syntax.specs.declared.kind.VariableKind.TheVariants as variable
 use Rattle.js_meaning.specs.Value.{Text, this_name}
@@ -14,13 +13,14 @@ use Rattle.js_meaning_near.specs.Near.{fields}
 use Rattle.js_meaning_near.specs.Fit.{Part, whole, others, part_of}
 use Rattle.js_meaning_near.specs.Avoid.{declares, HasCells, InPlace, NodeInPlace}
 use Rattle.steps.specs.Names.{is_among, refers_at, refers}
-use Rattle.steps.specs.Steps.{Around, entered, is_used, Step, empty_statement_leaves, unused_function_leaves, unused_declarator_leaves, unused_declaration_leaves, silent_statement_empties, inside, behind_node, behind_absent, all_core}
+use Rattle.steps.specs.Steps.{Around, entered, Goes, empty_statement, unused_function, unused_declarator, unused_declaration, Step, leaves, empties, inside, behind_node, behind_absent, all_core}
 use Rattle.steps_keep_runs.specs.Formed.{may_hold, holds_well, heads, is_free_name, is_formed, still}
-use Rattle.steps_keep_runs.specs.Drop.{Drop, no_drop, of_block, of_function, declared_so, out_of_block, outside, dropped}
+use Rattle.steps_keep_runs.specs.Drop.{Drop, no_drop, of_block, of_function, declared_so, out_of_block, outside, drop_of, dropped}
 use Rattle.steps_keep_runs.specs.Tidy.{Clear, TidyAt, Tidy}
 use Rattle.steps_keep_runs.specs.Once.{binds, OnceIn, Once}
 use Rattle.steps_keep_runs.proofs.Calm.{form_holds, form_heads, form_below, form_behind, first_stays, calm_step, still_stays}
 use Rattle.steps_keep_runs.proofs.Lists.{LexicalChange, lexical_step}
+use Rattle.steps_keep_runs.proofs.Names.{block_free, variables_free}
 use Rattle.steps_keep_runs.proofs.Scopes.{if_core, for_first}
 use Rattle.steps_keep_runs.proofs.Refine.{OthersOk}
 use Rattle.steps_keep_runs.proofs.Avoids.{IsFree, row_avoids, refers_behind}
@@ -28,79 +28,40 @@ use Rattle.js_syntax.proofs.Truth.{not_true, first_of_both, second_of_both, firs
 
 -- that the declaration of this name goes
 
-abbrev pub Goes : Text → Drop → Type 0
-Goes x d = (d ≡ of_block x) ⊎ (d ≡ of_function x)
+abbrev pub Drops : Text → Drop → Type 0
+Drops x d = (d ≡ of_block x) ⊎ (d ≡ of_function x)
 
-goes_not : (x : Text) → Goes x no_drop → ⊥
-goes_not x (inl e) = cc
-goes_not x (inr e) = cc
+drops_none : (x : Text) → Drops x no_drop → ⊥
+drops_none x (inl e) = cc
+drops_none x (inr e) = cc
 
-goes_out : (x : Text) (d : Drop) → Goes x (out_of_block d) → d ≡ of_function x
-goes_out x no_drop e = absurd (goes_not x e)
-goes_out x (of_block y) e = absurd (goes_not x e)
-goes_out x (of_function y) (inl e) = absurd (cc)
-goes_out x (of_function y) (inr e) = e
+drops_out : (x : Text) (d : Drop) → Drops x (out_of_block d) → d ≡ of_function x
+drops_out x no_drop e = absurd (drops_none x e)
+drops_out x (of_block y) e = absurd (drops_none x e)
+drops_out x (of_function y) (inl e) = absurd (cc)
+drops_out x (of_function y) (inr e) = e
 
-goes_inside : (x : Text) (k : Kind) (d : Drop) → Goes x (outside k d) → Goes x d
-goes_inside x (Kind.Program source) d e = absurd (goes_not x e)
-goes_inside x (Kind.Function f pure) d e = absurd (goes_not x e)
-goes_inside x Kind.BlockStatement d e = inr (goes_out x d e)
-goes_inside x Kind.Cases d e = inr (goes_out x d e)
-goes_inside x Kind.ForStatement d e = inr (goes_out x d e)
-goes_inside x Kind.CatchClause d e = inr (goes_out x d e)
-goes_inside x k d e = e
-
--- nothing refers to it
+drops_inside : (x : Text) (k : Kind) (d : Drop) → Drops x (outside k d) → Drops x d
+drops_inside x (Kind.Program source) d e = absurd (drops_none x e)
+drops_inside x (Kind.Function f pure) d e = absurd (drops_none x e)
+drops_inside x Kind.BlockStatement d e = inr (drops_out x d e)
+drops_inside x Kind.Cases d e = inr (drops_out x d e)
+drops_inside x Kind.ForStatement d e = inr (drops_out x d e)
+drops_inside x Kind.CatchClause d e = inr (drops_out x d e)
+drops_inside x k d e = e
 
 abbrev name_of : Text → Drop → Text
 name_of z (of_block x) = x
 name_of z (of_function x) = x
 name_of z d = z
 
-same_goes : (how : VariableKind) (x y : Text) → Goes y (declared_so how x) → x ≡ y
-same_goes variable.Var x y (inl e) = ap (name_of x) e
-same_goes variable.Var x y (inr e) = ap (name_of x) e
-same_goes variable.Let x y (inl e) = ap (name_of x) e
-same_goes variable.Let x y (inr e) = ap (name_of x) e
-same_goes variable.Const x y (inl e) = ap (name_of x) e
-same_goes variable.Const x y (inr e) = ap (name_of x) e
-
--- in the row of the scope that declares it
-abbrev ScopeOf : Around → Drop → Text → Type 0
-ScopeOf w (of_block y) x = refers x w.block ≡ false
-ScopeOf w (of_function y) x = refers x w.variables ≡ false
-ScopeOf w no_drop x = Unit {0}
-
-scope_leaf : (w : Around) (how : VariableKind) (x : Text) → is_used w how x ≡ false → ScopeOf w (declared_so how x) x
-scope_leaf w variable.Var x e = first_of_neither (refers x w.variables) _ e
-scope_leaf w variable.Let x e = first_of_neither (refers x w.block) _ e
-scope_leaf w variable.Const x e = first_of_neither (refers x w.block) _ e
-
-scope_out : (w v : Around) (d : Drop) (x : Text) → v.variables ≡ w.variables → ScopeOf v d x → ScopeOf w (out_of_block d) x
-scope_out w v no_drop x e h = tt
-scope_out w v (of_block y) x e h = tt
-scope_out w v (of_function y) x e h = subst (λ t. refers x t ≡ false) e h
-
-scope_inside : (w : Around) (k : Kind) (a : Forest) (d : Drop) (x : Text) → ScopeOf (entered w k a) d x → ScopeOf w (outside k d) x
-scope_inside w (Kind.Program source) a d x h = tt
-scope_inside w (Kind.Function f pure) a d x h = tt
-scope_inside w Kind.BlockStatement a d x h = scope_out w (entered w Kind.BlockStatement a) d x refl h
-scope_inside w Kind.Cases a d x h = scope_out w (entered w Kind.Cases a) d x refl h
-scope_inside w Kind.ForStatement a d x h = scope_out w (entered w Kind.ForStatement a) d x refl h
-scope_inside w Kind.CatchClause a d x h = scope_out w (entered w Kind.CatchClause a) d x refl h
-scope_inside w k a no_drop x h = h
-scope_inside w k a (of_block y) x h = h
-scope_inside w k a (of_function y) x h = h
-
-pub scope_free : {w : Around} {t u : Forest} (s : Step w t u) (x : Text) → Goes x (dropped s) → ScopeOf w (dropped s) x
-scope_free (empty_statement_leaves h) x e = tt
-scope_free (unused_function_leaves {w = w} {x = y} h g) x e = subst (λ z. ScopeOf w (of_block y) z) (same_goes variable.Let y x e) (scope_leaf w variable.Let y g)
-scope_free (unused_declarator_leaves {w = w} {how = how} {x = y} h g v) x e = subst (λ z. ScopeOf w (declared_so how y) z) (same_goes how y x e) (scope_leaf w how y g)
-scope_free (unused_declaration_leaves {w = w} {how = how} {x = y} h g v) x e = subst (λ z. ScopeOf w (declared_so how y) z) (same_goes how y x e) (scope_leaf w how y g)
-scope_free (silent_statement_empties h) x e = tt
-scope_free (inside {w = w} {k = k} {a = a} s) x e = scope_inside w k a (dropped s) x (scope_free s x (goes_inside x k (dropped s) e))
-scope_free (behind_node s) x e = scope_free s x e
-scope_free (behind_absent s) x e = scope_free s x e
+same_name : (how : VariableKind) (x y : Text) → Drops y (declared_so how x) → x ≡ y
+same_name variable.Var x y (inl e) = ap (name_of x) e
+same_name variable.Var x y (inr e) = ap (name_of x) e
+same_name variable.Let x y (inl e) = ap (name_of x) e
+same_name variable.Let x y (inr e) = ap (name_of x) e
+same_name variable.Const x y (inl e) = ap (name_of x) e
+same_name variable.Const x y (inr e) = ap (name_of x) e
 
 -- it is a name that programs may declare
 
@@ -110,16 +71,18 @@ free_name x e = record { this = not_true _ (first_of_both (not (bytes_eq this_na
 named_free : (x : Text) (m : Note) (v : Forest) → is_formed (node (Kind.BindingName x) m nothing v) ≡ true → IsFree x
 named_free x m v f = free_name x (form_heads (Kind.BindingName x) nothing v f)
 
-pub name_free : {w : Around} {t u : Forest} (s : Step w t u) (x : Text) → Goes x (dropped s) → is_formed t ≡ true → IsFree x
-name_free (empty_statement_leaves h) x e f = absurd (goes_not x e)
-name_free (unused_function_leaves {pure = pure} {x = y} {m = m} {a = a} {r = r} h g) x e f = subst IsFree (same_goes variable.Let y x e) (named_free y m a (form_below (Kind.Function function_kind.Declaration pure) (node (Kind.BindingName y) m nothing a) r f))
-name_free (unused_declarator_leaves {how = how} {x = y} {m = m} {v = v} {r = r} h g i) x e f = subst IsFree (same_goes how y x e) (named_free y m v (form_below Kind.VariableDeclarator (node (Kind.BindingName y) m nothing v) r f))
-name_free (unused_declaration_leaves {how = how} {x = y} {m = m} {l = l} {j = j} {v = v} {r = r} h g i) x e f =
+leaves_free : {w : Around} {k : Kind} {b : Forest} (g : Goes w k b) (x : Text) → Drops x (drop_of g) → is_formed b ≡ true → IsFree x
+leaves_free (empty_statement h) x e f = absurd (drops_none x e)
+leaves_free (unused_function {x = y} {m = m} {a = a} h u) x e f = subst IsFree (same_name variable.Let y x e) (named_free y m a f)
+leaves_free (unused_declarator {how = how} {x = y} {m = m} {v = v} h u i) x e f = subst IsFree (same_name how y x e) (named_free y m v f)
+leaves_free (unused_declaration {how = how} {x = y} {l = l} {j = j} {v = v} h u i) x e f =
     let n : Forest = node (Kind.BindingName y) j nothing v in
-    let d : Forest = alone Kind.VariableDeclarator l n in
-    subst IsFree (same_goes how y x e) (named_free y j v (form_below Kind.VariableDeclarator n nothing (form_below Kind.Declarators d nothing (form_below (Kind.VariableDeclaration how) (alone Kind.Declarators m d) r f))))
-name_free (silent_statement_empties h) x e f = absurd (goes_not x e)
-name_free (inside {k = k} {a = a} {r = r} s) x e f = name_free s x (goes_inside x k (dropped s) e) (form_below k a r f)
+    subst IsFree (same_name how y x e) (named_free y j v (form_below Kind.VariableDeclarator n nothing (form_below Kind.Declarators (alone Kind.VariableDeclarator l n) nothing f)))
+
+pub name_free : {w : Around} {t u : Forest} (s : Step w t u) (x : Text) → Drops x (dropped s) → is_formed t ≡ true → IsFree x
+name_free (leaves {k = k} {a = a} {r = r} g) x e f = leaves_free g x e (form_below k a r f)
+name_free (empties h) x e f = absurd (drops_none x e)
+name_free (inside {k = k} {a = a} {r = r} s) x e f = name_free s x (drops_inside x k (dropped s) e) (form_below k a r f)
 name_free (behind_node {k = k} {a = a} {r = r} s) x e f = name_free s x e (form_behind k a r f)
 name_free (behind_absent s) x e f = name_free s x e f
 
@@ -138,19 +101,19 @@ either_same false i j e h = h e
 lexical_stays : (ds es : List Decl) (d : Drop) (x : Text) → d ≡ of_function x → LexicalChange d ds es → is_among (names_in ds) x ≡ is_among (names_in es) x
 lexical_stays ds es d x e c = ap (λ l. is_among (names_in l) x) (subst (λ d. LexicalChange d ds es) e c)
 
-drops_not : {d : Drop} (x : Text) → d ≡ no_drop → Goes x d → ⊥
+drops_not : {d : Drop} (x : Text) → d ≡ no_drop → Drops x d → ⊥
 drops_not x e (inl g) = cc
 drops_not x e (inr g) = cc
 
-refers_inside : (w : Around) {a b : Forest} (k : Kind) (s : Step (entered w k a) a b) (x : Text) → Goes x (outside k (dropped s)) → holds_well k a ≡ true → heads k a ≡ true → is_formed a ≡ true → refers_at x k a (refers x a) ≡ false → (refers x a ≡ false → refers x b ≡ false) → refers_at x k b (refers x b) ≡ false
-refers_inside w (Kind.Program source) s x g m e f i h = absurd (goes_not x g)
-refers_inside w (Kind.Function how pure) s x g m e f i h = absurd (goes_not x g)
+refers_inside : (w : Around) {a b : Forest} (k : Kind) (s : Step (entered w k a) a b) (x : Text) → Drops x (outside k (dropped s)) → holds_well k a ≡ true → heads k a ≡ true → is_formed a ≡ true → refers_at x k a (refers x a) ≡ false → (refers x a ≡ false → refers x b ≡ false) → refers_at x k b (refers x b) ≡ false
+refers_inside w (Kind.Program source) s x g m e f i h = absurd (drops_none x g)
+refers_inside w (Kind.Function how pure) s x g m e f i h = absurd (drops_none x g)
 refers_inside w {a} {b} (Kind.ReferenceName y) s x g m e f i h = either_same (bytes_eq y x) (refers x a) (refers x b) i h
 refers_inside w {a} {b} (Kind.TargetName y) s x g m e f i h = either_same (bytes_eq y x) (refers x a) (refers x b) i h
 refers_inside w (Kind.ExportNamedDeclaration source) s x g m e f i h = absurd (drops_not x (calm_step s refl e f).drops g)
 refers_inside w Kind.ExportDefaultDeclaration s x g m e f i h = absurd (drops_not x (calm_step s refl e f).drops g)
-refers_inside w {a} {b} Kind.BlockStatement s x g m e f i h = hidden_same _ _ (refers x a) (refers x b) (lexical_stays (lexical a) (lexical b) (dropped s) x (goes_out x (dropped s) g) (lexical_step s Kind.BlockStatement m refl (inr refl) f)) i h
-refers_inside w {a} {b} Kind.Cases s x g m e f i h = hidden_same _ _ (refers x a) (refers x b) (lexical_stays (lexical a) (lexical b) (dropped s) x (goes_out x (dropped s) g) (lexical_step s Kind.Cases m refl (inr refl) f)) i h
+refers_inside w {a} {b} Kind.BlockStatement s x g m e f i h = hidden_same _ _ (refers x a) (refers x b) (lexical_stays (lexical a) (lexical b) (dropped s) x (drops_out x (dropped s) g) (lexical_step s Kind.BlockStatement m refl (inr refl) f)) i h
+refers_inside w {a} {b} Kind.Cases s x g m e f i h = hidden_same _ _ (refers x a) (refers x b) (lexical_stays (lexical a) (lexical b) (dropped s) x (drops_out x (dropped s) g) (lexical_step s Kind.Cases m refl (inr refl) f)) i h
 refers_inside w {a} {b} Kind.ForStatement s x g m e f i h = hidden_same _ _ (refers x a) (refers x b) (ap (λ l. is_among (names_in l) x) (for_first s refl e f)) i h
 refers_inside w {a} {b} Kind.CatchClause s x g m e f i h = hidden_same _ _ (refers x a) (refers x b) (ap (λ l. is_among (bound_names l) x) (first_stays s refl e).first) i h
 refers_inside w k s x g m e f i h = h i
@@ -158,14 +121,11 @@ refers_inside w k s x g m e f i h = h i
 refers_rest : (x : Text) (k : Kind) (n : Note) (a r : Forest) → refers x (node k n a r) ≡ false → refers x r ≡ false
 refers_rest x k n a r e = second_of_neither (refers_at x k a (refers x a)) (refers x r) e
 
-pub refers_step : {w : Around} {t u : Forest} (s : Step w t u) (x : Text) → Goes x (dropped s) → is_formed t ≡ true → refers x t ≡ false → refers x u ≡ false
-refers_step (empty_statement_leaves h) x g f e = absurd (goes_not x g)
-refers_step (unused_function_leaves {pure = pure} {x = y} {n = n} {m = m} {a = a} {r = r} h j) x g f e = refers_rest x (Kind.Function function_kind.Declaration pure) n (node (Kind.BindingName y) m nothing a) r e
-refers_step (unused_declarator_leaves {x = y} {n = n} {m = m} {v = z} {r = r} h j v) x g f e = refers_rest x Kind.VariableDeclarator n (node (Kind.BindingName y) m nothing z) r e
-refers_step (unused_declaration_leaves {how = how} {x = y} {n = n} {m = m} {l = l} {j = i} {v = z} {r = r} h j v) x g f e = refers_rest x (Kind.VariableDeclaration how) n (alone Kind.Declarators m (alone Kind.VariableDeclarator l (node (Kind.BindingName y) i nothing z))) r e
-refers_step (silent_statement_empties h) x g f e = absurd (goes_not x g)
+pub refers_step : {w : Around} {t u : Forest} (s : Step w t u) (x : Text) → Drops x (dropped s) → is_formed t ≡ true → refers x t ≡ false → refers x u ≡ false
+refers_step (leaves {k = k} {n = n} {a = a} {r = r} h) x g f e = refers_rest x k n a r e
+refers_step (empties h) x g f e = absurd (drops_none x g)
 refers_step (inside {w = w} {k = k} {a = a} {b = b} {r = r} s) x g f e =
-    let i = refers_inside w k s x g (form_holds k a r f) (form_heads k a r f) (form_below k a r f) (first_of_neither (refers_at x k a (refers x a)) (refers x r) e) (λ j. refers_step s x (goes_inside x k (dropped s) g) (form_below k a r f) j) in
+    let i = refers_inside w k s x g (form_holds k a r f) (form_heads k a r f) (form_below k a r f) (first_of_neither (refers_at x k a (refers x a)) (refers x r) e) (λ j. refers_step s x (drops_inside x k (dropped s) g) (form_below k a r f) j) in
     ap₂ (λ (p q : Bool). p || q) i (second_of_neither (refers_at x k a (refers x a)) (refers x r) e)
 refers_step (behind_node {k = k} {a = a} {r = r} s) x g f e =
     ap₂ (λ (p q : Bool). p || q) (first_of_neither (refers_at x k a (refers x a)) (refers x r) e) (refers_step s x g (form_behind k a r f) (second_of_neither (refers_at x k a (refers x a)) (refers x r) e))
@@ -173,30 +133,20 @@ refers_step (behind_absent s) x g f e = refers_step s x g f e
 
 -- a step is tidy
 
-pub scope_block : (w : Around) (d : Drop) (x : Text) → d ≡ of_block x → ScopeOf w d x → refers x w.block ≡ false
-scope_block w no_drop x e h = absurd (cc)
-scope_block w (of_block y) x e h = h
-scope_block w (of_function y) x e h = absurd (cc)
-
-pub scope_function : (w : Around) (d : Drop) (x : Text) → d ≡ of_function x → ScopeOf w d x → refers x w.variables ≡ false
-scope_function w no_drop x e h = absurd (cc)
-scope_function w (of_block y) x e h = absurd (cc)
-scope_function w (of_function y) x e h = h
-
-pub clear_row : {w : Around} {a b : Forest} (s : Step w a b) (x : Text) (k : Kind) (q : Part) (p : near.Row) (ds : List Decl) → Goes x (dropped s) → is_formed a ≡ true → holds_well k b ≡ true → is_formed b ≡ true → refers x a ≡ false → ((refers x b ≡ false) → refers x (part_of q b) ≡ false)
+pub clear_row : {w : Around} {a b : Forest} (s : Step w a b) (x : Text) (k : Kind) (q : Part) (p : near.Row) (ds : List Decl) → Drops x (dropped s) → is_formed a ≡ true → holds_well k b ≡ true → is_formed b ≡ true → refers x a ≡ false → ((refers x b ≡ false) → refers x (part_of q b) ≡ false)
     → HasCells x ds → (declares ds x ≡ false → binds x (part_of q b) ≡ false) → InPlace q p b → Clear x ds q p b
 clear_row {b = b} s x k q p ds g f h i e m c n j = (c, row_avoids (not (declares ds x)) x q p b k h i (name_free s x g f) (m (refers_step s x g f e)) (λ t. n (not_true (declares ds x) t)) j)
 
 tidy_at : (w : Around) {a b : Forest} (k : Kind) (s : Step (entered w k a) a b) (above : Kind) (p : near.Row) (d : Drop) → dropped s ≡ d → may_hold above k ≡ true → is_formed a ≡ true → holds_well k b ≡ true → is_formed b ≡ true → NodeInPlace p k (λ q r. InPlace q r b) → OnceIn k b d → TidyAt k b d
 tidy_at w (Kind.Program source) s above p d e m f h i j o = absurd (true≢false (sym m))
 tidy_at w {a} {b} (Kind.Function how pure) s above p (of_block x) e m f h i j o =
-    ((name_free s x (inl e) f).this, clear_row s x (Kind.Function how pure) others fields (function_decls how b) (inl e) f h i (scope_block (entered w (Kind.Function how pure) a) (dropped s) x e (scope_free s x (inl e))) (refers_behind x b) o.0 o.1 j)
+    ((name_free s x (inl e) f).this, clear_row s x (Kind.Function how pure) others fields (function_decls how b) (inl e) f h i (block_free s x e) (refers_behind x b) o.0 o.1 j)
 tidy_at w {a} {b} (Kind.Function how pure) s above p (of_function x) e m f h i j o =
-    ((name_free s x (inr e) f).this, clear_row s x (Kind.Function how pure) others fields (function_decls how b) (inr e) f h i (scope_function (entered w (Kind.Function how pure) a) (dropped s) x e (scope_free s x (inr e))) (refers_behind x b) o.0 o.1 j)
+    ((name_free s x (inr e) f).this, clear_row s x (Kind.Function how pure) others fields (function_decls how b) (inr e) f h i (variables_free s x e) (refers_behind x b) o.0 o.1 j)
 tidy_at w {a} {b} Kind.BlockStatement s above p (of_block x) e m f h i j o =
-    clear_row s x Kind.BlockStatement whole fields (lexical b) (inl e) f h i (scope_block (entered w Kind.BlockStatement a) (dropped s) x e (scope_free s x (inl e))) (λ t. t) o.0 o.1 j.1
+    clear_row s x Kind.BlockStatement whole fields (lexical b) (inl e) f h i (block_free s x e) (λ t. t) o.0 o.1 j.1
 tidy_at w {a} {b} Kind.Cases s above p (of_block x) e m f h i j o =
-    clear_row s x Kind.Cases whole fields (lexical b) (inl e) f h i (scope_block (entered w Kind.Cases a) (dropped s) x e (scope_free s x (inl e))) (λ t. t) o.0 o.1 j.1
+    clear_row s x Kind.Cases whole fields (lexical b) (inl e) f h i (block_free s x e) (λ t. t) o.0 o.1 j.1
 tidy_at w k s above p d e m f h i j o = tt
 
 inside_tidy : (w : Around) {a b : Forest} (k : Kind) (s : Step (entered w k a) a b) (p : near.Row) → heads k a ≡ true → NodeInPlace p k (λ q r. InPlace q r b) → ((q : Part) (r : near.Row) → OthersOk q (entered w k a).row a → InPlace q r b → Tidy s) → Tidy s
@@ -213,11 +163,8 @@ core_behind : (k : Kind) (n : Note) (a r : Forest) → all_core (node k n a r) �
 core_behind k n a r e = second_of_both (all_core a) (all_core r) (second_of_both (is_core k) _ e)
 
 pub once_tidy : {w : Around} {t u : Forest} (q : Part) (p : near.Row) (s : Step w t u) (above : Kind) → holds_well above t ≡ true → is_formed t ≡ true → is_formed u ≡ true → all_core u ≡ true → OthersOk q w.row t → InPlace q p u → Once s → Tidy s
-once_tidy q p (empty_statement_leaves h) above m f g c i j o = tt
-once_tidy q p (unused_function_leaves h z) above m f g c i j o = tt
-once_tidy q p (unused_declarator_leaves h z v) above m f g c i j o = tt
-once_tidy q p (unused_declaration_leaves h z v) above m f g c i j o = tt
-once_tidy q p (silent_statement_empties h) above m f g c i j o = tt
+once_tidy q p (leaves h) above m f g c i j o = tt
+once_tidy q p (empties h) above m f g c i j o = tt
 once_tidy others p (inside {n = n} s) above m f g c i j o = absurd (still_stays (inside {n = n} {r = nothing} s) i.0 i.1)
 once_tidy whole p (inside {w = w} {k = k} {n = n} {a = a} {b = b} {r = r} s) above m f g c i j o =
     let place : NodeInPlace p k (λ q r. InPlace q r b) = if_core (is_core k) (core_kind k n b r c) j.0 in (

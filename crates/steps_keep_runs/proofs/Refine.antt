@@ -4,13 +4,12 @@ use Rattle.js_syntax.specs.declared.node_kind.NodeKind.{NodeKind as Kind}
 use Rattle.js_syntax.specs.Node.{Forest, nothing, node, Note}
 use Rattle.js_syntax.specs.Facts.{is_core}
 use Rattle.js_syntax.specs.declared.kind.FunctionKind.TheVariants as function_kind
-use Rattle.js_syntax.specs.declared.kind.VariableKind.{VariableKind}
 use Rattle.js_meaning.specs.Value.{Text}
 use Rattle.js_meaning.specs.Scope.{Decl, waiting, all_so, named_so, first_of, first_name, bound_names, lexical, function_decls}
 use Rattle.js_meaning.specs.Module.{names_in}
 use Rattle.js_meaning_near.specs.Names.{Names, Lone, FillableIf, Decls, no_decls, Copied, declared}
 use Rattle.js_meaning_near.specs.Near as near
-use Rattle.js_meaning_near.specs.Near.{fields, Idle, idle_empty, idle_expression, idle_function, idle_declarator, idle_bare_declarator, idle_declaration, all_idle, one_idle, Change, statement_emptied, Near, near_nothing, near_absent, near_node, near_closure, near_hoisted, near_uncovered, changed, leaves, Code, near_code, Heads}
+use Rattle.js_meaning_near.specs.Near.{fields, Idle, idle_empty, idle_expression, idle_function, idle_declarator, idle_bare_declarator, idle_declaration, all_idle, one_idle, Change, statement_emptied, Near, near_nothing, near_absent, near_node, near_closure, near_hoisted, near_uncovered, changed, Code, near_code, Heads}
 use Rattle.js_meaning_near.specs.Fit.{names_after, Part, whole, others, part_of, NodeFits, Fits}
 use Rattle.js_meaning_near.specs.Avoid.{declares}
 use Rattle.js_meaning_near.proofs.Avoid.{after_plain}
@@ -18,55 +17,52 @@ use Rattle.js_meaning_near.proofs.Fit.{decls_to, same_copied, fit}
 use Rattle.js_meaning_near.proofs.Once.{node_stays}
 use Rattle.steps.specs.Names.{is_among, names_declared}
 use Rattle.steps.specs.Steps as steps
-use Rattle.steps.specs.Steps.{items, of_item, declarators, other, row_below, Around, entered, Initialiser, no_initialiser, silent_initialiser, Step, empty_statement_leaves, unused_function_leaves, unused_declarator_leaves, unused_declaration_leaves, silent_statement_empties, inside, behind_node, behind_absent}
+use Rattle.steps.specs.Steps.{items, of_item, declarators, other, row_below, Around, entered, Initialiser, no_initialiser, silent_initialiser, Goes, empty_statement, unused_function, unused_declarator, unused_declaration, Step, leaves, empties, inside, behind_node, behind_absent}
 use Rattle.steps_keep_runs.specs.Formed.{may_hold, holds_well, still, is_formed}
-use Rattle.steps_keep_runs.specs.Drop.{Drop, no_drop, of_block, of_function, declared_so, out_of_block, outside, dropped}
+use Rattle.steps_keep_runs.specs.Drop.{Drop, no_drop, of_block, of_function, out_of_block, outside, drop_of, dropped}
 use Rattle.steps_keep_runs.specs.Tidy.{TidyAt, Tidy}
 use Rattle.steps_keep_runs.proofs.Silent.{Declare, silent}
-use Rattle.steps_keep_runs.proofs.Calm.{items_other, declarators_other, entered_row, still_stays, first_stays, form_holds, form_heads, form_below, form_behind}
+use Rattle.steps_keep_runs.proofs.Calm.{is_list, leaves_list, leaves_no_other, entered_row, still_stays, first_stays, form_holds, form_heads, form_below, form_behind}
 use Rattle.steps_keep_runs.proofs.Lists.{LexicalChange, lexical_step, lexical_same, not_block, NotBlock}
 use Rattle.steps_keep_runs.proofs.Names.{names_all_so, declare_within, Stays, stays_fits, stays_lone, stays_behind, stays_absent, stays_others, stays_others_absent, Crossed, inner_free, inner_front, declare_code, through}
-use Rattle.steps_keep_runs.proofs.Scopes.{if_core, same_rows, function_change, Entered, enter_code, enter_block, outer, IsBlock, is_block, is_cases, is_for, is_catch, InTidy, stays_below, for_first, object_keys}
+use Rattle.steps_keep_runs.proofs.Scopes.{if_core, function_change, Entered, enter_code, enter_block, outer, IsBlock, is_block, is_cases, is_for, is_catch, InTidy, stays_below, for_first, object_keys}
 use Rattle.js_syntax.proofs.Truth.{first_of_both, second_of_both}
 
 -- how the rows of steps and of nearness agree: what may leave stands in a list
 
-pub record Agree (r : steps.Row) (p : near.Row) : Type 0 where
-  pub list : r ≡ items → p ≡ near.items
-  pub declarators : (how : VariableKind) → r ≡ steps.declarators how → p ≡ near.items
+abbrev pub Agree : (r : steps.Row) (p : near.Row) → Type 0
+Agree r p = is_list r ≡ true → p ≡ near.items
 
-below_items : (r : steps.Row) (k : Kind) (a : Forest) → row_below r k a ≡ items → near.row_below k ≡ near.items
-below_items r Kind.Statements a e = refl
-below_items r Kind.Declarators a e = refl
-below_items items (Kind.VariableDeclaration how) a e = absurd (cc)
-below_items (of_item h) (Kind.VariableDeclaration how) a e = absurd (cc)
-below_items (declarators h) (Kind.VariableDeclaration how) a e = absurd (cc)
-below_items other (Kind.VariableDeclaration how) a e = absurd (cc)
-below_items r k a e = absurd (cc)
-
-below_declarators : (r : steps.Row) (k : Kind) (a : Forest) (how : VariableKind) → row_below r k a ≡ declarators how → near.row_below k ≡ near.items
-below_declarators r Kind.Statements a how e = refl
-below_declarators r Kind.Declarators a how e = refl
-below_declarators items (Kind.VariableDeclaration h) a how e = absurd (cc)
-below_declarators (of_item g) (Kind.VariableDeclaration h) a how e = absurd (cc)
-below_declarators (declarators g) (Kind.VariableDeclaration h) a how e = absurd (cc)
-below_declarators other (Kind.VariableDeclaration h) a how e = absurd (cc)
-below_declarators r k a how e = absurd (cc)
+below_list : (r : steps.Row) (k : Kind) (a : Forest) → is_list (row_below r k a) ≡ true → near.row_below k ≡ near.items
+below_list r Kind.Statements a e = refl
+below_list r Kind.Declarators a e = refl
+below_list items (Kind.VariableDeclaration how) a e = absurd (cc)
+below_list (of_item h) (Kind.VariableDeclaration how) a e = absurd (cc)
+below_list (declarators h) (Kind.VariableDeclaration how) a e = absurd (cc)
+below_list other (Kind.VariableDeclaration how) a e = absurd (cc)
+below_list r k a e = absurd (cc)
 
 agree_below : (w : Around) (k : Kind) (a : Forest) → Agree (entered w k a).row (near.row_below k)
-agree_below w k a = record { list = λ e. below_items w.row k a (sym (entered_row w k a) ∙ e); declarators = λ how e. below_declarators w.row k a how (sym (entered_row w k a) ∙ e) }
+agree_below w k a e = below_list w.row k a (ap is_list (sym (entered_row w k a)) ∙ e)
 
 agree_other : (r : steps.Row) (p : near.Row) → r ≡ other → Agree r p
-agree_other r p e = record { list = λ f. absurd (items_other f e); declarators = λ how f. absurd (declarators_other f e) }
+agree_other r p e f = absurd (true≢false (sym f ∙ ap is_list e))
 
 -- what leaves a list
-
-leave : {p : near.Row} {st : Names} {k : Kind} {n : Note} {a r : Forest} → p ≡ near.items → Idle st k a → Near p st r r → Near p st (node k n a r) r
-leave {st = st} {k = k} {n = n} {a = a} {r = r} e i o = subst (λ p. Near p st r r → Near p st (node k n a r) r) (sym e) (leaves i) o
 
 idle_declared : {st : Names} {names : List Text} {x : Text} {m : Note} {v : Forest} → Declare st names → Lone (st x) → Initialiser names v → Idle st Kind.VariableDeclarator (node (Kind.BindingName x) m nothing v)
 idle_declared d l no_initialiser = idle_bare_declarator l
 idle_declared {names = names} d l (silent_initialiser {k = k} {n = n} {a = a} i) = idle_declarator l (silent names k n a d i.silent)
+
+leaves_idle : {w : Around} {st : Names} {k : Kind} {a : Forest} (p : near.Row) (r : Forest) (h : Goes w k a) → Declare st w.names → Stays (drop_of h) whole st p r → Idle st k a
+leaves_idle p r (empty_statement h) d g = idle_empty
+leaves_idle p r (unused_function h u) d g = idle_function g.lone
+leaves_idle {st = st} p r (unused_declarator {how = how} {x = x} h u v) d g = idle_declared d (stays_lone how x whole st p r g) v
+leaves_idle {st = st} p r (unused_declaration {how = how} {x = x} h u v) d g = idle_declaration (one_idle (idle_declared d (stays_lone how x whole st p r g) v) all_idle)
+
+leave : {w : Around} {p : near.Row} {st : Names} {k : Kind} {n : Note} {a r : Forest} (h : Goes w k a) → Agree w.row p → Declare st w.names → Stays (drop_of h) whole st p r
+    → Near p st r r → Near p st (node k n a r) r
+leave {p = p} {st = st} {k = k} {n = n} {a = a} {r = r} h i d g o = subst (λ p. Near p st r r → Near p st (node k n a r) r) (sym (i (leaves_list h))) (near.leaves (leaves_idle p r h d g)) o
 
 -- behind the first field of a function, where that holds still
 
@@ -104,11 +100,12 @@ near_inside w {n} {a} {b} {r} (Kind.Function function_kind.Declaration pure) s a
     let k : Kind = Kind.Function function_kind.Declaration pure in
     let fits : Fits whole p st (node k n b r) = stays_fits no_drop whole st p (node k n b r) g in
     let still_first : still (first_of a) ≡ true = first_of_both (still (first_of a)) _ (form_heads k a r f) in
-    let name : first_name a ≡ first_name b = (first_stays s refl still_first).name in
+    let front = first_stays s refl still_first in
+    let name : first_name a ≡ first_name b = front.name in
     let e : Entered (dropped s) function_kind.Declaration st (function_decls function_kind.Declaration a) (function_decls function_kind.Declaration b) b =
     enter_code (dropped s) function_kind.Declaration pure st (function_decls function_kind.Declaration a) b (function_change function_kind.Declaration pure s refl (form_holds k a r f) (form_heads k a r f) (form_below k a r f)) g.0 g.1.0 t in
     near_hoisted name (subst (FillableIf st) (sym name) fits.0.0.0)
-    (near_code e.crossed.decls e.receiver (same_rows s refl) (h others fields e.crossed.within (agree_other _ fields refl) (refl, still_first) (declare_code [] w.names e.crossed.decls d) e.crossed.stays))
+    (near_code e.crossed.decls e.receiver front.rows (h others fields e.crossed.within (agree_other _ fields refl) (refl, still_first) (declare_code [] w.names e.crossed.decls d) e.crossed.stays))
     (fit whole p st r fits.1)
 near_inside w {n} {a} {b} {r} (Kind.Function function_kind.Arrow pure) s above p st c m f d g t h =
     let k : Kind = Kind.Function function_kind.Arrow pure in
@@ -117,20 +114,21 @@ near_inside w {n} {a} {b} {r} (Kind.Function function_kind.Arrow pure) s above p
     let e : Entered (dropped s) function_kind.Arrow st (function_decls function_kind.Arrow a) (function_decls function_kind.Arrow b) b =
     enter_code (dropped s) function_kind.Arrow pure st (function_decls function_kind.Arrow a) b (function_change function_kind.Arrow pure s refl (form_holds k a r f) (form_heads k a r f) (form_below k a r f)) g.0 g.1.0 t in
     near_closure tt refl no_decls tt
-    (near_code e.crossed.decls e.receiver (same_rows s refl) (h others fields e.crossed.within (agree_other _ fields refl) (refl, still_first) (declare_code [] w.names e.crossed.decls d) e.crossed.stays))
+    (near_code e.crossed.decls e.receiver (first_stays s refl still_first).rows (h others fields e.crossed.within (agree_other _ fields refl) (refl, still_first) (declare_code [] w.names e.crossed.decls d) e.crossed.stays))
     (fit whole p st r fits.1)
 near_inside w {n} {a} {b} {r} (Kind.Function function_kind.Expression pure) s above p st c m f d g t h =
     let k : Kind = Kind.Function function_kind.Expression pure in
     let fits : Fits whole p st (node k n b r) = stays_fits no_drop whole st p (node k n b r) g in
     let still_first : still (first_of a) ≡ true = first_of_both (still (first_of a)) _ (form_heads k a r f) in
-    let name : first_name a ≡ first_name b = (first_stays s refl still_first).name in
+    let front = first_stays s refl still_first in
+    let name : first_name a ≡ first_name b = front.name in
     let own : List Decl = named_so (waiting true) (first_name a) in
     let around : Names = names_after st own in
     let ds : Decls st own (named_so (waiting true) (first_name b)) around = decls_to st (ap (named_so (waiting true)) name) in
     let e : Entered (dropped s) function_kind.Expression around (function_decls function_kind.Expression a) (function_decls function_kind.Expression b) b =
     enter_code (dropped s) function_kind.Expression pure around (function_decls function_kind.Expression a) b (function_change function_kind.Expression pure s refl (form_holds k a r f) (form_heads k a r f) (form_below k a r f)) (λ x. after_plain own st x (g.0 x)) g.1.0 t in
     near_closure tt name ds (subst (λ o. FillableIf (names_after st (named_so (waiting true) o)) o) (sym name) fits.0.0.0)
-    (near_code e.crossed.decls e.receiver (same_rows s refl) (h others fields e.crossed.within (agree_other _ fields refl) (refl, still_first) (declare_code (names_in own) w.names e.crossed.decls (declare_within (names_in own) w.names ds refl d)) e.crossed.stays))
+    (near_code e.crossed.decls e.receiver front.rows (h others fields e.crossed.within (agree_other _ fields refl) (refl, still_first) (declare_code (names_in own) w.names e.crossed.decls (declare_within (names_in own) w.names ds refl d)) e.crossed.stays))
     (fit whole p st r fits.1)
 near_inside w {n} {a} {b} {r} Kind.BlockStatement s above p st c m f d g t h =
     let k : Kind = Kind.BlockStatement in
@@ -174,24 +172,16 @@ inside_core w {n} {a} {b} {r} k s above p st false c m f d g t h = near_uncovere
 
 pub near_step : {w : Around} {t u : Forest} (q : Part) (s : Step w t u) (above : Kind) (p : near.Row) (st : Names) → holds_well above t ≡ true → is_formed t ≡ true → Agree w.row p → OthersOk q w.row t → Declare st w.names → Stays (dropped s) q st p u → Tidy s
     → Near p st (part_of q t) (part_of q u)
-near_step whole (empty_statement_leaves {r = r} h) above p st m f i o d g t = leave (i.list h) idle_empty (fit whole p st r (stays_fits no_drop whole st p r g))
-near_step whole (unused_function_leaves {x = x} {r = r} h j) above p st m f i o d g t = leave (i.list h) (idle_function g.lone) (fit whole p st r (stays_fits (of_block x) whole st p r g))
-near_step whole (unused_declarator_leaves {how = how} {x = x} {r = r} h j v) above p st m f i o d g t =
-    leave (i.declarators how h) (idle_declared d (stays_lone how x whole st p r g) v) (fit whole p st r (stays_fits (declared_so how x) whole st p r g))
-near_step whole (unused_declaration_leaves {how = how} {x = x} {r = r} h j v) above p st m f i o d g t =
-    leave (i.list h) (idle_declaration (one_idle (idle_declared d (stays_lone how x whole st p r g) v) all_idle)) (fit whole p st r (stays_fits (declared_so how x) whole st p r g))
-near_step whole (silent_statement_empties {w = w} {k = k} {m = n} {l = l} {a = a} {r = r} h) above p st m f i o d g t =
+near_step whole (leaves {r = r} h) above p st m f i o d g t = leave h i d g (fit whole p st r (stays_fits (drop_of h) whole st p r g))
+near_step whole (empties {w = w} {k = k} {m = n} {l = l} {a = a} {r = r} h) above p st m f i o d g t =
     changed (statement_emptied (silent w.names k l a d h.silent)) (fit whole p st r (stays_fits no_drop whole st p (node Kind.EmptyStatement n nothing r) g).1)
 near_step whole (inside {w = w} {k = k} {a = a} {r = r} s) above p st m f i o d g t =
     inside_core w k s above p st (is_core k) refl (first_of_both (may_hold above k) (holds_well above r) m) f d g t.0 (λ q p st i o d g. near_step q s k p st (form_holds k a r f) (form_below k a r f) i o d g t.1)
 near_step whole (behind_node {k = k} {n = n} {a = a} {r = r} {s = z} s) above p st m f i o d g t =
     node_stays p st k n a (stays_fits (dropped s) whole st p (node k n a z) g).0 (near_step whole s above p st (second_of_both (may_hold above k) (holds_well above r) m) (form_behind k a r f) i tt d (stays_behind (dropped s) st p k n a z g) t)
 near_step whole (behind_absent {s = z} s) above p st m f i o d g t = near_absent (near_step whole s above p st m f i tt d (stays_absent (dropped s) st p z g) t)
-near_step others (empty_statement_leaves h) above p st m f i o d g t = absurd (items_other h o.0)
-near_step others (unused_function_leaves h j) above p st m f i o d g t = absurd (items_other h o.0)
-near_step others (unused_declarator_leaves h j v) above p st m f i o d g t = absurd (declarators_other h o.0)
-near_step others (unused_declaration_leaves h j v) above p st m f i o d g t = absurd (items_other h o.0)
-near_step others (silent_statement_empties h) above p st m f i o d g t = absurd (true≢false (sym o.1))
+near_step others (leaves h) above p st m f i o d g t = absurd (leaves_no_other h o.0)
+near_step others (empties h) above p st m f i o d g t = absurd (true≢false (sym o.1))
 near_step others (inside {n = n} s) above p st m f i o d g t = absurd (still_stays (inside {n = n} {r = nothing} s) o.0 o.1)
 near_step others (behind_node {k = k} {n = n} {a = a} {r = r} {s = z} s) above p st m f i o d g t =
     near_step whole s above p st (second_of_both (may_hold above k) (holds_well above r) m) (form_behind k a r f) i tt d (stays_others (dropped s) st p k n a z g) t

@@ -8,15 +8,15 @@ use Rattle.js_syntax.specs.declared.kind.FunctionKind.TheVariants as function_ki
 use Rattle.js_meaning.specs.Value.{Text, this_name}
 use Rattle.js_meaning.specs.Scope.{Decl, ready, all_so, first_of, behind, bound_names, var_names, lexical, receiver_decls, function_decls}
 use Rattle.js_meaning_near.specs.Names.{Status, undeclared, loose, live, dead, unread, known, Names, Fillable, Lone, Plainly, AllPlain, PlainBut, declared}
-use Rattle.js_meaning_near.specs.Near.{Row, fields, row_below, ReceiverOk, is_row, keys, key_of}
+use Rattle.js_meaning_near.specs.Near.{Row, fields, row_below, ReceiverOk, keys, key_of}
 use Rattle.js_meaning_near.specs.Fit.{whole, others, IfCore}
 use Rattle.js_meaning_near.specs.Avoid.{declares, Dropped, NodeInPlace, InPlace, NodeAvoids, Avoids, Unless}
 use Rattle.js_meaning_near.proofs.Avoid.{fewer_itself, dropped_first, dropped_second}
-use Rattle.steps.specs.Steps.{other, Around, Step, empty_statement_leaves, unused_function_leaves, unused_declarator_leaves, unused_declaration_leaves, silent_statement_empties, inside, behind_node, behind_absent}
+use Rattle.steps.specs.Steps.{other, Around, Step, leaves, empties, inside, behind_node, behind_absent}
 use Rattle.steps_keep_runs.specs.Formed.{may_hold, holds_well, still, calm, heads, is_formed}
 use Rattle.steps_keep_runs.specs.Drop.{Drop, no_drop, of_block, of_function, out_of_block, dropped}
 use Rattle.steps_keep_runs.specs.Tidy.{Clear, TidyAt}
-use Rattle.steps_keep_runs.proofs.Calm.{items_other, declarators_other, still_stays, first_stays, form_below, form_behind, Alike, alike_nothing, alike_absent, alike_same, alike_node, alike_function, calm_step, same_lexical}
+use Rattle.steps_keep_runs.proofs.Calm.{leaves_no_other, first_stays, form_below, form_behind, Alike, alike_nothing, alike_absent, alike_same, alike_node, alike_function, calm_step, same_lexical}
 use Rattle.steps_keep_runs.proofs.Lists.{LexicalChange, VarsChange, vars_step, lexical_step, less_dropped}
 use Rattle.steps_keep_runs.proofs.Names.{Stays, StaysBut, Crossed, crossed_plain, crossed_block, crossed_function, crossed_through}
 use Rattle.js_syntax.proofs.Truth.{first_of_both, second_of_both, both}
@@ -24,31 +24,6 @@ use Rattle.js_syntax.proofs.Truth.{first_of_both, second_of_both, both}
 pub if_core : {A : Type 0} (b : Bool) → b ≡ true → IfCore b A → A
 if_core true e h = h
 if_core false e h = absurd (true≢false (sym e))
-
--- a step behind the first field of a row
-
-pub data Inner {w : Around} {a b : Forest} (s : Step w a b) : Type 0 where
-  inner : (z : Step w (behind a) (behind b)) → dropped z ≡ dropped s → Inner s
-
-pub step_behind : {w : Around} {a b : Forest} (s : Step w a b) → w.row ≡ other → still (first_of a) ≡ true → Inner s
-step_behind (empty_statement_leaves h) g e = absurd (items_other h g)
-step_behind (unused_function_leaves h i) g e = absurd (items_other h g)
-step_behind (unused_declarator_leaves h i j) g e = absurd (declarators_other h g)
-step_behind (unused_declaration_leaves h i j) g e = absurd (items_other h g)
-step_behind (silent_statement_empties h) g e = absurd (true≢false (sym e))
-step_behind (inside {n = n} s) g e = absurd (still_stays (inside {n = n} {r = nothing} s) g e)
-step_behind (behind_node s) g e = inner s refl
-step_behind (behind_absent s) g e = inner s refl
-
-pub same_rows : {w : Around} {a b : Forest} → Step w a b → w.row ≡ other → is_row a ≡ is_row b
-same_rows (empty_statement_leaves h) g = absurd (items_other h g)
-same_rows (unused_function_leaves h i) g = absurd (items_other h g)
-same_rows (unused_declarator_leaves h i j) g = absurd (declarators_other h g)
-same_rows (unused_declaration_leaves h i j) g = absurd (items_other h g)
-same_rows (silent_statement_empties h) g = refl
-same_rows (inside s) g = refl
-same_rows (behind_node s) g = refl
-same_rows (behind_absent s) g = refl
 
 pub formed_behind : (a : Forest) → is_formed a ≡ true → is_formed (behind a) ≡ true
 formed_behind nothing e = refl
@@ -74,25 +49,31 @@ code_lists (of_block x) rs ps xs ys ds es v l =
 code_lists (of_function x) rs ps xs ys ds es v l =
     subst (λ m. Dropped x (rs ++ all_so ready xs ++ ps ++ ds) (rs ++ all_so ready ys ++ ps ++ m)) l (dropped_first (dropped_first (dropped_second (fewer_itself x rs) (less_dropped ready v)) (fewer_itself x ps)) (fewer_itself x ds))
 
-code_change : {w : Around} {a b : Forest} (f : FunctionKind) (pure : Bool) (s : Step w a b) → w.row ≡ other → holds_well (Kind.Function f pure) a ≡ true → heads (Kind.Function f pure) a ≡ true → is_formed a ≡ true → DeclsChange (dropped s) (function_decls f a) (function_decls f b)
-code_change {w} {a} {b} f pure s g m h e = go (step_behind s g (first_of_both (still (first_of a)) (still (first_of (behind a))) h))
-  where
-    second : (z : Step w (behind a) (behind b)) → dropped z ≡ dropped s → Inner z → DeclsChange (dropped s) (function_decls f a) (function_decls f b)
-    second z d (inner y c) =
-        let t : first_of (behind a) ≡ first_of (behind b) = (first_stays z g (second_of_both (still (first_of a)) (still (first_of (behind a))) h)).first in
-        let k : Kind = Kind.Function f pure in
-        let v = vars_step y k (holds_behind k (behind a) (holds_behind k a m)) (inr g) (formed_behind (behind a) (formed_behind a e)) in
-        let l = lexical_step y k (holds_behind k (behind a) (holds_behind k a m)) refl (inr g) (formed_behind (behind a) (formed_behind a e)) in
-        subst (λ p. DeclsChange (dropped s) (function_decls f a) (receiver_decls f ++ all_so ready (var_names (behind (behind b))) ++ all_so ready (bound_names p) ++ lexical (behind (behind b)))) t
-        (code_lists (dropped s) (receiver_decls f) (all_so ready (bound_names (first_of (behind a)))) _ _ _ _
-        (subst (λ d. VarsChange d (var_names (behind (behind a))) (var_names (behind (behind b)))) (c ∙ d) v)
-        (subst (λ d. LexicalChange d (lexical (behind (behind a))) (lexical (behind (behind b)))) (c ∙ d) l))
+-- a step within a function lies in its body
+pub record BodyChange (d : Drop) (a b : Forest) : Type 0 where
+  pub parameters : first_of (behind a) ≡ first_of (behind b)
+  pub vars : VarsChange d (var_names (behind (behind a))) (var_names (behind (behind b)))
+  pub lexical : LexicalChange d (lexical (behind (behind a))) (lexical (behind (behind b)))
 
-    go : Inner s → DeclsChange (dropped s) (function_decls f a) (function_decls f b)
-    go (inner z d) = second z d (step_behind z g (second_of_both (still (first_of a)) (still (first_of (behind a))) h))
+pub body_change : {w : Around} {a b : Forest} (f : FunctionKind) (pure : Bool) (s : Step w a b) → w.row ≡ other → holds_well (Kind.Function f pure) a ≡ true → heads (Kind.Function f pure) a ≡ true → is_formed a ≡ true → BodyChange (dropped s) a b
+body_change {w} {a} {b} f pure s g m h e =
+    let k : Kind = Kind.Function f pure in
+    let i = first_stays s g (first_of_both (still (first_of a)) _ h) in
+    let j = first_stays i.step g (second_of_both (still (first_of a)) _ h) in
+    let d : dropped j.step ≡ dropped s = j.drops ∙ i.drops in
+    let l = holds_behind k (behind a) (holds_behind k a m) in
+    let c = formed_behind (behind a) (formed_behind a e) in
+    record {
+      parameters = j.first;
+      vars = subst (λ d. VarsChange d (var_names (behind (behind a))) (var_names (behind (behind b)))) d (vars_step j.step k l (inr g) c);
+      lexical = subst (λ d. LexicalChange d (lexical (behind (behind a))) (lexical (behind (behind b)))) d (lexical_step j.step k l refl (inr g) c);
+    }
 
 pub function_change : {w : Around} {a b : Forest} (f : FunctionKind) (pure : Bool) (s : Step w a b) → w.row ≡ other → holds_well (Kind.Function f pure) a ≡ true → heads (Kind.Function f pure) a ≡ true → is_formed a ≡ true → DeclsChange (dropped s) (function_decls f a) (function_decls f b)
-function_change f pure s g m h e = code_change f pure s g m h e
+function_change {a = a} {b = b} f pure s g m h e =
+    let c = body_change f pure s g m h e in
+    subst (λ p. DeclsChange (dropped s) (function_decls f a) (receiver_decls f ++ all_so ready (var_names (behind (behind b))) ++ all_so ready (bound_names p) ++ lexical (behind (behind b)))) c.parameters
+    (code_lists (dropped s) (receiver_decls f) (all_so ready (bound_names (first_of (behind a)))) _ _ _ _ c.vars c.lexical)
 
 fillable : (s : Status) → Plainly s → Fillable s
 fillable undeclared y = tt
@@ -209,11 +190,8 @@ formed_alone k a r e =
     both (holds_well k a && heads k a) (is_formed a && true) (first_of_both (holds_well k a && heads k a) (is_formed a && is_formed r) e) (both (is_formed a) true (form_below k a r e) refl)
 
 pub for_first : {w : Around} {a b : Forest} → Step w a b → w.row ≡ other → calm (first_of a) ≡ true → is_formed a ≡ true → lexical (first_of a) ≡ lexical (first_of b)
-for_first (empty_statement_leaves h) g c e = absurd (items_other h g)
-for_first (unused_function_leaves h i) g c e = absurd (items_other h g)
-for_first (unused_declarator_leaves h i j) g c e = absurd (declarators_other h g)
-for_first (unused_declaration_leaves h i j) g c e = absurd (items_other h g)
-for_first (silent_statement_empties h) g c e = refl
+for_first (leaves h) g c e = absurd (leaves_no_other h g)
+for_first (empties h) g c e = refl
 for_first (inside {k = k} {n = n} {a = a} {r = r} s) g c e = same_lexical (calm_step (inside {n = n} {r = nothing} s) g c (formed_alone k a r e)).alike
 for_first (behind_node s) g c e = refl
 for_first (behind_absent s) g c e = refl

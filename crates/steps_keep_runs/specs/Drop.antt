@@ -4,7 +4,7 @@ use Rattle.js_syntax.specs.Node.{Forest}
 use Rattle.js_syntax.specs.declared.kind.VariableKind.{VariableKind}
 use Rattle.js_syntax.specs.declared.kind.VariableKind.TheVariants as variable
 use Rattle.js_meaning.specs.Value.{Text}
-use Rattle.steps.specs.Steps.{Around, Step, empty_statement_leaves, unused_function_leaves, unused_declarator_leaves, unused_declaration_leaves, silent_statement_empties, inside, behind_node, behind_absent}
+use Rattle.steps.specs.Steps.{Around, Goes, empty_statement, unused_function, unused_declarator, unused_declaration, Step, leaves, empties, inside, behind_node, behind_absent}
 
 -- none; one of the innermost scope; one of the innermost function, or of the module
 pub data Drop : Type 0 where
@@ -29,12 +29,16 @@ outside Kind.ForStatement d = out_of_block d
 outside Kind.CatchClause d = out_of_block d
 outside k d = d
 
+-- that of what leaves a row
+abbrev pub drop_of : {w : Around} {k : Kind} {a : Forest} → Goes w k a → Drop
+drop_of (empty_statement h) = no_drop
+drop_of (unused_function {x = x} h u) = of_block x
+drop_of (unused_declarator {how = how} {x = x} h u i) = declared_so how x
+drop_of (unused_declaration {how = how} {x = x} h u i) = declared_so how x
+
 abbrev pub dropped : {w : Around} {t u : Forest} → Step w t u → Drop
-dropped (empty_statement_leaves h) = no_drop
-dropped (unused_function_leaves {x = x} h g) = of_block x
-dropped (unused_declarator_leaves {how = how} {x = x} h g f) = declared_so how x
-dropped (unused_declaration_leaves {how = how} {x = x} h g f) = declared_so how x
-dropped (silent_statement_empties h) = no_drop
+dropped (leaves g) = drop_of g
+dropped (empties h) = no_drop
 dropped (inside {k = k} s) = outside k (dropped s)
 dropped (behind_node s) = dropped s
 dropped (behind_absent s) = dropped s

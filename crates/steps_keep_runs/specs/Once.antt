@@ -8,7 +8,7 @@ use Rattle.js_meaning.specs.Value.{Text}
 use Rattle.js_meaning.specs.Scope.{Decl, behind, first_name, lexical, function_decls, module_decls}
 use Rattle.js_meaning_near.specs.Avoid.{declares, HasCells}
 use Rattle.steps.specs.Names.{is_among, names_declared}
-use Rattle.steps.specs.Steps.{Around, Step, empty_statement_leaves, unused_function_leaves, unused_declarator_leaves, unused_declaration_leaves, silent_statement_empties, inside, behind_node, behind_absent}
+use Rattle.steps.specs.Steps.{Around, Step, leaves, empties, inside, behind_node, behind_absent}
 use Rattle.steps_keep_runs.specs.Drop.{Drop, of_block, of_function, dropped}
 
 abbrev pub is_first : Text → Option Text → Bool
@@ -41,11 +41,8 @@ OnceIn k b d = Unit {0}
 
 -- so where the step lies within the scope
 abbrev pub Once : {w : Around} {t u : Forest} → Step w t u → Type 0
-Once (empty_statement_leaves h) = Unit {0}
-Once (unused_function_leaves h g) = Unit {0}
-Once (unused_declarator_leaves h g v) = Unit {0}
-Once (unused_declaration_leaves h g v) = Unit {0}
-Once (silent_statement_empties h) = Unit {0}
+Once (leaves g) = Unit {0}
+Once (empties h) = Unit {0}
 Once (inside {k = k} {b = b} s) = OnceIn k b (dropped s) × Once s
 Once (behind_node s) = Once s
 Once (behind_absent s) = Once s

@@ -10,7 +10,7 @@ use Rattle.js_meaning.specs.Module.{entries}
 use Rattle.js_meaning_near.specs.Near.{Row, fields, items}
 use Rattle.js_meaning_near.specs.Fit.{Part, whole, others}
 use Rattle.js_meaning_near.specs.Avoid.{declares, HasCells, Avoids, ExportsAvoid}
-use Rattle.steps.specs.Steps.{Around, Step, empty_statement_leaves, unused_function_leaves, unused_declarator_leaves, unused_declaration_leaves, silent_statement_empties, inside, behind_node, behind_absent}
+use Rattle.steps.specs.Steps.{Around, Step, leaves, empties, inside, behind_node, behind_absent}
 use Rattle.steps_keep_runs.specs.Drop.{Drop, of_block, of_function, dropped}
 
 -- by what the scope still declares, and its row
@@ -32,11 +32,8 @@ TidyAt k b d = Unit {0}
 
 -- so where the step lies within the scope
 abbrev pub Tidy : {w : Around} {t u : Forest} → Step w t u → Type 0
-Tidy (empty_statement_leaves h) = Unit {0}
-Tidy (unused_function_leaves h g) = Unit {0}
-Tidy (unused_declarator_leaves h g v) = Unit {0}
-Tidy (unused_declaration_leaves h g v) = Unit {0}
-Tidy (silent_statement_empties h) = Unit {0}
+Tidy (leaves g) = Unit {0}
+Tidy (empties h) = Unit {0}
 Tidy (inside {k = k} {b = b} s) = TidyAt k b (dropped s) × Tidy s
 Tidy (behind_node s) = Tidy s
 Tidy (behind_absent s) = Tidy s

@@ -73,7 +73,7 @@ module _ (a : Place) where
   empty_step n w good item =
       let x : Tree = record { kind = Kind.EmptyStatement; note = n; below = nothing } in
       let f = focused x (λ b c i. Unit {0}) a refl w good (always (Some x) a false (λ i. outermost_context) 0 0) in
-      f.leaves (steps.empty_statement_leaves (f.item item))
+      f.leaves (steps.empty_statement (f.item item))
 
   -- a statement becomes empty
   pub statement_step : (n m l : Note) (k : Kind) (inner : Forest) → is_well_placed (plug a (a_statement n l k inner)) ≡ true → Good (plug a (a_statement n l k inner))
@@ -83,7 +83,7 @@ module _ (a : Place) where
       let x : Tree = record { kind = Kind.ExpressionStatement; note = n; below = expression } in
       let t = plug a (Some x) in
       let f = focused x (SilentStatement t expression) a refl w good silent in
-      f.keeps (record { kind = Kind.EmptyStatement; note = m; below = nothing }) (steps.silent_statement_empties (record {
+      f.keeps (record { kind = Kind.EmptyStatement; note = m; below = nothing }) (steps.empties (record {
         silent = silent_row (declarations_of t) f.around.names f.in_with (inside (f.contexts f.at) f.next Kind.ExpressionStatement expression) 0 (f.next + opens_one Kind.ExpressionStatement expression) expression (λ i. f.here.known.0) f.there;
         declares = no_names (bound_names expression) (plain_statement_here Kind.ExpressionStatement n expression f.rest f.here.good);
       }))
@@ -95,7 +95,7 @@ module _ (a : Place) where
       let y : Tree = record { kind = Kind.Function function_kind.Declaration pure; note = n; below = node (Kind.BindingName x) m nothing rest } in
       let t = plug a (Some y) in
       let f = focused y (Free t variable.Let x) a refl w good free in
-      f.leaves (steps.unused_function_leaves (f.item item)
+      f.leaves (steps.unused_function (f.item item)
       (function_unused t f.around f.contexts f.at f.next pure x n m nothing rest f.rest w f.here.stands (record {
         nothing_refers = f.there.unreferred;
         is_not_exported = f.there.unexported;
@@ -117,7 +117,7 @@ module _ (a : Place) where
       let apart = subst (λ r. RowApart r f.around row) d.is f.here.apart in
       let layer = subst (λ r. RowDeclares r f.contexts) d.is (holds t f.around f.contexts f.at f.next row w f.here.stands).declares f.at in
       let unused = subst (λ l. IsFree t (named_in x l)) layer f.there.1 in
-      f.leaves (steps.unused_declarator_leaves d.is
+      f.leaves (steps.unused_declarator d.is
       (declarator_unused t f.around f.contexts f.at f.next d.how x n m nothing value f.rest w d.is f.here.stands (record {
         nothing_refers = unused.unreferred;
         is_not_exported = unused.unexported;
@@ -143,7 +143,7 @@ module _ (a : Place) where
       let row = node (Kind.VariableDeclaration how) n all f.rest in
       let in_all = good_below (Kind.VariableDeclaration how) n all f.rest f.here.good in
       let in_list = good_below Kind.Declarators m ds nothing in_all in
-      f.leaves (steps.unused_declaration_leaves (f.item item)
+      f.leaves (steps.unused_declaration (f.item item)
       (declaration_unused t f.around f.contexts f.at f.next how x n m l j nothing value nothing f.rest w f.here.stands (record {
         nothing_refers = f.there.1.unreferred;
         is_not_exported = f.there.1.unexported;

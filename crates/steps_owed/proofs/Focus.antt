@@ -9,7 +9,8 @@ use Rattle.min_pass.specs.declared.around.Around.{Around as Asked}
 use Rattle.min_pass.specs.declared.around.Row.{Row as AskedRow}
 use Rattle.min_pass.specs.declared.around.Row.TheVariants as asked
 use Rattle.min_pass.specs.Around.{row_below as asked_row_below, is_with, entered as asked_below, outermost as asked_of_program}
-use Rattle.steps.specs.Steps.{Row, items, of_item, declarators, other, is_single, row_below, Around, entered, outermost, Step, inside, behind_node, behind_absent}
+use Rattle.steps.specs.Steps as steps
+use Rattle.steps.specs.Steps.{Row, items, of_item, declarators, other, is_single, row_below, Around, entered, outermost, Goes, Step, inside, behind_node, behind_absent}
 use Rattle.scope_rules.specs.Context.{Context, inside as inside_context, outermost as outermost_context}
 use Rattle.scope_rules.specs.Site.{opens_one, scope_count}
 use Rattle.scope_laws.specs.Place.{Around as Place, first, behind, behind_none, under, placed, plug}
@@ -93,7 +94,7 @@ pub record Focus (t : Forest) (w : Around) (a : Place) (x : Tree) (at_row : Aske
   pub rest : Forest
   pub here : Here t around contexts at next (placed (Some x) rest)
   pub keeps : (y : Tree) → Step around (placed (Some x) rest) (placed (Some y) rest) → Step w (plug a (Some x)) (plug a (Some y))
-  pub leaves : Step around (placed (Some x) rest) rest → Step w (plug a (Some x)) (without a)
+  pub leaves : Goes around x.kind x.below → Step w (plug a (Some x)) (without a)
   pub in_with : Bool
   pub there : holds in_with (contexts at) next
   pub item : (asked_at at_row a).row ≡ asked.Items → around.row ≡ items
@@ -110,7 +111,7 @@ module _ (t : Forest) (x : Tree) (holds : Bool → Context → ℕ → Type 0) w
     rest = rest;
     here = h;
     keeps = λ y step. step;
-    leaves = λ step. step;
+    leaves = λ goes. steps.leaves goes;
     in_with = in_with;
     there = there;
     item = items_as_asked at_row.row w.row single is;
@@ -131,7 +132,7 @@ module _ (t : Forest) (x : Tree) (holds : Bool → Context → ℕ → Type 0) w
         rest = f.rest;
         here = f.here;
         keeps = λ y step. behind_node (f.keeps y step);
-        leaves = λ step. behind_node (f.leaves step);
+        leaves = λ goes. behind_node (f.leaves goes);
         in_with = f.in_with;
         there = f.there;
         item = f.item;
@@ -147,7 +148,7 @@ module _ (t : Forest) (x : Tree) (holds : Bool → Context → ℕ → Type 0) w
         rest = f.rest;
         here = f.here;
         keeps = λ y step. behind_absent (f.keeps y step);
-        leaves = λ step. behind_absent (f.leaves step);
+        leaves = λ goes. behind_absent (f.leaves goes);
         in_with = f.in_with;
         there = f.there;
         item = f.item;
@@ -167,7 +168,7 @@ module _ (t : Forest) (x : Tree) (holds : Bool → Context → ℕ → Type 0) w
         rest = f.rest;
         here = f.here;
         keeps = λ y step. inside (f.keeps y step);
-        leaves = λ step. inside (f.leaves step);
+        leaves = λ goes. inside (f.leaves goes);
         in_with = f.in_with;
         there = f.there;
         item = f.item;
@@ -212,7 +213,7 @@ below_program x holds source n a w good there =
       rest = f.rest;
       here = f.here;
       keeps = λ y step. inside (f.keeps y step);
-      leaves = λ step. inside (f.leaves step);
+      leaves = λ goes. inside (f.leaves goes);
       in_with = f.in_with;
       there = f.there;
       item = f.item;
