@@ -2,7 +2,7 @@
 ghost use Rattle.std.specs.Prelude.{[], ◌∷◌, None, false, true, ◌≡◌};
 ghost use Rattle.js_syntax.specs.declared.kind.VariableKind.TheVariants as variable;
 ghost use Rattle.js_syntax.specs.declared.node_kind.NodeKind.{NodeKind as Kind};
-ghost use Rattle.js_syntax.specs.Node.{Forest, nothing, nowhere, below_of};
+ghost use Rattle.js_syntax.specs.Node.{Forest, Tree, nothing, nowhere, below_of};
 ghost use Rattle.form_rules.specs.Samples.{a_module, a_script, a, binds, reads, one, does, declares, let_, function_a, block};
 ghost use Rattle.scope_rules.specs.Context.{body_of};
 ghost use Rattle.scope_rules.specs.Binding.{named_in};
@@ -10,8 +10,9 @@ ghost use Rattle.scope_laws.specs.Place.{plug};
 ghost use Rattle.steps_allowed.specs.Places.{a_node, At};
 ghost use Rattle.steps_allowed.specs.Free.{IsFree};
 ghost use Rattle.steps_allowed.specs.SilentStatement.{SilentStatement};
+ghost use Rattle.steps_allowed.specs.KnownConditional.{KnownConditional};
 ghost use Rattle.steps_allowed.specs.Edits.{Edit, Edits};
-ghost use Rattle.steps_allowed.specs.Rows.{before, call_of_a, call_of_eval, if_one, empty, a_is_read, a_is_exported};
+ghost use Rattle.steps_allowed.specs.Rows.{before, call_of_a, call_of_eval, null, if_one, if_null, conditional, depends_on_place, empty, a_is_read, a_is_exported};
 
 /// A statement of a literal becomes empty, in a list and alone, and leaves the list then.
 pub fn silent_statements_go()
@@ -36,4 +37,18 @@ pub fn what_is_free_goes()
 pub fn what_is_used_stays()
     ensures read { IsFree a_is_read (named_in a (body_of 0)) → ⊥ }
     ensures exported { IsFree a_is_exported (named_in a (body_of 0)) → ⊥ }
+{}
+
+/// A conditional and an `if` on a literal become the branch that is taken.
+pub fn known_branches_are_taken()
+    ensures consequent { Edit (a_module (does (conditional one call_of_a (reads a)) ∷ [])) (a_module (does call_of_a ∷ [])) }
+    ensures alternate { Edit (a_module (does (conditional null (reads a) call_of_a) ∷ [])) (a_module (does call_of_a ∷ [])) }
+    ensures if_holds { Edit (a_module (if_one (does call_of_a) ∷ [])) (a_module (does call_of_a ∷ [])) }
+    ensures if_fails { Edit (a_module (if_null empty (does call_of_a) ∷ [])) (a_module (does call_of_a ∷ [])) }
+{}
+
+/// But no name comes out of a conditional, no member, alone, in a chain or in parentheses, and no function or class: called
+/// there, deleted or given a name, it would do something else.
+pub fn what_depends_on_its_place_stays()
+    ensures { (x y : Tree) → KnownConditional x y → depends_on_place y.kind ≡ false }
 {}
