@@ -3,8 +3,8 @@ use Rattle.std.proofs.Common.{◌≡◌, [], ◌∷◌, pos, true, false, true�
 use Rattle.js_syntax.specs.declared.node_kind.NodeKind.{NodeKind as Kind}
 use Rattle.js_syntax.specs.declared.kind.VariableKind.TheVariants as variable
 use Rattle.js_syntax.specs.declared.value.LiteralValue.TheVariants as value
-use Rattle.js_syntax.specs.Node.{Tree, nothing, absent, nowhere}
-use Rattle.form_rules.specs.Samples.{a_module, a, reads, one, does, let_, function_a}
+use Rattle.js_syntax.specs.Node.{Tree, nothing, absent, nowhere, joined}
+use Rattle.form_rules.specs.Samples.{a_module, a, binds, reads, one, does, declares, let_, function_a}
 use Rattle.scope_rules.specs.Context.{body_of}
 use Rattle.scope_rules.specs.Binding.{named_in}
 use Rattle.scope_laws.specs.Place.{Around, first, behind, under}
@@ -14,11 +14,11 @@ use Rattle.steps_allowed.specs.Free.{IsFree}
 use Rattle.steps_allowed.specs.SilentStatement.{SilentStatement, silent_statement_empties}
 use Rattle.steps_allowed.specs.EmptyStatement.{empty_statement_leaves}
 use Rattle.steps_allowed.specs.UnusedFunction.{unused_function_leaves}
-use Rattle.steps_allowed.specs.UnusedDeclaration.{unused_declaration_leaves}
+use Rattle.steps_allowed.specs.UnusedDeclaration.{a_declaration, SilentDeclaration, unused_declaration_leaves}
 use Rattle.steps_allowed.specs.KnownConditional.{KnownConditional, consequent_is_taken, alternate_is_taken}
 use Rattle.steps_allowed.specs.KnownIf.{consequent_is_run, alternate_is_run}
 use Rattle.steps_allowed.specs.Edits.{Edit, leaves, becomes, empty_statement, silent_statement, unused_function, unused_declaration, known_conditional, known_if}
-use Rattle.steps_allowed.specs.Rows.{in_list, before, call_of_a, null, if_one, if_null, conditional, depends_on_place, empty, a_is_read, a_is_exported}
+use Rattle.steps_allowed.specs.Rows.{in_list, before, call_of_a, null, if_one, if_null, conditional, depends_on_place, with_a, in_with_a, empty, a_is_read, a_is_exported}
 
 pub empties_in_list : Edit (a_module (does one ∷ [])) (a_module (empty ∷ []))
 empties_in_list = becomes (before []) _ _ (silent_statement (silent_statement_empties nowhere nowhere nowhere _ nothing (inl refl, tt)))
@@ -43,6 +43,17 @@ name_acts (inl e, rest) = absurd (true≢false (sym e))
 name_acts (inr (inl (w, inl found)), rest) = absurd (true≢false (sym found))
 name_acts (inr (inl (w, inr named)), rest) = absurd (true≢false (sym named))
 name_acts (inr (inr (parts, below)), rest) = absurd (true≢false (sym parts))
+
+pub name_in_with : At in_with_a (a_node Kind.ExpressionStatement nowhere (reads a)) (SilentStatement (with_a (does (reads a))) (reads a)) → ⊥
+name_in_with (inl e, rest) = absurd (true≢false (sym e))
+name_in_with (inr (inl (w, found)), rest) = absurd (true≢false w)
+name_in_with (inr (inr (parts, below)), rest) = absurd (true≢false (sym parts))
+
+pub read_in_with : At in_with_a (a_declaration variable.Let nowhere nowhere nowhere nowhere a (reads a)) (SilentDeclaration (with_a (declares variable.Let (binds a) (reads a))) variable.Let nowhere nowhere (joined (binds a) (reads a))) → ⊥
+read_in_with (given, silent) = absurd (true≢false given)
+
+pub given_in_with : At in_with_a (a_declaration variable.Var nowhere nowhere nowhere nowhere a one) (SilentDeclaration (with_a (declares variable.Var (binds a) one)) variable.Var nowhere nowhere (joined (binds a) one)) → ⊥
+given_in_with (given, silent) = absurd (true≢false given)
 
 pub variable_goes : Edit (a_module (let_ a ∷ [])) (a_module [])
 variable_goes =

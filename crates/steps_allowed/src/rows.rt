@@ -2,7 +2,7 @@
 ghost use Rattle.std.specs.Prelude.{[], ◌∷◌, None, false, true, ◌≡◌};
 ghost use Rattle.js_syntax.specs.declared.kind.VariableKind.TheVariants as variable;
 ghost use Rattle.js_syntax.specs.declared.node_kind.NodeKind.{NodeKind as Kind};
-ghost use Rattle.js_syntax.specs.Node.{Forest, Tree, nothing, nowhere, below_of};
+ghost use Rattle.js_syntax.specs.Node.{Forest, Tree, nothing, nowhere, joined, below_of};
 ghost use Rattle.form_rules.specs.Samples.{a_module, a_script, a, binds, reads, one, does, declares, let_, function_a, block};
 ghost use Rattle.scope_rules.specs.Context.{body_of};
 ghost use Rattle.scope_rules.specs.Binding.{named_in};
@@ -10,9 +10,10 @@ ghost use Rattle.scope_laws.specs.Place.{plug};
 ghost use Rattle.steps_allowed.specs.Places.{a_node, At};
 ghost use Rattle.steps_allowed.specs.Free.{IsFree};
 ghost use Rattle.steps_allowed.specs.SilentStatement.{SilentStatement};
+ghost use Rattle.steps_allowed.specs.UnusedDeclaration.{a_declaration, SilentDeclaration};
 ghost use Rattle.steps_allowed.specs.KnownConditional.{KnownConditional};
 ghost use Rattle.steps_allowed.specs.Edits.{Edit, Edits};
-ghost use Rattle.steps_allowed.specs.Rows.{before, call_of_a, call_of_eval, null, if_one, if_null, conditional, depends_on_place, empty, a_is_read, a_is_exported};
+ghost use Rattle.steps_allowed.specs.Rows.{before, call_of_a, call_of_eval, null, if_one, if_null, conditional, depends_on_place, with_a, in_with_a, empty, a_is_read, a_is_exported};
 
 /// A statement of a literal becomes empty, in a list and alone, and leaves the list then.
 pub fn silent_statements_go()
@@ -25,6 +26,14 @@ pub fn silent_statements_go()
 pub fn calls_stay()
     ensures call { At (before []) (a_node Kind.ExpressionStatement nowhere call_of_a) (SilentStatement (a_module (does call_of_a ∷ [])) call_of_a) → ⊥ }
     ensures name { At (before []) (a_node Kind.ExpressionStatement nowhere (reads a)) (SilentStatement (a_module (does (reads a) ∷ [])) (reads a)) → ⊥ }
+{}
+
+/// Inside of a `with` statement a declared name isn't silent, since its object may answer, nor a declaration of a value, which may
+/// set a property of it.
+pub fn nothing_is_known_in_with()
+    ensures name { At in_with_a (a_node Kind.ExpressionStatement nowhere (reads a)) (SilentStatement (with_a (does (reads a))) (reads a)) → ⊥ }
+    ensures read { At in_with_a (a_declaration variable.Let nowhere nowhere nowhere nowhere a (reads a)) (SilentDeclaration (with_a (declares variable.Let (binds a) (reads a))) variable.Let nowhere nowhere (joined (binds a) (reads a))) → ⊥ }
+    ensures given { At in_with_a (a_declaration variable.Var nowhere nowhere nowhere nowhere a one) (SilentDeclaration (with_a (declares variable.Var (binds a) one)) variable.Var nowhere nowhere (joined (binds a) one)) → ⊥ }
 {}
 
 /// A variable and a function that nothing refers to go.
