@@ -4,7 +4,7 @@ use Rattle.js_syntax.specs.declared.node_kind.NodeKind.{NodeKind as Kind}
 use Rattle.js_syntax.specs.declared.kind.VariableKind.TheVariants as variable
 use Rattle.js_syntax.specs.declared.value.LiteralValue.TheVariants as value
 use Rattle.js_syntax.specs.Node.{Tree, nothing, absent, nowhere, joined}
-use Rattle.form_rules.specs.Samples.{a_module, a, binds, reads, one, does, declares, let_, function_a}
+use Rattle.form_rules.specs.Samples.{a_module, a, binds, reads, one, does, declares, let_, function_a, block}
 use Rattle.scope_rules.specs.Context.{body_of}
 use Rattle.scope_rules.specs.Binding.{named_in}
 use Rattle.scope_laws.specs.Place.{Around, first, behind, under}
@@ -16,7 +16,7 @@ use Rattle.steps_allowed.specs.EmptyStatement.{empty_statement_leaves}
 use Rattle.steps_allowed.specs.UnusedFunction.{unused_function_leaves}
 use Rattle.steps_allowed.specs.UnusedDeclaration.{a_declaration, SilentDeclaration, unused_declaration_leaves}
 use Rattle.steps_allowed.specs.KnownConditional.{KnownConditional, consequent_is_taken, alternate_is_taken}
-use Rattle.steps_allowed.specs.KnownIf.{consequent_is_run, alternate_is_run}
+use Rattle.steps_allowed.specs.KnownIf.{an_if, KnownIf, consequent_is_run, alternate_is_run}
 use Rattle.steps_allowed.specs.Edits.{Edit, leaves, becomes, empty_statement, silent_statement, unused_function, unused_declaration, known_conditional, known_if}
 use Rattle.steps_allowed.specs.Rows.{in_list, before, call_of_a, null, if_one, if_null, conditional, depends_on_place, with_a, in_with_a, empty, a_is_read, a_is_exported}
 
@@ -96,3 +96,11 @@ blunt_anywhere k h = refl
 pub branch_is_blunt : (x y : Tree) → KnownConditional x y → depends_on_place y.kind ≡ false
 branch_is_blunt x y (consequent_is_taken v n m i j k l b c truth blunt) = blunt_anywhere k blunt
 branch_is_blunt x y (alternate_is_taken v n m i j k l b c truth blunt) = blunt_anywhere l blunt
+
+pub alternate_stays : (y : Tree) → KnownIf (an_if nowhere nowhere (value.Number (pos 1)) (joined empty (block (function_a [] [] ∷ [])))) y → ⊥
+alternate_stays y (consequent_is_run v n m i k b alternate truth branch field none) = true≢false (sym none)
+alternate_stays y (alternate_is_run v n m i j k l b c truth branch none) = true≢false truth
+
+pub consequent_stays : (y : Tree) → KnownIf (an_if nowhere nowhere value.Null (joined (block (function_a [] [] ∷ [])) empty)) y → ⊥
+consequent_stays y (consequent_is_run v n m i k b alternate truth branch field none) = true≢false (sym truth)
+consequent_stays y (alternate_is_run v n m i j k l b c truth branch none) = true≢false (sym none)

@@ -1,7 +1,8 @@
 // Small programs that the definitions are tried on.
-ghost use Rattle.std.specs.Prelude.{[], ◌∷◌, None, false, true, ◌≡◌};
+ghost use Rattle.std.specs.Prelude.{pos, [], ◌∷◌, None, false, true, ◌≡◌};
 ghost use Rattle.js_syntax.specs.declared.kind.VariableKind.TheVariants as variable;
 ghost use Rattle.js_syntax.specs.declared.node_kind.NodeKind.{NodeKind as Kind};
+ghost use Rattle.js_syntax.specs.declared.value.LiteralValue.TheVariants as value;
 ghost use Rattle.js_syntax.specs.Node.{Forest, Tree, nothing, nowhere, joined, below_of};
 ghost use Rattle.form_rules.specs.Samples.{a_module, a_script, a, binds, reads, one, does, declares, let_, function_a, block};
 ghost use Rattle.scope_rules.specs.Context.{body_of};
@@ -12,6 +13,7 @@ ghost use Rattle.steps_allowed.specs.Free.{IsFree};
 ghost use Rattle.steps_allowed.specs.SilentStatement.{SilentStatement};
 ghost use Rattle.steps_allowed.specs.UnusedDeclaration.{a_declaration, SilentDeclaration};
 ghost use Rattle.steps_allowed.specs.KnownConditional.{KnownConditional};
+ghost use Rattle.steps_allowed.specs.KnownIf.{an_if, KnownIf};
 ghost use Rattle.steps_allowed.specs.Edits.{Edit, Edits};
 ghost use Rattle.steps_allowed.specs.Rows.{before, call_of_a, call_of_eval, null, if_one, if_null, conditional, depends_on_place, with_a, in_with_a, empty, a_is_read, a_is_exported};
 
@@ -54,6 +56,13 @@ pub fn known_branches_are_taken()
     ensures alternate { Edit (a_module (does (conditional null (reads a) call_of_a) ∷ [])) (a_module (does call_of_a ∷ [])) }
     ensures if_holds { Edit (a_module (if_one (does call_of_a) ∷ [])) (a_module (does call_of_a ∷ [])) }
     ensures if_fails { Edit (a_module (if_null empty (does call_of_a) ∷ [])) (a_module (does call_of_a ∷ [])) }
+{}
+
+/// A branch that declares a function isn't left out, in a block either: in code that isn't strict its name is one of the
+/// function around too (B.3.2), even where the block never runs.
+pub fn branches_that_declare_stay()
+    ensures alternate { (y : Tree) → KnownIf (an_if nowhere nowhere (value.Number (pos 1)) (joined empty (block (function_a [] [] ∷ [])))) y → ⊥ }
+    ensures consequent { (y : Tree) → KnownIf (an_if nowhere nowhere value.Null (joined (block (function_a [] [] ∷ [])) empty)) y → ⊥ }
 {}
 
 /// But no name comes out of a conditional, no member, alone, in a chain or in parentheses, and no function or class: called
