@@ -1,8 +1,9 @@
 // Small programs that the definitions are tried on.
-ghost use Rattle.std.specs.Prelude.{[], ◌∷◌, None, false, true, ◌≡◌};
+ghost use Rattle.std.specs.Prelude.{pos, [], ◌∷◌, None, false, true, ◌≡◌};
 ghost use Rattle.js_syntax.specs.declared.kind.VariableKind.TheVariants as variable;
 ghost use Rattle.js_syntax.specs.declared.node_kind.NodeKind.{NodeKind as Kind};
-ghost use Rattle.js_syntax.specs.Node.{Forest, nothing, nowhere, below_of};
+ghost use Rattle.js_syntax.specs.declared.value.LiteralValue.TheVariants as value;
+ghost use Rattle.js_syntax.specs.Node.{Forest, Tree, nothing, nowhere, joined, below_of};
 ghost use Rattle.form_rules.specs.Samples.{a_module, a_script, a, binds, reads, one, does, declares, let_, function_a, block};
 ghost use Rattle.scope_rules.specs.Context.{body_of};
 ghost use Rattle.scope_rules.specs.Binding.{named_in};
@@ -10,8 +11,11 @@ ghost use Rattle.scope_laws.specs.Place.{plug};
 ghost use Rattle.steps_allowed.specs.Places.{a_node, At};
 ghost use Rattle.steps_allowed.specs.Free.{IsFree};
 ghost use Rattle.steps_allowed.specs.SilentStatement.{SilentStatement};
+ghost use Rattle.steps_allowed.specs.UnusedDeclaration.{a_declaration, SilentDeclaration};
+ghost use Rattle.steps_allowed.specs.KnownConditional.{KnownConditional};
+ghost use Rattle.steps_allowed.specs.KnownIf.{an_if, KnownIf};
 ghost use Rattle.steps_allowed.specs.Edits.{Edit, Edits};
-ghost use Rattle.steps_allowed.specs.Rows.{before, call_of_a, call_of_eval, if_one, empty, a_is_read, a_is_exported};
+ghost use Rattle.steps_allowed.specs.Rows.{before, call_of_a, call_of_eval, null, if_one, if_null, conditional, depends_on_place, with_a, in_with_a, empty, a_is_read, a_is_exported};
 
 /// A statement of a literal becomes empty, in a list and alone, and leaves the list then.
 pub fn silent_statements_go()
@@ -26,6 +30,14 @@ pub fn calls_stay()
     ensures name { At (before []) (a_node Kind.ExpressionStatement nowhere (reads a)) (SilentStatement (a_module (does (reads a) ∷ [])) (reads a)) → ⊥ }
 {}
 
+/// Inside of a `with` statement a declared name isn't silent, since its object may answer, nor a declaration of a value, which may
+/// set a property of it.
+pub fn nothing_is_known_in_with()
+    ensures name { At in_with_a (a_node Kind.ExpressionStatement nowhere (reads a)) (SilentStatement (with_a (does (reads a))) (reads a)) → ⊥ }
+    ensures read { At in_with_a (a_declaration variable.Let nowhere nowhere nowhere nowhere a (reads a)) (SilentDeclaration (with_a (declares variable.Let (binds a) (reads a))) variable.Let nowhere nowhere (joined (binds a) (reads a))) → ⊥ }
+    ensures given { At in_with_a (a_declaration variable.Var nowhere nowhere nowhere nowhere a one) (SilentDeclaration (with_a (declares variable.Var (binds a) one)) variable.Var nowhere nowhere (joined (binds a) one)) → ⊥ }
+{}
+
 /// A variable and a function that nothing refers to go.
 pub fn what_is_free_goes()
     ensures variable { Edit (a_module (let_ a ∷ [])) (a_module []) }
@@ -36,4 +48,25 @@ pub fn what_is_free_goes()
 pub fn what_is_used_stays()
     ensures read { IsFree a_is_read (named_in a (body_of 0)) → ⊥ }
     ensures exported { IsFree a_is_exported (named_in a (body_of 0)) → ⊥ }
+{}
+
+/// A conditional and an `if` on a literal become the branch that is taken.
+pub fn known_branches_are_taken()
+    ensures consequent { Edit (a_module (does (conditional one call_of_a (reads a)) ∷ [])) (a_module (does call_of_a ∷ [])) }
+    ensures alternate { Edit (a_module (does (conditional null (reads a) call_of_a) ∷ [])) (a_module (does call_of_a ∷ [])) }
+    ensures if_holds { Edit (a_module (if_one (does call_of_a) ∷ [])) (a_module (does call_of_a ∷ [])) }
+    ensures if_fails { Edit (a_module (if_null empty (does call_of_a) ∷ [])) (a_module (does call_of_a ∷ [])) }
+{}
+
+/// A branch that declares a function isn't left out, in a block either: in code that isn't strict its name is one of the
+/// function around too (B.3.2), even where the block never runs.
+pub fn branches_that_declare_stay()
+    ensures alternate { (y : Tree) → KnownIf (an_if nowhere nowhere (value.Number (pos 1)) (joined empty (block (function_a [] [] ∷ [])))) y → ⊥ }
+    ensures consequent { (y : Tree) → KnownIf (an_if nowhere nowhere value.Null (joined (block (function_a [] [] ∷ [])) empty)) y → ⊥ }
+{}
+
+/// But no name comes out of a conditional, no member, alone, in a chain or in parentheses, and no function or class: called
+/// there, deleted or given a name, it would do something else.
+pub fn what_depends_on_its_place_stays()
+    ensures { (x y : Tree) → KnownConditional x y → depends_on_place y.kind ≡ false }
 {}

@@ -1,5 +1,13 @@
 -- What the headline refuses of the small modules.
-use Rattle.std.proofs.Common.{◌≡◌, ◌∙◌, ◌⊎◌, inl, inr, Bool, true, false, true≢false, List, [], ◌∷◌, refl, sym, ap, subst}
+use Rattle.std.proofs.Common.{◌≡◌, ◌∙◌, ◌⊎◌, inl, inr, Bool, true, false, true≢false, List, [], ◌∷◌, refl, sym, ap, subst, arith}
+use Rattle.js_syntax.specs.declared.kind.VariableKind.TheVariants as variable
+use Rattle.js_syntax.specs.Node.{Forest, bare, total}
+use Rattle.form_rules.specs.Samples.{a_module, a_script, a, binds, one, does, declares, function_a}
+use Rattle.scope_rules.specs.Mark.{own_binding}
+use Rattle.steps_allowed.specs.Changing.{may_change_somewhere}
+use Rattle.steps_allowed.specs.Rows.{call_of_eval}
+use Rattle.steps_allowed.specs.Edits.{Edits}
+use Rattle.steps_owed.proofs.Edited.{nothing_changes}
 use Rattle.js_meaning.specs.Trace.{Act, ShownExport, Event, Ending, ended, Run}
 use Rattle.js_meaning.specs.Kept.{Kept, KeptBack, Keeps, ComesBack}
 use Rattle.headline.specs.Headline.{Headline}
@@ -63,3 +71,20 @@ loop_stays k = out_or_same _ refl (back_computed _ _ _ _ loop_runs (empty_runs 0
 
 pub dead_goes : Headline row.dead row.dead → ⊥
 dead_goes h = number_is_dead h.clean
+
+-- ---- what others may use: where nothing may change, as many names are declared as before
+
+same_declared : (t u : Forest) → may_change_somewhere t ≡ false → Edits t u → total own_binding (bare t) ≡ total own_binding (bare u)
+same_declared t u still edits = ap (total own_binding) (nothing_changes t u still edits)
+
+pub function_beside_eval : Edits (a_module (function_a [] [] ∷ does call_of_eval ∷ [])) (a_module (does call_of_eval ∷ [])) → ⊥
+function_beside_eval edits = let e : 1 ≡ 0 = same_declared (a_module (function_a [] [] ∷ does call_of_eval ∷ [])) (a_module (does call_of_eval ∷ [])) refl edits in Prim.omega (arith, e)
+
+pub declarator_beside_eval : Edits row.of_two_evaluated row.of_one_evaluated → ⊥
+declarator_beside_eval edits = let e : 2 ≡ 1 = same_declared row.of_two_evaluated row.of_one_evaluated refl edits in Prim.omega (arith, e)
+
+pub variable_of_script : Edits (a_script (declares variable.Let (binds a) one ∷ [])) (a_script []) → ⊥
+variable_of_script edits = let e : 1 ≡ 0 = same_declared (a_script (declares variable.Let (binds a) one ∷ [])) (a_script []) refl edits in Prim.omega (arith, e)
+
+pub declarator_of_script : Edits row.of_two_in_script row.of_one_in_script → ⊥
+declarator_of_script edits = let e : 2 ≡ 1 = same_declared row.of_two_in_script row.of_one_in_script refl edits in Prim.omega (arith, e)

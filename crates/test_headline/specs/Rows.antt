@@ -6,7 +6,7 @@ use Rattle.js_syntax.specs.declared.operator.UnaryOperator.TheVariants as unary
 use Rattle.js_syntax.specs.declared.value.LiteralValue.{LiteralValue as Literal}
 use Rattle.js_syntax.specs.Node.{Forest, joined}
 use Rattle.form_rules.specs.Samples as form
-use Rattle.steps_allowed.specs.Rows.{call_of_a, exports_declaration}
+use Rattle.steps_allowed.specs.Rows.{call_of_a, call_of_eval, exports_declaration}
 use Rattle.js_meaning.specs.Samples as sample
 use Rattle.js_meaning.specs.Examples.{g, function_g, says_number}
 
@@ -52,10 +52,28 @@ with_negative = sample.a_module (sample.says (sample.leaf (Kind.Literal (Literal
 abbrev pub with_minus : Forest
 with_minus = sample.a_module (sample.says (sample.over (Kind.UnaryExpression unary.UnaryNegation) (sample.number_of 4) ∷ []) ∷ [])
 
+-- let a, b;
+abbrev pub lets_two : Forest
+lets_two = form.over (Kind.VariableDeclaration variable.Let) (form.listed Kind.Declarators (form.over Kind.VariableDeclarator (joined (form.binds form.a) form.no) ∷ form.over Kind.VariableDeclarator (joined (form.binds (codes "b")) form.no) ∷ []))
+
 -- a(); let a, b;
 abbrev pub of_two : Forest
-of_two =
-    form.a_module (form.does call_of_a ∷ form.over (Kind.VariableDeclaration variable.Let) (form.listed Kind.Declarators (form.over Kind.VariableDeclarator (joined (form.binds form.a) form.no) ∷ form.over Kind.VariableDeclarator (joined (form.binds (codes "b")) form.no) ∷ [])) ∷ [])
+of_two = form.a_module (form.does call_of_a ∷ lets_two ∷ [])
+
+-- let a, b; eval();
+abbrev pub of_two_evaluated : Forest
+of_two_evaluated = form.a_module (lets_two ∷ form.does call_of_eval ∷ [])
+
+-- let a; eval();
+abbrev pub of_one_evaluated : Forest
+of_one_evaluated = form.a_module (form.let_ form.a ∷ form.does call_of_eval ∷ [])
+
+-- let a, b; in a script
+abbrev pub of_two_in_script : Forest
+of_two_in_script = form.a_script (lets_two ∷ [])
+
+abbrev pub of_one_in_script : Forest
+of_one_in_script = form.a_script (form.let_ form.a ∷ [])
 
 -- { export let a; function a() {} }
 abbrev pub misplaced_export : Forest

@@ -38,13 +38,17 @@ pub fn endless_loops_stay()
     ensures refused { Headline row.never_ends row.empty → ⊥ }
 {}
 
-/// Nor does what other code may use go: a variable beside a direct call of `eval`, a function of a script, and one in a
-/// block of sloppy code. No run tells, since the call is of a function of the host, and scripts have no runs;
-/// the list of changes does.
+/// Nor does what other code may use go: a variable, a function and one of two declarators beside a direct call of `eval`,
+/// a function of a script, one in a block of sloppy code, and a variable and one of two declarators of a script. No run
+/// tells, since the call is of a function of the host, and scripts have no runs; the list of changes does.
 pub fn what_others_may_use_stays()
     ensures evaluated { Headline (a_module (declares variable.Let (binds a) one ∷ does call_of_eval ∷ [])) (a_module (does call_of_eval ∷ [])) → ⊥ }
+    ensures function { Headline (a_module (function_a [] [] ∷ does call_of_eval ∷ [])) (a_module (does call_of_eval ∷ [])) → ⊥ }
+    ensures declarator { Headline row.of_two_evaluated row.of_one_evaluated → ⊥ }
     ensures global { Headline (a_script (function_a [] [] ∷ [])) (a_script []) → ⊥ }
     ensures sloppy { Headline (a_script (block (function_a [] [] ∷ []) ∷ [])) (a_script (block [] ∷ [])) → ⊥ }
+    ensures variable { Headline (a_script (declares variable.Let (binds a) one ∷ [])) (a_script []) → ⊥ }
+    ensures shared { Headline row.of_two_in_script row.of_one_in_script → ⊥ }
 {}
 
 /// `1;` doesn't stay.
