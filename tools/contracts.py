@@ -53,7 +53,7 @@ def items_of(file):
             owner = inside = ''
         block = re.match(r'(pub trait|impl(?:<.*?>)?) (.*?)(?:<.*)?(?: where.*)? \{$', line)
         said = ITEM.match(bare)
-        method = inside == 'trait' and re.match(r'fn (\w+)', bare)
+        method = inside == 'trait' and re.match(r'(?:final )?fn (\w+)', bare)
         if said and said[1] not in ('mod', 'use'):
             clauses = clauses_below(lines, at) if said[1] == 'fn' else []
             found.append(Item(said[1], said[2], owner, doc, clauses))
