@@ -1,5 +1,5 @@
 -- In trees that fit the table of node types expressions declare no name outside of functions and classes.
-use Rattle.std.proofs.Common.{◌≡◌, ◌∙◌, ℕ, suc, [], ◌∷◌, Bool, true, false, not, ◌&&◌, ◌||◌, inl, inr, refl, sym, ap}
+use Rattle.std.proofs.Common.{◌≡◌, ◌∙◌, ℕ, suc, [], ◌∷◌, Bool, true, false, not, ◌&&◌, ◌||◌, inl, inr, refl, sym, ap, true≢false}
 use Rattle.std.specs.Prelude.{Some}
 use Rattle.js_syntax.specs.Class.{Class, root, a_prologue, method_value, private_key, expression, expression_or_private, callee, argument, object_item, chain_part, template, quasi_item, simple_target, target, target_value, target_element, target_item}
 use Rattle.js_syntax.specs.declared.node_kind.NodeKind.{NodeKind as Kind}
@@ -166,14 +166,14 @@ Three t = Stand (these (one expression ∷ one expression ∷ one expression ∷
 
 row_three : (r : Row) (vs : Values (fields_of r)) (private : Bool) (a : Forest) → is_conditional (kind_in r vs) ≡ true → Stand (these (places private (fields_of r) vs)) a → Three a
 row_three a_conditional_expression vs private a h st = st
-row_three r vs private a h st = absurd cc
+row_three r vs private a h st = absurd (true≢false (sym h))
 
 three_of : (a : Forest) (c : Class) (k : Kind) → is_conditional k ≡ true → IsOf k a (λ p. Stand p a) c → Three a
 three_of a c k h of = row_three of.0 of.1 (has is_private a) a (ap is_conditional (sym of.4) ∙ h) of.5
 
 no_list : (kind : Kind) → is_list_kind kind ≡ true → is_conditional kind ≡ true → ⊥
 no_list conditional_expression h e = absurd cc
-no_list kind h e = absurd cc
+no_list kind h e = true≢false (sym e)
 
 three_at : (a : Forest) (p : Place) (k : Kind) → is_sound p ≡ true → is_conditional k ≡ true → IsAt k a (λ p. Stand p a) p → Three a
 three_at a (one c) k s h of = three_of a c k h of

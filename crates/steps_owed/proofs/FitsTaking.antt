@@ -1,5 +1,5 @@
 -- Which nodes may take the place of others: a part of a choice that of the choice, an empty statement that of one of an expression.
-use Rattle.std.proofs.Common.{◌≡◌, [], ◌∷◌, Bool, true, false, Some, sym, ap}
+use Rattle.std.proofs.Common.{◌≡◌, [], ◌∷◌, Bool, true, false, Some, sym, ap, true≢false}
 use Rattle.js_syntax.specs.Class.{Class, module_item, statement, expression, arrow_body, for_init, default_export, expression_or_private, callee, argument}
 use Rattle.js_syntax.specs.declared.node_kind.NodeKind.{NodeKind as Kind}
 use Rattle.js_syntax.specs.declared.node_kind.NodeKind.TheVariants.{ConditionalExpression as conditional_expression, IfStatement as if_statement}
@@ -59,22 +59,22 @@ is_if k = false
 conditional_class : (c : Class) (r : TableRow) (vs : Values (fields_of r)) → is_conditional (kind_in r vs) ≡ true → stands c (type_of r) ≡ Some (first_of r)
     → stands c type.ConditionalExpression ≡ Some a_conditional_expression
 conditional_class c a_conditional_expression vs is stood = stood
-conditional_class c r vs is stood = absurd cc
+conditional_class c r vs is stood = absurd (true≢false (sym is))
 
 conditional_parts : (private : Bool) (r : TableRow) (vs : Values (fields_of r)) (parts : Forest) → is_conditional (kind_in r vs) ≡ true → Stand (these (places private (fields_of r) vs)) parts
     → Stand (these (one expression ∷ one expression ∷ one expression ∷ [])) parts
 conditional_parts private a_conditional_expression vs parts is stand = stand
-conditional_parts private r vs parts is stand = absurd cc
+conditional_parts private r vs parts is stand = absurd (true≢false (sym is))
 
 if_class : (c : Class) (r : TableRow) (vs : Values (fields_of r)) → is_if (kind_in r vs) ≡ true → stands c (type_of r) ≡ Some (first_of r)
     → stands c type.IfStatement ≡ Some an_if_statement
 if_class c an_if_statement vs is stood = stood
-if_class c r vs is stood = absurd cc
+if_class c r vs is stood = absurd (true≢false (sym is))
 
 if_parts : (private : Bool) (r : TableRow) (vs : Values (fields_of r)) (parts : Forest) → is_if (kind_in r vs) ≡ true → Stand (these (places private (fields_of r) vs)) parts
     → Stand (these (one expression ∷ one statement ∷ maybe_one statement ∷ [])) parts
 if_parts private an_if_statement vs parts is stand = stand
-if_parts private r vs parts is stand = absurd cc
+if_parts private r vs parts is stand = absurd (true≢false (sym is))
 
 -- a conditional, or an `if`, that fits stands where its class may, and its parts stand
 module _ (c : Class) (n : Note) (below : Forest) where

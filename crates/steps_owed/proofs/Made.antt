@@ -75,10 +75,18 @@ made_there (under k n a rest) x plan calm h st =
 
 -- ---- what stands below some
 
+abbrev is_conditional : Kind → Bool
+is_conditional Kind.ConditionalExpression = true
+is_conditional k = false
+
+abbrev is_object : Kind → Bool
+is_object Kind.ObjectExpression = true
+is_object k = false
+
 row_of_conditional : (r : Row) (vs : Values (fields_of r)) (private : Bool) (a : Forest)
     → Kind.ConditionalExpression ≡ kind_in r vs → Stand (these (places private (fields_of r) vs)) a → Stand (these (one expression ∷ one expression ∷ one expression ∷ [])) a
 row_of_conditional a_conditional_expression vs private a is st = st
-row_of_conditional r vs private a is st = absurd cc
+row_of_conditional r vs private a is st = absurd (true≢false (ap is_conditional is))
 
 pub conditional_stands : (a : Forest) → MadeBy Kind.ConditionalExpression a → Stand (these (one expression ∷ one expression ∷ one expression ∷ [])) a
 conditional_stands a made = row_of_conditional made.row made.values (has is_private a) a made.is made.stands
@@ -86,7 +94,7 @@ conditional_stands a made = row_of_conditional made.row made.values (has is_priv
 row_of_object : (r : Row) (vs : Values (fields_of r)) (private : Bool) (a : Forest)
     → Kind.ObjectExpression ≡ kind_in r vs → Stand (these (places private (fields_of r) vs)) a → Stand (these (list Kind.Properties object_item ∷ [])) a
 row_of_object an_object_expression vs private a is st = st
-row_of_object r vs private a is st = absurd cc
+row_of_object r vs private a is st = absurd (true≢false (ap is_object is))
 
 pub object_stands : (a : Forest) → MadeBy Kind.ObjectExpression a → Stand (these (list Kind.Properties object_item ∷ [])) a
 object_stands a made = row_of_object made.row made.values (has is_private a) a made.is made.stands
