@@ -1,5 +1,5 @@
 -- What stands above the children of a node, as far as walks ask.
-use Rattle.std.specs.Prelude.{ℕ, ◌==◌, not, ◌&&◌, Bool, true, false, Option, Some, None, if◌then◌else◌}
+use Rattle.std.specs.Prelude.{ℕ, ◌==◌, not, Bool, true, false}
 use Rattle.js_syntax.specs.declared.node_kind.NodeKind.{NodeKind as Kind}
 use Rattle.js_syntax.specs.declared.kind.MethodKind.{MethodKind}
 use Rattle.js_syntax.specs.declared.kind.MethodKind.TheVariants as method_kind
@@ -57,6 +57,7 @@ parent_of Kind.ParenthesizedExpression = parent.ParenthesizedExpression
 parent_of Kind.TaggedTemplateExpression = parent.TaggedTemplateExpression
 parent_of (Kind.ExportNamedDeclaration source) = parent.ExportNamedDeclaration
 parent_of Kind.ExportDefaultDeclaration = parent.ExportDefaultDeclaration
+parent_of Kind.Statements = parent.Statements
 parent_of k = parent.Other
 
 -- which children lie in the scope that a node of this kind makes, if it makes one (ECMA-262 9.1): a name that a function

@@ -32,3 +32,14 @@ pub record Edited (c : Seen) (x y : Tree) (asks : Bool) (d : Seen) : Type 0 wher
   pub asked : d.requested ≡ (c.requested || asks)
   -- a call that asks for nothing did nothing
   pub none : asks ≡ false → d ≡ c
+
+-- The same, and another pass is asked for.
+pub record Dropped (c : Seen) (gone : ℕ → ℕ) (calls : ℕ) (d : Seen) : Type 0 where
+  pub same : d ≡ record c { marked = d.marked; eval_dropped = d.eval_dropped; requested = true }
+  pub room : length d.marked ≡ length c.marked
+  pub marks : (r : ℕ) → r < length c.marked → has d.marked r ≡ (has c.marked r || nat_lt 0 (gone r))
+  pub evals : d.eval_dropped ≡ (c.eval_dropped || nat_lt 0 calls)
+
+-- a node and all below it left
+abbrev pub DropsNode : Seen → Tree → Seen → Type 0
+DropsNode c x d = Dropped c (λ r. ids r (forest_of x)) (evals (forest_of x)) d

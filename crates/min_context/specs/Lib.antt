@@ -1,5 +1,9 @@
 pub mod Options
 pub mod Above
 pub mod Place
+pub mod Ancestry
+pub mod State
 pub mod Seen
+pub mod Left
 pub mod Edited
+pub mod Asked

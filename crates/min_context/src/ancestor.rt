@@ -48,7 +48,9 @@ pub enum Parent {
     TaggedTemplateExpression,
     ExportNamedDeclaration,
     ExportDefaultDeclaration,
-    /// Any other node, a list of nodes among them.
+    /// A list of statements, which is a field of the node above it.
+    Statements,
+    /// Any other node, other lists among them.
     Other,
 }
 
@@ -122,7 +124,9 @@ fn parent_of(kind: &NodeKind) -> Parent
         NodeKind::PropertyDefinition { .. } => Parent::PropertyDefinition,
         NodeKind::StaticBlock => Parent::StaticBlock,
         NodeKind::Property {
-            kind, is_method, ..
+            kind,
+            is_method,
+            ..
         } => Parent::Property(holds_method(*kind, *is_method)),
         NodeKind::BindingProperty(_) | NodeKind::TargetProperty(_) => Parent::PatternProperty,
         NodeKind::SequenceExpression => Parent::SequenceExpression,
@@ -136,6 +140,7 @@ fn parent_of(kind: &NodeKind) -> Parent
         NodeKind::TaggedTemplateExpression => Parent::TaggedTemplateExpression,
         NodeKind::ExportNamedDeclaration(_) => Parent::ExportNamedDeclaration,
         NodeKind::ExportDefaultDeclaration => Parent::ExportDefaultDeclaration,
+        NodeKind::Statements => Parent::Statements,
         _ => Parent::Other,
     }
 }

@@ -2,10 +2,14 @@
 ghost use Rattle.std.specs.Prelude.{◌≡◌, ◌++◌, [], ◌∷◌, OnOk, OnErr, List, true};
 ghost use Rattle.min_context.specs.declared.ancestor.Ancestor.{Ancestor};
 ghost use Rattle.min_context.specs.Above.{is_within};
+ghost use Rattle.min_context.specs.Asked.{seen_of, is_tree_shake_only, is_global};
 ghost use Rattle.min_context.specs.Place.{Place, inside, number_or, scope_inside, told_of};
 
 use crate::ancestor::{Above, Ancestor, Parent, Within};
-use crate::state::MinifierState;
+use crate::options::CompressOptions;
+use crate::state::{CompressionMode, MinifierState};
+use js_syntax::{ReferenceId, SourceType};
+use js_tree::Node;
 use scope_table::Scoping;
 use std::alloc::{AllocError, Global};
 use std::marker::Model;
@@ -45,15 +49,15 @@ impl Model for MinifierTraverseCtx {
     ghost Value = { Seen };
 
     ghost view = { λ c. record {
-        scoping = c.scoping;
-        marked = c.state.pass_changes.marked;
-        eval_dropped = c.state.pass_changes.eval_dropped;
-        requested = c.state.pass_changes.requested;
-        source_type = c.state.source_type;
-        options = c.state.options;
-        mode = c.state.mode;
-        frames = c.state.body_frames.items;
-        place = record { ancestors = c.ancestors.items; scope = c.scopes.scope; hoist_scope = c.scopes.hoist_scope; block_scope = c.scopes.block_scope };
+      scoping = c.scoping;
+      marked = c.state.pass_changes.marked;
+      eval_dropped = c.state.pass_changes.eval_dropped;
+      requested = c.state.pass_changes.requested;
+      source_type = c.state.source_type;
+      options = c.state.options;
+      mode = c.state.mode;
+      frames = c.state.body_frames.items;
+      place = record { ancestors = c.ancestors.items; scope = c.scopes.scope; hoist_scope = c.scopes.hoist_scope; block_scope = c.scopes.block_scope };
     } };
 }
 
@@ -96,6 +100,96 @@ fn told_of(parent: Parent, at: u32, previous: bool) -> Parent
 }
 
 impl MinifierTraverseCtx {
+    // At no place of the program.
+    pub(crate) fn at_rest(
+        alloc: Global,
+        state: MinifierState,
+        scoping: Scoping,
+    ) -> MinifierTraverseCtx
+        ensures rest { result ≡ seen_of state scoping }
+    {
+        MinifierTraverseCtx {
+            alloc,
+            scoping,
+            state,
+            ancestors: Vec::new(alloc),
+            scopes: CurrentScopes {
+                scope: 0,
+                hoist_scope: 0,
+                block_scope: 0,
+            },
+        }
+    }
+
+    pub(crate) fn into_scoping(self) -> Scoping
+        ensures scoping { result ≡ self.scoping }
+    {
+        let MinifierTraverseCtx {
+            alloc: _,
+            scoping,
+            state: _,
+            ancestors: _,
+            scopes: _,
+        } = self;
+        scoping
+    }
+
+    /// The table of scopes, symbols and references.
+    pub fn scoping(&self) -> &Scoping
+        ensures scoping { result.now ≡ self.now.scoping }
+    {
+        &self.scoping
+    }
+
+    /// How the run compresses.
+    pub fn options(&self) -> &CompressOptions
+        ensures options { result.now ≡ self.now.options }
+    {
+        &self.state.options
+    }
+
+    /// What the program is.
+    pub fn source_type(&self) -> SourceType
+        ensures source_type { result ≡ self.now.source_type }
+    {
+        self.state.source_type
+    }
+
+    /// Whether dead code alone is taken out.
+    pub fn is_tree_shake_only(&self) -> bool
+        ensures only { result ≡ is_tree_shake_only self.now.mode }
+    {
+        matches!(self.state.mode, CompressionMode::TreeShakeOnly)
+    }
+
+    /// Whether another pass is asked for.
+    pub fn revisit_requested(&self) -> bool
+        ensures requested { result ≡ self.now.requested }
+    {
+        self.state.pass_changes.revisit_requested()
+    }
+
+    /// Whether a direct call of `eval` left.
+    pub fn direct_eval_dropped(&self) -> bool
+        ensures dropped { result ≡ self.now.eval_dropped }
+    {
+        self.state.pass_changes.direct_eval_dropped()
+    }
+
+    /// Whether a reference means a name that nothing declares. A node without the number of a reference is taken for one.
+    pub fn is_global_reference(&self, reference: &Node) -> bool
+        ensures global { result ≡ is_global self.now.scoping reference.now.note.id }
+    {
+        match reference.id() {
+            Some(id) if (id as usize) < self.scoping.references_len() => self
+                .scoping
+                .get_reference(ReferenceId(id))
+                .symbol_id()
+                .is_none(),
+            _ => true,
+        }
+    }
+
     /// What takes memory for the program takes it from here.
     pub fn alloc(&self) -> Global {
         self.alloc

@@ -7,14 +7,20 @@
 #![tactic(auto)]
 
 mod ancestor;
+mod ancestry;
 mod context;
+mod edits;
+mod marks;
 mod options;
+mod reusable;
 mod state;
 
 pub use ancestor::{Above, Ancestor, Parent, Within};
+pub use ancestry::Ancestors;
 pub use context::{CurrentScopes, MinifierTraverseCtx};
 pub use options::{
     CompressOptions, CompressOptionsKeepNames, CompressOptionsUnused, PropertyReadSideEffects,
     TreeShakeOptions,
 };
+pub use reusable::ReusableMinifierTraverseCtx;
 pub use state::{BodyFrame, CompressionMode, MinifierState};

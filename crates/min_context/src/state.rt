@@ -1,8 +1,12 @@
 // What passes know beside the table.
-use js_syntax::{ScopeId, SourceType};
+ghost use Rattle.std.specs.Prelude.{◌≡◌, [], length, false, IfOk};
+ghost use Rattle.min_context.specs.State.{Begins};
 
 use crate::options::CompressOptions;
+use js_syntax::{ScopeId, SourceType};
 use min_symbols::PassChanges;
+use scope_table::Scoping;
+use std::alloc::{AllocError, Global};
 
 /// Which rewritings a run does.
 #[derive(Clone, Copy)]
@@ -42,5 +46,28 @@ impl Drop for MinifierState {
             body_frames: _,
             pass_changes: _,
         } = self;
+    }
+}
+
+impl MinifierState {
+    /// What passes know before the first of them: there is room for a mark of each reference of the table. It fails only for
+    /// want of memory.
+    pub fn new(
+        alloc: Global,
+        source_type: SourceType,
+        options: CompressOptions,
+        mode: CompressionMode,
+        scoping: &Scoping,
+    ) -> Result<MinifierState, AllocError>
+        ensures begins { IfOk result (λ s. Begins source_type options mode (length scoping.now.references) s) }
+    {
+        let pass_changes = PassChanges::new(alloc, scoping.references_len() as u32)?;
+        Ok(MinifierState {
+            source_type,
+            options,
+            mode,
+            body_frames: Vec::new(alloc),
+            pass_changes,
+        })
     }
 }
