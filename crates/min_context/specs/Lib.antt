@@ -7,3 +7,4 @@ pub mod Seen
 pub mod Left
 pub mod Edited
 pub mod Asked
+pub mod Replacing

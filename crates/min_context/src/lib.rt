@@ -12,6 +12,7 @@ mod context;
 mod edits;
 mod marks;
 mod options;
+mod replacing;
 mod reusable;
 mod state;
 
