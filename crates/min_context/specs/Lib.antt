@@ -8,3 +8,4 @@ pub mod Left
 pub mod Edited
 pub mod Asked
 pub mod Replacing
+pub mod Collecting

@@ -8,6 +8,7 @@
 
 mod ancestor;
 mod ancestry;
+mod collector;
 mod context;
 mod edits;
 mod marks;
@@ -18,6 +19,7 @@ mod state;
 
 pub use ancestor::{Above, Ancestor, Parent, Within};
 pub use ancestry::Ancestors;
+pub use collector::{DroppedSubtreeCollector, a_walk_marks_what_it_meets};
 pub use context::{CurrentScopes, MinifierTraverseCtx};
 pub use options::{
     CompressOptions, CompressOptionsKeepNames, CompressOptionsUnused, PropertyReadSideEffects,
