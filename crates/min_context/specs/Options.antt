@@ -41,3 +41,24 @@ IsSafest o = HasOptions o false true Keep all_kept
 
 abbrev pub IsDce : CompressOptions → Type 0
 IsDce o = HasOptions o false false Remove all_kept
+
+-- ---- copies: the same options, whatever room their lists have
+
+pub record SameTreeShake (a b : TreeShakeOptions) : Type 0 where
+  pub annotations : a.annotations ≡ b.annotations
+  pub manual_pure_functions : a.manual_pure_functions.items ≡ b.manual_pure_functions.items
+  pub property_read_side_effects : a.property_read_side_effects ≡ b.property_read_side_effects
+  pub property_write_side_effects : a.property_write_side_effects ≡ b.property_write_side_effects
+  pub unknown_global_side_effects : a.unknown_global_side_effects ≡ b.unknown_global_side_effects
+  pub invalid_import_side_effects : a.invalid_import_side_effects ≡ b.invalid_import_side_effects
+
+pub record SameOptions (a b : CompressOptions) : Type 0 where
+  pub drop_debugger : a.drop_debugger ≡ b.drop_debugger
+  pub drop_console : a.drop_console ≡ b.drop_console
+  pub join_vars : a.join_vars ≡ b.join_vars
+  pub sequences : a.sequences ≡ b.sequences
+  pub unused : a.unused ≡ b.unused
+  pub keep_names : a.keep_names ≡ b.keep_names
+  pub treeshake : SameTreeShake a.treeshake b.treeshake
+  pub drop_labels : a.drop_labels.items ≡ b.drop_labels.items
+  pub max_iterations : a.max_iterations ≡ b.max_iterations

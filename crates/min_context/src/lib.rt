@@ -10,6 +10,7 @@ mod ancestor;
 mod ancestry;
 mod collector;
 mod context;
+mod copies;
 mod edits;
 mod marks;
 mod options;
