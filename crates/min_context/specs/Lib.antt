@@ -1,4 +1,3 @@
-pub mod Options
 pub mod Above
 pub mod Place
 pub mod Ancestry

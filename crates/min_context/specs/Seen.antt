@@ -3,7 +3,7 @@ use Rattle.std.specs.Prelude.{Bool, List}
 use Rattle.js_syntax.specs.declared.scalar.SourceType.{SourceType}
 use Rattle.scope_rules.specs.Table.{Scoping}
 use Rattle.min_context.specs.Place.{Place, outside}
-use Rattle.min_context.specs.declared.options.CompressOptions.{CompressOptions}
+use Rattle.min_options.specs.declared.options.CompressOptions.{CompressOptions}
 use Rattle.min_context.specs.declared.state.BodyFrame.{BodyFrame}
 use Rattle.min_context.specs.declared.state.CompressionMode.{CompressionMode}
 

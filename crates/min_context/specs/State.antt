@@ -2,7 +2,7 @@
 use Rattle.std.specs.Prelude.{◌≡◌, ℕ, [], false}
 use Rattle.js_syntax.specs.declared.scalar.SourceType.{SourceType}
 use Rattle.symbol_sets.specs.Numbers.{none_below}
-use Rattle.min_context.specs.declared.options.CompressOptions.{CompressOptions}
+use Rattle.min_options.specs.declared.options.CompressOptions.{CompressOptions}
 use Rattle.min_context.specs.declared.state.CompressionMode.{CompressionMode}
 use Rattle.min_context.specs.declared.state.MinifierState.{MinifierState}
 

@@ -6,10 +6,10 @@ ghost use Rattle.min_context.specs.Asked.{seen_of, is_tree_shake_only, is_global
 ghost use Rattle.min_context.specs.Place.{Place, inside, number_or, scope_inside, told_of};
 
 use crate::ancestor::{Above, Ancestor, Parent, Within};
-use crate::options::CompressOptions;
 use crate::state::{CompressionMode, MinifierState};
 use js_syntax::{ReferenceId, SourceType};
 use js_tree::Node;
+use min_options::CompressOptions;
 use scope_table::Scoping;
 use std::alloc::{AllocError, Global};
 use std::marker::Model;

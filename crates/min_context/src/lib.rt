@@ -10,10 +10,8 @@ mod ancestor;
 mod ancestry;
 mod collector;
 mod context;
-mod copies;
 mod edits;
 mod marks;
-mod options;
 mod replacing;
 mod reusable;
 mod state;
@@ -22,9 +20,5 @@ pub use ancestor::{Above, Ancestor, Parent, Within};
 pub use ancestry::Ancestors;
 pub use collector::{DroppedSubtreeCollector, a_walk_marks_what_it_meets};
 pub use context::{CurrentScopes, MinifierTraverseCtx};
-pub use options::{
-    CompressOptions, CompressOptionsKeepNames, CompressOptionsUnused, PropertyReadSideEffects,
-    TreeShakeOptions,
-};
 pub use reusable::ReusableMinifierTraverseCtx;
 pub use state::{BodyFrame, CompressionMode, MinifierState};

@@ -2,8 +2,8 @@
 ghost use Rattle.std.specs.Prelude.{◌≡◌, [], length, false, IfOk};
 ghost use Rattle.min_context.specs.State.{Begins};
 
-use crate::options::CompressOptions;
 use js_syntax::{ScopeId, SourceType};
+use min_options::CompressOptions;
 use min_symbols::PassChanges;
 use scope_table::Scoping;
 use std::alloc::{AllocError, Global};

@@ -1,11 +1,11 @@
 -- The options that are set unless they are asked for.
 use Rattle.std.specs.Prelude.{◌≡◌, Bool, [], None, true, false}
-use Rattle.min_context.specs.declared.options.CompressOptions.{CompressOptions}
-use Rattle.min_context.specs.declared.options.CompressOptionsKeepNames.{CompressOptionsKeepNames}
-use Rattle.min_context.specs.declared.options.CompressOptionsUnused.{CompressOptionsUnused}
-use Rattle.min_context.specs.declared.options.CompressOptionsUnused.TheVariants.{Remove, Keep}
-use Rattle.min_context.specs.declared.options.PropertyReadSideEffects.TheVariants.{All}
-use Rattle.min_context.specs.declared.options.TreeShakeOptions.{TreeShakeOptions}
+use Rattle.min_options.specs.declared.options.CompressOptions.{CompressOptions}
+use Rattle.min_options.specs.declared.options.CompressOptionsKeepNames.{CompressOptionsKeepNames}
+use Rattle.min_options.specs.declared.options.CompressOptionsUnused.{CompressOptionsUnused}
+use Rattle.min_options.specs.declared.options.CompressOptionsUnused.TheVariants.{Remove, Keep}
+use Rattle.min_options.specs.declared.options.PropertyReadSideEffects.TheVariants.{All}
+use Rattle.min_options.specs.declared.options.TreeShakeOptions.{TreeShakeOptions}
 
 abbrev pub all_kept : CompressOptionsKeepNames
 all_kept = record { function = true; class = true }

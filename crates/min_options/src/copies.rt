@@ -1,6 +1,6 @@
 // Copies of options.
 ghost use Rattle.std.specs.Prelude.{◌≡◌, IfOk};
-ghost use Rattle.min_context.specs.Options.{IsSmallest, SameOptions, SameTreeShake};
+ghost use Rattle.min_options.specs.Options.{IsSmallest, SameOptions, SameTreeShake};
 
 use crate::options::{CompressOptions, TreeShakeOptions};
 use js_syntax::Text;
