@@ -1,0 +1,35 @@
+// What holds of marks behind edits. Each law is a contract, so that the check proves it.
+ghost use Rattle.std.specs.Prelude.{◌≤◌, ◌<◌, ℕ, Bool};
+ghost use Rattle.js_syntax.specs.Class.{root};
+ghost use Rattle.js_syntax.specs.Facts.{weight};
+ghost use Rattle.js_syntax.specs.Node.{Forest, total};
+ghost use Rattle.json_shape.specs.Shape.{Fits};
+ghost use Rattle.scope_rules.specs.Table.{Scoping};
+ghost use Rattle.scope_laws.specs.Exact.{Exact};
+ghost use Rattle.scope_counts.specs.Counts.{ids};
+ghost use Rattle.scope_counts.specs.Losing.{MarksWhatLeft, Prunes};
+ghost use Rattle.scope_counts.specs.Scopes.{ExactButMarks, unmarked};
+ghost use Rattle.steps_allowed.specs.Edits.{Edit, TreeEdits};
+
+/// Law: a table that is exact but for marks stays so through edits of its tree, once the ids are marked of the references that
+/// left by them, and no others.
+pub fn edits_keep_what_is_true_but_for_marks()
+    ensures { (t u : Forest) → TreeEdits t u → Fits root t → (s : Scoping) (before after : ℕ → Bool) → MarksWhatLeft before t u after → ExactButMarks s before t → ExactButMarks s after u }
+{}
+
+/// Law: edits bring in no reference.
+pub fn edits_shed_references()
+    ensures { (t u : Forest) → TreeEdits t u → Fits root t → (r : ℕ) → ids r u ≤ ids r t }
+{}
+
+/// Law: each edit leaves less of a program, by the weights of the table of node types, and edits leave no more.
+pub fn edits_leave_no_more()
+    ensures one { (t u : Forest) → Edit t u → Fits root t → total weight u < total weight t }
+    ensures many { (t u : Forest) → TreeEdits t u → Fits root t → total weight u ≤ total weight t }
+{}
+
+/// Law: once the marked ids are out of its lists, the table of a program is exact.
+pub fn marks_of_what_left_are_pruned()
+    ensures counted { (t : Forest) (marked : ℕ → Bool) (before now : Scoping) → Prunes marked before now → ExactButMarks before marked t → ExactButMarks now unmarked t }
+    ensures exact { (t : Forest) → Fits root t → (marked : ℕ → Bool) (before now : Scoping) → Prunes marked before now → ExactButMarks before marked t → Exact now t }
+{}

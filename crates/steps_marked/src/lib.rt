@@ -1,0 +1,11 @@
+//! Does a table stay true, but for what is marked, while a program is edited?
+//!
+//! A walk that edits a tree in place keeps one table of its scopes, symbols and references, and marks the ids of the references
+//! that left since its lists were last pruned. `laws` states that such a table stays exact but for the marks (scope_counts), through
+//! any list of edits (steps_allowed), that edits bring in no reference and leave less, and that the table is exact again
+//! once the marked ids are out of its lists.
+//!
+//! The code is empty: each function's contract is a law.
+#![tactic(auto)]
+
+pub mod laws;
