@@ -1,3 +1,6 @@
 pub mod Local
 pub mod Shedding
 pub mod Tables
+pub mod Cuts
+pub mod Exposing
+pub mod Telling

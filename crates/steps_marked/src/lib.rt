@@ -3,9 +3,11 @@
 //! A walk that edits a tree in place keeps one table of its scopes, symbols and references, and marks the ids of the references
 //! that left since its lists were last pruned. `laws` states that such a table stays exact but for the marks (scope_counts), through
 //! any list of edits (steps_allowed), that edits bring in no reference and leave less, and that the table is exact again
-//! once the marked ids are out of its lists.
+//! once the marked ids are out of its lists. `flags`, that what the flags of its scopes tell of a program they tell of what is
+//! left of it (`specs/Flags.antt`): there a scope is known by the mark of its node, since its number is that of no order any more.
 //!
 //! The code is empty: each function's contract is a law.
 #![tactic(auto)]
 
+pub mod flags;
 pub mod laws;

@@ -1,0 +1,31 @@
+// What the flags of a table's scopes tell of a program that is edited while its table stays. Each law is a contract, so that the
+// check proves it.
+ghost use Rattle.std.specs.Prelude.{◌≡◌, ℕ, ◌==◌, Bool, true, false, ◌&&◌, Option, Some};
+ghost use Rattle.js_syntax.specs.Class.{root};
+ghost use Rattle.js_syntax.specs.Node.{Forest, Tree};
+ghost use Rattle.json_shape.specs.Shape.{Fits};
+ghost use Rattle.scope_rules.specs.ScopeFlags as scope_flag;
+ghost use Rattle.scope_rules.specs.Table.{Scoping};
+ghost use Rattle.scope_laws.specs.Place.{Around, plug};
+ghost use Rattle.steps_allowed.specs.Edits.{TreeEdits};
+ghost use Rattle.steps_allowed.specs.Exposure.{exposure, is_script, evaluates_somewhere, IsOwnFunction};
+ghost use Rattle.steps_marked.specs.Flags.{scope_has, is_sloppy_block, first_mark, stand, Tells, FlagsTell};
+
+/// Law: what the flags of a table's scopes tell of a program, they tell of what edits leave of it.
+pub fn edits_keep_what_flags_tell()
+    ensures { (t u : Forest) → TreeEdits t u → Fits root t → (s : Scoping) → FlagsTell s t → FlagsTell s u }
+{}
+
+/// Law: they tell of each place what is exposed there.
+pub fn flags_tell_of_places()
+    ensures told { (a : Around) (x : Tree) → (s : Scoping) → FlagsTell s (plug a (Some x)) → Tells s (is_script (plug a (Some x))) (stand a (Some x)) }
+    ensures exposure { (a : Around) (x : Option Tree) → (stand a x).exposure ≡ exposure a x }
+{}
+
+/// Law: so a function's name is its own where its scope is not a script's, has no direct call of `eval` and is no block of code that
+/// is not strict; and no direct call of `eval` stands in a program whose scope has none.
+pub fn flags_tell_what_is_hidden()
+    ensures functions { (a : Around) (x : Tree) → (s : Scoping) → FlagsTell s (plug a (Some x)) → (n : ℕ) → (stand a (Some x)).scope ≡ Some n
+        → is_script (plug a (Some x)) && n == 0 ≡ false → scope_has s n scope_flag.direct_eval ≡ false → is_sloppy_block s n ≡ false → IsOwnFunction a (Some x) }
+    ensures calls_of_eval { (t : Forest) → Fits root t → (s : Scoping) → FlagsTell s t → (n : ℕ) → first_mark t ≡ Some n → scope_has s n scope_flag.direct_eval ≡ false → evaluates_somewhere t ≡ false }
+{}
