@@ -4,3 +4,4 @@ pub mod Tables
 pub mod Cuts
 pub mod Exposing
 pub mod Telling
+pub mod Numbered

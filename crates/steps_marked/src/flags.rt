@@ -5,11 +5,18 @@ ghost use Rattle.js_syntax.specs.Class.{root};
 ghost use Rattle.js_syntax.specs.Node.{Forest, Tree};
 ghost use Rattle.json_shape.specs.Shape.{Fits};
 ghost use Rattle.scope_rules.specs.ScopeFlags as scope_flag;
-ghost use Rattle.scope_rules.specs.Table.{Scoping};
+ghost use Rattle.scope_rules.specs.Site.{sites_of, found_in};
+ghost use Rattle.scope_rules.specs.Table.{Scoping, scoping_of, symbols_declared};
+ghost use Rattle.scope_rules.specs.Mark.{marked, first_marks};
 ghost use Rattle.scope_laws.specs.Place.{Around, plug};
 ghost use Rattle.steps_allowed.specs.Edits.{TreeEdits};
 ghost use Rattle.steps_allowed.specs.Exposure.{exposure, is_script, evaluates_somewhere, IsOwnFunction};
 ghost use Rattle.steps_marked.specs.Flags.{scope_has, is_sloppy_block, first_mark, stand, Tells, FlagsTell};
+
+/// Law: the flags of the table that is made of a program tell of the program once it is marked.
+pub fn flags_tell_of_new_tables()
+    ensures { (t : Forest) → Fits root t → let f = found_in (sites_of t) in FlagsTell (scoping_of f) (marked (first_marks (symbols_declared f.bindings)) t) }
+{}
 
 /// Law: what the flags of a table's scopes tell of a program, they tell of what edits leave of it.
 pub fn edits_keep_what_flags_tell()
