@@ -5,3 +5,5 @@ pub mod Cuts
 pub mod Exposing
 pub mod Telling
 pub mod Numbered
+pub mod Deciding
+pub mod Tried

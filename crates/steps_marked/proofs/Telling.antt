@@ -16,7 +16,7 @@ use Rattle.scope_laws.specs.Place.{Around, first, under}
 use Rattle.steps_keep_form.specs.Part.{gives_way}
 use Rattle.steps_fit.proofs.Modules.{fits_program}
 use Rattle.steps_allowed.specs.Edits.{Edit, TreeEdits, no_tree_edit, one_tree_edit}
-use Rattle.steps_allowed.specs.Exposure.{exposed_at, exposure, is_script, function_is_exposed, evaluates_somewhere, IsOwnFunction}
+use Rattle.steps_allowed.specs.Exposure.{exposed_at, exposure, is_script, function_is_exposed, evaluates_somewhere, shares, IsOwnFunction, IsOwnDeclarator, IsOwnDeclaration}
 use Rattle.steps_owed.specs.Kept.{is_program}
 use Rattle.steps_owed.proofs.FitsEdits.{edit_fits}
 use Rattle.scope_rules.specs.ScopeFlags as scope_flag
@@ -220,6 +220,28 @@ function_hidden a x s h n is shared evaluates sloppy =
     (neither e.names_shared e.evaluates (unless e.names_shared (is_script (places.plug a (Some x)) && n == 0) (λ g. ap (λ m. is_script (places.plug a (Some x)) && m == 0) (sym same) ∙ t.names g) shared)
     (unless e.evaluates (scope_has s n scope_flag.direct_eval) (λ g. ap (λ m. scope_has s m scope_flag.direct_eval) (sym same) ∙ t.evaluates g) evaluates))
     (unless e.in_sloppy_block (is_sloppy_block s n) (λ g. ap (λ m. is_sloppy_block s m) (sym same) ∙ t.sloppy g) sloppy))
+
+pub declarator_hidden : (a : Around) (x : Tree) → (s : Scoping) → FlagsTell s (places.plug a (Some x)) → (n : ℕ) → (stand a (Some x)).declaring ≡ Some n
+    → is_script (places.plug a (Some x)) && n == 0 ≡ false → evaluates_somewhere (places.plug a (Some x)) ≡ false → IsOwnDeclarator a (Some x)
+declarator_hidden a x s h n is shared none =
+    let t = told_at s a x h in
+    let same : t.declaring ≡ n = same_number (stand a (Some x)).declaring t.declaring n t.declaring_is is in
+    let e = (stand a (Some x)).exposure in
+    subst (λ e. e.declared_shared || evaluates_somewhere (places.plug a (Some x)) ≡ false) (stand_exposed a (Some x))
+    (neither e.declared_shared (evaluates_somewhere (places.plug a (Some x)))
+    (unless e.declared_shared (is_script (places.plug a (Some x)) && n == 0) (λ g. ap (λ m. is_script (places.plug a (Some x)) && m == 0) (sym same) ∙ t.declared g) shared) none)
+
+shares_told : (s : Scoping) (script : Bool) (p : Stand) → Tells s script p → (how : VariableKind) (n : ℕ) → declares_in p how ≡ Some n → script && n == 0 ≡ false → shares p.exposure how ≡ false
+shares_told s script p t variable.Var n is shared =
+    let same = same_number p.variables t.variables n t.variables_is is in unless p.exposure.variables_shared (script && n == 0) (λ g. ap (λ m. script && m == 0) (sym same) ∙ t.variable_names g) shared
+shares_told s script p t variable.Let n is shared = let same = same_number p.scope t.scope n t.scope_is is in unless p.exposure.names_shared (script && n == 0) (λ g. ap (λ m. script && m == 0) (sym same) ∙ t.names g) shared
+shares_told s script p t variable.Const n is shared = let same = same_number p.scope t.scope n t.scope_is is in unless p.exposure.names_shared (script && n == 0) (λ g. ap (λ m. script && m == 0) (sym same) ∙ t.names g) shared
+
+pub declaration_hidden : (how : VariableKind) (a : Around) (x : Tree) → (s : Scoping) → FlagsTell s (places.plug a (Some x)) → (n : ℕ) → declares_in (stand a (Some x)) how ≡ Some n
+    → is_script (places.plug a (Some x)) && n == 0 ≡ false → evaluates_somewhere (places.plug a (Some x)) ≡ false → IsOwnDeclaration how a (Some x)
+declaration_hidden how a x s h n is shared none =
+    subst (λ e. shares e how || evaluates_somewhere (places.plug a (Some x)) ≡ false) (stand_exposed a (Some x))
+    (neither (shares (stand a (Some x)).exposure how) (evaluates_somewhere (places.plug a (Some x))) (shares_told s (is_script (places.plug a (Some x))) (stand a (Some x)) (told_at s a x h) how n is shared) none)
 
 none_evaluates : (s : Scoping) (t : Forest) → is_program t ≡ true → FlagsTell s t → (n : ℕ) → first_mark t ≡ Some n → scope_has s n scope_flag.direct_eval ≡ false → evaluates_somewhere t ≡ false
 none_evaluates s (node k m below rest) e h n is none =

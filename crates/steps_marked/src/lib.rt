@@ -5,9 +5,11 @@
 //! any list of edits (steps_allowed), that edits bring in no reference and leave less, and that the table is exact again
 //! once the marked ids are out of its lists. `flags`, that what the flags of its scopes tell of a program they tell of what is
 //! left of it (`specs/Flags.antt`): there a scope is known by the mark of its node, since its number is that of no order any more.
+//! `rows` are small programs of which this is so, or not, by computing.
 //!
 //! The code is empty: each function's contract is a law.
 #![tactic(auto)]
 
 pub mod flags;
 pub mod laws;
+pub mod rows;
