@@ -7,3 +7,6 @@ pub mod Telling
 pub mod Numbered
 pub mod Deciding
 pub mod Tried
+pub mod Unexporting
+pub mod Places
+pub mod Referring

@@ -542,7 +542,7 @@ told_of s nothing e from = absurd (true≢false (sym e))
 
 -- ---- a program that is marked by its table
 
-marked_program : (m : Marks) (t : Forest) → is_program t ≡ true → is_program (marked m t) ≡ true
+pub marked_program : (m : Marks) (t : Forest) → is_program t ≡ true → is_program (marked m t) ≡ true
 marked_program m (node (kind.Program source) n below rest) e = refl
 marked_program m (node k n below rest) e = absurd (true≢false (sym e))
 marked_program m (absent rest) e = absurd (true≢false (sym e))

@@ -6,7 +6,11 @@ use Rattle.js_syntax.specs.declared.node_kind.NodeKind.TheVariants.{Program as p
 use Rattle.js_syntax.specs.Class.{root}
 use Rattle.js_syntax.specs.Node.{Forest, Note, nothing, node, absent}
 use Rattle.json_shape.specs.Shape.{Fits}
-use Rattle.scope_rules.specs.Table.{Reference, Scoping}
+use Rattle.scope_rules.specs.Site.{sites_of, found_in}
+use Rattle.scope_rules.specs.Table.{Reference, Scoping, scoping_of, symbols_declared}
+use Rattle.scope_rules.specs.Mark.{marked, first_marks}
+use Rattle.scope_laws.proofs.Exact.{exact}
+use Rattle.steps_marked.proofs.Numbered.{marked_program}
 use Rattle.scope_laws.specs.Exact.{Exact}
 use Rattle.scope_laws.proofs.Bindings.{same_value}
 use Rattle.scope_counts.specs.Counts.{declared_by_program, free, within, own, is_id, bound_to, uses, by_id, ids}
@@ -138,3 +142,11 @@ edits_keep_marked t u edits fits s before after marks x =
           listed_after (count id (lists_of s symbol)) (before id) (after id) (uses symbol id t) (uses symbol id u) (ids id t) (ids id u) (marks id) (shed id) (x.lists symbol id)
           (λ e. same_uses s t u x.entered entered symbol id (x.once id) e) (λ l. Prim.omega (arith, l, x.once id, few symbol id u));
     }
+
+-- ---- a new table
+
+pub new_exact : (t : Forest) → let f = found_in (sites_of t) in Fits root t → ExactButMarks (scoping_of f) unmarked (marked (first_marks (symbols_declared f.bindings)) t)
+new_exact t fits =
+    let f = found_in (sites_of t) in
+    let m = first_marks (symbols_declared f.bindings) in
+    (exact_of (scoping_of f) (marked m t) (marked_program m t (fits_program t fits))).0 (exact t)

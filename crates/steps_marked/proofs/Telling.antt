@@ -152,7 +152,7 @@ script_first : (k : Kind) (n m : Note) (a b c d : Forest) → is_script (node k 
 script_first (kind.Program source) n m a b c d = refl
 script_first k n m a b c d = refl
 
-no_program : (k : Kind) (n : Note) (b rest : Forest) → gives_way k ≡ true → is_program (node k n b rest) ≡ false
+pub no_program : (k : Kind) (n : Note) (b rest : Forest) → gives_way k ≡ true → is_program (node k n b rest) ≡ false
 no_program (kind.Program source) n b rest g = never g
 no_program k n b rest g = refl
 

@@ -1,13 +1,17 @@
 // What holds of marks behind edits. Each law is a contract, so that the check proves it.
-ghost use Rattle.std.specs.Prelude.{◌≤◌, ◌<◌, ℕ, Bool};
+ghost use Rattle.std.specs.Prelude.{◌≡◌, ◌≤◌, ◌<◌, ℕ, Bool, Option, nat_lt};
 ghost use Rattle.js_syntax.specs.Class.{root};
 ghost use Rattle.js_syntax.specs.Facts.{weight};
-ghost use Rattle.js_syntax.specs.Node.{Forest, total};
+ghost use Rattle.js_syntax.specs.Node.{Forest, Tree, total};
 ghost use Rattle.json_shape.specs.Shape.{Fits};
-ghost use Rattle.scope_rules.specs.Table.{Scoping};
+ghost use Rattle.scope_rules.specs.Site.{sites_of, found_in};
+ghost use Rattle.scope_rules.specs.Table.{Scoping, scoping_of, symbols_declared};
+ghost use Rattle.scope_rules.specs.Mark.{marked, first_marks};
 ghost use Rattle.scope_laws.specs.Exact.{Exact};
+ghost use Rattle.scope_laws.specs.Place.{Around, one_place, plug};
+ghost use Rattle.scope_laws.specs.Lists.{without};
 ghost use Rattle.scope_counts.specs.Counts.{ids};
-ghost use Rattle.scope_counts.specs.Losing.{MarksWhatLeft, Prunes};
+ghost use Rattle.scope_counts.specs.Losing.{left, MarksWhatLeft, Prunes};
 ghost use Rattle.scope_counts.specs.Scopes.{ExactButMarks, unmarked};
 ghost use Rattle.steps_allowed.specs.Edits.{Edit, TreeEdits};
 
@@ -15,6 +19,22 @@ ghost use Rattle.steps_allowed.specs.Edits.{Edit, TreeEdits};
 /// left by them, and no others.
 pub fn edits_keep_what_is_true_but_for_marks()
     ensures { (t u : Forest) → TreeEdits t u → Fits root t → (s : Scoping) (before after : ℕ → Bool) → MarksWhatLeft before t u after → ExactButMarks s before t → ExactButMarks s after u }
+{}
+
+/// Law: a new table is so of its program before anything is marked.
+pub fn new_tables_need_no_marks()
+    ensures { (t : Forest) → let f = found_in (sites_of t) in Fits root t → ExactButMarks (scoping_of f) unmarked (marked (first_marks (symbols_declared f.bindings)) t) }
+{}
+
+/// Law: marks add up: of edits one after the other, each may mark what left by it.
+pub fn marks_add_up()
+    ensures { (t u v : Forest) → TreeEdits t u → TreeEdits u v → Fits root t → (before between after : ℕ → Bool) → MarksWhatLeft before t u between → MarksWhatLeft between u v after → MarksWhatLeft before t v after }
+{}
+
+/// Law: what leaves a tree by an edit at a place are the references that stood there, but for those that stand there still.
+pub fn what_left_stood_at_the_place()
+    ensures leaves { (a : Around) (x : Option Tree) → (r : ℕ) → left (plug a x) (without a) r ≡ nat_lt 0 (ids r (one_place x)) }
+    ensures becomes { (a : Around) (x y : Option Tree) → (r : ℕ) → left (plug a x) (plug a y) r ≡ left (one_place x) (one_place y) r }
 {}
 
 /// Law: edits bring in no reference.
