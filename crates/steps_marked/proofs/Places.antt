@@ -8,6 +8,11 @@ use Rattle.scope_laws.specs.Place.{Around, first, behind, behind_none, under, on
 use Rattle.scope_laws.specs.Lists.{without}
 use Rattle.scope_counts.proofs.Scopes.{below_or_above as below_or_at}
 use Rattle.scope_counts.specs.Counts.{Weight, tally, by_id, ids}
+use Rattle.scope_counts.specs.Edits as counts
+use Rattle.scope_counts.specs.Scopes.{ExactButMarks}
+use Rattle.scope_counts.proofs.Edits.{ids_plug}
+use Rattle.scope_rules.specs.Table.{Scoping}
+use Rattle.steps_marked.proofs.Tables.{edits_keep_marked}
 use Rattle.scope_counts.specs.Losing.{left, MarksWhatLeft}
 use Rattle.steps_allowed.specs.Edits.{TreeEdits}
 use Rattle.steps_owed.proofs.FitsEdits.{tree_edits_fit}
@@ -46,6 +51,15 @@ pub left_by_becoming : (a : Around) (x y : Option Tree) (r : ℕ) → left (plug
 left_by_becoming a x y r =
     same_less (ids r (plug a y)) (ids r (plug a x)) (ids r (one_place y)) (ids r (one_place x)) (λ h. Prim.omega (arith, h, tally_around (by_id r) a x, tally_around (by_id r) a y))
     (λ h. Prim.omega (arith, h, tally_around (by_id r) a x, tally_around (by_id r) a y))
+
+pub left_by_row : (a : counts.Around) (t u : Forest) (r : ℕ) → left (counts.plug a t) (counts.plug a u) r ≡ left t u r
+left_by_row a t u r =
+    same_less (ids r (counts.plug a u)) (ids r (counts.plug a t)) (ids r u) (ids r t) (λ h. Prim.omega (arith, h, ids_plug r a t u)) (λ h. Prim.omega (arith, h, ids_plug r a t u))
+
+pub rows_keep_marked : (a : counts.Around) (t u : Forest) → TreeEdits (counts.plug a t) (counts.plug a u) → Fits root (counts.plug a t) → (s : Scoping) (before after : ℕ → Bool) → MarksWhatLeft before t u after
+    → ExactButMarks s before (counts.plug a t) → ExactButMarks s after (counts.plug a u)
+rows_keep_marked a t u edits fits s before after marks =
+    edits_keep_marked (counts.plug a t) (counts.plug a u) edits fits s before after (λ r. marks r ∙ ap (λ b. before r || b) (sym (left_by_row a t u r)))
 
 -- ---- marks add up
 

@@ -1,14 +1,19 @@
 -- Edits bring in no references and declarations, and leave less.
-use Rattle.std.proofs.Common.{◌≡◌, ◌≤◌, ◌<◌, ◌+◌, ℕ, List, true, Option, true≢false, arith, sym, subst}
+use Rattle.std.proofs.Common.{◌≡◌, ◌≤◌, ◌<◌, ◌+◌, ℕ, List, true, Option, true≢false, arith, sym, subst, ◌++◌, inl, inr, refl}
 use Rattle.js_syntax.specs.declared.node_kind.NodeKind.{NodeKind as Kind}
-use Rattle.js_syntax.specs.declared.node_kind.NodeKind.TheVariants.{IfStatement as if_statement, ConditionalExpression as conditional_expression, LogicalExpression as logical_expression}
+use Rattle.js_syntax.specs.declared.node_kind.NodeKind.TheVariants.{BindingName as binding_name, IfStatement as if_statement, ConditionalExpression as conditional_expression, LogicalExpression as logical_expression}
 use Rattle.js_syntax.specs.Class.{root}
 use Rattle.js_syntax.specs.Facts as facts
 use Rattle.js_syntax.specs.Node.{Forest, Note, nothing, node, absent, joined, total}
 use Rattle.json_shape.specs.Shape.{Fits}
-use Rattle.scope_counts.specs.Counts.{Weight, tally, by_id, ids}
+use Rattle.scope_laws.specs.Exact.{Among}
+use Rattle.scope_laws.proofs.Among.{among_left, among_right}
+use Rattle.scope_counts.specs.Losing.{referring, own_declaring, declaring}
+use Rattle.scope_counts.proofs.Scopes.{each_joined}
+use Rattle.scope_counts.proofs.Tables.{referring_each, each_referring}
+use Rattle.scope_counts.specs.Counts.{Decl, Weight, tally, by_id, ids}
 use Rattle.scope_counts.specs.Edits.{Around, here, behind, behind_none, under, plug}
-use Rattle.scope_counts.specs.Scopes.{EachName, EachDeclaration}
+use Rattle.scope_counts.specs.Scopes.{EachName, EachDeclaration, EachUse, EachReference}
 use Rattle.steps_keep_form.specs.Part.{gives_way}
 use Rattle.steps_allowed.specs.Edits.{Edit, TreeEdits, no_tree_edit, one_tree_edit}
 use Rattle.steps_owed.proofs.FitsEdits.{edit_fits}
@@ -104,3 +109,67 @@ module _ (P : List ℕ → Option ℕ → Type 0) where
   pub edits_declare : (t u : Forest) → TreeEdits t u → Fits root t → EachDeclaration P t → EachDeclaration P u
   edits_declare t u (no_tree_edit v) fits declared = declared
   edits_declare t u (one_tree_edit v w x e more) fits declared = edits_declare w x more (edit_fits v w e fits) (edit_declares v w e fits declared)
+
+-- ---- references, whatever holds of each
+
+module _ (P : List ℕ → Option ℕ → Type 0) where
+  referring_part : (v : Forest) (l : Kind) (j : Note) (b w : Forest) → EachReference P (joined v (node l j b w)) → EachUse P j l × EachReference P b
+  referring_part nothing l j b w e = (e.0, e.1)
+  referring_part (absent v) l j b w e = referring_part v l j b w e
+  referring_part (node k n c v) l j b w e = referring_part v l j b w e.2
+
+  referring_local : (place : Around) (t u : Forest) → Local place t u → EachReference P t → EachReference P u
+  referring_local place t u (leaves k n b rest listed plain weighs) e = e.2
+  referring_local place t u (empties n m b rest) e = (tt, tt, e.2)
+  referring_local place t u (parts k l i j b v x rest gives unasked) e = let inner = referring_part v l j b x e.1 in (inner.0, inner.1, e.2)
+
+  referring_plug : (a : Around) (t u : Forest) → (EachReference P t → EachReference P u) → EachReference P (plug a t) → EachReference P (plug a u)
+  referring_plug here t u f e = f e
+  referring_plug (behind k n b a) t u f e = (e.0, e.1, referring_plug a t u f e.2)
+  referring_plug (behind_none a) t u f e = referring_plug a t u f e
+  referring_plug (under k n a rest) t u f e = (e.0, referring_plug a t u f e.1, e.2)
+
+  edit_refers : (t u : Forest) → Edit t u → Fits root t → EachReference P t → EachReference P u
+  edit_refers t u e fits referring =
+      let l = is_local t u e fits in
+      subst (EachReference P) (sym l.new_is) (referring_plug l.place l.old l.new (referring_local l.place l.old l.new l.local) (subst (EachReference P) l.old_is referring))
+
+  pub edits_refer : (t u : Forest) → TreeEdits t u → Fits root t → EachReference P t → EachReference P u
+  edits_refer t u (no_tree_edit v) fits referring = referring
+  edits_refer t u (one_tree_edit v w x e more) fits referring = edits_refer w x more (edit_fits v w e fits) (edit_refers v w e fits referring)
+
+-- ---- as lists
+
+if_name : (P : List ℕ → Option ℕ → Type 0) (n : Note) (k : Kind) → EachName P n k → (d : Decl) → Among d (own_declaring n k) → P d.name d.symbol
+if_name P n (binding_name x) e d (inl h) = subst (λ (d : Decl). P d.name d.symbol) h e
+if_name P n (binding_name x) e d (inr h) = absurd h
+if_name P n k e d h = absurd h
+
+name_if : (P : List ℕ → Option ℕ → Type 0) (n : Note) (k : Kind) → ((d : Decl) → Among d (own_declaring n k) → P d.name d.symbol) → EachName P n k
+name_if P n (binding_name x) f = f _ (inl refl)
+name_if P n k f = tt
+
+declaring_each : (P : List ℕ → Option ℕ → Type 0) (t : Forest) → EachDeclaration P t → (d : Decl) → Among d (declaring t) → P d.name d.symbol
+declaring_each P nothing e d h = absurd h
+declaring_each P (absent t) e d h = declaring_each P t e d h
+declaring_each P (node k n b t) e d h =
+    each_joined (λ (d : Decl). P d.name d.symbol) (own_declaring n k ++ declaring b) (declaring t)
+    (each_joined (λ (d : Decl). P d.name d.symbol) (own_declaring n k) (declaring b) (if_name P n k e.0) (declaring_each P b e.1)) (declaring_each P t e.2) d h
+
+each_declaring : (P : List ℕ → Option ℕ → Type 0) (t : Forest) → ((d : Decl) → Among d (declaring t) → P d.name d.symbol) → EachDeclaration P t
+each_declaring P nothing f = tt
+each_declaring P (absent t) f = each_declaring P t f
+each_declaring P (node k n b t) f = (
+  name_if P n k (λ d h. f d (among_left d (own_declaring n k ++ declaring b) (declaring t) (among_left d (own_declaring n k) (declaring b) h))),
+  each_declaring P b (λ d h. f d (among_left d (own_declaring n k ++ declaring b) (declaring t) (among_right d (own_declaring n k) (declaring b) h))),
+  each_declaring P t (λ d h. f d (among_right d (own_declaring n k ++ declaring b) (declaring t) h)),
+)
+
+abbrev named : List Decl → List ℕ → Option ℕ → Type 0
+named ds x q = Among (record { name = x; symbol = q }) ds
+
+pub declared_before : (t u : Forest) → TreeEdits t u → Fits root t → (d : Decl) → Among d (declaring u) → Among d (declaring t)
+declared_before t u edits fits d h = declaring_each (named (declaring t)) u (edits_declare (named (declaring t)) t u edits fits (each_declaring (named (declaring t)) t (λ e k. k))) d h
+
+pub referred_before : (t u : Forest) → TreeEdits t u → Fits root t → (d : Decl) → Among d (referring u) → Among d (referring t)
+referred_before t u edits fits d h = referring_each (named (referring t)) u (edits_refer (named (referring t)) t u edits fits (each_referring (named (referring t)) t (λ e k. k))) d h

@@ -7,11 +7,12 @@ ghost use Rattle.json_shape.specs.Shape.{Fits};
 ghost use Rattle.scope_rules.specs.Site.{sites_of, found_in};
 ghost use Rattle.scope_rules.specs.Table.{Scoping, scoping_of, symbols_declared};
 ghost use Rattle.scope_rules.specs.Mark.{marked, first_marks};
-ghost use Rattle.scope_laws.specs.Exact.{Exact};
+ghost use Rattle.scope_laws.specs.Exact.{Among, Exact};
 ghost use Rattle.scope_laws.specs.Place.{Around, one_place, plug};
 ghost use Rattle.scope_laws.specs.Lists.{without};
-ghost use Rattle.scope_counts.specs.Counts.{ids};
-ghost use Rattle.scope_counts.specs.Losing.{left, MarksWhatLeft, Prunes};
+ghost use Rattle.scope_counts.specs.Counts.{Decl, ids};
+ghost use Rattle.scope_counts.specs.Edits as counts;
+ghost use Rattle.scope_counts.specs.Losing.{referring, declaring, left, MarksWhatLeft, Prunes};
 ghost use Rattle.scope_counts.specs.Scopes.{ExactButMarks, unmarked};
 ghost use Rattle.steps_allowed.specs.Edits.{Edit, TreeEdits};
 
@@ -19,6 +20,12 @@ ghost use Rattle.steps_allowed.specs.Edits.{Edit, TreeEdits};
 /// left by them, and no others.
 pub fn edits_keep_what_is_true_but_for_marks()
     ensures { (t u : Forest) → TreeEdits t u → Fits root t → (s : Scoping) (before after : ℕ → Bool) → MarksWhatLeft before t u after → ExactButMarks s before t → ExactButMarks s after u }
+{}
+
+/// Law: so it does where a row is edited, and what left the row is marked.
+pub fn edits_of_rows_keep_what_is_true_but_for_marks()
+    ensures { (a : counts.Around) (t u : Forest) → TreeEdits (counts.plug a t) (counts.plug a u) → Fits root (counts.plug a t) → (s : Scoping) (before after : ℕ → Bool) → MarksWhatLeft before t u after
+        → ExactButMarks s before (counts.plug a t) → ExactButMarks s after (counts.plug a u) }
 {}
 
 /// Law: a new table is so of its program before anything is marked.
@@ -34,7 +41,14 @@ pub fn marks_add_up()
 /// Law: what leaves a tree by an edit at a place are the references that stood there, but for those that stand there still.
 pub fn what_left_stood_at_the_place()
     ensures leaves { (a : Around) (x : Option Tree) → (r : ℕ) → left (plug a x) (without a) r ≡ nat_lt 0 (ids r (one_place x)) }
+    ensures rows { (a : counts.Around) (t u : Forest) → (r : ℕ) → left (counts.plug a t) (counts.plug a u) r ≡ left t u r }
     ensures becomes { (a : Around) (x y : Option Tree) → (r : ℕ) → left (plug a x) (plug a y) r ≡ left (one_place x) (one_place y) r }
+{}
+
+/// Law: each name that is declared, or refers, in what edits leave stood there before, with its mark.
+pub fn edits_bring_no_names()
+    ensures declared { (t u : Forest) → TreeEdits t u → Fits root t → (d : Decl) → Among d (declaring u) → Among d (declaring t) }
+    ensures referring { (t u : Forest) → TreeEdits t u → Fits root t → (d : Decl) → Among d (referring u) → Among d (referring t) }
 {}
 
 /// Law: edits bring in no reference.
