@@ -1,5 +1,5 @@
 -- The flags of the table's scopes go on telling what is exposed.
-use Rattle.std.proofs.Common.{◌≡◌, ◌∙◌, ℕ, suc, Bool, true, false, ◌&&◌, ◌||◌, ◌==◌, true≢false, if◌then◌else◌, Option, Some, refl, sym, ap, ap₂, subst}
+use Rattle.std.proofs.Common.{◌≡◌, ◌∙◌, ℕ, suc, Bool, true, false, not, ◌&&◌, ◌||◌, ◌==◌, true≢false, if◌then◌else◌, Option, Some, refl, sym, ap, ap₂, subst}
 use Rattle.js_syntax.specs.declared.node_kind.NodeKind.{NodeKind as Kind}
 use Rattle.js_syntax.specs.declared.node_kind.NodeKind.TheVariants as kind
 use Rattle.js_syntax.specs.declared.kind.FunctionKind.TheVariants as function_kind
@@ -20,9 +20,10 @@ use Rattle.steps_allowed.specs.Exposure.{exposed_at, exposure, is_script, functi
 use Rattle.steps_owed.specs.Kept.{is_program}
 use Rattle.steps_owed.proofs.FitsEdits.{edit_fits}
 use Rattle.scope_rules.specs.ScopeFlags as scope_flag
+use Rattle.scope_table.specs.Reading.{scope_at}
 use Rattle.scope_laws.proofs.Bindings.{same_value}
 use Rattle.js_syntax.proofs.Truth.{neither}
-use Rattle.steps_marked.specs.Flags.{scope_has, is_sloppy_block, Stand, is_within, holds_variables, declares_in, declaring_inside, stand_inside, first_mark, stands_of, stand_at, stand, Tells, Told, FlagsTell}
+use Rattle.steps_marked.specs.Flags.{has_bits, scope_has, is_sloppy_block, Stand, is_within, holds_variables, declares_in, declaring_inside, stand_inside, first_mark, stands_of, stand_at, stand, Tells, Told, FlagsTell}
 use Rattle.steps_marked.proofs.Cuts.{Cuts, leaves, empties, parts, inside, behind, behind_none, edit_cuts}
 use Rattle.steps_marked.proofs.Exposing.{never, Thinner, thinner_itself, thinner_cuts, Less, less_inside, below_stays, less_beside}
 
@@ -179,6 +180,35 @@ edit_told s t u e fits h =
 pub edits_told : (s : Scoping) (t u : Forest) → TreeEdits t u → Fits root t → FlagsTell s t → FlagsTell s u
 edits_told s t u (no_tree_edit v) fits h = h
 edits_told s t u (one_tree_edit v w x e more) fits h = edits_told s w x more (edit_fits v w e fits) (edit_told s v w e fits h)
+
+-- ---- by the flags alone
+
+abbrev is_sloppy : ℕ → Bool
+is_sloppy flags = not (has_bits flags scope_flag.strict_mode || has_bits flags scope_flag.top || has_bits flags scope_flag.function || has_bits flags scope_flag.class_static_block)
+
+module _ (s now : Scoping) (script : Bool) (same : (n : ℕ) → (scope_at now n).flags ≡ (scope_at s n).flags) where
+  same_tells : (p : Stand) → Tells s script p → Tells now script p
+  same_tells p h = record {
+    scope = h.scope;
+    scope_is = h.scope_is;
+    variables = h.variables;
+    variables_is = h.variables_is;
+    declaring = h.declaring;
+    declaring_is = h.declaring_is;
+    evaluates = λ e. ap (λ n. has_bits n scope_flag.direct_eval) (same h.scope) ∙ h.evaluates e;
+    sloppy = λ e. ap is_sloppy (same h.scope) ∙ h.sloppy e;
+    names = h.names;
+    variable_names = h.variable_names;
+    declared = h.declared;
+  }
+
+  same_told : (ps : ℕ → Stand) (at : ℕ) (t : Forest) → Told s script ps at t → Told now script ps at t
+  same_told ps at nothing h = tt
+  same_told ps at (absent rest) h = same_told ps (suc at) rest h
+  same_told ps at (node k n below rest) h = (same_tells (ps at) h.0, same_told (stand_inside (ps at) k n below) 0 below h.1, same_told ps (suc at) rest h.2)
+
+pub flags_alone : (t : Forest) (s now : Scoping) → ((n : ℕ) → (scope_at now n).flags ≡ (scope_at s n).flags) → FlagsTell s t → FlagsTell now t
+flags_alone t s now same h = same_told s now (is_script t) same (stands_of t) 0 t h
 
 -- ---- at a place
 

@@ -9,6 +9,7 @@ ghost use Rattle.scope_rules.specs.ScopeFlags as scope_flag;
 ghost use Rattle.scope_rules.specs.Site.{sites_of, found_in};
 ghost use Rattle.scope_rules.specs.Table.{Scoping, scoping_of, symbols_declared};
 ghost use Rattle.scope_rules.specs.Mark.{marked, first_marks};
+ghost use Rattle.scope_table.specs.Reading.{scope_at};
 ghost use Rattle.scope_laws.specs.Place.{Around, plug};
 ghost use Rattle.steps_allowed.specs.Edits.{TreeEdits};
 ghost use Rattle.steps_allowed.specs.Exposure.{exposure, is_script, evaluates_somewhere, IsOwnFunction, IsOwnDeclarator, IsOwnDeclaration};
@@ -22,6 +23,11 @@ pub fn flags_tell_of_new_tables()
 /// Law: what the flags of a table's scopes tell of a program, they tell of what edits leave of it.
 pub fn edits_keep_what_flags_tell()
     ensures { (t u : Forest) → TreeEdits t u → Fits root t → (s : Scoping) → FlagsTell s t → FlagsTell s u }
+{}
+
+/// Law: nothing of the table but its scopes' flags is asked: another with the same flags tells as much.
+pub fn flags_alone_tell()
+    ensures { (t : Forest) (s now : Scoping) → ((n : ℕ) → (scope_at now n).flags ≡ (scope_at s n).flags) → FlagsTell s t → FlagsTell now t }
 {}
 
 /// Law: they tell of each place what is exposed there.

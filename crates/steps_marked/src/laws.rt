@@ -51,7 +51,7 @@ pub fn edits_bring_no_names()
     ensures referring { (t u : Forest) → TreeEdits t u → Fits root t → (d : Decl) → Among d (referring u) → Among d (referring t) }
 {}
 
-/// Law: edits bring in no reference.
+/// Law: no id of a reference stands more often in what edits leave.
 pub fn edits_shed_references()
     ensures { (t u : Forest) → TreeEdits t u → Fits root t → (r : ℕ) → ids r u ≤ ids r t }
 {}
