@@ -27,6 +27,7 @@ pub fn new_flags()
     ensures functions { new_flags_tell functions ≡ true ∷ true ∷ true ∷ true ∷ true ∷ true ∷ [] }
     ensures classes { new_flags_tell classes ≡ true ∷ true ∷ [] }
     ensures statements { new_flags_tell statements ≡ true ∷ true ∷ true ∷ true ∷ true ∷ [] }
+    ensures calls_of_eval { new_flags_tell calls_of_eval ≡ true ∷ true ∷ [] }
 {}
 
 /// Where a scope left they tell by the marks that the others had, and not by numbers in order; and not of another program.
