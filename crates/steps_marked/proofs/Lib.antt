@@ -1,0 +1,12 @@
+pub mod Local
+pub mod Shedding
+pub mod Tables
+pub mod Cuts
+pub mod Exposing
+pub mod Telling
+pub mod Numbered
+pub mod Deciding
+pub mod Tried
+pub mod Unexporting
+pub mod Places
+pub mod Referring

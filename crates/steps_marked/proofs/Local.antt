@@ -1,0 +1,80 @@
+-- What an edit makes of the row in which it is made, whose other nodes keep their marks.
+use Rattle.std.proofs.Common.{◌≡◌, ◌∙◌, ◌≤◌, true, false, Some, arith, sym, ap}
+use Rattle.js_syntax.specs.declared.node_kind.NodeKind.{NodeKind as Kind}
+use Rattle.js_syntax.specs.declared.node_kind.NodeKind.TheVariants.{ExpressionStatement as expression_statement, EmptyStatement as empty_statement}
+use Rattle.js_syntax.specs.Class.{root}
+use Rattle.js_syntax.specs.Facts.{weight}
+use Rattle.js_syntax.specs.Node.{Forest, Tree, Note, nothing, node, alone, joined, total}
+use Rattle.json_shape.specs.Shape.{is_directive_kind, Fits}
+use Rattle.scope_laws.specs.Place as places
+use Rattle.scope_counts.specs.Edits.{Around, plug, in_list}
+use Rattle.steps_keep_form.specs.Part.{gives_way, is_asked_for}
+use Rattle.steps_allowed.specs.EmptyStatement.{empty_statement_leaves}
+use Rattle.steps_allowed.specs.UnusedFunction.{unused_function_leaves}
+use Rattle.steps_allowed.specs.UnusedDeclarator.{unused_declarator_leaves}
+use Rattle.steps_allowed.specs.UnusedDeclaration.{unused_declaration_leaves}
+use Rattle.steps_allowed.specs.SilentStatement.{silent_statement_empties}
+use Rattle.steps_allowed.specs.Edits as edits
+use Rattle.steps_allowed.specs.Edits.{Leaves, Edit}
+use Rattle.steps_owed.specs.Owed.{ByPart}
+use Rattle.steps_owed.proofs.KnownConditional.{known_conditional_owes}
+use Rattle.steps_owed.proofs.KnownIf.{known_if_owes}
+use Rattle.steps_owed.proofs.Owed.{leaving}
+use Rattle.steps_owed.proofs.Places.{place_of, rest_of, placed_is, without_is, listed_is}
+use Rattle.steps_owed.proofs.TableKept as tables
+
+-- A node leaves a list, a statement of an expression becomes empty, or a part of a node comes in its place.
+pub data Local (place : Around) : (t u : Forest) → Type 0 where
+  leaves : (k : Kind) (n : Note) (b rest : Forest) → in_list false place ≡ true → is_directive_kind k ≡ false → 1 ≤ total weight (alone k n b) → Local place (node k n b rest) rest
+  empties : (n m : Note) (b rest : Forest) → Local place (node expression_statement n b rest) (node empty_statement m nothing rest)
+  parts : (k l : Kind) (i j : Note) (b v w rest : Forest) → gives_way k ≡ true → is_asked_for l ≡ false → Local place (node k i (joined v (node l j b w)) rest) (node l j b rest)
+
+pub record IsLocal (t u : Forest) : Type 0 where
+  pub place : Around
+  pub old : Forest
+  pub new : Forest
+  pub local : Local place old new
+  pub old_is : t ≡ plug place old
+  pub new_is : u ≡ plug place new
+
+-- ---- every case: a line each
+
+weighs : (a : places.Around) (x : Tree) → Leaves a x → 1 ≤ total weight (alone x.kind x.note x.below)
+weighs a x (edits.empty_statement (empty_statement_leaves n item)) = Prim.omega arith
+weighs a x (edits.unused_function (unused_function_leaves pure n m name rest item own free)) = Prim.omega arith
+weighs a x (edits.unused_declarator (unused_declarator_leaves n m name value item other own silent free)) = Prim.omega arith
+weighs a x (edits.unused_declaration (unused_declaration_leaves how n m l j name value item own silent free)) = Prim.omega arith
+
+by_part : (a : places.Around) (x y : Tree) → ByPart a x y → Fits root (places.plug a (Some x)) → IsLocal (places.plug a (Some x)) (places.plug a (Some y))
+by_part a x y owed fits =
+    let part = owed.part fits in
+    record {
+      place = place_of a;
+      old = node x.kind x.note (joined part.before (node y.kind y.note y.below part.after)) (rest_of a);
+      new = node y.kind y.note y.below (rest_of a);
+      local = parts x.kind y.kind x.note y.note y.below part.before part.after (rest_of a) owed.stands.gives owed.stands.unasked;
+      old_is = placed_is a x ∙ ap (λ t. plug (place_of a) (node x.kind x.note t (rest_of a))) part.stands;
+      new_is = placed_is a y;
+    }
+
+pub is_local : (t u : Forest) → Edit t u → Fits root t → IsLocal t u
+is_local t u (edits.leaves a x c) fits =
+    let owed = leaving a x c in
+    record {
+      place = place_of a;
+      old = node x.kind x.note x.below (rest_of a);
+      new = rest_of a;
+      local = leaves x.kind x.note x.below (rest_of a) (sym (listed_is false a) ∙ tables.in_list a owed.listed) owed.no_directive (weighs a x c);
+      old_is = placed_is a x;
+      new_is = without_is a;
+    }
+is_local t u (edits.becomes a x y (edits.silent_statement (silent_statement_empties n m l k inner silent))) fits = record {
+  place = place_of a;
+  old = node expression_statement n (alone k l inner) (rest_of a);
+  new = node empty_statement m nothing (rest_of a);
+  local = empties n m (alone k l inner) (rest_of a);
+  old_is = placed_is a x;
+  new_is = placed_is a y;
+}
+is_local t u (edits.becomes a x y (edits.known_conditional c)) fits = by_part a x y (known_conditional_owes a x y c) fits
+is_local t u (edits.becomes a x y (edits.known_if c)) fits = by_part a x y (known_if_owes a x y c) fits
