@@ -8,3 +8,4 @@ pub mod Edited
 pub mod Asked
 pub mod Replacing
 pub mod Collecting
+pub mod Naming

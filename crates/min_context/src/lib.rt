@@ -12,6 +12,7 @@ mod collector;
 mod context;
 mod edits;
 mod marks;
+mod naming;
 mod replacing;
 mod reusable;
 mod state;
