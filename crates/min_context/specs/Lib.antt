@@ -9,3 +9,4 @@ pub mod Asked
 pub mod Replacing
 pub mod Collecting
 pub mod Naming
+pub mod Lending
