@@ -1,0 +1,3 @@
+pub mod Uid
+pub mod Kept
+pub mod Fresh
