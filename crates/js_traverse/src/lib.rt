@@ -7,6 +7,7 @@
 #![tactic(auto)]
 
 pub mod laws;
+pub mod rows;
 mod uid;
 
 pub use uid::UidGenerator;
