@@ -2,3 +2,4 @@ mod Read
 mod Kept
 mod Written
 mod Fresh
+mod Moved
