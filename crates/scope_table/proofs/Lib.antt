@@ -5,3 +5,5 @@ pub mod Showing
 pub mod Read
 pub mod Resolved
 pub mod Listing
+pub mod Edited
+pub mod Back

@@ -1,5 +1,5 @@
 -- Names that nothing declares, in memory as definitions have them, and their numbers.
-use Rattle.std.specs.Prelude.{◌≡◌, ℕ, List, [], ◌∷◌, ◌++◌, Option, Some, None, option_map, is_some, length, if◌then◌else◌}
+use Rattle.std.specs.Prelude.{◌≡◌, ℕ, suc, List, [], ◌∷◌, ◌++◌, Option, Some, None, option_map, is_some, length, if◌then◌else◌}
 use Rattle.std.specs.Cmp.Lexicographic.{slice_cmp}
 use Rattle.std.specs.Ordering.{nat_cmp}
 use Rattle.std.specs.Str.{bytes_eq}
@@ -19,6 +19,11 @@ blank_name x = record { name = x; references = [] }
 
 abbrev pub with_use : ℕ → Unresolved → Unresolved
 with_use r u = record { name = u.name; references = u.references ++ r ∷ [] }
+
+-- the place of the first item of a name
+abbrev pub place_of : List ℕ → (next : ℕ) → List Unresolved → Option ℕ
+place_of x next [] = None
+place_of x next (u ∷ us) = if bytes_eq u.name x then Some next else place_of x (suc next) us
 
 -- a name has a number, and each other has the one that it had
 pub record IsNumbered (x : List ℕ) (numbers : BTreeMap (Bor (List ℕ)) ℕ) (names : List Unresolved) (after : BTreeMap (Bor (List ℕ)) ℕ) (more : List Unresolved) : Type 0 where

@@ -5,9 +5,16 @@
 //! put to the item of its number. Contracts see a `Scoping` as the record of `scope_rules`
 //! (`specs/Table.antt`), and `table` promises exactly the one that is defined there. What scopes, symbols and references
 //! are stands in sets of bits: `ScopeFlags`, `SymbolFlags`, `ReferenceFlags`.
+//!
+//! `editing` and `editing_references` change a table one step at a time. Each call is a function of the record
+//! (`specs/Editing.antt`), and one that lacks memory leaves the table as it was. What such steps keep is said in
+//! `scope_edits`.
 #![tactic(auto)]
 
+mod editing;
+mod editing_references;
 mod flags;
+mod making;
 mod reading;
 mod reference;
 mod scope;

@@ -63,6 +63,16 @@ impl Reference {
         self.symbol
     }
 
+    pub(crate) fn new(scope: u32, symbol: Option<u32>, flags: ReferenceFlags) -> Reference
+        ensures { result ≡ record { scope = scope; symbol = symbol; flags = flags.0 } }
+    {
+        Reference {
+            scope,
+            symbol,
+            flags: flags.bits(),
+        }
+    }
+
     fn of<'a>(names: &Declared<'_, 'a>, site: &ReferenceSite<'a>) -> Reference
         ensures { result ≡ reference_at names.now site.now }
     {

@@ -1,9 +1,12 @@
 // Scopes, with the names that they have.
-ghost use Rattle.std.specs.Prelude.{◌≡◌, ◌<◌, ◌^◌, map, length, string_bytes, Some, option_map, IfOk, OnOk, if◌then◌else◌};
+ghost use Rattle.std.specs.Prelude.{◌≡◌, ◌<◌, ◌^◌, map, length, string_bytes, Some, option_map, IfOk, OnOk, OnErr, if◌then◌else◌};
+ghost use Rattle.std.specs.Borrow.{sem};
 ghost use Rattle.scope_rules.specs.Table.{symbols_of, is_hidden, scopes_from};
 ghost use Rattle.scope_table.specs.Reading.{symbol_named};
 ghost use Rattle.scope_table.specs.Group.{at_number};
 ghost use Rattle.scope_table.specs.Named.{blank_scope, named, with_name};
+ghost use Rattle.scope_table.specs.Editing.{new_scope};
+ghost use Rattle.scope_table.specs.Lending.{LendsBits};
 
 use crate::ScopeFlags;
 use bitflags::Flags;
@@ -17,7 +20,7 @@ use std::marker::Model;
 /// A scope. Its names stand in the order of their first declarations.
 pub struct Scope {
     parent: Option<u32>,
-    flags: u16,
+    flags: ScopeFlags,
     bindings: IndexMap<String, SymbolId>,
 }
 
@@ -38,7 +41,7 @@ impl Model for Scope {
 
     ghost Value = { Scope };
 
-    ghost view = { λ s. record { parent = s.parent; flags = s.flags; bindings = map named s.bindings.entries } };
+    ghost view = { λ s. record { parent = s.parent; flags = s.flags.0; bindings = map named s.bindings.entries } };
 }
 
 impl Scope {
@@ -47,7 +50,17 @@ impl Scope {
     {
         Scope {
             parent: site.parent(),
-            flags: site.flags(),
+            flags: ScopeFlags::from_bits_retain(site.flags()),
+            bindings: IndexMap::new(alloc),
+        }
+    }
+
+    pub(crate) fn unnamed(alloc: Global, parent: Option<u32>, flags: ScopeFlags) -> Scope
+        ensures { result ≡ new_scope parent flags.0 }
+    {
+        Scope {
+            parent,
+            flags,
             bindings: IndexMap::new(alloc),
         }
     }
@@ -61,7 +74,7 @@ impl Scope {
     pub(crate) fn flags(&self) -> ScopeFlags
         ensures { result.0 ≡ self.now.flags }
     {
-        ScopeFlags::from_bits_retain(self.flags)
+        self.flags
     }
 
     pub(crate) fn bindings(&self) -> &IndexMap<String, SymbolId>
@@ -77,8 +90,22 @@ impl Scope {
         self.bindings.get(name).copied()
     }
 
-    fn bind(&mut self, name: String, symbol: u32) -> Result<(), AllocError>
-        ensures { OnOk result (self.new ≡ with_name (string_bytes name) symbol self.old) }
+    pub(crate) fn set_parent(&mut self, parent: Option<u32>)
+        ensures { self.new ≡ record self.old { parent = parent } }
+    {
+        self.parent = parent;
+    }
+
+    pub(crate) fn flags_mut(&mut self) -> &mut ScopeFlags
+        ensures* writes_back { sem 𝓛 (LendsBits self.entry result) }
+        ensures value { result.now.0 ≡ self.old.flags }
+    {
+        &mut self.flags
+    }
+
+    pub(crate) fn bind(&mut self, name: String, symbol: u32) -> Result<(), AllocError>
+        ensures bound { OnOk result (self.new ≡ with_name (string_bytes name) symbol self.old) }
+        ensures unchanged { OnErr result (self.new ≡ self.old) }
     {
         self.bindings.insert(name, SymbolId(symbol))?;
         Ok(())

@@ -1,8 +1,9 @@
 // Symbols, with their declarations and the references to them.
-ghost use Rattle.std.specs.Prelude.{◌≡◌, ◌<◌, ◌^◌, [], map, length, IfOk, OnOk};
+ghost use Rattle.std.specs.Prelude.{◌≡◌, ◌<◌, ◌^◌, [], map, length, nat_eq, IfOk, OnOk, OnErr};
 ghost use Rattle.scope_rules.specs.Table.{redeclaration, symbols_of, if_several, is_pure_alone};
 ghost use Rattle.scope_table.specs.Group.{at_number};
-ghost use Rattle.scope_table.specs.Kept.{blank, with_declaration, with_reference, kept_from};
+ghost use Rattle.scope_table.specs.Kept.{blank, undeclared, with_declaration, with_reference, kept_without, kept_from};
+ghost use Rattle.symbol_sets.specs.Numbers.{has};
 
 use crate::SymbolFlags;
 use crate::reference::Reference;
@@ -12,6 +13,7 @@ use scope_context::BindingSite;
 use scope_names::{Declared, First};
 use std::alloc::{AllocError, Global};
 use std::marker::Model;
+use symbol_sets::SymbolSet;
 
 /// One of the declarations of a symbol.
 #[derive(Drop)]
@@ -146,6 +148,24 @@ impl Symbol {
         }
     }
 
+    pub(crate) fn undeclared(
+        alloc: Global,
+        name: &str,
+        flags: SymbolFlags,
+        scope: u32,
+    ) -> Result<Symbol, AllocError>
+        ensures { IfOk result (λ s. s ≡ undeclared name.now flags.0 scope) }
+    {
+        let name = String::from_str(alloc, name)?;
+        Ok(Symbol {
+            name: Ident::new(name),
+            scope,
+            flags: flags.bits(),
+            declarations: Vec::new(alloc),
+            references: Vec::new(alloc),
+        })
+    }
+
     fn declare(&mut self, site: &BindingSite) -> Result<(), AllocError>
         ensures { OnOk result (self.new ≡ with_declaration (redeclaration site.now) self.old) }
     {
@@ -154,11 +174,25 @@ impl Symbol {
         Ok(())
     }
 
-    fn refer(&mut self, reference: u32) -> Result<(), AllocError>
-        ensures { OnOk result (self.new ≡ with_reference reference self.old) }
+    pub(crate) fn refer(&mut self, reference: u32) -> Result<(), AllocError>
+        ensures listed { OnOk result (self.new ≡ with_reference reference self.old) }
+        ensures unchanged { OnErr result (self.new ≡ self.old) }
     {
         self.references.push(ReferenceId(reference))?;
         Ok(())
+    }
+
+    pub(crate) fn unlist(&mut self, reference: ReferenceId)
+        ensures { self.new ≡ kept_without (nat_eq reference.0) self.old }
+    {
+        self.references.retain(|listed| reference.0 != listed.0);
+    }
+
+    pub(crate) fn retain_excluding<S: SymbolSet>(&mut self, excluded: &S)
+        ensures { self.new ≡ kept_without (has (S.held excluded.now)) self.old }
+    {
+        self.references
+            .retain(|listed| !excluded.contains(listed.0));
     }
 }
 

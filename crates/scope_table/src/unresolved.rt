@@ -1,9 +1,10 @@
 // Names that nothing declares, with the references that have them.
-ghost use Rattle.std.specs.Prelude.{◌≡◌, ◌<◌, ◌≤◌, ◌^◌, ℕ, List, [], map, length, option_and_then, Some, IfOk, OnOk, if◌then◌else◌};
+ghost use Rattle.std.specs.Prelude.{◌≡◌, ◌<◌, ◌≤◌, ◌^◌, ℕ, List, [], ◌∷◌, map, length, nat_eq, option_and_then, Some, IfOk, OnOk, OnErr, if◌then◌else◌};
 ghost use Rattle.std.specs.Str.{bytes_eq};
 ghost use Rattle.scope_rules.specs.Table.{names_behind, name_number, unresolved_among};
 ghost use Rattle.scope_table.specs.Group.{at_number};
 ghost use Rattle.scope_table.specs.Unbound.{name_told, number_of, blank_name, with_use, IsNumbered, IsCounted};
+ghost use Rattle.scope_table.specs.Editing.{name_without};
 
 use js_syntax::{Ident, ReferenceId};
 use std::alloc::{AllocError, Global};
@@ -58,11 +59,30 @@ impl Unresolved {
         self.references.as_slice()
     }
 
-    fn refer(&mut self, reference: u32) -> Result<(), AllocError>
-        ensures { OnOk result (self.new ≡ with_use reference self.old) }
+    pub(crate) fn refer(&mut self, reference: u32) -> Result<(), AllocError>
+        ensures listed { OnOk result (self.new ≡ with_use reference self.old) }
+        ensures unchanged { OnErr result (self.new ≡ self.old) }
     {
         self.references.push(ReferenceId(reference))?;
         Ok(())
+    }
+
+    pub(crate) fn used_once(
+        alloc: Global,
+        name: &str,
+        reference: u32,
+    ) -> Result<Unresolved, AllocError>
+        ensures { IfOk result (λ u. u ≡ record { name = name.now; references = reference ∷ [] }) }
+    {
+        let mut item = Unresolved::blank(alloc, name)?;
+        item.refer(reference)?;
+        Ok(item)
+    }
+
+    pub(crate) fn unlist(&mut self, reference: ReferenceId)
+        ensures { self.new ≡ name_without (nat_eq reference.0) self.old }
+    {
+        self.references.retain(|listed| reference.0 != listed.0);
     }
 }
 

@@ -6,7 +6,7 @@ use Rattle.scope_table.proofs.unresolved.refer.Goals as goal
 pub returns-in_ok-refer : goal.returns-in_ok-refer
 returns-in_ok-refer c =
     changed (with_use c.args.reference) c.args.number c.in-Some.number c.args.names.now.items c.index_mut-name.result.now c.refer.new.self c.in-Some.is
-    (omega (arith, c.if-at-len.true, c.len.ensures)) c.index_mut-name.ensures.value c.in_ok-refer.ensures
+    (omega (arith, c.if-at-len.true, c.len.ensures)) c.index_mut-name.ensures.value c.in_ok-refer.ensures.listed
 
 pub returns-else-at-len : goal.returns-else-at-len
 returns-else-at-len c = beyond (with_use c.args.reference) c.args.number c.in-Some.number c.args.names.now.items c.in-Some.is (omega (arith, c.if-at-len.false, c.len.ensures))

@@ -1,0 +1,25 @@
+use Rattle.std.proofs.Common.{◌∙◌, ◌++◌, ◌∷◌, [], map, arith, sym, ap}
+use Rattle.scope_table.specs.Kept.{told}
+use Rattle.scope_table.specs.Unbound.{place_of}
+use Rattle.scope_table.specs.Editing.{listed_unresolved}
+use Rattle.scope_table.proofs.Edited.{place_within, put_at, put_last}
+use Rattle.scope_table.proofs.scoping.Scoping.add_root_unresolved_reference.Goals as goal
+
+pub index_mut-item-requires : goal.index_mut-item-requires
+index_mut-item-requires c =
+    let within = place_within c.args.name.now 0 c.in-Some.at c.deref.result.now (sym c.place_of.ensures ∙ c.in-Some.is) in
+    omega (arith, within.1, c.deref.ensures.len)
+
+pub returns-in_default-clause-listed : goal.returns-in_default-clause-listed
+returns-in_default-clause-listed c =
+    ap (λ us. record { scopes = c.self.inside.scopes.items; symbols = map told c.self.inside.symbols.items; references = c.self.inside.references.items; unresolved = us })
+    (c.in_ok-push.ensures.items ∙ ap (λ u. c.self.inside.unresolved.items ++ u ∷ []) c.in_ok-item.ensures
+    ∙ put_last c.args.name.now c.args.reference.0 0 c.self.inside.unresolved.items (sym (ap (place_of c.args.name.now 0) c.deref.ensures.value) ∙ sym c.place_of.ensures ∙ c.in_default.is))
+    ∙ ap (listed_unresolved c.args.name.now c.args.reference.0) c.self.view_is
+
+pub returns-clause-listed : goal.returns-clause-listed
+returns-clause-listed c =
+    ap (λ us. record { scopes = c.self.inside.scopes.items; symbols = map told c.self.inside.symbols.items; references = c.self.inside.references.items; unresolved = us })
+    (put_at c.args.name.now c.args.reference.0 c.in-Some.at c.self.inside.unresolved.items c.index_mut-item.result.now c.refer.new.self
+    (sym (ap (place_of c.args.name.now 0) c.deref.ensures.value) ∙ sym c.place_of.ensures ∙ c.in-Some.is) c.index_mut-item.ensures.value c.in_ok-refer.ensures.listed)
+    ∙ ap (listed_unresolved c.args.name.now c.args.reference.0) c.self.view_is
