@@ -1,5 +1,5 @@
 -- Names of one node more.
-use Rattle.std.proofs.Common.{◌≡◌, ◌∙◌, ◌<◌, ◌+◌, ℕ, List, [], ◌∷◌, ◌++◌, Option, Some, None, length, take, get_or, refl, sym, ap, arith}
+use Rattle.std.proofs.Common.{◌≡◌, ◌<◌, ◌+◌, ℕ, List, [], ◌∷◌, ◌++◌, Option, Some, None, length, take, get_or, refl}
 use Rattle.std.proofs.lemmas.List.{take_more}
 use Rattle.js_syntax.specs.Node.{Tree, row}
 use Rattle.min_context.specs.Naming.{with_part, part_before, part_behind, gathered}

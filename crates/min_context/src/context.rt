@@ -50,7 +50,8 @@ impl Model for MinifierTraverseCtx {
     ghost Value = { Seen };
 
     ghost view = { λ c. record {
-      scoping = c.scoping;
+      scoping = c.scoping.scoping;
+      uids = c.scoping.uids;
       marked = c.state.pass_changes.marked;
       eval_dropped = c.state.pass_changes.eval_dropped;
       requested = c.state.pass_changes.requested;

@@ -15,6 +15,7 @@ mod marks;
 mod naming;
 mod replacing;
 mod reusable;
+mod shortcuts;
 mod state;
 
 pub use ancestor::{Above, Ancestor, Parent, Within};
