@@ -10,3 +10,4 @@ pub mod Replacing
 pub mod Collecting
 pub mod Naming
 pub mod Lending
+pub mod Generating

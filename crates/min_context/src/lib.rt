@@ -11,6 +11,7 @@ mod ancestry;
 mod collector;
 mod context;
 mod edits;
+mod generating;
 mod marks;
 mod naming;
 mod replacing;
