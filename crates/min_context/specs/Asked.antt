@@ -12,6 +12,7 @@ use Rattle.min_context.specs.declared.state.MinifierState.{MinifierState}
 abbrev pub seen_of : MinifierState → Scoping → Seen
 seen_of s scoping = record {
   scoping = scoping;
+  uids = None;
   marked = s.pass_changes.marked;
   eval_dropped = s.pass_changes.eval_dropped;
   requested = s.pass_changes.requested;
@@ -30,3 +31,15 @@ is_tree_shake_only how = false
 abbrev pub is_global : Scoping → (id : Option ℕ) → Bool
 is_global s None = true
 is_global s (Some r) = not (is_some (reference_at s r).symbol)
+
+-- with this state in the place of its own
+abbrev pub with_state : MinifierState → Seen → Seen
+with_state s c = record c {
+  marked = s.pass_changes.marked;
+  eval_dropped = s.pass_changes.eval_dropped;
+  requested = s.pass_changes.requested;
+  source_type = s.source_type;
+  options = s.options;
+  mode = s.mode;
+  frames = s.body_frames.items;
+}

@@ -8,3 +8,6 @@ pub mod Edited
 pub mod Asked
 pub mod Replacing
 pub mod Collecting
+pub mod Naming
+pub mod Lending
+pub mod Generating

@@ -2,12 +2,15 @@
 ghost use Rattle.std.specs.Prelude.{◌≡◌, ◌++◌, [], ◌∷◌, OnOk, OnErr, List, true};
 ghost use Rattle.min_context.specs.declared.ancestor.Ancestor.{Ancestor};
 ghost use Rattle.min_context.specs.Above.{is_within};
+ghost use Rattle.std.specs.Borrow.{sem};
+ghost use Rattle.min_context.specs.Lending.{LendsState};
 ghost use Rattle.min_context.specs.Asked.{seen_of, is_tree_shake_only, is_global};
 ghost use Rattle.min_context.specs.Place.{Place, inside, number_or, scope_inside, told_of};
 
 use crate::ancestor::{Above, Ancestor, Parent, Within};
 use crate::state::{CompressionMode, MinifierState};
-use js_syntax::{ReferenceId, SourceType};
+use js_syntax::{ReferenceId, ScopeId, SourceType};
+use js_traverse::TraverseScoping;
 use js_tree::Node;
 use min_options::CompressOptions;
 use scope_table::Scoping;
@@ -17,10 +20,9 @@ use std::marker::Model;
 /// What a walk that edits carries: the table, the nodes above, the scopes around, and what passes know.
 pub struct MinifierTraverseCtx {
     pub(crate) alloc: Global,
-    pub(crate) scoping: Scoping,
+    pub(crate) scoping: TraverseScoping,
     pub(crate) state: MinifierState,
     pub(crate) ancestors: Vec<Ancestor>,
-    pub(crate) scopes: CurrentScopes,
 }
 
 /// The numbers of the innermost scope, of that in which `var` declares, and of that of the list of statements around.
@@ -38,7 +40,6 @@ impl Drop for MinifierTraverseCtx {
             scoping: _,
             state: _,
             ancestors: _,
-            scopes: _,
         } = self;
     }
 }
@@ -49,7 +50,8 @@ impl Model for MinifierTraverseCtx {
     ghost Value = { Seen };
 
     ghost view = { λ c. record {
-      scoping = c.scoping;
+      scoping = c.scoping.scoping;
+      uids = c.scoping.uids;
       marked = c.state.pass_changes.marked;
       eval_dropped = c.state.pass_changes.eval_dropped;
       requested = c.state.pass_changes.requested;
@@ -57,7 +59,7 @@ impl Model for MinifierTraverseCtx {
       options = c.state.options;
       mode = c.state.mode;
       frames = c.state.body_frames.items;
-      place = record { ancestors = c.ancestors.items; scope = c.scopes.scope; hoist_scope = c.scopes.hoist_scope; block_scope = c.scopes.block_scope };
+      place = record { ancestors = c.ancestors.items; scope = c.scoping.current; hoist_scope = c.scoping.hoist; block_scope = c.scoping.block };
     } };
 }
 
@@ -110,14 +112,9 @@ impl MinifierTraverseCtx {
     {
         MinifierTraverseCtx {
             alloc,
-            scoping,
+            scoping: TraverseScoping::new(scoping),
             state,
             ancestors: Vec::new(alloc),
-            scopes: CurrentScopes {
-                scope: 0,
-                hoist_scope: 0,
-                block_scope: 0,
-            },
         }
     }
 
@@ -129,16 +126,22 @@ impl MinifierTraverseCtx {
             scoping,
             state: _,
             ancestors: _,
-            scopes: _,
         } = self;
-        scoping
+        scoping.into_scoping()
     }
 
     /// The table of scopes, symbols and references.
     pub fn scoping(&self) -> &Scoping
         ensures scoping { result.now ≡ self.now.scoping }
     {
-        &self.scoping
+        self.scoping.scoping()
+    }
+
+    /// What passes know beside the table, to be changed.
+    pub fn state_mut(&mut self) -> &mut MinifierState
+        ensures* writes_back { sem 𝓛 (LendsState self.entry result) }
+    {
+        &mut self.state
     }
 
     /// How the run compresses.
@@ -181,8 +184,8 @@ impl MinifierTraverseCtx {
         ensures global { result ≡ is_global self.now.scoping reference.now.note.id }
     {
         match reference.id() {
-            Some(id) if (id as usize) < self.scoping.references_len() => self
-                .scoping
+            Some(id) if (id as usize) < self.scoping().references_len() => self
+                .scoping()
                 .get_reference(ReferenceId(id))
                 .symbol_id()
                 .is_none(),
@@ -208,7 +211,21 @@ impl MinifierTraverseCtx {
         ensures hoist_scope { result.hoist_scope ≡ self.now.place.hoist_scope }
         ensures block_scope { result.block_scope ≡ self.now.place.block_scope }
     {
-        self.scopes
+        CurrentScopes {
+            scope: self.scoping.current_scope_id().0,
+            hoist_scope: self.scoping.current_hoist_scope_id().0,
+            block_scope: self.scoping.current_block_scope_id().0,
+        }
+    }
+
+    fn set_current_scopes(&mut self, scopes: CurrentScopes)
+        ensures { self.new ≡ record self.old { place = record { ancestors = self.old.place.ancestors; scope = scopes.scope; hoist_scope = scopes.hoist_scope; block_scope = scopes.block_scope } } }
+    {
+        self.scoping.set_current_scope_id(ScopeId(scopes.scope));
+        self.scoping
+            .set_current_hoist_scope_id(ScopeId(scopes.hoist_scope));
+        self.scoping
+            .set_current_block_scope_id(ScopeId(scopes.block_scope));
     }
 
     /// The walk goes to the child at an index below a node; `previous` says whether the one before it is there.
@@ -217,11 +234,12 @@ impl MinifierTraverseCtx {
     {
         self.ancestors
             .push(Ancestor::Field(told_of(above.parent, at, previous), at))?;
-        self.scopes = CurrentScopes {
-            scope: scope_inside(self.scopes.scope, above, at, true),
-            hoist_scope: scope_inside(self.scopes.hoist_scope, above, at, above.hoists),
-            block_scope: scope_inside(self.scopes.block_scope, above, at, above.is_of_list),
-        };
+        let scopes = self.current_scopes();
+        self.set_current_scopes(CurrentScopes {
+            scope: scope_inside(scopes.scope, above, at, true),
+            hoist_scope: scope_inside(scopes.hoist_scope, above, at, above.hoists),
+            block_scope: scope_inside(scopes.block_scope, above, at, above.is_of_list),
+        });
         Ok(())
     }
 
@@ -230,7 +248,7 @@ impl MinifierTraverseCtx {
         ensures left { (p : Place) (a : Ancestor) → self.old.place.ancestors ≡ p.ancestors ++ (a ∷ []) → p.scope ≡ scopes.scope → p.hoist_scope ≡ scopes.hoist_scope → p.block_scope ≡ scopes.block_scope → self.new ≡ record self.old { place = p } }
     {
         self.ancestors.pop();
-        self.scopes = scopes;
+        self.set_current_scopes(scopes);
     }
 
     /// Another pass is asked for.

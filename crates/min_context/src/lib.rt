@@ -11,9 +11,12 @@ mod ancestry;
 mod collector;
 mod context;
 mod edits;
+mod generating;
 mod marks;
+mod naming;
 mod replacing;
 mod reusable;
+mod shortcuts;
 mod state;
 
 pub use ancestor::{Above, Ancestor, Parent, Within};

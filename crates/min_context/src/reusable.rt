@@ -1,6 +1,8 @@
 // A context between walks.
 ghost use Rattle.std.specs.Prelude.{◌≡◌};
+ghost use Rattle.std.specs.Borrow.{sem};
 ghost use Rattle.min_context.specs.Asked.{seen_of};
+ghost use Rattle.min_context.specs.Lending.{LendsContext, LendsStateBetween};
 
 use crate::context::MinifierTraverseCtx;
 use crate::state::MinifierState;
@@ -42,6 +44,22 @@ impl ReusableMinifierTraverseCtx {
         ensures context { result.now ≡ self.now }
     {
         &self.ctx
+    }
+
+    /// The context, to be changed.
+    pub fn get_mut(&mut self) -> &mut MinifierTraverseCtx
+        ensures* writes_back { sem 𝓛 (LendsContext self.entry result) }
+        ensures context { result.now ≡ self.old }
+    {
+        &mut self.ctx
+    }
+
+    /// What passes know beside the table, to be changed.
+    pub fn state_mut(&mut self) -> &mut MinifierState
+        ensures* writes_back { sem 𝓛 (LendsStateBetween self.entry result) }
+    {
+        let ctx = &mut self.ctx;
+        ctx.state_mut()
     }
 
     /// The table, once the last walk is done.

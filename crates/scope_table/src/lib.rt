@@ -14,6 +14,7 @@
 mod editing;
 mod editing_references;
 mod flags;
+mod making;
 mod reading;
 mod reference;
 mod scope;
