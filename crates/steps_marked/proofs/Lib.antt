@@ -10,3 +10,4 @@ pub mod Tried
 pub mod Unexporting
 pub mod Places
 pub mod Referring
+pub mod Leaving

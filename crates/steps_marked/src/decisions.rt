@@ -1,0 +1,49 @@
+// Which edits a walk may decide by its table. Each law is a contract, so that the check proves it.
+ghost use Rattle.std.specs.Prelude.{◌≡◌, ℕ, ◌==◌, List, Bool, true, false, ◌&&◌, Some};
+ghost use Rattle.js_syntax.specs.declared.kind.VariableKind.{VariableKind};
+ghost use Rattle.js_syntax.specs.declared.node_kind.NodeKind.TheVariants.{BindingName as binding_name};
+ghost use Rattle.js_syntax.specs.Node.{Forest, Note, nothing, node};
+ghost use Rattle.scope_rules.specs.ScopeFlags as scope_flag;
+ghost use Rattle.scope_rules.specs.Table.{Scoping};
+ghost use Rattle.scope_counts.specs.Losing.{MarksWhatLeft};
+ghost use Rattle.scope_laws.specs.Place.{Around, plug};
+ghost use Rattle.scope_laws.specs.Lists.{without};
+ghost use Rattle.steps_allowed.specs.Places.{IsItem, IsDeclarator, has_other, At};
+ghost use Rattle.steps_allowed.specs.UnusedFunction.{a_function};
+ghost use Rattle.steps_allowed.specs.UnusedDeclarator.{SilentDeclarator, a_declarator};
+ghost use Rattle.steps_allowed.specs.UnusedDeclaration.{SilentDeclaration, a_declaration};
+ghost use Rattle.steps_allowed.specs.Exposure.{is_script, evaluates_somewhere};
+ghost use Rattle.steps_allowed.specs.Edits.{Edit, TreeEdits};
+ghost use Rattle.steps_marked.specs.Flags.{scope_has, is_sloppy_block, declares_in, stand};
+ghost use Rattle.steps_marked.specs.Told.{IsTold, IsUnused};
+
+/// Law: what a walk goes by stays true through edits, once what left is marked.
+pub fn edits_keep_what_is_told()
+    ensures { (t u : Forest) → TreeEdits t u → (s : Scoping) (before after exported : ℕ → Bool) → MarksWhatLeft before t u after → IsTold s before exported t → IsTold s after exported u }
+{}
+
+/// Law: a function declaration of a symbol that is unused by the table may leave its list, where the flags of its scope say that no
+/// other code may use it.
+pub fn unused_functions_may_leave()
+    ensures { (s : Scoping) (marked exported : ℕ → Bool) (a : Around) (pure : Bool) (n m : Note) (x : List ℕ) (rest : Forest) →
+        let t = plug a (a_function pure n m x rest) in
+        IsTold s marked exported t → IsItem a → (symbol : ℕ) → m.id ≡ Some symbol → IsUnused s marked exported symbol
+        → (scope : ℕ) → (stand a (a_function pure n m x rest)).scope ≡ Some scope → is_script t && scope == 0 ≡ false → scope_has s scope scope_flag.direct_eval ≡ false → is_sloppy_block s scope ≡ false
+        → Edit t (without a) }
+{}
+
+/// Law: so may a declarator leave others, and a declaration of one declarator its list, where what they compute is silent.
+pub fn unused_variables_may_leave()
+    ensures declarators { (s : Scoping) (marked exported : ℕ → Bool) (a : Around) (n m : Note) (x : List ℕ) (value : Forest) →
+        let t = plug a (a_declarator n m x value) in
+        IsTold s marked exported t → IsDeclarator a → has_other false a ≡ true → At a (a_declarator n m x value) (SilentDeclarator t (node (binding_name x) m nothing value))
+        → (symbol : ℕ) → m.id ≡ Some symbol → IsUnused s marked exported symbol
+        → (scope : ℕ) → (stand a (a_declarator n m x value)).declaring ≡ Some scope → is_script t && scope == 0 ≡ false → evaluates_somewhere t ≡ false
+        → Edit t (without a) }
+    ensures declarations { (s : Scoping) (marked exported : ℕ → Bool) (a : Around) (how : VariableKind) (n m l j : Note) (x : List ℕ) (value : Forest) →
+        let t = plug a (a_declaration how n m l j x value) in
+        IsTold s marked exported t → IsItem a → At a (a_declaration how n m l j x value) (SilentDeclaration t how m l (node (binding_name x) j nothing value))
+        → (symbol : ℕ) → j.id ≡ Some symbol → IsUnused s marked exported symbol
+        → (scope : ℕ) → declares_in (stand a (a_declaration how n m l j x value)) how ≡ Some scope → is_script t && scope == 0 ≡ false → evaluates_somewhere t ≡ false
+        → Edit t (without a) }
+{}
