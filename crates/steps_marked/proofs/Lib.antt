@@ -11,3 +11,4 @@ pub mod Unexporting
 pub mod Places
 pub mod Referring
 pub mod Leaving
+pub mod Silent

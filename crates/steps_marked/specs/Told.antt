@@ -1,13 +1,18 @@
 -- What a walk goes by.
-use Rattle.std.specs.Prelude.{◌≡◌, ◌≤◌, ℕ, Bool, true, false, Some}
+use Rattle.std.specs.Prelude.{◌≡◌, ◌≤◌, ℕ, List, Bool, true, false, ◌&&◌, ◌||◌, slice_get, Some}
 use Rattle.js_syntax.specs.Class.{root}
 use Rattle.js_syntax.specs.Node.{Forest}
+use Rattle.js_effects.specs.Silence.{is_marked, may_have_effects}
 use Rattle.json_shape.specs.Shape.{Fits}
+use Rattle.min_pass.specs.Around.{outermost as asked_of_program}
+use Rattle.min_pass.specs.Pass.{is_given}
 use Rattle.scope_rules.specs.Site.{BindingSite}
-use Rattle.scope_rules.specs.Table.{Scoping}
+use Rattle.scope_rules.specs.Table.{Reference, Scoping}
 use Rattle.scope_laws.specs.Exact.{Among}
+use Rattle.scope_laws.specs.Place.{Around}
 use Rattle.scope_counts.specs.Exact.{count, lists_of}
 use Rattle.scope_counts.specs.Scopes.{ExactButMarks}
+use Rattle.steps_allowed.specs.Places.{asked_at}
 use Rattle.steps_names.specs.Standing.{exported_declarations}
 use Rattle.steps_marked.specs.Flags.{FlagsTell}
 
@@ -23,3 +28,24 @@ pub record IsTold (s : Scoping) (marked exported : ℕ → Bool) (t : Forest) : 
 pub record IsUnused (s : Scoping) (marked exported : ℕ → Bool) (symbol : ℕ) : Type 0 where
   pub listed : (id : ℕ) → 1 ≤ count id (lists_of s symbol) → marked id ≡ true
   pub unexported : exported symbol ≡ false
+
+-- ---- names that are known to be bound
+
+-- the reference has an entry, which has a symbol
+pub record IsBound (s : Scoping) (id : ℕ) : Type 0 where
+  pub entry : Reference
+  pub stands : slice_get s.references id ≡ Some entry
+  pub symbol : ℕ
+  pub is : entry.symbol ≡ Some symbol
+
+-- each reference that is said to be bound is
+abbrev pub AreBound : Scoping → (bound : List Bool) → Type 0
+AreBound s bound = (id : ℕ) → is_marked bound (Some id) ≡ true → IsBound s id
+
+-- Nothing in a row has an effect, by what is known of names at a place.
+abbrev pub IsSilentAt : (bound : List Bool) → Around → Forest → Type 0
+IsSilentAt bound a t = may_have_effects bound (asked_at (asked_of_program true) a).in_with t ≡ false
+
+-- So it is with a declarator's value; inside of a `with` statement it may set a property of its object.
+abbrev pub IsSilentValue : (bound : List Bool) → Around → (value : Forest) → Type 0
+IsSilentValue bound a value = may_have_effects bound (asked_at (asked_of_program true) a).in_with value || (asked_at (asked_of_program true) a).in_with && is_given value ≡ false

@@ -1,21 +1,23 @@
 // Which edits a walk may decide by its table. Each law is a contract, so that the check proves it.
 ghost use Rattle.std.specs.Prelude.{◌≡◌, ℕ, ◌==◌, List, Bool, true, false, ◌&&◌, Some};
 ghost use Rattle.js_syntax.specs.declared.kind.VariableKind.{VariableKind};
-ghost use Rattle.js_syntax.specs.declared.node_kind.NodeKind.TheVariants.{BindingName as binding_name};
-ghost use Rattle.js_syntax.specs.Node.{Forest, Note, nothing, node};
+ghost use Rattle.js_syntax.specs.declared.node_kind.NodeKind.{NodeKind as Kind};
+ghost use Rattle.js_syntax.specs.declared.node_kind.NodeKind.TheVariants.{BindingName as binding_name, EmptyStatement as empty_statement};
+ghost use Rattle.js_syntax.specs.Node.{Forest, Note, nothing, node, alone};
 ghost use Rattle.scope_rules.specs.ScopeFlags as scope_flag;
 ghost use Rattle.scope_rules.specs.Table.{Scoping};
 ghost use Rattle.scope_counts.specs.Losing.{MarksWhatLeft};
 ghost use Rattle.scope_laws.specs.Place.{Around, plug};
 ghost use Rattle.scope_laws.specs.Lists.{without};
-ghost use Rattle.steps_allowed.specs.Places.{IsItem, IsDeclarator, has_other, At};
+ghost use Rattle.steps_allowed.specs.Places.{a_node, IsItem, IsDeclarator, has_other, At};
+ghost use Rattle.steps_allowed.specs.SilentStatement.{a_statement};
 ghost use Rattle.steps_allowed.specs.UnusedFunction.{a_function};
 ghost use Rattle.steps_allowed.specs.UnusedDeclarator.{SilentDeclarator, a_declarator};
 ghost use Rattle.steps_allowed.specs.UnusedDeclaration.{SilentDeclaration, a_declaration};
 ghost use Rattle.steps_allowed.specs.Exposure.{is_script, evaluates_somewhere};
 ghost use Rattle.steps_allowed.specs.Edits.{Edit, TreeEdits};
 ghost use Rattle.steps_marked.specs.Flags.{scope_has, is_sloppy_block, declares_in, stand};
-ghost use Rattle.steps_marked.specs.Told.{IsTold, IsUnused};
+ghost use Rattle.steps_marked.specs.Told.{IsTold, IsUnused, AreBound, IsSilentAt, IsSilentValue};
 
 /// Law: what a walk goes by stays true through edits, once what left is marked.
 pub fn edits_keep_what_is_told()
@@ -46,4 +48,21 @@ pub fn unused_variables_may_leave()
         → (symbol : ℕ) → j.id ≡ Some symbol → IsUnused s marked exported symbol
         → (scope : ℕ) → declares_in (stand a (a_declaration how n m l j x value)) how ≡ Some scope → is_script t && scope == 0 ≡ false → evaluates_somewhere t ≡ false
         → Edit t (without a) }
+{}
+
+/// Law: a statement of an expression that has no effects, by what is known of names, may become empty.
+pub fn silent_statements_may_become_empty()
+    ensures { (s : Scoping) (marked exported : ℕ → Bool) (bound : List Bool) (a : Around) (n m l : Note) (k : Kind) (inner : Forest) →
+        let t = plug a (a_statement n l k inner) in
+        IsTold s marked exported t → AreBound s bound → IsSilentAt bound a (alone k l inner) → Edit t (plug a (a_node empty_statement m nothing)) }
+{}
+
+/// Law: what a declarator computes is silent where it has no effects, by what is known of names.
+pub fn silent_values_are_silent()
+    ensures declarators { (s : Scoping) (marked exported : ℕ → Bool) (bound : List Bool) (a : Around) (n m : Note) (x : List ℕ) (value : Forest) →
+        let t = plug a (a_declarator n m x value) in
+        IsTold s marked exported t → AreBound s bound → IsSilentValue bound a value → At a (a_declarator n m x value) (SilentDeclarator t (node (binding_name x) m nothing value)) }
+    ensures declarations { (s : Scoping) (marked exported : ℕ → Bool) (bound : List Bool) (a : Around) (how : VariableKind) (n m l j : Note) (x : List ℕ) (value : Forest) →
+        let t = plug a (a_declaration how n m l j x value) in
+        IsTold s marked exported t → AreBound s bound → IsSilentValue bound a value → At a (a_declaration how n m l j x value) (SilentDeclaration t how m l (node (binding_name x) j nothing value)) }
 {}
