@@ -15,7 +15,18 @@ use Rattle.scope_laws.specs.Exact.{Among}
 use Rattle.scope_laws.specs.Place.{Around, first, behind, behind_none, under, one_place, plug, there}
 use Rattle.scope_laws.specs.Lists.{without}
 use Rattle.scope_laws.proofs.Around.{stands_there}
-use Rattle.scope_counts.specs.Losing.{MarksWhatLeft}
+use Rattle.scope_counts.specs.Losing.{MarksWhatLeft, Prunes}
+use Rattle.scope_counts.specs.Scopes.{unmarked}
+use Rattle.scope_counts.proofs.Tables.{marks_may_go}
+use Rattle.js_syntax.specs.Class.{root}
+use Rattle.json_shape.specs.Shape.{Fits}
+use Rattle.scope_rules.specs.Site.{found_in}
+use Rattle.scope_rules.specs.Mark.{marked, first_marks}
+use Rattle.scope_rules.specs.Table.{scoping_of, symbols_declared}
+use Rattle.scope_table.specs.Reading.{scope_at}
+use Rattle.scope_laws.proofs.Marking.{bare_marked}
+use Rattle.steps_owed.proofs.FitsEdits.{renoted_fits}
+use Rattle.steps_marked.proofs.Numbered.{marked_told}
 use Rattle.steps_names.specs.Standing.{is_export, exported_declarations}
 use Rattle.steps_names.proofs.Sites.{InThree, in_first, in_second, in_third, binding_in, binding_left, binding_second, binding_third}
 use Rattle.steps_allowed.specs.Silent.{HoldsThere}
@@ -30,9 +41,9 @@ use Rattle.steps_owed.proofs.FitsEdits.{tree_edits_fit}
 use Rattle.steps_owed.proofs.Pruning.{pruned, prunes}
 use Rattle.steps_owed.proofs.Unseen.{layer_below}
 use Rattle.steps_marked.specs.Flags.{scope_has, is_sloppy_block, declares_in, stand}
-use Rattle.steps_marked.specs.Told.{IsTold, IsUnused}
-use Rattle.steps_marked.proofs.Tables.{pruned_exact, edits_keep_marked}
-use Rattle.steps_marked.proofs.Telling.{edits_told, function_hidden, declarator_hidden, declaration_hidden}
+use Rattle.steps_marked.specs.Told.{KnowsExports, IsTold, IsUnused}
+use Rattle.steps_marked.proofs.Tables.{pruned_exact, edits_keep_marked, new_exact}
+use Rattle.steps_marked.proofs.Telling.{edits_told, flags_alone, function_hidden, declarator_hidden, declaration_hidden}
 use Rattle.steps_marked.proofs.Referring.{unreferred}
 use Rattle.steps_marked.proofs.Unexporting.{collected, all_collected, exports_collected, edits_export}
 
@@ -43,6 +54,17 @@ told_stays t u edits s before after exported marks h = record {
   flags = edits_told s t u edits h.fits h.flags;
   exports = λ d stands top symbol is. let w = edits_export t u edits h.fits d stands top in h.exports w.declaration w.stands w.is_outermost symbol (w.same_mark ∙ is);
 }
+
+pub told_first : (t : Forest) → Fits root t → (exported : ℕ → Bool) →
+    let f = found_in (sites_of t) in
+    let now = marked (first_marks (symbols_declared f.bindings)) t in
+    KnowsExports exported now → IsTold (scoping_of f) unmarked exported now
+told_first t fits exported known =
+    let m = first_marks (symbols_declared (found_in (sites_of t)).bindings) in
+    record { fits = renoted_fits t (marked m t) (sym (bare_marked m t)) fits; lists = new_exact t fits; flags = marked_told t fits; exports = known }
+
+pub told_pruned : (t : Forest) (before now : Scoping) (marked exported : ℕ → Bool) → Prunes marked before now → ((n : ℕ) → (scope_at now n).flags ≡ (scope_at before n).flags) → IsTold before marked exported t → IsTold now unmarked exported t
+told_pruned t before now marked exported prune same h = record { fits = h.fits; lists = marks_may_go marked before now t prune h.lists; flags = flags_alone t before now same h.flags; exports = h.exports }
 
 -- ---- exported declarations are declarations
 

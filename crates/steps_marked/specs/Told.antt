@@ -16,13 +16,16 @@ use Rattle.steps_allowed.specs.Places.{asked_at}
 use Rattle.steps_names.specs.Standing.{exported_declarations}
 use Rattle.steps_marked.specs.Flags.{FlagsTell}
 
--- Of a tree of the table of node types the table tells, but for marks, and so do its flags; what the program exports of its own
--- scope has the mark of a symbol that is known to be exported.
+-- what the program exports of its own scope has the mark of a symbol that is known to be exported
+abbrev pub KnowsExports : (exported : ℕ → Bool) → Forest → Type 0
+KnowsExports exported t = (d : BindingSite) → Among d (exported_declarations t) → d.layer.scope ≡ 0 → (symbol : ℕ) → d.id ≡ Some symbol → exported symbol ≡ true
+
+-- Of a tree of the table of node types the table tells, but for marks, and so do its flags.
 pub record IsTold (s : Scoping) (marked exported : ℕ → Bool) (t : Forest) : Type 0 where
   pub fits : Fits root t
   pub lists : ExactButMarks s marked t
   pub flags : FlagsTell s t
-  pub exports : (d : BindingSite) → Among d (exported_declarations t) → d.layer.scope ≡ 0 → (symbol : ℕ) → d.id ≡ Some symbol → exported symbol ≡ true
+  pub exports : KnowsExports exported t
 
 -- Each id that the symbol lists is marked, and it isn't exported.
 pub record IsUnused (s : Scoping) (marked exported : ℕ → Bool) (symbol : ℕ) : Type 0 where

@@ -3,10 +3,16 @@ ghost use Rattle.std.specs.Prelude.{◌≡◌, ℕ, ◌==◌, List, Bool, true, 
 ghost use Rattle.js_syntax.specs.declared.kind.VariableKind.{VariableKind};
 ghost use Rattle.js_syntax.specs.declared.node_kind.NodeKind.{NodeKind as Kind};
 ghost use Rattle.js_syntax.specs.declared.node_kind.NodeKind.TheVariants.{BindingName as binding_name, EmptyStatement as empty_statement};
+ghost use Rattle.js_syntax.specs.Class.{root};
+ghost use Rattle.json_shape.specs.Shape.{Fits};
+ghost use Rattle.scope_rules.specs.Site.{sites_of, found_in};
+ghost use Rattle.scope_rules.specs.Mark.{marked, first_marks};
+ghost use Rattle.scope_table.specs.Reading.{scope_at};
+ghost use Rattle.scope_counts.specs.Scopes.{unmarked};
 ghost use Rattle.js_syntax.specs.Node.{Forest, Note, nothing, node, alone};
 ghost use Rattle.scope_rules.specs.ScopeFlags as scope_flag;
-ghost use Rattle.scope_rules.specs.Table.{Scoping};
-ghost use Rattle.scope_counts.specs.Losing.{MarksWhatLeft};
+ghost use Rattle.scope_rules.specs.Table.{Scoping, scoping_of, symbols_declared};
+ghost use Rattle.scope_counts.specs.Losing.{MarksWhatLeft, Prunes};
 ghost use Rattle.scope_laws.specs.Place.{Around, plug};
 ghost use Rattle.scope_laws.specs.Lists.{without};
 ghost use Rattle.steps_allowed.specs.Places.{a_node, IsItem, IsDeclarator, has_other, At};
@@ -17,11 +23,24 @@ ghost use Rattle.steps_allowed.specs.UnusedDeclaration.{SilentDeclaration, a_dec
 ghost use Rattle.steps_allowed.specs.Exposure.{is_script, evaluates_somewhere};
 ghost use Rattle.steps_allowed.specs.Edits.{Edit, TreeEdits};
 ghost use Rattle.steps_marked.specs.Flags.{scope_has, is_sloppy_block, declares_in, stand};
-ghost use Rattle.steps_marked.specs.Told.{IsTold, IsUnused, AreBound, IsSilentAt, IsSilentValue};
+ghost use Rattle.steps_marked.specs.Told.{KnowsExports, IsTold, IsUnused, AreBound, IsSilentAt, IsSilentValue};
 
 /// Law: what a walk goes by stays true through edits, once what left is marked.
 pub fn edits_keep_what_is_told()
     ensures { (t u : Forest) → TreeEdits t u → (s : Scoping) (before after exported : ℕ → Bool) → MarksWhatLeft before t u after → IsTold s before exported t → IsTold s after exported u }
+{}
+
+/// Law: it is true of a new table, with nothing marked, where the symbols are known that the program exports.
+pub fn new_tables_tell()
+    ensures { (t : Forest) → Fits root t → (exported : ℕ → Bool) →
+        let f = found_in (sites_of t) in
+        let now = marked (first_marks (symbols_declared f.bindings)) t in
+        KnowsExports exported now → IsTold (scoping_of f) unmarked exported now }
+{}
+
+/// Law: and of a table whose lists are pruned, with nothing marked any more.
+pub fn pruned_tables_tell()
+    ensures { (t : Forest) (before now : Scoping) (marked exported : ℕ → Bool) → Prunes marked before now → ((n : ℕ) → (scope_at now n).flags ≡ (scope_at before n).flags) → IsTold before marked exported t → IsTold now unmarked exported t }
 {}
 
 /// Law: a function declaration of a symbol that is unused by the table may leave its list, where the flags of its scope say that no
