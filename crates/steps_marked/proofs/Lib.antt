@@ -10,3 +10,5 @@ pub mod Tried
 pub mod Unexporting
 pub mod Places
 pub mod Referring
+pub mod Leaving
+pub mod Silent

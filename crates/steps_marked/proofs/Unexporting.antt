@@ -144,19 +144,19 @@ covers_by false k now below q p next other l some s h i j f = subst (λ m. Ahead
 
 -- ---- all sites of a row, or those below its exports
 
-abbrev collected : (all : Bool) → (contexts : ℕ → Context) → (at next : ℕ) → Forest → List Site
+abbrev pub collected : (all : Bool) → (contexts : ℕ → Context) → (at next : ℕ) → Forest → List Site
 collected all cs at next nothing = []
 collected all cs at next (absent r) = collected all cs (suc at) next r
 collected all cs at next (node k n a r) =
     (if all then own_sites (cs at) n k a else []) ++ collected (all || is_export k) (inside (cs at) next k a) 0 (next + opens_one k a) a ++ collected all cs (suc at) (next + scope_count (node k n a nothing)) r
 
-all_collected : (cs : ℕ → Context) (at next : ℕ) (t : Forest) → collected true cs at next t ≡ sites cs at next t
+pub all_collected : (cs : ℕ → Context) (at next : ℕ) (t : Forest) → collected true cs at next t ≡ sites cs at next t
 all_collected cs at next nothing = refl
 all_collected cs at next (absent r) = all_collected cs (suc at) next r
 all_collected cs at next (node k n a r) =
     ap₂ (λ xs ys. own_sites (cs at) n k a ++ xs ++ ys) (all_collected (inside (cs at) next k a) 0 (next + opens_one k a) a) (all_collected cs (suc at) (next + scope_count (node k n a nothing)) r)
 
-exports_collected : (cs : ℕ → Context) (at next : ℕ) (t : Forest) → collected false cs at next t ≡ exported_sites cs at next t
+pub exports_collected : (cs : ℕ → Context) (at next : ℕ) (t : Forest) → collected false cs at next t ≡ exported_sites cs at next t
 exports_collected cs at next nothing = refl
 exports_collected cs at next (absent r) = exports_collected cs (suc at) next r
 exports_collected cs at next (node k n a r) =

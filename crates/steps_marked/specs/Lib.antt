@@ -1,3 +1,4 @@
 pub mod Flags
 pub mod Samples
 pub mod Exports
+pub mod Told

@@ -6,12 +6,14 @@
 //! places of edits, and that the table is exact again once the marked ids are out of its lists. `flags`, that what the flags of
 //! its scopes tell of a program they tell of what is left of it (`specs/Flags.antt`): there a scope is known by the mark of its
 //! node, since its number is that of no order any more. `uses`, what such a table tells of references and their bindings, and
-//! `exports`, that no declaration is exported that wasn't. `rows` are small programs of which this is so, or not, by computing.
+//! `exports`, that no declaration is exported that wasn't. `decisions` puts them together: what a walk goes by
+//! (`specs/Told.antt`) stays true, and by it what is unused may leave. `rows` are small programs, by computing.
 //!
 //! It stands on steps_owed: `proofs/Local.antt` has the shapes of edits, with a line for each case, and all else goes by shape.
 //! The code is empty: each function's contract is a law.
 #![tactic(auto)]
 
+pub mod decisions;
 pub mod exports;
 pub mod flags;
 pub mod laws;
