@@ -6,3 +6,4 @@ pub mod Read
 pub mod Resolved
 pub mod Listing
 pub mod Edited
+pub mod Flagged

@@ -5,3 +5,4 @@ pub mod Named
 pub mod Reading
 pub mod Editing
 pub mod Lending
+pub mod Refreshing
