@@ -7,3 +7,4 @@ pub mod Resolved
 pub mod Listing
 pub mod Edited
 pub mod Flagged
+pub mod Back

@@ -6,3 +6,4 @@ pub mod Reading
 pub mod Editing
 pub mod Lending
 pub mod Refreshing
+pub mod Making

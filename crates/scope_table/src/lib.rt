@@ -15,6 +15,7 @@
 mod editing;
 mod editing_references;
 mod flags;
+mod making;
 mod reading;
 mod reference;
 mod refreshing;

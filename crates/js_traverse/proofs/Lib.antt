@@ -1,0 +1,5 @@
+mod Read
+mod Kept
+mod Written
+mod Fresh
+mod Moved

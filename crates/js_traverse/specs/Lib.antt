@@ -1,0 +1,6 @@
+pub mod Uid
+pub mod Kept
+pub mod Fresh
+pub mod Tried
+pub mod Traversed
+pub mod Below

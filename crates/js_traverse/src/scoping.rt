@@ -1,0 +1,428 @@
+// The scoping while a walk changes the tree.
+ghost use Rattle.std.specs.Prelude.{◌≡◌, ◌<◌, ◌+◌, ◌^◌, Some, length, map, option_map, IfOk, OnOk, OnErr};
+ghost use Rattle.scope_table.specs.Reading.{scope_at, reference_at, binding_of};
+ghost use Rattle.scope_table.specs.Editing.{with_scope, with_binding, IsOutside};
+ghost use Rattle.scope_table.specs.Making.{with_bound_symbol, with_bound_reference, with_unbound_reference};
+ghost use Rattle.js_syntax.specs.Node.{forest_of, row};
+ghost use Rattle.js_traverse.specs.Uid.{fresh_name, with_fresh};
+ghost use Rattle.js_traverse.specs.Below.{outermost, MayMove, with_scope_around};
+ghost use Rattle.js_traverse.specs.Traversed.{begun, known_in, with_scope_between, with_reference_to, with_reference_deleted, IsLive};
+
+use crate::below::{add_outermost, add_outermost_among, put_into};
+use crate::bound::BoundIdentifier;
+use crate::uid::UidGenerator;
+use js_syntax::{Ident, ReferenceId, ScopeId, SymbolId};
+use js_tree::Node;
+use scope_table::{ReferenceFlags, ScopeFlags, Scoping, SymbolFlags};
+use std::alloc::AllocError;
+use std::marker::Model;
+
+/// A scoping, and where in it a walk is. A call that makes something fails only for want of memory, and
+/// then changes nothing.
+pub struct TraverseScoping {
+    scoping: Scoping,
+    // Made at the first fresh name.
+    uids: Option<UidGenerator>,
+    current: ScopeId,
+    hoist: ScopeId,
+    block: ScopeId,
+}
+
+impl Drop for TraverseScoping {
+    fn drop(self) {
+        let TraverseScoping {
+            scoping: _,
+            uids: _,
+            current: _,
+            hoist: _,
+            block: _,
+        } = self;
+    }
+}
+
+impl Model for TraverseScoping {
+    ghost use Rattle.js_traverse.specs.Traversed.{Traversed};
+
+    ghost Value = { Traversed };
+
+    ghost view = { λ t. record { scoping = t.scoping; uids = t.uids; current = t.current.0; hoist = t.hoist.0; block = t.block.0 } };
+}
+
+impl TraverseScoping {
+    /// The walk is in the program's scope.
+    pub fn new(scoping: Scoping) -> TraverseScoping
+        ensures begun { result ≡ begun scoping }
+    {
+        TraverseScoping {
+            scoping,
+            uids: None,
+            current: ScopeId(0),
+            hoist: ScopeId(0),
+            block: ScopeId(0),
+        }
+    }
+
+    pub fn into_scoping(self) -> Scoping
+        ensures scoping { result ≡ self.scoping }
+    {
+        let TraverseScoping {
+            scoping,
+            uids: _,
+            current: _,
+            hoist: _,
+            block: _,
+        } = self;
+        scoping
+    }
+
+    pub fn scoping(&self) -> &Scoping
+        ensures scoping { result.now ≡ self.now.scoping }
+    {
+        &self.scoping
+    }
+
+    // ---- where the walk is
+
+    /// The innermost scope around the walk.
+    pub fn current_scope_id(&self) -> ScopeId
+        ensures current { result.0 ≡ self.now.current }
+    {
+        self.current
+    }
+
+    pub fn set_current_scope_id(&mut self, scope: ScopeId)
+        ensures current { self.new ≡ record self.old { current = scope.0 } }
+    {
+        self.current = scope;
+    }
+
+    /// The innermost scope that `var` declares in.
+    pub fn current_hoist_scope_id(&self) -> ScopeId
+        ensures hoist { result.0 ≡ self.now.hoist }
+    {
+        self.hoist
+    }
+
+    pub fn set_current_hoist_scope_id(&mut self, scope: ScopeId)
+        ensures hoist { self.new ≡ record self.old { hoist = scope.0 } }
+    {
+        self.hoist = scope;
+    }
+
+    /// The innermost scope that `let` declares in.
+    pub fn current_block_scope_id(&self) -> ScopeId
+        ensures block { result.0 ≡ self.now.block }
+    {
+        self.block
+    }
+
+    pub fn set_current_block_scope_id(&mut self, scope: ScopeId)
+        ensures block { self.new ≡ record self.old { block = scope.0 } }
+    {
+        self.block = scope;
+    }
+
+    /// What the innermost scope around the walk is.
+    pub fn current_scope_flags(&self) -> ScopeFlags
+        requires { self.now.current < length self.now.scoping.scopes }
+        ensures flags { result.0 ≡ (scope_at self.now.scoping self.now.current).flags }
+    {
+        self.scoping.scope_flags(self.current)
+    }
+
+    // ---- scopes
+
+    /// Appends a scope inside one.
+    pub fn create_child_scope(
+        &mut self,
+        parent: ScopeId,
+        flags: ScopeFlags,
+    ) -> Result<ScopeId, AllocError>
+        requires few { length self.old.scoping.scopes + 1 < 2 ^ 32 }
+        requires parent { parent.0 < length self.old.scoping.scopes }
+        ensures id { IfOk result (λ id. id.0 ≡ length self.old.scoping.scopes) }
+        ensures added { OnOk result (self.new ≡ record self.old { scoping = with_scope (Some parent.0) flags.0 self.old.scoping }) }
+        ensures unchanged { OnErr result (self.new ≡ self.old) }
+    {
+        self.scoping.add_scope(Some(parent), flags)
+    }
+
+    /// Appends a scope inside the one that the walk is in.
+    pub fn create_child_scope_of_current(
+        &mut self,
+        flags: ScopeFlags,
+    ) -> Result<ScopeId, AllocError>
+        requires few { length self.old.scoping.scopes + 1 < 2 ^ 32 }
+        requires current { self.old.current < length self.old.scoping.scopes }
+        ensures id { IfOk result (λ id. id.0 ≡ length self.old.scoping.scopes) }
+        ensures added { OnOk result (self.new ≡ record self.old { scoping = with_scope (Some self.old.current) flags.0 self.old.scoping }) }
+        ensures unchanged { OnErr result (self.new ≡ self.old) }
+    {
+        self.scoping.add_scope(Some(self.current), flags)
+    }
+
+    /// Appends a scope between a scope and the one around it.
+    pub fn insert_scope_between(
+        &mut self,
+        parent: ScopeId,
+        child: ScopeId,
+        flags: ScopeFlags,
+    ) -> Result<ScopeId, AllocError>
+        requires few { length self.old.scoping.scopes + 1 < 2 ^ 32 }
+        requires parent { parent.0 < length self.old.scoping.scopes }
+        requires child { child.0 < length self.old.scoping.scopes }
+        requires around { (scope_at self.old.scoping child.0).parent ≡ Some parent.0 }
+        // Where the new scope stands inside the parent, it is not inside the child.
+        requires outside { IsOutside (with_scope (Some parent.0) flags.0 self.old.scoping) child.0 (length self.old.scoping.scopes) }
+        ensures id { IfOk result (λ id. id.0 ≡ length self.old.scoping.scopes) }
+        ensures between { OnOk result (self.new ≡ record self.old { scoping = with_scope_between parent.0 child.0 flags.0 self.old.scoping }) }
+        ensures unchanged { OnErr result (self.new ≡ self.old) }
+    {
+        let scope = self.scoping.add_scope(Some(parent), flags)?;
+        self.scoping.set_scope_parent_id(child, Some(scope));
+        Ok(scope)
+    }
+
+    fn insert_scope_around(
+        &mut self,
+        inside: &[ScopeId],
+        parent: ScopeId,
+        flags: ScopeFlags,
+    ) -> Result<ScopeId, AllocError>
+        requires few { length self.old.scoping.scopes + 1 < 2 ^ 32 }
+        requires parent { parent.0 < length self.old.scoping.scopes }
+        requires inside { MayMove (map (λ s. s.0) inside.now) (length self.old.scoping.scopes) (with_scope (Some parent.0) flags.0 self.old.scoping) }
+        ensures id { IfOk result (λ id. id.0 ≡ length self.old.scoping.scopes) }
+        ensures around { OnOk result (self.new ≡ record self.old { scoping = with_scope_around (map (λ s. s.0) inside.now) parent.0 flags.0 self.old.scoping }) }
+        ensures unchanged { OnErr result (self.new ≡ self.old) }
+    {
+        let scope = self.scoping.add_scope(Some(parent), flags)?;
+        put_into(&mut self.scoping, inside, scope);
+        Ok(scope)
+    }
+
+    /// Appends a scope inside one, around a statement: the outermost scopes of the statement stand inside it then.
+    pub fn insert_scope_below_statement_from_scope_id(
+        &mut self,
+        statement: &Node,
+        parent: ScopeId,
+        flags: ScopeFlags,
+    ) -> Result<ScopeId, AllocError>
+        requires few { length self.old.scoping.scopes + 1 < 2 ^ 32 }
+        requires parent { parent.0 < length self.old.scoping.scopes }
+        // Where the new scope stands inside the parent, it is none of these scopes and not inside them.
+        requires outside { MayMove (outermost (forest_of statement.now)) (length self.old.scoping.scopes) (with_scope (Some parent.0) flags.0 self.old.scoping) }
+        ensures id { IfOk result (λ id. id.0 ≡ length self.old.scoping.scopes) }
+        ensures around { OnOk result (self.new ≡ record self.old { scoping = with_scope_around (outermost (forest_of statement.now)) parent.0 flags.0 self.old.scoping }) }
+        ensures unchanged { OnErr result (self.new ≡ self.old) }
+    {
+        let mut inside = Vec::new(self.scoping.allocator());
+        add_outermost(statement, &mut inside)?;
+        self.insert_scope_around(inside.as_slice(), parent, flags)
+    }
+
+    /// Appends a scope inside the one that the walk is in, around a statement.
+    pub fn insert_scope_below_statement(
+        &mut self,
+        statement: &Node,
+        flags: ScopeFlags,
+    ) -> Result<ScopeId, AllocError>
+        requires few { length self.old.scoping.scopes + 1 < 2 ^ 32 }
+        requires current { self.old.current < length self.old.scoping.scopes }
+        requires outside { MayMove (outermost (forest_of statement.now)) (length self.old.scoping.scopes) (with_scope (Some self.old.current) flags.0 self.old.scoping) }
+        ensures id { IfOk result (λ id. id.0 ≡ length self.old.scoping.scopes) }
+        ensures around { OnOk result (self.new ≡ record self.old { scoping = with_scope_around (outermost (forest_of statement.now)) self.old.current flags.0 self.old.scoping }) }
+        ensures unchanged { OnErr result (self.new ≡ self.old) }
+    {
+        let parent = self.current;
+        self.insert_scope_below_statement_from_scope_id(statement, parent, flags)
+    }
+
+    /// Appends a scope inside the one that the walk is in, around an expression.
+    pub fn insert_scope_below_expression(
+        &mut self,
+        expression: &Node,
+        flags: ScopeFlags,
+    ) -> Result<ScopeId, AllocError>
+        requires few { length self.old.scoping.scopes + 1 < 2 ^ 32 }
+        requires current { self.old.current < length self.old.scoping.scopes }
+        requires outside { MayMove (outermost (forest_of expression.now)) (length self.old.scoping.scopes) (with_scope (Some self.old.current) flags.0 self.old.scoping) }
+        ensures id { IfOk result (λ id. id.0 ≡ length self.old.scoping.scopes) }
+        ensures around { OnOk result (self.new ≡ record self.old { scoping = with_scope_around (outermost (forest_of expression.now)) self.old.current flags.0 self.old.scoping }) }
+        ensures unchanged { OnErr result (self.new ≡ self.old) }
+    {
+        let parent = self.current;
+        self.insert_scope_below_statement_from_scope_id(expression, parent, flags)
+    }
+
+    /// Appends a scope inside the one that the walk is in, around the statements of a list.
+    pub fn insert_scope_below_statements(
+        &mut self,
+        statements: &[Option<Node>],
+        flags: ScopeFlags,
+    ) -> Result<ScopeId, AllocError>
+        requires few { length self.old.scoping.scopes + 1 < 2 ^ 32 }
+        requires current { self.old.current < length self.old.scoping.scopes }
+        requires outside { MayMove (outermost (row statements.now)) (length self.old.scoping.scopes) (with_scope (Some self.old.current) flags.0 self.old.scoping) }
+        ensures id { IfOk result (λ id. id.0 ≡ length self.old.scoping.scopes) }
+        ensures around { OnOk result (self.new ≡ record self.old { scoping = with_scope_around (outermost (row statements.now)) self.old.current flags.0 self.old.scoping }) }
+        ensures unchanged { OnErr result (self.new ≡ self.old) }
+    {
+        let mut inside = Vec::new(self.scoping.allocator());
+        add_outermost_among(statements, &mut inside)?;
+        let parent = self.current;
+        self.insert_scope_around(inside.as_slice(), parent, flags)
+    }
+
+    // ---- names
+
+    /// Binds a name in a scope to a symbol that is there.
+    pub fn add_binding(
+        &mut self,
+        scope: ScopeId,
+        name: &str,
+        symbol: SymbolId,
+    ) -> Result<(), AllocError>
+        requires { scope.0 < length self.old.scoping.scopes }
+        ensures bound { OnOk result (self.new ≡ record self.old { scoping = with_binding scope.0 name.now symbol.0 self.old.scoping }) }
+        ensures unchanged { OnErr result (self.new ≡ self.old) }
+    {
+        self.scoping.add_binding(scope, name, symbol)
+    }
+
+    /// Appends a symbol of this name and binds it in the scope.
+    pub fn generate_binding(
+        &mut self,
+        name: Ident,
+        scope: ScopeId,
+        flags: SymbolFlags,
+    ) -> Result<BoundIdentifier, AllocError>
+        requires few { length self.old.scoping.symbols + 1 < 2 ^ 32 }
+        requires scope { scope.0 < length self.old.scoping.scopes }
+        ensures name { IfOk result (λ b. b.name ≡ name) }
+        ensures symbol { IfOk result (λ b. b.symbol_id.0 ≡ length self.old.scoping.symbols) }
+        ensures added { OnOk result (self.new ≡ record self.old { scoping = with_bound_symbol name flags.0 scope.0 self.old.scoping }) }
+        ensures unchanged { OnErr result (self.new ≡ self.old) }
+    {
+        let symbol = self
+            .scoping
+            .create_bound_symbol(name.as_str(), flags, scope)?;
+        Ok(BoundIdentifier::new(name, symbol))
+    }
+
+    /// Appends a symbol of this name and binds it in the scope that the walk is in.
+    pub fn generate_binding_in_current_scope(
+        &mut self,
+        name: Ident,
+        flags: SymbolFlags,
+    ) -> Result<BoundIdentifier, AllocError>
+        requires few { length self.old.scoping.symbols + 1 < 2 ^ 32 }
+        requires current { self.old.current < length self.old.scoping.scopes }
+        ensures name { IfOk result (λ b. b.name ≡ name) }
+        ensures symbol { IfOk result (λ b. b.symbol_id.0 ≡ length self.old.scoping.symbols) }
+        ensures added { OnOk result (self.new ≡ record self.old { scoping = with_bound_symbol name flags.0 self.old.current self.old.scoping }) }
+        ensures unchanged { OnErr result (self.new ≡ self.old) }
+    {
+        let scope = self.current;
+        self.generate_binding(name, scope, flags)
+    }
+
+    /// A name that the program doesn't have. The generator is made at the first of them, and isn't told of
+    /// names that are bound later.
+    pub fn generate_uid_name(&mut self, name: &str) -> Result<Ident, AllocError>
+        ensures name { IfOk result (λ n. n ≡ fresh_name name.now (known_in self.old)) }
+        ensures known { OnOk result (self.new ≡ record self.old { uids = Some (with_fresh name.now (known_in self.old)) }) }
+        ensures unchanged { OnErr result (self.new ≡ self.old) }
+    {
+        if let Some(uids) = &mut self.uids {
+            return uids.create(name);
+        }
+        let mut uids = UidGenerator::new(self.scoping.allocator(), &self.scoping)?;
+        let fresh = uids.create(name)?;
+        self.uids = Some(uids);
+        Ok(fresh)
+    }
+
+    // ---- references
+
+    /// Appends a reference to a symbol in the scope that the walk is in.
+    pub fn create_bound_reference(
+        &mut self,
+        symbol: SymbolId,
+        flags: ReferenceFlags,
+    ) -> Result<ReferenceId, AllocError>
+        requires few { length self.old.scoping.references + 1 < 2 ^ 32 }
+        requires symbol { symbol.0 < length self.old.scoping.symbols }
+        ensures id { IfOk result (λ id. id.0 ≡ length self.old.scoping.references) }
+        ensures added { OnOk result (self.new ≡ record self.old { scoping = with_bound_reference self.old.current symbol.0 flags.0 self.old.scoping }) }
+        ensures unchanged { OnErr result (self.new ≡ self.old) }
+    {
+        self.scoping
+            .create_bound_reference(self.current, symbol, flags)
+    }
+
+    /// Appends a reference to a name that nothing declares, in the scope that the walk is in.
+    pub fn create_unbound_reference(
+        &mut self,
+        name: &str,
+        flags: ReferenceFlags,
+    ) -> Result<ReferenceId, AllocError>
+        requires few { length self.old.scoping.references + 1 < 2 ^ 32 }
+        ensures id { IfOk result (λ id. id.0 ≡ length self.old.scoping.references) }
+        ensures added { OnOk result (self.new ≡ record self.old { scoping = with_unbound_reference self.old.current name.now flags.0 self.old.scoping }) }
+        ensures unchanged { OnErr result (self.new ≡ self.old) }
+    {
+        self.scoping
+            .create_unbound_reference(self.current, name, flags)
+    }
+
+    /// Appends a reference to the symbol, or to the name if there is none, in the scope that the walk is in.
+    pub fn create_reference(
+        &mut self,
+        name: &str,
+        symbol: Option<SymbolId>,
+        flags: ReferenceFlags,
+    ) -> Result<ReferenceId, AllocError>
+        requires few { length self.old.scoping.references + 1 < 2 ^ 32 }
+        requires symbol { IsLive self.old.scoping (option_map (λ s. s.0) symbol) }
+        ensures id { IfOk result (λ id. id.0 ≡ length self.old.scoping.references) }
+        ensures added { OnOk result (self.new ≡ record self.old { scoping = with_reference_to self.old.current name.now (option_map (λ s. s.0) symbol) flags.0 self.old.scoping }) }
+        ensures unchanged { OnErr result (self.new ≡ self.old) }
+    {
+        match symbol {
+            Some(symbol) => self.create_bound_reference(symbol, flags),
+            None => self.create_unbound_reference(name, flags),
+        }
+    }
+
+    /// Appends a reference to what the name means in the scope that the walk is in.
+    pub fn create_reference_in_current_scope(
+        &mut self,
+        name: &str,
+        flags: ReferenceFlags,
+    ) -> Result<ReferenceId, AllocError>
+        requires few { length self.old.scoping.references + 1 < 2 ^ 32 }
+        requires current { self.old.current < length self.old.scoping.scopes }
+        requires bound { IsLive self.old.scoping (binding_of self.old.scoping self.old.current name.now) }
+        ensures id { IfOk result (λ id. id.0 ≡ length self.old.scoping.references) }
+        ensures added { OnOk result (self.new ≡ record self.old { scoping = with_reference_to self.old.current name.now (binding_of self.old.scoping self.old.current name.now) flags.0 self.old.scoping }) }
+        ensures unchanged { OnErr result (self.new ≡ self.old) }
+    {
+        let symbol = self.scoping.find_binding(self.current, name);
+        self.create_reference(name, symbol, flags)
+    }
+
+    /// Takes a reference out of its symbol's list, or out of that of its name. The reference itself stays.
+    pub fn delete_reference(&mut self, reference: ReferenceId, name: &str)
+        requires reference { reference.0 < length self.old.scoping.references }
+        requires symbol { IsLive self.old.scoping (reference_at self.old.scoping reference.0).symbol }
+        ensures deleted { self.new ≡ record self.old { scoping = with_reference_deleted reference.0 name.now self.old.scoping } }
+    {
+        match self.scoping.get_reference(reference).symbol_id() {
+            Some(symbol) => self.scoping.delete_resolved_reference(symbol, reference),
+            None => self
+                .scoping
+                .delete_root_unresolved_reference(name, reference),
+        }
+    }
+}
