@@ -87,6 +87,13 @@ fn scope_row(node: &Node) -> &[Option<Node>]
     }
 }
 
+/// Whether a direct call of `eval` stands in the scope that a node makes.
+pub fn has_eval_inside(node: &Node) -> bool
+    ensures inside { result ≡ has_eval (scope_row node.now.kind node.now.below) }
+{
+    has_eval(scope_row(node))
+}
+
 fn function_bits(how: FunctionKind, constructs: bool) -> u16
     ensures bits { result ≡ function_bits how constructs }
     ensures small { result ≤ 36 }
@@ -130,7 +137,7 @@ pub fn scope_bits(context: &Context, frame: &Frame, node: &Node) -> u16
 {
     let strict = bit(frame.strict(), 1);
     let form = form_bits(node.kind(), context.constructs());
-    let eval = bit(has_eval(scope_row(node)), 512);
+    let eval = bit(has_eval_inside(node), 512);
     strict + form + eval
 }
 

@@ -6,4 +6,5 @@ pub mod Read
 pub mod Resolved
 pub mod Listing
 pub mod Edited
+pub mod Flagged
 pub mod Back

@@ -5,4 +5,5 @@ pub mod Named
 pub mod Reading
 pub mod Editing
 pub mod Lending
+pub mod Refreshing
 pub mod Making

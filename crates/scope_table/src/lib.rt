@@ -8,7 +8,8 @@
 //!
 //! `editing` and `editing_references` change a table one step at a time. Each call is a function of the record
 //! (`specs/Editing.antt`), and one that lacks memory leaves the table as it was. What such steps keep is said in
-//! `scope_edits`.
+//! `scope_edits`. `refreshing` gives the scopes the bit of direct eval as a program has it
+//! (`specs/Refreshing.antt`).
 #![tactic(auto)]
 
 mod editing;
@@ -17,6 +18,7 @@ mod flags;
 mod making;
 mod reading;
 mod reference;
+mod refreshing;
 mod scope;
 mod scoping;
 mod symbol;

@@ -121,7 +121,7 @@ impl Scoping {
     }
 
     // The number of the scope around one.
-    fn parent_of(&self, scope: u32) -> Option<u32>
+    pub(crate) fn parent_of(&self, scope: u32) -> Option<u32>
         ensures { result ≡ (scope_at self.now scope).parent }
     {
         match self.scopes.get(scope as usize) {

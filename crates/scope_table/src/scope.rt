@@ -7,6 +7,7 @@ ghost use Rattle.scope_table.specs.Group.{at_number};
 ghost use Rattle.scope_table.specs.Named.{blank_scope, named, with_name};
 ghost use Rattle.scope_table.specs.Editing.{new_scope};
 ghost use Rattle.scope_table.specs.Lending.{LendsBits};
+ghost use Rattle.scope_table.specs.Refreshing.{with_eval, without_eval};
 
 use crate::ScopeFlags;
 use bitflags::Flags;
@@ -101,6 +102,18 @@ impl Scope {
         ensures value { result.now.0 ≡ self.old.flags }
     {
         &mut self.flags
+    }
+
+    pub(crate) fn mark_eval(&mut self)
+        ensures { self.new ≡ with_eval self.old }
+    {
+        self.flags.insert(ScopeFlags::DirectEval);
+    }
+
+    pub(crate) fn clear_eval(&mut self)
+        ensures { self.new ≡ without_eval self.old }
+    {
+        self.flags.remove(ScopeFlags::DirectEval);
     }
 
     pub(crate) fn bind(&mut self, name: String, symbol: u32) -> Result<(), AllocError>
