@@ -7,6 +7,7 @@
 #![tactic(auto)]
 
 mod ancestor;
+mod ancestry;
 mod context;
 mod options;
 mod state;

@@ -1,0 +1,4 @@
+pub mod Moving
+mod Rows
+mod Visiting
+pub mod Joining
