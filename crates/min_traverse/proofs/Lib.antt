@@ -2,3 +2,4 @@ pub mod Moving
 mod Rows
 mod Visiting
 pub mod Joining
+mod Slots

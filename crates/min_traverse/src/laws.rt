@@ -1,5 +1,8 @@
 // What the author of a hook may use.
 ghost use Rattle.std.specs.Prelude.{◌≡◌, ◌≤◌, ℕ, ◌+◌, Bool, true, false, cond};
+ghost use Rattle.js_syntax.specs.declared.kind.FunctionKind.{FunctionKind};
+ghost use Rattle.js_syntax.specs.declared.kind.VariableKind.{VariableKind};
+ghost use Rattle.js_syntax.specs.declared.node_kind.NodeKind.{NodeKind as Kind};
 ghost use Rattle.js_syntax.specs.Facts.{weight};
 ghost use Rattle.js_syntax.specs.Node.{Forest, Tree, forest_of, total};
 ghost use Rattle.scope_counts.specs.Counts.{ids};
@@ -10,9 +13,44 @@ ghost use Rattle.min_context.specs.Seen.{Seen, still};
 ghost use Rattle.min_context.specs.declared.options.CompressOptions.{CompressOptions};
 ghost use Rattle.min_traverse.specs.Edits.{Edits};
 ghost use Rattle.min_traverse.specs.Lawful.{Stays, Rule, Lawful, Kept, Does, either};
+ghost use Rattle.min_context.specs.declared.ancestor.Ancestor.TheVariants as ancestor;
+ghost use Rattle.min_context.specs.declared.ancestor.Parent.{Parent};
+ghost use Rattle.min_context.specs.declared.ancestor.Parent.TheVariants as parent;
 ghost use Rattle.min_traverse.specs.Moves.{Holds, IsHere, NodeMoves, before};
+ghost use Rattle.min_traverse.specs.Slot.{has_key, is_export, is_expression, is_loop_with_head, is_statement, own_slot, outer_slot, middle_slot, inner_slot};
+ghost use Rattle.min_traverse.specs.declared.slot.Inner.TheVariants as inner;
+ghost use Rattle.min_traverse.specs.declared.slot.Middle.TheVariants as middle;
+ghost use Rattle.min_traverse.specs.declared.slot.Outer.TheVariants as outer;
 
 use crate::traverse::Traverse;
+
+/// The link that a chain holds, the text of a directive and the function of a method are no expressions of their own, whatever they
+/// are; keys of methods may be. What a link's own object, callee and arguments are is told by what they stand below.
+pub fn links_are_no_expressions()
+    ensures chain { (at : ℕ) (k : Kind) → middle_slot (ancestor.Field parent.ChainExpression at) k ≡ middle.None }
+    ensures directive { (at : ℕ) (k : Kind) → middle_slot (ancestor.Field parent.Directive at) k ≡ middle.None }
+    ensures method { (is_constructor : Bool) (k : Kind) → middle_slot (ancestor.Field (parent.MethodDefinition is_constructor) 1) k ≡ middle.None }
+    ensures property { (k : Kind) → middle_slot (ancestor.Field (parent.Property true) 1) k ≡ middle.None }
+    ensures function { (how : FunctionKind) (pure : Bool) → inner_slot (Kind.Function how pure) ≡ inner.Function }
+{}
+
+/// A declaration is no statement in the head of a loop or below an export, and one that declares variables has its own slot there.
+pub fn heads_are_no_statements()
+    ensures loops { (p : Parent) (k : Kind) → is_loop_with_head p ≡ true → outer_slot (ancestor.Field p 0) k ≡ own_slot k }
+    ensures exports { (p : Parent) (at : ℕ) (k : Kind) → is_export p ≡ true → outer_slot (ancestor.Field p at) k ≡ own_slot k }
+    ensures own { (how : VariableKind) → own_slot (Kind.VariableDeclaration how) ≡ outer.None }
+    ensures variables { (how : VariableKind) → inner_slot (Kind.VariableDeclaration how) ≡ inner.VariableDeclaration }
+{}
+
+/// No node is both an expression and a statement.
+pub fn expressions_are_no_statements()
+    ensures { (k : Kind) → is_expression k ≡ true → is_statement k ≡ false }
+{}
+
+/// A node that is a key has the slot of keys, and beside that of an expression if it is one.
+pub fn keys_have_their_slot()
+    ensures { (p : Parent) (k : Kind) → has_key p ≡ true → outer_slot (ancestor.Field p 0) k ≡ outer.PropertyKey }
+{}
 
 /// Edits after edits are edits, and so are none.
 pub fn edits_compose<T: Traverse>()
