@@ -11,3 +11,4 @@ pub mod Collecting
 pub mod Naming
 pub mod Lending
 pub mod Generating
+pub mod IsTrue

@@ -1,0 +1,5 @@
+pub mod Moving
+mod Rows
+mod Visiting
+pub mod Joining
+mod Slots

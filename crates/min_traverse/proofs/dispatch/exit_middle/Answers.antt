@@ -1,0 +1,8 @@
+use Rattle.min_traverse.proofs.Rows.{node_stays}
+use Rattle.min_traverse.proofs.dispatch.exit_middle.Goals as goal
+
+pub returns-else-has-clause-moves : goal.returns-else-has-clause-moves
+returns-else-has-clause-moves g c = node_stays _ _ _
+
+pub returns-in-None-clause-moves : goal.returns-in-None-clause-moves
+returns-in-None-clause-moves g c = node_stays _ _ _

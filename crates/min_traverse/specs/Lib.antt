@@ -1,0 +1,5 @@
+pub mod Slot
+pub mod Edits
+pub mod Moves
+pub mod Visits
+pub mod Lawful
