@@ -21,7 +21,7 @@ use Rattle.min_passes.specs.Built.{Built}
 use Rattle.min_driver.specs.Left.{IsLeft}
 use Rattle.min_driver.specs.Limit.{IsWithinLimits}
 use Rattle.min_driver.specs.Minify.{left_of, IsCleanBy, IsSettledBy}
-use Rattle.min_driver.specs.declared.options.CompressOptions.{CompressOptions}
+use Rattle.min_options.specs.declared.options.CompressOptions.{CompressOptions}
 
 -- ---- by these options
 

@@ -14,7 +14,7 @@ use Rattle.scope_rules.specs.Table.{Scoping}
 use Rattle.headline.specs.Headline.{Edits, Kept, KeptBack, is_core_module}
 use Rattle.min_driver.specs.Limit.{IsWithinLimits}
 use Rattle.min_driver.specs.Minify.{left_of, IsCleanBy, IsSettledBy}
-use Rattle.min_driver.specs.declared.options.CompressOptions.{CompressOptions}
+use Rattle.min_options.specs.declared.options.CompressOptions.{CompressOptions}
 
 -- of the tree `t`, by these options, the tree `new` is left, with its table
 pub record IsLeft (o : Option CompressOptions) (t new : Forest) (s : Scoping) : Type 0 where

@@ -8,7 +8,7 @@ use Rattle.scope_rules.specs.Table.{Scoping}
 use Rattle.form_rules.specs.Break.{at_place}
 use Rattle.form_rules.specs.Form.{first_broken}
 use Rattle.min_driver.specs.Limit.{IsWithinLimits, IsTooLarge, max_nodes, max_levels}
-use Rattle.min_driver.specs.declared.options.CompressOptions.{CompressOptions}
+use Rattle.min_options.specs.declared.options.CompressOptions.{CompressOptions}
 use Rattle.min_driver.specs.declared.error.MinifyError.{MinifyError}
 use Rattle.min_driver.specs.declared.error.MinifyError.TheVariants.{TooLarge, IllFormed, OutOfMemory}
 

@@ -9,7 +9,7 @@ ghost use Rattle.js_scoping.specs.Build.{table_of, numbered};
 ghost use Rattle.min_driver.specs.Left.{IsLeft};
 ghost use Rattle.min_driver.specs.Limit.{IsWithinLimits};
 ghost use Rattle.min_driver.specs.Minify.{left_of, passes_by, IsCleanBy, IsSettledBy, IsCause};
-ghost use Rattle.min_driver.specs.Options.{IsSmallest};
+ghost use Rattle.min_options.specs.Options.{IsSmallest};
 ghost use Rattle.min_passes.specs.Built.{Built};
 ghost use Rattle.min_passes.specs.Passes.{shaken, passes_of, IsSettled};
 ghost use Rattle.scope_laws.specs.Exact.{Exact};
@@ -20,11 +20,11 @@ ghost use Rattle.json_shape.specs.Shape.{Fits};
 
 use crate::error::MinifyError;
 use crate::limits::check_limits;
-use crate::options::CompressOptions;
 use form_check::{FormError, well_formed};
 use js_scoping::{Scoping, build};
 use js_tree::Program;
 use js_tree_copy::try_clone;
+use min_options::CompressOptions;
 use min_passes::{Shaken, shake_program};
 use std::alloc::{AllocError, Global};
 

@@ -11,7 +11,7 @@ use Rattle.json_shape.proofs.Same.{same_data}
 use Rattle.shake_words.specs.declared.answer.Command.{Command}
 use Rattle.shake_words.specs.declared.answer.Command.TheVariants.{Dce}
 use Rattle.min_driver.specs.Minify.{left_of, passes_by}
-use Rattle.min_driver.specs.declared.options.CompressOptions.{CompressOptions}
+use Rattle.min_options.specs.declared.options.CompressOptions.{CompressOptions}
 use Rattle.shake.specs.Run.{counts_of, command_output, shaken_output, IsInUtf8}
 
 same_bare : (t : Forest) → bare (numbered t) ≡ bare t

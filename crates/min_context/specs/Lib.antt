@@ -1,0 +1,10 @@
+pub mod Above
+pub mod Place
+pub mod Ancestry
+pub mod State
+pub mod Seen
+pub mod Left
+pub mod Edited
+pub mod Asked
+pub mod Replacing
+pub mod Collecting
