@@ -4,3 +4,7 @@ pub mod Places
 pub mod Numbers
 pub mod Silent
 pub mod Unused
+pub mod Leaving
+pub mod Items
+pub mod Trimming
+pub mod Emptying

@@ -13,7 +13,7 @@ use Rattle.scope_rules.specs.Site.{Site, BindingSite, ReferenceSite, own_sites, 
 use Rattle.scope_rules.specs.Binding.{binding_of}
 use Rattle.scope_rules.specs.Table.{Reference}
 use Rattle.scope_table.specs.Reading.{no_reference, reference_at}
-use Rattle.scope_laws.specs.Exact.{Among}
+use Rattle.scope_laws.specs.Exact.{Among, Names}
 use Rattle.scope_laws.specs.Place.{Around, first, behind, behind_none, under, one_place, plug, there, sites_before, sites_there, sites_after}
 use Rattle.scope_laws.proofs.Among.{among_left, among_right}
 use Rattle.scope_laws.proofs.Around.{references_append, references_split, stands_there}
@@ -51,6 +51,9 @@ value_of : (o : Option ℕ) → is_some o ≡ true → (n : ℕ) × (o ≡ Some 
 value_of None e = absurd (true≢false (sym e))
 value_of (Some n) e = (n, refl)
 
+named_binds : (bs : List BindingSite) (r : ReferenceSite) (symbol : ℕ) → Names bs r symbol → is_some (binding_of bs r) ≡ true
+named_binds bs r symbol n = ap is_some n.binds
+
 -- what is marked is bound
 abbrev pub Binds : List Bool → Forest → Type 0
 Binds bound v = (r : ReferenceSite) → Among r (references_among (sites_of v)) → is_marked bound r.id ≡ true → is_some (binding_of (bindings_among (sites_of v)) r) ≡ true
@@ -62,7 +65,7 @@ known_binds f marked v h r stands is =
     let there : is_some (reference_at f.scoping e.id).symbol ≡ true = sym (h.bound e.id) ∙ ap (is_marked f.bound) (sym e.has_id) ∙ is in
     let same : reference_at f.scoping e.id ≡ e.entry = get_or_from_slice_get f.scoping.references e.id e.entry no_reference e.stands in
     let symbol = value_of e.entry.symbol (ap (λ (x : Reference). is_some x.symbol) (sym same) ∙ there) in
-    ap is_some ((e.names symbol.0).0 symbol.1).binds
+    named_binds (bindings_among (sites_of v)) r symbol.0 ((e.names symbol.0).0 symbol.1)
 
 -- ---- by the sort of node
 
