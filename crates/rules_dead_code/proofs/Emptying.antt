@@ -1,8 +1,8 @@
 -- A silent statement becomes empty by a single edit.
-use Rattle.std.proofs.Common.{◌≡◌, ◌∙◌, ℕ, Bool, true, false, not, if◌then◌else◌, Option, Some, None, true≢false, refl, sym, ap, subst}
+use Rattle.std.proofs.Common.{◌≡◌, ◌∙◌, ℕ, Bool, true, false, if◌then◌else◌, Some, None, true≢false, refl, sym, ap, subst}
 use Rattle.js_syntax.specs.declared.node_kind.NodeKind.{NodeKind as Kind}
 use Rattle.js_syntax.specs.declared.node_kind.NodeKind.TheVariants.{EmptyStatement as empty_statement, ExpressionStatement as expression_statement}
-use Rattle.js_syntax.specs.Node.{Forest, Tree, Note, nothing, node, absent, alone}
+use Rattle.js_syntax.specs.Node.{Forest, Tree, Note, nothing, node, alone}
 use Rattle.js_effects.specs.Silence.{may_have_effects}
 use Rattle.min_context.specs.Place.{place_at}
 use Rattle.min_pass.specs.declared.around.Around.{Around as Asked}

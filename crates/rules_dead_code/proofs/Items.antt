@@ -1,18 +1,17 @@
 -- Places of the items of a list of statements, and of the declarators of such items.
-use Rattle.std.proofs.Common.{◌≡◌, ◌∙◌, ℕ, suc, List, [], ◌∷◌, ◌++◌, Bool, true, false, ◌&&◌, ◌||◌, Option, Some, None, refl, sym, ap, subst}
-use Rattle.std.proofs.lemmas.Bool.{and_parts}
+use Rattle.std.proofs.Common.{◌≡◌, ◌∙◌, ℕ, suc, Bool, true, false, ◌||◌, Option, Some, refl, sym, ap, subst}
 use Rattle.js_syntax.specs.declared.node_kind.NodeKind.{NodeKind as Kind}
 use Rattle.js_syntax.specs.declared.node_kind.NodeKind.TheVariants.{Statements as statements, VariableDeclaration as variable_declaration, Declarators as declarators}
 use Rattle.js_syntax.specs.declared.kind.VariableKind.{VariableKind}
-use Rattle.js_syntax.specs.Node.{Forest, Tree, Note, nothing, node, absent}
+use Rattle.js_syntax.specs.Node.{Forest, Tree, Note, nothing, node}
 use Rattle.min_context.specs.Above.{above_of}
-use Rattle.min_context.specs.Place.{Place, told_of, Spot, place_of, next_of, below, top, spot, place_at}
+use Rattle.min_context.specs.Place.{Place, told_of, Spot, place_of, next_of, top, spot, place_at}
 use Rattle.min_context.specs.declared.ancestor.Ancestor.TheVariants.{Field as field}
 use Rattle.min_context.specs.declared.ancestor.Parent.TheVariants as parent
 use Rattle.min_pass.specs.declared.around.Around.{Around as Asked}
 use Rattle.min_pass.specs.declared.around.Row.{Row}
 use Rattle.min_pass.specs.declared.around.Row.TheVariants.{Items as items, OfItem as of_item, Declarators as item_declarators, Other as other}
-use Rattle.min_pass.specs.Around.{row_below, is_with, entered as asked_below, outermost as asked_of_program}
+use Rattle.min_pass.specs.Around.{row_below, entered as asked_below, outermost as asked_of_program}
 use Rattle.scope_laws.specs.Place as places
 use Rattle.scope_laws.specs.Place.{Around, first, placed}
 use Rattle.scope_laws.specs.Lists.{without}
@@ -20,13 +19,13 @@ use Rattle.scope_counts.specs.Edits as counts
 use Rattle.scope_counts.specs.Edits.{here, behind, behind_none, under, plug}
 use Rattle.steps_allowed.specs.Edits.{Edit}
 use Rattle.steps_allowed.specs.Places.{asked_at, has_node, has_other, IsItem, IsDeclarator}
-use Rattle.steps_marked.specs.Flags.{Stand, declares_in, stand_inside, stands_of, stand_at, stand}
+use Rattle.steps_marked.specs.Flags.{Stand, declares_in, stand_inside, stand}
 use Rattle.js_syntax.proofs.Truth.{or_false}
 use Rattle.rules_dead_code.specs.Rules.{Facts, Where, has_with, where_of, scope_of}
 use Rattle.rules_dead_code.specs.Knows.{Knows}
-use Rattle.rules_dead_code.proofs.LaidOut.{is_laid_at, is_laid, fits_laid, laid_below, laid_rest}
-use Rattle.rules_dead_code.proofs.Places.{to, plugged, left_out, join, plug_join, spot_join, asked_row, asked_to, asked_join, other_under, is_row, has_before, asked_along, other_stands, other_behind, with_last, with_is}
-use Rattle.rules_dead_code.proofs.Numbers.{Same, declares_there, family, index, whole_stand, numbers, stand_to, stand_along}
+use Rattle.rules_dead_code.proofs.LaidOut.{is_laid, fits_laid, laid_below, laid_rest}
+use Rattle.rules_dead_code.proofs.Places.{to, plugged, left_out, join, spot_join, asked_row, asked_to, asked_join, other_under, is_row, has_before, asked_along, other_stands, other_behind, with_last, with_is}
+use Rattle.rules_dead_code.proofs.Numbers.{Same, declares_there, whole_stand, numbers, stand_to, stand_along}
 use Rattle.rules_dead_code.proofs.Keeping.{Known}
 
 abbrev asked : Asked

@@ -2,11 +2,11 @@
 use Rattle.std.proofs.Common.{◌≡◌, ◌∙◌, ℕ, Bool, true, false, true≢false, ◌||◌, refl, sym, subst}
 use Rattle.js_syntax.specs.declared.node_kind.NodeKind.{NodeKind as Kind}
 use Rattle.js_syntax.specs.Class.{root}
-use Rattle.js_syntax.specs.Node.{Forest, Note, nothing, node, absent, joined}
+use Rattle.js_syntax.specs.Node.{Forest, Note, node, joined}
 use Rattle.json_shape.specs.Shape.{Fits}
 use Rattle.js_effects.specs.Silence.{is_marked}
 use Rattle.scope_counts.specs.Losing.{left, MarksWhatLeft}
-use Rattle.steps_allowed.specs.Edits.{Edit, TreeEdits, no_tree_edit, one_tree_edit}
+use Rattle.steps_allowed.specs.Edits.{TreeEdits, no_tree_edit, one_tree_edit}
 use Rattle.steps_allowed.specs.Exposure.{is_script}
 use Rattle.steps_fit.proofs.Modules.{fits_program}
 use Rattle.steps_owed.specs.Kept.{is_program}

@@ -1,18 +1,18 @@
 -- Single edits that the rules allow.
-use Rattle.std.proofs.Common.{◌≡◌, ◌∙◌, ◌+◌, ◌==◌, ℕ, List, [], ◌++◌, Bool, true, false, not, ◌&&◌, ◌||◌, Option, Some, inl, refl, sym, ap, subst}
+use Rattle.std.proofs.Common.{◌≡◌, ◌∙◌, ◌+◌, ◌==◌, ℕ, List, [], ◌++◌, Bool, true, false, ◌&&◌, ◌||◌, Option, Some, inl, refl, sym, ap, subst}
 use Rattle.std.proofs.lemmas.Bool.{and_parts}
 use Rattle.js_syntax.specs.declared.node_kind.NodeKind.{NodeKind as Kind}
 use Rattle.js_syntax.specs.declared.node_kind.NodeKind.TheVariants.{EmptyStatement as empty_statement, ExpressionStatement as expression_statement, Function as function, VariableDeclaration as variable_declaration, VariableDeclarator as variable_declarator, Declarators as declarators, BindingName as binding_name}
 use Rattle.js_syntax.specs.declared.kind.VariableKind.{VariableKind}
 use Rattle.js_syntax.specs.declared.kind.FunctionKind.TheVariants as function_kind
 use Rattle.js_syntax.specs.declared.kind.VariableKind.TheVariants as variable
-use Rattle.js_syntax.specs.Node.{Forest, Tree, Note, nothing, node, alone}
+use Rattle.js_syntax.specs.Node.{Forest, Note, nothing, node, alone}
 use Rattle.js_effects.specs.Silence.{may_have_effects}
 use Rattle.min_pass.specs.Around.{outermost as asked_of_program}
 use Rattle.min_pass.specs.Pass.{is_given}
 use Rattle.scope_rules.specs.Context.{Context, inside}
 use Rattle.scope_rules.specs.ScopeFlags as scope_flag
-use Rattle.scope_rules.specs.Site.{BindingSite, own_sites, opens_one, scope_count, sites, sites_of, bindings_among, references_among}
+use Rattle.scope_rules.specs.Site.{BindingSite, own_sites, opens_one, scope_count, sites, sites_of, references_among}
 use Rattle.scope_rules.specs.Binding.{named_in}
 use Rattle.scope_laws.specs.Place.{Around, plug}
 use Rattle.scope_laws.specs.Lists.{without}
@@ -31,13 +31,13 @@ use Rattle.steps_owed.proofs.Unseen.{layer_below}
 use Rattle.steps_marked.specs.Flags.{scope_has, is_sloppy_block, declares_in, stand}
 use Rattle.steps_marked.proofs.Telling.{function_hidden, declarator_hidden, declaration_hidden, no_eval}
 use Rattle.js_syntax.proofs.Truth.{not_true, first_of_neither, second_of_neither}
-use Rattle.rules_dead_code.specs.Rules.{Facts, Where, is_unlisted, is_global, function_is_unused, variable_is_unused, is_quiet}
+use Rattle.rules_dead_code.specs.Rules.{Facts, Where, is_unlisted, is_global, function_is_unused, variable_is_unused}
 use Rattle.rules_dead_code.specs.Knows.{Knows}
 use Rattle.rules_dead_code.proofs.Silent.{AllOf, of_left, of_right, Binds, known_binds, silent_row, silent_at, declared_at}
 use Rattle.rules_dead_code.proofs.Unused.{is_free}
 
 -- the site of the name that a row begins with
-abbrev named_site : Context → Note → List ℕ → BindingSite
+abbrev pub named_site : Context → Note → List ℕ → BindingSite
 named_site c m x = record { id = m.id; name = x; layer = c.declaring.layer; flags = c.declaring.flags; is_pure = c.declaring.is_pure; span = m.span }
 
 -- ---- empty and silent statements

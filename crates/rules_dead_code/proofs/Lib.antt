@@ -8,3 +8,4 @@ pub mod Leaving
 pub mod Items
 pub mod Trimming
 pub mod Emptying
+pub mod Lighter

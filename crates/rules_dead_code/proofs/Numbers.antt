@@ -1,12 +1,11 @@
 -- The scopes that the context of a walk numbers are those whose marks the flags go by.
-use Rattle.std.proofs.Common.{◌≡◌, ◌∙◌, ℕ, suc, ◌==◌, Bool, true, false, not, ◌&&◌, Option, Some, None, true≢false, if◌then◌else◌, refl, sym, ap, subst}
+use Rattle.std.proofs.Common.{◌≡◌, ◌∙◌, ℕ, suc, ◌==◌, Bool, true, false, ◌&&◌, Option, Some, None, true≢false, if◌then◌else◌, refl, sym, ap, subst}
 use Rattle.js_syntax.specs.declared.node_kind.NodeKind.{NodeKind as Kind}
 use Rattle.js_syntax.specs.declared.kind.VariableKind.{VariableKind}
 use Rattle.js_syntax.specs.declared.kind.VariableKind.TheVariants as variable
 use Rattle.js_syntax.specs.Node.{Forest, Tree, Note, nothing, node, absent}
 use Rattle.min_context.specs.Above.{within_of, hoists, above_of, is_within as is_within_it}
 use Rattle.min_context.specs.Place.{Place, outside, number_or, inside, Spot, place_of, next_of, below, top, spot, place_at}
-use Rattle.min_context.specs.declared.ancestor.Within.{Within}
 use Rattle.scope_rules.specs.Context.{has_second}
 use Rattle.scope_rules.specs.Table.{Scoping}
 use Rattle.scope_laws.specs.Place as places

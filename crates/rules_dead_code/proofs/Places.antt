@@ -1,9 +1,9 @@
 -- Places below the place of a row.
-use Rattle.std.proofs.Common.{◌≡◌, ◌∙◌, ℕ, suc, List, [], ◌∷◌, ◌++◌, Bool, true, false, ◌||◌, Option, Some, None, true≢false, refl, sym, ap, subst}
+use Rattle.std.proofs.Common.{◌≡◌, ◌∙◌, ℕ, List, [], ◌∷◌, ◌++◌, Bool, true, false, ◌||◌, Option, true≢false, refl, sym, ap, subst}
 use Rattle.js_syntax.specs.declared.node_kind.NodeKind.{NodeKind as Kind}
-use Rattle.js_syntax.specs.Node.{Forest, Tree, Note, nothing, node, absent}
+use Rattle.js_syntax.specs.Node.{Forest, Tree, Note, node, absent}
 use Rattle.min_context.specs.Above.{parent_of, above_of}
-use Rattle.min_context.specs.Place.{Place, outside, told_of, inside, Spot, place_below, place_of, next_of, below, top, spot, place_at}
+use Rattle.min_context.specs.Place.{told_of, Spot, place_below, place_of, next_of, below, top, spot, place_at}
 use Rattle.min_context.specs.declared.ancestor.Ancestor.{Ancestor}
 use Rattle.min_context.specs.declared.ancestor.Ancestor.TheVariants.{Field as field}
 use Rattle.min_pass.specs.declared.around.Around.{Around as Asked}

@@ -1,5 +1,5 @@
 -- What has no effects by the facts is silent where it stands.
-use Rattle.std.proofs.Common.{◌≡◌, ◌∙◌, ◌⊎◌, ◌+◌, ℕ, suc, List, [], ◌++◌, Bool, true, false, not, ◌&&◌, ◌||◌, true≢false, if◌then◌else◌, is_some, codes, bytes_eq, slice_get, Option, Some, None, inl, inr, refl, sym, ap, subst}
+use Rattle.std.proofs.Common.{◌≡◌, ◌∙◌, ◌⊎◌, ◌+◌, ℕ, suc, List, ◌++◌, Bool, true, false, not, ◌&&◌, ◌||◌, true≢false, if◌then◌else◌, is_some, codes, bytes_eq, Option, Some, None, inl, inr, refl, sym, ap, subst}
 use Rattle.std.proofs.lemmas.Bool.{or_cases}
 use Rattle.std.proofs.lemmas.Option.{get_or_from_slice_get}
 use Rattle.js_syntax.specs.declared.node_kind.NodeKind.{NodeKind as Kind}
@@ -18,7 +18,7 @@ use Rattle.scope_laws.specs.Place.{Around, first, behind, behind_none, under, on
 use Rattle.scope_laws.proofs.Among.{among_left, among_right}
 use Rattle.scope_laws.proofs.Around.{references_append, references_split, stands_there}
 use Rattle.steps_allowed.specs.Silent.{read_in, IsFound, IsSilentNode, IsSilent, HoldsThere}
-use Rattle.steps_allowed.specs.Places.{a_node, asked_at, At}
+use Rattle.steps_allowed.specs.Places.{asked_at, At}
 use Rattle.steps_owed.proofs.Pruning.{pruned, prunes}
 use Rattle.steps_marked.proofs.Tables.{pruned_exact}
 use Rattle.js_syntax.proofs.Truth.{first_of_neither, second_of_neither}
@@ -118,7 +118,7 @@ holds_there all x holds asked cs at next (behind k n below a) m by = holds_there
 holds_there all x holds asked cs at next (behind_none a) m by = holds_there all x holds asked cs (suc at) next a m by
 holds_there all x holds asked cs at next (under k n a rest) m by = holds_there all x holds (asked_below asked k) (inside (cs at) next k (plug a x)) 0 (next + opens_one k (plug a x)) a m by
 
-all_there : (a : Around) (x : Option Tree) → AllOf (references_among (sites_of (plug a x))) (sites_there a x)
+pub all_there : (a : Around) (x : Option Tree) → AllOf (references_among (sites_of (plug a x))) (sites_there a x)
 all_there a x = λ r h.
     subst (Among r) (sym (references_split a x))
     (among_right r (references_among (sites_before a x)) (references_among (sites_there a x) ++ references_among (sites_after a x)) (among_left r (references_among (sites_there a x)) (references_among (sites_after a x)) h))

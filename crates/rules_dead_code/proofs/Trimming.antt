@@ -1,5 +1,5 @@
 -- A list of statements is trimmed by single edits, from left to right.
-use Rattle.std.proofs.Common.{◌≡◌, ◌∙◌, ◌⊎◌, inl, inr, ℕ, List, Bool, true, false, not, ◌&&◌, ◌||◌, if◌then◌else◌, Option, Some, None, true≢false, refl, sym, ap, subst}
+use Rattle.std.proofs.Common.{◌≡◌, ◌⊎◌, inl, inr, ℕ, List, Bool, true, false, not, ◌&&◌, ◌||◌, if◌then◌else◌, true≢false, refl, sym, ap, subst}
 use Rattle.std.proofs.lemmas.Bool.{and_parts}
 use Rattle.js_syntax.specs.declared.node_kind.NodeKind.{NodeKind as Kind}
 use Rattle.js_syntax.specs.declared.node_kind.NodeKind.TheVariants.{EmptyStatement as empty_statement, ExpressionStatement as expression_statement, Function as function, VariableDeclaration as variable_declaration, VariableDeclarator as variable_declarator, Declarators as declarators, BindingName as binding_name, Statements as statements}
@@ -9,8 +9,7 @@ use Rattle.js_syntax.specs.Node.{Forest, Tree, Note, nothing, node, absent, alon
 use Rattle.js_effects.specs.Silence.{may_have_effects}
 use Rattle.min_context.specs.Place.{Place, place_at}
 use Rattle.min_pass.specs.Pass.{is_given}
-use Rattle.scope_laws.specs.Place as places
-use Rattle.scope_laws.specs.Place.{first, placed}
+use Rattle.scope_laws.specs.Place.{first}
 use Rattle.scope_counts.specs.Edits as counts
 use Rattle.scope_counts.specs.Edits.{here, behind, behind_none, under, plug}
 use Rattle.steps_allowed.specs.Arranged.{is_declarator, are_declarators}
@@ -22,11 +21,11 @@ use Rattle.steps_allowed.specs.UnusedDeclarator.{a_declarator}
 use Rattle.steps_allowed.specs.UnusedDeclaration.{a_declaration}
 use Rattle.steps_allowed.proofs.Composing.{tree_edits_compose}
 use Rattle.js_syntax.proofs.Truth.{not_true, not_false, first_of_neither, second_of_neither}
-use Rattle.rules_dead_code.specs.Rules.{Facts, Where, has_with, where_of, scope_of, function_is_unused, variable_is_unused, is_quiet, declarator_goes, one_goes, one_stays, declarators_left, declaration_goes, is_silent_statement, function_goes, item_goes, declaration_left, item_left, trimmed}
+use Rattle.rules_dead_code.specs.Rules.{Facts, Where, has_with, where_of, scope_of, function_is_unused, variable_is_unused, is_quiet, declarator_goes, one_goes, one_stays, declarators_left, declaration_goes, item_goes, declaration_left, item_left, trimmed}
 use Rattle.rules_dead_code.specs.Knows.{Knows}
 use Rattle.rules_dead_code.proofs.Keeping.{Known, still_known}
 use Rattle.rules_dead_code.proofs.LaidOut.{has_list, is_laid_at, laid_here}
-use Rattle.rules_dead_code.proofs.Places.{to, plugged, join, plug_join, is_row, has_before, row_join, before_join}
+use Rattle.rules_dead_code.proofs.Places.{to, join, plug_join, is_row, has_before, row_join, before_join}
 use Rattle.rules_dead_code.proofs.Leaving.{empty_leaves, statement_empties, function_leaves, Quiet, declarator_leaves, declaration_leaves}
 use Rattle.rules_dead_code.proofs.Items.{IsItems, first_items, next_items, absent_items, item_there, item_with, leaves_there, becomes_there, knows_there, known_laid, item_scope, item_declares, declaration, in_declaration, declarator_plugged, declarator_edit, declarator_there, declarator_with, declarator_other, declarator_other_behind, declarator_declares}
 

@@ -1,9 +1,8 @@
 -- What the facts call unlisted nothing uses.
-use Rattle.std.proofs.Common.{◌≡◌, ◌∙◌, ◌≤◌, ◌+◌, ◌==◌, ℕ, suc, List, [], ◌∷◌, ◌++◌, length, Bool, true, false, not, ◌&&◌, true≢false, if◌then◌else◌, slice_get, Option, Some, None, inl, inr, refl, sym, ap, subst, arith, eqb-true}
+use Rattle.std.proofs.Common.{◌≡◌, ◌∙◌, ◌≤◌, ◌+◌, ◌==◌, ℕ, suc, List, [], ◌∷◌, length, Bool, true, false, not, true≢false, if◌then◌else◌, slice_get, Option, Some, None, refl, sym, ap, subst, arith, eqb-true}
 use Rattle.std.proofs.lemmas.Bool.{and_parts}
 use Rattle.std.proofs.lemmas.Option.{get_or_from_slice_get}
-use Rattle.js_syntax.specs.declared.node_kind.NodeKind.{NodeKind as Kind}
-use Rattle.js_syntax.specs.Node.{Forest, nothing, node, absent, Note}
+use Rattle.js_syntax.specs.Node.{Forest, nothing, node, absent}
 use Rattle.js_effects.specs.Silence.{is_marked}
 use Rattle.scope_rules.specs.Context.{Context, inside, outermost}
 use Rattle.scope_rules.specs.Site.{BindingSite, own_sites, opens_one, scope_count, sites, sites_of, bindings_among}
@@ -12,7 +11,7 @@ use Rattle.scope_rules.specs.Table.{Symbol, Scoping}
 use Rattle.scope_table.specs.Reading.{no_symbol, symbol_at}
 use Rattle.scope_laws.specs.Exact.{Among}
 use Rattle.scope_counts.specs.Exact.{count, references_of, lists_of}
-use Rattle.steps_names.specs.Standing.{is_export, exported_sites, exported_declarations}
+use Rattle.steps_names.specs.Standing.{is_export, exported_sites}
 use Rattle.steps_names.proofs.Sites.{InThree, in_first, in_second, in_third, binding_in, binding_second, binding_third}
 use Rattle.steps_allowed.specs.Free.{IsFree}
 use Rattle.steps_owed.proofs.Pruning.{pruned, prunes}

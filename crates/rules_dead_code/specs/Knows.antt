@@ -1,5 +1,5 @@
 -- What is to be true of a program before the pass takes anything out.
-use Rattle.std.specs.Prelude.{◌≡◌, ℕ, List, Bool, true, is_some, Option, Some}
+use Rattle.std.specs.Prelude.{◌≡◌, ℕ, List, Bool, true, is_some, Some}
 use Rattle.js_syntax.specs.Class.{root}
 use Rattle.js_syntax.specs.Node.{Forest}
 use Rattle.js_effects.specs.Silence.{is_marked}

@@ -1,13 +1,15 @@
 // Why the rules may do what they do. Each law is a contract, so that the check proves it.
-ghost use Rattle.std.specs.Prelude.{◌≡◌, ℕ, Bool, Some};
-ghost use Rattle.js_syntax.specs.Node.{Forest, Tree, node};
+ghost use Rattle.std.specs.Prelude.{◌≡◌, ◌≤◌, ◌+◌, ℕ, Bool, true, false, Some};
+ghost use Rattle.js_syntax.specs.Facts.{weight};
+ghost use Rattle.js_syntax.specs.Node.{Forest, Tree, node, forest_of, total};
 ghost use Rattle.js_syntax.specs.declared.node_kind.NodeKind.TheVariants.{Statements as statements};
 ghost use Rattle.js_syntax.specs.Node.{Note};
 ghost use Rattle.min_context.specs.Place.{place_at};
+ghost use Rattle.scope_counts.specs.Counts.{ids};
 ghost use Rattle.scope_counts.specs.Edits.{Around, plug};
 ghost use Rattle.scope_counts.specs.Losing.{MarksWhatLeft};
 ghost use Rattle.steps_allowed.specs.Edits.{Edit, TreeEdits};
-ghost use Rattle.rules_dead_code.specs.Rules.{Facts, where_of, trimmed, emptied};
+ghost use Rattle.rules_dead_code.specs.Rules.{Facts, Where, where_of, trimmed, has_dead, emptied};
 ghost use Rattle.rules_dead_code.specs.Knows.{Knows};
 
 /// Law: what is known of a program is known of what edits leave of it, once the ids are marked of the references that left.
@@ -26,4 +28,17 @@ pub fn silent_statements_may_become_empty()
 pub fn what_goes_may_go()
     ensures { (f : Facts) (marked : ℕ → Bool) (a : Around) (n : Note) (row rest : Forest) → Knows f marked (plug a (node statements n row rest))
         → TreeEdits (plug a (node statements n row rest)) (plug a (node statements n (trimmed f (where_of (place_at a)) row) rest)) }
+{}
+
+/// Law: a list is lighter where anything goes, and the same where nothing does; no reference comes in.
+pub fn a_trimmed_list_is_lighter()
+    ensures lighter { (f : Facts) (w : Where) (row : Forest) → has_dead f w row ≡ true → total weight (trimmed f w row) + 1 ≤ total weight row }
+    ensures same { (f : Facts) (w : Where) (row : Forest) → has_dead f w row ≡ false → trimmed f w row ≡ row }
+    ensures references { (f : Facts) (w : Where) (row : Forest) → (r : ℕ) → ids r (trimmed f w row) ≤ ids r row }
+{}
+
+/// Law: so is a statement that becomes empty.
+pub fn an_emptied_statement_is_lighter()
+    ensures lighter { (f : Facts) (w : Where) (x y : Tree) → emptied f w x ≡ Some y → total weight (forest_of y) + 1 ≤ total weight (forest_of x) }
+    ensures references { (f : Facts) (w : Where) (x y : Tree) → emptied f w x ≡ Some y → (r : ℕ) → ids r (forest_of y) ≤ ids r (forest_of x) }
 {}
