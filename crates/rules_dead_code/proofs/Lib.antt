@@ -1,0 +1,11 @@
+pub mod Keeping
+pub mod LaidOut
+pub mod Places
+pub mod Numbers
+pub mod Silent
+pub mod Unused
+pub mod Leaving
+pub mod Items
+pub mod Trimming
+pub mod Emptying
+pub mod Lighter

@@ -1,0 +1,44 @@
+// Why the rules may do what they do. Each law is a contract, so that the check proves it.
+ghost use Rattle.std.specs.Prelude.{◌≡◌, ◌≤◌, ◌+◌, ℕ, Bool, true, false, Some};
+ghost use Rattle.js_syntax.specs.Facts.{weight};
+ghost use Rattle.js_syntax.specs.Node.{Forest, Tree, node, forest_of, total};
+ghost use Rattle.js_syntax.specs.declared.node_kind.NodeKind.TheVariants.{Statements as statements};
+ghost use Rattle.js_syntax.specs.Node.{Note};
+ghost use Rattle.min_context.specs.Place.{place_at};
+ghost use Rattle.scope_counts.specs.Counts.{ids};
+ghost use Rattle.scope_counts.specs.Edits.{Around, plug};
+ghost use Rattle.scope_counts.specs.Losing.{MarksWhatLeft};
+ghost use Rattle.steps_allowed.specs.Edits.{Edit, TreeEdits};
+ghost use Rattle.rules_dead_code.specs.Rules.{Facts, Where, where_of, trimmed, has_dead, emptied};
+ghost use Rattle.rules_dead_code.specs.Knows.{Knows};
+
+/// Law: what is known of a program is known of what edits leave of it, once the ids are marked of the references that left.
+pub fn what_is_known_stays()
+    ensures { (f : Facts) (t u : Forest) → TreeEdits t u → (before after : ℕ → Bool) → MarksWhatLeft before t u after → Knows f before t → Knows f after u }
+{}
+
+/// Law: by what is known a statement that becomes empty is silent where it stands, so that this is an edit.
+pub fn silent_statements_may_become_empty()
+    ensures { (f : Facts) (marked : ℕ → Bool) (a : Around) (x y : Tree) (rest : Forest) → Knows f marked (plug a (node x.kind x.note x.below rest)) → emptied f (where_of (place_at a)) x ≡ Some y
+        → Edit (plug a (node x.kind x.note x.below rest)) (plug a (node y.kind y.note y.below rest)) }
+{}
+
+/// Law: what goes of a list of statements may go, one after the other: empty and silent statements, functions and declarators
+/// that nothing uses, and declarations of which none of those stays.
+pub fn what_goes_may_go()
+    ensures { (f : Facts) (marked : ℕ → Bool) (a : Around) (n : Note) (row rest : Forest) → Knows f marked (plug a (node statements n row rest))
+        → TreeEdits (plug a (node statements n row rest)) (plug a (node statements n (trimmed f (where_of (place_at a)) row) rest)) }
+{}
+
+/// Law: a list is lighter where anything goes, and the same where nothing does; no reference comes in.
+pub fn a_trimmed_list_is_lighter()
+    ensures lighter { (f : Facts) (w : Where) (row : Forest) → has_dead f w row ≡ true → total weight (trimmed f w row) + 1 ≤ total weight row }
+    ensures same { (f : Facts) (w : Where) (row : Forest) → has_dead f w row ≡ false → trimmed f w row ≡ row }
+    ensures references { (f : Facts) (w : Where) (row : Forest) → (r : ℕ) → ids r (trimmed f w row) ≤ ids r row }
+{}
+
+/// Law: so is a statement that becomes empty.
+pub fn an_emptied_statement_is_lighter()
+    ensures lighter { (f : Facts) (w : Where) (x y : Tree) → emptied f w x ≡ Some y → total weight (forest_of y) + 1 ≤ total weight (forest_of x) }
+    ensures references { (f : Facts) (w : Where) (x y : Tree) → emptied f w x ≡ Some y → (r : ℕ) → ids r (forest_of y) ≤ ids r (forest_of x) }
+{}
