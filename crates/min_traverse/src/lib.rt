@@ -22,10 +22,12 @@
 
 mod dispatch;
 pub mod laws;
+mod program;
 mod slot;
 mod traverse;
 mod walk;
 
+pub use program::traverse_mut_with_ctx;
 pub use slot::{Hook, Inner, Middle, Outer, inner_slot, middle_slot, outer_slot};
 pub use traverse::Traverse;
 pub use walk::traverse_root;
