@@ -50,7 +50,7 @@ pub record IsItems (p : Place) (a : counts.Around) : Type 0 where
   pub spot_is : spot top a ≡ listed p note at previous
   pub row_is : (asked_row (asked_of_program true) a).row ≡ items
 
-row_of_list : (r : Row) → row_below r statements ≡ items
+pub row_of_list : (r : Row) → row_below r statements ≡ items
 row_of_list items = refl
 row_of_list of_item = refl
 row_of_list item_declarators = refl

@@ -9,3 +9,6 @@ pub mod Items
 pub mod Trimming
 pub mod Emptying
 pub mod Lighter
+pub mod Splitting
+pub mod Idle
+pub mod Alive
