@@ -12,3 +12,4 @@ pub mod Lighter
 pub mod Splitting
 pub mod Idle
 pub mod Alive
+pub mod Before

@@ -9,12 +9,23 @@ ghost use Rattle.scope_counts.specs.Counts.{ids};
 ghost use Rattle.scope_counts.specs.Edits.{Around, plug};
 ghost use Rattle.scope_counts.specs.Losing.{MarksWhatLeft};
 ghost use Rattle.steps_allowed.specs.Edits.{Edit, TreeEdits};
+ghost use Rattle.min_pass.specs.Around.{outermost};
+ghost use Rattle.steps_allowed.specs.Places.{asked_at};
+ghost use Rattle.steps_marked.specs.Flags.{stand};
+ghost use Rattle.rules_dead_code.specs.Before.{before};
 ghost use Rattle.rules_dead_code.specs.Rules.{Facts, Where, where_of, trimmed, has_dead, emptied};
 ghost use Rattle.rules_dead_code.specs.Knows.{Knows};
 
 /// Law: what is known of a program is known of what edits leave of it, once the ids are marked of the references that left.
 pub fn what_is_known_stays()
     ensures { (f : Facts) (t u : Forest) → TreeEdits t u → (before after : ℕ → Bool) → MarksWhatLeft before t u after → Knows f before t → Knows f after u }
+{}
+
+/// Law: the scopes that the context of a walk numbers at a place are those whose flags tell what is exposed there.
+pub fn places_have_the_scopes_that_flags_tell_of()
+    ensures scope { (f : Facts) (marked : ℕ → Bool) (a : Around) (x : Tree) (rest : Forest) → Knows f marked (plug a (node x.kind x.note x.below rest)) → (stand (before a rest) (Some x)).scope ≡ Some (place_at a).scope }
+    ensures variables { (f : Facts) (marked : ℕ → Bool) (a : Around) (x : Tree) (rest : Forest) → Knows f marked (plug a (node x.kind x.note x.below rest)) → (stand (before a rest) (Some x)).variables ≡ Some (place_at a).hoist_scope }
+    ensures in_with { (a : Around) (rest : Forest) → (asked_at (outermost true) (before a rest)).in_with ≡ (where_of (place_at a)).in_with }
 {}
 
 /// Law: by what is known a statement that becomes empty is silent where it stands, so that this is an edit.
