@@ -13,3 +13,4 @@ pub mod Splitting
 pub mod Idle
 pub mod Alive
 pub mod Before
+pub mod Tried

@@ -1,9 +1,9 @@
 -- The rules, tried on small programs.
-use Rattle.std.specs.Prelude.{ℕ, List, [], ◌∷◌, map, Bool, true, false, is_some}
+use Rattle.std.specs.Prelude.{ℕ, suc, ◌==◌, List, [], ◌∷◌, map, Bool, true, false, not, ◌&&◌, ◌||◌, is_some, Option, Some, None}
 use Rattle.js_syntax.specs.declared.node_kind.NodeKind.{NodeKind as Kind}
 use Rattle.js_syntax.specs.declared.kind.VariableKind.{VariableKind}
 use Rattle.js_syntax.specs.declared.kind.VariableKind.TheVariants as variable
-use Rattle.js_syntax.specs.Node.{Forest, nothing, node, joined, bare}
+use Rattle.js_syntax.specs.Node.{Forest, nothing, node, absent, joined, bare}
 use Rattle.form_rules.specs.Samples.{over, leaf, row, listed, no, a_module, a_script, a, binds, reads, one, does, let_, var_, block, function_a, calls}
 use Rattle.scope_rules.specs.Samples.{b}
 use Rattle.scope_rules.specs.Table.{Reference}
@@ -11,6 +11,11 @@ use Rattle.scope_counts.specs.Tried.{with_marks}
 use Rattle.steps_allowed.specs.Exposure.{is_script}
 use Rattle.steps_allowed.specs.Rows.{call_of_eval}
 use Rattle.steps_marked.specs.Samples.{table_of}
+use Rattle.scope_rules.specs.ScopeFlags as scope_flag
+use Rattle.scope_rules.specs.Samples.{Row}
+use Rattle.scope_rules.specs.Table.{Scoping}
+use Rattle.steps_allowed.specs.Exposure.{Exposure}
+use Rattle.steps_marked.specs.Flags.{scope_has, is_sloppy_block, Stand, stand_inside, stands_of}
 use Rattle.rules_dead_code.specs.Rules.{Facts, Where, trimmed}
 
 -- by its own table, and what is exported
@@ -54,3 +59,26 @@ declares_each how ds = over (Kind.VariableDeclaration how) (listed Kind.Declarat
 -- let a = 1;
 abbrev pub let_one : Forest
 let_one = declares_each variable.Let (declarator (binds a) one ∷ [])
+
+-- ---- whether flags tell only what is so
+
+abbrev pub implies : Bool → Bool → Bool
+implies b c = not b || c
+
+abbrev pub numbers_tell_only : Scoping → (script : Bool) → Exposure → (scope variables : Option ℕ) → Bool
+numbers_tell_only s script e (Some n) (Some v) =
+    implies (scope_has s n scope_flag.direct_eval) e.evaluates && (implies (is_sloppy_block s n) e.in_sloppy_block && (implies (script && n == 0) e.names_shared && implies (script && v == 0) e.variables_shared))
+numbers_tell_only s script e n v = false
+
+abbrev pub is_told_only : Scoping → (script : Bool) → (stands : ℕ → Stand) → (at : ℕ) → Forest → Bool
+is_told_only s script ps at nothing = true
+is_told_only s script ps at (absent rest) = is_told_only s script ps (suc at) rest
+is_told_only s script ps at (node k n below rest) =
+    numbers_tell_only s script (ps at).exposure (ps at).scope (ps at).variables && (is_told_only s script (stand_inside (ps at) k n below) 0 below && is_told_only s script ps (suc at) rest)
+
+abbrev pub do_flags_tell_only : Scoping → Forest → Bool
+do_flags_tell_only s t = is_told_only s (is_script t) (stands_of t) 0 t
+
+-- by their own tables
+abbrev pub new_flags_tell_only : List Row → List Bool
+new_flags_tell_only rows = map (λ (r : Row). do_flags_tell_only (table_of r.tree) (with_marks r.tree)) rows

@@ -41,11 +41,13 @@ pub fn what_goes_may_go()
         → TreeEdits (plug a (node statements n row rest)) (plug a (node statements n (trimmed f (where_of (place_at a)) row) rest)) }
 {}
 
-/// Law: a list is lighter where anything goes, and the same where nothing does; no reference comes in.
+/// Law: a list is lighter where anything goes, and the same where nothing does; no reference comes in, and by the same facts
+/// nothing of what is left goes.
 pub fn a_trimmed_list_is_lighter()
     ensures lighter { (f : Facts) (w : Where) (row : Forest) → has_dead f w row ≡ true → total weight (trimmed f w row) + 1 ≤ total weight row }
     ensures same { (f : Facts) (w : Where) (row : Forest) → has_dead f w row ≡ false → trimmed f w row ≡ row }
     ensures references { (f : Facts) (w : Where) (row : Forest) → (r : ℕ) → ids r (trimmed f w row) ≤ ids r row }
+    ensures alive { (f : Facts) (w : Where) (row : Forest) → has_dead f w (trimmed f w row) ≡ false }
 {}
 
 /// Law: so is a statement that becomes empty.
