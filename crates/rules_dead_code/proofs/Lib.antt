@@ -14,3 +14,4 @@ pub mod Idle
 pub mod Alive
 pub mod Before
 pub mod Tried
+pub mod New

@@ -1,5 +1,13 @@
 // Why the rules may do what they do. Each law is a contract, so that the check proves it.
-ghost use Rattle.std.specs.Prelude.{◌≡◌, ◌≤◌, ◌+◌, ℕ, Bool, true, false, Some};
+ghost use Rattle.std.specs.Prelude.{◌≡◌, ◌≤◌, ◌+◌, ℕ, List, Bool, true, false, Some};
+ghost use Rattle.js_syntax.specs.Class.{root};
+ghost use Rattle.json_shape.specs.Shape.{Fits};
+ghost use Rattle.scope_rules.specs.Mark.{marked, first_marks};
+ghost use Rattle.scope_rules.specs.Site.{sites_of, found_in};
+ghost use Rattle.scope_rules.specs.Table.{Scoping, scoping_of, symbols_declared};
+ghost use Rattle.scope_table.specs.Reading.{scope_at};
+ghost use Rattle.scope_counts.specs.Scopes.{unmarked};
+ghost use Rattle.steps_allowed.specs.Exposure.{is_script};
 ghost use Rattle.js_syntax.specs.Facts.{weight};
 ghost use Rattle.js_syntax.specs.Node.{Forest, Tree, node, forest_of, total};
 ghost use Rattle.js_syntax.specs.declared.node_kind.NodeKind.TheVariants.{Statements as statements};
@@ -7,14 +15,27 @@ ghost use Rattle.js_syntax.specs.Node.{Note};
 ghost use Rattle.min_context.specs.Place.{place_at};
 ghost use Rattle.scope_counts.specs.Counts.{ids};
 ghost use Rattle.scope_counts.specs.Edits.{Around, plug};
-ghost use Rattle.scope_counts.specs.Losing.{MarksWhatLeft};
+ghost use Rattle.scope_counts.specs.Losing.{MarksWhatLeft, Prunes};
 ghost use Rattle.steps_allowed.specs.Edits.{Edit, TreeEdits};
 ghost use Rattle.min_pass.specs.Around.{outermost};
 ghost use Rattle.steps_allowed.specs.Places.{asked_at};
 ghost use Rattle.steps_marked.specs.Flags.{stand};
 ghost use Rattle.rules_dead_code.specs.Before.{before};
 ghost use Rattle.rules_dead_code.specs.Rules.{Facts, Where, where_of, trimmed, has_dead, emptied};
-ghost use Rattle.rules_dead_code.specs.Knows.{Knows};
+ghost use Rattle.rules_dead_code.specs.Knows.{TellsBound, TellsExported, Knows};
+
+/// Law: a program is known by its own table, where it is read which references are bound and which symbols exported.
+pub fn new_programs_are_known()
+    ensures { (t : Forest) → Fits root t → (bound exported : List Bool) → let f = found_in (sites_of t) in let u = marked (first_marks (symbols_declared f.bindings)) t in
+        let facts : Facts = record { scoping = scoping_of f; bound = bound; exported = exported; is_script = is_script u } in
+        TellsBound (scoping_of f) bound → TellsExported exported u → Knows facts unmarked u }
+{}
+
+/// Law: it still is once the marked ids are out of its table's lists, and then no id is marked.
+pub fn what_is_known_stays_while_lists_are_pruned()
+    ensures { (f : Facts) (marked : ℕ → Bool) (now : Scoping) (t : Forest) → Prunes marked f.scoping now → ((n : ℕ) → (scope_at now n).flags ≡ (scope_at f.scoping n).flags) → Knows f marked t
+        → Knows (record f { scoping = now }) unmarked t }
+{}
 
 /// Law: what is known of a program is known of what edits leave of it, once the ids are marked of the references that left.
 pub fn what_is_known_stays()
