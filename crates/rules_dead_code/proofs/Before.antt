@@ -1,5 +1,5 @@
 -- The numbers of scopes at a place in front of the rest of its row.
-use Rattle.std.proofs.Common.{◌≡◌, ◌∙◌, ℕ, Bool, true, Option, Some, refl, sym, ap, subst}
+use Rattle.std.proofs.Common.{◌≡◌, ◌∙◌, ℕ, Bool, true, Some, refl, sym, ap, subst}
 use Rattle.js_syntax.specs.Node.{Forest, Tree, node}
 use Rattle.min_context.specs.Place.{place_at}
 use Rattle.min_pass.specs.declared.around.Around.{Around as Asked}
@@ -8,13 +8,13 @@ use Rattle.scope_laws.specs.Place as places
 use Rattle.scope_laws.specs.Place.{first}
 use Rattle.scope_counts.specs.Edits.{Around, here, behind, behind_none, under, plug}
 use Rattle.steps_allowed.specs.Places.{asked_at}
-use Rattle.steps_marked.specs.Flags.{Stand, stand}
+use Rattle.steps_marked.specs.Flags.{stand}
 use Rattle.rules_dead_code.specs.Before.{before}
 use Rattle.rules_dead_code.specs.Rules.{Facts, where_of}
 use Rattle.rules_dead_code.specs.Knows.{Knows}
 use Rattle.rules_dead_code.proofs.LaidOut.{fits_laid}
 use Rattle.rules_dead_code.proofs.Places.{to, asked_to, with_is}
-use Rattle.rules_dead_code.proofs.Numbers.{Same, whole_stand, numbers, stand_to}
+use Rattle.rules_dead_code.proofs.Numbers.{Same, numbers, stand_to}
 
 before_is : (a : Around) (rest : Forest) → to a (first rest) ≡ before a rest
 before_is here rest = refl

@@ -15,3 +15,4 @@ pub mod Alive
 pub mod Before
 pub mod Tried
 pub mod New
+pub mod Walked

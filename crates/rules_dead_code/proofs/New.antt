@@ -1,13 +1,13 @@
 -- A new program is known by its own table, and one whose table's lists are pruned still is.
-use Rattle.std.proofs.Common.{◌≡◌, ◌∙◌, ℕ, List, Bool, true, false, Option, Some, true≢false, is_some, slice_index_or, refl, sym, ap}
+use Rattle.std.proofs.Common.{◌≡◌, ◌∙◌, ℕ, List, Bool, true, Some, true≢false, is_some, slice_index_or, refl, sym, ap}
 use Rattle.js_syntax.specs.declared.node_kind.NodeKind.{NodeKind as Kind}
 use Rattle.js_syntax.specs.Class.{root}
 use Rattle.js_syntax.specs.Node.{Forest, nothing, node, absent}
 use Rattle.json_shape.specs.Shape.{Fits}
 use Rattle.scope_rules.specs.Mark.{marked, first_marks}
 use Rattle.scope_rules.specs.Site.{sites_of, found_in}
-use Rattle.scope_rules.specs.Table.{Reference, Scoping, scoping_of, symbols_declared}
-use Rattle.scope_table.specs.Reading.{no_reference, scope_at, reference_at}
+use Rattle.scope_rules.specs.Table.{Scoping, scoping_of, symbols_declared}
+use Rattle.scope_table.specs.Reading.{no_reference, scope_at}
 use Rattle.scope_laws.proofs.Marking.{bare_marked}
 use Rattle.scope_counts.proofs.Tables.{marks_may_go}
 use Rattle.scope_counts.specs.Losing.{Prunes}
@@ -20,7 +20,6 @@ use Rattle.steps_marked.specs.Flags.{first_mark}
 use Rattle.steps_marked.proofs.Numbered.{marked_told}
 use Rattle.steps_marked.proofs.Tables.{new_exact}
 use Rattle.steps_marked.proofs.Telling.{flags_alone}
-use Rattle.js_effects.specs.Silence.{is_marked}
 use Rattle.rules_dead_code.specs.Rules.{Facts}
 use Rattle.rules_dead_code.specs.Knows.{TellsBound, TellsExported, Knows}
 

@@ -1,15 +1,14 @@
 -- The rules, tried on small programs.
-use Rattle.std.specs.Prelude.{ℕ, suc, ◌==◌, List, [], ◌∷◌, map, Bool, true, false, not, ◌&&◌, ◌||◌, is_some, Option, Some, None}
+use Rattle.std.specs.Prelude.{ℕ, suc, ◌==◌, List, [], ◌∷◌, map, Bool, true, false, not, ◌&&◌, ◌||◌, is_some, Option, Some}
 use Rattle.js_syntax.specs.declared.node_kind.NodeKind.{NodeKind as Kind}
 use Rattle.js_syntax.specs.declared.kind.VariableKind.{VariableKind}
 use Rattle.js_syntax.specs.declared.kind.VariableKind.TheVariants as variable
 use Rattle.js_syntax.specs.Node.{Forest, nothing, node, absent, joined, bare}
-use Rattle.form_rules.specs.Samples.{over, leaf, row, listed, no, a_module, a_script, a, binds, reads, one, does, let_, var_, block, function_a, calls}
+use Rattle.form_rules.specs.Samples.{over, row, listed, a, binds, one}
 use Rattle.scope_rules.specs.Samples.{b}
 use Rattle.scope_rules.specs.Table.{Reference}
 use Rattle.scope_counts.specs.Tried.{with_marks}
 use Rattle.steps_allowed.specs.Exposure.{is_script}
-use Rattle.steps_allowed.specs.Rows.{call_of_eval}
 use Rattle.steps_marked.specs.Samples.{table_of}
 use Rattle.scope_rules.specs.ScopeFlags as scope_flag
 use Rattle.scope_rules.specs.Samples.{Row}
