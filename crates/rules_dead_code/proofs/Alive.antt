@@ -1,21 +1,20 @@
 -- In a program of which the rules take nothing out no part is dead code.
-use Rattle.std.proofs.Common.{◌≡◌, ◌∙◌, ◌⊎◌, inl, inr, ◌+◌, ◌==◌, ℕ, suc, List, [], ◌++◌, Bool, true, false, not, ◌&&◌, ◌||◌, if◌then◌else◌, true≢false, is_some, Option, Some, None, refl, sym, ap, subst, eqb-true}
-use Rattle.std.proofs.lemmas.Bool.{and_parts, and_from, false_from_ne_true}
+use Rattle.std.proofs.Common.{◌≡◌, ◌∙◌, inl, ◌+◌, ◌==◌, ℕ, suc, List, [], ◌++◌, Bool, true, false, not, ◌&&◌, ◌||◌, if◌then◌else◌, true≢false, Option, Some, None, refl, sym, ap, subst, eqb-true}
+use Rattle.std.proofs.lemmas.Bool.{and_parts, and_from}
 use Rattle.js_syntax.specs.declared.node_kind.NodeKind.{NodeKind as Kind}
 use Rattle.js_syntax.specs.declared.node_kind.NodeKind.TheVariants.{EmptyStatement as empty_statement, ExpressionStatement as expression_statement, Function as function, VariableDeclaration as variable_declaration, VariableDeclarator as variable_declarator, Declarators as declarators, BindingName as binding_name, Statements as statements}
 use Rattle.js_syntax.specs.declared.kind.FunctionKind.TheVariants as function_kind
 use Rattle.js_syntax.specs.declared.kind.VariableKind.{VariableKind}
 use Rattle.js_syntax.specs.declared.kind.VariableKind.TheVariants as variable
-use Rattle.js_syntax.specs.Node.{Forest, Tree, Note, nothing, node, absent, below_of}
+use Rattle.js_syntax.specs.Node.{Forest, Tree, Note, nothing, node, absent}
 use Rattle.js_effects.specs.Silence.{may_have_effects}
 use Rattle.min_context.specs.Place.{Place, place_at}
 use Rattle.min_pass.specs.declared.around.Around.{Around as Asked}
-use Rattle.min_pass.specs.declared.around.Row.TheVariants.{Items as items, Declarators as item_declarators}
 use Rattle.min_pass.specs.Around.{outermost as asked_of_program}
 use Rattle.min_pass.specs.Pass.{is_given, unmarked as without_mark}
-use Rattle.scope_rules.specs.Context.{Context, inside}
+use Rattle.scope_rules.specs.Context.{inside}
 use Rattle.scope_rules.specs.ScopeFlags as scope_flag
-use Rattle.scope_rules.specs.Site.{BindingSite, own_sites, opens_one, scope_count, sites, sites_of, bindings_among, references_among}
+use Rattle.scope_rules.specs.Site.{own_sites, opens_one, scope_count, sites, sites_of, references_among}
 use Rattle.scope_rules.specs.Table.{Scoping}
 use Rattle.scope_laws.specs.Place as places
 use Rattle.scope_laws.specs.Place.{Around, first}
@@ -26,7 +25,7 @@ use Rattle.scope_counts.specs.Scopes.{unmarked}
 use Rattle.steps_names.proofs.Sites.{binding_second}
 use Rattle.steps_allowed.specs.Exposure.{Exposure, exposure, is_script, shares, function_is_exposed, evaluates_somewhere, IsOwnFunction, IsOwnDeclarator}
 use Rattle.steps_allowed.specs.Places.{a_node, asked_at, IsItem, IsDeclarator, At}
-use Rattle.steps_allowed.specs.Free.{IsFree, Free, FreeDeclarator}
+use Rattle.steps_allowed.specs.Free.{Free, FreeDeclarator}
 use Rattle.steps_allowed.specs.SilentStatement.{SilentStatement}
 use Rattle.steps_allowed.specs.UnusedFunction.{a_function}
 use Rattle.steps_allowed.specs.UnusedDeclarator.{a_declarator, SilentDeclarator}
@@ -34,7 +33,7 @@ use Rattle.steps_owed.proofs.Places.{place_of, rest_of}
 use Rattle.steps_marked.specs.Flags.{Stand, scope_has, is_sloppy_block, stand_inside, first_mark, stands_of, stand_at, stand}
 use Rattle.steps_marked.proofs.Telling.{stand_exposed}
 use Rattle.js_syntax.proofs.Truth.{neither, first_of_neither, second_of_neither}
-use Rattle.rules_dead_code.specs.Rules.{Facts, Where, has_with, where_of, scope_of, is_unlisted, is_global, function_is_unused, variable_is_unused, is_quiet, declarator_goes, one_goes, item_goes, item_has_dead, has_dead, is_silent_statement, emptied}
+use Rattle.rules_dead_code.specs.Rules.{Facts, Where, has_with, where_of, scope_of, is_unlisted, is_global, variable_is_unused, is_quiet, one_goes, item_has_dead}
 use Rattle.rules_dead_code.specs.Knows.{Knows}
 use Rattle.rules_dead_code.proofs.Keeping.{Known}
 use Rattle.rules_dead_code.proofs.LaidOut.{has_list, is_laid, fits_laid, laid_here}
@@ -42,10 +41,10 @@ use Rattle.rules_dead_code.proofs.Places.{to, plugged, join, plug_join, asked_ro
 use Rattle.rules_dead_code.proofs.Numbers.{Same, whole_stand, stand_to, stand_along}
 use Rattle.rules_dead_code.proofs.Silent.{of_left, of_right}
 use Rattle.rules_dead_code.proofs.Leaving.{named_site}
-use Rattle.rules_dead_code.proofs.Items.{IsItems, laid_there, item_with, items_same, declaration, in_declaration, declarator_plugged, declarator_with}
+use Rattle.rules_dead_code.proofs.Items.{laid_there, items_same, in_declaration, declarator_with}
 use Rattle.rules_dead_code.specs.Quiet.{TellsOnly, ToldOnly, Exactly, IsQuiet}
-use Rattle.rules_dead_code.proofs.Idle.{Found, find, idle_row, unlisted}
-use Rattle.rules_dead_code.proofs.Splitting.{whole_place, InList, in_list, InDeclaration, in_declaration as inside_declaration, list_items, none_dead, some_goes, OnlyList, only_list}
+use Rattle.rules_dead_code.proofs.Idle.{find, idle_row, unlisted}
+use Rattle.rules_dead_code.proofs.Splitting.{whole_place, in_list, in_declaration as inside_declaration, list_items, none_dead, some_goes, only_list}
 
 wrong : {P : Type 0} → true ≡ false → P
 wrong e = absurd (true≢false e)

@@ -1,5 +1,5 @@
 -- What is silent where it stands has no effects by the facts, and what is free is unlisted.
-use Rattle.std.proofs.Common.{◌≡◌, ◌∙◌, ◌⊎◌, inl, inr, ◌+◌, ◌==◌, ℕ, suc, List, [], ◌∷◌, ◌++◌, length, Bool, true, false, not, ◌&&◌, ◌||◌, if◌then◌else◌, true≢false, slice_get, is_some, codes, bytes_eq, Option, Some, None, refl, sym, ap, subst}
+use Rattle.std.proofs.Common.{◌≡◌, ◌∙◌, inl, inr, ◌+◌, ◌==◌, ℕ, suc, List, [], ◌∷◌, ◌++◌, length, Bool, true, false, not, ◌&&◌, ◌||◌, if◌then◌else◌, true≢false, is_some, codes, bytes_eq, Option, Some, None, refl, sym, ap}
 use Rattle.std.proofs.lemmas.Bool.{and_from, or_left, or_right, false_from_ne_true}
 use Rattle.std.proofs.lemmas.Option.{get_or_from_slice_get}
 use Rattle.js_syntax.specs.declared.node_kind.NodeKind.{NodeKind as Kind}

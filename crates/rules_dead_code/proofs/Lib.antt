@@ -12,3 +12,7 @@ pub mod Lighter
 pub mod Splitting
 pub mod Idle
 pub mod Alive
+pub mod Before
+pub mod Tried
+pub mod New
+pub mod Walked

@@ -8,7 +8,7 @@ use Rattle.js_syntax.specs.declared.kind.VariableKind.{VariableKind}
 use Rattle.js_syntax.specs.Facts as facts
 use Rattle.js_syntax.specs.Node.{Forest, Tree, Note, nothing, node, absent, forest_of, total}
 use Rattle.scope_counts.specs.Counts.{Weight, tally, by_id, ids}
-use Rattle.js_syntax.proofs.Truth.{first_of_neither, second_of_neither}
+use Rattle.js_syntax.proofs.Truth.{first_of_neither, second_of_neither, neither}
 use Rattle.rules_dead_code.specs.Rules.{Facts, Where, declarator_goes, one_goes, one_stays, declarators_left, declaration_goes, is_silent_statement, item_goes, declaration_left, item_left, trimmed, declaration_has_dead, item_has_dead, has_dead, emptied}
 use Rattle.rules_dead_code.proofs.Emptying.{empties}
 
@@ -125,6 +125,36 @@ module _ (f : Facts) (w : Where) where
       let here = first_of_neither (item_has_dead f w k below) (has_dead f w rest) e in
       kept_item (item_goes f w k below) k n below (item_left f w k below) rest (trimmed f w rest) (λ g. true≢false (sym (item_dead k below g) ∙ here)) (item_same k below here)
       (trimmed_is_same rest (second_of_neither (item_has_dead f w k below) (has_dead f w rest) e))
+
+  -- ---- what is left has nothing that goes
+
+  none_if : (g : Bool) (how : VariableKind) (k : Kind) (n : Note) (below left : Forest) → declarator_goes f w how k below ≡ g → one_goes f w how left ≡ false → one_goes f w how (if g then left else node k n below left) ≡ false
+  none_if true how k n below left e h = h
+  none_if false how k n below left e h = neither (declarator_goes f w how k below) (one_goes f w how left) e h
+
+  declarators_alive : (how : VariableKind) (ds : Forest) → one_goes f w how (declarators_left f w how ds) ≡ false
+  declarators_alive how nothing = refl
+  declarators_alive how (absent rest) = declarators_alive how rest
+  declarators_alive how (node k n below rest) = none_if (declarator_goes f w how k below) how k n below (declarators_left f w how rest) refl (declarators_alive how rest)
+
+  declaration_alive : (how : VariableKind) (below : Forest) → declaration_has_dead f w how (declaration_left f w how below) ≡ false
+  declaration_alive how (node declarators n ds rest) = declarators_alive how ds
+  declaration_alive how nothing = refl
+  declaration_alive how (absent rest) = refl
+  declaration_alive how (node k n ds rest) = refl
+
+  item_alive : (k : Kind) (below : Forest) → item_goes f w k below ≡ false → item_has_dead f w k (item_left f w k below) ≡ false
+  item_alive (variable_declaration how) below e = declaration_alive how below
+  item_alive k below e = e
+
+  alive_if : (g : Bool) (k : Kind) (n : Note) (below left : Forest) → item_goes f w k below ≡ g → has_dead f w left ≡ false → has_dead f w (if g then left else node k n (item_left f w k below) left) ≡ false
+  alive_if true k n below left e h = h
+  alive_if false k n below left e h = neither (item_has_dead f w k (item_left f w k below)) (has_dead f w left) (item_alive k below e) h
+
+  pub trimmed_is_alive : (row : Forest) → has_dead f w (trimmed f w row) ≡ false
+  trimmed_is_alive nothing = refl
+  trimmed_is_alive (absent rest) = trimmed_is_alive rest
+  trimmed_is_alive (node k n below rest) = alive_if (item_goes f w k below) k n below (trimmed f w rest) refl (trimmed_is_alive rest)
 
   -- ---- references
 

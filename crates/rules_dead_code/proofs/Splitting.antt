@@ -1,11 +1,11 @@
 -- The place of an item lies in a list of statements, and that of a declarator in the declaration that is such an item.
-use Rattle.std.proofs.Common.{◌≡◌, ◌∙◌, ◌⊎◌, inl, inr, ℕ, suc, Bool, true, false, ◌||◌, Option, Some, None, true≢false, refl, sym, ap, subst}
+use Rattle.std.proofs.Common.{◌≡◌, ◌∙◌, ◌⊎◌, inl, inr, ℕ, suc, Bool, true, false, Some, true≢false, refl, sym, ap, subst}
 use Rattle.js_syntax.specs.declared.node_kind.NodeKind.{NodeKind as Kind}
 use Rattle.js_syntax.specs.declared.node_kind.NodeKind.TheVariants.{Statements as statements, VariableDeclaration as variable_declaration, Declarators as declarators}
 use Rattle.js_syntax.specs.declared.kind.VariableKind.{VariableKind}
 use Rattle.js_syntax.specs.Node.{Forest, Note, nothing, node, absent}
 use Rattle.min_context.specs.Above.{above_of}
-use Rattle.min_context.specs.Place.{Place, Spot, place_of as place_of_spot, below, top, spot, place_at}
+use Rattle.min_context.specs.Place.{Place, Spot, top, spot, place_at}
 use Rattle.min_pass.specs.declared.around.Around.{Around as Asked}
 use Rattle.min_pass.specs.declared.around.Row.{Row}
 use Rattle.min_pass.specs.declared.around.Row.TheVariants.{Items as items, OfItem as of_item, Declarators as item_declarators, Other as other}
@@ -168,27 +168,30 @@ pub record InDeclaration (a : counts.Around) : Type 0 where
   pub is : a ≡ join (join outer (under (variable_declaration how) note list beside)) (under declarators list_note inner list_beside)
   pub item : (asked_row (asked_of_program true) outer).row ≡ items
 
+-- a list that stands in a declaration, and a row in the list
+declared_in : (a : counts.Around) (r : Above (asked_of_program true) a) (q : Above (asked_of_program true) r.outer) → r.kind ≡ declarators → (d : Declares (asked_row (asked_of_program true) q.outer).row q.kind) → InDeclaration a
+declared_in a r q lists d = record {
+  outer = q.outer;
+  how = d.how;
+  note = q.note;
+  list = q.inner;
+  beside = q.beside;
+  list_note = r.note;
+  inner = r.inner;
+  list_beside = r.beside;
+  list_in_row = q.in_row;
+  in_row = r.in_row;
+  is = r.is ∙ ap (λ k. join r.outer (under k r.note r.inner r.beside)) lists ∙ ap (λ o. join o (under declarators r.note r.inner r.beside)) q.is
+      ∙ ap (λ k. join (join q.outer (under k q.note q.inner q.beside)) (under declarators r.note r.inner r.beside)) d.kind_is;
+  item = d.row_is;
+}
+
 pub in_declaration : (a : counts.Around) → (asked_row (asked_of_program true) a).row ≡ item_declarators → InDeclaration a
 in_declaration a e =
     let r = above a item_declarators (λ f. true≢false (sym (ap is_declarators f))) e in
     let lists = declarators_above (asked_row (asked_of_program true) r.outer).row r.kind (sym (ap (λ (w : Asked). w.row) r.asked_is) ∙ e) in
     let q = above r.outer of_item (λ f. true≢false (sym (ap is_of_item f))) lists.row_is in
-    let declares = declaration_above (asked_row (asked_of_program true) q.outer).row q.kind (sym (ap (λ (w : Asked). w.row) q.asked_is) ∙ lists.row_is) in
-    record {
-      outer = q.outer;
-      how = declares.how;
-      note = q.note;
-      list = q.inner;
-      beside = q.beside;
-      list_note = r.note;
-      inner = r.inner;
-      list_beside = r.beside;
-      list_in_row = q.in_row;
-      in_row = r.in_row;
-      is = subst (λ k. a ≡ join (join q.outer (under k q.note q.inner q.beside)) (under declarators r.note r.inner r.beside)) declares.kind_is
-          (subst (λ o. a ≡ join o (under declarators r.note r.inner r.beside)) q.is (subst (λ k. a ≡ join r.outer (under k r.note r.inner r.beside)) lists.kind_is r.is));
-      item = declares.row_is;
-    }
+    declared_in a r q lists.kind_is (declaration_above (asked_row (asked_of_program true) q.outer).row q.kind (sym (ap (λ (w : Asked). w.row) q.asked_is) ∙ lists.row_is))
 
 -- ---- the row of a list
 

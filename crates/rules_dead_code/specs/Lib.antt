@@ -1,3 +1,5 @@
 pub mod Rules
 pub mod Knows
 pub mod Quiet
+pub mod Before
+pub mod Samples

@@ -5,10 +5,12 @@
 //! whose flags tell, is enough (steps_marked). `laws` states that this stays true through edits, that by it what the rules take
 //! out comes by edits that a dead code remover may make (steps_allowed), one node after the other, and that what is left weighs
 //! less, and is the same where nothing goes. `quiet` states that a program of which they take nothing out has no part that is dead
-//! code, as it is read off the tree alone, where nothing is known that isn't so (`specs/Quiet.antt`).
+//! code, as it is read off the tree alone, where nothing is known that isn't so (`specs/Quiet.antt`). `rows` are small programs
+//! and what is left of them, by computing.
 //!
 //! The code is empty: each function's contract is a law.
 #![tactic(auto)]
 
 pub mod laws;
 pub mod quiet;
+pub mod rows;

@@ -3,6 +3,7 @@ ghost use Rattle.std.specs.Prelude.{◌≡◌, ℕ, List, Bool};
 ghost use Rattle.js_syntax.specs.declared.node_kind.NodeKind.TheVariants.{EmptyStatement as empty_statement, ExpressionStatement as expression_statement, BindingName as binding_name};
 ghost use Rattle.js_syntax.specs.declared.kind.VariableKind.TheVariants as variable;
 ghost use Rattle.js_syntax.specs.Node.{Forest, Note, nothing, node};
+ghost use Rattle.min_context.specs.Place.{top};
 ghost use Rattle.scope_laws.specs.Place.{Around, plug};
 ghost use Rattle.scope_counts.specs.Scopes.{unmarked};
 ghost use Rattle.steps_allowed.specs.Exposure.{IsOwnFunction, IsOwnDeclarator};
@@ -13,9 +14,14 @@ ghost use Rattle.steps_allowed.specs.UnusedFunction.{a_function};
 ghost use Rattle.steps_allowed.specs.UnusedDeclarator.{a_declarator, SilentDeclarator};
 ghost use Rattle.rules_dead_code.specs.Rules.{Facts};
 ghost use Rattle.rules_dead_code.specs.Knows.{Knows};
-ghost use Rattle.rules_dead_code.specs.Quiet.{Exactly, IsQuiet};
+ghost use Rattle.rules_dead_code.specs.Quiet.{Exactly, IsQuiet, EachNode, IsQuietAt};
 
-/// Law: it has no empty statement in a list, no silent statement anywhere, and in lists no function declaration or declarator with a
+/// Law: a walk sees that they take nothing out, node by node.
+pub fn walks_see_what_is_quiet()
+    ensures { (f : Facts) (t : Forest) → EachNode (IsQuietAt f) top t → IsQuiet f t }
+{}
+
+/// Law: a program of which the rules take nothing out has no empty statement in a list, no silent statement anywhere, and in lists no function declaration or declarator with a
 /// silent initialiser whose name nothing refers to, no export is of and no other code may use.
 pub fn what_is_quiet_has_no_dead_code()
     ensures empty_statements { (f : Facts) (t : Forest) → Knows f unmarked t → Exactly f t → IsQuiet f t → (a : Around) → (n : Note) → t ≡ plug a (a_node empty_statement n nothing) → IsItem a → ⊥ }

@@ -1,0 +1,21 @@
+-- What holds node by node holds wherever a node stands.
+use Rattle.std.proofs.Common.{◌≡◌, ◌∙◌, true, false, None, refl, subst}
+use Rattle.js_syntax.specs.declared.node_kind.NodeKind.TheVariants.{Statements as statements}
+use Rattle.js_syntax.specs.Node.{Forest, Note, Tree, node}
+use Rattle.min_context.specs.Above.{above_of}
+use Rattle.min_context.specs.Place.{Place, Spot, place_of, next_of, below, top, spot, place_at}
+use Rattle.scope_counts.specs.Edits.{Around, here, behind, behind_none, under, plug}
+use Rattle.rules_dead_code.specs.Rules.{Facts}
+use Rattle.rules_dead_code.specs.Quiet.{EachNode, IsQuietAt, IsQuiet}
+
+there : (Q : Place → Tree → Type 0) (s : Spot) (a : Around) (x : Tree) (rest : Forest) → EachNode Q s (plug a (node x.kind x.note x.below rest)) → Q (place_of (spot s a)) x
+there Q s here x rest h = h.0
+there Q s (behind k n b a) x rest h = there Q (next_of s true) a x rest h.2
+there Q s (behind_none a) x rest h = there Q (next_of s false) a x rest h
+there Q s (under k n a beside) x rest h = there Q (below (place_of s) (above_of k n)) a x rest h.1
+
+pub quiet_nodes : (f : Facts) (t : Forest) → EachNode (IsQuietAt f) top t → IsQuiet f t
+quiet_nodes f t h = record {
+  lists = λ a n row rest is. (there (IsQuietAt f) top a (record { kind = statements; note = n; below = row }) rest (subst (λ u. EachNode (IsQuietAt f) top u) is h)).list refl;
+  statements_stay = λ a x rest is. (there (IsQuietAt f) top a x rest (subst (λ u. EachNode (IsQuietAt f) top u) is h)).statement;
+}
