@@ -16,3 +16,5 @@ pub mod Before
 pub mod Tried
 pub mod New
 pub mod Walked
+pub mod StaysTrue
+pub mod BeginsTrue

@@ -1,4 +1,5 @@
 // Why the rules may do what they do. Each law is a contract, so that the check proves it.
+<<<<<<< HEAD
 ghost use Rattle.std.specs.Prelude.{◌≡◌, ◌≤◌, ◌+◌, ℕ, List, Bool, true, false, Some};
 ghost use Rattle.js_syntax.specs.Class.{root};
 ghost use Rattle.json_shape.specs.Shape.{Fits};
@@ -8,6 +9,9 @@ ghost use Rattle.scope_rules.specs.Table.{Scoping, scoping_of, symbols_declared}
 ghost use Rattle.scope_table.specs.Reading.{scope_at};
 ghost use Rattle.scope_counts.specs.Scopes.{unmarked};
 ghost use Rattle.steps_allowed.specs.Exposure.{is_script};
+=======
+ghost use Rattle.std.specs.Prelude.{◌≡◌, ◌≤◌, ◌+◌, ℕ, length, Bool, true, false, Some};
+>>>>>>> 402f029c6af2de40d7ac91de504d6b40a5249343
 ghost use Rattle.js_syntax.specs.Facts.{weight};
 ghost use Rattle.js_syntax.specs.Node.{Forest, Tree, node, forest_of, total};
 ghost use Rattle.js_syntax.specs.declared.node_kind.NodeKind.TheVariants.{Statements as statements};
@@ -17,10 +21,23 @@ ghost use Rattle.scope_counts.specs.Counts.{ids};
 ghost use Rattle.scope_counts.specs.Edits.{Around, plug};
 ghost use Rattle.scope_counts.specs.Losing.{MarksWhatLeft, Prunes};
 ghost use Rattle.steps_allowed.specs.Edits.{Edit, TreeEdits};
+<<<<<<< HEAD
 ghost use Rattle.min_pass.specs.Around.{outermost};
 ghost use Rattle.steps_allowed.specs.Places.{asked_at};
 ghost use Rattle.steps_marked.specs.Flags.{stand};
 ghost use Rattle.rules_dead_code.specs.Before.{before};
+=======
+ghost use Rattle.min_options.specs.declared.options.CompressOptions.{CompressOptions};
+ghost use Rattle.min_traverse.specs.Lawful.{Stays};
+ghost use Rattle.js_syntax.specs.Class.{root};
+ghost use Rattle.json_shape.specs.Shape.{Fits};
+ghost use Rattle.scope_rules.specs.Mark.{marked, first_marks};
+ghost use Rattle.scope_rules.specs.Site.{sites_of, found_in};
+ghost use Rattle.scope_rules.specs.Table.{scoping_of, symbols_declared};
+ghost use Rattle.symbol_sets.specs.Numbers.{none_below};
+ghost use Rattle.min_context.specs.IsTrue.{IsTrue};
+ghost use Rattle.min_context.specs.Seen.{Seen};
+>>>>>>> 402f029c6af2de40d7ac91de504d6b40a5249343
 ghost use Rattle.rules_dead_code.specs.Rules.{Facts, Where, where_of, trimmed, has_dead, emptied};
 ghost use Rattle.rules_dead_code.specs.Knows.{TellsBound, TellsExported, Knows};
 
@@ -36,6 +53,8 @@ pub fn what_is_known_stays_while_lists_are_pruned()
     ensures { (f : Facts) (marked : ℕ → Bool) (now : Scoping) (t : Forest) → Prunes marked f.scoping now → ((n : ℕ) → (scope_at now n).flags ≡ (scope_at f.scoping n).flags) → Knows f marked t
         → Knows (record f { scoping = now }) unmarked t }
 {}
+
+use min_traverse::Traverse;
 
 /// Law: what is known of a program is known of what edits leave of it, once the ids are marked of the references that left.
 pub fn what_is_known_stays()
@@ -75,4 +94,21 @@ pub fn a_trimmed_list_is_lighter()
 pub fn an_emptied_statement_is_lighter()
     ensures lighter { (f : Facts) (w : Where) (x y : Tree) → emptied f w x ≡ Some y → total weight (forest_of y) + 1 ≤ total weight (forest_of x) }
     ensures references { (f : Facts) (w : Where) (x y : Tree) → emptied f w x ≡ Some y → (r : ℕ) → ids r (forest_of y) ≤ ids r (forest_of x) }
+{}
+
+/// Law: what the context of a walk tells stays true of what edits leave, once exactly what left is marked.
+pub fn edits_keep_the_context_true()
+    ensures { Stays (λ o. Edit) }
+{}
+
+/// Law: so it is with a walker that makes some of them.
+pub fn walkers_keep_the_context_true<T: Traverse>()
+    ensures { ((o : CompressOptions) (t u : Forest) → T.edit o t u → Edit t u) → Stays T.edit }
+{}
+
+/// Law: of a program whose nodes a new table marked, a new context with this table tells what is true: nothing is marked, and
+/// there is room for a mark of each reference.
+pub fn a_new_context_is_true()
+    ensures { (t : Forest) → let f = found_in (sites_of t) in
+        Fits root t → (c : Seen) → c.scoping ≡ scoping_of f → c.marked ≡ none_below (length c.scoping.references) → IsTrue c (marked (first_marks (symbols_declared f.bindings)) t) }
 {}

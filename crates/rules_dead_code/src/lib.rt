@@ -8,6 +8,9 @@
 //! code, as it is read off the tree alone, where nothing is known that isn't so (`specs/Quiet.antt`). `rows` are small programs
 //! and what is left of them, by computing.
 //!
+//! It also states of the context of a walk (min_context) that what it tells is true of a program that a new table marked, and stays
+//! true through such edits, once exactly what left is marked: what a walker of min_traverse owes of its edits.
+//!
 //! The code is empty: each function's contract is a law.
 #![tactic(auto)]
 
