@@ -28,9 +28,6 @@ use Rattle.rules_dead_code.proofs.Places.{to, plugged, left_out, join, spot_join
 use Rattle.rules_dead_code.proofs.Numbers.{Same, declares_there, whole_stand, numbers, stand_to, stand_along}
 use Rattle.rules_dead_code.proofs.Keeping.{Known}
 
-abbrev asked : Asked
-asked = asked_of_program true
-
 pub laid_there : (a : counts.Around) (t : Forest) → is_laid (plug a t) ≡ true → is_laid t ≡ true
 laid_there here t e = e
 laid_there (behind k n b a) t e = laid_there a t (laid_rest k n b (plug a t) e)

@@ -115,9 +115,6 @@ asked_along w (counts.behind k n c a) e = asked_along w a e
 asked_along w (counts.behind_none a) e = asked_along w a e
 asked_along w (counts.under k n a rest) e = never e
 
-other_if : (b c d : Bool) → b || d ≡ true → (c ≡ true → b ≡ true) → b || d ≡ true
-other_if b c d e f = e
-
 pub other_before : (before : Bool) (a : counts.Around) (rest : Forest) → is_row a ≡ true → before ≡ true → has_other before (to a (first rest)) ≡ true
 other_before before counts.here rest e f = subst (λ b. b || has_node rest ≡ true) (sym f) refl
 other_before before (counts.behind k n c a) rest e f = other_before true a rest e refl

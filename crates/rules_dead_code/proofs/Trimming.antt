@@ -21,7 +21,7 @@ use Rattle.steps_allowed.specs.UnusedDeclarator.{a_declarator}
 use Rattle.steps_allowed.specs.UnusedDeclaration.{a_declaration}
 use Rattle.steps_allowed.proofs.Composing.{tree_edits_compose}
 use Rattle.js_syntax.proofs.Truth.{not_true, not_false, first_of_neither, second_of_neither}
-use Rattle.rules_dead_code.specs.Rules.{Facts, Where, has_with, where_of, scope_of, function_is_unused, variable_is_unused, is_quiet, declarator_goes, one_goes, one_stays, declarators_left, declaration_goes, item_goes, declaration_left, item_left, trimmed}
+use Rattle.rules_dead_code.specs.Rules.{Facts, has_with, where_of, scope_of, function_is_unused, variable_is_unused, is_quiet, declarator_goes, one_goes, one_stays, declarators_left, declaration_goes, item_goes, declaration_left, item_left, trimmed}
 use Rattle.rules_dead_code.specs.Knows.{Knows}
 use Rattle.rules_dead_code.proofs.Keeping.{Known, still_known}
 use Rattle.rules_dead_code.proofs.LaidOut.{has_list, is_laid_at, laid_here}
@@ -36,9 +36,6 @@ once : (t u : Forest) → Edit t u → TreeEdits t u
 once t u e = one_tree_edit t u u e (no_tree_edit u)
 
 module _ (f : Facts) (p : Place) where
-  abbrev w : Where
-  w = where_of p
-
   abbrev Now : Forest → Type 0
   Now t = Known f t
 

@@ -1,9 +1,9 @@
 -- What holds node by node holds wherever a node stands.
-use Rattle.std.proofs.Common.{◌≡◌, ◌∙◌, true, false, None, refl, subst}
+use Rattle.std.proofs.Common.{true, false, refl, subst}
 use Rattle.js_syntax.specs.declared.node_kind.NodeKind.TheVariants.{Statements as statements}
-use Rattle.js_syntax.specs.Node.{Forest, Note, Tree, node}
+use Rattle.js_syntax.specs.Node.{Forest, Tree, node}
 use Rattle.min_context.specs.Above.{above_of}
-use Rattle.min_context.specs.Place.{Place, Spot, place_of, next_of, below, top, spot, place_at}
+use Rattle.min_context.specs.Place.{Place, Spot, place_of, next_of, below, top, spot}
 use Rattle.scope_counts.specs.Edits.{Around, here, behind, behind_none, under, plug}
 use Rattle.rules_dead_code.specs.Rules.{Facts}
 use Rattle.rules_dead_code.specs.Quiet.{EachNode, IsQuietAt, IsQuiet}
