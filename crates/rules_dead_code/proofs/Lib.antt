@@ -9,3 +9,5 @@ pub mod Items
 pub mod Trimming
 pub mod Emptying
 pub mod Lighter
+pub mod StaysTrue
+pub mod BeginsTrue

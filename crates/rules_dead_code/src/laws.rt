@@ -1,5 +1,5 @@
 // Why the rules may do what they do. Each law is a contract, so that the check proves it.
-ghost use Rattle.std.specs.Prelude.{◌≡◌, ◌≤◌, ◌+◌, ℕ, Bool, true, false, Some};
+ghost use Rattle.std.specs.Prelude.{◌≡◌, ◌≤◌, ◌+◌, ℕ, length, Bool, true, false, Some};
 ghost use Rattle.js_syntax.specs.Facts.{weight};
 ghost use Rattle.js_syntax.specs.Node.{Forest, Tree, node, forest_of, total};
 ghost use Rattle.js_syntax.specs.declared.node_kind.NodeKind.TheVariants.{Statements as statements};
@@ -9,8 +9,20 @@ ghost use Rattle.scope_counts.specs.Counts.{ids};
 ghost use Rattle.scope_counts.specs.Edits.{Around, plug};
 ghost use Rattle.scope_counts.specs.Losing.{MarksWhatLeft};
 ghost use Rattle.steps_allowed.specs.Edits.{Edit, TreeEdits};
+ghost use Rattle.min_options.specs.declared.options.CompressOptions.{CompressOptions};
+ghost use Rattle.min_traverse.specs.Lawful.{Stays};
+ghost use Rattle.js_syntax.specs.Class.{root};
+ghost use Rattle.json_shape.specs.Shape.{Fits};
+ghost use Rattle.scope_rules.specs.Mark.{marked, first_marks};
+ghost use Rattle.scope_rules.specs.Site.{sites_of, found_in};
+ghost use Rattle.scope_rules.specs.Table.{scoping_of, symbols_declared};
+ghost use Rattle.symbol_sets.specs.Numbers.{none_below};
+ghost use Rattle.min_context.specs.IsTrue.{IsTrue};
+ghost use Rattle.min_context.specs.Seen.{Seen};
 ghost use Rattle.rules_dead_code.specs.Rules.{Facts, Where, where_of, trimmed, has_dead, emptied};
 ghost use Rattle.rules_dead_code.specs.Knows.{Knows};
+
+use min_traverse::Traverse;
 
 /// Law: what is known of a program is known of what edits leave of it, once the ids are marked of the references that left.
 pub fn what_is_known_stays()
@@ -41,4 +53,21 @@ pub fn a_trimmed_list_is_lighter()
 pub fn an_emptied_statement_is_lighter()
     ensures lighter { (f : Facts) (w : Where) (x y : Tree) → emptied f w x ≡ Some y → total weight (forest_of y) + 1 ≤ total weight (forest_of x) }
     ensures references { (f : Facts) (w : Where) (x y : Tree) → emptied f w x ≡ Some y → (r : ℕ) → ids r (forest_of y) ≤ ids r (forest_of x) }
+{}
+
+/// Law: what the context of a walk tells stays true of what edits leave, once exactly what left is marked.
+pub fn edits_keep_the_context_true()
+    ensures { Stays (λ o. Edit) }
+{}
+
+/// Law: so it is with a walker that makes some of them.
+pub fn walkers_keep_the_context_true<T: Traverse>()
+    ensures { ((o : CompressOptions) (t u : Forest) → T.edit o t u → Edit t u) → Stays T.edit }
+{}
+
+/// Law: of a program whose nodes a new table marked, a new context with this table tells what is true: nothing is marked, and
+/// there is room for a mark of each reference.
+pub fn a_new_context_is_true()
+    ensures { (t : Forest) → let f = found_in (sites_of t) in
+        Fits root t → (c : Seen) → c.scoping ≡ scoping_of f → c.marked ≡ none_below (length c.scoping.references) → IsTrue c (marked (first_marks (symbols_declared f.bindings)) t) }
 {}

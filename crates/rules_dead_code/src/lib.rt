@@ -6,6 +6,9 @@
 //! out comes by edits that a dead code remover may make (steps_allowed), one node after the other, and that what is left weighs
 //! less, and is the same where nothing goes.
 //!
+//! It also states of the context of a walk (min_context) that what it tells is true of a program that a new table marked, and stays
+//! true through such edits, once exactly what left is marked: what a walker of min_traverse owes of its edits.
+//!
 //! The code is empty: each function's contract is a law.
 #![tactic(auto)]
 
