@@ -199,7 +199,7 @@ impl MinifierTraverseCtx {
     }
 
     /// The nodes above, the outermost first.
-    pub(crate) fn ancestors_above(&self) -> &[Ancestor]
+    pub fn ancestors_above(&self) -> &[Ancestor]
         ensures { result.now ≡ self.now.place.ancestors }
     {
         self.ancestors.as_slice()

@@ -41,14 +41,17 @@ weighs m n r x y false false o e f g l = rw e (Prim.omega (arith, f, g, l))
 -- ---- a hook
 
 module _ {S : Type 0} {E : CompressOptions → Forest → Forest → Type 0} {Own : S → Seen → Forest → Type 0} (stays : Stays E) where
-  -- what any hook owes whose call edits as `Edited` says
-  pub edit_moves : {s s' : S} {c d : Seen} {x y : Tree} {asks : Bool}
-      → ((a : Around) (r : Forest) → IsHere c a → IsTrue (still c) (plug a (before x r)) → Edits (E c.options) (plug a (before x r)) (plug a (before y r)))
+  -- what any hook owes whose call edits as `Edited` says; its edits may go by what the walker asks beside,
+  -- and that may be so again by what is marked
+  pub held_moves : {s s' : S} {c d : Seen} {x y : Tree} {asks : Bool}
+      → ((a : Around) (r : Forest) → IsHere c a → Holds Own s (still c) (plug a (before x r)) → Edits (E c.options) (plug a (before x r)) (plug a (before y r)))
       → ((i : ℕ) → ids i (forest_of y) ≤ ids i (forest_of x))
       → total weight (forest_of y) + cond asks 1 0 ≤ total weight (forest_of x)
       → (asks ≡ false → y ≡ x)
-      → Edited c x y asks d → Kept Own s c x s' d y → NodeMoves S E (Holds Own) s c x s' d y
-  edit_moves {c = c} {d = d} {x = x} {y = y} {asks = asks} edits fewer lighter quiet e kept =
+      → Edited c x y asks d
+      → ((a : Around) (r : Forest) → IsHere c a → MarksLeft (still c) (still d) (plug a (before x r)) (plug a (before y r)) → Holds Own s (still c) (plug a (before x r)) → Own s' (still d) (plug a (before y r)))
+      → NodeMoves S E (Holds Own) s c x s' d y
+  held_moves {c = c} {d = d} {x = x} {y = y} {asks = asks} edits fewer lighter quiet e kept =
       let fewer_with : (r : Forest) (i : ℕ) → ids i (before y r) ≤ ids i (before x r) = λ r i. Prim.omega (arith, fewer i, ids_before i x r, ids_before i y r) in
       let marks_with : (r : Forest) (i : ℕ) → i < length c.marked → has d.marked i ≡ (has c.marked i || nat_lt (ids i (before y r)) (ids i (before x r))) =
       λ r i l. e.marks i l ∙ ap (λ b. has c.marked i || b) (sym (fewer_beside (ids i r) (ids i (before x r)) (ids i (before y r)) (ids i (forest_of x)) (ids i (forest_of y)) (ids_before i x r) (ids_before i y r))) in
@@ -59,8 +62,8 @@ module _ {S : Type 0} {E : CompressOptions → Forest → Forest → Type 0} {Ow
       } in
       record {
         moves = λ r. record {
-          keeps = λ a p h. (stays (still c) (still d) (plug a (before x r)) (plug a (before y r)) (edits a r p h.0) (marks_at a r) h.0, kept a r p h.0 h.1);
-          edits = λ a p h. edits a r p h.0;
+          keeps = λ a p h. (stays (still c) (still d) (plug a (before x r)) (plug a (before y r)) (edits a r p h) (marks_at a r) h.0, kept a r p (marks_at a r) h);
+          edits = λ a p h. edits a r p h;
           options = ap (λ z. z.options) e.same;
           room = e.room;
           fewer = fewer_with r;
@@ -71,6 +74,15 @@ module _ {S : Type 0} {E : CompressOptions → Forest → Forest → Type 0} {Ow
         };
         same_place = ap (λ z. z.place) e.same;
       }
+
+  -- the same where a true context is enough
+  pub edit_moves : {s s' : S} {c d : Seen} {x y : Tree} {asks : Bool}
+      → ((a : Around) (r : Forest) → IsHere c a → IsTrue (still c) (plug a (before x r)) → Edits (E c.options) (plug a (before x r)) (plug a (before y r)))
+      → ((i : ℕ) → ids i (forest_of y) ≤ ids i (forest_of x))
+      → total weight (forest_of y) + cond asks 1 0 ≤ total weight (forest_of x)
+      → (asks ≡ false → y ≡ x)
+      → Edited c x y asks d → Kept Own s c x s' d y → NodeMoves S E (Holds Own) s c x s' d y
+  edit_moves edits fewer lighter quiet e kept = held_moves (λ a r p h. edits a r p h.0) fewer lighter quiet e (λ a r p m h. kept a r p h.0 h.1)
 
   -- a hook that applies a rule
   pub lawful_moves : {s s' : S} {c d : Seen} {x y : Tree} (rule : Rule) → Lawful E rule → y ≡ or_same x (rule c x) → Edited c x y (is_some (rule c x)) d → Kept Own s c x s' d y → NodeMoves S E (Holds Own) s c x s' d y
