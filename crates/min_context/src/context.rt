@@ -12,6 +12,7 @@ use crate::state::{CompressionMode, MinifierState};
 use js_syntax::{ReferenceId, ScopeId, SourceType};
 use js_traverse::TraverseScoping;
 use js_tree::Node;
+use min_symbols::PassChanges;
 use min_options::CompressOptions;
 use scope_table::Scoping;
 use std::alloc::{AllocError, Global};
@@ -163,6 +164,15 @@ impl MinifierTraverseCtx {
         ensures only { result ≡ is_tree_shake_only self.now.mode }
     {
         matches!(self.state.mode, CompressionMode::TreeShakeOnly)
+    }
+
+    /// What was done since the lists were last pruned.
+    pub fn pass_changes(&self) -> &PassChanges
+        ensures marked { result.now.marked ≡ self.now.marked }
+        ensures eval_dropped { result.now.eval_dropped ≡ self.now.eval_dropped }
+        ensures requested { result.now.requested ≡ self.now.requested }
+    {
+        &self.state.pass_changes
     }
 
     /// Whether another pass is asked for.
