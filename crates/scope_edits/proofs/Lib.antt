@@ -1,3 +1,4 @@
 pub mod Chains
 pub mod Moved
 pub mod Pruned
+pub mod Refreshed

@@ -5,10 +5,12 @@
 //! so after a scope is added and after one is put into another that is outside of it, and only then; and the
 //! ancestors that are read of such a table are all of them, each once. `pruning`: what leaves the lists is
 //! what is in the set, and a table whose lists were exact but for marked references is exact once these are
-//! taken out.
+//! taken out. `refreshing`: from the program that a table was made of, the bit of direct eval is refreshed to
+//! what it is.
 //!
 //! The code is empty: each function's contract is a law.
 #![tactic(auto)]
 
 pub mod parents;
 pub mod pruning;
+pub mod refreshing;
