@@ -8,6 +8,7 @@
 //! of the names that the scoping has, none that it was told, and none that it answered before, whatever was called.
 #![tactic(auto)]
 
+mod ancestors;
 mod below;
 mod bound;
 pub mod laws;
@@ -15,6 +16,7 @@ pub mod rows;
 mod scoping;
 mod uid;
 
+pub use ancestors::AncestorScopes;
 pub use bound::BoundIdentifier;
 pub use scoping::TraverseScoping;
 pub use uid::UidGenerator;

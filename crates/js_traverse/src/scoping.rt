@@ -1,13 +1,14 @@
 // The scoping while a walk changes the tree.
-ghost use Rattle.std.specs.Prelude.{◌≡◌, ◌<◌, ◌+◌, ◌^◌, Some, length, map, option_map, IfOk, OnOk, OnErr};
-ghost use Rattle.scope_table.specs.Reading.{scope_at, reference_at, binding_of};
+ghost use Rattle.std.specs.Prelude.{◌≡◌, ◌<◌, ◌+◌, ◌^◌, Some, length, map, option_map, IsSome, IfSome, IfOk, OnOk, OnErr};
+ghost use Rattle.scope_table.specs.Reading.{scope_at, reference_at, binding_of, ancestors};
 ghost use Rattle.scope_table.specs.Editing.{with_scope, with_binding, IsOutside};
 ghost use Rattle.scope_table.specs.Making.{with_bound_symbol, with_bound_reference, with_unbound_reference};
 ghost use Rattle.js_syntax.specs.Node.{forest_of, row};
 ghost use Rattle.js_traverse.specs.Uid.{fresh_name, with_fresh};
-ghost use Rattle.js_traverse.specs.Below.{outermost, MayMove, with_scope_around};
+ghost use Rattle.js_traverse.specs.Below.{outermost, with_parents, MayMove, with_scope_around};
 ghost use Rattle.js_traverse.specs.Traversed.{begun, known_in, with_scope_between, with_reference_to, with_reference_deleted, IsLive};
 
+use crate::ancestors::AncestorScopes;
 use crate::below::{add_outermost, add_outermost_among, put_into};
 use crate::bound::BoundIdentifier;
 use crate::uid::UidGenerator;
@@ -272,6 +273,35 @@ impl TraverseScoping {
         add_outermost_among(statements, &mut inside)?;
         let parent = self.current;
         self.insert_scope_around(inside.as_slice(), parent, flags)
+    }
+
+    /// Puts the outermost scopes of an expression into the scope around one that goes. That scope stays in the
+    /// table, and no node makes it any more.
+    pub fn remove_scope_for_expression(
+        &mut self,
+        scope: ScopeId,
+        expression: &Node,
+    ) -> Result<(), AllocError>
+        requires scope { scope.0 < length self.old.scoping.scopes }
+        requires around { IsSome (scope_at self.old.scoping scope.0).parent }
+        requires parent { IfSome (scope_at self.old.scoping scope.0).parent (λ p. p < length self.old.scoping.scopes) }
+        requires outside { IfSome (scope_at self.old.scoping scope.0).parent (λ p. MayMove (outermost (forest_of expression.now)) p self.old.scoping) }
+        ensures moved { OnOk result (IfSome (scope_at self.old.scoping scope.0).parent (λ p. self.new ≡ record self.old { scoping = with_parents (outermost (forest_of expression.now)) p self.old.scoping })) }
+        ensures unchanged { OnErr result (self.new ≡ self.old) }
+    {
+        let mut inside = Vec::new(self.scoping.allocator());
+        add_outermost(expression, &mut inside)?;
+        if let Some(parent) = self.scoping.scope_parent_id(scope) {
+            put_into(&mut self.scoping, inside.as_slice(), parent);
+        }
+        Ok(())
+    }
+
+    /// The scope that the walk is in, the one around it, and so on.
+    pub fn ancestor_scopes(&self) -> AncestorScopes<'_>
+        ensures scopes { result ≡ ancestors self.now.scoping self.now.current }
+    {
+        AncestorScopes::of(&self.scoping, self.current)
     }
 
     // ---- names
