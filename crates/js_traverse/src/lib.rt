@@ -12,6 +12,7 @@ mod ancestors;
 mod below;
 mod bound;
 pub mod laws;
+mod names;
 pub mod rows;
 mod scoping;
 mod uid;
