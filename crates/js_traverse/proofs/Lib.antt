@@ -3,3 +3,4 @@ mod Kept
 mod Written
 mod Fresh
 mod Moved
+mod Upward

@@ -4,3 +4,5 @@ pub mod Fresh
 pub mod Tried
 pub mod Traversed
 pub mod Below
+pub mod Names
+pub mod Lending

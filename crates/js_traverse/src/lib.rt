@@ -8,13 +8,16 @@
 //! of the names that the scoping has, none that it was told, and none that it answered before, whatever was called.
 #![tactic(auto)]
 
+mod ancestors;
 mod below;
 mod bound;
 pub mod laws;
+mod names;
 pub mod rows;
 mod scoping;
 mod uid;
 
+pub use ancestors::AncestorScopes;
 pub use bound::BoundIdentifier;
 pub use scoping::TraverseScoping;
 pub use uid::UidGenerator;

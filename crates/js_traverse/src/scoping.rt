@@ -1,15 +1,20 @@
 // The scoping while a walk changes the tree.
-ghost use Rattle.std.specs.Prelude.{◌≡◌, ◌<◌, ◌+◌, ◌^◌, Some, length, map, option_map, IfOk, OnOk, OnErr};
-ghost use Rattle.scope_table.specs.Reading.{scope_at, reference_at, binding_of};
+ghost use Rattle.std.specs.Prelude.{◌≡◌, ◌<◌, ◌+◌, ◌^◌, Some, length, map, option_map, IsSome, IfSome, IfOk, OnOk, OnErr};
+ghost use Rattle.scope_table.specs.Reading.{scope_at, reference_at, binding_of, ancestors};
 ghost use Rattle.scope_table.specs.Editing.{with_scope, with_binding, IsOutside};
 ghost use Rattle.scope_table.specs.Making.{with_bound_symbol, with_bound_reference, with_unbound_reference};
 ghost use Rattle.js_syntax.specs.Node.{forest_of, row};
 ghost use Rattle.js_traverse.specs.Uid.{fresh_name, with_fresh};
-ghost use Rattle.js_traverse.specs.Below.{outermost, MayMove, with_scope_around};
+ghost use Rattle.std.specs.Borrow.{sem};
+ghost use Rattle.js_traverse.specs.Names.{used_name};
+ghost use Rattle.js_traverse.specs.Lending.{LendsScoping};
+ghost use Rattle.js_traverse.specs.Below.{outermost, with_parents, MayMove, with_scope_around};
 ghost use Rattle.js_traverse.specs.Traversed.{begun, known_in, with_scope_between, with_reference_to, with_reference_deleted, IsLive};
 
+use crate::ancestors::AncestorScopes;
 use crate::below::{add_outermost, add_outermost_among, put_into};
 use crate::bound::BoundIdentifier;
+use crate::names::used_name;
 use crate::uid::UidGenerator;
 use js_syntax::{Ident, ReferenceId, ScopeId, SymbolId};
 use js_tree::Node;
@@ -79,6 +84,14 @@ impl TraverseScoping {
         ensures scoping { result.now ≡ self.now.scoping }
     {
         &self.scoping
+    }
+
+    /// The scoping, to be changed.
+    pub fn scoping_mut(&mut self) -> &mut Scoping
+        ensures* writes_back { sem 𝓛 (LendsScoping self.entry result) }
+        ensures value { result.now ≡ self.old.scoping }
+    {
+        &mut self.scoping
     }
 
     // ---- where the walk is
@@ -274,6 +287,35 @@ impl TraverseScoping {
         self.insert_scope_around(inside.as_slice(), parent, flags)
     }
 
+    /// Puts the outermost scopes of an expression into the scope around one that goes. That scope stays in the
+    /// table, and no node makes it any more.
+    pub fn remove_scope_for_expression(
+        &mut self,
+        scope: ScopeId,
+        expression: &Node,
+    ) -> Result<(), AllocError>
+        requires scope { scope.0 < length self.old.scoping.scopes }
+        requires around { IsSome (scope_at self.old.scoping scope.0).parent }
+        requires parent { IfSome (scope_at self.old.scoping scope.0).parent (λ p. p < length self.old.scoping.scopes) }
+        requires outside { IfSome (scope_at self.old.scoping scope.0).parent (λ p. MayMove (outermost (forest_of expression.now)) p self.old.scoping) }
+        ensures moved { OnOk result (IfSome (scope_at self.old.scoping scope.0).parent (λ p. self.new ≡ record self.old { scoping = with_parents (outermost (forest_of expression.now)) p self.old.scoping })) }
+        ensures unchanged { OnErr result (self.new ≡ self.old) }
+    {
+        let mut inside = Vec::new(self.scoping.allocator());
+        add_outermost(expression, &mut inside)?;
+        if let Some(parent) = self.scoping.scope_parent_id(scope) {
+            put_into(&mut self.scoping, inside.as_slice(), parent);
+        }
+        Ok(())
+    }
+
+    /// The scope that the walk is in, the one around it, and so on.
+    pub fn ancestor_scopes(&self) -> AncestorScopes<'_>
+        ensures scopes { result ≡ ancestors self.now.scoping self.now.current }
+    {
+        AncestorScopes::of(&self.scoping, self.current)
+    }
+
     // ---- names
 
     /// Binds a name in a scope to a symbol that is there.
@@ -423,6 +465,22 @@ impl TraverseScoping {
             None => self
                 .scoping
                 .delete_root_unresolved_reference(name, reference),
+        }
+    }
+
+    /// Takes the reference of a name's node out of its symbol's list, or out of that of its name. The reference itself
+    /// stays.
+    pub fn delete_reference_for_identifier(&mut self, identifier: &Node)
+        requires name { IsSome (used_name identifier.now.kind) }
+        requires reference { IsSome identifier.now.note.id }
+        requires live { IfSome identifier.now.note.id (λ id. id < length self.old.scoping.references) }
+        requires symbol { IfSome identifier.now.note.id (λ id. IsLive self.old.scoping (reference_at self.old.scoping id).symbol) }
+        ensures deleted { IfSome identifier.now.note.id (λ id. IfSome (used_name identifier.now.kind) (λ name. self.new ≡ record self.old { scoping = with_reference_deleted id name self.old.scoping })) }
+    {
+        if let Some(reference) = identifier.id() {
+            if let Some(name) = used_name(identifier.kind()) {
+                self.delete_reference(ReferenceId(reference), name.as_str());
+            }
         }
     }
 }
