@@ -1,17 +1,18 @@
 // The calls of the scoping that a walk edits, on its context.
-ghost use Rattle.std.specs.Prelude.{◌≡◌, ◌<◌, ◌+◌, ◌^◌, Some, length, map, option_map, IfOk, OnOk, OnErr};
-ghost use Rattle.scope_table.specs.Reading.{scope_at, reference_at, binding_of};
+ghost use Rattle.std.specs.Prelude.{◌≡◌, ◌<◌, ◌+◌, ◌^◌, Some, length, map, option_map, IsSome, IfSome, IfOk, OnOk, OnErr};
+ghost use Rattle.scope_table.specs.Reading.{scope_at, reference_at, binding_of, ancestors};
 ghost use Rattle.scope_table.specs.Editing.{with_scope, with_binding, IsOutside};
 ghost use Rattle.scope_table.specs.Making.{with_bound_symbol, with_bound_reference, with_unbound_reference};
 ghost use Rattle.js_syntax.specs.Node.{forest_of, row};
+ghost use Rattle.js_traverse.specs.Names.{used_name};
 ghost use Rattle.js_traverse.specs.Uid.{fresh_name, with_fresh};
-ghost use Rattle.js_traverse.specs.Below.{outermost, MayMove, with_scope_around};
+ghost use Rattle.js_traverse.specs.Below.{outermost, with_parents, MayMove, with_scope_around};
 ghost use Rattle.js_traverse.specs.Traversed.{known_in, with_scope_between, with_reference_to, with_reference_deleted, IsLive};
 ghost use Rattle.min_context.specs.Seen.{traversed};
 
 use crate::context::MinifierTraverseCtx;
 use js_syntax::{Ident, ReferenceId, ScopeId, SymbolId};
-use js_traverse::BoundIdentifier;
+use js_traverse::{AncestorScopes, BoundIdentifier};
 use js_tree::Node;
 use scope_table::{ReferenceFlags, ScopeFlags, SymbolFlags};
 use std::alloc::AllocError;
@@ -164,6 +165,30 @@ impl MinifierTraverseCtx {
             .insert_scope_below_statements(statements, flags)
     }
 
+    /// Puts the outermost scopes of an expression into the scope around one that goes. That scope stays in the
+    /// table, and no node makes it any more.
+    pub fn remove_scope_for_expression(
+        &mut self,
+        scope: ScopeId,
+        expression: &Node,
+    ) -> Result<(), AllocError>
+        requires scope { scope.0 < length self.old.scoping.scopes }
+        requires around { IsSome (scope_at self.old.scoping scope.0).parent }
+        requires parent { IfSome (scope_at self.old.scoping scope.0).parent (λ p. p < length self.old.scoping.scopes) }
+        requires outside { IfSome (scope_at self.old.scoping scope.0).parent (λ p. MayMove (outermost (forest_of expression.now)) p self.old.scoping) }
+        ensures moved { OnOk result (IfSome (scope_at self.old.scoping scope.0).parent (λ p. self.new ≡ record self.old { scoping = with_parents (outermost (forest_of expression.now)) p self.old.scoping })) }
+        ensures unchanged { OnErr result (self.new ≡ self.old) }
+    {
+        self.scoping.remove_scope_for_expression(scope, expression)
+    }
+
+    /// The scope that the walk is in, the one around it, and so on.
+    pub fn ancestor_scopes(&self) -> AncestorScopes<'_>
+        ensures scopes { result ≡ ancestors self.now.scoping self.now.place.scope }
+    {
+        self.scoping.ancestor_scopes()
+    }
+
     /// Binds a name in a scope to a symbol that is there.
     pub fn add_binding(
         &mut self,
@@ -289,5 +314,17 @@ impl MinifierTraverseCtx {
         ensures deleted { self.new ≡ record self.old { scoping = with_reference_deleted reference.0 name.now self.old.scoping } }
     {
         self.scoping.delete_reference(reference, name)
+    }
+
+    /// Takes the reference of a name's node out of its symbol's list, or out of that of its name. The reference itself
+    /// stays.
+    pub fn delete_reference_for_identifier(&mut self, identifier: &Node)
+        requires name { IsSome (used_name identifier.now.kind) }
+        requires reference { IsSome identifier.now.note.id }
+        requires live { IfSome identifier.now.note.id (λ id. id < length self.old.scoping.references) }
+        requires symbol { IfSome identifier.now.note.id (λ id. IsLive self.old.scoping (reference_at self.old.scoping id).symbol) }
+        ensures deleted { IfSome identifier.now.note.id (λ id. IfSome (used_name identifier.now.kind) (λ name. self.new ≡ record self.old { scoping = with_reference_deleted id name self.old.scoping })) }
+    {
+        self.scoping.delete_reference_for_identifier(identifier)
     }
 }
