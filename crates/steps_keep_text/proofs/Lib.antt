@@ -1,0 +1,5 @@
+pub mod Along
+pub mod Smaller
+pub mod Shallower
+pub mod StillRead
+pub mod Computed
