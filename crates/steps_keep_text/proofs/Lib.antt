@@ -3,3 +3,4 @@ pub mod Smaller
 pub mod Shallower
 pub mod StillRead
 pub mod Computed
+pub mod ReadBack
