@@ -19,11 +19,7 @@ use std::alloc::{AllocError, Global};
 use std::mem::replace;
 
 fn empty_program(alloc: Global) -> Program {
-    Program::new(Node::new(
-        NodeKind::Program(SourceType::Module),
-        SPAN,
-        Vec::new(alloc),
-    ))
+    Program::new(Node::new(NodeKind::Program(SourceType::Module), SPAN, Vec::new(alloc)))
 }
 
 /// Walks over a whole program, and changes it in place: as `traverse_root`, with a context that one walk after another uses.
