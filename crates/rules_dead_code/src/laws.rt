@@ -1,6 +1,5 @@
 // Why the rules may do what they do. Each law is a contract, so that the check proves it.
-<<<<<<< HEAD
-ghost use Rattle.std.specs.Prelude.{◌≡◌, ◌≤◌, ◌+◌, ℕ, List, Bool, true, false, Some};
+ghost use Rattle.std.specs.Prelude.{◌≡◌, ◌≤◌, ◌+◌, ℕ, length, List, Bool, true, false, Some};
 ghost use Rattle.js_syntax.specs.Class.{root};
 ghost use Rattle.json_shape.specs.Shape.{Fits};
 ghost use Rattle.scope_rules.specs.Mark.{marked, first_marks};
@@ -9,9 +8,6 @@ ghost use Rattle.scope_rules.specs.Table.{Scoping, scoping_of, symbols_declared}
 ghost use Rattle.scope_table.specs.Reading.{scope_at};
 ghost use Rattle.scope_counts.specs.Scopes.{unmarked};
 ghost use Rattle.steps_allowed.specs.Exposure.{is_script};
-=======
-ghost use Rattle.std.specs.Prelude.{◌≡◌, ◌≤◌, ◌+◌, ℕ, length, Bool, true, false, Some};
->>>>>>> 402f029c6af2de40d7ac91de504d6b40a5249343
 ghost use Rattle.js_syntax.specs.Facts.{weight};
 ghost use Rattle.js_syntax.specs.Node.{Forest, Tree, node, forest_of, total};
 ghost use Rattle.js_syntax.specs.declared.node_kind.NodeKind.TheVariants.{Statements as statements};
@@ -21,23 +17,15 @@ ghost use Rattle.scope_counts.specs.Counts.{ids};
 ghost use Rattle.scope_counts.specs.Edits.{Around, plug};
 ghost use Rattle.scope_counts.specs.Losing.{MarksWhatLeft, Prunes};
 ghost use Rattle.steps_allowed.specs.Edits.{Edit, TreeEdits};
-<<<<<<< HEAD
 ghost use Rattle.min_pass.specs.Around.{outermost};
 ghost use Rattle.steps_allowed.specs.Places.{asked_at};
 ghost use Rattle.steps_marked.specs.Flags.{stand};
 ghost use Rattle.rules_dead_code.specs.Before.{before};
-=======
 ghost use Rattle.min_options.specs.declared.options.CompressOptions.{CompressOptions};
 ghost use Rattle.min_traverse.specs.Lawful.{Stays};
-ghost use Rattle.js_syntax.specs.Class.{root};
-ghost use Rattle.json_shape.specs.Shape.{Fits};
-ghost use Rattle.scope_rules.specs.Mark.{marked, first_marks};
-ghost use Rattle.scope_rules.specs.Site.{sites_of, found_in};
-ghost use Rattle.scope_rules.specs.Table.{scoping_of, symbols_declared};
 ghost use Rattle.symbol_sets.specs.Numbers.{none_below};
 ghost use Rattle.min_context.specs.IsTrue.{IsTrue};
 ghost use Rattle.min_context.specs.Seen.{Seen};
->>>>>>> 402f029c6af2de40d7ac91de504d6b40a5249343
 ghost use Rattle.rules_dead_code.specs.Rules.{Facts, Where, where_of, trimmed, has_dead, emptied};
 ghost use Rattle.rules_dead_code.specs.Knows.{TellsBound, TellsExported, Knows};
 
