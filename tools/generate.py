@@ -8,6 +8,7 @@ import equals
 import examples
 import fits
 import form_rows
+import identifiers
 import read_kinds
 import run_table
 import runs
@@ -16,7 +17,7 @@ import shapes
 import syntax
 import tree_rows
 
-MODULES = [syntax, run_table, read_kinds, entries, clones, equals, shapes, fits, examples, form_rows, tree_rows, scope_examples, runs]
+MODULES = [syntax, run_table, read_kinds, entries, clones, equals, shapes, fits, examples, form_rows, tree_rows, scope_examples, runs, identifiers]
 FILES = {path: text for module in MODULES for path, text in module.FILES.items()}
 
 crates = pathlib.Path(__file__).resolve().parent.parent / 'crates'

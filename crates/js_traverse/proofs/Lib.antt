@@ -1,6 +1,2 @@
-mod Read
-mod Kept
-mod Written
-mod Fresh
 mod Moved
 mod Upward

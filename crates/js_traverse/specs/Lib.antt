@@ -1,8 +1,6 @@
-pub mod Uid
-pub mod Kept
-pub mod Fresh
-pub mod Tried
 pub mod Traversed
 pub mod Below
 pub mod Names
 pub mod Lending
+pub mod Identifier
+pub mod Worded

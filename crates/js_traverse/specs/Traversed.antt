@@ -4,7 +4,7 @@ use Rattle.scope_rules.specs.Table.{Scoping}
 use Rattle.scope_table.specs.Reading.{reference_at}
 use Rattle.scope_table.specs.Editing.{with_scope, with_parent, unlisted, unlisted_unresolved}
 use Rattle.scope_table.specs.Making.{with_bound_reference, with_unbound_reference}
-use Rattle.js_traverse.specs.Uid.{Uid, names_in, with_names}
+use Rattle.fresh_names.specs.Uid.{Uid, names_in, with_names}
 
 pub record Traversed : Type 0 where
   pub scoping : Scoping

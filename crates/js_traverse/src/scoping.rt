@@ -4,7 +4,7 @@ ghost use Rattle.scope_table.specs.Reading.{scope_at, reference_at, binding_of, 
 ghost use Rattle.scope_table.specs.Editing.{with_scope, with_binding, IsOutside};
 ghost use Rattle.scope_table.specs.Making.{with_bound_symbol, with_bound_reference, with_unbound_reference};
 ghost use Rattle.js_syntax.specs.Node.{forest_of, row};
-ghost use Rattle.js_traverse.specs.Uid.{fresh_name, with_fresh};
+ghost use Rattle.fresh_names.specs.Uid.{fresh_name, with_fresh};
 ghost use Rattle.std.specs.Borrow.{sem};
 ghost use Rattle.js_traverse.specs.Names.{used_name};
 ghost use Rattle.js_traverse.specs.Lending.{LendsScoping};
@@ -13,9 +13,9 @@ ghost use Rattle.js_traverse.specs.Traversed.{begun, known_in, with_scope_betwee
 
 use crate::ancestors::AncestorScopes;
 use crate::below::{add_outermost, add_outermost_among, put_into};
-use crate::bound::BoundIdentifier;
+use crate::identifier::BoundIdentifier;
 use crate::names::used_name;
-use crate::uid::UidGenerator;
+use fresh_names::UidGenerator;
 use js_syntax::{Ident, ReferenceId, ScopeId, SymbolId};
 use js_tree::Node;
 use scope_table::{ReferenceFlags, ScopeFlags, Scoping, SymbolFlags};

@@ -5,7 +5,7 @@ use Rattle.js_syntax.specs.declared.scalar.Span.{Span}
 use Rattle.js_syntax.specs.Node.{Tree, nothing}
 use Rattle.scope_table.specs.Making.{with_bound_symbol}
 use Rattle.js_traverse.specs.Traversed.{known_in, with_reference_to}
-use Rattle.js_traverse.specs.Uid.{fresh_name, with_fresh}
+use Rattle.fresh_names.specs.Uid.{fresh_name, with_fresh}
 use Rattle.min_context.specs.Seen.{Seen, traversed}
 
 -- the name that is made of one

@@ -3,7 +3,7 @@ use Rattle.std.specs.Prelude.{Bool, List, Option}
 use Rattle.js_syntax.specs.declared.scalar.SourceType.{SourceType}
 use Rattle.scope_rules.specs.Table.{Scoping}
 use Rattle.js_traverse.specs.Traversed.{Traversed}
-use Rattle.js_traverse.specs.Uid.{Uid}
+use Rattle.fresh_names.specs.Uid.{Uid}
 use Rattle.min_context.specs.Place.{Place, outside}
 use Rattle.min_options.specs.declared.options.CompressOptions.{CompressOptions}
 use Rattle.min_context.specs.declared.state.BodyFrame.{BodyFrame}

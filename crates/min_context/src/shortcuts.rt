@@ -5,7 +5,7 @@ ghost use Rattle.scope_table.specs.Editing.{with_scope, with_binding, IsOutside}
 ghost use Rattle.scope_table.specs.Making.{with_bound_symbol, with_bound_reference, with_unbound_reference};
 ghost use Rattle.js_syntax.specs.Node.{forest_of, row};
 ghost use Rattle.js_traverse.specs.Names.{used_name};
-ghost use Rattle.js_traverse.specs.Uid.{fresh_name, with_fresh};
+ghost use Rattle.fresh_names.specs.Uid.{fresh_name, with_fresh};
 ghost use Rattle.js_traverse.specs.Below.{outermost, with_parents, MayMove, with_scope_around};
 ghost use Rattle.js_traverse.specs.Traversed.{known_in, with_scope_between, with_reference_to, with_reference_deleted, IsLive};
 ghost use Rattle.min_context.specs.Seen.{traversed};

@@ -4,3 +4,4 @@ pub mod Shallower
 pub mod StillRead
 pub mod Computed
 pub mod ReadBack
+pub mod SignsApplied

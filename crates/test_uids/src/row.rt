@@ -1,6 +1,6 @@
 // A row: the names of a scoping, those that are taken besides, and those that are asked for.
+use fresh_names::UidGenerator;
 use js_syntax::{ReferenceId, ScopeId};
-use js_traverse::UidGenerator;
 use scope_context::Found;
 use scope_table::{Scoping, SymbolFlags, table};
 use std::alloc::{AllocError, Global};

@@ -1,0 +1,4 @@
+mod Read
+mod Kept
+mod Written
+mod Fresh

@@ -1,0 +1,4 @@
+pub mod Uid
+pub mod Kept
+pub mod Fresh
+pub mod Tried

@@ -1,5 +1,0 @@
-use Rattle.js_traverse.proofs.Fresh.{made, told, answered, fresh}
-use Rattle.js_traverse.proofs.laws.calls_keep_names_taken.Goals as goal
-
-pub returns : goal.returns
-returns c = record { made = made; told = told; answered = answered; fresh = fresh }

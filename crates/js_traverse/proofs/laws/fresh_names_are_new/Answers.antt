@@ -1,8 +1,0 @@
-use Rattle.std.proofs.Common.{[], ◌++◌}
-use Rattle.js_traverse.specs.Uid.{with_names}
-use Rattle.js_traverse.specs.Fresh.{known_after, names_of}
-use Rattle.js_traverse.proofs.Fresh.{made, fresh, covers_calls}
-use Rattle.js_traverse.proofs.laws.fresh_names_are_new.Goals as goal
-
-pub returns : goal.returns
-returns c = λ taken calls name. let start = with_names taken [] in fresh (known_after calls start) (taken ++ names_of calls start) name (covers_calls start taken calls (made taken))

@@ -1,7 +1,0 @@
-use Rattle.std.proofs.Common.{◌≡◌, map, drop}
-use Rattle.js_traverse.specs.Uid.{with_names}
-use Rattle.js_traverse.proofs.uid.UidGenerator.add_symbols.Given as goal
-
--- the names that are left end where all of them do
-abbrev pub invariant-loop-name : goal.invariant-loop-name
-invariant-loop-name l = with_names (map (λ x. x.now) (drop l.name-index l.name-items)) l.self ≡ with_names (map (λ x. x.now) l.name-items) l.initial.self
