@@ -5,6 +5,7 @@ pub mod State
 pub mod Seen
 pub mod Left
 pub mod Edited
+pub mod Completing
 pub mod Asked
 pub mod Replacing
 pub mod Collecting

@@ -9,6 +9,7 @@
 mod ancestor;
 mod ancestry;
 mod collector;
+mod completing;
 mod context;
 mod edits;
 mod generating;
