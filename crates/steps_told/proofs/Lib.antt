@@ -1,0 +1,14 @@
+pub mod Standing
+pub mod Contexts
+pub mod Made
+pub mod New
+pub mod Trims
+pub mod Walking
+pub mod Edited
+pub mod Nested
+pub mod Alone
+pub mod Refreshed
+pub mod Tried
+pub mod Anew
+pub mod Shut
+pub mod Whole
