@@ -1,0 +1,5 @@
+mod Listing
+mod Walked
+mod Telling
+pub mod Placing
+pub mod New

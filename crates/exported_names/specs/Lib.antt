@@ -1,0 +1,4 @@
+pub mod Answers
+pub mod Exported
+pub mod Placed
+pub mod Samples
