@@ -1,0 +1,295 @@
+-- What the two hooks do, and that they may.
+use Rattle.std.proofs.Common.{◌≡◌, ◌∙◌, ◌⊎◌, inl, inr, ◌<◌, ◌≤◌, ◌+◌, ℕ, Bool, true, false, ◌||◌, ◌&&◌, if◌then◌else◌, List, [], Option, Some, None, length, refl, sym, ap, subst, arith, true≢false}
+use Rattle.std.specs.Prelude.{nat_lt, is_some}
+use Rattle.std.proofs.Math.ListN.{get_or-eq_default}
+use Rattle.js_syntax.specs.declared.node_kind.NodeKind.{NodeKind as Kind}
+use Rattle.js_syntax.specs.declared.node_kind.NodeKind.TheVariants.{Statements as statements, EmptyStatement as empty_statement}
+use Rattle.js_syntax.specs.Facts.{weight}
+use Rattle.js_syntax.specs.declared.scalar.Span.{Span}
+use Rattle.js_syntax.specs.Node.{Forest, Tree, Note, nothing, node, row, forest_of, total}
+use Rattle.scope_counts.specs.Counts.{ids}
+use Rattle.scope_counts.specs.Edits.{Around, plug}
+use Rattle.scope_counts.specs.Losing.{left, MarksWhatLeft}
+use Rattle.scope_counts.proofs.Scopes.{below_or_above}
+use Rattle.symbol_sets.specs.Numbers.{has}
+use Rattle.steps_allowed.specs.Edits.{Edit, TreeEdits, no_tree_edit, one_tree_edit}
+use Rattle.min_context.specs.Edited.{evals, Edited, DropsNode, Leaves}
+use Rattle.min_context.specs.Place.{Place, place_at}
+use Rattle.min_context.specs.Seen.{Seen, still}
+use Rattle.min_pass.specs.Pass.{unmarked}
+use Rattle.min_traverse.specs.Edits.{Edits, no_edit, one_edit}
+use Rattle.min_traverse.specs.Lawful.{MarksLeft, Stays, Does, or_same}
+use Rattle.min_traverse.specs.Moves.{Holds, IsHere, NodeMoves, before}
+use Rattle.min_traverse.specs.Slot.{is_key_place, is_statement_place, is_statement, own_slot, outer_slot}
+use Rattle.min_traverse.specs.Visits.{above_place}
+use Rattle.min_traverse.specs.declared.slot.Outer.{Outer}
+use Rattle.min_traverse.specs.declared.slot.Outer.TheVariants as outer
+use Rattle.min_traverse.proofs.Joining.{does_some, does_none, held_moves, unchanged_moves}
+use Rattle.rules_dead_code.specs.Knows.{Knows}
+use Rattle.rules_dead_code.specs.Rules.{Facts, Where, where_of, has_dead, trimmed, is_silent_statement, emptied}
+use Rattle.rules_dead_code.proofs.Keeping.{keeps}
+use Rattle.rules_dead_code.proofs.Emptying.{statement_empties_there}
+use Rattle.rules_dead_code.proofs.Trimming.{list_trims}
+use Rattle.rules_dead_code.proofs.Lighter.{trimmed_is_lighter, trimmed_sheds, emptied_is_lighter, emptied_sheds}
+use Rattle.min_statements.specs.Acts.{trim, empty}
+use Rattle.json_shape.specs.Shape.{Fits}
+use Rattle.js_syntax.specs.Class.{root}
+use Rattle.steps_told.proofs.Edited.{joined_only, calls_of, edits_names, edits_told_only}
+use Rattle.steps_told.proofs.Nested.{edits_nest}
+use Rattle.min_statements.specs.Own.{AnyEdit, Own, IsToldOnly, Found}
+use Rattle.min_statements.proofs.Calls.{is_no_name, silent_is_no_name, evals_kept, none_dropped}
+use Rattle.min_statements.specs.Shed.{shed}
+use Rattle.min_statements.specs.Walker.{Names, facts_of}
+use Rattle.min_statements.proofs.Shed.{LeavesBy, facts_still, edited, splits, ids_add, evals_add}
+
+-- ---- what the calls do
+
+some_left : {b : Bool} (y : Tree) → b ≡ true → (if b then Some y else None) ≡ Some y
+some_left y e = ap (λ b. if b then Some y else None) e
+
+pub none_left : {b : Bool} (y : Tree) → b ≡ false → (if b then Some y else None) ≡ None
+none_left y e = ap (λ b. if b then Some y else None) e
+
+trim_ids : (r : ℕ) (n : Note) (b u : Forest) (s : ℕ) → ids r b ≡ s + ids r u → ids r (node statements n b nothing) ≡ s + ids r (node statements n u nothing)
+trim_ids r n b u s h = Prim.omega (arith, h)
+
+trim_evals : (n : Note) (b u : Forest) (s : ℕ) → evals b ≡ s + evals u → evals (node statements n b nothing) ≡ s + evals (node statements n u nothing)
+trim_evals n b u s h = Prim.omega (arith, h)
+
+trim_does : (names : Names) (c k d : Seen) (x y : Tree) → x.kind ≡ statements → has_dead (facts_of names c) (where_of c.place) x.below ≡ true → k ≡ record c { requested = true } → LeavesBy (λ m f t. shed m f (where_of c.place) t) names k x.below d
+    → y ≡ record x { below = trimmed (facts_of names c) (where_of c.place) x.below } → Does (trim names) c x true d y
+trim_does names c k d x y list dead asked leaves tree =
+    let f = facts_of names c in
+    let w = where_of c.place in
+    let z : Tree = record { kind = statements; note = x.note; below = x.below } in
+    let v : Tree = record { kind = statements; note = x.note; below = trimmed f w x.below } in
+    let is : x ≡ z = ap {A = Kind} {B = Tree} (λ q. record { kind = q; note = x.note; below = x.below }) list in
+    let left_is : y ≡ v = tree ∙ ap {A = Kind} {B = Tree} (λ q. record { kind = q; note = x.note; below = trimmed f w x.below }) list in
+    let now : LeavesBy (λ m g t. shed m g w t) names (record c { requested = true }) x.below d = subst (λ q. LeavesBy (λ m g t. shed m g w t) names q x.below d) asked leaves in
+    let e : Edited c z v true d = edited z v refl now (λ r. trim_ids r x.note x.below (trimmed f w x.below) (shed (ids r) f w x.below) (splits (ids r) (ids_add r) f w x.below)) (trim_evals x.note x.below (trimmed f w x.below) (shed evals f w x.below) (splits evals evals_add f w x.below)) in
+    does_some (trim names) c x y (some_left (record x { below = trimmed f w x.below }) dead ∙ ap Some (sym tree)) (subst (λ q. Edited c x q true d) (sym left_is) (subst (λ q. Edited c q v true d) (sym is) e))
+
+trim_does_none : (names : Names) (c : Seen) (x : Tree) → has_dead (facts_of names c) (where_of c.place) x.below ≡ false → Does (trim names) c x false c x
+trim_does_none names c x e = does_none (trim names) c x (none_left (record x { below = trimmed (facts_of names c) (where_of c.place) x.below }) e)
+
+empty_does : (names : Names) (c d : Seen) (x y : Tree) → is_silent_statement (facts_of names c) (where_of c.place) x.kind x.below ≡ true → y ≡ record { kind = empty_statement; note = unmarked x.note; below = nothing } → DropsNode c x d → Does (empty names) c x true d y
+empty_does names c d x y silent tree drops =
+    let z : Tree = record { kind = empty_statement; note = unmarked x.note; below = nothing } in
+    let l : Leaves (record c { requested = true }) (λ r. ids r (forest_of x)) (evals (forest_of x)) d = record { same = drops.same; room = drops.room; marks = drops.marks; evals = drops.evals } in
+    let e : Edited c x z true d = edited x z refl l (λ r. Prim.omega arith) (Prim.omega arith) in
+    does_some (empty names) c x y (some_left z silent ∙ ap Some (sym tree)) (subst (λ q. Edited c x q true d) (sym tree) e)
+
+empty_does_none : (names : Names) (c : Seen) (x : Tree) → is_silent_statement (facts_of names c) (where_of c.place) x.kind x.below ≡ false → Does (empty names) c x false c x
+empty_does_none names c x e = does_none (empty names) c x (none_left (record { kind = empty_statement; note = unmarked x.note; below = nothing }) e)
+
+-- the same, of what code asks and answers
+asked_so : (q : Facts → Where → Forest → Bool) (f g : Facts) (w v : Where) (t u : Forest) (b : Bool) → b ≡ q f w t → f ≡ g → w ≡ v → t ≡ u → q g v u ≡ b
+asked_so q f g w v t u b e facts at row = sym (e ∙ ap (λ x. q x w t) facts ∙ ap (λ x. q g x t) at ∙ ap (λ x. q g v x) row)
+
+pub trims : (names : Names) (c k d : Seen) (x y : Tree) (f g : Facts) (w : Where) (t u : Forest) → x.kind ≡ statements → w ≡ where_of c.place → f ≡ facts_of names c → t ≡ x.below → true ≡ has_dead f w t
+    → k ≡ record c { requested = true } → u ≡ x.below → LeavesBy (λ m q r. shed m q w r) names k u d → g ≡ facts_of names d → y ≡ record x { below = trimmed g w x.below } → Does (trim names) c x true d y
+trims names c k d x y f g w t u list at facts first dead asked row leaves later tree =
+    let is_dead : has_dead (facts_of names c) (where_of c.place) x.below ≡ true = asked_so has_dead f (facts_of names c) w (where_of c.place) t x.below true dead facts at first in
+    let left_row : LeavesBy (λ m q r. shed m q w r) names k x.below d = subst (λ z. LeavesBy (λ m q r. shed m q w r) names k z d) row leaves in
+    let left_there : LeavesBy (λ m q r. shed m q (where_of c.place) r) names k x.below d = subst (λ z. LeavesBy (λ m q r. shed m q z r) names k x.below d) at left_row in
+    let same_facts : g ≡ facts_of names c = later ∙ facts_still names leaves ∙ ap {A = Seen} (λ z. facts_of names z) asked in
+    trim_does names c k d x y list is_dead asked left_there
+    (tree ∙ ap {A = Facts} {B = Tree} (λ q. record x { below = trimmed q w x.below }) same_facts ∙ ap {A = Where} {B = Tree} (λ z. record x { below = trimmed (facts_of names c) z x.below }) at)
+
+pub trims_none : (names : Names) (c : Seen) (x : Tree) (f : Facts) (w : Where) (t : Forest) → w ≡ where_of c.place → f ≡ facts_of names c → t ≡ x.below → false ≡ has_dead f w t → Does (trim names) c x false c x
+trims_none names c x f w t at facts first dead = trim_does_none names c x (asked_so has_dead f (facts_of names c) w (where_of c.place) t x.below false dead facts at first)
+
+pub new_empty : (z : Tree) (n : Note) (s : Span) (items : List (Option Tree)) → z ≡ record { kind = empty_statement; note = record { span = s; id = None }; below = row items } → s ≡ n.span → items ≡ [] → z ≡ record { kind = empty_statement; note = unmarked n; below = nothing }
+new_empty z n s items new span none =
+    new ∙ ap {A = Span} {B = Tree} (λ q. record { kind = empty_statement; note = record { span = q; id = None }; below = row items }) span ∙ ap {A = List (Option Tree)} {B = Tree} (λ l. record { kind = empty_statement; note = unmarked n; below = row l }) none
+
+pub empties : (names : Names) (c d : Seen) (x y z : Tree) (f : Facts) (w : Where) → w ≡ where_of c.place → f ≡ facts_of names c → true ≡ is_silent_statement f w x.kind x.below → y ≡ z → z ≡ record { kind = empty_statement; note = unmarked x.note; below = nothing } → DropsNode c x d → Does (empty names) c x true d y
+empties names c d x y z f w at facts silent put new drops =
+    empty_does names c d x y (asked_so (λ g v t. is_silent_statement g v x.kind t) f (facts_of names c) w (where_of c.place) x.below x.below true silent facts at refl) (put ∙ new) drops
+
+pub empties_none : (names : Names) (c : Seen) (x : Tree) (f : Facts) (w : Where) → w ≡ where_of c.place → f ≡ facts_of names c → false ≡ is_silent_statement f w x.kind x.below → Does (empty names) c x false c x
+empties_none names c x f w at facts silent =
+    empty_does_none names c x (asked_so (λ g v t. is_silent_statement g v x.kind t) f (facts_of names c) w (where_of c.place) x.below x.below false silent facts at refl)
+
+-- ---- what is known
+
+pub known : (names : Names) (c : Seen) (t : Forest) → Holds Own names c t → Knows (facts_of names c) (has c.marked) t
+known names c t h = record { fits = h.0.fits; exact = h.0.lists; flags = h.1.flags; outermost = h.1.outermost; bound = h.1.bound; exported = h.1.exported; script = h.1.script }
+
+-- ---- marks
+
+none_fewer : (m n : ℕ) → n ≡ 0 → nat_lt m n ≡ false
+none_fewer m n h = Prim.grind arith
+
+nowhere : (i r n : ℕ) → (0 < i → r < n) → n ≤ r → i ≡ 0
+nowhere i r n room h = elim (below_or_above 0 i) [
+  | inl l ↦ let k : r < n = room l in absurd (Prim.omega (arith, k, h))
+  | inr l ↦ Prim.omega (arith, l)
+]
+
+-- a reference past the room for marks stands nowhere, before or after
+marks_all : (c d : Seen) (t u : Forest) → MarksLeft c d t u → ((r : ℕ) → 0 < ids r t → r < length c.marked) → MarksWhatLeft (has c.marked) t u (has d.marked)
+marks_all c d t u m room r = go (below_or_above r (length c.marked))
+  where
+    go : (r < length c.marked) ⊎ (length c.marked ≤ r) → has d.marked r ≡ (has c.marked r || left t u r)
+    go (inl h) = m.marks r h
+    go (inr h) =
+        let was : has c.marked r ≡ false = get_or-eq_default c.marked false h in
+        let now : has d.marked r ≡ false = get_or-eq_default d.marked false (Prim.omega (arith, m.room)) in
+        let none : ids r t ≡ 0 = nowhere (ids r t) r (length c.marked) (room r) h in
+        now ∙ sym (ap (λ b. b || left t u r) was ∙ none_fewer (ids r u) (ids r t) none)
+
+pub own_of : (names : Names) (c : Seen) (marked : ℕ → Bool) (t : Forest) → Knows (facts_of names c) marked t → IsToldOnly c.scoping c.eval_dropped t → Own names (still c) t
+own_of names c marked t k only = record { flags = k.flags; outermost = k.outermost; bound = k.bound; exported = k.exported; script = k.script; only = only }
+
+-- no call of `eval` left that isn't noted
+abbrev Noted : (c d : Seen) (t u : Forest) → Type 0
+Noted c d t u = d.eval_dropped ≡ false → (c.eval_dropped ≡ false) × (evals u ≡ evals t)
+
+only_still : (c d : Seen) (t u : Forest) → TreeEdits t u → Noted c d t u → Fits root t → IsToldOnly c.scoping c.eval_dropped t → IsToldOnly c.scoping d.eval_dropped u
+only_still c d t u edits noted fits h = record {
+  nested = edits_nest c.scoping t u edits fits h.nested;
+  names = edits_names c.scoping t u edits fits h.names;
+  calls = λ e. calls_of c.scoping u (edits_told_only c.scoping t u edits fits (noted e).1 (joined_only c.scoping t (h.calls (noted e).0) h.names));
+}
+
+pub known_still : (names : Names) (c d : Seen) (t u : Forest) → TreeEdits t u → MarksLeft c d t u → Noted c d t u → Holds Own names c t → Own names d u
+known_still names c d t u edits m noted h =
+    let k = keeps (facts_of names c) t u edits (has c.marked) (has d.marked) (marks_all c d t u m h.0.room) (known names c t h) in
+    let only = only_still c d t u edits noted h.0.fits h.1.only in
+    subst (λ z. Own names z u) (sym m.same) (record { flags = k.flags; outermost = k.outermost; bound = k.bound; exported = k.exported; script = k.script; only = only })
+
+-- ---- edits
+
+pub as_edits : {t u : Forest} → TreeEdits t u → (Edits Edit) t u
+as_edits (no_tree_edit t) = no_edit
+as_edits (one_tree_edit t u v e more) = one_edit e (as_edits more)
+
+pub as_tree_edits : {t u : Forest} → (Edits Edit) t u → TreeEdits t u
+as_tree_edits {t = t} no_edit = no_tree_edit t
+as_tree_edits {t = t} (one_edit {u = v} e more) = one_tree_edit t v _ e (as_tree_edits more)
+
+one : {t u : Forest} → Edit t u → TreeEdits t u
+one {t = t} {u = u} e = one_tree_edit t u u e (no_tree_edit u)
+
+-- ---- moves
+
+list_calls : (k : Kind) (n : Note) (b : Forest) → k ≡ statements → evals (node k n b nothing) ≡ evals b
+list_calls k n b e = subst (λ q. evals (node q n b nothing) ≡ evals b) (sym e) (Prim.omega arith)
+
+trim_calls : (f : Facts) (w : Where) (x y : Tree) → x.kind ≡ statements → y ≡ record x { below = trimmed f w x.below } → evals (forest_of y) ≤ evals (forest_of x)
+trim_calls f w x y list tree =
+    Prim.omega (arith, ap (λ q. evals (forest_of q)) tree, list_calls x.kind x.note x.below list, list_calls x.kind x.note (trimmed f w x.below) list, splits evals evals_add f w x.below)
+
+module _ (stays : Stays AnyEdit) (names : Names) where
+  moves : {c d : Seen} {x y : Tree} → ((a : Around) (r : Forest) → IsHere c a → Holds Own names (still c) (plug a (before x r)) → TreeEdits (plug a (before x r)) (plug a (before y r)))
+      → ((i : ℕ) → ids i (forest_of y) ≤ ids i (forest_of x)) → total weight (forest_of y) + 1 ≤ total weight (forest_of x) → evals (forest_of y) ≤ evals (forest_of x) → is_no_name x.kind ≡ true → is_no_name y.kind ≡ true
+      → Edited c x y true d → NodeMoves Names AnyEdit (Holds Own) names c x names d y
+  moves {c = c} {d = d} {x = x} {y = y} edits fewer lighter fewer_calls old new e =
+      let noted : (a : Around) (r : Forest) → Noted (still c) (still d) (plug a (before x r)) (plug a (before y r)) = λ a r q.
+      let none = none_dropped d.eval_dropped c.eval_dropped (evals (forest_of y)) (evals (forest_of x)) e.evals fewer_calls q in
+      (none.0, evals_kept x.kind y.kind x.note y.note x.below y.below r old new none.1 a) in
+      held_moves stays (λ a r p h. as_edits (edits a r p h)) fewer lighter (λ q. absurd (true≢false q)) e
+      (λ a r p m h. known_still names (still c) (still d) (plug a (before x r)) (plug a (before y r)) (edits a r p h) m (noted a r) h)
+
+  trim_edits : (f : Facts) (m : ℕ → Bool) (p : Place) (k : Kind) (n : Note) (b : Forest) → k ≡ statements → (a : Around) (r : Forest) → place_at a ≡ p → Knows f m (plug a (node k n b r)) → TreeEdits (plug a (node k n b r)) (plug a (node k n (trimmed f (where_of p) b) r))
+  trim_edits f m p k n b list a r at =
+      subst (λ q. Knows f m (plug a (node q n b r)) → TreeEdits (plug a (node q n b r)) (plug a (node q n (trimmed f (where_of p) b) r))) (sym list)
+      (λ h. subst (λ q. TreeEdits (plug a (node statements n b r)) (plug a (node statements n (trimmed f (where_of q) b) r))) at (list_trims f m a n b r h))
+
+  stayed : {c d : Seen} {x y : Tree} → y ≡ x → d ≡ c → NodeMoves Names AnyEdit (Holds Own) names c x names d y
+  stayed {c = c} {d = d} {x = x} {y = y} tree context =
+      let same : NodeMoves Names AnyEdit (Holds Own) names c x names c x = unchanged_moves (λ a r p t o. o) in
+      subst (λ q. NodeMoves Names AnyEdit (Holds Own) names c x names d q) (sym tree) (subst (λ q. NodeMoves Names AnyEdit (Holds Own) names c x names q x) (sym context) same)
+
+  pub trim_moves : {c d : Seen} {x y : Tree} {answer : Bool} → x.kind ≡ statements → Does (trim names) c x answer d y → NodeMoves Names AnyEdit (Holds Own) names c x names d y
+  trim_moves {c = c} {d = d} {x = x} {y = y} list does = go (has_dead (facts_of names c) (where_of c.place) x.below) refl
+    where
+      go : (v : Bool) → has_dead (facts_of names c) (where_of c.place) x.below ≡ v → NodeMoves Names AnyEdit (Holds Own) names c x names d y
+      go true dead =
+          let z : Tree = record x { below = trimmed (facts_of names c) (where_of c.place) x.below } in
+          let is : trim names c x ≡ Some z = some_left z dead in
+          let tree : y ≡ z = does.tree ∙ ap (or_same x) is in
+          let e : Edited c x y true d = subst (λ o. Edited c x y (is_some o) d) is does.edited in
+          moves
+          (λ a r p h. subst (λ q. TreeEdits (plug a (before x r)) (plug a (before q r))) (sym tree) (trim_edits (facts_of names c) (has c.marked) c.place x.kind x.note x.below list a r p (known names (still c) (plug a (before x r)) h)))
+          (λ i. Prim.omega (arith, ap (λ q. ids i (forest_of q)) tree, trimmed_sheds (facts_of names c) (where_of c.place) x.below i))
+          (Prim.omega (arith, ap (λ q. total weight (forest_of q)) tree, trimmed_is_lighter (facts_of names c) (where_of c.place) x.below dead))
+          (trim_calls (facts_of names c) (where_of c.place) x y list tree)
+          (ap is_no_name list)
+          (ap (λ q. is_no_name q.kind) tree ∙ ap is_no_name list)
+          e
+      go false dead =
+          let is : trim names c x ≡ None = none_left (record x { below = trimmed (facts_of names c) (where_of c.place) x.below }) dead in
+          let tree : y ≡ x = does.tree ∙ ap (or_same x) is in
+          let e : Edited c x y false d = subst (λ o. Edited c x y (is_some o) d) is does.edited in
+          stayed tree (e.none refl)
+
+  pub empty_moves : {c d : Seen} {x y : Tree} {answer : Bool} → Does (empty names) c x answer d y → NodeMoves Names AnyEdit (Holds Own) names c x names d y
+  empty_moves {c = c} {d = d} {x = x} {y = y} does = go (is_silent_statement (facts_of names c) (where_of c.place) x.kind x.below) refl
+    where
+      go : (v : Bool) → is_silent_statement (facts_of names c) (where_of c.place) x.kind x.below ≡ v → NodeMoves Names AnyEdit (Holds Own) names c x names d y
+      go true silent =
+          let z : Tree = record { kind = empty_statement; note = unmarked x.note; below = nothing } in
+          let is : empty names c x ≡ Some z = some_left z silent in
+          let tree : y ≡ z = does.tree ∙ ap (or_same x) is in
+          let e : Edited c x y true d = subst (λ o. Edited c x y (is_some o) d) is does.edited in
+          let found : emptied (facts_of names c) (where_of c.place) x ≡ Some y = is ∙ ap Some (sym tree) in
+          moves
+          (λ a r p h. one (statement_empties_there (facts_of names c) (has c.marked) a x y r (known names (still c) (plug a (before x r)) h) (ap (λ q. emptied (facts_of names c) (where_of q) x) p ∙ found)))
+          (emptied_sheds (facts_of names c) (where_of c.place) x y found)
+          (emptied_is_lighter (facts_of names c) (where_of c.place) x y found)
+          (Prim.omega (arith, ap (λ q. evals (forest_of q)) tree))
+          (silent_is_no_name (facts_of names c) (where_of c.place) x.kind x.below silent)
+          (ap (λ q. is_no_name q.kind) tree)
+          e
+      go false silent =
+          let is : empty names c x ≡ None = none_left (record { kind = empty_statement; note = unmarked x.note; below = nothing }) silent in
+          let tree : y ≡ x = does.tree ∙ ap (or_same x) is in
+          let e : Edited c x y false d = subst (λ o. Edited c x y (is_some o) d) is does.edited in
+          stayed tree (e.none refl)
+
+-- ---- visits
+
+asked_true : (b : Bool) {P : Type 0} → (b || true) ≡ false → P
+asked_true true e = absurd (true≢false e)
+asked_true false e = absurd (true≢false e)
+
+module _ (names : Names) {c d : Seen} {x y : Tree} {answer : Bool} (quiet : d.requested ≡ false) where
+  pub trim_visits : Does (trim names) c x answer d y → Found (has_dead (facts_of names c) (where_of c.place) x.below) names c names d
+  trim_visits does = go (has_dead (facts_of names c) (where_of c.place) x.below) refl
+    where
+      go : (v : Bool) → has_dead (facts_of names c) (where_of c.place) x.below ≡ v → Found (has_dead (facts_of names c) (where_of c.place) x.below) names c names d
+      go true dead =
+          let z : Tree = record x { below = trimmed (facts_of names c) (where_of c.place) x.below } in
+          let e : Edited c x y true d = subst (λ o. Edited c x y (is_some o) d) (some_left z dead) does.edited in
+          asked_true c.requested (sym e.asked ∙ quiet)
+      go false dead =
+          let z : Tree = record x { below = trimmed (facts_of names c) (where_of c.place) x.below } in
+          let e : Edited c x y false d = subst (λ o. Edited c x y (is_some o) d) (none_left z dead) does.edited in
+          record { names_same = refl; context_same = e.none refl; none = dead }
+
+  pub empty_visits : Does (empty names) c x answer d y → Found (is_silent_statement (facts_of names c) (where_of c.place) x.kind x.below) names c names d
+  empty_visits does = go (is_silent_statement (facts_of names c) (where_of c.place) x.kind x.below) refl
+    where
+      go : (v : Bool) → is_silent_statement (facts_of names c) (where_of c.place) x.kind x.below ≡ v → Found (is_silent_statement (facts_of names c) (where_of c.place) x.kind x.below) names c names d
+      go true silent =
+          let e : Edited c x y true d = subst (λ o. Edited c x y (is_some o) d) (some_left (record { kind = empty_statement; note = unmarked x.note; below = nothing }) silent) does.edited in
+          asked_true c.requested (sym e.asked ∙ quiet)
+      go false silent =
+          let e : Edited c x y false d = subst (λ o. Edited c x y (is_some o) d) (none_left (record { kind = empty_statement; note = unmarked x.note; below = nothing }) silent) does.edited in
+          record { names_same = refl; context_same = e.none refl; none = silent }
+
+-- ---- slots
+
+if_key : (key s : Bool) (own : Outer) → (if key then outer.PropertyKey else if s then outer.Statement else own) ≡ outer.Statements → own ≡ outer.Statements
+if_key true s own e = absurd Prim.cc
+if_key false true own e = absurd Prim.cc
+if_key false false own e = e
+
+own_list : (k : Kind) → own_slot k ≡ outer.Statements → k ≡ statements
+own_list statements e = refl
+own_list k e = absurd Prim.cc
+
+pub is_list : (p : Place) (k : Kind) → outer_slot (above_place p) k ≡ outer.Statements → k ≡ statements
+is_list p k e = own_list k (if_key (is_key_place (above_place p)) (is_statement_place (above_place p) && is_statement k) (own_slot k) e)

@@ -1,0 +1,8 @@
+mod Named
+mod Each
+mod Kept
+mod Shed
+mod Calls
+mod Acting
+mod Slots
+mod Seeing

@@ -1,0 +1,7 @@
+use Rattle.std.proofs.Common.{◌≡◌, drop}
+use Rattle.js_syntax.specs.Node.{row}
+use Rattle.rules_dead_code.specs.Rules.{one_stays}
+use Rattle.min_statements.proofs.goes.one_stays.Given as goal
+
+abbrev pub invariant-loop-child : goal.invariant-loop-child
+invariant-loop-child l = one_stays l.facts l.at l.how (row l.declarators) ≡ one_stays l.facts l.at l.how (row (drop l.child-index l.declarators))

@@ -1,0 +1,5 @@
+pub mod Names
+pub mod Walker
+pub mod Shed
+pub mod Acts
+pub mod Own

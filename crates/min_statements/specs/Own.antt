@@ -1,0 +1,53 @@
+-- What the walker asks of the whole program beside that the context is true, and what it leaves known.
+use Rattle.std.specs.Prelude.{◌≡◌, Bool, true, false, Some}
+use Rattle.js_syntax.specs.Node.{Forest, Tree}
+use Rattle.min_context.specs.Seen.{Seen}
+use Rattle.min_options.specs.declared.options.CompressOptions.{CompressOptions}
+use Rattle.min_traverse.specs.declared.slot.Hook.{Hook}
+use Rattle.min_traverse.specs.declared.slot.Hook.TheVariants as hook
+use Rattle.steps_allowed.specs.Edits.{Edit}
+use Rattle.steps_allowed.specs.Exposure.{is_script, is_script_source}
+use Rattle.steps_marked.specs.Flags.{first_mark, FlagsTell}
+use Rattle.scope_rules.specs.Table.{Scoping}
+use Rattle.steps_told.specs.Nesting.{ScopesNest}
+use Rattle.steps_told.specs.Parts.{CallsToldOnly, NamesToldOnly}
+use Rattle.rules_dead_code.specs.Knows.{TellsBound, TellsExported}
+use Rattle.rules_dead_code.specs.Rules.{where_of, has_dead, is_silent_statement}
+use Rattle.min_statements.specs.Walker.{Names, facts_of}
+
+-- an edit of a program, by whatever options
+abbrev pub AnyEdit : CompressOptions → Forest → Forest → Type 0
+AnyEdit o t u = Edit t u
+
+-- What the table tells only: its scopes stand in one another as the nodes do that make them, and their flags say that names are
+-- exposed only where they are, but that a call of `eval` may have left which is noted (ECMA-262 19.2.1.1).
+pub record IsToldOnly (s : Scoping) (eval_dropped : Bool) (t : Forest) : Type 0 where
+  pub nested : ScopesNest s t
+  pub names : NamesToldOnly s t
+  pub calls : eval_dropped ≡ false → CallsToldOnly s t
+
+pub record Own (names : Names) (c : Seen) (t : Forest) : Type 0 where
+  pub flags : FlagsTell c.scoping t
+  pub outermost : first_mark t ≡ Some 0
+  pub bound : TellsBound c.scoping names.bound
+  pub exported : TellsExported names.exported t
+  pub script : is_script_source c.source_type ≡ is_script t
+  pub only : IsToldOnly c.scoping c.eval_dropped t
+
+-- ---- which hooks it has, and what they leave known where they ask for nothing
+
+abbrev pub is_written : Hook → Bool
+is_written hook.ExitStatements = true
+is_written hook.ExitStatement = true
+is_written h = false
+
+-- nothing changed, and of what the hook looks at nothing goes
+pub record Found (dead : Bool) (names : Names) (c : Seen) (later : Names) (d : Seen) : Type 0 where
+  pub names_same : later ≡ names
+  pub context_same : d ≡ c
+  pub none : dead ≡ false
+
+abbrev pub Visited : Hook → Names → Seen → Tree → Names → Seen → Type 0
+Visited hook.ExitStatements names c x later d = Found (has_dead (facts_of names c) (where_of c.place) x.below) names c later d
+Visited hook.ExitStatement names c x later d = Found (is_silent_statement (facts_of names c) (where_of c.place) x.kind x.below) names c later d
+Visited h names c x later d = Unit {0}

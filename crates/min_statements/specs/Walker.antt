@@ -1,0 +1,21 @@
+-- What the walker knows, and what is known at a place of a program.
+use Rattle.std.specs.Prelude.{List, Bool}
+use Rattle.min_context.specs.Seen.{Seen}
+use Rattle.rules_dead_code.specs.Rules.{Facts}
+use Rattle.js_syntax.specs.Node.{Forest}
+use Rattle.scope_rules.specs.Table.{Scoping}
+use Rattle.steps_allowed.specs.Exposure.{is_script_source}
+use Rattle.exported_names.specs.Answers.{bound_of}
+use Rattle.exported_names.specs.Exported.{exported_of}
+
+-- Of each reference by its id, whether it has a symbol; of each symbol by its number, whether an exported declaration declares it.
+pub record Names : Type 0 where
+  pub bound : List Bool
+  pub exported : List Bool
+
+abbrev pub facts_of : Names → Seen → Facts
+facts_of names c = record { scoping = c.scoping; bound = names.bound; exported = names.exported; is_script = is_script_source c.source_type }
+
+-- of a program that is marked as its table says
+abbrev pub names_of : Scoping → Forest → Names
+names_of s t = record { bound = bound_of s; exported = exported_of s t }

@@ -1,0 +1,99 @@
+// The walker.
+ghost use Rattle.std.specs.Prelude.{◌≡◌, IfOk};
+ghost use Rattle.js_syntax.specs.Node.{forest_of};
+ghost use Rattle.min_statements.specs.Walker.{facts_of, names_of};
+
+use crate::emptied::empty_statement;
+use crate::facts::Facts;
+use crate::trimmed::trim_statements;
+use exported_names::{bound_references, exported_symbols};
+use js_syntax::SourceType;
+use js_tree::Node;
+use min_context::MinifierTraverseCtx;
+use min_traverse::{Hook, Traverse};
+use scope_table::Scoping;
+use std::alloc::{AllocError, Global};
+use std::marker::Model;
+
+/// Takes dead code out of lists of statements, and empties silent statements elsewhere.
+pub struct Statements {
+    // Of each reference by its id, whether it has a symbol: this stays through a run.
+    bound: Vec<bool>,
+    // Of each symbol by its number, whether an exported declaration declares it.
+    exported: Vec<bool>,
+}
+
+impl Drop for Statements {
+    fn drop(self) {
+        let Statements {
+            bound: _,
+            exported: _,
+        } = self;
+    }
+}
+
+impl Model for Statements {
+    ghost use Rattle.min_statements.specs.Walker.{Names};
+
+    ghost Value = { Names };
+
+    ghost view = { λ s. record { bound = s.bound.items; exported = s.exported.items } };
+}
+
+impl Statements {
+    /// A walker of a program, given by its root, whose nodes are marked as the table says. It fails only for want of memory; the recursion
+    /// goes as deep as the tree.
+    pub fn new(alloc: Global, scoping: &Scoping, root: &Node) -> Result<Statements, AllocError>
+        ensures names { IfOk result (λ s. s ≡ names_of scoping.now (forest_of root.now)) }
+    {
+        let bound = bound_references(alloc, scoping)?;
+        let exported = exported_symbols(alloc, scoping, root)?;
+        Ok(Statements { bound, exported })
+    }
+
+    // What is known of the program.
+    pub(crate) fn facts<'a>(&'a self, ctx: &'a MinifierTraverseCtx) -> Facts<'a>
+        ensures { result ≡ facts_of self.now ctx.now }
+    {
+        Facts {
+            scoping: ctx.scoping(),
+            bound: self.bound.as_slice(),
+            exported: self.exported.as_slice(),
+            is_script: matches!(ctx.source_type(), SourceType::Script),
+        }
+    }
+}
+
+impl Traverse for Statements {
+    ghost use Rattle.min_statements.specs.Own.{AnyEdit, Own, Visited, is_written};
+
+    ghost edit = { AnyEdit };
+
+    ghost own = { Own };
+
+    ghost written = { is_written };
+
+    ghost visits = { Visited };
+
+    fn has(hook: Hook) -> bool {
+        matches!(hook, Hook::ExitStatements | Hook::ExitStatement)
+    }
+
+    fn exit_statements(
+        &mut self,
+        node: &mut Node,
+        ctx: &mut MinifierTraverseCtx,
+    ) -> Result<(), AllocError> {
+        trim_statements(self, node, ctx);
+        Ok(())
+    }
+
+    fn exit_statement(
+        &mut self,
+        node: &mut Node,
+        ctx: &mut MinifierTraverseCtx,
+    ) -> Result<(), AllocError> {
+        empty_statement(self, node, ctx);
+        Ok(())
+    }
+}
