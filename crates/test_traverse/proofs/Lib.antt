@@ -1,0 +1,5 @@
+mod Lists
+mod Allowed
+mod Editing
+mod Calling
+mod Looking
