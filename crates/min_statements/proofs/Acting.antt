@@ -36,7 +36,8 @@ use Rattle.json_shape.specs.Shape.{Fits}
 use Rattle.js_syntax.specs.Class.{root}
 use Rattle.steps_told.proofs.Edited.{joined_only, calls_of, edits_names, edits_told_only}
 use Rattle.steps_told.proofs.Nested.{edits_nest}
-use Rattle.min_statements.specs.Own.{AnyEdit, Own, IsToldOnly, Found}
+use Rattle.steps_export.proofs.Edited.{listed_stay}
+use Rattle.min_statements.specs.Own.{AnyEdit, ExportedOnly, Own, IsToldOnly, Found}
 use Rattle.min_statements.proofs.Calls.{is_no_name, silent_is_no_name, evals_kept, none_dropped}
 use Rattle.min_statements.specs.Shed.{shed}
 use Rattle.min_statements.specs.Walker.{Names, facts_of}
@@ -139,8 +140,8 @@ marks_all c d t u m room r = go (below_or_above r (length c.marked))
         let none : ids r t ≡ 0 = nowhere (ids r t) r (length c.marked) (room r) h in
         now ∙ sym (ap (λ b. b || left t u r) was ∙ none_fewer (ids r u) (ids r t) none)
 
-pub own_of : (names : Names) (c : Seen) (marked : ℕ → Bool) (t : Forest) → Knows (facts_of names c) marked t → IsToldOnly c.scoping c.eval_dropped t → Own names (still c) t
-own_of names c marked t k only = record { flags = k.flags; outermost = k.outermost; bound = k.bound; exported = k.exported; script = k.script; only = only }
+pub own_of : (names : Names) (c : Seen) (marked : ℕ → Bool) (t : Forest) → Knows (facts_of names c) marked t → IsToldOnly c.scoping c.eval_dropped t → ExportedOnly names t → Own names (still c) t
+own_of names c marked t k only exported = record { flags = k.flags; outermost = k.outermost; bound = k.bound; exported = k.exported; script = k.script; only = only; exported_only = exported }
 
 -- no call of `eval` left that isn't noted
 abbrev Noted : (c d : Seen) (t u : Forest) → Type 0
@@ -157,7 +158,7 @@ pub known_still : (names : Names) (c d : Seen) (t u : Forest) → TreeEdits t u 
 known_still names c d t u edits m noted h =
     let k = keeps (facts_of names c) t u edits (has c.marked) (has d.marked) (marks_all c d t u m h.0.room) (known names c t h) in
     let only = only_still c d t u edits noted h.0.fits h.1.only in
-    subst (λ z. Own names z u) (sym m.same) (record { flags = k.flags; outermost = k.outermost; bound = k.bound; exported = k.exported; script = k.script; only = only })
+    subst (λ z. Own names z u) (sym m.same) (record { flags = k.flags; outermost = k.outermost; bound = k.bound; exported = k.exported; script = k.script; only = only; exported_only = listed_stay t u edits h.0.fits names.exported h.1.exported_only })
 
 -- ---- edits
 

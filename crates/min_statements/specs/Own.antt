@@ -1,5 +1,5 @@
 -- What the walker asks of the whole program beside that the context is true, and what it leaves known.
-use Rattle.std.specs.Prelude.{◌≡◌, Bool, true, false, Some}
+use Rattle.std.specs.Prelude.{◌≡◌, ℕ, Bool, true, false, Some}
 use Rattle.js_syntax.specs.Node.{Forest, Tree}
 use Rattle.min_context.specs.Seen.{Seen}
 use Rattle.min_options.specs.declared.options.CompressOptions.{CompressOptions}
@@ -11,6 +11,8 @@ use Rattle.steps_marked.specs.Flags.{first_mark, FlagsTell}
 use Rattle.scope_rules.specs.Table.{Scoping}
 use Rattle.steps_told.specs.Nesting.{ScopesNest}
 use Rattle.steps_told.specs.Parts.{CallsToldOnly, NamesToldOnly}
+use Rattle.js_effects.specs.Silence.{is_marked}
+use Rattle.rules_dead_code.specs.Quiet.{IsExported}
 use Rattle.rules_dead_code.specs.Knows.{TellsBound, TellsExported}
 use Rattle.rules_dead_code.specs.Rules.{where_of, has_dead, is_silent_statement}
 use Rattle.min_statements.specs.Walker.{Names, facts_of}
@@ -26,6 +28,10 @@ pub record IsToldOnly (s : Scoping) (eval_dropped : Bool) (t : Forest) : Type 0 
   pub names : NamesToldOnly s t
   pub calls : eval_dropped ≡ false → CallsToldOnly s t
 
+-- no symbol is taken for exported that isn't
+abbrev pub ExportedOnly : Names → Forest → Type 0
+ExportedOnly names t = (symbol : ℕ) → is_marked names.exported (Some symbol) ≡ true → IsExported t symbol
+
 pub record Own (names : Names) (c : Seen) (t : Forest) : Type 0 where
   pub flags : FlagsTell c.scoping t
   pub outermost : first_mark t ≡ Some 0
@@ -33,6 +39,7 @@ pub record Own (names : Names) (c : Seen) (t : Forest) : Type 0 where
   pub exported : TellsExported names.exported t
   pub script : is_script_source c.source_type ≡ is_script t
   pub only : IsToldOnly c.scoping c.eval_dropped t
+  pub exported_only : ExportedOnly names t
 
 -- ---- which hooks it has, and what they leave known where they ask for nothing
 

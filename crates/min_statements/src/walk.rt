@@ -11,7 +11,7 @@ ghost use Rattle.min_context.specs.Seen.{still};
 ghost use Rattle.min_traverse.specs.Moves.{busy};
 ghost use Rattle.rules_dead_code.specs.Knows.{Knows};
 ghost use Rattle.rules_dead_code.specs.Quiet.{IsQuiet};
-ghost use Rattle.min_statements.specs.Own.{IsToldOnly};
+ghost use Rattle.min_statements.specs.Own.{ExportedOnly, IsToldOnly};
 ghost use Rattle.min_statements.specs.Walker.{facts_of};
 
 use crate::statements::Statements;
@@ -34,11 +34,13 @@ pub fn walk_statements(
     requires is_true { IsTrue (still ctx.old) (forest_of root.old) }
     requires known { Knows (facts_of walker.old ctx.old) (has ctx.old.marked) (forest_of root.old) }
     requires only { IsToldOnly ctx.old.scoping ctx.old.eval_dropped (forest_of root.old) }
+    requires exported_only { ExportedOnly walker.old (forest_of root.old) }
     requires outside { ctx.old.place ≡ outside }
     ensures edits { OnOk result (TreeEdits (forest_of root.old) (forest_of root.new)) }
     ensures is_true { OnOk result (IsTrue (still ctx.new) (forest_of root.new)) }
     ensures known { OnOk result (Knows (facts_of walker.new ctx.new) (has ctx.new.marked) (forest_of root.new)) }
     ensures only { OnOk result (IsToldOnly ctx.new.scoping ctx.new.eval_dropped (forest_of root.new)) }
+    ensures exported_only { OnOk result (ExportedOnly walker.new (forest_of root.new)) }
     ensures options { OnOk result (ctx.new.options ≡ ctx.old.options) }
     ensures room { OnOk result (length ctx.new.marked ≡ length ctx.old.marked) }
     ensures marks { OnOk result ((r : ℕ) → r < length ctx.old.marked → has ctx.new.marked r ≡ (has ctx.old.marked r || nat_lt (ids r (forest_of root.new)) (ids r (forest_of root.old)))) }

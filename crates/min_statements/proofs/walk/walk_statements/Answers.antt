@@ -5,7 +5,7 @@ use Rattle.min_statements.proofs.Seeing.{none_goes, same_names, same_context}
 use Rattle.min_statements.proofs.walk.walk_statements.Goals as goal
 
 pub traverse_root-requires : goal.traverse_root-requires
-traverse_root-requires c = record { holds = (c.requires.is_true, own_of c.args.walker.now c.args.ctx.now _ _ c.requires.known c.requires.only); outside = c.requires.outside }
+traverse_root-requires c = record { holds = (c.requires.is_true, own_of c.args.walker.now c.args.ctx.now _ _ c.requires.known c.requires.only c.requires.exported_only); outside = c.requires.outside }
 
 pub returns : goal.returns
 returns c =
@@ -15,6 +15,7 @@ returns c =
       is_true = e.holds.0;
       known = known c.traverse_root.new.traverse (still c.traverse_root.new.ctx) (forest_of c.traverse_root.new.root) e.holds;
       only = e.holds.1.only;
+      exported_only = e.holds.1.exported_only;
       options = e.options;
       room = e.room;
       marks = e.marks;

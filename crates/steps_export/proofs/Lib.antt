@@ -1,0 +1,5 @@
+pub mod Gathered
+pub mod Going
+pub mod Staying
+pub mod Edited
+pub mod Tried
