@@ -6,6 +6,7 @@ use Rattle.form_rules.specs.Form.{IsWellFormed}
 use Rattle.js_meaning.specs.Kept.{Kept, KeptBack}
 use Rattle.js_meaning.proofs.Kept.{refined_kept, refined_back}
 use Rattle.js_scoping.specs.Build.{numbered}
+use Rattle.js_scoping.proofs.Again.{numbered_same}
 use Rattle.min_passes.specs.Passes.{shaken}
 use Rattle.steps_allowed.specs.Edits.{Edits, no_edit}
 use Rattle.steps_allowed.proofs.Composing.{edits_follow}
@@ -15,7 +16,7 @@ use Rattle.headline.specs.Clean.{Clean}
 use Rattle.headline.specs.Headline.{is_core_module, Headline}
 use Rattle.headline.proofs.Sound.{Refines}
 use Rattle.headline.proofs.Refining.{edits_refine}
-use Rattle.headline.proofs.Passes.{numbered_same, shaken_comes}
+use Rattle.headline.proofs.Passes.{shaken_comes}
 
 -- edits lead to what passes leave, with its nodes marked
 pub numbered_comes : (t : Forest) → Fits root t → IsWellFormed t → Edits t (numbered (shaken t))

@@ -1,4 +1,4 @@
--- A tree that is numbered has the table that it had, and is numbered as it is.
+-- A tree that is numbered is the same program, has the table that it had, and is numbered as it is.
 use Rattle.std.proofs.Common.{◌≡◌, ◌∙◌, ◌+◌, ℕ, drop, Bool, Some, Option, if◌then◌else◌, refl, ap}
 use Rattle.js_syntax.specs.declared.node_kind.NodeKind.{NodeKind as Kind}
 use Rattle.js_syntax.specs.Node.{Forest, nothing, node, absent, Note, nowhere, bare, total}
@@ -49,6 +49,9 @@ marked_again m (node k n below rest) =
 
 abbrev marks_of : Forest → Marks
 marks_of t = first_marks (symbols_declared (found_of t).bindings)
+
+pub numbered_same : (t : Forest) → bare (numbered t) ≡ bare t
+numbered_same t = bare_marked (marks_of t) t
 
 pub table_again : (t : Forest) → table_of (numbered t) ≡ table_of t
 table_again t = ap scoping_of (found_marked (marks_of t) t) ∙ table_same (found_of t)

@@ -7,7 +7,7 @@ use Rattle.js_syntax.specs.Node.{Forest, bare, total}
 use Rattle.js_tree.specs.Count.{node_count, levels}
 use Rattle.form_rules.specs.Form.{IsWellFormed}
 use Rattle.js_scoping.specs.Build.{table_of, numbered}
-use Rattle.js_scoping.proofs.Again.{table_again, numbered_again, resolved_again}
+use Rattle.js_scoping.proofs.Again.{numbered_same, table_again, numbered_again, resolved_again}
 use Rattle.scope_laws.specs.Exact.{Exact}
 use Rattle.scope_match.specs.Matches.{Matches}
 use Rattle.scope_rules.specs.Binding.{resolved_references}
@@ -15,7 +15,6 @@ use Rattle.scope_rules.specs.Table.{Scoping}
 use Rattle.steps_allowed.specs.Edits.{Edits, no_edit}
 use Rattle.json_shape.specs.Shape.{Fits}
 use Rattle.headline.specs.Clean.{Clean}
-use Rattle.headline.proofs.Passes.{numbered_same}
 use Rattle.headline.proofs.Renoted.{clean_as}
 use Rattle.headline.proofs.Shaking.{shaken_clean}
 use Rattle.headline.proofs.Headline.{numbered_comes, kept_by, back_by}

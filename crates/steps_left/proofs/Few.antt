@@ -7,6 +7,7 @@ use Rattle.js_syntax.specs.Facts.{weight}
 use Rattle.js_syntax.specs.Node.{Note, Forest, nothing, node, absent, total}
 use Rattle.scope_laws.proofs.Notes.{total_bare}
 use Rattle.js_scoping.specs.Build.{numbered}
+use Rattle.js_scoping.proofs.Again.{numbered_same}
 use Rattle.min_pass.specs.declared.around.Around.{Around}
 use Rattle.min_pass.specs.declared.around.Row.{Row}
 use Rattle.min_pass.specs.declared.around.Row.TheVariants.{Items as items, OfItem as of_item, Declarators as item_declarators, Other as other}
@@ -15,7 +16,6 @@ use Rattle.min_pass.specs.Pass.{Names, no_names, declarator_goes, goes_in, is_em
 use Rattle.min_pass.proofs.Fewer.{only_these_go}
 use Rattle.min_pass.proofs.Lighter.{only_these_empty, swept_lighter}
 use Rattle.min_passes.specs.Passes.{names_in, next, has_next, settled, passes_within, most_passes, shaken, passes_of}
-use Rattle.headline.proofs.Passes.{numbered_same}
 
 -- ---- what goes weighs something, with what lies below it
 
@@ -42,7 +42,7 @@ weighs names a (function function_kind.Declaration pure) below h = Prim.omega ar
 weighs names a (function function_kind.Expression pure) below h = Prim.omega arith
 weighs names a (function function_kind.Arrow pure) below h = Prim.omega arith
 weighs names a (variable_declaration how) below h = Prim.omega arith
-weighs names a variable_declarator below h = declarator_weighs a.knows_names a.row names a.in_with below h
+weighs names a variable_declarator below h = Prim.omega (arith, declarator_weighs a.knows_names a.row names a.in_with below h)
 weighs names a k below h = absurd (cc (only_these_go names a k below h))
 
 -- ---- one pass

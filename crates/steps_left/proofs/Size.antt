@@ -6,6 +6,7 @@ use Rattle.js_syntax.specs.Node.{Note, Forest, nothing, node, absent, bare}
 use Rattle.js_tree.specs.Count.{one_each, node_count, lower, levels_at, levels}
 use Rattle.scope_laws.proofs.Notes.{total_bare}
 use Rattle.js_scoping.specs.Build.{numbered}
+use Rattle.js_scoping.proofs.Again.{numbered_same}
 use Rattle.min_pass.specs.declared.around.Around.{Around}
 use Rattle.min_pass.specs.declared.around.Row.{Row}
 use Rattle.min_pass.specs.declared.around.Row.TheVariants.{Items as items, OfItem as of_item, Declarators as item_declarators, Other as other}
@@ -14,7 +15,6 @@ use Rattle.min_pass.specs.Pass.{Names, no_names, goes_in, is_empty_in, goes, emp
 use Rattle.min_pass.proofs.Lighter.{only_these_empty, swept_lighter}
 use Rattle.min_passes.specs.Passes.{names_in, next, has_next, settled, most_passes, shaken}
 use Rattle.min_passes.proofs.Clean.{next_no_more}
-use Rattle.headline.proofs.Passes.{numbered_same}
 
 -- ---- in a row that loses nodes none stands lower than the others by its place
 
