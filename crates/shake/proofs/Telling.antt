@@ -5,7 +5,7 @@ use Rattle.shake_words.specs.Meaning.{command_of}
 use Rattle.shake_words.specs.declared.answer.Command.{Command}
 use Rattle.shake.specs.Answer.{Answers}
 use Rattle.shake.specs.Line.{Told}
-use Rattle.shake.specs.Run.{max_input, IsTreeOf, Shakes}
+use Rattle.shake.specs.Run.{max_input, IsTreeOf, Shakes, ShakesFront}
 use Rattle.shake.specs.declared.status.Status.{Status}
 use Rattle.shake.specs.declared.status.Status.TheVariants as status
 
@@ -31,3 +31,15 @@ module _ (words : List (List ℕ)) (command : Command) (asked : command_of words
   shakes status.IllFormed w w' f f' a is = absurd cc
   shakes status.WriteFault w w' f f' a is = absurd cc
   shakes status.OutOfMemory w w' f f' a is = absurd cc
+
+  pub shakes_front : (s : Status) (w w' : Option (List ℕ)) (f f' : ℕ) → Answers command s bytes w w' f f' → s ≡ status.WriteFault → ShakesFront words left w w'
+  shakes_front status.WriteFault w w' f f' a is = (command, asked, a.0, told left now bytes (λ b. IsTreeOf b a.0) ends (within, a.1), a.2, a.3)
+  shakes_front status.Ok w w' f f' a is = absurd cc
+  shakes_front status.Usage w w' f f' a is = absurd a
+  shakes_front status.ReadFault w w' f f' a is = absurd a
+  shakes_front status.InputTooLong w w' f f' a is = absurd a
+  shakes_front status.Syntax w w' f f' a is = absurd cc
+  shakes_front status.Tree w w' f f' a is = absurd cc
+  shakes_front status.TooLarge w w' f f' a is = absurd cc
+  shakes_front status.IllFormed w w' f f' a is = absurd cc
+  shakes_front status.OutOfMemory w w' f f' a is = absurd cc
