@@ -1,15 +1,12 @@
 -- A program without dead code to which edits lead is the program without its dead code.
-use Rattle.std.proofs.Common.{◌≡◌, true, sym}
+use Rattle.std.proofs.Common.{◌≡◌, true}
 use Rattle.js_syntax.specs.Class.{root}
 use Rattle.js_syntax.specs.Node.{Forest}
 use Rattle.form_rules.specs.Form.{IsWellFormed}
 use Rattle.js_meaning.specs.Kept.{Kept, KeptBack}
 use Rattle.js_meaning.proofs.Kept.{refined_kept, refined_back}
-use Rattle.js_scoping.specs.Build.{numbered}
-use Rattle.js_scoping.proofs.Again.{numbered_same}
 use Rattle.min_passes.specs.Passes.{shaken}
-use Rattle.steps_allowed.specs.Edits.{Edits, no_edit}
-use Rattle.steps_allowed.proofs.Composing.{edits_follow}
+use Rattle.steps_allowed.specs.Edits.{Edits}
 use Rattle.json_shape.specs.Shape.{Fits}
 use Rattle.steps_fit.proofs.Sensible.{sensible, sensible_module}
 use Rattle.headline.specs.Clean.{Clean}
@@ -18,9 +15,9 @@ use Rattle.headline.proofs.Sound.{Refines}
 use Rattle.headline.proofs.Refining.{edits_refine}
 use Rattle.headline.proofs.Passes.{shaken_comes}
 
--- edits lead to what passes leave, with its nodes marked
-pub numbered_comes : (t : Forest) → Fits root t → IsWellFormed t → Edits t (numbered (shaken t))
-numbered_comes t fits form = edits_follow (shaken_comes t (sensible t fits form)) (no_edit (shaken t) (numbered (shaken t)) (sym (numbered_same (shaken t))))
+-- edits lead to what passes leave
+pub comes : (t : Forest) → Fits root t → IsWellFormed t → Edits t (shaken t)
+comes t fits form = shaken_comes t (sensible t fits form)
 
 -- ---- of core modules
 

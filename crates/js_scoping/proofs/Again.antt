@@ -1,13 +1,13 @@
--- A tree that is numbered is the same program, has the table that it had, and is numbered as it is.
-use Rattle.std.proofs.Common.{◌≡◌, ◌∙◌, ◌+◌, ℕ, drop, Bool, Some, Option, if◌then◌else◌, refl, ap}
+-- A tree that is numbered is the same program, as large as it was, has the table that it had, and is numbered as it is.
+use Rattle.std.proofs.Common.{◌≡◌, ◌∙◌, ◌+◌, ℕ, suc, drop, Bool, Some, if◌then◌else◌, refl, ap, arith}
 use Rattle.js_syntax.specs.declared.node_kind.NodeKind.{NodeKind as Kind}
 use Rattle.js_syntax.specs.Node.{Forest, nothing, node, absent, Note, nowhere, bare, total}
+use Rattle.js_tree.specs.Count.{lower, levels_at, levels}
 use Rattle.scope_rules.specs.Context.{opens}
-use Rattle.scope_rules.specs.Site.{Found, opens_one, scope_count}
+use Rattle.scope_rules.specs.Site.{Found, scope_count}
 use Rattle.scope_rules.specs.Binding.{resolved, resolved_references}
 use Rattle.scope_rules.specs.Table.{symbols_declared, scoping_of}
 use Rattle.scope_rules.specs.Mark.{Marks, own_reference, own_binding, name_mark, mark_of, behind_node, behind_row, marked, first_marks}
-use Rattle.scope_laws.specs.Renumbered.{found_renumbered}
 use Rattle.scope_laws.proofs.Bindings.{same_resolved}
 use Rattle.scope_laws.proofs.Marking.{bare_marked, found_marked}
 use Rattle.scope_laws.proofs.Notes.{unseen, opens_bare, scope_count_bare, total_bare}
@@ -52,6 +52,18 @@ marks_of t = first_marks (symbols_declared (found_of t).bindings)
 
 pub numbered_same : (t : Forest) → bare (numbered t) ≡ bare t
 numbered_same t = bare_marked (marks_of t) t
+
+-- it is as large, by any count of its nodes, and as deep
+pub numbered_total : (counts : Kind → ℕ) (t : Forest) → total counts (numbered t) ≡ total counts t
+numbered_total counts t = unseen (total counts) (total_bare counts) (numbered t) t (numbered_same t)
+
+bare_levels : (more : ℕ → ℕ) (at : ℕ) (t : Forest) → levels_at more at (bare t) ≡ levels_at more at t
+bare_levels more at nothing = refl
+bare_levels more at (absent rest) = bare_levels more (suc at) rest
+bare_levels more at (node k n below rest) = Prim.omega (arith, bare_levels (lower k) 0 below, bare_levels more (suc at) rest)
+
+pub numbered_levels : (t : Forest) → levels (numbered t) ≡ levels t
+numbered_levels t = unseen levels (bare_levels (λ at. 0) 0) (numbered t) t (numbered_same t)
 
 pub table_again : (t : Forest) → table_of (numbered t) ≡ table_of t
 table_again t = ap scoping_of (found_marked (marks_of t) t) ∙ table_same (found_of t)

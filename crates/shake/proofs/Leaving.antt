@@ -1,14 +1,12 @@
 -- From what the library call leaves of a program that was read to what is written for it.
-use Rattle.std.proofs.Common.{◌≡◌, ◌∙◌, ℕ, List, Option, Some, Ok, true, is_some, refl, sym, ap, subst}
+use Rattle.std.proofs.Common.{◌≡◌, ◌∙◌, ℕ, List, Option, Some, is_some, ap, subst}
 use Rattle.std.specs.List.{count_by}
 use Rattle.js_syntax.specs.Class.{root}
 use Rattle.js_syntax.specs.Node.{Forest}
 use Rattle.form_rules.specs.Form.{IsWellFormed}
-use Rattle.json_text.specs.Answer.{IsReadAs}
 use Rattle.json_text.specs.Fault.{untyped}
 use Rattle.json_shape.specs.Shape.{Fits}
 use Rattle.json_shape.proofs.FittingNodes.{nodes_fit}
-use Rattle.scope_rules.specs.Binding.{resolved_references}
 use Rattle.scope_rules.specs.Table.{Scoping}
 use Rattle.headline_text.proofs.Promise.{text_headline}
 use Rattle.min_driver.specs.Left.{IsShaken}

@@ -1,13 +1,12 @@
 -- Each pass that changes something leaves a lighter tree, so passes are few.
-use Rattle.std.proofs.Common.{◌≡◌, ◌∙◌, ℕ, zero, suc, ◌+◌, ◌≤◌, ◌<◌, Bool, true, false, ◌||◌, if◌then◌else◌, refl, sym, ap, arith}
+use Rattle.std.proofs.Common.{◌≡◌, ℕ, zero, suc, ◌+◌, ◌≤◌, ◌<◌, Bool, true, false, ◌||◌, if◌then◌else◌, refl, ap, arith}
 use Rattle.js_syntax.specs.declared.node_kind.NodeKind.{NodeKind as Kind}
 use Rattle.js_syntax.specs.declared.node_kind.NodeKind.TheVariants.{EmptyStatement as empty_statement, ExpressionStatement as expression_statement, Function as function, VariableDeclaration as variable_declaration, VariableDeclarator as variable_declarator, BindingName as binding_name}
 use Rattle.js_syntax.specs.declared.kind.FunctionKind.TheVariants as function_kind
 use Rattle.js_syntax.specs.Facts.{weight}
 use Rattle.js_syntax.specs.Node.{Note, Forest, nothing, node, absent, total}
-use Rattle.scope_laws.proofs.Notes.{total_bare}
 use Rattle.js_scoping.specs.Build.{numbered}
-use Rattle.js_scoping.proofs.Again.{numbered_same}
+use Rattle.js_scoping.proofs.Again.{numbered_total}
 use Rattle.min_pass.specs.declared.around.Around.{Around}
 use Rattle.min_pass.specs.declared.around.Row.{Row}
 use Rattle.min_pass.specs.declared.around.Row.TheVariants.{Items as items, OfItem as of_item, Declarators as item_declarators, Other as other}
@@ -66,11 +65,8 @@ module _ (names : Names) where
       (weighs names a k below) (only_these_empty names a k below) (swept_lighter weight (Prim.omega arith) names (entered a k) below) (swept_lighter weight (Prim.omega arith) names a rest)
       (swept_is_lighter (entered a k) below) (swept_is_lighter a rest) h
 
-numbered_weight : (t : Forest) → total weight (numbered t) ≡ total weight t
-numbered_weight t = sym (total_bare weight (numbered t)) ∙ ap (total weight) (numbered_same t) ∙ total_bare weight t
-
 next_is_lighter : (t : Forest) → has_next t ≡ true → total weight (next t) < total weight t
-next_is_lighter t h = Prim.omega (arith, swept_is_lighter (names_in t) (outermost true) (numbered t) h, numbered_weight t)
+next_is_lighter t h = Prim.omega (arith, swept_is_lighter (names_in t) (outermost true) (numbered t) h, numbered_total weight t)
 
 -- ---- one after the other
 

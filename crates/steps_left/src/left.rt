@@ -3,15 +3,14 @@ ghost use Rattle.std.specs.Prelude.{◌≡◌, ◌+◌, ◌≤◌};
 ghost use Rattle.js_syntax.specs.Facts.{weight};
 ghost use Rattle.js_syntax.specs.Node.{Forest, total};
 ghost use Rattle.js_tree.specs.Count.{node_count, levels};
-ghost use Rattle.js_scoping.specs.Build.{numbered};
 ghost use Rattle.min_pass.specs.Pass.{Names, passed, cleared};
 ghost use Rattle.min_passes.specs.Passes.{shaken, passes_of};
 
-/// Law: what passes leave of a program, with its nodes marked, is no larger than the program, and no deeper, whether or not it
-/// fits the table of node types.
+/// Law: what passes leave of a program is no larger than the program, and no deeper, whether or not it fits the table of node
+/// types.
 pub fn what_is_left_is_no_larger()
-    ensures nodes { (t : Forest) → node_count (numbered (shaken t)) ≤ node_count t }
-    ensures levels { (t : Forest) → levels (numbered (shaken t)) ≤ levels t }
+    ensures nodes { (t : Forest) → node_count (shaken t) ≤ node_count t }
+    ensures levels { (t : Forest) → levels (shaken t) ≤ levels t }
 {}
 
 /// Law: nor is what one pass leaves deeper, whatever is known of names, or a tree without its empty statements.

@@ -1,4 +1,4 @@
-use Rattle.std.proofs.Common.{None, Some, IfOk, sym, subst}
+use Rattle.std.proofs.Common.{IfOk, sym, subst}
 use Rattle.js_syntax.specs.Node.{forest_of}
 use Rattle.min_driver.specs.Left.{IsLeft}
 use Rattle.min_driver.proofs.Leaves.{all_left, all_marked}

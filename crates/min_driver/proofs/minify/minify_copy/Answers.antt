@@ -1,4 +1,4 @@
-use Rattle.std.proofs.Common.{◌≡◌, IfOk, sym, subst, ap}
+use Rattle.std.proofs.Common.{IfOk, sym, subst, ap}
 use Rattle.js_syntax.specs.Node.{Forest, forest_of}
 use Rattle.form_rules.specs.Form.{IsWellFormed}
 use Rattle.min_driver.specs.Left.{IsLeft}
