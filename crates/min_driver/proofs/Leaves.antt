@@ -1,5 +1,5 @@
 -- What stands in a program's place has what is promised of it.
-use Rattle.std.proofs.Common.{◌≡◌, ◌∙◌, ◌≤◌, ℕ, true, Option, Some, None, is_some, Result, Ok, Err, IfOk, refl, sym, subst, ap, arith}
+use Rattle.std.proofs.Common.{◌≡◌, ◌∙◌, ◌+◌, ◌≤◌, ℕ, true, Option, Some, None, is_some, Result, Ok, Err, IfOk, refl, sym, subst, ap, arith}
 use Rattle.std.specs.List.{count_by}
 use Rattle.js_syntax.specs.Class.{root}
 use Rattle.js_syntax.specs.Facts.{weight}
@@ -40,7 +40,7 @@ pub record Came (o : Option CompressOptions) (t u : Forest) (iterations : ℕ) :
   pub nodes : node_count u ≤ node_count t
   pub levels : levels u ≤ levels t
   pub untouched : o ≡ None → (u ≡ t) × (iterations ≡ 0)
-  pub few : iterations ≤ total weight t
+  pub few : iterations + total weight u ≤ total weight t
   pub none : is_some o ≡ true → iterations ≡ 0 → bare u ≡ bare (cleared t)
 
 -- that its nodes were then marked, and its table made
@@ -85,7 +85,7 @@ module _ (o : Option CompressOptions) (t u new : Forest) (s : Scoping) (iteratio
     matches = m.matches;
     resolved = m.resolved ∙ sym (resolved_again u) ∙ ap resolved_references (sym m.tree);
     untouched = λ asked. (m.tree ∙ ap numbered (came.untouched asked).0, (came.untouched asked).1);
-    few = came.few;
+    few = Prim.omega (arith, ap (total weight) m.tree, numbered_total weight u, came.few);
     none = λ asked zero. same ∙ came.none asked zero;
   }
 

@@ -1,5 +1,5 @@
 -- What holds of what the library call leaves of a program that is within the limits and breaks no rule of form, whatever made it.
-use Rattle.std.specs.Prelude.{◌≡◌, ◌≤◌, ℕ, Option, None, true, is_some}
+use Rattle.std.specs.Prelude.{◌≡◌, ◌+◌, ◌≤◌, ℕ, Option, None, true, is_some}
 use Rattle.std.specs.List.{count_by}
 use Rattle.js_syntax.specs.Class.{root}
 use Rattle.js_syntax.specs.Facts.{weight}
@@ -41,9 +41,9 @@ pub record IsLeft (o : Option CompressOptions) (t new : Forest) (s : Scoping) (i
   pub resolved : count_by (λ r. is_some r.symbol) s.references ≡ resolved_references new
   -- without options it is the program, and no pass ran
   pub untouched : o ≡ None → (new ≡ numbered t) × (iterations ≡ 0)
-  -- each pass that changed something made it lighter; where there was none, it is the program without the empty statements of
-  -- its lists
-  pub few : iterations ≤ total weight t
+  -- it is lighter by one at least for each pass that changed something; where there was none, it is the program without the empty
+  -- statements of its lists
+  pub few : iterations + total weight new ≤ total weight t
   pub none : is_some o ≡ true → iterations ≡ 0 → bare new ≡ bare (cleared t)
 
 -- the same of a program that fits the table of node types
@@ -63,5 +63,5 @@ pub record IsShaken (o : Option CompressOptions) (t new : Forest) (s : Scoping) 
   pub matches : Matches s new
   pub resolved : count_by (λ r. is_some r.symbol) s.references ≡ resolved_references new
   pub untouched : o ≡ None → (new ≡ numbered t) × (iterations ≡ 0)
-  pub few : iterations ≤ total weight t
+  pub few : iterations + total weight new ≤ total weight t
   pub none : is_some o ≡ true → iterations ≡ 0 → bare new ≡ bare (cleared t)

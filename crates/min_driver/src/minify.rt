@@ -1,5 +1,5 @@
 // The library call.
-ghost use Rattle.std.specs.Prelude.{◌≡◌, ◌≤◌, IfOk, IfErr, IsSomeAnd, None, is_some, true};
+ghost use Rattle.std.specs.Prelude.{◌≡◌, ◌+◌, ◌≤◌, IfOk, IfErr, IsSomeAnd, None, is_some, true};
 ghost use Rattle.std.specs.List.{count_by};
 ghost use Rattle.js_syntax.specs.Class.{root};
 ghost use Rattle.js_syntax.specs.Facts.{weight};
@@ -53,7 +53,7 @@ impl MinifierOptions {
 pub struct MinifierReturn {
     /// The scopes, symbols and references of what is left, whose nodes are marked with their numbers.
     pub scoping: Scoping,
-    /// How many passes were followed by another, since they changed something.
+    /// How many passes were followed by another, since they changed something: no more than the weight that is gone.
     pub iterations: u64,
 }
 
@@ -180,7 +180,7 @@ impl Minifier {
         ensures matches { IfOk result (λ r. Matches r.scoping (forest_of program.new)) }
         ensures resolved { IfOk result (λ r. count_by (λ r. is_some r.symbol) r.scoping.references ≡ resolved_references (forest_of program.new)) }
         ensures untouched { IfOk result (λ r. self.options.compress ≡ None → (forest_of program.new ≡ numbered (forest_of program.old)) × (r.iterations ≡ 0)) }
-        ensures few { IfOk result (λ r. r.iterations ≤ total weight (forest_of program.old)) }
+        ensures few { IfOk result (λ r. r.iterations + total weight (forest_of program.new) ≤ total weight (forest_of program.old)) }
         ensures none { IfOk result (λ r. is_some self.options.compress ≡ true → r.iterations ≡ 0 → bare (forest_of program.new) ≡ bare (cleared (forest_of program.old))) }
         ensures within { IfOk result (λ _. IsWithinLimits (forest_of program.old)) }
         ensures well_formed { IfOk result (λ _. IsWellFormed (forest_of program.old)) }

@@ -1,5 +1,5 @@
 -- What a run of the program leaves behind.
-use Rattle.std.specs.Prelude.{◌≡◌, ◌⊎◌, ◌^◌, ◌≤◌, ℕ, List, [], ◌++◌, Bool, true, false, length, Option, Some, Ok, IsUtf8, codes, decimal}
+use Rattle.std.specs.Prelude.{◌≡◌, ◌⊎◌, ◌+◌, ◌^◌, ◌≤◌, ℕ, List, [], ◌++◌, Bool, true, false, length, Option, Some, Ok, IsUtf8, codes, decimal}
 use Rattle.shake_streams.specs.Moves.{HasFailed, Known, SendsFront}
 use Rattle.js_syntax.specs.Facts.{weight}
 use Rattle.js_syntax.specs.Node.{Forest, bare, total}
@@ -51,8 +51,8 @@ pub record Shaken (t u : Forest) (passes : ℕ) : Type 0 where
   -- its text is UTF-8, is read as it, and keeps the runs
   pub utf8 : IsInUtf8 u
   pub text : TextHeadline t u
-  -- there were no more passes than the program weighs; where there was none, only empty statements of lists are gone
-  pub few : passes ≤ total weight t
+  -- it is lighter by one at least for each pass; where there was none, only empty statements of lists are gone
+  pub few : passes + total weight u ≤ total weight t
   pub none : passes ≡ 0 → bare u ≡ bare (cleared t)
 
 -- what a command writes for the tree that was read: a program that is left of it, the passes that there were, and how many
