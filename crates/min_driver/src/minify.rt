@@ -160,10 +160,10 @@ impl Minifier {
         Minifier { options }
     }
 
-    /// Dead code elimination: edits that are allowed lead from the program to what is put in its place, its nodes
-    /// marked with the numbers of their scopes, symbols and references, and no part of that is dead code. The program
-    /// is tested for its limits first, and then for the rules of form; what is left is of a copy. After an error it is
-    /// as it was.
+    /// Dead code elimination: what is left of the program is put in its place, its nodes marked with the numbers of
+    /// their scopes, symbols and references. Where the program fits the table of node types, edits that are allowed lead
+    /// to what is left, and no part of that is dead code, by the options. The program is tested for its limits first, and
+    /// then for the rules of form; what is left is of a copy. After an error it is as it was.
     pub fn dce(self, alloc: Global, program: &mut Program) -> Result<MinifierReturn, MinifyError>
         ensures edits { IfOk result (λ _. Fits root (forest_of program.old) → Edits (forest_of program.old) (forest_of program.new)) }
         ensures kept { IfOk result (λ _. Fits root (forest_of program.old) → is_core_module (forest_of program.old) ≡ true → Kept (forest_of program.old) (forest_of program.new)) }
@@ -210,8 +210,9 @@ impl Minifier {
         Ok(done)
     }
 
-    /// The same of a program that fits the table of node types, as each does that was read: what is left fits it, breaks no
-    /// rule of form, keeps the runs of a core module, and no part of it is dead code.
+    /// The same of a program that fits the table of node types, as each does that was read: edits lead to what is left, it
+    /// fits the table, breaks no rule of form, keeps the runs of a core module, and no part of it is dead code, by the
+    /// options.
     pub fn dce_fitting(
         self,
         alloc: Global,
