@@ -1,28 +1,23 @@
--- What passes leave of a program is the program without its dead code.
-use Rattle.std.proofs.Common.{◌≡◌, true, sym}
+-- A program without dead code to which edits lead is the program without its dead code.
+use Rattle.std.proofs.Common.{◌≡◌, true}
 use Rattle.js_syntax.specs.Class.{root}
 use Rattle.js_syntax.specs.Node.{Forest}
 use Rattle.form_rules.specs.Form.{IsWellFormed}
 use Rattle.js_meaning.specs.Kept.{Kept, KeptBack}
 use Rattle.js_meaning.proofs.Kept.{refined_kept, refined_back}
-use Rattle.js_scoping.specs.Build.{numbered}
 use Rattle.min_passes.specs.Passes.{shaken}
-use Rattle.steps_allowed.specs.Edits.{Edits, no_edit}
-use Rattle.steps_allowed.proofs.Composing.{edits_follow}
+use Rattle.steps_allowed.specs.Edits.{Edits}
 use Rattle.json_shape.specs.Shape.{Fits}
 use Rattle.steps_fit.proofs.Sensible.{sensible, sensible_module}
+use Rattle.headline.specs.Clean.{Clean}
 use Rattle.headline.specs.Headline.{is_core_module, Headline}
 use Rattle.headline.proofs.Sound.{Refines}
 use Rattle.headline.proofs.Refining.{edits_refine}
-use Rattle.headline.proofs.Passes.{numbered_same, shaken_comes}
-use Rattle.headline.proofs.Shaking.{shaken_clean}
+use Rattle.headline.proofs.Passes.{shaken_comes}
 
+-- edits lead to what passes leave
 pub comes : (t : Forest) → Fits root t → IsWellFormed t → Edits t (shaken t)
 comes t fits form = shaken_comes t (sensible t fits form)
-
--- with its nodes marked
-pub numbered_comes : (t : Forest) → Fits root t → IsWellFormed t → Edits t (numbered (shaken t))
-numbered_comes t fits form = edits_follow (comes t fits form) (no_edit (shaken t) (numbered (shaken t)) (sym (numbered_same (shaken t))))
 
 -- ---- of core modules
 
@@ -35,10 +30,10 @@ kept_by t u fits form steps core = refined_kept t u (module_refines t u fits for
 pub back_by : (t u : Forest) → Fits root t → IsWellFormed t → Edits t u → is_core_module t ≡ true → KeptBack t u
 back_by t u fits form steps core = refined_back t u (module_refines t u fits form steps core).refined
 
-pub headline_of : (t : Forest) → Fits root t → IsWellFormed t → Headline t (shaken t)
-headline_of t fits form = record {
-  edits = comes t fits form;
-  kept = kept_by t (shaken t) fits form (comes t fits form);
-  back = back_by t (shaken t) fits form (comes t fits form);
-  clean = shaken_clean t fits;
+pub headline_of : (t u : Forest) → Fits root t → IsWellFormed t → Edits t u → Clean u → Headline t u
+headline_of t u fits form steps clean = record {
+  edits = steps;
+  kept = kept_by t u fits form steps;
+  back = back_by t u fits form steps;
+  clean = clean;
 }

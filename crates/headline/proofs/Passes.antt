@@ -1,13 +1,11 @@
 -- Passes lead by edits from a program to what is left of it.
 use Rattle.std.proofs.Common.{◌≡◌, ℕ, zero, suc, Bool, true, false, if◌then◌else◌, [], ◌∷◌, refl, sym}
 use Rattle.js_syntax.specs.Class.{root}
-use Rattle.js_syntax.specs.Node.{Forest, bare}
+use Rattle.js_syntax.specs.Node.{Forest}
 use Rattle.json_shape.specs.Shape.{these, one, Fits}
-use Rattle.scope_rules.specs.Mark.{first_marks}
-use Rattle.scope_rules.specs.Table.{symbols_declared}
 use Rattle.scope_laws.proofs.Exact.{exact}
-use Rattle.scope_laws.proofs.Marking.{bare_marked}
-use Rattle.js_scoping.specs.Build.{found_of, table_of, numbered}
+use Rattle.js_scoping.specs.Build.{table_of, numbered}
+use Rattle.js_scoping.proofs.Again.{numbered_same}
 use Rattle.min_pass.specs.Around.{outermost}
 use Rattle.min_pass.specs.Pass.{no_names, cleared}
 use Rattle.min_passes.specs.Passes.{names_in, next, has_next, settled, most_passes, shaken}
@@ -25,9 +23,6 @@ use Rattle.steps_pass.proofs.Clearing.{clearing_comes}
 use Rattle.steps_pass.proofs.Arranging.{arranged_left}
 use Rattle.headline.proofs.Telling.{tells_scopes}
 use Rattle.headline.proofs.Bare.{arranged_as}
-
-pub numbered_same : (t : Forest) → bare (numbered t) ≡ bare t
-numbered_same t = bare_marked (first_marks (symbols_declared (found_of t).bindings)) t
 
 -- ---- what passes leave of a tree of the table is one
 

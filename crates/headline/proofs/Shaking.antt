@@ -6,6 +6,7 @@ use Rattle.form_rules.specs.Form.{IsWellFormed}
 use Rattle.json_shape.specs.Shape.{Fits}
 use Rattle.scope_laws.proofs.Exact.{exact}
 use Rattle.js_scoping.specs.Build.{table_of, numbered}
+use Rattle.js_scoping.proofs.Again.{numbered_same}
 use Rattle.min_pass.specs.Pass.{cleared}
 use Rattle.min_passes.specs.Passes.{next, has_next, settled, most_passes, shaken}
 use Rattle.min_passes.proofs.Clean.{shaken_is_clean}
@@ -16,7 +17,7 @@ use Rattle.headline.specs.Clean.{Clean}
 use Rattle.steps_fit.proofs.Modules.{fits_program}
 use Rattle.headline.proofs.Telling.{tells_scopes}
 use Rattle.headline.proofs.Bare.{arranged_as}
-use Rattle.headline.proofs.Passes.{numbered_same, numbered_fits, next_fits, cleared_fits}
+use Rattle.headline.proofs.Passes.{numbered_fits, next_fits, cleared_fits}
 use Rattle.headline.proofs.Renoted.{clean_as}
 use Rattle.headline.proofs.Dead.{left_clean}
 use Rattle.headline.proofs.Lost.{left_as_it_is}

@@ -1,4 +1,4 @@
--- What shaking promises: the definitions that the contracts of `shake` and `Minifier::dce` speak of.
+-- What shaking promises, whatever makes the edits: the definitions that the contracts of `shake` and `Minifier::dce` speak of.
 --
 -- A program is its tree (`Forest`, js_syntax/specs/Node). A host runs it by a script, with a bound on entries of functions and
 -- loops; a run is what the host sees, event by event, and how it ends (js_meaning/specs/Run, Trace, docs/MEANING.md).

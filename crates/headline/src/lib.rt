@@ -1,8 +1,8 @@
-//! Does what passes leave of a program do what the program did?
+//! Does what edits leave of a program do what the program did?
 //!
 //! `specs/Headline.antt` says it in one place: edits that are allowed lead from the program to what is left,
-//! of a core module every run is kept, and no part of what is left is dead code. `shaken` states that this holds of
-//! every program that fits the table of node types and breaks no rule of form.
+//! of a core module every run is kept, and no part of what is left is dead code. `promise` states that this holds of every
+//! program that fits the table of node types and breaks no rule of form, where edits lead to one without dead code.
 //!
 //! `clean`: what dead code is stands in `specs/Clean.antt`, read off a tree by the bindings of its names. A pass leaves a
 //! program as it is exactly where it has none.
@@ -17,4 +17,4 @@
 pub mod clean;
 pub mod edits;
 pub mod kept_runs;
-pub mod shaken;
+pub mod promise;

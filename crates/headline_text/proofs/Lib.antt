@@ -1,4 +1,2 @@
-pub mod Left
-pub mod Refined
 pub mod Resolved
 pub mod Promise

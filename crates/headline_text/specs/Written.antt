@@ -1,4 +1,4 @@
--- What the text of a program is read as.
+-- What the text of a program is read as, and what that of one program promises of another.
 use Rattle.std.specs.Prelude.{◌≡◌, ◌≤◌, ◌⊎◌, true, Ok}
 use Rattle.serde_json.specs.Data.{depth}
 use Rattle.serde_json.specs.Read.{max_depth}
@@ -7,8 +7,8 @@ use Rattle.json_text.specs.Answer.{IsReadAs}
 use Rattle.json_text.specs.Text.{data_of, text_of}
 use Rattle.js_meaning_near.specs.Signed.{signed}
 use Rattle.js_meaning.specs.Kept.{Kept, KeptBack}
-use Rattle.min_passes.specs.Passes.{shaken}
-use Rattle.headline.specs.Headline.{is_core_module}
+-- a module whose nodes are all of the core of the language, for which runs are defined
+use Rattle.steps_fit.specs.Sensible.{is_core_module}
 use Rattle.json_kept.specs.Respelled.{negative, misnamed}
 
 -- The tree without its notes, with unary minus on its magnitude in the place of each negative number: without such numbers it
@@ -22,13 +22,13 @@ pub record IsWritable (t : Forest) : Type 0 where
   pub names : total misnamed t ≡ 0
   pub nesting : (total negative t ≡ 0) ⊎ (depth (data_of t) ≤ max_depth)
 
--- What the text of what passes leave promises of a program that was read.
-pub record TextHeadline (t : Forest) : Type 0 where
-  -- it is read as what they leave, with unary minus in the place of negative numbers
-  pub read : IsWritable t → IsReadAs (text_of (shaken t)) (Ok (written (shaken t)))
-  -- and as what they leave itself, where no number is negative
-  pub plain : total negative t ≡ 0 → written (shaken t) ≡ bare (shaken t)
+-- Of a program that was read, and what is left of it.
+pub record TextHeadline (t u : Forest) : Type 0 where
+  -- the text is read as what is left, with unary minus in the place of negative numbers
+  pub read : IsWritable t → IsReadAs (text_of u) (Ok (written u))
+  -- and as what is left itself, where no number of the program is negative
+  pub plain : total negative t ≡ 0 → written u ≡ bare u
   -- of a core module every run is kept: for every script and bound
-  pub kept : IsWritable t → is_core_module t ≡ true → Kept t (written (shaken t))
+  pub kept : IsWritable t → is_core_module t ≡ true → Kept t (written u)
   -- where a run of what is written ends or is stopped by the host, the old one was the same, unless it was uncovered
-  pub back : IsWritable t → is_core_module t ≡ true → KeptBack t (written (shaken t))
+  pub back : IsWritable t → is_core_module t ≡ true → KeptBack t (written u)

@@ -1,19 +1,15 @@
-//! Does the text of what passes leave of a program do what the program did?
+//! Does the text of what edits leave of a program do what the program did?
 //!
-//! `read_back`: the text is read as what they leave, without spans and ids and with unary minus on their magnitudes in the
-//! place of negative numbers (`specs/Written.antt`). `runs`: and of a core module that keeps every run. Both of each tree that
-//! was read and is writable. `texts` has both in one (`TextHeadline`). `names`: such a tree has the table of the one with
-//! negative numbers.
+//! `texts`: whatever edits (`Edits` of steps_allowed) lead from a program that was read and breaks no rule of form to what is
+//! left, its text is read as that, without spans and ids and with unary minus on their magnitudes in the place of negative
+//! numbers, and keeps the runs of a core module (`TextHeadline` of `specs/Written.antt`). It puts `steps_keep_text`, on texts,
+//! and `headline`, on runs, together. `names`: what is read has the table of the tree with negative numbers.
 //!
 //! The code is empty: each function's contract is a law.
 #![tactic(auto)]
 
 mod names;
-mod read_back;
-mod runs;
 mod texts;
 
 pub use names::signs_resolve_alike;
-pub use read_back::{passes_nest_no_deeper, what_is_left_is_read_back, what_is_left_is_readable};
-pub use runs::what_is_written_keeps_runs;
-pub use texts::texts_keep_runs;
+pub use texts::texts_of_edits_keep_runs;

@@ -1,4 +1,4 @@
-// What the names of what passes leave resolve to. The law is a contract, so that the check proves it.
+// What the names of a tree resolve to. The law is a contract, so that the check proves it.
 ghost use Rattle.std.specs.Prelude.{◌≡◌};
 ghost use Rattle.js_syntax.specs.Node.{Forest};
 ghost use Rattle.js_scoping.specs.Build.{table_of};

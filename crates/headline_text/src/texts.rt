@@ -1,14 +1,14 @@
-// What the text of what passes leave promises. The law is a contract, so that the check proves it.
+// What the text of what edits leave promises. The law is a contract, so that the check proves it.
 ghost use Rattle.std.specs.Prelude.{ℕ, List, Ok, IsUtf8};
 ghost use Rattle.js_syntax.specs.Node.{Forest};
 ghost use Rattle.form_rules.specs.Form.{IsWellFormed};
 ghost use Rattle.json_text.specs.Answer.{IsReadAs};
 ghost use Rattle.json_text.specs.Text.{text_of};
-ghost use Rattle.min_passes.specs.Passes.{shaken};
+ghost use Rattle.steps_allowed.specs.Edits.{Edits};
 ghost use Rattle.headline_text.specs.Written.{TextHeadline};
 
-/// Law: of a program that was read and breaks no rule of form, the text of what passes leave is read as what they leave, and
-/// keeps the runs of a core module; names and nesting are asked of the tree that was read alone.
-pub fn texts_keep_runs()
-    ensures { (bytes : List ℕ) (t : Forest) → IsReadAs bytes (Ok t) → IsWellFormed t → IsUtf8 (text_of (shaken t)) → TextHeadline t }
+/// Law: where edits lead from a program that was read and breaks no rule of form, the text of what they leave is read as that,
+/// and keeps the runs of a core module; names and nesting are asked of the tree that was read alone.
+pub fn texts_of_edits_keep_runs()
+    ensures { (bytes : List ℕ) (t u : Forest) → IsReadAs bytes (Ok t) → IsWellFormed t → Edits t u → IsUtf8 (text_of u) → TextHeadline t u }
 {}

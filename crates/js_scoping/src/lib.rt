@@ -2,10 +2,12 @@
 //! each reference has.
 //!
 //! `build` makes the table of a program and marks its nodes with their numbers, and the table is exact then
-//! (`scope_laws/specs/Exact.antt`). Its reading calls are those of `Scoping`, and `scoping_matches` answers
-//! whether a table still says what the rules say at every node (`scope_match/specs/Matches.antt`).
+//! (`scope_laws/specs/Exact.antt`); to do so again changes nothing (`laws`). Its reading calls are those of `Scoping`,
+//! and `scoping_matches` answers whether a table still says what the rules say at every node
+//! (`scope_match/specs/Matches.antt`).
 #![tactic(auto)]
 
+pub mod laws;
 pub mod rows;
 mod table;
 

@@ -2,9 +2,7 @@ pub mod Depths
 pub mod Plainly
 pub mod Reading
 pub mod Narrow
-pub mod Swept
 pub mod Exact
-pub mod Left
 pub mod SignsWritten
 pub mod SignsFit
 pub mod Signable

@@ -1,5 +1,5 @@
--- What was read is readable once its signs are applied, and passes keep that.
-use Rattle.std.proofs.Common.{◌≡◌, ◌≤◌, ◌+◌, ℕ, pos, negsuc, List, [], ◌∷◌, true, false, not, Some, Ok, if◌then◌else◌, refl, arith}
+-- What was read is readable once its signs are applied.
+use Rattle.std.proofs.Common.{◌≡◌, ◌≤◌, ◌+◌, ℕ, pos, negsuc, List, [], ◌∷◌, not, Some, Ok, if◌then◌else◌, arith}
 use Rattle.serde_json.specs.Data.{depth}
 use Rattle.serde_json.specs.Read.{max_depth}
 use Rattle.js_syntax.specs.Class.{root}
@@ -13,17 +13,11 @@ use Rattle.json_text.specs.Answer.{IsReadAs}
 use Rattle.json_text.specs.Fault.{untyped}
 use Rattle.json_text.specs.Text.{data_of}
 use Rattle.json_shape.specs.Exact.{is_exact}
-use Rattle.json_shape.specs.Shape.{one, these}
 use Rattle.json_shape.proofs.FittingNodes.{nodes_fit}
-use Rattle.min_pass.specs.Around.{outermost}
-use Rattle.min_pass.specs.Pass.{Names, no_names, passed, cleared}
-use Rattle.min_pass.proofs.Lighter.{swept_lighter}
-use Rattle.steps_keep_table.proofs.Swept.{swept_stands}
 use Rattle.json_kept.specs.Respelled.{is_misnamed, count_among, misnamed}
 use Rattle.json_kept.specs.Signs.{magnitude, inexact_size, IsSignable}
 use Rattle.json_kept.proofs.Plainly.{is_ranged}
 use Rattle.json_kept.proofs.Reading.{unranged, program_read}
-use Rattle.json_kept.proofs.Swept.{passed_nests, cleared_nests}
 
 -- what counts against a value, its sign aside
 abbrev faults : Scalar → ℕ
@@ -54,18 +48,4 @@ read_signable bytes t read names shallow = record {
   shape = nodes_fit 128 root untyped read.1.0 t read.1.2;
   values = omega (arith, tree_exact t, (program_read read.1.0 t read.1.2).ranged, names);
   nesting = shallow;
-}
-
-pub passed_signable : (names : Names) (t : Forest) → IsSignable t → IsSignable (passed names t)
-passed_signable names t r = record {
-  shape = swept_stands names t (outermost true) (these (one root ∷ [])) refl (λ d. absurd (cc d)) r.shape;
-  values = omega (arith, swept_lighter inexact_size (omega arith) names (outermost true) t, r.values);
-  nesting = omega (arith, passed_nests names t, r.nesting);
-}
-
-pub cleared_signable : (t : Forest) → IsSignable t → IsSignable (cleared t)
-cleared_signable t r = record {
-  shape = swept_stands no_names t (outermost false) (these (one root ∷ [])) refl (λ d. absurd (cc d)) r.shape;
-  values = omega (arith, swept_lighter inexact_size (omega arith) no_names (outermost false) t, r.values);
-  nesting = omega (arith, cleared_nests t, r.nesting);
 }

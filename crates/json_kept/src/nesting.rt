@@ -6,7 +6,6 @@ ghost use Rattle.js_syntax.specs.Node.{Forest, total};
 ghost use Rattle.json_text.specs.Answer.{IsReadAs};
 ghost use Rattle.json_text.specs.Reading.{read_program};
 ghost use Rattle.json_text.specs.Text.{data_of};
-ghost use Rattle.min_pass.specs.Pass.{Names, passed, cleared};
 ghost use Rattle.json_kept.specs.Respelled.{negative};
 
 /// Law: the text of a tree that was read nests no deeper than what it was read from, and one level deeper at the most
@@ -16,11 +15,4 @@ pub fn texts_nest_as_read()
     ensures signed { (d : Data) (t : Forest) → read_program d ≡ Ok t → depth (data_of t) ≤ suc (depth d) }
     ensures plain_limit { (bytes : List ℕ) (t : Forest) → IsReadAs bytes (Ok t) → total negative t ≡ 0 → depth (data_of t) ≤ max_depth }
     ensures signed_limit { (bytes : List ℕ) (t : Forest) → IsReadAs bytes (Ok t) → depth (data_of t) ≤ suc max_depth }
-{}
-
-/// Law: the text of what a pass leaves of a tree nests no deeper than that of the tree, and so does that of a tree without
-/// the empty statements of its lists.
-pub fn passes_nest_no_deeper()
-    ensures passed { (names : Names) (t : Forest) → depth (data_of (passed names t)) ≤ depth (data_of t) }
-    ensures cleared { (t : Forest) → depth (data_of (cleared t)) ≤ depth (data_of t) }
 {}

@@ -4,7 +4,6 @@ ghost use Rattle.js_syntax.specs.Node.{Forest, bare};
 ghost use Rattle.json_text.specs.Answer.{IsReadAs};
 ghost use Rattle.json_text.specs.Text.{text_of};
 ghost use Rattle.json_shape.specs.Readable.{IsReadable};
-ghost use Rattle.min_pass.specs.Pass.{Names, passed, cleared};
 ghost use Rattle.json_kept.specs.Respelled.{IsWrittenAsItIs};
 
 /// Law: a tree that was read is readable, where each of its values is written as what it is.
@@ -15,11 +14,4 @@ pub fn what_was_read_is_readable()
 /// Law: the text of a readable tree is read as that tree, without spans and ids, if its own texts are UTF-8.
 pub fn texts_are_read_back()
     ensures { (t : Forest) → IsReadable t → IsUtf8 (text_of t) → IsReadAs (text_of t) (Ok (bare t)) }
-{}
-
-/// Law: what a pass leaves of a readable tree is readable, whatever is known of its names, and so is a readable tree
-/// without the empty statements of its lists.
-pub fn passes_leave_readable_trees()
-    ensures passed { (names : Names) (t : Forest) → IsReadable t → IsReadable (passed names t) }
-    ensures cleared { (t : Forest) → IsReadable t → IsReadable (cleared t) }
 {}

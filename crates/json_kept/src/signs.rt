@@ -6,7 +6,6 @@ ghost use Rattle.js_syntax.specs.Node.{Forest, total};
 ghost use Rattle.json_text.specs.Answer.{IsReadAs};
 ghost use Rattle.json_text.specs.Text.{data_of, text_of};
 ghost use Rattle.json_shape.specs.Readable.{IsReadable};
-ghost use Rattle.min_pass.specs.Pass.{Names, passed, cleared};
 ghost use Rattle.js_meaning_near.specs.Signed.{signed, MayBeSigned};
 ghost use Rattle.json_kept.specs.Respelled.{misnamed, negative};
 ghost use Rattle.json_kept.specs.Signs.{IsSignable};
@@ -28,10 +27,4 @@ pub fn what_was_read_is_signable()
     ensures signable { (bytes : List ℕ) (t : Forest) → IsReadAs bytes (Ok t) → total misnamed t ≡ 0 → depth (data_of t) ≤ max_depth → IsSignable t }
     ensures readable { (t : Forest) → IsSignable t → IsReadable (signed t) }
     ensures runs { (t : Forest) → IsSignable t → MayBeSigned t }
-{}
-
-/// Law: passes keep that.
-pub fn passes_leave_signable_trees()
-    ensures passed { (names : Names) (t : Forest) → IsSignable t → IsSignable (passed names t) }
-    ensures cleared { (t : Forest) → IsSignable t → IsSignable (cleared t) }
 {}

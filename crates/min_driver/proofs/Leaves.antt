@@ -1,81 +1,156 @@
 -- What stands in a program's place has what is promised of it.
-use Rattle.std.proofs.Common.{◌≡◌, ◌≤◌, true, Option, Some, None, Result, Ok, Err, IfOk, sym, subst, ap, arith}
+use Rattle.std.proofs.Common.{◌≡◌, ◌∙◌, ◌+◌, ◌≤◌, ℕ, true, Option, Some, None, is_some, Result, Ok, Err, IfOk, refl, sym, subst, ap, arith}
+use Rattle.std.specs.List.{count_by}
 use Rattle.js_syntax.specs.Class.{root}
-use Rattle.js_syntax.specs.Node.{Forest}
-use Rattle.js_tree.specs.Count.{node_count, levels}
+use Rattle.js_syntax.specs.Facts.{weight}
+use Rattle.js_syntax.specs.Node.{Forest, bare, total}
+use Rattle.js_tree.specs.Count.{one_each, node_count, levels}
 use Rattle.form_rules.specs.Form.{IsWellFormed}
-use Rattle.js_scoping.specs.Build.{numbered}
+use Rattle.js_scoping.specs.Build.{table_of, numbered}
+use Rattle.js_scoping.proofs.Again.{numbered_same, numbered_total, numbered_levels, table_again, numbered_again, resolved_again}
+use Rattle.scope_laws.specs.Exact.{Exact}
+use Rattle.scope_match.specs.Matches.{Matches}
+use Rattle.scope_rules.specs.Binding.{resolved_references}
 use Rattle.scope_rules.specs.Table.{Scoping}
 use Rattle.steps_allowed.specs.Edits.{Edits, no_edit}
+use Rattle.steps_allowed.proofs.Composing.{edits_follow}
 use Rattle.json_shape.specs.Shape.{Fits}
-use Rattle.headline.proofs.Passes.{numbered_same, numbered_fits}
+use Rattle.headline.proofs.Headline.{comes, kept_by, back_by}
 use Rattle.headline.proofs.Renoted.{clean_as}
 use Rattle.headline.proofs.Shaking.{shaken_clean}
-use Rattle.min_passes.specs.Passes.{shaken}
-use Rattle.headline.proofs.Headline.{numbered_comes, kept_by, back_by}
+use Rattle.min_pass.specs.Pass.{cleared}
+use Rattle.min_passes.specs.Built.{Built}
+use Rattle.min_passes.specs.Passes.{shaken, passes_of}
 use Rattle.steps_fit.proofs.Sensible.{sensible}
 use Rattle.steps_owed.proofs.Edited.{edits_sensible}
-use Rattle.steps_left.proofs.Fitting.{left_fits}
-use Rattle.steps_left.proofs.Size.{left_nodes, left_levels, marked_nodes, marked_levels}
-use Rattle.min_passes.specs.Built.{Built}
-use Rattle.min_driver.specs.Left.{IsLeft}
+use Rattle.steps_owed.proofs.FitsEdits.{edits_fit}
+use Rattle.steps_left.proofs.Few.{few_passes, no_passes}
+use Rattle.steps_left.proofs.Size.{left_nodes, left_levels}
+use Rattle.min_driver.specs.Left.{IsLeft, IsShaken}
 use Rattle.min_driver.specs.Limit.{IsWithinLimits}
-use Rattle.min_driver.specs.Minify.{left_of, IsCleanBy, IsSettledBy}
+use Rattle.min_driver.specs.Minify.{IsCleanBy}
 use Rattle.min_options.specs.declared.options.CompressOptions.{CompressOptions}
 
--- ---- by these options
+-- ---- whatever made it
 
-left_comes : (o : Option CompressOptions) (t : Forest) → IsWellFormed t → Fits root t → Edits t (numbered (left_of o t))
-left_comes None t form fits = no_edit t (numbered t) (sym (numbered_same t))
-left_comes (Some options) t form fits = numbered_comes t fits form
+-- how the program `u` came from the program `t`, how large it is, and behind how many passes
+pub record Came (o : Option CompressOptions) (t u : Forest) (iterations : ℕ) : Type 0 where
+  pub edits : Fits root t → Edits t u
+  pub clean : Fits root t → IsCleanBy o u
+  pub nodes : node_count u ≤ node_count t
+  pub levels : levels u ≤ levels t
+  pub untouched : o ≡ None → (u ≡ t) × (iterations ≡ 0)
+  pub few : iterations + total weight u ≤ total weight t
+  pub none : is_some o ≡ true → iterations ≡ 0 → bare u ≡ bare (cleared t)
 
-all_fits : (o : Option CompressOptions) (t : Forest) → Fits root t → Fits root (numbered (left_of o t))
-all_fits None t fits = numbered_fits t fits
-all_fits (Some options) t fits = left_fits t fits
+-- that its nodes were then marked, and its table made
+pub record Marked (u new : Forest) (s : Scoping) : Type 0 where
+  pub tree : new ≡ numbered u
+  pub table : s ≡ table_of u
+  pub exact : Exact s new
+  pub matches : Matches s new
+  pub resolved : count_by (λ r. is_some r.symbol) s.references ≡ resolved_references u
 
-no_dead_code : (o : Option CompressOptions) (t : Forest) → Fits root t → IsCleanBy o (numbered (left_of o t))
-no_dead_code None t fits = tt
-no_dead_code (Some options) t fits = clean_as (shaken t) (numbered (shaken t)) (sym (numbered_same (shaken t))) (shaken_clean t fits)
+clean_by : (o : Option CompressOptions) (u : Forest) → IsCleanBy o u → IsCleanBy o (numbered u)
+clean_by None u clean = tt
+clean_by (Some options) u clean = clean_as u (numbered u) (sym (numbered_same u)) clean
 
-no_more_nodes : (o : Option CompressOptions) (t : Forest) → node_count (numbered (left_of o t)) ≤ node_count t
-no_more_nodes None t = marked_nodes t
-no_more_nodes (Some options) t = left_nodes t
+module _ (o : Option CompressOptions) (t u new : Forest) (s : Scoping) (iterations : ℕ) (within : IsWithinLimits t) (form : IsWellFormed t) (came : Came o t u iterations) (m : Marked u new s) where
+  same : bare new ≡ bare u
+  same = ap bare m.tree ∙ numbered_same u
 
-no_more_levels : (o : Option CompressOptions) (t : Forest) → levels (numbered (left_of o t)) ≤ levels t
-no_more_levels None t = marked_levels t
-no_more_levels (Some options) t = left_levels t
+  edits : Fits root t → Edits t new
+  edits fits = edits_follow (came.edits fits) (no_edit u new (sym same))
 
--- ---- together
+  nodes : node_count new ≤ node_count t
+  nodes = Prim.omega (arith, ap node_count m.tree, numbered_total one_each u, came.nodes)
 
-pub is_left : (o : Option CompressOptions) (t new : Forest) (s : Scoping) → IsWithinLimits t → IsWellFormed t → Built new s (left_of o t) → IsSettledBy o s new → IsLeft o t new s
-is_left o t new s within form built settled =
-    let comes : Fits root t → Edits t new = λ fits. subst (Edits t) (sym built.marked) (left_comes o t form fits) in
-    let nodes : node_count new ≤ node_count t = Prim.omega (arith, ap node_count built.marked, no_more_nodes o t) in
-    let deep : levels new ≤ levels t = Prim.omega (arith, ap levels built.marked, no_more_levels o t) in
-    record {
-      left = built.marked;
-      scoping = built.table;
-      edits = comes;
-      kept = λ fits core. kept_by t new fits form (comes fits) core;
-      back = λ fits core. back_by t new fits form (comes fits) core;
-      fits = λ fits. subst (Fits root) (sym built.marked) (all_fits o t fits);
-      formed = λ fits. (edits_sensible (comes fits) (sensible t fits form)).well_formed;
-      nodes = nodes;
-      levels = deep;
-      small = record { nodes = Prim.omega (arith, nodes, within.nodes); levels = Prim.omega (arith, deep, within.levels) };
-      clean = λ fits. subst (IsCleanBy o) (sym built.marked) (no_dead_code o t fits);
-      settled = settled;
-      exact = built.exact;
-      matches = built.matches;
-      resolved = built.resolved;
-    }
+  deep : levels new ≤ levels t
+  deep = Prim.omega (arith, ap levels m.tree, numbered_levels u, came.levels)
 
--- whatever is answered beside the tree and its table
-module _ {X E : Type 0} (trees : X → Forest) (tables : X → Scoping) (t : Forest) (within : IsWithinLimits t) (form : IsWellFormed t) where
-  pub all_left : (o : Option CompressOptions) (r : Result X E) → IfOk r (λ x. Built (trees x) (tables x) (left_of o t)) → IfOk r (λ x. IsSettledBy o (tables x) (trees x)) → IfOk r (λ x. IsLeft o t (trees x) (tables x))
-  all_left o (Ok x) built settled = is_left o t (trees x) (tables x) within form built settled
-  all_left o (Err e) built settled = built
+  pub is_left : IsLeft o t new s iterations
+  is_left = record {
+    edits = edits;
+    kept = λ fits core. kept_by t new fits form (edits fits) core;
+    back = λ fits core. back_by t new fits form (edits fits) core;
+    fits = λ fits. edits_fit t new (edits fits) fits;
+    formed = λ fits. (edits_sensible (edits fits) (sensible t fits form)).well_formed;
+    clean = λ fits. subst (IsCleanBy o) (sym m.tree) (clean_by o u (came.clean fits));
+    nodes = nodes;
+    levels = deep;
+    small = record { nodes = Prim.omega (arith, nodes, within.nodes); levels = Prim.omega (arith, deep, within.levels) };
+    marked = m.tree ∙ sym (numbered_again u) ∙ ap numbered (sym m.tree);
+    scoping = m.table ∙ sym (table_again u) ∙ ap table_of (sym m.tree);
+    exact = m.exact;
+    matches = m.matches;
+    resolved = m.resolved ∙ sym (resolved_again u) ∙ ap resolved_references (sym m.tree);
+    untouched = λ asked. (m.tree ∙ ap numbered (came.untouched asked).0, (came.untouched asked).1);
+    few = Prim.omega (arith, ap (total weight) m.tree, numbered_total weight u, came.few);
+    none = λ asked zero. same ∙ came.none asked zero;
+  }
 
-  pub all_marked : (r : Result X E) → IfOk r (λ x. Built (trees x) (tables x) t) → IfOk r (λ x. IsLeft None t (trees x) (tables x))
-  all_marked (Ok x) built = is_left None t (trees x) (tables x) within form built tt
-  all_marked (Err e) built = built
+-- of a program that fits the table of node types
+pub is_shaken : (o : Option CompressOptions) (t new : Forest) (s : Scoping) (iterations : ℕ) → Fits root t → IsLeft o t new s iterations → IsShaken o t new s iterations
+is_shaken o t new s iterations fits left = record {
+  edits = left.edits fits;
+  kept = left.kept fits;
+  back = left.back fits;
+  fits = left.fits fits;
+  formed = left.formed fits;
+  clean = left.clean fits;
+  nodes = left.nodes;
+  levels = left.levels;
+  small = left.small;
+  marked = left.marked;
+  scoping = left.scoping;
+  exact = left.exact;
+  matches = left.matches;
+  resolved = left.resolved;
+  untouched = left.untouched;
+  few = left.few;
+  none = left.none;
+}
+
+pub all_shaken : {X E : Type 0} (trees : X → Forest) (tables : X → Scoping) (counts : X → ℕ) (o : Option CompressOptions) (t : Forest) → Fits root t → (r : Result X E) → IfOk r (λ x. IsLeft o t (trees x) (tables x) (counts x))
+    → IfOk r (λ x. IsShaken o t (trees x) (tables x) (counts x))
+all_shaken trees tables counts o t fits (Ok x) left = is_shaken o t (trees x) (tables x) (counts x) fits left
+all_shaken trees tables counts o t fits (Err e) left = left
+
+-- ---- what passes leave, and a program that stays
+
+built_marked : (u new : Forest) (s : Scoping) → Built new s u → Marked u new s
+built_marked u new s b = record { tree = b.marked; table = b.table; exact = b.exact; matches = b.matches; resolved = b.resolved }
+
+shaken_came : (options : CompressOptions) (t : Forest) (iterations : ℕ) → IsWellFormed t → iterations ≡ passes_of t → Came (Some options) t (shaken t) iterations
+shaken_came options t iterations form passes = record {
+  edits = λ fits. comes t fits form;
+  clean = shaken_clean t;
+  nodes = left_nodes t;
+  levels = left_levels t;
+  untouched = λ asked. absurd (cc asked);
+  few = Prim.omega (arith, passes, few_passes t);
+  none = λ asked zero. ap bare (no_passes t (sym passes ∙ zero));
+}
+
+stays_came : (t : Forest) (iterations : ℕ) → iterations ≡ 0 → Came None t t iterations
+stays_came t iterations none = record {
+  edits = λ fits. no_edit t t refl;
+  clean = λ fits. tt;
+  nodes = Prim.omega arith;
+  levels = Prim.omega arith;
+  untouched = λ asked. (refl, none);
+  few = Prim.omega (arith, none);
+  none = λ asked. absurd (cc asked);
+}
+
+-- whatever is answered beside the tree, its table and the number of passes
+module _ {X E : Type 0} (trees : X → Forest) (tables : X → Scoping) (counts : X → ℕ) (t : Forest) (within : IsWithinLimits t) (form : IsWellFormed t) where
+  pub all_left : (options : CompressOptions) (r : Result X E) → IfOk r (λ x. Built (trees x) (tables x) (shaken t)) → IfOk r (λ x. counts x ≡ passes_of t)
+      → IfOk r (λ x. IsLeft (Some options) t (trees x) (tables x) (counts x))
+  all_left options (Ok x) built passes =
+      is_left (Some options) t (shaken t) (trees x) (tables x) (counts x) within form (shaken_came options t (counts x) form passes) (built_marked (shaken t) (trees x) (tables x) built)
+  all_left options (Err e) built passes = built
+
+  pub all_marked : (r : Result X E) → IfOk r (λ x. Built (trees x) (tables x) t) → IfOk r (λ x. counts x ≡ 0) → IfOk r (λ x. IsLeft None t (trees x) (tables x) (counts x))
+  all_marked (Ok x) built passes = is_left None t t (trees x) (tables x) (counts x) within form (stays_came t (counts x) passes) (built_marked t (trees x) (tables x) built)
+  all_marked (Err e) built passes = built

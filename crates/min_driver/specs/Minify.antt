@@ -1,10 +1,8 @@
--- What the library call makes of a program, and why it refuses one.
+-- When what the library call leaves has no dead code, and why it refuses a program.
 use Rattle.std.specs.Prelude.{◌≡◌, ◌+◌, ℕ, Option, Some, None, min}
 use Rattle.js_syntax.specs.Node.{Forest}
 use Rattle.js_tree.specs.Count.{node_count, levels}
 use Rattle.headline.specs.Clean.{Clean}
-use Rattle.min_passes.specs.Passes.{shaken, passes_of, IsSettled}
-use Rattle.scope_rules.specs.Table.{Scoping}
 use Rattle.form_rules.specs.Break.{at_place}
 use Rattle.form_rules.specs.Form.{first_broken}
 use Rattle.min_driver.specs.Limit.{IsWithinLimits, IsTooLarge, max_nodes, max_levels}
@@ -12,25 +10,10 @@ use Rattle.min_options.specs.declared.options.CompressOptions.{CompressOptions}
 use Rattle.min_driver.specs.declared.error.MinifyError.{MinifyError}
 use Rattle.min_driver.specs.declared.error.MinifyError.TheVariants.{TooLarge, IllFormed, OutOfMemory}
 
--- what is left of a tree; without options for compression no pass runs
-abbrev pub left_of : Option CompressOptions → Forest → Forest
-left_of None t = t
-left_of (Some options) t = shaken t
-
--- how many passes were followed by another
-abbrev pub passes_by : Option CompressOptions → Forest → ℕ
-passes_by None t = 0
-passes_by (Some options) t = passes_of t
-
--- with options no part of what is left is dead code
+-- with options for compression no part of what is left is dead code; without them no pass runs
 abbrev pub IsCleanBy : Option CompressOptions → Forest → Type 0
 IsCleanBy None t = Unit {0}
 IsCleanBy (Some options) t = Clean t
-
--- nor would another pass, by the table, change anything
-abbrev pub IsSettledBy : Option CompressOptions → Scoping → Forest → Type 0
-IsSettledBy None s t = Unit {0}
-IsSettledBy (Some options) s t = IsSettled s t
 
 -- both counts, each capped one past its limit
 abbrev pub IsCounted : (nodes levels : ℕ) → Forest → Type 0

@@ -1,17 +1,19 @@
 // The library call.
-ghost use Rattle.std.specs.Prelude.{◌≡◌, ◌≤◌, IfOk, IfErr, IsSomeAnd, is_some, true};
+ghost use Rattle.std.specs.Prelude.{◌≡◌, ◌+◌, ◌≤◌, IfOk, IfErr, IsSomeAnd, None, is_some, true};
 ghost use Rattle.std.specs.List.{count_by};
 ghost use Rattle.js_syntax.specs.Class.{root};
-ghost use Rattle.js_syntax.specs.Node.{forest_of};
+ghost use Rattle.js_syntax.specs.Facts.{weight};
+ghost use Rattle.js_syntax.specs.Node.{bare, forest_of, total};
 ghost use Rattle.js_tree.specs.Count.{node_count, levels};
 ghost use Rattle.form_rules.specs.Form.{IsWellFormed};
 ghost use Rattle.js_scoping.specs.Build.{table_of, numbered};
-ghost use Rattle.min_driver.specs.Left.{IsLeft};
+ghost use Rattle.min_driver.specs.Left.{IsLeft, IsShaken};
 ghost use Rattle.min_driver.specs.Limit.{IsWithinLimits};
-ghost use Rattle.min_driver.specs.Minify.{left_of, passes_by, IsCleanBy, IsSettledBy, IsCause};
+ghost use Rattle.min_driver.specs.Minify.{IsCleanBy, IsCause};
 ghost use Rattle.min_options.specs.Options.{IsSmallest};
+ghost use Rattle.min_pass.specs.Pass.{cleared};
 ghost use Rattle.min_passes.specs.Built.{Built};
-ghost use Rattle.min_passes.specs.Passes.{shaken, passes_of, IsSettled};
+ghost use Rattle.min_passes.specs.Passes.{shaken, passes_of};
 ghost use Rattle.scope_laws.specs.Exact.{Exact};
 ghost use Rattle.scope_rules.specs.Binding.{resolved_references};
 ghost use Rattle.scope_match.specs.Matches.{Matches};
@@ -51,7 +53,7 @@ impl MinifierOptions {
 pub struct MinifierReturn {
     /// The scopes, symbols and references of what is left, whose nodes are marked with their numbers.
     pub scoping: Scoping,
-    /// How many passes were followed by another, since they changed something.
+    /// How many passes were followed by another, since they changed something: no more than the weight that is gone.
     pub iterations: u64,
 }
 
@@ -89,7 +91,6 @@ fn compress(alloc: Global, program: Program) -> Result<(Program, MinifierReturn)
     requires within { IsWithinLimits (forest_of program) }
     ensures built { IfOk result (λ r. Built (forest_of r.0) r.1.scoping (shaken (forest_of program))) }
     ensures iterations { IfOk result (λ r. r.1.iterations ≡ passes_of (forest_of program)) }
-    ensures settled { IfOk result (λ r. IsSettled r.1.scoping (forest_of r.0)) }
 {
     let Shaken {
         program: left,
@@ -130,8 +131,7 @@ fn minify(
 ) -> Result<(Program, MinifierReturn), AllocError>
     requires within { IsWithinLimits (forest_of program) }
     requires well_formed { IsWellFormed (forest_of program) }
-    ensures left { IfOk result (λ r. IsLeft options.now (forest_of program) (forest_of r.0) r.1.scoping) }
-    ensures iterations { IfOk result (λ r. r.1.iterations ≡ passes_by options.now (forest_of program)) }
+    ensures left { IfOk result (λ r. IsLeft options.now (forest_of program) (forest_of r.0) r.1.scoping r.1.iterations) }
 {
     match options {
         None => mark(alloc, program),
@@ -147,8 +147,7 @@ fn minify_copy(
 ) -> Result<(Program, MinifierReturn), AllocError>
     requires within { IsWithinLimits (forest_of program.now) }
     requires well_formed { IsWellFormed (forest_of program.now) }
-    ensures left { IfOk result (λ r. IsLeft options.now (forest_of program.now) (forest_of r.0) r.1.scoping) }
-    ensures iterations { IfOk result (λ r. r.1.iterations ≡ passes_by options.now (forest_of program.now)) }
+    ensures left { IfOk result (λ r. IsLeft options.now (forest_of program.now) (forest_of r.0) r.1.scoping r.1.iterations) }
 {
     let copy = try_clone(alloc, program)?;
     minify(alloc, options, copy)
@@ -161,26 +160,28 @@ impl Minifier {
         Minifier { options }
     }
 
-    /// Dead code elimination: what the passes leave of the program is put in its place, its nodes marked
-    /// with the numbers of their scopes, symbols and references. The program is tested for its limits
-    /// first, and then for the rules of form; what is left is of a copy. After an error it is as it was.
+    /// Dead code elimination: what is left of the program is put in its place, its nodes marked with the numbers of
+    /// their scopes, symbols and references. Where the program fits the table of node types, edits that are allowed lead
+    /// to what is left, and no part of that is dead code, by the options. The program is tested for its limits first, and
+    /// then for the rules of form; what is left is of a copy. After an error it is as it was.
     pub fn dce(self, alloc: Global, program: &mut Program) -> Result<MinifierReturn, MinifyError>
-        ensures left { IfOk result (λ _. forest_of program.new ≡ numbered (left_of self.options.compress (forest_of program.old))) }
-        ensures iterations { IfOk result (λ r. r.iterations ≡ passes_by self.options.compress (forest_of program.old)) }
-        ensures scoping { IfOk result (λ r. r.scoping ≡ table_of (left_of self.options.compress (forest_of program.old))) }
         ensures edits { IfOk result (λ _. Fits root (forest_of program.old) → Edits (forest_of program.old) (forest_of program.new)) }
         ensures kept { IfOk result (λ _. Fits root (forest_of program.old) → is_core_module (forest_of program.old) ≡ true → Kept (forest_of program.old) (forest_of program.new)) }
         ensures back { IfOk result (λ _. Fits root (forest_of program.old) → is_core_module (forest_of program.old) ≡ true → KeptBack (forest_of program.old) (forest_of program.new)) }
         ensures fits { IfOk result (λ _. Fits root (forest_of program.old) → Fits root (forest_of program.new)) }
         ensures formed { IfOk result (λ _. Fits root (forest_of program.old) → IsWellFormed (forest_of program.new)) }
+        ensures clean { IfOk result (λ _. Fits root (forest_of program.old) → IsCleanBy self.options.compress (forest_of program.new)) }
         ensures nodes { IfOk result (λ _. node_count (forest_of program.new) ≤ node_count (forest_of program.old)) }
         ensures levels { IfOk result (λ _. levels (forest_of program.new) ≤ levels (forest_of program.old)) }
         ensures small { IfOk result (λ _. IsWithinLimits (forest_of program.new)) }
-        ensures clean { IfOk result (λ _. Fits root (forest_of program.old) → IsCleanBy self.options.compress (forest_of program.new)) }
-        ensures settled { IfOk result (λ r. IsSettledBy self.options.compress r.scoping (forest_of program.new)) }
+        ensures marked { IfOk result (λ _. forest_of program.new ≡ numbered (forest_of program.new)) }
+        ensures scoping { IfOk result (λ r. r.scoping ≡ table_of (forest_of program.new)) }
         ensures exact { IfOk result (λ r. Exact r.scoping (forest_of program.new)) }
         ensures matches { IfOk result (λ r. Matches r.scoping (forest_of program.new)) }
-        ensures resolved { IfOk result (λ r. count_by (λ r. is_some r.symbol) r.scoping.references ≡ resolved_references (left_of self.options.compress (forest_of program.old))) }
+        ensures resolved { IfOk result (λ r. count_by (λ r. is_some r.symbol) r.scoping.references ≡ resolved_references (forest_of program.new)) }
+        ensures untouched { IfOk result (λ r. self.options.compress ≡ None → (forest_of program.new ≡ numbered (forest_of program.old)) × (r.iterations ≡ 0)) }
+        ensures few { IfOk result (λ r. r.iterations + total weight (forest_of program.new) ≤ total weight (forest_of program.old)) }
+        ensures none { IfOk result (λ r. is_some self.options.compress ≡ true → r.iterations ≡ 0 → bare (forest_of program.new) ≡ bare (cleared (forest_of program.old))) }
         ensures within { IfOk result (λ _. IsWithinLimits (forest_of program.old)) }
         ensures well_formed { IfOk result (λ _. IsWellFormed (forest_of program.old)) }
         ensures err { IfErr result (λ e. IsCause e (forest_of program.old)) }
@@ -199,8 +200,7 @@ impl Minifier {
         alloc: Global,
         program: Program,
     ) -> Result<(Program, MinifierReturn), MinifyError>
-        ensures left { IfOk result (λ r. IsLeft self.options.compress (forest_of program) (forest_of r.0) r.1.scoping) }
-        ensures iterations { IfOk result (λ r. r.1.iterations ≡ passes_by self.options.compress (forest_of program)) }
+        ensures left { IfOk result (λ r. IsLeft self.options.compress (forest_of program) (forest_of r.0) r.1.scoping r.1.iterations) }
         ensures within { IfOk result (λ _. IsWithinLimits (forest_of program)) }
         ensures well_formed { IfOk result (λ _. IsWellFormed (forest_of program)) }
         ensures err { IfErr result (λ e. IsCause e (forest_of program)) }
@@ -208,5 +208,22 @@ impl Minifier {
         check(alloc, &program)?;
         let done = minify(alloc, &self.options.compress, program)?;
         Ok(done)
+    }
+
+    /// The same of a program that fits the table of node types, as each does that was read: edits lead to what is left, it
+    /// fits the table, breaks no rule of form, keeps the runs of a core module, and no part of it is dead code, by the
+    /// options.
+    pub fn dce_fitting(
+        self,
+        alloc: Global,
+        program: Program,
+    ) -> Result<(Program, MinifierReturn), MinifyError>
+        requires fits { Fits root (forest_of program) }
+        ensures shaken { IfOk result (λ r. IsShaken self.options.compress (forest_of program) (forest_of r.0) r.1.scoping r.1.iterations) }
+        ensures within { IfOk result (λ _. IsWithinLimits (forest_of program)) }
+        ensures well_formed { IfOk result (λ _. IsWellFormed (forest_of program)) }
+        ensures err { IfErr result (λ e. IsCause e (forest_of program)) }
+    {
+        self.dce_owned(alloc, program)
     }
 }

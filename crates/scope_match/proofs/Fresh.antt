@@ -125,7 +125,7 @@ scopes_same all k n (s ∷ ss) = ap (λ xs. scope_made all k s ∷ xs) (scopes_s
 abbrev numbered : Found → Found
 numbered f = found_renumbered (first_marks (symbols_declared f.bindings)) f
 
-table_same : (f : Found) → scoping_of (numbered f) ≡ scoping_of f
+pub table_same : (f : Found) → scoping_of (numbered f) ≡ scoping_of f
 table_same f =
     let symbols = symbols_declared f.bindings in
     let bs = f.bindings in
@@ -136,6 +136,14 @@ table_same f =
     ap₂ (λ uses all. symbols_from gb uses 0 all) (uses_same symbols bs 0 f.references) (symbols_same symbols bs) ∙ made_same symbols bs (map (symbol_used bs) f.references) 0 (symbols_of bs) in
     let unresolved = ap unresolved_among (unbound_same symbols bs 0 f.references) in
     λ i. record { scopes = scopes i; symbols = made i; references = entries_same symbols bs 0 f.references i; unresolved = unresolved i }
+
+declared_numbers : (symbols : List ℕ) (ss : List BindingSite) (some all : List Binding) → some ≡ all
+    → map (λ (s : BindingSite). number_or_none (number_from 0 some (declared_by s))) (bindings_with symbols ss) ≡ map (λ (s : BindingSite). number_or_none (number_from 0 all (declared_by s))) ss
+declared_numbers symbols [] some all e = refl
+declared_numbers symbols (s ∷ ss) some all e = ap₂ (λ y ys. y ∷ ys) (ap (λ l. number_or_none (number_from 0 l (declared_by s))) e) (declared_numbers (drop 1 symbols) ss some all e)
+
+pub numbers_same : (symbols : List ℕ) (bs : List BindingSite) → symbols_declared (bindings_with symbols bs) ≡ symbols_declared bs
+numbers_same symbols bs = declared_numbers symbols bs (symbols_of (bindings_with symbols bs)) (symbols_of bs) (symbols_same symbols bs)
 
 -- ---- nothing stands twice
 
@@ -311,7 +319,7 @@ are_marked f =
     let symbols = symbols_declared bs in
     let gb = bindings_with symbols bs in
     let m = in_order f in
-    let declared : symbols_declared gb ≡ symbols = declared_numbers symbols bs (symbols_of gb) (symbols_of bs) (symbols_same symbols bs) in
+    let declared : symbols_declared gb ≡ symbols = numbers_same symbols bs in
     record {
       scopes = scope_ids 0 f.scopes;
       references = reference_ids 0 f.references;
@@ -322,11 +330,6 @@ are_marked f =
       symbols_apart = counting_once 0 (symbols_of bs);
       references_apart = counting_once 0 f.references;
     }
-  where
-    declared_numbers : (symbols : List ℕ) (ss : List BindingSite) (some all : List Binding) → some ≡ all
-        → map (λ (s : BindingSite). number_or_none (number_from 0 some (declared_by s))) (bindings_with symbols ss) ≡ map (λ (s : BindingSite). number_or_none (number_from 0 all (declared_by s))) ss
-    declared_numbers symbols [] some all e = refl
-    declared_numbers symbols (s ∷ ss) some all e = ap₂ (λ y ys. y ∷ ys) (ap (λ l. number_or_none (number_from 0 l (declared_by s))) e) (declared_numbers (drop 1 symbols) ss some all e)
 
 found_matches : (f : Found) → MatchesFound (scoping_of f) (numbered f)
 found_matches f = record {

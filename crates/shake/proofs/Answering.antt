@@ -7,7 +7,6 @@ use Rattle.json_text.specs.Answer.{IsCauseOf, IsReadAs}
 use Rattle.json_text.specs.Fault.{out_of_range}
 use Rattle.json_text.specs.declared.error.TreeError.{TreeError}
 use Rattle.json_text.specs.declared.error.TreeError.TheVariants as error
-use Rattle.min_passes.specs.Passes.{shaken}
 use Rattle.shake.specs.Answer.{TreeAnswers, IsTreeLineFor, Answers, IsLineFor}
 use Rattle.form_rules.specs.Break.{at_place}
 use Rattle.min_driver.specs.Minify.{IsCause}
@@ -16,7 +15,7 @@ use Rattle.min_driver.specs.declared.error.MinifyError.TheVariants as minify
 use Rattle.shake.specs.Fault.{fault_of, IsAnswerTo, refusal_line, IsMinifyAnswer, minify_line}
 use Rattle.shake.specs.Line.{Says, status_line, large_line}
 use Rattle.js_syntax.specs.Node.{Tree, forest_of}
-use Rattle.shake.specs.Run.{IsSound, shaken_output, IsInUtf8}
+use Rattle.shake.specs.Run.{IsSound, IsOutput}
 use Rattle.shake.specs.declared.status.Status.{Status}
 use Rattle.shake.specs.declared.status.Status.TheVariants as status
 
@@ -106,13 +105,11 @@ refusal_says e s t said said_now faults later cause answer line = (line.0, refus
 
 -- ---- what is sent
 
-pub sent_answers : (command : Command) (s : Status) (t : Forest) (text : List ℕ) (written now : Option (List ℕ)) (faults later : ℕ) → IsSound t → text ≡ shaken_output command t → IsInUtf8 (shaken t)
+pub sent_answers : (command : Command) (s : Status) (t : Forest) (text : List ℕ) (written now : Option (List ℕ)) (faults later : ℕ) → IsSound t → IsOutput command t text
     → (s ≡ status.Ok) ⊎ (s ≡ status.WriteFault) → (s ≡ status.Ok → Known (λ w. w ++ text) written now) → (s ≡ status.WriteFault → SendsFront text written now × HasFailed faults later)
     → TreeAnswers command s t written now faults later
-sent_answers command s t text written now faults later within is utf8 (inl told) sent front =
-    rw told (within, (utf8, subst (λ (x : List ℕ). Known (λ w. w ++ x) written now) is (sent told)))
-sent_answers command s t text written now faults later within is utf8 (inr told) sent front =
-    rw told (within, subst (λ (x : List ℕ). SendsFront x written now) is (front told).0, (front told).1)
+sent_answers command s t text written now faults later within output (inl told) sent front = rw told (within, (text, output, sent told))
+sent_answers command s t text written now faults later within output (inr told) sent front = rw told (within, (text, output, (front told).0), (front told).1)
 
 pub sent_line_for : (s : Status) (t : Forest) (line : List ℕ) → (s ≡ status.Ok) ⊎ (s ≡ status.WriteFault) → line ≡ status_line s → IsTreeLineFor s t line
 sent_line_for s t line (inl told) says = rw told (rw told at says)

@@ -1,4 +1,4 @@
 pub mod Answering
 pub mod Telling
-pub mod Marks
+pub mod Leaving
 pub mod Running

@@ -8,8 +8,6 @@ use Rattle.json_text.specs.Answer.{IsCauseOf, IsReadAs}
 use Rattle.json_text.specs.Fault.{out_of_range}
 use Rattle.json_text.specs.declared.error.TreeError.{TreeError}
 use Rattle.json_text.specs.declared.error.TreeError.TheVariants as error
-use Rattle.headline.proofs.Headline.{headline_of}
-use Rattle.headline_text.proofs.Promise.{text_headline}
 use Rattle.min_driver.specs.Minify.{IsCause}
 use Rattle.min_driver.specs.declared.error.MinifyError.{MinifyError}
 use Rattle.min_driver.specs.declared.error.MinifyError.TheVariants as minify
@@ -18,20 +16,23 @@ use Rattle.shake_words.specs.declared.answer.Command.{Command}
 use Rattle.shake.specs.Answer.{TreeAnswers, IsTreeLineFor, IsLineFor}
 use Rattle.shake.specs.Fault.{fault_of, IsAnswerTo, refusal_line, IsMinifyAnswer, minify_line}
 use Rattle.shake.specs.Line.{status_line}
-use Rattle.shake.specs.Run.{max_input, shaken_output}
-use Rattle.shake.specs.Ran.{Took, Follows, Ran, Tells, IsLineGiven}
+use Rattle.shake.specs.Run.{max_input, IsOutput}
+use Rattle.shake.specs.Ran.{Took, TookOutput, Follows, Ran, Tells, IsLineGiven}
 use Rattle.shake.specs.declared.status.Status.{Status}
 use Rattle.shake.specs.declared.status.Status.TheVariants as status
 use Rattle.shake.proofs.Answering.{line_of_refusal, tree_line, refusal_line_for, sent_line_for}
-use Rattle.shake.proofs.Telling.{read_fits}
 
 -- ---- what the sink took
 
-pub took_none : (e : MinifyError) (s : Status) (text : List ℕ) (taken : Past) → IsMinifyAnswer e s → Took s text taken taken
-took_none e s text taken (inr short) = rw short refl
-took_none (minify.TooLarge nodes deep) s text taken (inl told) = rw told refl
-took_none (minify.IllFormed rule place) s text taken (inl told) = rw told refl
-took_none minify.OutOfMemory s text taken (inl told) = rw told refl
+pub took_none : (command : Command) (e : MinifyError) (s : Status) (t : Forest) (taken : Past) → IsMinifyAnswer e s → TookOutput command s t taken taken
+took_none command e s t taken (inr short) = rw short refl
+took_none command (minify.TooLarge nodes deep) s t taken (inl told) = rw told refl
+took_none command (minify.IllFormed rule place) s t taken (inl told) = rw told refl
+took_none command minify.OutOfMemory s t taken (inl told) = rw told refl
+
+pub took_output : (command : Command) (s : Status) (t : Forest) (text : List ℕ) (taken now : Past) → IsOutput command t text → (s ≡ status.Ok) ⊎ (s ≡ status.WriteFault) → Took s text taken now → TookOutput command s t taken now
+took_output command s t text taken now output (inl told) took = rw told (text, output, rw told at took)
+took_output command s t text taken now output (inr told) took = rw told (text, output, rw told at took)
 
 pub refusal_follows : (e : TreeError) (s : Status) (bytes : List ℕ) → IsCauseOf e bytes → IsAnswerTo e s → (taken : Past) (command : Command) → Follows command s bytes taken taken
 refusal_follows e s bytes cause (inr short) taken command = rw short refl
@@ -43,8 +44,8 @@ refusal_follows error.OutOfMemory s bytes cause (inl is) taken command = rw is r
 
 -- for a tree that was read
 tree_took : (command : Command) (s : Status) (t : Forest) (bytes : List ℕ) (written now : Option (List ℕ)) (faults later : ℕ) (taken taken_now : Past) → IsReadAs bytes (Ok t)
-    → TreeAnswers command s t written now faults later → Took s (shaken_output command t) taken taken_now → Follows command s bytes taken taken_now
-tree_took command status.Ok t bytes written now faults later taken taken_now is a took = (t, is, a.0, headline_of t (read_fits bytes t is) a.0.form, text_headline bytes t is a.0.form a.1.0, a.1.0, took)
+    → TreeAnswers command s t written now faults later → TookOutput command s t taken taken_now → Follows command s bytes taken taken_now
+tree_took command status.Ok t bytes written now faults later taken taken_now is a took = (t, is, a.0, took)
 tree_took command status.WriteFault t bytes written now faults later taken taken_now is a took = (t, is, a.0, took)
 tree_took command status.TooLarge t bytes written now faults later taken taken_now is a took = (t, is, a.0, took)
 tree_took command status.IllFormed t bytes written now faults later taken taken_now is a took = (t, is, a.0, took)
@@ -56,7 +57,7 @@ tree_took command status.Syntax t bytes written now faults later taken taken_now
 tree_took command status.Tree t bytes written now faults later taken taken_now is a took = absurd a
 
 pub tree_follows : (command : Command) (s : Status) (t : Tree) (slice bytes : List ℕ) (written now : Option (List ℕ)) (faults later : ℕ) (taken taken_now : Past) → IsReadAs slice (Ok (forest_of t)) → slice ≡ bytes
-    → TreeAnswers command s (forest_of t) written now faults later → Took s (shaken_output command (forest_of t)) taken taken_now → Follows command s bytes taken taken_now
+    → TreeAnswers command s (forest_of t) written now faults later → TookOutput command s (forest_of t) taken taken_now → Follows command s bytes taken taken_now
 tree_follows command s t slice bytes written now faults later taken taken_now is same a took =
     tree_took command s (forest_of t) bytes written now faults later taken taken_now (subst (λ (b : List ℕ). IsReadAs b (Ok (forest_of t))) same is) a took
 
@@ -112,8 +113,8 @@ tells_given s given given_now bytes taken now gave told = (told.0, line_given s 
 -- ---- nothing behind the end or a fault
 
 pub follows_stops : (command : Command) (s : Status) (bytes : List ℕ) (taken now : Past) → Follows command s bytes taken now → StopsAtOnce taken now
-follows_stops command status.Ok bytes taken now f = took_stops taken now _ f.6
-follows_stops command status.WriteFault bytes taken now f = front_stops taken now _ f.3
+follows_stops command status.Ok bytes taken now f = took_stops taken now _ f.3.2
+follows_stops command status.WriteFault bytes taken now f = front_stops taken now _ f.3.2
 follows_stops command status.Syntax bytes taken now f = rw f.1 (stays_stops taken)
 follows_stops command status.Tree bytes taken now f = rw f.3 (stays_stops taken)
 follows_stops command status.TooLarge bytes taken now f = rw f.3 (stays_stops taken)

@@ -11,6 +11,10 @@ use Rattle.shake.specs.Run.{IsSound, IsIllFormed, IsSent, IsFrontSent}
 use Rattle.shake.specs.declared.status.Status.{Status}
 use Rattle.shake.specs.declared.status.Status.TheVariants as status
 
+-- some bytes are read as the tree
+abbrev pub WasRead : Forest → Type 0
+WasRead t = (bytes : List ℕ) × IsReadAs bytes (Ok t)
+
 -- with the tree that was read
 abbrev pub TreeAnswers : Command → Status → Forest → (written now : Option (List ℕ)) → (faults later : ℕ) → Type 0
 TreeAnswers command status.Ok t written now faults later = IsSound t × IsSent command t written now

@@ -8,14 +8,11 @@ use Rattle.json_text.specs.Answer.{IsReadAs, IsNoJson}
 use Rattle.json_text.specs.Fault.{Fault, too_deep}
 use Rattle.shake_words.specs.Meaning.{command_of, accepts}
 use Rattle.shake_words.specs.declared.answer.Command.{Command}
-use Rattle.min_passes.specs.Passes.{shaken}
 use Rattle.min_driver.specs.Limit.{IsTooLarge}
-use Rattle.headline.specs.Headline.{Headline}
-use Rattle.headline_text.specs.Written.{TextHeadline}
 use Rattle.shake.specs.Answer.{IsLineFor}
 use Rattle.shake.specs.Code.{code_of}
 use Rattle.shake.specs.Line.{status_line}
-use Rattle.shake.specs.Run.{max_input, IsSound, IsIllFormed, IsInUtf8, shaken_output}
+use Rattle.shake.specs.Run.{max_input, IsSound, IsIllFormed, IsOutput}
 use Rattle.shake.specs.declared.status.Status.{Status}
 use Rattle.shake.specs.declared.status.Status.TheVariants as status
 
@@ -25,11 +22,16 @@ Took status.Ok text taken now = now ≡ with_bytes taken text
 Took status.WriteFault text taken now = TakesFront text taken now
 Took s text taken now = now ≡ taken
 
+-- of the output for the tree that was read
+abbrev pub TookOutput : Command → Status → Forest → (taken now : Past) → Type 0
+TookOutput command status.Ok t taken now = (text : List ℕ) × IsOutput command t text × Took status.Ok text taken now
+TookOutput command status.WriteFault t taken now = (text : List ℕ) × IsOutput command t text × Took status.WriteFault text taken now
+TookOutput command s t taken now = now ≡ taken
+
 -- what stands behind each answer for the bytes that were read, and what the sink took of the output
 abbrev pub Follows : Command → Status → (bytes : List ℕ) → (taken now : Past) → Type 0
-Follows command status.Ok bytes taken now =
-    (t : Forest) × IsReadAs bytes (Ok t) × IsSound t × Headline t (shaken t) × TextHeadline t × IsInUtf8 (shaken t) × Took status.Ok (shaken_output command t) taken now
-Follows command status.WriteFault bytes taken now = (t : Forest) × IsReadAs bytes (Ok t) × IsSound t × Took status.WriteFault (shaken_output command t) taken now
+Follows command status.Ok bytes taken now = (t : Forest) × IsReadAs bytes (Ok t) × IsSound t × TookOutput command status.Ok t taken now
+Follows command status.WriteFault bytes taken now = (t : Forest) × IsReadAs bytes (Ok t) × IsSound t × TookOutput command status.WriteFault t taken now
 Follows command status.Syntax bytes taken now = IsNoJson bytes × (now ≡ taken)
 Follows command status.Tree bytes taken now = (f : Fault) × (f ≢ too_deep) × IsReadAs bytes (Err f) × (now ≡ taken)
 Follows command status.TooLarge bytes taken now = (t : Forest) × IsReadAs bytes (Ok t) × IsTooLarge t × (now ≡ taken)

@@ -1,14 +1,15 @@
 -- What a run of the program leaves behind.
-use Rattle.std.specs.Prelude.{◌≡◌, ◌⊎◌, ◌^◌, ◌≤◌, ℕ, List, [], ◌++◌, Bool, true, false, length, Option, Some, Ok, IsUtf8, codes, decimal}
+use Rattle.std.specs.Prelude.{◌≡◌, ◌⊎◌, ◌+◌, ◌^◌, ◌≤◌, ℕ, List, [], ◌++◌, Bool, true, false, length, Option, Some, Ok, IsUtf8, codes, decimal}
 use Rattle.shake_streams.specs.Moves.{HasFailed, Known, SendsFront}
-use Rattle.js_syntax.specs.Node.{Forest}
+use Rattle.js_syntax.specs.Facts.{weight}
+use Rattle.js_syntax.specs.Node.{Forest, bare, total}
 use Rattle.json_text.specs.Answer.{IsReadAs, IsNoJson}
 use Rattle.json_text.specs.Fault.{Fault}
 use Rattle.json_text.specs.Text.{text_of}
 use Rattle.shake_words.specs.Meaning.{command_of}
 use Rattle.shake_words.specs.declared.answer.Command.{Command}
 use Rattle.shake_words.specs.declared.answer.Command.TheVariants.{Dce}
-use Rattle.min_passes.specs.Passes.{shaken, passes_of}
+use Rattle.min_pass.specs.Pass.{cleared}
 use Rattle.headline.specs.Headline.{Headline}
 use Rattle.headline_text.specs.Written.{TextHeadline}
 use Rattle.scope_rules.specs.Binding.{resolved_references}
@@ -39,22 +40,36 @@ abbrev pub command_output : Command → Forest → (passes references : ℕ) →
 command_output (Dce false) t passes references = output_of t passes references
 command_output (Dce true) t passes references = tree_output_of t
 
--- and for the tree that was read: what is left of it, how many passes were followed by another, and how many references of
--- what is left have a binding
-abbrev pub shaken_output : Command → Forest → List ℕ
-shaken_output command t = command_output command (shaken t) (passes_of t) (resolved_references (shaken t))
-
 -- the text of a tree is UTF-8
 abbrev pub IsInUtf8 : Forest → Type 0
 IsInUtf8 t = IsUtf8 (text_of t)
 
--- the output for a tree that was read went out whole
+-- Of the tree `t` that was read the program `u` is left, behind so many passes that changed something.
+pub record Shaken (t u : Forest) (passes : ℕ) : Type 0 where
+  -- it is the program that was read without its dead code: edits lead to it, it keeps the runs, and has no dead code
+  pub headline : Headline t u
+  -- its text is UTF-8, is read as it, and keeps the runs
+  pub utf8 : IsInUtf8 u
+  pub text : TextHeadline t u
+  -- it is lighter by one at least for each pass; where there was none, only empty statements of lists are gone
+  pub few : passes + total weight u ≤ total weight t
+  pub none : passes ≡ 0 → bare u ≡ bare (cleared t)
+
+-- what a command writes for the tree that was read: a program that is left of it, the passes that there were, and how many
+-- references of what is left have a binding
+pub record IsOutput (command : Command) (t : Forest) (text : List ℕ) : Type 0 where
+  pub left : Forest
+  pub passes : ℕ
+  pub shaken : Shaken t left passes
+  pub is : text ≡ command_output command left passes (resolved_references left)
+
+-- it went out whole
 abbrev pub IsSent : Command → Forest → (written written_now : Option (List ℕ)) → Type 0
-IsSent command t written written_now = IsInUtf8 (shaken t) × Known (λ w. w ++ shaken_output command t) written written_now
+IsSent command t written written_now = (text : List ℕ) × IsOutput command t text × Known (λ w. w ++ text) written written_now
 
 -- a front of it did
 abbrev pub IsFrontSent : Command → Forest → (written written_now : Option (List ℕ)) → Type 0
-IsFrontSent command t written written_now = SendsFront (shaken_output command t) written written_now
+IsFrontSent command t written written_now = (text : List ℕ) × IsOutput command t text × SendsFront text written written_now
 
 -- a tree that is within the limits, and breaks no rule of form, or does
 pub record IsSound (t : Forest) : Type 0 where
@@ -69,14 +84,13 @@ abbrev pub IsTreeOf : List ℕ → Forest → Type 0
 IsTreeOf bytes t = (length bytes ≤ max_input) × IsReadAs bytes (Ok t)
 
 -- answer 0: the words ask for a command, the bytes are those of a tree that is within the limits and breaks no rule of form, all
--- of them were read, what is left is that program without its dead code, its text is read as what is left and keeps the runs,
--- and the output went out whole
+-- of them were read, and the output for what is left of that program went out whole
 abbrev pub Shakes : (words : List (List ℕ)) (left left_now written written_now : Option (List ℕ)) → Type 0
 Shakes words left left_now written written_now =
     (command : Command) × (command_of words ≡ Some command) × (t : Forest) × Told left (λ bytes. IsTreeOf bytes t) × IsSound t × Told left (λ _. left_now ≡ Some [])
-    × Headline t (shaken t) × TextHeadline t × IsSent command t written written_now
+    × IsSent command t written written_now
 
--- a fault of the sink: a front of that output went out
+-- a fault of the sink: a front of such an output went out
 abbrev pub ShakesFront : (words : List (List ℕ)) (left written written_now : Option (List ℕ)) → Type 0
 ShakesFront words left written written_now =
     (command : Command) × (command_of words ≡ Some command) × (t : Forest) × Told left (λ bytes. IsTreeOf bytes t) × IsSound t × IsFrontSent command t written written_now

@@ -1,7 +1,6 @@
 // The program, over any source and sinks.
 ghost use Rattle.std.specs.Prelude.{◌≡◌, ◌≤◌, ◌⊎◌, ◌+◌, ◌++◌, ℕ, IfOk, IfErr, false, true, map, string_bytes};
 ghost use Rattle.js_syntax.specs.Node.{forest_of};
-ghost use Rattle.min_passes.specs.Passes.{shaken};
 ghost use Rattle.min_driver.specs.Minify.{IsCause};
 ghost use Rattle.shake.specs.Fault.{IsMinifyAnswer, minify_line};
 ghost use Rattle.shake_streams.specs.Past.{StopsAtOnce};
@@ -11,9 +10,9 @@ ghost use Rattle.json_text.specs.Answer.{IsCauseOf};
 ghost use Rattle.shake_words.specs.Meaning.{accepts};
 ghost use Rattle.shake.specs.Line.{Says, IsLineOf, status_line};
 ghost use Rattle.shake.specs.Fault.{IsAnswerTo, refusal_line};
-ghost use Rattle.shake.specs.Answer.{TreeAnswers, IsTreeLineFor, Answers, IsLineFor};
-ghost use Rattle.shake.specs.Run.{max_input, shaken_output, IsSound, IsInUtf8, Shakes, ShakesFront, IsBadJson, IsBadTree, IsLargeTree, IsBrokenTree, writes, Completes};
-ghost use Rattle.shake.specs.Ran.{Took, Follows, Ran, Tells, IsLineGiven};
+ghost use Rattle.shake.specs.Answer.{WasRead, TreeAnswers, IsTreeLineFor, Answers, IsLineFor};
+ghost use Rattle.shake.specs.Run.{max_input, IsSound, IsOutput, Shakes, ShakesFront, IsBadJson, IsBadTree, IsLargeTree, IsBrokenTree, writes, Completes};
+ghost use Rattle.shake.specs.Ran.{Took, TookOutput, Follows, Ran, Tells, IsLineGiven};
 
 use crate::line::{fault_text, minify_text, say};
 use crate::output::output;
@@ -104,15 +103,15 @@ fn send<K: Sink, E: Sink>(text: String, out: &mut K, err: &mut E) -> Status
 
 // What is written for what is left of a program: its tree, and the line of counts.
 fn shaken_text(alloc: Global, command: Command, program: Program) -> Result<String, MinifyError>
-    ensures output { IfOk result (λ s. string_bytes s ≡ shaken_output command (forest_of program)) }
-    ensures utf8 { IfOk result (λ _. IsInUtf8 (shaken (forest_of program))) }
+    requires read { WasRead (forest_of program) }
+    ensures output { IfOk result (λ s. IsOutput command (forest_of program) (string_bytes s)) }
     ensures sound { IfOk result (λ _. IsSound (forest_of program)) }
     ensures err { IfErr result (λ e. IsCause e (forest_of program)) }
 {
     let options = MinifierOptions {
         compress: Some(CompressOptions::dce(alloc)),
     };
-    let (left, done) = Minifier::new(options).dce_owned(alloc, program)?;
+    let (left, done) = Minifier::new(options).dce_fitting(alloc, program)?;
     let references = done.scoping.resolved_count();
     let text = output(alloc, command, &left, done.iterations, references)?;
     Ok(text)
@@ -126,9 +125,10 @@ pub(crate) fn answer_tree<K: Sink, E: Sink>(
     out: &mut K,
     err: &mut E,
 ) -> Status
+    requires read { WasRead (forest_of program) }
     ensures answer { TreeAnswers command result (forest_of program) (K.written out.old) (K.written out.new) (K.faults out.old) (K.faults out.new) }
     ensures line { Says (IsTreeLineFor result (forest_of program)) (E.written err.old) (E.written err.new) (E.faults err.old) (E.faults err.new) }
-    ensures took { Took result (shaken_output command (forest_of program)) (K.taken out.old) (K.taken out.new) }
+    ensures took { TookOutput command result (forest_of program) (K.taken out.old) (K.taken out.new) }
     ensures told { Tells (IsTreeLineFor result (forest_of program)) (E.taken err.old) (E.taken err.new) }
     ensures out_later { K.faults out.old ≤ K.faults out.new }
     ensures err_later { E.faults err.old ≤ E.faults err.new }

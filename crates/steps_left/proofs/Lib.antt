@@ -1,3 +1,2 @@
 pub mod Size
-pub mod Formed
-pub mod Fitting
+pub mod Few

@@ -1,11 +1,11 @@
 -- What passes leave of a tree is no larger than the tree, and no deeper.
-use Rattle.std.proofs.Common.{◌≡◌, ◌∙◌, ℕ, zero, suc, ◌+◌, ◌≤◌, max, Bool, true, false, if◌then◌else◌, refl, sym, ap, arith}
+use Rattle.std.proofs.Common.{◌≡◌, ℕ, zero, suc, ◌≤◌, Bool, true, false, if◌then◌else◌, refl, ap, arith}
 use Rattle.js_syntax.specs.declared.node_kind.NodeKind.{NodeKind as Kind}
 use Rattle.js_syntax.specs.declared.node_kind.NodeKind.TheVariants.{EmptyStatement as empty_statement, ExpressionStatement as expression_statement, VariableDeclaration as variable_declaration, Statements as statements, Declarators as declarators}
-use Rattle.js_syntax.specs.Node.{Note, Forest, nothing, node, absent, bare}
+use Rattle.js_syntax.specs.Node.{Note, Forest, nothing, node, absent}
 use Rattle.js_tree.specs.Count.{one_each, node_count, lower, levels_at, levels}
-use Rattle.scope_laws.proofs.Notes.{total_bare}
 use Rattle.js_scoping.specs.Build.{numbered}
+use Rattle.js_scoping.proofs.Again.{numbered_levels}
 use Rattle.min_pass.specs.declared.around.Around.{Around}
 use Rattle.min_pass.specs.declared.around.Row.{Row}
 use Rattle.min_pass.specs.declared.around.Row.TheVariants.{Items as items, OfItem as of_item, Declarators as item_declarators, Other as other}
@@ -14,7 +14,6 @@ use Rattle.min_pass.specs.Pass.{Names, no_names, goes_in, is_empty_in, goes, emp
 use Rattle.min_pass.proofs.Lighter.{only_these_empty, swept_lighter}
 use Rattle.min_passes.specs.Passes.{names_in, next, has_next, settled, most_passes, shaken}
 use Rattle.min_passes.proofs.Clean.{next_no_more}
-use Rattle.headline.proofs.Passes.{numbered_same}
 
 -- ---- in a row that loses nodes none stands lower than the others by its place
 
@@ -71,19 +70,6 @@ passed_levels names t = swept_levels names (outermost true) (λ at. 0) 0 t (λ h
 pub cleared_levels : (t : Forest) → levels (cleared t) ≤ levels t
 cleared_levels t = swept_levels no_names (outermost false) (λ at. 0) 0 t (λ h. absurd cc)
 
--- ---- marks are no level
-
-bare_levels : (more : ℕ → ℕ) (at : ℕ) (t : Forest) → levels_at more at (bare t) ≡ levels_at more at t
-bare_levels more at nothing = refl
-bare_levels more at (absent rest) = bare_levels more (suc at) rest
-bare_levels more at (node k n below rest) = Prim.omega (arith, bare_levels (lower k) 0 below, bare_levels more (suc at) rest)
-
-numbered_levels : (t : Forest) → levels (numbered t) ≡ levels t
-numbered_levels t = sym (bare_levels (λ at. 0) 0 (numbered t)) ∙ ap levels (numbered_same t) ∙ bare_levels (λ at. 0) 0 t
-
-numbered_nodes : (t : Forest) → node_count (numbered t) ≡ node_count t
-numbered_nodes t = sym (total_bare one_each (numbered t)) ∙ ap node_count (numbered_same t) ∙ total_bare one_each t
-
 -- ---- one after the other
 
 module _ (measure : Forest → ℕ) (no_more : (t : Forest) → measure (next t) ≤ measure t) where
@@ -98,16 +84,8 @@ module _ (measure : Forest → ℕ) (no_more : (t : Forest) → measure (next t)
 next_levels : (t : Forest) → levels (next t) ≤ levels t
 next_levels t = Prim.omega (arith, passed_levels (names_in t) (numbered t), numbered_levels t)
 
-pub left_nodes : (t : Forest) → node_count (numbered (shaken t)) ≤ node_count t
-left_nodes t =
-    Prim.omega (arith, numbered_nodes (shaken t), settled_no_more node_count next_no_more (most_passes (cleared t)) (cleared t), swept_lighter one_each (Prim.omega arith) no_names (outermost false) t)
+pub left_nodes : (t : Forest) → node_count (shaken t) ≤ node_count t
+left_nodes t = Prim.omega (arith, settled_no_more node_count next_no_more (most_passes (cleared t)) (cleared t), swept_lighter one_each (Prim.omega arith) no_names (outermost false) t)
 
-pub left_levels : (t : Forest) → levels (numbered (shaken t)) ≤ levels t
-left_levels t = Prim.omega (arith, numbered_levels (shaken t), settled_no_more levels next_levels (most_passes (cleared t)) (cleared t), cleared_levels t)
-
--- with its nodes marked, a program is as large as it was, and as deep
-pub marked_nodes : (t : Forest) → node_count (numbered t) ≤ node_count t
-marked_nodes t = Prim.omega (arith, numbered_nodes t)
-
-pub marked_levels : (t : Forest) → levels (numbered t) ≤ levels t
-marked_levels t = Prim.omega (arith, numbered_levels t)
+pub left_levels : (t : Forest) → levels (shaken t) ≤ levels t
+left_levels t = Prim.omega (arith, settled_no_more levels next_levels (most_passes (cleared t)) (cleared t), cleared_levels t)

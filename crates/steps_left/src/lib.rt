@@ -1,7 +1,8 @@
-//! What has a program that is left by passes, but for its runs?
+//! How large is what passes leave of a program, how deep, and how many passes are there?
 //!
-//! `left`: what passes leave, with its nodes marked, fits the table of node types and breaks no rule of form if the program
-//! did, and is no larger than the program and no deeper.
+//! `left`: no larger than the program and no deeper, whether or not it fits the table of node types;
+//! and there are no more passes than the weight that is gone. That what is left fits the table and breaks no rule of form,
+//! where the program fits it and breaks none, holds of all that edits lead to (`steps_owed`).
 //!
 //! The code is empty: each function's contract is a law.
 #![tactic(auto)]

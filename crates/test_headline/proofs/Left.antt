@@ -1,18 +1,26 @@
--- What shaking leaves of a small module.
-use Rattle.std.proofs.Common.{◌≡◌, inr, [], ◌∷◌, pos, false, codes, refl}
+-- What shaking may leave of a small module.
+use Rattle.std.proofs.Common.{◌≡◌, inl, inr, [], ◌∷◌, pos, false, codes, refl}
 use Rattle.js_syntax.specs.Class.{root, module_item, expression, argument}
+use Rattle.js_syntax.specs.declared.node_kind.NodeKind.{NodeKind as Kind}
 use Rattle.js_syntax.specs.declared.scalar.SourceType.TheVariants as source_type
 use Rattle.js_syntax.specs.declared.value.LiteralValue.{LiteralValue as Literal}
-use Rattle.js_syntax.specs.Node.{bare}
+use Rattle.js_syntax.specs.Node.{Forest, nothing, nowhere}
 use Rattle.js_syntax.specs.Table.{a_program, an_expression_statement, a_call_expression, a_reference_name, a_literal}
 use Rattle.form_rules.specs.Form.{IsWellFormed}
 use Rattle.js_meaning.specs.Samples as sample
 use Rattle.js_meaning.specs.Examples.{says_number}
 use Rattle.json_text.specs.Text.{is_identifier_name}
 use Rattle.json_shape.specs.Shape.{one, these, all, all_of_body, Stand, Fits}
-use Rattle.min_passes.specs.Passes.{shaken}
-use Rattle.headline.specs.Headline.{Headline}
+use Rattle.scope_laws.specs.Place.{Around, first}
+use Rattle.steps_allowed.specs.EmptyStatement.{empty_statement_leaves}
+use Rattle.steps_allowed.specs.SilentStatement.{silent_statement_empties}
+use Rattle.steps_allowed.specs.Edits.{no_tree_edit, one_tree_edit, leaves, becomes, empty_statement, silent_statement}
+use Rattle.steps_allowed.specs.Rows.{in_list, past}
+use Rattle.steps_allowed.proofs.Composing.{tree_edits_are_edits}
+use Rattle.headline.specs.Clean.{Clean}
+use Rattle.headline.specs.Headline.{Edits, Headline}
 use Rattle.headline.proofs.Headline.{headline_of}
+use Rattle.headline.proofs.Shaking.{quiet_clean}
 use Rattle.headline_text.specs.Written.{written}
 use Rattle.test_headline.specs.Rows as row
 
@@ -25,21 +33,42 @@ call_stands = ((a_call_expression, (false, (false, tt)), refl, tt, refl, ((a_ref
 two_stands : Stand (these (one expression ∷ [])) (sample.number_of 2)
 two_stands = ((a_literal, (Literal.Number (pos 2), tt), refl, tt, refl, tt), tt)
 
-items_stand : Stand (all_of_body module_item) (sample.row (says_number 1 ∷ sample.does_it (sample.number_of 2) ∷ []))
-items_stand = (inr (refl, (an_expression_statement, tt, refl, tt, refl, call_stands)), ((an_expression_statement, tt, refl, tt, refl, two_stands), tt))
+both_stand : Stand (all_of_body module_item) (sample.row (says_number 1 ∷ sample.does_it (sample.number_of 2) ∷ []))
+both_stand = (inr (refl, (an_expression_statement, tt, refl, tt, refl, call_stands)), ((an_expression_statement, tt, refl, tt, refl, two_stands), tt))
+
+one_stands : Stand (all_of_body module_item) (sample.row (says_number 1 ∷ []))
+one_stands = (inr (refl, (an_expression_statement, tt, refl, tt, refl, call_stands)), tt)
 
 fits : Fits root row.with_dead
-fits = ((a_program, (source_type.Module, tt), refl, tt, refl, ((refl, items_stand), tt)), tt)
+fits = ((a_program, (source_type.Module, tt), refl, tt, refl, ((refl, both_stand), tt)), tt)
+
+left_fits : Fits root row.calls_host
+left_fits = ((a_program, (source_type.Module, tt), refl, tt, refl, ((refl, one_stands), tt)), tt)
 
 well_formed : IsWellFormed row.with_dead
 unfolding is_identifier_name
 well_formed = refl
 
-pub left : bare (shaken row.with_dead) ≡ row.calls_host
-left = refl
+-- ---- the last of two statements becomes empty, and leaves
 
-pub headline : Headline row.with_dead (shaken row.with_dead)
-headline = headline_of row.with_dead fits well_formed
+abbrev last : (call : Forest) → Around
+last call = in_list (past call (first nothing))
 
-pub written_left : written (shaken row.with_negative) ≡ row.with_minus
+two_goes : Edits row.with_dead row.calls_host
+two_goes =
+    tree_edits_are_edits (one_tree_edit _ (sample.a_module (says_number 1 ∷ sample.leaf Kind.EmptyStatement ∷ [])) _ (becomes (last (says_number 1)) _ _ (silent_statement (silent_statement_empties nowhere nowhere nowhere _ nothing (inl refl, tt))))
+    (one_tree_edit _ _ _ (leaves (last (says_number 1)) _ (empty_statement (empty_statement_leaves nowhere refl))) (no_tree_edit _)))
+
+pub negative_stays : Edits row.with_negative row.less_four
+negative_stays =
+    tree_edits_are_edits (one_tree_edit _ (sample.a_module (row.says_less_four ∷ sample.leaf Kind.EmptyStatement ∷ [])) _ (becomes (last row.says_less_four) _ _ (silent_statement (silent_statement_empties nowhere nowhere nowhere _ nothing (inl refl, tt))))
+    (one_tree_edit _ _ _ (leaves (last row.says_less_four) _ (empty_statement (empty_statement_leaves nowhere refl))) (no_tree_edit _)))
+
+call_is_clean : Clean row.calls_host
+call_is_clean = quiet_clean row.calls_host left_fits refl
+
+pub headline : Headline row.with_dead row.calls_host
+headline = headline_of row.with_dead row.calls_host fits well_formed two_goes call_is_clean
+
+pub written_left : written row.less_four ≡ row.with_minus
 written_left = refl

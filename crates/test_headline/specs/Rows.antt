@@ -44,9 +44,16 @@ dead = sample.a_module (sample.does_it (sample.number_of 1) ∷ [])
 abbrev pub with_dead : Forest
 with_dead = sample.a_module (says_number 1 ∷ sample.does_it (sample.number_of 2) ∷ [])
 
--- f(-4); 2; with a literal that is negative
+-- f(-4); with a literal that is negative
+abbrev pub says_less_four : Forest
+says_less_four = sample.says (sample.leaf (Kind.Literal (Literal.Number (negsuc 3))) ∷ [])
+
+abbrev pub less_four : Forest
+less_four = sample.a_module (says_less_four ∷ [])
+
+-- f(-4); 2;
 abbrev pub with_negative : Forest
-with_negative = sample.a_module (sample.says (sample.leaf (Kind.Literal (Literal.Number (negsuc 3))) ∷ []) ∷ sample.does_it (sample.number_of 2) ∷ [])
+with_negative = sample.a_module (says_less_four ∷ sample.does_it (sample.number_of 2) ∷ [])
 
 -- f(-4); with unary minus
 abbrev pub with_minus : Forest

@@ -2,13 +2,12 @@
 ghost use Rattle.std.specs.Prelude.{◌≡◌, [], ◌∷◌, true, false};
 ghost use Rattle.js_syntax.specs.Class.{root};
 ghost use Rattle.js_syntax.specs.declared.kind.VariableKind.TheVariants as variable;
-ghost use Rattle.js_syntax.specs.Node.{bare};
 ghost use Rattle.js_meaning.specs.Kept.{Kept, KeptBack};
 ghost use Rattle.form_rules.specs.Samples.{a_module, a_script, a, binds, one, does, declares, function_a, block};
 ghost use Rattle.json_shape.specs.Shape.{Fits};
-ghost use Rattle.min_passes.specs.Passes.{has_next, shaken};
+ghost use Rattle.min_passes.specs.Passes.{has_next};
 ghost use Rattle.headline.specs.Clean.{Clean};
-ghost use Rattle.headline.specs.Headline.{Headline};
+ghost use Rattle.headline.specs.Headline.{Edits, Headline};
 ghost use Rattle.headline_text.specs.Written.{written};
 ghost use Rattle.steps_allowed.specs.Rows.{call_of_a, call_of_eval, exports_declaration, empty};
 ghost use Rattle.test_headline.specs.Rows as row;
@@ -83,13 +82,13 @@ pub fn premises_of_clean_are_needed()
     ensures goes { has_next row.declares_nothing ≡ true }
 {}
 
-/// `f(1); 2;` becomes `f(1);`.
+/// `f(1);` may take the place of `f(1); 2;`.
 pub fn what_is_left()
-    ensures shaken { bare (shaken row.with_dead) ≡ row.calls_host }
-    ensures headline { Headline row.with_dead (shaken row.with_dead) }
+    ensures { Headline row.with_dead row.calls_host }
 {}
 
-/// `f(-4); 2;` with a literal for -4 is written as `f(-4);` with unary minus on 4.
+/// Edits lead from `f(-4); 2;` with a literal for -4 to `f(-4);`, which is written with unary minus on 4.
 pub fn what_is_written()
-    ensures { written (shaken row.with_negative) ≡ row.with_minus }
+    ensures edits { Edits row.with_negative row.less_four }
+    ensures written { written row.less_four ≡ row.with_minus }
 {}

@@ -1,5 +1,5 @@
-use Rattle.test_headline.proofs.Left.{left, headline}
+use Rattle.test_headline.proofs.Left.{headline}
 use Rattle.test_headline.proofs.rows.what_is_left.Goals as goal
 
 pub returns : goal.returns
-returns c = record { shaken = left; headline = headline }
+returns c = headline
