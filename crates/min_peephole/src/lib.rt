@@ -1,0 +1,14 @@
+//! Which passes run over a program, and when do they end?
+//!
+//! `run_peephole_pass` is one walk that takes dead code out (min_statements), behind which the table's lists are pruned of what left
+//! and the bits of direct eval read anew where such a call left. Before and behind it program and context are *between passes*
+//! (`specs/Between.antt`): the table is exact for the program, its scopes' flags tell exactly what is exposed, and nothing is
+//! noted of the next pass. A pass that asks for another made the program lighter, and one that asks for none left it as it was, without
+//! dead code (`Clean` of headline). `run_passes` runs one after another until one asks for none.
+#![tactic(auto)]
+
+mod passes;
+mod shaken;
+
+pub use passes::{PassOutcome, run_passes, run_peephole_pass};
+pub use shaken::{Shaken, shake_program};
