@@ -1,5 +1,5 @@
 -- What stands in a program's place has what is promised of it.
-use Rattle.std.proofs.Common.{◌≡◌, ◌∙◌, ◌+◌, ◌≤◌, ℕ, true, Option, Some, None, is_some, Result, Ok, Err, IfOk, refl, sym, subst, ap, arith}
+use Rattle.std.proofs.Common.{◌≡◌, ◌∙◌, ◌+◌, ◌≤◌, ℕ, true, false, Option, Some, None, is_some, Result, Ok, Err, IfOk, refl, sym, subst, ap, arith}
 use Rattle.std.specs.List.{count_by}
 use Rattle.js_syntax.specs.Class.{root}
 use Rattle.js_syntax.specs.Facts.{weight}
@@ -15,20 +15,22 @@ use Rattle.scope_rules.specs.Table.{Scoping}
 use Rattle.steps_allowed.specs.Edits.{Edits, no_edit}
 use Rattle.steps_allowed.proofs.Composing.{edits_follow}
 use Rattle.json_shape.specs.Shape.{Fits}
-use Rattle.headline.proofs.Headline.{comes, kept_by, back_by}
+use Rattle.headline.proofs.Headline.{kept_by, back_by}
 use Rattle.headline.proofs.Renoted.{clean_as}
-use Rattle.headline.proofs.Shaking.{shaken_clean}
-use Rattle.min_pass.specs.Pass.{cleared}
-use Rattle.min_passes.specs.Built.{Built}
-use Rattle.min_passes.specs.Passes.{shaken, passes_of}
+use Rattle.min_pass.specs.Around.{outermost}
+use Rattle.min_pass.specs.Pass.{no_names, cleared}
+use Rattle.min_pass.proofs.Lighter.{swept_lighter}
+use Rattle.min_peephole.specs.Shaken as peephole
+use Rattle.min_peephole.specs.Shaken.{IsMarked}
 use Rattle.steps_fit.proofs.Sensible.{sensible}
 use Rattle.steps_owed.proofs.Edited.{edits_sensible}
 use Rattle.steps_owed.proofs.FitsEdits.{edits_fit}
-use Rattle.steps_left.proofs.Few.{few_passes, no_passes}
-use Rattle.steps_left.proofs.Size.{left_nodes, left_levels}
-use Rattle.min_driver.specs.Left.{IsLeft, IsShaken}
+use Rattle.steps_keep_text.proofs.Along.{edits_shed}
+use Rattle.steps_keep_text.proofs.Smaller.{nodes_shed, levels_shed}
+use Rattle.min_driver.specs.Left.{IsLeft}
 use Rattle.min_driver.specs.Limit.{IsWithinLimits}
 use Rattle.min_driver.specs.Minify.{IsCleanBy}
+use Rattle.min_driver.proofs.Cleared.{cleared_levels}
 use Rattle.min_options.specs.declared.options.CompressOptions.{CompressOptions}
 
 -- ---- whatever made it
@@ -43,30 +45,32 @@ pub record Came (o : Option CompressOptions) (t u : Forest) (iterations : ℕ) :
   pub few : iterations + total weight u ≤ total weight t
   pub none : is_some o ≡ true → iterations ≡ 0 → bare u ≡ bare (cleared t)
 
--- that its nodes were then marked, and its table made
-pub record Marked (u new : Forest) (s : Scoping) : Type 0 where
-  pub tree : new ≡ numbered u
-  pub table : s ≡ table_of u
-  pub exact : Exact s new
-  pub matches : Matches s new
-  pub resolved : count_by (λ r. is_some r.symbol) s.references ≡ resolved_references u
+-- a tree whose nodes are marked by the table that was made of it before
+pub marked_now : (u new : Forest) (s : Scoping) → new ≡ numbered u → s ≡ table_of u → Exact s new → Matches s new → count_by (λ r. is_some r.symbol) s.references ≡ resolved_references u → IsMarked new s
+marked_now u new s tree table exact matches resolved = record {
+  marked = tree ∙ sym (numbered_again u) ∙ ap numbered (sym tree);
+  table = table ∙ sym (table_again u) ∙ ap table_of (sym tree);
+  exact = exact;
+  matches = matches;
+  resolved = resolved ∙ sym (resolved_again u) ∙ ap resolved_references (sym tree);
+}
 
 clean_by : (o : Option CompressOptions) (u : Forest) → IsCleanBy o u → IsCleanBy o (numbered u)
 clean_by None u clean = tt
 clean_by (Some options) u clean = clean_as u (numbered u) (sym (numbered_same u)) clean
 
-module _ (o : Option CompressOptions) (t u new : Forest) (s : Scoping) (iterations : ℕ) (within : IsWithinLimits t) (form : IsWellFormed t) (came : Came o t u iterations) (m : Marked u new s) where
+module _ (o : Option CompressOptions) (t u new : Forest) (s : Scoping) (iterations : ℕ) (within : IsWithinLimits t) (form : IsWellFormed t) (came : Came o t u iterations) (tree : new ≡ numbered u) (m : IsMarked new s) where
   same : bare new ≡ bare u
-  same = ap bare m.tree ∙ numbered_same u
+  same = ap bare tree ∙ numbered_same u
 
   edits : Fits root t → Edits t new
   edits fits = edits_follow (came.edits fits) (no_edit u new (sym same))
 
   nodes : node_count new ≤ node_count t
-  nodes = Prim.omega (arith, ap node_count m.tree, numbered_total one_each u, came.nodes)
+  nodes = Prim.omega (arith, ap node_count tree, numbered_total one_each u, came.nodes)
 
   deep : levels new ≤ levels t
-  deep = Prim.omega (arith, ap levels m.tree, numbered_levels u, came.levels)
+  deep = Prim.omega (arith, ap levels tree, numbered_levels u, came.levels)
 
   pub is_left : IsLeft o t new s iterations
   is_left = record {
@@ -75,61 +79,46 @@ module _ (o : Option CompressOptions) (t u new : Forest) (s : Scoping) (iteratio
     back = λ fits core. back_by t new fits form (edits fits) core;
     fits = λ fits. edits_fit t new (edits fits) fits;
     formed = λ fits. (edits_sensible (edits fits) (sensible t fits form)).well_formed;
-    clean = λ fits. subst (IsCleanBy o) (sym m.tree) (clean_by o u (came.clean fits));
+    clean = λ fits. subst (IsCleanBy o) (sym tree) (clean_by o u (came.clean fits));
     nodes = nodes;
     levels = deep;
     small = record { nodes = Prim.omega (arith, nodes, within.nodes); levels = Prim.omega (arith, deep, within.levels) };
-    marked = m.tree ∙ sym (numbered_again u) ∙ ap numbered (sym m.tree);
-    scoping = m.table ∙ sym (table_again u) ∙ ap table_of (sym m.tree);
+    marked = m.marked;
+    scoping = m.table;
     exact = m.exact;
     matches = m.matches;
-    resolved = m.resolved ∙ sym (resolved_again u) ∙ ap resolved_references (sym m.tree);
-    untouched = λ asked. (m.tree ∙ ap numbered (came.untouched asked).0, (came.untouched asked).1);
-    few = Prim.omega (arith, ap (total weight) m.tree, numbered_total weight u, came.few);
+    resolved = m.resolved;
+    untouched = λ asked. (tree ∙ ap numbered (came.untouched asked).0, (came.untouched asked).1);
+    few = Prim.omega (arith, ap (total weight) tree, numbered_total weight u, came.few);
     none = λ asked zero. same ∙ came.none asked zero;
   }
 
--- of a program that fits the table of node types
-pub is_shaken : (o : Option CompressOptions) (t new : Forest) (s : Scoping) (iterations : ℕ) → Fits root t → IsLeft o t new s iterations → IsShaken o t new s iterations
-is_shaken o t new s iterations fits left = record {
-  edits = left.edits fits;
-  kept = left.kept fits;
-  back = left.back fits;
-  fits = left.fits fits;
-  formed = left.formed fits;
-  clean = left.clean fits;
-  nodes = left.nodes;
-  levels = left.levels;
-  small = left.small;
-  marked = left.marked;
-  scoping = left.scoping;
-  exact = left.exact;
-  matches = left.matches;
-  resolved = left.resolved;
-  untouched = left.untouched;
-  few = left.few;
-  none = left.none;
+-- ---- what passes leave, and a program that stays or only loses its empty statements
+
+peephole_came : (options : CompressOptions) (t u : Forest) (s : Scoping) (iterations : ℕ) → Fits root t → peephole.IsShaken t u s iterations → Came (Some options) t u iterations
+peephole_came options t u s iterations fits k = record {
+  edits = λ h. k.edits;
+  clean = λ h. k.clean;
+  nodes = edits_shed node_count nodes_shed t u k.edits fits;
+  levels = edits_shed levels levels_shed t u k.edits fits;
+  untouched = λ asked. absurd (cc asked);
+  few = k.few;
+  none = λ asked. k.none;
 }
 
-pub all_shaken : {X E : Type 0} (trees : X → Forest) (tables : X → Scoping) (counts : X → ℕ) (o : Option CompressOptions) (t : Forest) → Fits root t → (r : Result X E) → IfOk r (λ x. IsLeft o t (trees x) (tables x) (counts x))
-    → IfOk r (λ x. IsShaken o t (trees x) (tables x) (counts x))
-all_shaken trees tables counts o t fits (Ok x) left = is_shaken o t (trees x) (tables x) (counts x) fits left
-all_shaken trees tables counts o t fits (Err e) left = left
+pub cleared_nodes : (t : Forest) → node_count (cleared t) ≤ node_count t
+cleared_nodes t = swept_lighter one_each (Prim.omega arith) no_names (outermost false) t
 
--- ---- what passes leave, and a program that stays
-
-built_marked : (u new : Forest) (s : Scoping) → Built new s u → Marked u new s
-built_marked u new s b = record { tree = b.marked; table = b.table; exact = b.exact; matches = b.matches; resolved = b.resolved }
-
-shaken_came : (options : CompressOptions) (t : Forest) (iterations : ℕ) → IsWellFormed t → iterations ≡ passes_of t → Came (Some options) t (shaken t) iterations
-shaken_came options t iterations form passes = record {
-  edits = λ fits. comes t fits form;
-  clean = shaken_clean t;
-  nodes = left_nodes t;
-  levels = left_levels t;
+-- of a program that doesn't fit the table
+cleared_came : (options : CompressOptions) (t : Forest) (iterations : ℕ) → (Fits root t → ⊥) → iterations ≡ 0 → Came (Some options) t (cleared t) iterations
+cleared_came options t iterations unfit none = record {
+  edits = λ fits. absurd (unfit fits);
+  clean = λ fits. absurd (unfit fits);
+  nodes = cleared_nodes t;
+  levels = cleared_levels t;
   untouched = λ asked. absurd (cc asked);
-  few = Prim.omega (arith, passes, few_passes t);
-  none = λ asked zero. ap bare (no_passes t (sym passes ∙ zero));
+  few = Prim.omega (arith, none, swept_lighter weight (Prim.omega arith) no_names (outermost false) t);
+  none = λ asked zero. refl;
 }
 
 stays_came : (t : Forest) (iterations : ℕ) → iterations ≡ 0 → Came None t t iterations
@@ -143,14 +132,17 @@ stays_came t iterations none = record {
   none = λ asked. absurd (cc asked);
 }
 
+pub compressed : (options : CompressOptions) (t u : Forest) (s : Scoping) (iterations : ℕ) → IsWithinLimits t → IsWellFormed t → Fits root t → peephole.IsShaken t u s iterations → IsLeft (Some options) t u s iterations
+compressed options t u s iterations within form fits k = is_left (Some options) t u u s iterations within form (peephole_came options t u s iterations fits k) k.marked.marked k.marked
+
 -- whatever is answered beside the tree, its table and the number of passes
 module _ {X E : Type 0} (trees : X → Forest) (tables : X → Scoping) (counts : X → ℕ) (t : Forest) (within : IsWithinLimits t) (form : IsWellFormed t) where
-  pub all_left : (options : CompressOptions) (r : Result X E) → IfOk r (λ x. Built (trees x) (tables x) (shaken t)) → IfOk r (λ x. counts x ≡ passes_of t)
+  pub all_cleared : (options : CompressOptions) → (Fits root t → ⊥) → (r : Result X E) → IfOk r (λ x. trees x ≡ numbered (cleared t)) → IfOk r (λ x. IsMarked (trees x) (tables x)) → IfOk r (λ x. counts x ≡ 0)
       → IfOk r (λ x. IsLeft (Some options) t (trees x) (tables x) (counts x))
-  all_left options (Ok x) built passes =
-      is_left (Some options) t (shaken t) (trees x) (tables x) (counts x) within form (shaken_came options t (counts x) form passes) (built_marked (shaken t) (trees x) (tables x) built)
-  all_left options (Err e) built passes = built
+  all_cleared options unfit (Ok x) tree marked none =
+      is_left (Some options) t (cleared t) (trees x) (tables x) (counts x) within form (cleared_came options t (counts x) unfit none) tree marked
+  all_cleared options unfit (Err e) tree marked none = tree
 
-  pub all_marked : (r : Result X E) → IfOk r (λ x. Built (trees x) (tables x) t) → IfOk r (λ x. counts x ≡ 0) → IfOk r (λ x. IsLeft None t (trees x) (tables x) (counts x))
-  all_marked (Ok x) built passes = is_left None t t (trees x) (tables x) (counts x) within form (stays_came t (counts x) passes) (built_marked t (trees x) (tables x) built)
-  all_marked (Err e) built passes = built
+  pub all_marked : (r : Result X E) → IfOk r (λ x. trees x ≡ numbered t) → IfOk r (λ x. IsMarked (trees x) (tables x)) → IfOk r (λ x. counts x ≡ 0) → IfOk r (λ x. IsLeft None t (trees x) (tables x) (counts x))
+  all_marked (Ok x) tree marked none = is_left None t t (trees x) (tables x) (counts x) within form (stays_came t (counts x) none) tree marked
+  all_marked (Err e) tree marked none = tree

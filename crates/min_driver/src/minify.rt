@@ -1,5 +1,5 @@
 // The library call.
-ghost use Rattle.std.specs.Prelude.{◌≡◌, ◌+◌, ◌≤◌, IfOk, IfErr, IsSomeAnd, None, is_some, true};
+ghost use Rattle.std.specs.Prelude.{◌≡◌, ◌+◌, ◌≤◌, ◌<◌, ◌^◌, IfOk, IfErr, IsSomeAnd, Some, None, is_some, true};
 ghost use Rattle.std.specs.List.{count_by};
 ghost use Rattle.js_syntax.specs.Class.{root};
 ghost use Rattle.js_syntax.specs.Facts.{weight};
@@ -12,8 +12,7 @@ ghost use Rattle.min_driver.specs.Limit.{IsWithinLimits};
 ghost use Rattle.min_driver.specs.Minify.{IsCleanBy, IsCause};
 ghost use Rattle.min_options.specs.Options.{IsSmallest};
 ghost use Rattle.min_pass.specs.Pass.{cleared};
-ghost use Rattle.min_passes.specs.Built.{Built};
-ghost use Rattle.min_passes.specs.Passes.{shaken, passes_of};
+ghost use Rattle.min_peephole.specs.Shaken.{IsMarked};
 ghost use Rattle.scope_laws.specs.Exact.{Exact};
 ghost use Rattle.scope_rules.specs.Binding.{resolved_references};
 ghost use Rattle.scope_match.specs.Matches.{Matches};
@@ -26,8 +25,10 @@ use form_check::{FormError, well_formed};
 use js_scoping::{Scoping, build};
 use js_tree::Program;
 use js_tree_copy::try_clone;
+use json_fits::fits;
 use min_options::CompressOptions;
-use min_passes::{Shaken, shake_program};
+use min_pass::clear_program;
+use min_peephole::{Shaken, shake_program};
 use std::alloc::{AllocError, Global};
 
 /// What the library call is to do.
@@ -86,17 +87,22 @@ fn check(alloc: Global, program: &Program) -> Result<(), MinifyError>
     check_form(alloc, program)
 }
 
-// What the passes leave of a program.
-fn compress(alloc: Global, program: Program) -> Result<(Program, MinifierReturn), AllocError>
+// What passes leave of a program that fits the table of node types.
+fn compress(
+    alloc: Global,
+    options: CompressOptions,
+    program: Program,
+) -> Result<(Program, MinifierReturn), AllocError>
     requires within { IsWithinLimits (forest_of program) }
-    ensures built { IfOk result (λ r. Built (forest_of r.0) r.1.scoping (shaken (forest_of program))) }
-    ensures iterations { IfOk result (λ r. r.1.iterations ≡ passes_of (forest_of program)) }
+    requires well_formed { IsWellFormed (forest_of program) }
+    requires fits { Fits root (forest_of program) }
+    ensures left { IfOk result (λ r. IsLeft (Some options) (forest_of program) (forest_of r.0) r.1.scoping r.1.iterations) }
 {
     let Shaken {
         program: left,
         scoping,
         iterations,
-    } = shake_program(alloc, program)?;
+    } = shake_program(alloc, options, program)?;
     Ok((
         left,
         MinifierReturn {
@@ -108,8 +114,9 @@ fn compress(alloc: Global, program: Program) -> Result<(Program, MinifierReturn)
 
 // A program that stays, its nodes marked.
 fn mark(alloc: Global, program: Program) -> Result<(Program, MinifierReturn), AllocError>
-    requires within { IsWithinLimits (forest_of program) }
-    ensures built { IfOk result (λ r. Built (forest_of r.0) r.1.scoping (forest_of program)) }
+    requires small { node_count (forest_of program) < 2 ^ 32 }
+    ensures numbered { IfOk result (λ r. forest_of r.0 ≡ numbered (forest_of program)) }
+    ensures marked { IfOk result (λ r. IsMarked (forest_of r.0) r.1.scoping) }
     ensures iterations { IfOk result (λ r. r.1.iterations ≡ 0) }
 {
     let mut left = program;
@@ -123,31 +130,75 @@ fn mark(alloc: Global, program: Program) -> Result<(Program, MinifierReturn), Al
     ))
 }
 
-// Compresses a program, or only marks its nodes.
-fn minify(
+// A program without the empty statements of its lists, its nodes marked.
+fn clear(alloc: Global, program: Program) -> Result<(Program, MinifierReturn), AllocError>
+    requires small { node_count (forest_of program) < 2 ^ 32 }
+    ensures numbered { IfOk result (λ r. forest_of r.0 ≡ numbered (cleared (forest_of program))) }
+    ensures marked { IfOk result (λ r. IsMarked (forest_of r.0) r.1.scoping) }
+    ensures iterations { IfOk result (λ r. r.1.iterations ≡ 0) }
+{
+    let cleared = clear_program(alloc, program)?;
+    mark(alloc, cleared)
+}
+
+// Compresses a program. Of one that doesn't fit the table nothing is known that passes could go by.
+fn compress_any(
     alloc: Global,
-    options: &Option<CompressOptions>,
+    options: CompressOptions,
     program: Program,
 ) -> Result<(Program, MinifierReturn), AllocError>
     requires within { IsWithinLimits (forest_of program) }
     requires well_formed { IsWellFormed (forest_of program) }
-    ensures left { IfOk result (λ r. IsLeft options.now (forest_of program) (forest_of r.0) r.1.scoping r.1.iterations) }
+    ensures left { IfOk result (λ r. IsLeft (Some options) (forest_of program) (forest_of r.0) r.1.scoping r.1.iterations) }
+{
+    if fits(&program) {
+        return compress(alloc, options, program);
+    }
+    clear(alloc, program)
+}
+
+// Compresses a program, or only marks its nodes.
+fn minify(
+    alloc: Global,
+    options: Option<CompressOptions>,
+    program: Program,
+) -> Result<(Program, MinifierReturn), AllocError>
+    requires within { IsWithinLimits (forest_of program) }
+    requires well_formed { IsWellFormed (forest_of program) }
+    ensures left { IfOk result (λ r. IsLeft options (forest_of program) (forest_of r.0) r.1.scoping r.1.iterations) }
 {
     match options {
         None => mark(alloc, program),
-        Some(_) => compress(alloc, program),
+        Some(options) => compress_any(alloc, options, program),
+    }
+}
+
+// The same of a program that fits the table of node types.
+fn minify_fitting(
+    alloc: Global,
+    options: Option<CompressOptions>,
+    program: Program,
+) -> Result<(Program, MinifierReturn), AllocError>
+    requires within { IsWithinLimits (forest_of program) }
+    requires well_formed { IsWellFormed (forest_of program) }
+    requires fits { Fits root (forest_of program) }
+    ensures left { IfOk result (λ r. IsLeft options (forest_of program) (forest_of r.0) r.1.scoping r.1.iterations) }
+{
+    match options {
+        None => mark(alloc, program),
+        Some(options) => compress(alloc, options, program),
     }
 }
 
 // The same of a program that is left as it is.
 fn minify_copy(
     alloc: Global,
-    options: &Option<CompressOptions>,
+    options: Option<CompressOptions>,
     program: &Program,
 ) -> Result<(Program, MinifierReturn), AllocError>
     requires within { IsWithinLimits (forest_of program.now) }
     requires well_formed { IsWellFormed (forest_of program.now) }
-    ensures left { IfOk result (λ r. IsLeft options.now (forest_of program.now) (forest_of r.0) r.1.scoping r.1.iterations) }
+    ensures left { IfOk result (λ r. IsLeft options (forest_of program.now) (forest_of r.0) r.1.scoping r.1.iterations) }
 {
     let copy = try_clone(alloc, program)?;
     minify(alloc, options, copy)
@@ -158,6 +209,15 @@ impl Minifier {
         ensures options { result.options ≡ options }
     {
         Minifier { options }
+    }
+
+    // The options of the passes.
+    fn into_compress(self) -> Option<CompressOptions>
+        ensures { result ≡ self.options.compress }
+    {
+        let Minifier { options } = self;
+        let MinifierOptions { compress } = options;
+        compress
     }
 
     /// Dead code elimination: what is left of the program is put in its place, its nodes marked with the numbers of
@@ -188,7 +248,7 @@ impl Minifier {
         ensures unchanged { IfErr result (λ _. program.new ≡ program.old) }
     {
         check(alloc, program)?;
-        let (left, done) = minify_copy(alloc, &self.options.compress, program)?;
+        let (left, done) = minify_copy(alloc, self.into_compress(), program)?;
         *program = left;
         Ok(done)
     }
@@ -206,7 +266,7 @@ impl Minifier {
         ensures err { IfErr result (λ e. IsCause e (forest_of program)) }
     {
         check(alloc, &program)?;
-        let done = minify(alloc, &self.options.compress, program)?;
+        let done = minify(alloc, self.into_compress(), program)?;
         Ok(done)
     }
 
@@ -224,6 +284,8 @@ impl Minifier {
         ensures well_formed { IfOk result (λ _. IsWellFormed (forest_of program)) }
         ensures err { IfErr result (λ e. IsCause e (forest_of program)) }
     {
-        self.dce_owned(alloc, program)
+        check(alloc, &program)?;
+        let done = minify_fitting(alloc, self.into_compress(), program)?;
+        Ok(done)
     }
 }

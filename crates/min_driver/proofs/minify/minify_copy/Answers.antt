@@ -13,5 +13,5 @@ minify-requires c = record {
 
 pub returns : goal.returns
 returns c = record {
-  left = subst (λ (t : Forest). IfOk c.minify.result (λ r. IsLeft c.args.options.now t (forest_of r.0) r.1.scoping r.1.iterations)) (ap forest_of c.in_ok-copy.ensures.equal) c.minify.ensures.left;
+  left = subst (λ (t : Forest). IfOk c.minify.result (λ r. IsLeft c.args.options t (forest_of r.0) r.1.scoping r.1.iterations)) (ap forest_of c.in_ok-copy.ensures.equal) c.minify.ensures.left;
 }
