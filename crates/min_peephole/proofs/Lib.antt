@@ -1,4 +1,5 @@
 pub mod Cleaned
+pub mod Quieted
 pub mod Beginning
 pub mod Passing
 pub mod Weighing

@@ -7,6 +7,7 @@
 //! dead code (`Clean` of headline). `run_passes` runs one after another until one asks for none.
 #![tactic(auto)]
 
+pub mod laws;
 mod passes;
 mod shaken;
 

@@ -14,7 +14,7 @@ returns-then-needs_another_pass c =
     let done : c.complete_pass.new.self ≡ completed u c.walk.new.ctx = c.complete_pass.ensures.completed ∙ ap {A = Seen} {B = Seen} (completed u) c.get_mut.ensures.context in
     let asked : c.walk.new.ctx.requested ≡ true = ap {A = Seen} (λ k. k.requested) (sym c.get.ensures.context) ∙ sym c.revisit_requested-needs_another_pass.ensures.requested ∙ c.if-needs_another_pass.true in
     let b : BetweenPasses c.walk.new.statements c.complete_pass.new.self u =
-        subst (λ (k : Seen). BetweenPasses c.walk.new.statements k u) (sym done) (completed_between c.walk.new.statements c.walk.new.ctx u w.holds w.known w.only w.exported_only w.place) in
+    subst (λ (k : Seen). BetweenPasses c.walk.new.statements k u) (sym done) (completed_between c.walk.new.statements c.walk.new.ctx u w.holds w.known w.only w.exported_only w.place) in
     record {
       edits = w.edits;
       between = b;
@@ -31,8 +31,8 @@ returns-else-needs_another_pass c =
     let u = forest_of c.walk.new.program in
     let none : c.walk.new.ctx.requested ≡ false = ap {A = Seen} (λ k. k.requested) (sym c.get.ensures.context) ∙ sym c.revisit_requested-needs_another_pass.ensures.requested ∙ c.if-needs_another_pass.false in
     let b : BetweenPasses c.walk.new.statements c.walk.new.ctx u =
-        subst (λ (n : Names). BetweenPasses n c.walk.new.ctx u) (sym (w.names_same none))
-        (between_same c.args.statements.now c.args.ctx.now c.walk.new.ctx c.args.program.now c.walk.new.program (w.context_same none) (c.in_ok-walk.ensures.quiet none) c.requires.between) in
+    subst (λ (n : Names). BetweenPasses n c.walk.new.ctx u) (sym (w.names_same none))
+    (between_same c.args.statements.now c.args.ctx.now c.walk.new.ctx c.args.program.now c.walk.new.program (w.context_same none) (c.in_ok-walk.ensures.quiet none) c.requires.between) in
     record {
       edits = w.edits;
       between = b;
