@@ -5,19 +5,13 @@ use Rattle.js_syntax.specs.Node.{Forest}
 use Rattle.form_rules.specs.Form.{IsWellFormed}
 use Rattle.js_meaning.specs.Kept.{Kept, KeptBack}
 use Rattle.js_meaning.proofs.Kept.{refined_kept, refined_back}
-use Rattle.min_passes.specs.Passes.{shaken}
 use Rattle.steps_allowed.specs.Edits.{Edits}
 use Rattle.json_shape.specs.Shape.{Fits}
-use Rattle.steps_fit.proofs.Sensible.{sensible, sensible_module}
+use Rattle.steps_fit.proofs.Sensible.{sensible_module}
 use Rattle.headline.specs.Clean.{Clean}
 use Rattle.headline.specs.Headline.{is_core_module, Headline}
 use Rattle.headline.proofs.Sound.{Refines}
 use Rattle.headline.proofs.Refining.{edits_refine}
-use Rattle.headline.proofs.Passes.{shaken_comes}
-
--- edits lead to what passes leave
-pub comes : (t : Forest) → Fits root t → IsWellFormed t → Edits t (shaken t)
-comes t fits form = shaken_comes t (sensible t fits form)
 
 -- ---- of core modules
 

@@ -2,15 +2,6 @@ pub mod Binding
 pub mod Cells
 pub mod Once
 pub mod Sound
-pub mod Bare
-pub mod Telling
-pub mod Passes
 pub mod Refining
 pub mod Headline
 pub mod Renoted
-pub mod Declaring
-pub mod Exporting
-pub mod Reaching
-pub mod Dead
-pub mod Lost
-pub mod Shaking

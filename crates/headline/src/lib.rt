@@ -4,8 +4,8 @@
 //! of a core module every run is kept, and no part of what is left is dead code. `promise` states that this holds of every
 //! program that fits the table of node types and breaks no rule of form, where edits lead to one without dead code.
 //!
-//! `clean`: what dead code is stands in `specs/Clean.antt`, read off a tree by the bindings of its names. A pass leaves a
-//! program as it is exactly where it has none.
+//! `clean`: what dead code is stands in `specs/Clean.antt`, read off a tree by the bindings of its names, whatever its spans
+//! and ids are.
 //!
 //! Two families of laws lead there. `kept_runs`: a step refines a core module with no premise but that both are sensible,
 //! since what the law of steps asks of a name whose declaration goes holds wherever the scopes are clear. `edits`: edits

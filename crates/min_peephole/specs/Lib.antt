@@ -1,3 +1,4 @@
 pub mod Between
 pub mod Walked
 pub mod Shaken
+pub mod Quiet

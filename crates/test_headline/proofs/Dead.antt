@@ -17,9 +17,9 @@ use Rattle.scope_laws.specs.Exact.{Among}
 use Rattle.scope_laws.specs.Place.{Around, first, behind, behind_none, under, plug}
 use Rattle.steps_names.specs.Standing.{exported_declarations}
 use Rattle.steps_allowed.specs.Rows.{in_list, before, call_of_a, call_of_eval, exports_declaration, empty}
-use Rattle.min_passes.specs.Passes.{has_next}
 use Rattle.headline.specs.Clean.{IsDead, an_empty_statement, a_silent_statement, an_unused_function, an_unused_declarator, Clean}
-use Rattle.headline.proofs.Shaking.{quiet_clean}
+use Rattle.min_peephole.specs.Quiet.{is_quiet}
+use Rattle.min_peephole.proofs.Quieted.{quiet_clean}
 use Rattle.test_headline.specs.Rows as row
 
 -- ---- what has dead code
@@ -140,16 +140,16 @@ global_fits = ((a_program, (source_type.Script, tt), refl, tt, refl, ((refl, (in
 pub global_is_clean : Clean (a_script (function_a [] [] ∷ []))
 global_is_clean = quiet_clean _ global_fits refl
 
--- ---- what the premises are for
+-- ---- what the rules take
 
 -- behind the export
 abbrev behind_export : Around
 behind_export =
     in_list (under Kind.BlockStatement nowhere (under Kind.Statements nowhere (behind (Kind.ExportNamedDeclaration None) nowhere (joined (let_ a) (listed Kind.Specifiers [])) (first nothing)) nothing) nothing)
 
--- The name is one of the block's, which exports nothing; but the pass keeps what an export seems to be of.
-pub misplaced_stays : has_next row.misplaced_export ≡ false
-misplaced_stays = refl
+-- The name is one of the block's, which exports nothing.
+pub misplaced_goes : is_quiet row.misplaced_export ≡ false
+misplaced_goes = refl
 
 pub misplaced_is_dead : Clean row.misplaced_export → ⊥
 misplaced_is_dead c = c.nothing_is_dead behind_export _ refl (an_unused_function behind_export false nowhere nowhere a _ refl refl (record { unreferred = λ r h e. h; unexported = not_exported }))
@@ -183,12 +183,12 @@ dead_suspect t a x is (a_silent_statement b n below silent) = ap has_suspect is 
 dead_suspect t a x is (an_unused_function b pure n m y rest item own free) = ap has_suspect is ∙ suspect_there b _ refl
 dead_suspect t a x is (an_unused_declarator b n m y value item own silent free) = ap has_suspect is ∙ suspect_there b _ refl
 
--- The pass takes a declaration of which no declarator stays, also where it has none.
+-- A declaration goes with the last of its declarators, and stays where it has none.
 pub nothing_declared_is_clean : Clean row.declares_nothing
 nothing_declared_is_clean = record { nothing_is_dead = λ a x is dead. true≢false (sym (dead_suspect row.declares_nothing a x is dead)) }
 
-pub nothing_declared_goes : has_next row.declares_nothing ≡ true
-nothing_declared_goes = refl
+pub nothing_declared_stays : is_quiet row.declares_nothing ≡ true
+nothing_declared_stays = refl
 
 pub nothing_declared_fits : Fits root row.declares_nothing
 nothing_declared_fits = ((a_program, (source_type.Module, tt), refl, tt, refl, ((refl, (inr (refl, (a_variable_declaration, (variable.Let, tt), refl, tt, refl, ((refl, tt), tt))), tt)), tt)), tt)

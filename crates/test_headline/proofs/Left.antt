@@ -20,8 +20,8 @@ use Rattle.steps_allowed.proofs.Composing.{tree_edits_are_edits}
 use Rattle.headline.specs.Clean.{Clean}
 use Rattle.headline.specs.Headline.{Edits, Headline}
 use Rattle.headline.proofs.Headline.{headline_of}
-use Rattle.headline.proofs.Shaking.{quiet_clean}
 use Rattle.headline_text.specs.Written.{written}
+use Rattle.min_peephole.proofs.Quieted.{quiet_clean}
 use Rattle.test_headline.specs.Rows as row
 
 number_stands : Stand (all argument) (sample.number_of 1)

@@ -6,8 +6,8 @@
 //! Each is refused by what runs show, or by dead code that is left. Programs that lost what other code than
 //! their references may use are refused by the list of edits, by laws of `steps_owed`.
 //!
-//! What dead code is (`Clean`) is tried too: four small programs have some and four have none, and a program that doesn't
-//! fit the table, or breaks a rule of form, shows what the laws on it ask for.
+//! What dead code is (`Clean`) is tried too: four small programs have some and four have none, and of one of each
+//! sort it is told whether the rules leave it as it is.
 //!
 //! The code is empty: each function's contract is computed.
 #![tactic(auto)]

@@ -5,10 +5,10 @@ ghost use Rattle.js_syntax.specs.declared.kind.VariableKind.TheVariants as varia
 ghost use Rattle.js_meaning.specs.Kept.{Kept, KeptBack};
 ghost use Rattle.form_rules.specs.Samples.{a_module, a_script, a, binds, one, does, declares, function_a, block};
 ghost use Rattle.json_shape.specs.Shape.{Fits};
-ghost use Rattle.min_passes.specs.Passes.{has_next};
 ghost use Rattle.headline.specs.Clean.{Clean};
 ghost use Rattle.headline.specs.Headline.{Edits, Headline};
 ghost use Rattle.headline_text.specs.Written.{written};
+ghost use Rattle.min_peephole.specs.Quiet.{is_quiet};
 ghost use Rattle.steps_allowed.specs.Rows.{call_of_a, call_of_eval, exports_declaration, empty};
 ghost use Rattle.test_headline.specs.Rows as row;
 
@@ -71,15 +71,14 @@ pub fn what_others_may_use_is_no_dead_code()
     ensures global { Clean (a_script (function_a [] [] ∷ [])) }
 {}
 
-/// That a pass leaves what is clean alone is asked of programs of the table: by an export in a block it keeps a function of
-/// the block's that nothing refers to. And that it leaves nothing else, of programs that break no rule of form: it takes a
-/// declaration without declarators, which declares nothing that could be dead.
-pub fn premises_of_clean_are_needed()
-    ensures quiet { has_next row.misplaced_export ≡ false }
+/// By an export in a block, which no program of the table has, a function of the block's that nothing refers to is dead code
+/// still, and the rules don't leave it. A declaration without declarators declares nothing that could be dead, and stays.
+pub fn rules_take_dead_code_alone()
     ensures dead { Clean row.misplaced_export → ⊥ }
+    ensures goes { is_quiet row.misplaced_export ≡ false }
     ensures fits { Fits root row.declares_nothing }
     ensures clean { Clean row.declares_nothing }
-    ensures goes { has_next row.declares_nothing ≡ true }
+    ensures stays { is_quiet row.declares_nothing ≡ true }
 {}
 
 /// `f(1);` may take the place of `f(1); 2;`.

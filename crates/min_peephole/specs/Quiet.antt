@@ -1,0 +1,33 @@
+-- Whether the rules leave a program as it is, by the table that is made of it.
+use Rattle.std.specs.Prelude.{Bool, true, false, not, ◌&&◌}
+use Rattle.js_syntax.specs.declared.node_kind.NodeKind.{NodeKind as Kind}
+use Rattle.js_syntax.specs.declared.node_kind.NodeKind.TheVariants.{Statements as statements}
+use Rattle.js_syntax.specs.Node.{Forest, nothing, node, absent}
+use Rattle.js_scoping.specs.Build.{table_of, numbered}
+use Rattle.steps_allowed.specs.Exposure.{is_script}
+use Rattle.min_context.specs.Above.{above_of}
+use Rattle.min_context.specs.Place.{Place, Spot, place_of, next_of, below, top}
+use Rattle.exported_names.specs.Answers.{bound_of}
+use Rattle.exported_names.specs.Exported.{exported_of}
+use Rattle.rules_dead_code.specs.Rules.{Facts, where_of, is_silent_statement, has_dead}
+
+-- what the first pass knows
+abbrev pub first_facts : Forest → Facts
+first_facts t = record { scoping = table_of t; bound = bound_of (table_of t); exported = exported_of (table_of t) (numbered t); is_script = is_script (numbered t) }
+
+abbrev pub is_row : Kind → Bool
+is_row statements = true
+is_row k = false
+
+-- a node at a place: no item of a list goes, and no statement becomes empty
+abbrev pub stays : Facts → Place → Kind → (inner : Forest) → Bool
+stays f p k inner = not (is_row k && has_dead f (where_of p) inner) && not (is_silent_statement f (where_of p) k inner)
+
+-- each node of a row, by its place
+abbrev pub all_stay : Facts → Spot → Forest → Bool
+all_stay f s nothing = true
+all_stay f s (absent rest) = all_stay f (next_of s false) rest
+all_stay f s (node k n inner rest) = stays f (place_of s) k inner && (all_stay f (below (place_of s) (above_of k n)) inner && all_stay f (next_of s true) rest)
+
+abbrev pub is_quiet : Forest → Bool
+is_quiet t = all_stay (first_facts t) top (numbered t)
