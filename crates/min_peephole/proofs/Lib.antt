@@ -1,4 +1,3 @@
-pub mod Cleaned
 pub mod Beginning
 pub mod Passing
 pub mod Weighing
