@@ -1,7 +1,4 @@
-pub mod Cleaned
 pub mod Quieted
-pub mod Dead
-pub mod Staying
 pub mod Beginning
 pub mod Passing
 pub mod Weighing

@@ -33,7 +33,7 @@ use Rattle.min_context.specs.Seen.{Seen, still}
 use Rattle.min_statements.specs.Own.{ExportedOnly, IsToldOnly}
 use Rattle.min_statements.specs.Walker.{Names, facts_of}
 use Rattle.min_peephole.specs.Between.{BetweenPasses}
-use Rattle.min_peephole.proofs.Cleaned.{clean}
+use Rattle.rules_clean.proofs.Cleaned.{clean}
 
 -- ---- nothing is marked
 

@@ -18,7 +18,7 @@ use Rattle.rules_dead_code.specs.Quiet.{EachNode, IsQuietAt}
 use Rattle.rules_dead_code.specs.Rules.{Facts, where_of, is_silent_statement, has_dead}
 use Rattle.rules_dead_code.proofs.Walked.{quiet_nodes}
 use Rattle.min_peephole.specs.Quiet.{first_facts, is_row, stays, all_stay, is_quiet}
-use Rattle.min_peephole.proofs.Cleaned.{clean}
+use Rattle.rules_clean.proofs.Cleaned.{clean}
 
 list_stays : (k : Kind) (dead : Bool) → not (is_row k && dead) ≡ true → k ≡ statements → dead ≡ false
 list_stays k false h e = refl

@@ -4,8 +4,8 @@
 //! and the bits of direct eval read anew where such a call left. Before and behind it program and context are *between passes*
 //! (`specs/Between.antt`): the table is exact for the program, its scopes' flags tell exactly what is exposed, and nothing is
 //! noted of the next pass. A pass that asks for another made the program lighter, and one that asks for none left it as it was, without
-//! dead code (`Clean` of headline). `run_passes` runs one after another until one asks for none. The rules leave a program as it is
-//! exactly where it has no dead code (`laws`).
+//! dead code (`Clean` of headline). `run_passes` runs one after another until one asks for none. A program that the rules
+//! leave as it is has no dead code, as far as that is computed on a tree (`laws`).
 #![tactic(auto)]
 
 pub mod laws;

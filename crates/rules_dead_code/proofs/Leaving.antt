@@ -1,4 +1,4 @@
--- Single edits that the rules allow.
+-- Single edits that the rules allow, and what is true of the nodes that they take out.
 use Rattle.std.proofs.Common.{◌≡◌, ◌∙◌, ◌+◌, ◌==◌, ℕ, List, [], ◌++◌, Bool, true, false, ◌&&◌, ◌||◌, Option, Some, inl, refl, sym, ap, subst}
 use Rattle.std.proofs.lemmas.Bool.{and_parts}
 use Rattle.js_syntax.specs.declared.node_kind.NodeKind.{NodeKind as Kind}
@@ -17,12 +17,12 @@ use Rattle.scope_rules.specs.Binding.{named_in}
 use Rattle.scope_laws.specs.Place.{Around, plug}
 use Rattle.scope_laws.specs.Lists.{without}
 use Rattle.steps_names.proofs.Sites.{binding_second}
-use Rattle.steps_allowed.specs.Exposure.{is_script, evaluates_somewhere}
-use Rattle.steps_allowed.specs.Places.{a_node, asked_at, IsItem, IsDeclarator, has_other}
+use Rattle.steps_allowed.specs.Exposure.{is_script, evaluates_somewhere, IsOwnDeclarator}
+use Rattle.steps_allowed.specs.Places.{a_node, asked_at, IsItem, IsDeclarator, has_other, At}
 use Rattle.steps_allowed.specs.Free.{IsFree, Free, FreeDeclarator}
 use Rattle.steps_allowed.specs.EmptyStatement.{empty_statement_leaves}
 use Rattle.steps_allowed.specs.SilentStatement.{SilentStatement, a_statement, silent_statement_empties}
-use Rattle.steps_allowed.specs.UnusedFunction.{a_function, unused_function_leaves}
+use Rattle.steps_allowed.specs.UnusedFunction.{a_function, UnusedFunction, unused_function_leaves}
 use Rattle.steps_allowed.specs.UnusedDeclarator.{SilentDeclarator, a_declarator, unused_declarator_leaves}
 use Rattle.steps_allowed.specs.UnusedDeclaration.{SilentDeclaration, one_declarator, a_declaration, unused_declaration_leaves}
 use Rattle.steps_allowed.specs.Edits.{Edit, leaves, becomes, silent_statement, unused_function, unused_declarator, unused_declaration}
@@ -45,29 +45,33 @@ named_site c m x = record { id = m.id; name = x; layer = c.declaring.layer; flag
 pub empty_leaves : (a : Around) (n : Note) → IsItem a → Edit (plug a (a_node empty_statement n nothing)) (without a)
 empty_leaves a n item = leaves a (record { kind = empty_statement; note = n; below = nothing }) (edits.empty_statement (empty_statement_leaves n item))
 
-pub statement_empties : (f : Facts) (marked : ℕ → Bool) (a : Around) (n m l : Note) (k : Kind) (inner : Forest) → Knows f marked (plug a (a_statement n l k inner)) → may_have_effects f.bound (asked_at (asked_of_program true) a).in_with (alone k l inner) ≡ false
-    → Edit (plug a (a_statement n l k inner)) (plug a (a_node empty_statement m nothing))
-statement_empties f marked a n m l k inner h silent =
+pub statement_silent : (f : Facts) (marked : ℕ → Bool) (a : Around) (n l : Note) (k : Kind) (inner : Forest) → Knows f marked (plug a (a_statement n l k inner)) → may_have_effects f.bound (asked_at (asked_of_program true) a).in_with (alone k l inner) ≡ false
+    → At a (a_statement n l k inner) (SilentStatement (plug a (a_statement n l k inner)) (alone k l inner))
+statement_silent f marked a n l k inner h silent =
     let e = alone k l inner in
     let v = plug a (a_statement n l k inner) in
     let all = references_among (sites_of v) in
-    becomes a (record { kind = expression_statement; note = n; below = e }) (record { kind = empty_statement; note = m; below = nothing })
-    (silent_statement (silent_statement_empties n m l k inner
-    (silent_at a (a_statement n l k inner) (SilentStatement v e)
+    silent_at a (a_statement n l k inner) (SilentStatement v e)
     (λ ds place before all_of.
     let own = own_sites (ds place) n expression_statement e in
     let below = sites (inside (ds place) before expression_statement e) 0 (before + opens_one expression_statement e) e in
     silent_row f.bound v (known_binds f marked v h) (asked_at (asked_of_program true) a).in_with (inside (ds place) before expression_statement e) 0 (before + opens_one expression_statement e) e
-    (of_right all own below (of_left all (own ++ below) [] all_of)) silent))))
+    (of_right all own below (of_left all (own ++ below) [] all_of)) silent)
+
+pub statement_empties : (f : Facts) (marked : ℕ → Bool) (a : Around) (n m l : Note) (k : Kind) (inner : Forest) → Knows f marked (plug a (a_statement n l k inner)) → may_have_effects f.bound (asked_at (asked_of_program true) a).in_with (alone k l inner) ≡ false
+    → Edit (plug a (a_statement n l k inner)) (plug a (a_node empty_statement m nothing))
+statement_empties f marked a n m l k inner h silent =
+    becomes a (record { kind = expression_statement; note = n; below = alone k l inner }) (record { kind = empty_statement; note = m; below = nothing })
+    (silent_statement (silent_statement_empties n m l k inner (statement_silent f marked a n l k inner h silent)))
 
 -- ---- functions
 
 script_so : (f : Facts) (marked : ℕ → Bool) (v : Forest) → Knows f marked v → (n : ℕ) → is_global f n ≡ false → is_script v && n == 0 ≡ false
 script_so f marked v h n e = ap (λ b. b && n == 0) (sym h.script) ∙ e
 
-pub function_leaves : (f : Facts) (marked : ℕ → Bool) (w : Where) (a : Around) (pure : Bool) (n m : Note) (x : List ℕ) (rest : Forest) → Knows f marked (plug a (a_function pure n m x rest)) → IsItem a
-    → (stand a (a_function pure n m x rest)).scope ≡ Some w.scope → function_is_unused f w m.id ≡ true → Edit (plug a (a_function pure n m x rest)) (without a)
-function_leaves f marked w a pure n m x rest h item is e =
+pub function_unused : (f : Facts) (marked : ℕ → Bool) (w : Where) (a : Around) (pure : Bool) (n m : Note) (x : List ℕ) (rest : Forest) → Knows f marked (plug a (a_function pure n m x rest)) → IsItem a
+    → (stand a (a_function pure n m x rest)).scope ≡ Some w.scope → function_is_unused f w m.id ≡ true → UnusedFunction a (record { kind = function function_kind.Declaration pure; note = n; below = node (binding_name x) m nothing rest })
+function_unused f marked w a pure n m x rest h item is e =
     let below = node (binding_name x) m nothing rest in
     let v = plug a (a_function pure n m x rest) in
     let parts = and_parts (is_unlisted f m.id) _ e in
@@ -75,15 +79,19 @@ function_leaves f marked w a pure n m x rest h item is e =
     let evaluates = scope_has f.scoping w.scope scope_flag.direct_eval in
     let hidden = not_true (global || evaluates || is_sloppy_block f.scoping w.scope) parts.1 in
     let first = first_of_neither (global || evaluates) (is_sloppy_block f.scoping w.scope) hidden in
-    leaves a (record { kind = function function_kind.Declaration pure; note = n; below = below })
-    (unused_function (unused_function_leaves pure n m x rest item
+    unused_function_leaves pure n m x rest item
     (function_hidden a (record { kind = function function_kind.Declaration pure; note = n; below = below }) f.scoping h.flags w.scope is (script_so f marked v h w.scope (first_of_neither global evaluates first)) (second_of_neither global evaluates first)
     (second_of_neither (global || evaluates) (is_sloppy_block f.scoping w.scope) hidden))
     (declared_at a (a_function pure n m x rest) (Free v variable.Let x)
     (λ in_with cs place next all_of.
     let fs = inside (cs place) next (function function_kind.Declaration pure) below in
     let d = named_site (fs 0) m x in
-    is_free f marked v h d (all_of d (binding_second d (own_sites (cs place) n (function function_kind.Declaration pure) below) (sites fs 0 (next + 1) below) [] (inl refl))) parts.0))))
+    is_free f marked v h d (all_of d (binding_second d (own_sites (cs place) n (function function_kind.Declaration pure) below) (sites fs 0 (next + 1) below) [] (inl refl))) parts.0))
+
+pub function_leaves : (f : Facts) (marked : ℕ → Bool) (w : Where) (a : Around) (pure : Bool) (n m : Note) (x : List ℕ) (rest : Forest) → Knows f marked (plug a (a_function pure n m x rest)) → IsItem a
+    → (stand a (a_function pure n m x rest)).scope ≡ Some w.scope → function_is_unused f w m.id ≡ true → Edit (plug a (a_function pure n m x rest)) (without a)
+function_leaves f marked w a pure n m x rest h item is e =
+    leaves a (record { kind = function function_kind.Declaration pure; note = n; below = node (binding_name x) m nothing rest }) (unused_function (function_unused f marked w a pure n m x rest h item is e))
 
 -- ---- declarators
 
@@ -122,20 +130,33 @@ hidden f marked v h scope symbol e =
       no_evals = no_eval v h.fits f.scoping h.flags 0 h.outermost (second_of_neither (is_global f scope) (scope_has f.scoping 0 scope_flag.direct_eval) none);
     }
 
-pub declarator_leaves : (f : Facts) (marked : ℕ → Bool) (scope : ℕ) (a : Around) (n m : Note) (x : List ℕ) (value : Forest) → Knows f marked (plug a (a_declarator n m x value)) → IsDeclarator a → has_other false a ≡ true
-    → (stand a (a_declarator n m x value)).declaring ≡ Some scope → variable_is_unused f scope m.id ≡ true → Quiet f (asked_at (asked_of_program true) a).in_with value → Edit (plug a (a_declarator n m x value)) (without a)
-declarator_leaves f marked scope a n m x value h declarator other_stays is e quiet =
+-- what is to be true of a declarator that goes, whether others stand beside it or not
+pub record IsUnused (a : Around) (n m : Note) (x : List ℕ) (value : Forest) : Type 0 where
+  pub own : IsOwnDeclarator a (a_declarator n m x value)
+  pub silent : At a (a_declarator n m x value) (SilentDeclarator (plug a (a_declarator n m x value)) (node (binding_name x) m nothing value))
+  pub free : At a (a_declarator n m x value) (FreeDeclarator (plug a (a_declarator n m x value)) x)
+
+pub declarator_unused : (f : Facts) (marked : ℕ → Bool) (scope : ℕ) (a : Around) (n m : Note) (x : List ℕ) (value : Forest) → Knows f marked (plug a (a_declarator n m x value)) → (stand a (a_declarator n m x value)).declaring ≡ Some scope
+    → variable_is_unused f scope m.id ≡ true → Quiet f (asked_at (asked_of_program true) a).in_with value → IsUnused a n m x value
+declarator_unused f marked scope a n m x value h is e quiet =
     let below = node (binding_name x) m nothing value in
     let v = plug a (a_declarator n m x value) in
     let o = hidden f marked v h scope m.id e in
-    leaves a (record { kind = variable_declarator; note = n; below = below })
-    (unused_declarator (unused_declarator_leaves n m x value declarator other_stays (declarator_hidden a (record { kind = variable_declarator; note = n; below = below }) f.scoping h.flags scope is o.unshared o.no_evals)
-    (silent_at a (a_declarator n m x value) (SilentDeclarator v below) (λ cs at next all_of. silent_behind f v (known_binds f marked v h) (asked_at (asked_of_program true) a).in_with cs at next n m x value all_of quiet))
-    (declared_at a (a_declarator n m x value) (FreeDeclarator v x)
-    (λ in_with cs place next all_of.
-    let fs = inside (cs place) next variable_declarator below in
-    let d = named_site (fs 0) m x in
-    is_free f marked v h d (all_of d (binding_second d (own_sites (cs place) n variable_declarator below) (sites fs 0 (next + 0) below) [] (inl refl))) o.unlisted))))
+    record {
+      own = declarator_hidden a (record { kind = variable_declarator; note = n; below = below }) f.scoping h.flags scope is o.unshared o.no_evals;
+      silent = silent_at a (a_declarator n m x value) (SilentDeclarator v below) (λ cs at next all_of. silent_behind f v (known_binds f marked v h) (asked_at (asked_of_program true) a).in_with cs at next n m x value all_of quiet);
+      free = declared_at a (a_declarator n m x value) (FreeDeclarator v x)
+          (λ in_with cs place next all_of.
+          let fs = inside (cs place) next variable_declarator below in
+          let d = named_site (fs 0) m x in
+          is_free f marked v h d (all_of d (binding_second d (own_sites (cs place) n variable_declarator below) (sites fs 0 (next + 0) below) [] (inl refl))) o.unlisted);
+    }
+
+pub declarator_leaves : (f : Facts) (marked : ℕ → Bool) (scope : ℕ) (a : Around) (n m : Note) (x : List ℕ) (value : Forest) → Knows f marked (plug a (a_declarator n m x value)) → IsDeclarator a → has_other false a ≡ true
+    → (stand a (a_declarator n m x value)).declaring ≡ Some scope → variable_is_unused f scope m.id ≡ true → Quiet f (asked_at (asked_of_program true) a).in_with value → Edit (plug a (a_declarator n m x value)) (without a)
+declarator_leaves f marked scope a n m x value h declarator other_stays is e quiet =
+    let o = declarator_unused f marked scope a n m x value h is e quiet in
+    leaves a (record { kind = variable_declarator; note = n; below = node (binding_name x) m nothing value }) (unused_declarator (unused_declarator_leaves n m x value declarator other_stays o.own o.silent o.free))
 
 pub declaration_leaves : (f : Facts) (marked : ℕ → Bool) (scope : ℕ) (a : Around) (how : VariableKind) (n m l j : Note) (x : List ℕ) (value : Forest) → Knows f marked (plug a (a_declaration how n m l j x value)) → IsItem a
     → declares_in (stand a (a_declaration how n m l j x value)) how ≡ Some scope → variable_is_unused f scope j.id ≡ true → Quiet f (asked_at (asked_of_program true) a).in_with value → Edit (plug a (a_declaration how n m l j x value)) (without a)

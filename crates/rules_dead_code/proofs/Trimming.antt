@@ -66,10 +66,10 @@ module _ (f : Facts) (p : Place) where
 
   -- ---- declarators
 
-  data Goes (how : VariableKind) : Kind → Forest → Type 0 where
+  pub data Goes (how : VariableKind) : Kind → Forest → Type 0 where
     a_name : (x : List ℕ) (j : Note) (value : Forest) → variable_is_unused f (scope_of (where_of p) how) j.id ≡ true → Quiet f (has_with p.ancestors) value → Goes how variable_declarator (node (binding_name x) j nothing value)
 
-  goes_view : (how : VariableKind) (k : Kind) (below : Forest) → is_declarator k below ≡ true → declarator_goes f (where_of p) how k below ≡ true → Goes how k below
+  pub goes_view : (how : VariableKind) (k : Kind) (below : Forest) → is_declarator k below ≡ true → declarator_goes f (where_of p) how k below ≡ true → Goes how k below
   goes_view how variable_declarator (node (binding_name x) j nothing value) a g =
       let h = and_parts (variable_is_unused f (scope_of (where_of p) how) j.id) (is_quiet f (where_of p) value) g in
       a_name x j value h.0 (not_true (may_have_effects f.bound (has_with p.ancestors) value || has_with p.ancestors && is_given value) h.1)

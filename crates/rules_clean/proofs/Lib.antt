@@ -1,0 +1,4 @@
+pub mod Finding
+pub mod Dying
+pub mod Cleaned
+mod Tried

@@ -1,0 +1,58 @@
+-- The small programs, by computing.
+use Rattle.std.proofs.Common.{◌≡◌, inr, [], ◌∷◌, true, false, true≢false, Some, None, refl}
+use Rattle.js_syntax.specs.Class.{root, declared_name, binding_element, function_block}
+use Rattle.js_syntax.specs.declared.node_kind.NodeKind.{NodeKind as Kind}
+use Rattle.js_syntax.specs.declared.scalar.SourceType.{SourceType}
+use Rattle.js_syntax.specs.declared.scalar.SourceType.TheVariants as source_type
+use Rattle.js_syntax.specs.Node.{Tree, nothing, nowhere, below_of}
+use Rattle.js_syntax.specs.Table.{a_program, a_binding_name, a_function_declaration, a_function_body}
+use Rattle.form_rules.specs.Samples.{over, listed, a_module, a_script, a, function_a}
+use Rattle.json_shape.specs.Shape.{one as one_of, list, these, Stand, Fits}
+use Rattle.min_context.specs.Place.{Place}
+use Rattle.scope_counts.specs.Edits.{here, under}
+use Rattle.scope_counts.specs.Scopes.{unmarked}
+use Rattle.steps_allowed.specs.Rows.{before}
+use Rattle.headline.specs.Clean.{Clean, an_unused_function}
+use Rattle.headline.proofs.Renoted.{clean_as}
+use Rattle.headline.proofs.Shaking.{quiet_clean}
+use Rattle.rules_dead_code.specs.Knows.{Knows}
+use Rattle.rules_dead_code.specs.Quiet.{IsQuiet, IsQuietAt}
+use Rattle.rules_dead_code.specs.Rules.{where_of, has_dead, emptied}
+use Rattle.rules_dead_code.proofs.New.{new_known}
+use Rattle.rules_dead_code.proofs.Walked.{quiet_nodes}
+use Rattle.rules_clean.specs.Samples.{a_function_of_a_script, a_function_of_a_module, taken_for_a_module, taken_for_exported}
+
+-- ---- both fit the table of node types
+
+function_parts : Stand (these (one_of declared_name ∷ list Kind.Parameters binding_element ∷ one_of function_block ∷ [])) (below_of (function_a [] []))
+function_parts = ((a_binding_name, (a, tt), refl, tt, refl, tt), ((refl, tt), ((a_function_body, tt, refl, tt, refl, ((refl, tt), tt)), tt)))
+
+fits : (source : SourceType) → Fits root (over (Kind.Program source) (listed Kind.Statements (function_a [] [] ∷ [])))
+fits source = ((a_program, (source, tt), refl, tt, refl, ((refl, (inr (refl, (a_function_declaration, (false, tt), refl, tt, refl, function_parts)), tt)), tt)), tt)
+
+-- ---- a function of a script
+
+pub script_is_clean : Clean a_function_of_a_script
+script_is_clean = clean_as (a_script (function_a [] [] ∷ [])) a_function_of_a_script refl (quiet_clean (a_script (function_a [] [] ∷ [])) (fits source_type.Script) refl)
+
+pub script_is_not_quiet : IsQuiet taken_for_a_module a_function_of_a_script → ⊥
+script_is_not_quiet q = true≢false (q.lists (under (Kind.Program source_type.Script) (record { span = nowhere.span; id = Some 0 }) here nothing) nowhere _ nothing refl)
+
+-- ---- a function of a module
+
+pub module_is_known : Knows taken_for_exported unmarked a_function_of_a_module
+module_is_known = new_known (a_module (function_a [] [] ∷ [])) (fits source_type.Module) [] (true ∷ []) (λ id. refl) (λ e stands outermost. absurd stands)
+
+still : {p : Place} {x : Tree} → has_dead taken_for_exported (where_of p) x.below ≡ false → emptied taken_for_exported (where_of p) x ≡ None → IsQuietAt taken_for_exported p x
+still stays statement = record { list = λ is. stays; statement = statement }
+
+pub module_is_quiet : IsQuiet taken_for_exported a_function_of_a_module
+module_is_quiet =
+    quiet_nodes taken_for_exported a_function_of_a_module
+    -- the program, its list and the function, with its name, its parameters and its body
+    (still refl refl, (still refl refl, (still refl refl, (still refl refl, tt, (still refl refl, tt, (still refl refl, (still refl refl, tt, tt), tt))), tt), tt), tt)
+
+pub module_is_dead : Clean a_function_of_a_module → ⊥
+module_is_dead clean =
+    (clean_as a_function_of_a_module (a_module (function_a [] [] ∷ [])) refl clean).nothing_is_dead (before []) _ refl
+    (an_unused_function (before []) false nowhere nowhere a _ refl refl (record { unreferred = λ r h e. h; unexported = λ e h s d. h }))

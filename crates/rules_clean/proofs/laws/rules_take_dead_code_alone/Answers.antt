@@ -1,0 +1,5 @@
+use Rattle.rules_clean.proofs.Dying.{rules_rest}
+use Rattle.rules_clean.proofs.laws.rules_take_dead_code_alone.Goals as goal
+
+pub returns : goal.returns
+returns c = rules_rest

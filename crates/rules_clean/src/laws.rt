@@ -1,0 +1,18 @@
+// What the rules take out is dead code. Each law is a contract, so that the check proves it.
+ghost use Rattle.std.specs.Prelude.{◌↔◌, ℕ, Bool};
+ghost use Rattle.js_syntax.specs.Node.{Forest};
+ghost use Rattle.scope_counts.specs.Scopes.{unmarked};
+ghost use Rattle.headline.specs.Clean.{Clean};
+ghost use Rattle.rules_dead_code.specs.Rules.{Facts};
+ghost use Rattle.rules_dead_code.specs.Knows.{Knows};
+ghost use Rattle.rules_dead_code.specs.Quiet.{Exactly, IsQuiet};
+
+/// Law: of a program without dead code the rules take nothing out, by whatever is known of it, and whichever ids are marked.
+pub fn rules_take_dead_code_alone()
+    ensures { (f : Facts) (marked : ℕ → Bool) (t : Forest) → Knows f marked t → Clean t → IsQuiet f t }
+{}
+
+/// Law: so they take nothing out exactly where there is no dead code, if what is known of the program is known exactly.
+pub fn rules_take_all_dead_code_and_nothing_else()
+    ensures { (f : Facts) (t : Forest) → Knows f unmarked t → Exactly f t → IsQuiet f t ↔ Clean t }
+{}
