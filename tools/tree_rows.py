@@ -31,7 +31,6 @@ NAMED = dict(I('a'), start=3, end=9)
 WITH_CLASS = module(class_a(THIS))
 SWITCH = N('SwitchStatement', discriminant=THIS, cases=[N('SwitchCase', test=None, consequent=[B(EMPTY)])])
 LABELED = module(label('l', ES(L(1))))
-LABELED_EMPTY = module(label('l', EMPTY))
 
 GROUPS = [
  ('how large trees are, up to a limit', [
@@ -64,9 +63,6 @@ GROUPS = [
   ('a thousand levels', 'clear', 997, '', '66918 bytes'),
   ('l: 1;', 'clear', LABELED, '', text(LABELED)),
   ('; l: 1; { ; }', 'clear', module(EMPTY, label('l', ES(L(1))), B(EMPTY)), '', text(module(label('l', ES(L(1))), B()))),
-  ('l: 1;: a silent statement that stands alone becomes empty', 'pass', LABELED, '', 'changes\n%s\nchanges nothing' % text(LABELED_EMPTY)),
-  ('l: ;', 'pass', LABELED_EMPTY, '', 'changes nothing\n%s\nchanges nothing' % text(LABELED_EMPTY)),
-  ('1; a;', 'pass', module(ES(L(1)), ES(I('a'))), '', 'changes\n%s\nchanges nothing' % text(module(ES(I('a'))))),
  ]),
  ('names', [
   ('(eval)()', 'eval', module(ES(eval_of(parenthesized(I('eval'))))), '', 'direct eval'),

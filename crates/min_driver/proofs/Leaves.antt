@@ -1,5 +1,5 @@
 -- What stands in a program's place has what is promised of it.
-use Rattle.std.proofs.Common.{◌≡◌, ◌∙◌, ◌+◌, ◌≤◌, ℕ, true, false, Option, Some, None, is_some, Result, Ok, Err, IfOk, refl, sym, subst, ap, arith}
+use Rattle.std.proofs.Common.{◌≡◌, ◌∙◌, ◌+◌, ◌≤◌, ℕ, true, Option, Some, None, is_some, Result, Ok, Err, IfOk, refl, sym, subst, ap, arith}
 use Rattle.std.specs.List.{count_by}
 use Rattle.js_syntax.specs.Class.{root}
 use Rattle.js_syntax.specs.Facts.{weight}
@@ -17,9 +17,8 @@ use Rattle.steps_allowed.proofs.Composing.{edits_follow}
 use Rattle.json_shape.specs.Shape.{Fits}
 use Rattle.headline.proofs.Headline.{kept_by, back_by}
 use Rattle.headline.proofs.Renoted.{clean_as}
-use Rattle.min_pass.specs.Around.{outermost}
-use Rattle.min_pass.specs.Pass.{no_names, cleared}
-use Rattle.min_pass.proofs.Lighter.{swept_lighter}
+use Rattle.min_pass.specs.Pass.{cleared}
+use Rattle.min_pass.proofs.Lighter.{cleared_lighter}
 use Rattle.min_peephole.specs.Shaken as peephole
 use Rattle.min_peephole.specs.Shaken.{IsMarked}
 use Rattle.steps_fit.proofs.Sensible.{sensible}
@@ -107,7 +106,7 @@ peephole_came options t u s iterations fits k = record {
 }
 
 pub cleared_nodes : (t : Forest) → node_count (cleared t) ≤ node_count t
-cleared_nodes t = swept_lighter one_each (Prim.omega arith) no_names (outermost false) t
+cleared_nodes t = cleared_lighter one_each t
 
 -- of a program that doesn't fit the table
 cleared_came : (options : CompressOptions) (t : Forest) (iterations : ℕ) → (Fits root t → ⊥) → iterations ≡ 0 → Came (Some options) t (cleared t) iterations
@@ -117,7 +116,7 @@ cleared_came options t iterations unfit none = record {
   nodes = cleared_nodes t;
   levels = cleared_levels t;
   untouched = λ asked. absurd (cc asked);
-  few = Prim.omega (arith, none, swept_lighter weight (Prim.omega arith) no_names (outermost false) t);
+  few = Prim.omega (arith, none, cleared_lighter weight t);
   none = λ asked zero. refl;
 }
 

@@ -1,16 +1,11 @@
-//! A pass: what does nothing, and what nobody uses, leaves the lists of statements.
+//! What is left of a tree without the empty statements of its lists?
 //!
-//! `specs/Pass.antt` says what goes, given what is known of the names: silent expression statements,
-//! declarators and functions; outside of lists such a statement becomes an empty one. `run_pass` leaves
-//! exactly what is said there, `changes` says whether anything goes or becomes empty, and `clear_program`
-//! takes out the empty statements alone.
+//! `specs/Pass.antt` says it, and `clear_program` leaves exactly that. What is asked of the place where a node stands
+//! (`Around`, `specs/Around.antt`) is asked by edits too: in which row it stands, and whether a `with` statement is around.
 #![tactic(auto)]
 
 mod around;
-mod goes;
-mod names;
 mod pass;
 
 pub use around::{Around, Row};
-pub use names::Names;
-pub use pass::{changes, clear_program, run_pass};
+pub use pass::clear_program;

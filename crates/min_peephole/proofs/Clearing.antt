@@ -5,14 +5,14 @@ use Rattle.js_syntax.specs.declared.node_kind.NodeKind.{NodeKind as Kind}
 use Rattle.js_syntax.specs.Node.{Forest, Note, nothing, node, absent}
 use Rattle.min_pass.specs.declared.around.Row.{Row}
 use Rattle.min_pass.specs.declared.around.Row.TheVariants.{Items as items, OfItem as of_item, Declarators as item_declarators, Other as other}
-use Rattle.min_pass.specs.Pass.{is_empty_in, swept, no_names, cleared}
+use Rattle.min_pass.specs.Pass.{is_empty_in, swept, cleared}
 use Rattle.scope_laws.specs.Place.{first}
 use Rattle.steps_allowed.specs.Arranged.{is_arranged_at, is_arranged}
 use Rattle.steps_allowed.specs.Places.{a_node}
 use Rattle.steps_allowed.specs.EmptyStatement.{empty_statement_leaves}
 use Rattle.steps_allowed.specs.Edits.{leaves, empty_statement, TreeEdits, no_tree_edit, one_tree_edit}
 use Rattle.steps_allowed.proofs.Composing.{tree_edits_compose}
-use Rattle.min_peephole.proofs.Paths.{Path, top, behind, behind_none, under, fill, around, row_at, asked_along, row_there, leaves_there}
+use Rattle.min_peephole.proofs.Paths.{Path, top, behind, behind_none, under, fill, around, row_at, row_there, leaves_there}
 
 wrong : {P : Type 0} → false ≡ true → P
 wrong e = absurd (true≢false (sym e))
@@ -27,7 +27,7 @@ empty_leaves item_declarators p k n below rest row e a = wrong e
 empty_leaves other p k n below rest row e a = wrong e
 
 abbrev left : Path → Forest → Forest
-left p f = swept no_names (asked_along false p) f
+left p f = swept (row_at p) f
 
 by_node : (g : Bool) (p : Path) (k : Kind) (n : Note) (below rest : Forest) → is_empty_in (row_at p) k ≡ g → is_arranged_at k below ≡ true
     → TreeEdits (fill (under p k n rest) below) (fill (under p k n rest) (left (under p k n rest) below)) → TreeEdits (fill p rest) (fill p (left p rest))

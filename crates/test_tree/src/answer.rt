@@ -1,7 +1,7 @@
 // The answers.
 use crate::copied::copied;
 use crate::expression::{bound, cloned, evaluates, is_silent};
-use crate::left::{cleared, passed};
+use crate::left::cleared;
 use crate::question::{Question, question_named};
 use crate::tree::tree_of;
 use crate::visited::visited;
@@ -58,7 +58,6 @@ fn answer_of(
         Question::Cloned => cloned(alloc, program),
         Question::Equal => equals(alloc, program, operand),
         Question::Cleared => cleared(alloc, program),
-        Question::Passed => passed(alloc, program),
         Question::DirectEval => evaluates(alloc, program),
         Question::BoundNames => bound(alloc, program),
         Question::Silent => is_silent(alloc, program),

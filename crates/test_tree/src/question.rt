@@ -13,8 +13,6 @@ pub(crate) enum Question {
     Equal,
     /// What is left where the empty statements of lists go.
     Cleared,
-    /// Whether a pass that knows of no names changes it, what the pass leaves, and whether another changes that.
-    Passed,
     /// Whether its first expression is a direct call of `eval`.
     DirectEval,
     /// The names that its first declarator declares.
@@ -30,13 +28,12 @@ pub(crate) enum Question {
     Fits,
 }
 
-const QUESTIONS: [(&str, Question); 12] = [
+const QUESTIONS: [(&str, Question); 11] = [
     ("size", Question::Size),
     ("copy", Question::Copied),
     ("clone", Question::Cloned),
     ("equal", Question::Equal),
     ("clear", Question::Cleared),
-    ("pass", Question::Passed),
     ("eval", Question::DirectEval),
     ("names", Question::BoundNames),
     ("silent", Question::Silent),

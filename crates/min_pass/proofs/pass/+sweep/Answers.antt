@@ -2,7 +2,7 @@ use Rattle.std.proofs.Common.{◌≡◌, ◌∙◌, [], sym, arith, rules, refl}
 use Rattle.js_syntax.specs.Node.{row}
 use Rattle.js_tree.proofs.Rows.{row_push}
 use Rattle.js_tree.proofs.Sizes.{rest_smaller}
-use Rattle.min_pass.proofs.Steps.{absent_next, node_next, node_empty, node_gone, all_done, nothing_left}
+use Rattle.min_pass.proofs.Steps.{absent_next, node_next, node_gone, all_done, nothing_left}
 use Rattle.min_pass.proofs.pass.+sweep.Goals as goal
 
 pub sweep_children-loop-child-init : goal.sweep_children-loop-child-init
@@ -23,7 +23,7 @@ sweep_children-loop-child-preserved-in-Continue-1 z c =
     let so_far = rw (c.in-Some.ensures.steps.0, c.in-None-child.is) at c.loop-child.invariant.tree in
     let small = rw c.in-Some.ensures.steps.0 at c.loop-child.invariant.small in
     record {
-      tree = rw (c.in_ok-push-in-None-child.ensures.items, row_push) (absent_next c.args.names.now c.args.around _ (row c.loop-child.left.items) c.next.new.self.rest.items so_far);
+      tree = rw (c.in_ok-push-in-None-child.ensures.items, row_push) (absent_next c.args.around _ (row c.loop-child.left.items) c.next.new.self.rest.items so_far);
       small = omega (arith, small, rest_smaller c.in-Some.child c.next.new.self.rest.items);
     }
 
@@ -34,7 +34,7 @@ sweep_children-loop-child-preserved-then-goes z c =
     let so_far = rw (c.in-Some.ensures.steps.0, c.in-Some-child.is) at c.loop-child.invariant.tree in
     let small = rw c.in-Some.ensures.steps.0 at c.loop-child.invariant.small in
     record {
-      tree = node_gone c.args.names.now c.args.around _ (row c.loop-child.left.items) t rest (sym c.goes.ensures ∙ c.if-goes.true) so_far;
+      tree = node_gone c.args.around _ (row c.loop-child.left.items) t rest (sym c.goes.ensures ∙ c.if-goes.true) so_far;
       small = omega (arith, small, rest_smaller c.in-Some.child rest);
     }
 
@@ -46,22 +46,11 @@ sweep_children-loop-child-preserved z c =
     let so_far = rw (c.in-Some.ensures.steps.0, c.in-Some-child.is) at c.loop-child.invariant.tree in
     let small = rw c.in-Some.ensures.steps.0 at c.loop-child.invariant.small in
     record {
-      tree = rw (c.in_ok-push-in-Some-child-2.ensures.items, row_push) (node_next c.args.names.now c.args.around _ (row c.loop-child.left.items) t s rest (sym c.goes.ensures ∙ c.if-goes.false) (sym c.empties.ensures ∙ c.if-empties.false) c.in_ok-node-in-Some-child.ensures so_far);
-      small = omega (arith, small, rest_smaller c.in-Some.child rest);
-    }
-
-pub sweep_children-loop-child-preserved-in-Continue-branch-2 : goal.sweep_children-loop-child-preserved-in-Continue-branch-2
-sweep_children-loop-child-preserved-in-Continue-branch-2 z c =
-    let t = c.in-Some-child.node in
-    let rest = c.next.new.self.rest.items in
-    let so_far = rw (c.in-Some.ensures.steps.0, c.in-Some-child.is) at c.loop-child.invariant.tree in
-    let small = rw c.in-Some.ensures.steps.0 at c.loop-child.invariant.small in
-    record {
-      tree = rw (c.in_ok-push-in-Some-child.ensures.items, row_push) (node_empty c.args.names.now c.args.around _ (row c.loop-child.left.items) t c.emptied.result rest (sym c.goes.ensures ∙ c.if-goes.false) (sym c.empties.ensures ∙ c.if-empties.true) c.emptied.ensures so_far);
+      tree = rw (c.in_ok-push-in-Some-child.ensures.items, row_push) (node_next c.args.around _ (row c.loop-child.left.items) t s rest (sym c.goes.ensures ∙ c.if-goes.false) c.in_ok-node-in-Some-child.ensures so_far);
       small = omega (arith, small, rest_smaller c.in-Some.child rest);
     }
 
 pub sweep_children-returns : goal.sweep_children-returns
 sweep_children-returns z c =
     let over : c.loop-child.child-iterator.rest.items ≡ [] = nothing_left c.loop-child.child-iterator.rest.items (search rules) in
-    all_done c.args.names.now c.args.around _ (row c.loop-child.left.items) c.loop-child.child-iterator.rest.items c.loop-child.invariant.tree over
+    all_done c.args.around _ (row c.loop-child.left.items) c.loop-child.child-iterator.rest.items c.loop-child.invariant.tree over

@@ -14,6 +14,6 @@ abbrev pub invariant-sweep_children-loop-child : goal.invariant-sweep_children-l
 invariant-sweep_children-loop-child l =
     let rest = l.child-iterator.rest.items in
     record {
-      tree : swept l.names l.around (row l.fn.children.items) ≡ joined (row l.left.items) (swept l.names l.around (row rest));
+      tree : swept l.around (row l.fn.children.items) ≡ joined (row l.left.items) (swept l.around (row rest));
       small : size_of (row rest) ≤ size_of (row l.fn.children.items);
     }
