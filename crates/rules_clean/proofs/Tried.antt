@@ -1,5 +1,5 @@
 -- The small programs, by computing.
-use Rattle.std.proofs.Common.{◌≡◌, inr, [], ◌∷◌, true, false, true≢false, Some, None, refl}
+use Rattle.std.proofs.Common.{◌≡◌, inr, [], ◌∷◌, true, false, true≢false, Some, None, refl, sym}
 use Rattle.js_syntax.specs.Class.{root, declared_name, binding_element, function_block}
 use Rattle.js_syntax.specs.declared.node_kind.NodeKind.{NodeKind as Kind}
 use Rattle.js_syntax.specs.declared.scalar.SourceType.{SourceType}
@@ -14,13 +14,14 @@ use Rattle.scope_counts.specs.Scopes.{unmarked}
 use Rattle.steps_allowed.specs.Rows.{before}
 use Rattle.headline.specs.Clean.{Clean, an_unused_function}
 use Rattle.headline.proofs.Renoted.{clean_as}
-use Rattle.headline.proofs.Shaking.{quiet_clean}
 use Rattle.rules_dead_code.specs.Knows.{Knows}
-use Rattle.rules_dead_code.specs.Quiet.{IsQuiet, IsQuietAt}
-use Rattle.rules_dead_code.specs.Rules.{where_of, has_dead, emptied}
+use Rattle.rules_dead_code.specs.Quiet.{Exactly, IsQuiet, IsQuietAt}
+use Rattle.rules_dead_code.specs.Rules.{Facts, where_of, has_dead, emptied}
 use Rattle.rules_dead_code.proofs.New.{new_known}
+use Rattle.rules_dead_code.proofs.Tried.{told_only}
 use Rattle.rules_dead_code.proofs.Walked.{quiet_nodes}
-use Rattle.rules_clean.specs.Samples.{a_function_of_a_script, a_function_of_a_module, taken_for_a_module, taken_for_exported}
+use Rattle.rules_clean.proofs.Cleaned.{clean}
+use Rattle.rules_clean.specs.Samples.{a_function_of_a_script, a_function_of_a_module, known_of_the_script, taken_for_a_module, taken_for_exported}
 
 -- ---- both fit the table of node types
 
@@ -30,10 +31,25 @@ function_parts = ((a_binding_name, (a, tt), refl, tt, refl, tt), ((refl, tt), ((
 fits : (source : SourceType) → Fits root (over (Kind.Program source) (listed Kind.Statements (function_a [] [] ∷ [])))
 fits source = ((a_program, (source, tt), refl, tt, refl, ((refl, (inr (refl, (a_function_declaration, (false, tt), refl, tt, refl, function_parts)), tt)), tt)), tt)
 
+still : {f : Facts} {p : Place} {x : Tree} → has_dead f (where_of p) x.below ≡ false → emptied f (where_of p) x ≡ None → IsQuietAt f p x
+still stays statement = record { list = λ is. stays; statement = statement }
+
 -- ---- a function of a script
 
+script_is_known : Knows known_of_the_script unmarked a_function_of_a_script
+script_is_known = new_known (a_script (function_a [] [] ∷ [])) (fits source_type.Script) [] [] (λ id. refl) (λ e stands outermost. absurd stands)
+
+script_is_known_exactly : Exactly known_of_the_script a_function_of_a_script
+script_is_known_exactly = record { flags = told_only known_of_the_script.scoping a_function_of_a_script refl; exported = λ symbol e. absurd (true≢false (sym e)) }
+
+-- nothing goes of a program, its list and a function, with its name, its parameters and its body
+script_is_quiet : IsQuiet known_of_the_script a_function_of_a_script
+script_is_quiet =
+    quiet_nodes known_of_the_script a_function_of_a_script
+    (still refl refl, (still refl refl, (still refl refl, (still refl refl, tt, (still refl refl, tt, (still refl refl, (still refl refl, tt, tt), tt))), tt), tt), tt)
+
 pub script_is_clean : Clean a_function_of_a_script
-script_is_clean = clean_as (a_script (function_a [] [] ∷ [])) a_function_of_a_script refl (quiet_clean (a_script (function_a [] [] ∷ [])) (fits source_type.Script) refl)
+script_is_clean = clean known_of_the_script a_function_of_a_script script_is_known script_is_known_exactly script_is_quiet
 
 pub script_is_not_quiet : IsQuiet taken_for_a_module a_function_of_a_script → ⊥
 script_is_not_quiet q = true≢false (q.lists (under (Kind.Program source_type.Script) (record { span = nowhere.span; id = Some 0 }) here nothing) nowhere _ nothing refl)
@@ -42,9 +58,6 @@ script_is_not_quiet q = true≢false (q.lists (under (Kind.Program source_type.S
 
 pub module_is_known : Knows taken_for_exported unmarked a_function_of_a_module
 module_is_known = new_known (a_module (function_a [] [] ∷ [])) (fits source_type.Module) [] (true ∷ []) (λ id. refl) (λ e stands outermost. absurd stands)
-
-still : {p : Place} {x : Tree} → has_dead taken_for_exported (where_of p) x.below ≡ false → emptied taken_for_exported (where_of p) x ≡ None → IsQuietAt taken_for_exported p x
-still stays statement = record { list = λ is. stays; statement = statement }
 
 pub module_is_quiet : IsQuiet taken_for_exported a_function_of_a_module
 module_is_quiet =

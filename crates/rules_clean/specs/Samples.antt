@@ -13,9 +13,13 @@ a_function_of_a_script = with_marks (a_script (function_a [] [] ∷ []))
 abbrev pub a_function_of_a_module : Forest
 a_function_of_a_module = with_marks (a_module (function_a [] [] ∷ []))
 
--- that the script is none
+-- what is so of the script
+abbrev pub known_of_the_script : Facts
+known_of_the_script = facts_of [] (a_script (function_a [] [] ∷ []))
+
+-- that it is none
 abbrev pub taken_for_a_module : Facts
-taken_for_a_module = record (facts_of [] (a_script (function_a [] [] ∷ []))) { is_script = false }
+taken_for_a_module = record known_of_the_script { is_script = false }
 
 -- that the module exports the function
 abbrev pub taken_for_exported : Facts
