@@ -175,6 +175,14 @@ own_slot k = outer.None
 abbrev pub outer_slot : Ancestor → Kind → Outer
 outer_slot above k = if is_key_place above then outer.PropertyKey else if is_statement_place above && is_statement k then outer.Statement else own_slot k
 
+-- those where names are bound or assigned to
+abbrev pub binds : Outer → Bool
+binds outer.BindingPattern = true
+binds outer.AssignmentTarget = true
+binds outer.CatchClause = true
+binds outer.VariableDeclarator = true
+binds slot = false
+
 abbrev pub middle_slot : Ancestor → Kind → Middle
 middle_slot above k = if is_expression_place above && is_expression k then middle.Expression else middle.None
 

@@ -1,0 +1,5 @@
+use Rattle.min_traverse.proofs.Rows.{node_stays}
+use Rattle.min_traverse.proofs.dispatch.call_enter_outer.Goals as goal
+
+pub returns-in-None-clause-moves : goal.returns-in-None-clause-moves
+returns-in-None-clause-moves g c = node_stays _ _ _
