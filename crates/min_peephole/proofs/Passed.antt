@@ -1,5 +1,5 @@
 -- What passes made of a program so far.
-use Rattle.std.proofs.Common.{◌≡◌, ◌∙◌, ◌+◌, ◌≤◌, ◌<◌, ℕ, refl, arith}
+use Rattle.std.proofs.Common.{◌≡◌, ◌+◌, ◌≤◌, ◌<◌, ℕ, refl, arith}
 use Rattle.js_syntax.specs.Facts.{weight}
 use Rattle.js_syntax.specs.Node.{Tree, forest_of, total}
 use Rattle.steps_allowed.specs.Edits.{TreeEdits, no_tree_edit}

@@ -1,5 +1,5 @@
 -- What a run leaves of a program.
-use Rattle.std.proofs.Common.{◌≡◌, ◌∙◌, ◌+◌, ◌*◌, ◌≤◌, ◌<◌, ◌^◌, ℕ, IfOk, Result, Ok, Err, sym, ap, subst, arith}
+use Rattle.std.proofs.Common.{◌≡◌, ◌∙◌, ◌+◌, ◌≤◌, ◌<◌, ◌^◌, ℕ, IfOk, Result, Ok, Err, sym, ap, subst, arith}
 use Rattle.js_syntax.specs.Class.{root}
 use Rattle.js_syntax.specs.Facts.{weight}
 use Rattle.js_syntax.specs.Node.{Forest, bare, total}
@@ -14,7 +14,7 @@ use Rattle.scope_rules.specs.Binding.{resolved_references}
 use Rattle.scope_rules.specs.Table.{Scoping}
 use Rattle.std.specs.List.{count_by}
 use Rattle.std.specs.Prelude.{is_some}
-use Rattle.steps_allowed.specs.Edits.{TreeEdits, Edits, no_edit}
+use Rattle.steps_allowed.specs.Edits.{TreeEdits, no_edit}
 use Rattle.steps_allowed.proofs.Composing.{edits_follow, tree_edits_are_edits}
 use Rattle.steps_fit.proofs.Arranged.{fits_arranged}
 use Rattle.steps_marked.proofs.Shedding.{edits_weigh_no_more}

@@ -1,5 +1,5 @@
 -- A tree weighs at most six for each of its nodes.
-use Rattle.std.proofs.Common.{◌≤◌, ◌*◌, ◌+◌, ℕ, List, arith}
+use Rattle.std.proofs.Common.{◌≤◌, ◌*◌, ℕ, List, arith}
 use Rattle.js_syntax.specs.Core.{value_weight, text_weight}
 use Rattle.js_syntax.specs.declared.node_kind.NodeKind.{NodeKind as Kind}
 use Rattle.js_syntax.specs.declared.node_kind.NodeKind.TheVariants as kind

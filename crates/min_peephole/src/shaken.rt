@@ -7,6 +7,7 @@ ghost use Rattle.form_rules.specs.Form.{IsWellFormed};
 ghost use Rattle.js_scoping.specs.Build.{numbered};
 ghost use Rattle.json_shape.specs.Shape.{Fits};
 ghost use Rattle.steps_allowed.specs.Exposure.{is_script, is_script_source};
+ghost use Rattle.min_context.specs.declared.state.CompressionMode.TheVariants as mode;
 ghost use Rattle.min_statements.specs.Walker.{names_of};
 ghost use Rattle.min_peephole.specs.Between.{BetweenPasses};
 ghost use Rattle.min_peephole.specs.Shaken.{IsShaken, IsMarked, Runs};
@@ -52,6 +53,8 @@ fn first_context(
     requires marked { IsMarked (forest_of program.now) scoping }
     ensures between { IfOk result (λ c. BetweenPasses (names_of scoping (forest_of program.now)) c (forest_of program.now)) }
     ensures table { IfOk result (λ c. c.scoping ≡ scoping) }
+    ensures options { IfOk result (λ c. c.options ≡ options) }
+    ensures mode { IfOk result (λ c. c.mode ≡ mode.TreeShakeOnly) }
 {
     let state = MinifierState::new(
         alloc,

@@ -1,4 +1,4 @@
-use Rattle.std.proofs.Common.{◌≡◌, ◌∙◌, false, length, sym, ap}
+use Rattle.std.proofs.Common.{◌≡◌, ◌∙◌, length, sym, ap}
 use Rattle.js_syntax.specs.declared.scalar.SourceType.{SourceType}
 use Rattle.js_syntax.specs.Node.{forest_of}
 use Rattle.scope_rules.specs.Table.{Scoping}

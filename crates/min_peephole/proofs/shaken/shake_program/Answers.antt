@@ -1,4 +1,4 @@
-use Rattle.std.proofs.Common.{◌≡◌, ◌∙◌, ap, arith}
+use Rattle.std.proofs.Common.{◌∙◌, ap, arith}
 use Rattle.js_syntax.specs.Node.{forest_of}
 use Rattle.js_tree.specs.Count.{one_each, node_count}
 use Rattle.js_scoping.specs.Build.{numbered}
