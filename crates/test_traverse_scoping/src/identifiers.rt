@@ -14,9 +14,9 @@ use js_tree::Node;
 use scope_table::ReferenceFlags;
 use std::alloc::{AllocError, Global};
 
-const PLACE: Span = Span { start: 3, end: 7 };
+pub(crate) const PLACE: Span = Span { start: 3, end: 7 };
 
-fn may_refer(traverse: &TraverseScoping, symbol: Option<SymbolId>) -> bool
+pub(crate) fn may_refer(traverse: &TraverseScoping, symbol: Option<SymbolId>) -> bool
     ensures { OnTrue result (MayRefer (option_map (λ s. s.0) symbol) traverse.now) }
 {
     has_room(traverse) && is_live(traverse, symbol)

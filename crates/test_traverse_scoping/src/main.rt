@@ -4,9 +4,11 @@
 //! them, on the walk of an empty module that begins anew with each row: a call's name, `=`, and what it takes with `,` between. It is printed
 //! with the answers behind it. A call whose condition isn't met answers `no`.
 //!
-//! The rows stand in `stdin`, and what must be printed for them, told by hand, in `stdout`, which the gate compares.
+//! The rows stand in `stdin`, and what must be printed for them in `stdout`, which the gate compares: told by hand, and for the rows that call
+//! every factory of references by the words of its name.
 #![tactic(auto)]
 
+mod every;
 mod identifiers;
 mod row;
 mod scopes;

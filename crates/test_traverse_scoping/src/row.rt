@@ -1,4 +1,5 @@
 // A row: the walk of an empty module, and the calls on it.
+use crate::every::append_every;
 use crate::identifiers::append_identifier;
 use crate::scopes::{Taken, append_call};
 use js_scoping::build;
@@ -36,6 +37,9 @@ fn append_answer(
     };
     let taken = Taken::of(text);
     if append_call(alloc, traverse, word, taken, printed)? {
+        return Ok(());
+    }
+    if append_every(alloc, traverse, word, taken, printed)? {
         return Ok(());
     }
     if append_identifier(alloc, traverse, word, taken, printed)? {
