@@ -15,7 +15,7 @@ use Rattle.js_meaning.specs.State.{M, Completion, Place}
 use Rattle.js_meaning.specs.Operator.{is_object, is_boolean}
 use Rattle.js_meaning.specs.Host.{Loop, while_loop, do_loop, for_loop, Enter, call_back, moves_end, answered, play, host_moves, consult, only, report}
 use Rattle.js_meaning.specs.Reference.{global_named, get_member, set_member, get_place, put_place}
-use Rattle.js_meaning.specs.Node.{Meaning, Parts}
+use Rattle.js_meaning.specs.Node.{itself, Meaning, Parts}
 use Rattle.js_meaning.specs.Expression.{call_value, construct_value, ask_host, binary_value, logical_value, then_put, compound, short, assign, update_gives, update_place}
 use Rattle.js_meaning.specs.Statement.{enter_if, test_for, test_then, turn_does}
 use Rattle.js_meaning_near.specs.Names.{Names}
@@ -153,19 +153,19 @@ module _ (E : Enter) (enters : Enters E) where
 
   -- loops
 
-  enter_if_acts : {w : World} {st : Names} {a b : Forest} {e f : Env} {v u : Value} (l : Loop) (ls : List Text) → LoopHead l st a b → Near fields st a b → Envs w st e f → Same w v u → Acts w (enter_if E l a ls e v) (enter_if E l b ls f u)
+  enter_if_acts : {w : World} {st : Names} {a b : Forest} {e f : Env} {v u : Value} (l : Loop) (ls : List Text) → LoopHead l st a b → Near itself fields st a b → Envs w st e f → Same w v u → Acts w (enter_if E l a ls e v) (enter_if E l b ls f u)
   enter_if_acts l ls h n r q = choose_acts (truthy_same q) (enters.entered (same_turn h n r)) normal_acts
 
-  test_for_acts : {w : World} {st : Names} {o p : Option Meaning} {e f : Env} {j k : Value → M} → SomeMeans st o p → Envs w st e f → ((w2 : World) (v u : Value) → Sub w w2 → Same w2 v u → Acts w2 (j v) (k u)) → Acts w (test_for o e j) (test_for p f k)
+  test_for_acts : {w : World} {st : Names} {o p : Option Meaning} {e f : Env} {j k : Value → M} → SomeMeans itself st o p → Envs w st e f → ((w2 : World) (v u : Value) → Sub w w2 → Same w2 v u → Acts w2 (j v) (k u)) → Acts w (test_for o e j) (test_for p f k)
   test_for_acts {w = w} no_part r b = b w _ _ (same w) same_plain
   test_for_acts (part m) r b = value_acts (m.mean r same_now) b
 
-  pub test_then_acts : {w : World} {st : Names} {a b : Forest} {ms ks : Parts} {e f : Env} (l : Loop) (ls : List Text) → LoopHead l st a b → Near fields st a b → Fields st ms ks → Envs w st e f → Acts w (test_then E l a ms ls e) (test_then E l b ks ls f)
+  pub test_then_acts : {w : World} {st : Names} {a b : Forest} {ms ks : Parts} {e f : Env} (l : Loop) (ls : List Text) → LoopHead l st a b → Near itself fields st a b → Fields itself st ms ks → Envs w st e f → Acts w (test_then E l a ms ls e) (test_then E l b ks ls f)
   test_then_acts while_loop ls h n c r = need_acts c (λ m k ns us x c. value_acts (x.mean r same_now) (λ w2 v u i q. enter_if_acts while_loop ls h n (envs_later i r) q))
   test_then_acts do_loop ls h n c r = need_acts c (λ m k ns us x c. need_acts c (λ m k ns us x c. value_acts (x.mean r same_now) (λ w2 v u i q. enter_if_acts do_loop ls h n (envs_later i r) q)))
   test_then_acts for_loop ls h n c r = may_acts c (λ m k ns us x c. may_acts c (λ m k ns us x c. test_for_acts x r (λ w2 v u i q. enter_if_acts for_loop ls h n (envs_later i r) q)))
 
-  pub turn_acts : {w : World} {st : Names} {a b : Forest} {ms ks : Parts} {e f : Env} (l : Loop) (ls : List Text) → LoopHead l st a b → Near fields st a b → Fields st ms ks → Envs w st e f → Acts w (turn_does E l a ms ls e) (turn_does E l b ks ls f)
+  pub turn_acts : {w : World} {st : Names} {a b : Forest} {ms ks : Parts} {e f : Env} (l : Loop) (ls : List Text) → LoopHead l st a b → Near itself fields st a b → Fields itself st ms ks → Envs w st e f → Acts w (turn_does E l a ms ls e) (turn_does E l b ks ls f)
   turn_acts while_loop ls h n c r = need_acts c (λ m k ns us x d. need_acts d (λ m k ns us x d. bind_acts (x.mean r same_run) (λ w2 v u i q. after_turn_acts ls q (test_then_acts while_loop ls h n c (envs_later i r)))))
   turn_acts do_loop ls h n c r = need_acts c (λ m k ns us x d. bind_acts (x.mean r same_run) (λ w2 v u i q. after_turn_acts ls q (test_then_acts do_loop ls h n c (envs_later i r))))
   turn_acts for_loop ls h n c r =

@@ -1,25 +1,30 @@
 -- What the laws give for some modules.
 use Rattle.std.proofs.Common.{◌≡◌, List, ◌∷◌, refl, sym, subst, ◌∙◌, arith}
-use Rattle.std.specs.Prelude.{true, false, not}
+use Rattle.std.specs.Prelude.{Bool, true, false, not}
 use Rattle.std.specs.Str.{bytes_eq}
 use Rattle.js_syntax.specs.declared.node_kind.NodeKind.{NodeKind as Kind}
 use Rattle.js_syntax.specs.declared.kind.FunctionKind.TheVariants as function_kind
 use Rattle.js_syntax.specs.declared.kind.VariableKind.TheVariants as variable
 use Rattle.js_syntax.specs.declared.value.LiteralValue.{LiteralValue as Literal}
-use Rattle.js_syntax.specs.Node.{Note, Forest, nothing, node, absent}
+use Rattle.js_syntax.specs.Node.{Note, Forest, nothing, node, absent, below_of}
 use Rattle.js_meaning.specs.Value.{Text, this_name, Plain, Value, plain, literal_value}
+use Rattle.js_meaning.specs.Operator.{truthy}
 use Rattle.js_meaning.specs.State.{done, give}
 use Rattle.js_meaning.specs.Scope.{Decl, decl, ready, all_so, var_names, lexical, function_decls, module_decls}
 use Rattle.js_meaning.specs.Module.{entries, stars, requests}
 use Rattle.js_meaning.specs.Kept.{Refined}
 use Rattle.js_meaning_near.specs.Quiet.{gives_quietly, Quiet}
+use Rattle.js_meaning.specs.Node as asks
 use Rattle.js_meaning_near.specs.Names.{Decls, known, exactly, Names, no_names, with_name, no_decls, in_both_known, Fillable, AllPlain, PlainBut}
 use Rattle.js_meaning_near.specs.Near.{Silent, idle_empty, idle_function, idle_declarator, idle_declaration, all_idle, one_idle, statement_emptied, value_read, fields, items, Near, near_node, near_known, changed, leaves, near_nothing, near_absent, near_module, module_of}
 use Rattle.js_meaning_near.specs.Fit.{names_after, whole}
 use Rattle.js_meaning_near.specs.Once.{Once, at_place, in_rest, in_node, in_declaration, same_node_first}
 use Rattle.js_meaning_near.specs.Avoid.{declares, Dropping, dropped_here, dropped_later, HasCells, ExportsAvoid, InPlace, Avoids}
-use Rattle.js_meaning_near.specs.Examples.{block_of, behind_name, function_of, declaration_of, expression_statement, literal_statement, empty_statement, if_of}
-use Rattle.js_meaning_near.specs.Local.{Local}
+use Rattle.js_meaning_near.specs.Examples.{block_of, behind_name, function_of, declaration_of, expression_statement, literal_statement, empty_statement, if_of, choice_of}
+use Rattle.js_meaning_near.specs.Bare.{stands_bare}
+use Rattle.js_meaning_near.specs.Local as local
+use Rattle.js_meaning_near.specs.Local.{Plainly, Local}
+use Rattle.js_meaning_near.proofs.Branches.{condition_holds}
 use Rattle.js_meaning_near.proofs.Local.{local_near, module_decls_stay}
 use Rattle.js_meaning_near.proofs.Contexts.{near_refines}
 use Rattle.js_meaning_near.proofs.Fit.{same_decls, decls_both, fit}
@@ -43,7 +48,7 @@ empty_leaves n a y = near_refines n n n n (same_module (empty_statement n a) a r
 
 -- and a function's body
 
-in_body : {t : Names} {a b : Forest} (n : Note) → Near items t a b → Once fields t (node Kind.FunctionBody n (node Kind.Statements n a nothing) nothing) (node Kind.FunctionBody n (node Kind.Statements n b nothing) nothing)
+in_body : {t : Names} {a b : Forest} (n : Note) → Near asks.itself items t a b → Once asks.itself fields t (node Kind.FunctionBody n (node Kind.Statements n a nothing) nothing) (node Kind.FunctionBody n (node Kind.Statements n b nothing) nothing)
 in_body n o = in_node tt no_decls tt (in_node tt no_decls tt (at_place o) tt) tt
 
 pub empty_leaves_body : (n : Note) (f : Text) (ps a c : Forest) → InPlace whole fields ps → InPlace whole items a → InPlace whole items c → Refined (module_of n n (function_of n f ps (empty_statement n a) c)) (module_of n n (function_of n f ps a c))
@@ -107,9 +112,22 @@ constant_read n x p v c e f y z =
 
 -- an expression comes to one of its parts
 
-pub local_change : (n m : Note) (a b : Forest) → Local a b → InPlace whole items b → entries a ≡ entries b → stars a ≡ stars b → requests a ≡ requests b → Refined (module_of n m a) (module_of n m b)
+pub local_change : (n m : Note) (a b : Forest) → Local asks.itself a b → InPlace whole items b → entries a ≡ entries b → stars a ≡ stars b → requests a ≡ requests b → Refined (module_of n m a) (module_of n m b)
 local_change n m a b s y e t r = near_refines n m n m (near_module (subst (λ ds. Decls no_names ds (module_decls b) (names_after no_names (module_decls b))) (sym (module_decls_stay s)) (same_decls no_names (module_decls b))) e (exports_plain _ (entries a) plain) t r
     (local_near whole items _ s (fits_clear whole items _ b plain y)))
   where
     plain : AllPlain (names_after no_names (module_decls b))
     plain = λ x. after_plain (module_decls b) no_names x tt
+
+-- a branch comes out bare
+
+pub bare_value : (n : Note) (v : Literal) (l z : Kind) (b c r : Forest) → truthy (literal_value v) ≡ true → stands_bare asks.itself l b ≡ true
+    → Plainly Kind.ConditionalExpression (below_of (choice_of n v l b z c nothing)) l b → InPlace whole items (node Kind.ExpressionStatement n (node l n b nothing) r)
+    → Refined (module_of n n (node Kind.ExpressionStatement n (choice_of n v l b z c nothing) r)) (module_of n n (node Kind.ExpressionStatement n (node l n b nothing) r))
+bare_value n v l z b c r t h p y = local_change n n _ _ (local.in_below tt (local.at_place (λ st. condition_holds asks.itself st v n n n l z b c t h) p)) y refl refl refl
+
+pub bare_callee : (n : Note) (pure : Bool) (v : Literal) (l z : Kind) (b c es r : Forest) → truthy (literal_value v) ≡ true → stands_bare asks.to_call l b ≡ true
+    → Plainly Kind.ConditionalExpression (below_of (choice_of n v l b z c nothing)) l b → InPlace whole items (node Kind.ExpressionStatement n (node (Kind.CallExpression false pure) n (node l n b (node Kind.Arguments n es nothing)) nothing) r)
+    → Refined (module_of n n (node Kind.ExpressionStatement n (node (Kind.CallExpression false pure) n (choice_of n v l b z c (node Kind.Arguments n es nothing)) nothing) r))
+    (module_of n n (node Kind.ExpressionStatement n (node (Kind.CallExpression false pure) n (node l n b (node Kind.Arguments n es nothing)) nothing) r))
+bare_callee n pure v l z b c es r t h p y = local_change n n _ _ (local.in_below tt (local.in_below tt (local.at_place (λ st. condition_holds asks.to_call st v n n n l z b c t h) p))) y refl refl refl

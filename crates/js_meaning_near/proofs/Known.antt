@@ -108,14 +108,14 @@ same_all k a = record { name = refl; bound = refl; vars = refl; imports = λ sou
 
 -- a read of the name becomes the literal
 pub read_place : {x : Text} {p : Plain} {q : Row} {n m : Note} {r s : Forest} (v : Literal) → literal_value v ≡ plain p → Rewritten (Knows x (exactly p)) whole q r s → Rewritten (Knows x (exactly p)) whole q (node (Kind.ReferenceName x) n nothing r) (node (Kind.Literal v) m nothing s)
-read_place v e t = at_place (record { name = refl; bound = refl; vars = refl; imports = λ source. refl; items = refl }) (λ st c d g o. changed (value_read g.known_so e) o) t
+read_place v e t = at_place (record { name = refl; bound = refl; vars = refl; imports = λ source. refl; items = refl }) (λ w st c d g o. changed (value_read g.known_so e) o) t
 
 -- the declarator that gives the value
 pub value_place : {x : Text} {p : Plain} {q : Row} {n i k : Note} {r s : Forest} (v : Literal) → literal_value v ≡ plain p → Rewritten (Knows x (exactly p)) whole q r s
     → Rewritten (Knows x (exactly p)) whole q (node Kind.VariableDeclarator n (node (Kind.BindingName x) i nothing (node (Kind.Literal v) k nothing nothing)) r) (node Kind.VariableDeclarator n (node (Kind.BindingName x) i nothing (node (Kind.Literal v) k nothing nothing)) s)
-value_place v e t = at_place (same_all _ _) (λ st c d g o. near_known g.known_so e o) t
+value_place v e t = at_place (same_all _ _) (λ w st c d g o. near_known g.known_so e o) t
 
 -- the function itself, with its code
 pub function_place : {x : Text} {pure : Bool} {p : Row} {n : Note} {a r s : Forest} → first_name a ≡ Some x → ((st : Names) → Knows x silent_function st → SilentCode st a) → ((st : Names) → Knows x silent_function st → Fits others fields (within_code st function_kind.Declaration a) a)
     → Rewritten (Knows x silent_function) whole p r s → Rewritten (Knows x silent_function) whole p (node (Kind.Function function_kind.Declaration pure) n a r) (node (Kind.Function function_kind.Declaration pure) n a s)
-function_place {a = a} e q f t = at_place (same_all _ _) (λ st c d g o. near_silent g.known_so e e (q st g) (near_code (same_decls st (function_decls function_kind.Declaration a)) (receiver_ok st function_kind.Declaration a) refl (fit others fields _ a (f st g))) o) t
+function_place {a = a} e q f t = at_place (same_all _ _) (λ w st c d g o. near_silent g.known_so e e (q st g) (near_code (same_decls st (function_decls function_kind.Declaration a)) (receiver_ok st function_kind.Declaration a) refl (fit others fields _ a (f st g))) o) t

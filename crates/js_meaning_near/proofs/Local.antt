@@ -10,17 +10,18 @@ use Rattle.js_syntax.specs.Facts.{is_core}
 use Rattle.js_syntax.specs.Node.{Note, Forest, nothing, node}
 use Rattle.js_meaning.specs.Value.{Text, this_name}
 use Rattle.js_meaning.specs.Scope.{Decl, waiting, ready, all_so, named_so, first_of, behind, declared_name, first_name, names_of, bound_names, vars_of, var_names, specifier_decls, import_decls, item_decls, lexical, receiver_decls, function_decls, decl, module_decls}
-use Rattle.js_meaning_near.specs.Names.{Names, Decls, Copied, declared, FillableIf}
-use Rattle.js_meaning_near.specs.Near.{Row, fields, is_calm, Heads, is_row, Near, near_nothing, near_absent, near_node, near_closure, near_hoisted, near_uncovered, comes_to, Code, near_code}
+use Rattle.js_meaning.specs.Node.{Wanted, itself}
+use Rattle.js_meaning_near.specs.Names.{Names, no_names, Decls, Copied, declared, FillableIf}
+use Rattle.js_meaning_near.specs.Near.{Row, fields, is_calm, hoists_nothing, wanted_below, Heads, is_row, Near, near_nothing, near_absent, near_node, near_closure, near_hoisted, near_uncovered, comes_to, Code, near_code}
 use Rattle.js_meaning_near.specs.Fit.{names_after, around_code, within_code, FunctionOk, Part, whole, others, part_of, NodeFits, IfCore, Fits}
-use Rattle.js_meaning_near.specs.Local.{KeysStay, Local, at_place, in_below, in_rest, in_absent}
+use Rattle.js_meaning_near.specs.Local.{ReadsSame, Local, at_place, in_below, in_rest, in_absent}
 use Rattle.js_meaning_near.proofs.Fit.{same_decls, same_copied, same_node, fits_near, fit}
 use Rattle.js_meaning_near.proofs.Once.{node_stays}
 
 true_false : true ≡ false → ⊥
 true_false e = cc
 
--- what a blunt expression declares
+-- what a calm node declares lies below it
 
 pub calm_names : (k : Kind) (l : List Text) → is_calm k ≡ true → names_of k l ≡ l
 calm_names (Kind.BindingName x) l h = absurd (true_false (sym h))
@@ -34,39 +35,41 @@ calm_vars (Kind.Function f pure) a l h = absurd (true_false (sym h))
 calm_vars (Kind.Class c) a l h = absurd (true_false (sym h))
 calm_vars k a l h = refl
 
-calm_items : (k : Kind) (a : Forest) (l : List Decl) → is_calm k ≡ true → item_decls k a l ≡ []
-calm_items (Kind.VariableDeclaration how) a l h = absurd (true_false (sym h))
-calm_items (Kind.Function f pure) a l h = absurd (true_false (sym h))
-calm_items (Kind.Class c) a l h = absurd (true_false (sym h))
-calm_items (Kind.ImportDeclaration source) a l h = absurd (true_false (sym h))
-calm_items (Kind.ExportNamedDeclaration source) a l h = absurd (true_false (sym h))
-calm_items Kind.ExportDefaultDeclaration a l h = absurd (true_false (sym h))
-calm_items Kind.FunctionBody a l h = absurd (true_false (sym h))
-calm_items Kind.Statements a l h = absurd (true_false (sym h))
-calm_items Kind.Cases a l h = absurd (true_false (sym h))
-calm_items Kind.SwitchCase a l h = absurd (true_false (sym h))
-calm_items k a l h = refl
-
 pub calm_specifier : (source : Text) (k : Kind) (a : Forest) (l : List Decl) → is_calm k ≡ true → specifier_decls source k a l ≡ l
 calm_specifier source (Kind.ImportSpecifier name) a l h = absurd (true_false (sym h))
 calm_specifier source Kind.ImportDefaultSpecifier a l h = absurd (true_false (sym h))
 calm_specifier source Kind.ImportNamespaceSpecifier a l h = absurd (true_false (sym h))
 calm_specifier source k a l h = refl
 
-calm_name : (k : Kind) → is_calm k ≡ true → declared_name k ≡ None
-calm_name (Kind.BindingName x) h = absurd (true_false (sym h))
-calm_name k h = refl
+-- what such nodes declare
+
+items_of : (k : Kind) (a : Forest) (l : List Decl) → hoists_nothing k ≡ true → item_decls k a l ≡ []
+items_of (Kind.VariableDeclaration how) a l h = absurd (true_false (sym h))
+items_of (Kind.Function function_kind.Declaration pure) a l h = absurd (true_false (sym h))
+items_of (Kind.Class c) a l h = absurd (true_false (sym h))
+items_of (Kind.ImportDeclaration source) a l h = absurd (true_false (sym h))
+items_of (Kind.ExportNamedDeclaration source) a l h = absurd (true_false (sym h))
+items_of Kind.ExportDefaultDeclaration a l h = absurd (true_false (sym h))
+items_of Kind.FunctionBody a l h = absurd (true_false (sym h))
+items_of Kind.Statements a l h = absurd (true_false (sym h))
+items_of Kind.Cases a l h = absurd (true_false (sym h))
+items_of Kind.SwitchCase a l h = absurd (true_false (sym h))
+items_of k a l h = refl
+
+name_of : (k : Kind) → hoists_nothing k ≡ true → declared_name k ≡ None
+name_of (Kind.BindingName x) h = absurd (true_false (sym h))
+name_of k h = refl
 
 -- what stays
 
-same_name : {t u : Forest} → Local t u → first_name t ≡ first_name u
-same_name (at_place {k = k} {l = l} c x y p) = calm_name k x ∙ sym (calm_name l y)
+same_name : {w : Wanted} {t u : Forest} → Local w t u → first_name t ≡ first_name u
+same_name (at_place {k = k} {l = l} c p) = name_of k (c no_names).old_hoists ∙ sym (name_of l (c no_names).new_hoists)
 same_name (in_below q s) = refl
 same_name (in_rest s) = refl
 same_name (in_absent s) = refl
 
-pub same_bound : {t u : Forest} → Local t u → bound_names t ≡ bound_names u
-same_bound (at_place {k = k} {l = l} {a = a} {b = b} {r = r} c x y p) = ap (λ v. v ++ bound_names r) (calm_names k (bound_names a) x ∙ p.bound ∙ sym (calm_names l (bound_names b) y))
+pub same_bound : {w : Wanted} {t u : Forest} → Local w t u → bound_names t ≡ bound_names u
+same_bound (at_place {r = r} c p) = ap (λ v. v ++ bound_names r) p.bound
 same_bound (in_below {k = k} {r = r} q s) = ap (λ v. names_of k v ++ bound_names r) (same_bound s)
 same_bound (in_rest {k = k} {a = a} s) = ap (λ v. names_of k (bound_names a) ++ v) (same_bound s)
 same_bound (in_absent s) = same_bound s
@@ -77,8 +80,8 @@ vars_stay (Kind.VariableDeclaration variable.Let) a b l e = refl
 vars_stay (Kind.VariableDeclaration variable.Const) a b l e = refl
 vars_stay k a b l e = refl
 
-same_vars : {t u : Forest} → Local t u → var_names t ≡ var_names u
-same_vars (at_place {k = k} {l = l} {a = a} {b = b} {r = r} c x y p) = ap (λ v. v ++ var_names r) (calm_vars k a (var_names a) x ∙ p.vars ∙ sym (calm_vars l b (var_names b) y))
+same_vars : {w : Wanted} {t u : Forest} → Local w t u → var_names t ≡ var_names u
+same_vars (at_place {r = r} c p) = ap (λ v. v ++ var_names r) p.vars
 same_vars (in_below {k = k} {a = a} {b = b} {r = r} q s) = ap (λ v. v ++ var_names r) (ap (vars_of k a) (same_vars s) ∙ vars_stay k a b (var_names b) (same_bound s))
 same_vars (in_rest {k = k} {a = a} s) = ap (λ v. vars_of k a (var_names a) ++ v) (same_vars s)
 same_vars (in_absent s) = same_vars s
@@ -89,13 +92,13 @@ specifier_stays source Kind.ImportDefaultSpecifier a b l e = ap (named_so _) e
 specifier_stays source Kind.ImportNamespaceSpecifier a b l e = ap (named_so _) e
 specifier_stays source k a b l e = refl
 
-same_imports : {t u : Forest} (source : Text) → Local t u → import_decls source t ≡ import_decls source u
-same_imports source (at_place {k = k} {l = l} {a = a} {b = b} {r = r} c x y p) = ap (λ v. v ++ import_decls source r) (calm_specifier source k a (import_decls source a) x ∙ p.imports source ∙ sym (calm_specifier source l b (import_decls source b) y))
+same_imports : {w : Wanted} {t u : Forest} (source : Text) → Local w t u → import_decls source t ≡ import_decls source u
+same_imports source (at_place {r = r} c p) = ap (λ v. v ++ import_decls source r) (p.imports source)
 same_imports source (in_below {k = k} {a = a} {b = b} {r = r} q s) = ap (λ v. v ++ import_decls source r) (ap (specifier_decls source k a) (same_imports source s) ∙ specifier_stays source k a b (import_decls source b) (same_name s))
 same_imports source (in_rest {k = k} {a = a} s) = ap (λ v. specifier_decls source k a (import_decls source a) ++ v) (same_imports source s)
 same_imports source (in_absent s) = same_imports source s
 
-items_stay : (k : Kind) (a b : Forest) (l : List Decl) → Local a b → item_decls k a l ≡ item_decls k b l
+items_stay : {w : Wanted} (k : Kind) (a b : Forest) (l : List Decl) → Local w a b → item_decls k a l ≡ item_decls k b l
 items_stay (Kind.VariableDeclaration variable.Let) a b l s = ap (all_so (waiting false)) (same_bound s)
 items_stay (Kind.VariableDeclaration variable.Const) a b l s = ap (all_so (waiting true)) (same_bound s)
 items_stay (Kind.VariableDeclaration variable.Var) a b l s = refl
@@ -105,53 +108,53 @@ items_stay (Kind.ImportDeclaration source) a b l s = same_imports source s
 items_stay (Kind.ExportNamedDeclaration None) a b l s = refl
 items_stay k a b l s = refl
 
-pub same_lexical : {t u : Forest} → Local t u → lexical t ≡ lexical u
-same_lexical (at_place {k = k} {l = l} {a = a} {b = b} {r = r} c x y p) = ap (λ v. v ++ lexical r) (calm_items k a (lexical a) x ∙ sym (calm_items l b (lexical b) y))
+pub same_lexical : {w : Wanted} {t u : Forest} → Local w t u → lexical t ≡ lexical u
+same_lexical (at_place {k = k} {l = l} {a = a} {b = b} {r = r} c p) = ap (λ v. v ++ lexical r) (items_of k a (lexical a) (c no_names).old_hoists ∙ sym (items_of l b (lexical b) (c no_names).new_hoists))
 same_lexical (in_below {k = k} {a = a} {b = b} {r = r} q s) = ap (λ v. v ++ lexical r) (ap (item_decls k a) (same_lexical s) ∙ items_stay k a b (lexical b) s)
 same_lexical (in_rest {k = k} {a = a} s) = ap (λ v. item_decls k a (lexical a) ++ v) (same_lexical s)
 same_lexical (in_absent s) = same_lexical s
 
 -- of the first field, and behind it
 
-first_bound : {t u : Forest} → Local t u → bound_names (first_of t) ≡ bound_names (first_of u)
-first_bound (at_place {n = n} {m = m} c x y p) = same_bound (at_place {n = n} {m = m} {r = nothing} c x y p)
+first_bound : {w : Wanted} {t u : Forest} → Local w t u → bound_names (first_of t) ≡ bound_names (first_of u)
+first_bound (at_place {n = n} {m = m} c p) = same_bound (at_place {n = n} {m = m} {r = nothing} c p)
 first_bound (in_below {n = n} q s) = same_bound (in_below {n = n} {r = nothing} q s)
 first_bound (in_rest s) = refl
 first_bound (in_absent s) = refl
 
-first_lexical : {t u : Forest} → Local t u → lexical (first_of t) ≡ lexical (first_of u)
-first_lexical (at_place {n = n} {m = m} c x y p) = same_lexical (at_place {n = n} {m = m} {r = nothing} c x y p)
+first_lexical : {w : Wanted} {t u : Forest} → Local w t u → lexical (first_of t) ≡ lexical (first_of u)
+first_lexical (at_place {n = n} {m = m} c p) = same_lexical (at_place {n = n} {m = m} {r = nothing} c p)
 first_lexical (in_below {n = n} q s) = same_lexical (in_below {n = n} {r = nothing} q s)
 first_lexical (in_rest s) = refl
 first_lexical (in_absent s) = refl
 
 -- whatever is read off a row that stays is read off what stands behind
-behind_same : {A : Type 0} (f : Forest → A) → ((t u : Forest) → Local t u → f t ≡ f u) → (t u : Forest) → Local t u → f (behind t) ≡ f (behind u)
-behind_same f g _ _ (at_place c x y p) = refl
+behind_same : {A : Type 0} {w : Wanted} (f : Forest → A) → ((t u : Forest) → Local w t u → f t ≡ f u) → (t u : Forest) → Local w t u → f (behind t) ≡ f (behind u)
+behind_same f g _ _ (at_place c p) = refl
 behind_same f g _ _ (in_below q s) = refl
 behind_same f g _ _ (in_rest s) = g _ _ s
 behind_same f g _ _ (in_absent s) = g _ _ s
 
-vars_both : (t u : Forest) → Local t u → var_names t ≡ var_names u
+vars_both : {w : Wanted} (t u : Forest) → Local w t u → var_names t ≡ var_names u
 vars_both t u s = same_vars s
 
-lexical_both : (t u : Forest) → Local t u → lexical t ≡ lexical u
+lexical_both : {w : Wanted} (t u : Forest) → Local w t u → lexical t ≡ lexical u
 lexical_both t u s = same_lexical s
 
-bound_both : (t u : Forest) → Local t u → bound_names (first_of t) ≡ bound_names (first_of u)
+bound_both : {w : Wanted} (t u : Forest) → Local w t u → bound_names (first_of t) ≡ bound_names (first_of u)
 bound_both t u s = first_bound s
 
 code_decls : FunctionKind → List Text → List Text → List Decl → List Decl
 code_decls f vs bs ds = receiver_decls f ++ all_so ready vs ++ all_so ready bs ++ ds
 
-decls_stay : (f : FunctionKind) {t u : Forest} → Local t u → function_decls f t ≡ function_decls f u
+decls_stay : {w : Wanted} (f : FunctionKind) {t u : Forest} → Local w t u → function_decls f t ≡ function_decls f u
 unfolding code_decls
 decls_stay f {t} {u} s =
     ap (λ vs. code_decls f vs (bound_names (first_of (behind t))) (lexical (behind (behind t)))) (behind_same (λ x. var_names (behind x)) (behind_same var_names vars_both) t u s)
     ∙ ap (λ bs. code_decls f (var_names (behind (behind u))) bs (lexical (behind (behind t)))) (behind_same (λ x. bound_names (first_of x)) bound_both t u s)
     ∙ ap (λ ds. code_decls f (var_names (behind (behind u))) (bound_names (first_of (behind u))) ds) (behind_same (λ x. lexical (behind x)) (behind_same lexical lexical_both) t u s)
 
-declared_stay : (k : Kind) {a b : Forest} → Local a b → declared k a ≡ declared k b
+declared_stay : {w : Wanted} (k : Kind) {a b : Forest} → Local w a b → declared k a ≡ declared k b
 declared_stay Kind.BlockStatement s = same_lexical s
 declared_stay Kind.Cases s = same_lexical s
 declared_stay Kind.ForStatement s = first_lexical s
@@ -160,13 +163,14 @@ declared_stay k s = refl
 
 -- ---- nearness
 
-calm_fits : (p : Row) (st : Names) (l : Kind) (b : Forest) (core : Bool) → is_calm l ≡ true → IfCore core (NodeFits p st l b (λ q r t. Fits q r t b)) → IfCore core (NodeFits fields st l b (λ q r t. Fits q r t b))
-calm_fits p st l b false h y = tt
-calm_fits p st (Kind.Function f pure) b true h y = absurd (true_false (sym h))
-calm_fits p st Kind.Cases b true h y = absurd (true_false (sym h))
-calm_fits p st l b true h y = y
+-- of such a node nothing else is asked where it stands in a field
+fits_as_field : (p : Row) (st : Names) (l : Kind) (b : Forest) (core : Bool) → hoists_nothing l ≡ true → IfCore core (NodeFits p st l b (λ q r t. Fits q r t b)) → IfCore core (NodeFits fields st l b (λ q r t. Fits q r t b))
+fits_as_field p st l b false h y = tt
+fits_as_field p st (Kind.Function f pure) b true h y = y
+fits_as_field p st Kind.Cases b true h y = absurd (true_false (sym h))
+fits_as_field p st l b true h y = y
 
-heads_stay : (k : Kind) (t : Names) (a b : Forest) → KeysStay k a b → Local a b → Heads k t a b
+heads_stay : {w : Wanted} (k : Kind) (t : Names) (a b : Forest) → ReadsSame k a b → Local w a b → Heads k t a b
 heads_stay Kind.ForStatement t a b q s = subst (Copied t (lexical (first_of a))) (first_lexical s) (same_copied t (lexical (first_of a)))
 heads_stay Kind.ObjectExpression t a b q s = q
 heads_stay k t a b q s = tt
@@ -174,18 +178,18 @@ heads_stay k t a b q s = tt
 decls_from : {ds es : List Decl} (st : Names) → ds ≡ es → Decls st ds es (names_after st es)
 decls_from {ds = ds} {es = es} st e = subst (λ l. Decls st l es (names_after st es)) (sym e) (same_decls st es)
 
-rows_stay : {t u : Forest} → Local t u → is_row t ≡ is_row u
-rows_stay (at_place c x y p) = refl
+rows_stay : {w : Wanted} {t u : Forest} → Local w t u → is_row t ≡ is_row u
+rows_stay (at_place c p) = refl
 rows_stay (in_below q s) = refl
 rows_stay (in_rest s) = refl
 rows_stay (in_absent s) = refl
 
-code_stays : (st : Names) (f : FunctionKind) (a b : Forest) → Local a b → FunctionOk st f b → Near fields (within_code st f b) (behind a) (behind b) → Code (around_code st f b) f a b
+code_stays : {w : Wanted} (st : Names) (f : FunctionKind) (a b : Forest) → Local w a b → FunctionOk st f b → Near itself fields (within_code st f b) (behind a) (behind b) → Code (around_code st f b) f a b
 code_stays st function_kind.Declaration a b s y n = near_code (decls_from _ (decls_stay function_kind.Declaration s)) y.1 (rows_stay s) n
 code_stays st function_kind.Expression a b s y n = near_code (decls_from _ (decls_stay function_kind.Expression s)) y.1 (rows_stay s) n
 code_stays st function_kind.Arrow a b s y n = near_code (decls_from _ (decls_stay function_kind.Arrow s)) y.1 (rows_stay s) n
 
-inside : {p : Row} {st : Names} {n : Note} {a b r : Forest} (k : Kind) (core : Bool) → is_core k ≡ core → KeysStay k a b → Local a b → IfCore core (NodeFits p st k b (λ q r t. Near r t (part_of q a) (part_of q b))) → Near p st r r → Near p st (node k n a r) (node k n b r)
+inside : {w : Wanted} {p : Row} {st : Names} {n : Note} {a b r : Forest} (k : Kind) (core : Bool) → is_core k ≡ core → ReadsSame k a b → Local (wanted_below w k) a b → IfCore core (NodeFits p st k b (λ q r t. Near (wanted_below w k) r t (part_of q a) (part_of q b))) → Near w p st r r → Near w p st (node k n a r) (node k n b r)
 inside k false e q s y o = near_uncovered e o
 inside {st = st} {a = a} {b = b} (Kind.Function function_kind.Declaration pure) true e q s y o = near_hoisted (same_name s) (subst (FillableIf st) (sym (same_name s)) y.0.0) (code_stays st function_kind.Declaration a b s y.0 y.1) o
 inside {st = st} {a = a} {b = b} (Kind.Function function_kind.Expression pure) true e q s y o =
@@ -199,16 +203,16 @@ fits_with p st (Kind.Function f pure) b true g y = (y.0, g _ _ _ y.1)
 fits_with p st k b true g y = (y.0, g _ _ _ y.1)
 
 -- the old row is near the new one where the new one stays near itself
-pub local_near : (q : Part) (p : Row) (st : Names) {t u : Forest} → Local t u → Fits q p st u → Near p st (part_of q t) (part_of q u)
-local_near whole p st (at_place {k = k} {l = l} {n = n} {m = m} {a = a} {b = b} {r = r} c x y z) f =
-    comes_to {i = m} {j = m} (c st) (same_node l m b (is_core l) refl (fits_near fields st l b (is_core l) (calm_fits p st l b (is_core l) y f.0)) near_nothing) (fit whole p st r f.1)
+pub local_near : {w : Wanted} (q : Part) (p : Row) (st : Names) {t u : Forest} → Local w t u → Fits q p st u → Near w p st (part_of q t) (part_of q u)
+local_near whole p st (at_place {k = k} {l = l} {n = n} {m = m} {a = a} {b = b} {r = r} c z) f =
+    comes_to {i = m} {j = m} (c st) (same_node l m b (is_core l) refl (fits_near _ fields st l b (is_core l) (fits_as_field p st l b (is_core l) (c st).new_hoists f.0)) near_nothing) (fit whole p st r f.1)
 local_near whole p st (in_below {k = k} {n = n} {a = a} {b = b} {r = r} q s) f = inside k (is_core k) refl q s (fits_with p st k b (is_core k) (λ q r t z. local_near q r t s z) f.0) (fit whole p st r f.1)
 local_near whole p st (in_rest {k = k} {n = n} {a = a} s) f = node_stays p st k n a f.0 (local_near whole p st s f.1)
 local_near whole p st (in_absent s) f = near_absent (local_near whole p st s f)
-local_near others p st (at_place {r = r} c x y z) f = fit whole p st r f
+local_near others p st (at_place {r = r} c z) f = fit whole p st r f
 local_near others p st (in_below {r = r} q s) f = fit whole p st r f
 local_near others p st (in_rest s) f = local_near whole p st s f
 local_near others p st (in_absent s) f = local_near whole p st s f
 
-pub module_decls_stay : {t u : Forest} → Local t u → module_decls t ≡ module_decls u
+pub module_decls_stay : {w : Wanted} {t u : Forest} → Local w t u → module_decls t ≡ module_decls u
 module_decls_stay s = ap₂ (λ (v : List Text) (w : List Decl). decl this_name ready ∷ all_so ready v ++ w) (same_vars s) (same_lexical s)

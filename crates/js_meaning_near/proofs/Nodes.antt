@@ -16,7 +16,7 @@ use Rattle.js_meaning.specs.Expression.{receiver_of, fill_own, function_value, w
 use Rattle.js_meaning.specs.Statement.{for_does, catch_does}
 use Rattle.js_meaning.specs.Meaning.{default_does, does}
 use Rattle.js_meaning_near.specs.Names.{known, silent_function, unread, Names, Fillable, FillableIf, Decls, Copied, declared, names_below}
-use Rattle.js_meaning_near.specs.Near.{Idle, idle_empty, idle_expression, idle_no_expression, idle_function, idle_declarator, idle_bare_declarator, idle_cut_declarator, idle_declaration, statement_emptied, no_statement_emptied, value_read, SilentCode, near_silent, Row, fields, switch_fields, items, row_below, HoldsCases, Okay, key_of, keys, Heads, IsClosure, is_calm, Near, comes_to, near_nothing, near_absent, near_node, near_closure, near_hoisted, near_unread, near_known, near_uncovered, changed, same_effects, leaves, Code, sign_applied}
+use Rattle.js_meaning_near.specs.Near.{Idle, idle_empty, idle_expression, idle_no_expression, idle_function, idle_declarator, idle_bare_declarator, idle_cut_declarator, idle_declaration, statement_emptied, no_statement_emptied, value_read, SilentCode, near_silent, Row, fields, switch_fields, items, row_below, HoldsCases, Okay, key_of, keys, Heads, IsClosure, hoists_nothing, wanted_below, Near, comes_to, near_nothing, near_absent, near_node, near_closure, near_hoisted, near_unread, near_known, near_uncovered, changed, same_effects, leaves, Code, sign_applied}
 use Rattle.js_meaning_near.proofs.Worlds.{World}
 use Rattle.js_meaning_near.proofs.Relations.{At, Envs, Same, same_plain, same_closure, same_object, same_array, SameContent, same_empty, same_element, same_property, SameAll, all_nil, all_cons, same_gives, same_refers, same_at_member, same_breaks, same_continues, same_returns, same_throws, SameAsk, same_run, same_value, same_place, same_take, same_take_all, same_declares, same_collect, same_entry, same_matches, Acts, Means, same_turn, Enters, envs_later, same_later, all_later}
 use Rattle.js_meaning_near.proofs.Acts.{acts_later, bind_acts, done_acts, unknown_acts, choose_acts, give_acts, normal_acts, seq_acts, receiver_acts, value_acts, all_acts, place_acts, identity_acts, identity_left, identity_right}
@@ -52,32 +52,32 @@ fillable_default st (Some n) x y = x
 named_default : (o : Option Text) (x : Text) → o ≡ Some x → Some (name_or_default o) ≡ Some x
 named_default o x e = rw e refl
 
--- what calm nodes neither start nor give by default
-calm_item : (k : Kind) (a : Forest) (i : M → M) (e : Env) (m : M) → is_calm k ≡ true → start_item k a i e m ≡ m
-calm_item (Kind.Function g pure) a i e m h = absurd (true_false (sym h))
-calm_item (Kind.ExportNamedDeclaration None) a i e m h = absurd (true_false (sym h))
-calm_item Kind.ExportDefaultDeclaration a i e m h = absurd (true_false (sym h))
-calm_item Kind.FunctionBody a i e m h = absurd (true_false (sym h))
-calm_item Kind.Statements a i e m h = absurd (true_false (sym h))
-calm_item Kind.Cases a i e m h = absurd (true_false (sym h))
-calm_item Kind.SwitchCase a i e m h = absurd (true_false (sym h))
-calm_item k a i e m h = refl
+-- what such nodes neither start nor give by default
+starts_nothing : (k : Kind) (a : Forest) (i : M → M) (e : Env) (m : M) → hoists_nothing k ≡ true → start_item k a i e m ≡ m
+starts_nothing (Kind.Function function_kind.Declaration pure) a i e m h = absurd (true_false (sym h))
+starts_nothing (Kind.ExportNamedDeclaration None) a i e m h = absurd (true_false (sym h))
+starts_nothing Kind.ExportDefaultDeclaration a i e m h = absurd (true_false (sym h))
+starts_nothing Kind.FunctionBody a i e m h = absurd (true_false (sym h))
+starts_nothing Kind.Statements a i e m h = absurd (true_false (sym h))
+starts_nothing Kind.Cases a i e m h = absurd (true_false (sym h))
+starts_nothing Kind.SwitchCase a i e m h = absurd (true_false (sym h))
+starts_nothing k a i e m h = refl
 
-calm_default : (k : Kind) (n : Note) (a c : Forest) (i : M → M) (e : Env) (m : M) → is_calm k ≡ true → start_default (node k n a c) i e m ≡ i m
-calm_default (Kind.Function g pure) n a c i e m h = absurd (true_false (sym h))
-calm_default k n a c i e m h = refl
+starts_no_default : (k : Kind) (n : Note) (a c : Forest) (i : M → M) (e : Env) (m : M) → hoists_nothing k ≡ true → start_default (node k n a c) i e m ≡ i m
+starts_no_default (Kind.Function function_kind.Declaration pure) n a c i e m h = absurd (true_false (sym h))
+starts_no_default k n a c i e m h = refl
 
-calm_does : (k : Kind) (n : Note) (a c : Forest) (m : Meaning) (e : Env) → is_calm k ≡ true → default_does (node k n a c) m e ≡ with_value (m now e) (λ v. fill (look e default_name) v (done normal))
-calm_does (Kind.Function g pure) n a c m e h = absurd (true_false (sym h))
-calm_does k n a c m e h = refl
+gives_default : (k : Kind) (n : Note) (a c : Forest) (m : Meaning) (e : Env) → hoists_nothing k ≡ true → default_does (node k n a c) m e ≡ with_value (m now e) (λ v. fill (look e default_name) v (done normal))
+gives_default (Kind.Function function_kind.Declaration pure) n a c m e h = absurd (true_false (sym h))
+gives_default k n a c m e h = refl
 
-pub calm_ask : (k : Kind) → is_calm k ≡ true → is_statement k ≡ false
-calm_ask (Kind.VariableDeclaration how) h = absurd (true_false (sym h))
-calm_ask Kind.FunctionBody h = absurd (true_false (sym h))
-calm_ask k h = refl
+no_statement : (k : Kind) → hoists_nothing k ≡ true → is_statement k ≡ false
+no_statement (Kind.VariableDeclaration how) h = absurd (true_false (sym h))
+no_statement Kind.FunctionBody h = absurd (true_false (sym h))
+no_statement k h = refl
 
 -- `export default` of a function starts it under its name or the default one; of anything else what lies inside
-default_starts : {w : World} {st : Names} {a b : Forest} {e f : Env} {m k : M} (i j : M → M) → Near fields st a b → Fillable (st default_name) → Envs w st e f → Acts w (i m) (j k) → Acts w m k → Acts w (start_default a i e m) (start_default b j f k)
+default_starts : {w : World} {wanted : Wanted} {st : Names} {a b : Forest} {e f : Env} {m k : M} (i j : M → M) → Near wanted fields st a b → Fillable (st default_name) → Envs w st e f → Acts w (i m) (j k) → Acts w m k → Acts w (start_default a i e m) (start_default b j f k)
 default_starts i j near_nothing y r x z = x
 default_starts i j (near_absent c) y r x z = x
 default_starts i j (near_node {k = Kind.Function g pure} o d h a c) y r x z = absurd o
@@ -96,8 +96,8 @@ default_starts i j (near_uncovered o c) y r x z = x
 default_starts i j (changed (statement_emptied q) c) y r x z = x
 default_starts i j (changed (no_statement_emptied q) c) y r x z = x
 default_starts i j (changed (value_read q v) c) y r x z = x
-default_starts {f = f} {k = k} i j (same_effects {l = l} {m = o} {b = b} {d = d} q t u) y r x z = rw (calm_default l o b d j f k q.new_calm) x
-default_starts {e = e} {f = f} {m = m} {k = k} i j (comes_to {k = g} {l = l} {n = n} {m = o} {a = a} {b = b} {c = c} {d = d} q t u) y r x z = rw (calm_default g n a c i e m q.old_calm, calm_default l o b d j f k q.new_calm) x
+default_starts {f = f} {k = k} i j (same_effects {l = l} {m = o} {b = b} {d = d} q t u) y r x z = rw (starts_no_default l o b d j f k q.new_hoists) x
+default_starts {e = e} {f = f} {m = m} {k = k} i j (comes_to {k = g} {l = l} {n = n} {m = o} {a = a} {b = b} {c = c} {d = d} q t u) y r x z = rw (starts_no_default g n a c i e m q.old_hoists, starts_no_default l o b d j f k q.new_hoists) x
 default_starts i j (changed (sign_applied q) c) y r x z = x
 
 -- a switch's cases start in a scope of their own
@@ -120,7 +120,7 @@ idle_starts (idle_declarator d q) r x = x
 idle_starts (idle_bare_declarator d) r x = x
 idle_starts (idle_declaration q) r x = x
 
-pub start_acts : {p : Row} {st : Names} {a b : Forest} {w : World} {e f : Env} {m k : M} → Starts p → Near p st a b → Envs w st e f → Acts w m k → Acts w (start a e m) (start b f k)
+pub start_acts : {wanted : Wanted} {p : Row} {st : Names} {a b : Forest} {w : World} {e f : Env} {m k : M} → Starts p → Near wanted p st a b → Envs w st e f → Acts w m k → Acts w (start a e m) (start b f k)
 unfolding start
 start_acts s near_nothing r x = x
 start_acts s (near_absent c) r x = start_acts s c r x
@@ -150,18 +150,18 @@ start_acts s (near_uncovered y c) r x = start_acts s c r x
 start_acts s (changed (statement_emptied q) c) r x = start_acts s c r x
 start_acts s (changed (no_statement_emptied q) c) r x = start_acts s c r x
 start_acts s (changed (value_read q v) c) r x = start_acts s c r x
-start_acts {e = e} {f = f} {m = m} {k = k} s (same_effects {l = l} {b = b} {d = d} q t u) r x = rw (calm_item l b (start b f) f (start d f k) q.new_calm) (start_acts s u r x)
-start_acts {e = e} {f = f} {m = m} {k = k} s (comes_to {k = g} {l = l} {a = a} {b = b} {c = c} {d = d} q t u) r x = rw (calm_item g a (start a e) e (start c e m) q.old_calm, calm_item l b (start b f) f (start d f k) q.new_calm) (start_acts s u r x)
+start_acts {e = e} {f = f} {m = m} {k = k} s (same_effects {l = l} {b = b} {d = d} q t u) r x = rw (starts_nothing l b (start b f) f (start d f k) q.new_hoists) (start_acts s u r x)
+start_acts {e = e} {f = f} {m = m} {k = k} s (comes_to {k = g} {l = l} {a = a} {b = b} {c = c} {d = d} q t u) r x = rw (starts_nothing g a (start a e) e (start c e m) q.old_hoists, starts_nothing l b (start b f) f (start d f k) q.new_hoists) (start_acts s u r x)
 start_acts s (changed (sign_applied q) c) r x = start_acts s c r x
 start_acts s (leaves i c) r x = idle_starts i r (start_acts s c r x)
 
 -- what a node is asked that may be a statement or an expression
 
-ask_by_same : {w : World} (b : Bool) → SameAsk w (ask_by b) (ask_by b)
+ask_by_same : {w : World} (b : Bool) → SameAsk w itself (ask_by b) (ask_by b)
 ask_by_same true = same_run
 ask_by_same false = same_now
 
-pub first_ask_same : {w : World} {st : Names} {a b : Forest} → Near fields st a b → SameAsk w (first_ask a) (first_ask b)
+pub first_ask_same : {w : World} {st : Names} {a b : Forest} → Near itself fields st a b → SameAsk w itself (first_ask a) (first_ask b)
 first_ask_same near_nothing = same_now
 first_ask_same (near_absent c) = same_now
 first_ask_same (near_node {k = k} y d h a c) = ask_by_same (is_statement k)
@@ -174,8 +174,8 @@ first_ask_same (near_uncovered {k = k} y c) = ask_by_same (is_statement k)
 first_ask_same (changed (statement_emptied q) c) = same_now
 first_ask_same (changed (no_statement_emptied q) c) = same_now
 first_ask_same (changed (value_read q v) c) = same_now
-first_ask_same (same_effects {l = l} q t u) = rw (calm_ask l q.new_calm) same_now
-first_ask_same (comes_to {k = k} {l = l} q t u) = rw (calm_ask k q.old_calm, calm_ask l q.new_calm) same_now
+first_ask_same (same_effects {l = l} q t u) = rw (no_statement l q.new_hoists) same_now
+first_ask_same (comes_to {k = k} {l = l} q t u) = rw (no_statement k q.old_hoists, no_statement l q.new_hoists) same_now
 first_ask_same (changed (sign_applied q) c) = same_now
 
 -- what literals hold
@@ -247,7 +247,7 @@ own_acts {w = w} {st = st} {e = e} {f = f} {v = v} {u = u} {m = m} {k = k} o p x
 function_acts : {w : World} {s t : Names} {a b : Forest} {e f : Env} (k : FunctionKind) → own_name k a ≡ own_name k b → Decls s (named_so (waiting true) (own_name k a)) (named_so (waiting true) (own_name k b)) t → FillableIf t (own_name k a) → Code t k a b → Envs w s e f → Acts w (function_value k a e) (function_value k b f)
 function_acts k x d y c r = declare_acts d r (λ w2 e2 f2 h r2. identity_acts (λ w3 i j g l. own_acts _ _ x y (envs_later g r2) (same_closure l c (envs_later g r2)) (give_acts (same_closure l c (envs_later g r2)))))
 
-pub closure_acts : {w : World} {s t : Names} {a b : Forest} {e f : Env} {q z : Ask} (E : Enter) (ms ks : Parts) (pure : Bool) (k : FunctionKind) → IsClosure k → own_name k a ≡ own_name k b → Decls s (named_so (waiting true) (own_name k a)) (named_so (waiting true) (own_name k b)) t → FillableIf t (own_name k a) → Code t k a b → Envs w s e f → SameAsk w q z → Acts w (does E (Kind.Function k pure) a ms q e) (does E (Kind.Function k pure) b ks z f)
+pub closure_acts : {w : World} {wanted : Wanted} {s t : Names} {a b : Forest} {e f : Env} {q z : Ask} (E : Enter) (ms ks : Parts) (pure : Bool) (k : FunctionKind) → IsClosure k → own_name k a ≡ own_name k b → Decls s (named_so (waiting true) (own_name k a)) (named_so (waiting true) (own_name k b)) t → FillableIf t (own_name k a) → Code t k a b → Envs w s e f → SameAsk w wanted q z → Acts w (does E (Kind.Function k pure) a ms q e) (does E (Kind.Function k pure) b ks z f)
 closure_acts E ms ks pure function_kind.Declaration i x d y c r s = absurd i
 closure_acts E ms ks pure function_kind.Expression i x d y c r same_value = function_acts function_kind.Expression x d y c r
 closure_acts E ms ks pure function_kind.Arrow i x d y c r same_value = function_acts function_kind.Arrow x d y c r
@@ -255,14 +255,14 @@ closure_acts E ms ks pure function_kind.Expression i x d y c r _ = unknown_acts
 closure_acts E ms ks pure function_kind.Arrow i x d y c r _ = unknown_acts
 
 -- a declaration has nothing to do where it stands
-pub hoisted_does : {w : World} {q z : Ask} (E : Enter) (a b : Forest) (ms ks : Parts) (pure also : Bool) (e f : Env) → SameAsk w q z → Acts w (does E (Kind.Function function_kind.Declaration pure) a ms q e) (does E (Kind.Function function_kind.Declaration also) b ks z f)
+pub hoisted_does : {w : World} {wanted : Wanted} {q z : Ask} (E : Enter) (a b : Forest) (ms ks : Parts) (pure also : Bool) (e f : Env) → SameAsk w wanted q z → Acts w (does E (Kind.Function function_kind.Declaration pure) a ms q e) (does E (Kind.Function function_kind.Declaration also) b ks z f)
 hoisted_does E a b ms ks pure also e f same_run = normal_acts
 hoisted_does E a b ms ks pure also e f _ = unknown_acts
 
-default_value : {w : World} {st : Names} {m k : Meaning} {e f : Env} → Fillable (st default_name) → Means st m k → Envs w st e f → Acts w (with_value (m now e) (λ v. fill (look e default_name) v (done normal))) (with_value (k now f) (λ v. fill (look f default_name) v (done normal)))
+default_value : {w : World} {st : Names} {m k : Meaning} {e f : Env} → Fillable (st default_name) → Means itself st m k → Envs w st e f → Acts w (with_value (m now e) (λ v. fill (look e default_name) v (done normal))) (with_value (k now f) (λ v. fill (look f default_name) v (done normal)))
 default_value y x r = value_acts (x.mean r same_now) (λ w2 v u h q. fill_acts ((envs_later h r).at default_name) y q normal_acts)
 
-default_acts : {w : World} {st : Names} {a b : Forest} {m k : Meaning} {e f : Env} → Near fields st a b → Fillable (st default_name) → Means st m k → Envs w st e f → Acts w (default_does a m e) (default_does b k f)
+default_acts : {w : World} {st : Names} {a b : Forest} {m k : Meaning} {e f : Env} → Near itself fields st a b → Fillable (st default_name) → Means itself st m k → Envs w st e f → Acts w (default_does a m e) (default_does b k f)
 default_acts near_nothing y x r = default_value y x r
 default_acts (near_absent c) y x r = default_value y x r
 default_acts (near_node {k = Kind.Function g pure} o d h a c) y x r = absurd o
@@ -281,19 +281,19 @@ default_acts (near_uncovered o c) y x r = default_value y x r
 default_acts (changed (statement_emptied q) c) y x r = default_value y x r
 default_acts (changed (no_statement_emptied q) c) y x r = default_value y x r
 default_acts (changed (value_read q v) c) y x r = default_value y x r
-default_acts {m = m} {k = k} {e = e} {f = f} (same_effects {l = l} {m = o} {b = b} {d = d} q t u) y x r = rw (calm_does l o b d k f q.new_calm) (default_value y x r)
-default_acts {m = m} {k = k} {e = e} {f = f} (comes_to {k = g} {l = l} {n = n} {m = o} {a = a} {b = b} {c = c} {d = d} q t u) y x r = rw (calm_does g n a c m e q.old_calm, calm_does l o b d k f q.new_calm) (default_value y x r)
+default_acts {m = m} {k = k} {e = e} {f = f} (same_effects {l = l} {m = o} {b = b} {d = d} q t u) y x r = rw (gives_default l o b d k f q.new_hoists) (default_value y x r)
+default_acts {m = m} {k = k} {e = e} {f = f} (comes_to {k = g} {l = l} {n = n} {m = o} {a = a} {b = b} {c = c} {d = d} q t u) y x r = rw (gives_default g n a c m e q.old_hoists, gives_default l o b d k f q.new_hoists) (default_value y x r)
 default_acts (changed (sign_applied q) c) y x r = default_value y x r
 
-catch_acts : {w : World} {s t : Names} {ms ks : Parts} {e f : Env} {v u : Value} (a b : Forest) → Decls s (declared Kind.CatchClause a) (declared Kind.CatchClause b) t → Fields t ms ks → Envs w s e f → Same w v u → Acts w (catch_does a ms v e) (catch_does b ks u f)
+catch_acts : {w : World} {s t : Names} {ms ks : Parts} {e f : Env} {v u : Value} (a b : Forest) → Decls s (declared Kind.CatchClause a) (declared Kind.CatchClause b) t → Fields itself t ms ks → Envs w s e f → Same w v u → Acts w (catch_does a ms v e) (catch_does b ks u f)
 catch_acts a b d c r q = declare_acts d r (λ w2 e2 f2 i r2. may_acts c (λ m k ns us x c. need_acts c (λ m k ns us y c. seq_acts (take_maybe_acts x r2 (same_later i q)) (y.mean r2 same_run))))
 
 module _ (E : Enter) (enters : Enters E) where
-  for_acts : {w : World} {s t : Names} {a b : Forest} {ms ks : Parts} {e f : Env} (ls : List Text) → Decls s (lexical (first_of a)) (lexical (first_of b)) t → Copied t (lexical (first_of a)) (lexical (first_of b)) → Near fields t a b → Fields t ms ks → Envs w s e f → Acts w (for_does E a ms ls e) (for_does E b ks ls f)
+  for_acts : {w : World} {s t : Names} {a b : Forest} {ms ks : Parts} {e f : Env} (ls : List Text) → Decls s (lexical (first_of a)) (lexical (first_of b)) t → Copied t (lexical (first_of a)) (lexical (first_of b)) → Near itself fields t a b → Fields itself t ms ks → Envs w s e f → Acts w (for_does E a ms ls e) (for_does E b ks ls f)
   for_acts ls d h n c r = declare_acts d r (λ w2 e2 f2 i r2. may_acts c (λ m k ns us x y. bind_acts (ask_maybe_acts x r2 (first_ask_same n)) (λ w3 v u j q. after_init_acts q (copy_acts h (envs_later j r2) (λ w4 e f g r3. test_then_acts E enters for_loop ls h n c r3)))))
 
   -- one line for each kind and what it may be asked, as in the definition
-  pub does_acts : {s t : Names} {a b : Forest} {w : World} {e f : Env} {q z : Ask} (p : Row) (ms ks : Parts) (k : Kind) → Okay p s k → Decls s (declared k a) (declared k b) t → Heads k t a b → Near (row_below k) (names_below k s t) a b → Rows (row_below k) (names_below k s t) ms ks → Envs w s e f → SameAsk w q z → Acts w (does E k a ms q e) (does E k b ks z f)
+  pub does_acts : {wanted : Wanted} {s t : Names} {a b : Forest} {w : World} {e f : Env} {q z : Ask} (p : Row) (ms ks : Parts) (k : Kind) → Okay p s k → Decls s (declared k a) (declared k b) t → Heads k t a b → Near (wanted_below wanted k) (row_below k) (names_below k s t) a b → Rows (row_below k) (wanted_below wanted k) (names_below k s t) ms ks → Envs w s e f → SameAsk w wanted q z → Acts w (does E k a ms q e) (does E k b ks z f)
   does_acts p ms ks Kind.Statements y d h n c r same_run = c.listed r same_run
   does_acts p ms ks (Kind.Directive written) y d h n c r same_run = normal_acts
   does_acts p ms ks Kind.EmptyStatement y d h n c r same_run = normal_acts
@@ -327,9 +327,9 @@ module _ (E : Enter) (enters : Enters E) where
   does_acts p ms ks Kind.ExportDefaultDeclaration y d h n c r same_run = need_acts c (λ m k ns ls x c. default_acts n y x r)
   does_acts p ms ks (Kind.ExportAllDeclaration name source) y d h n c r same_run = normal_acts
   does_acts p ms ks Kind.ThisExpression y d h n c r same_value = name_value_acts this_name (r.at this_name) y
-  does_acts p ms ks (Kind.ReferenceName x) y d h n c r (same_value {x = for_typeof}) = typeof_name_acts x (r.at x) y
-  does_acts p ms ks (Kind.ReferenceName x) y d h n c r (same_value {x = itself}) = name_value_acts x (r.at x) y
-  does_acts p ms ks (Kind.ReferenceName x) y d h n c r (same_value {x = to_call}) = name_value_acts x (r.at x) y
+  does_acts {wanted = for_typeof} p ms ks (Kind.ReferenceName x) y d h n c r same_value = typeof_name_acts x (r.at x) y
+  does_acts {wanted = itself} p ms ks (Kind.ReferenceName x) y d h n c r same_value = name_value_acts x (r.at x) y
+  does_acts {wanted = to_call} p ms ks (Kind.ReferenceName x) y d h n c r same_value = name_value_acts x (r.at x) y
   does_acts p ms ks (Kind.Literal v) y d h n c r same_value = literal_acts v
   does_acts p ms ks Kind.ArrayExpression y d h n c r same_value = need_acts c (λ m k ns ls x c. all_acts (x.mean r same_collect) (λ w2 vs us i q. identity_acts (λ w3 o p j l. give_acts (same_array l (array_same (all_later j q))))))
   does_acts {a = a} {b = b} p ms ks Kind.ObjectExpression y d h n c r same_value = need_acts c (λ m k ns ls x c. all_acts (x.mean r same_collect) (λ w2 vs us i q. identity_acts (λ w3 o p j l. give_acts (same_object l (object_content_same (below_of a) (below_of b) h (all_later j q))))))
@@ -349,7 +349,7 @@ module _ (E : Enter) (enters : Enters E) where
   does_acts p ms ks Kind.ConditionalExpression y d h n c r same_value = need_acts c (λ m k ns ls t c. need_acts c (λ m k ns ls x c. need_acts c (λ m k ns ls o c. value_acts (t.mean r same_now) (λ w2 v u i q. choose_acts (truthy_same q) (x.mean (envs_later i r) same_now) (o.mean (envs_later i r) same_now)))))
   does_acts p ms ks (Kind.CallExpression false pure) y d h n c r same_value = need_acts c (λ m k ns ls x c. need_acts c (λ m k ns ls t c. receiver_acts (x.mean r same_value) (λ w2 v u o p i q s. all_acts (t.mean (envs_later i r) same_collect) (λ w3 vs us j qs. call_acts E enters (same_later j q) (same_later j s) qs))))
   does_acts p ms ks (Kind.NewExpression pure) y d h n c r same_value = need_acts c (λ m k ns ls x c. need_acts c (λ m k ns ls t c. value_acts (x.mean r same_now) (λ w2 v u i q. all_acts (t.mean (envs_later i r) same_collect) (λ w3 vs us j qs. construct_acts E enters (same_later j q) qs))))
-  does_acts p ms ks (Kind.MemberExpression key false) y d h n c r (same_value {x = wanted}) = member_place_acts key c r (λ w2 v u o p i q s. value_acts (get_place_acts E enters (same_at_member q s)) (λ w3 x t j g. done_acts (same_gives g (received wanted (same_later j q)))))
+  does_acts {wanted = wanted} p ms ks (Kind.MemberExpression key false) y d h n c r same_value = member_place_acts key c r (λ w2 v u o p i q s. value_acts (get_place_acts E enters (same_at_member q s)) (λ w3 x t j g. done_acts (same_gives g (received wanted (same_later j q)))))
   does_acts p ms ks (Kind.MemberExpression key false) y d h n c r same_place = member_place_acts key c r (λ w2 v u o p i q s. done_acts (same_refers (same_at_member q s)))
   does_acts p ms ks (Kind.TargetName x) y d h n c r same_place = name_place_acts x (r.at x) y
   does_acts p ms ks _ y d h n c r _ = unknown_acts

@@ -9,7 +9,7 @@ use Rattle.js_meaning.specs.Trace.{Ending, Event}
 use Rattle.js_meaning.specs.State.{State, Cell, cell, Export, export, Place, at_slot, at_global, at_member, Completion, normal, gives, gives_all, refers, breaks, continues, returns, throws, Out, goes, stops, M}
 use Rattle.js_meaning.specs.Scope.{look, first_of, lexical}
 use Rattle.js_meaning.specs.Host.{Loop, for_loop, Task, body, turn, called_back, Enter}
-use Rattle.js_meaning.specs.Node.{Wanted, Ask, run, value, place, take, take_all, declares, collect, entry, matches, Meaning}
+use Rattle.js_meaning.specs.Node.{Wanted, itself, Ask, run, value, place, take, take_all, declares, collect, entry, matches, Meaning}
 use Rattle.js_meaning.specs.Meaning.{enter_body}
 use Rattle.js_meaning.specs.Run.{seen}
 use Rattle.js_meaning.specs.Kept.{Prefix}
@@ -109,16 +109,17 @@ pub data SameExports (w : World) : List Export → List Export → Type 0 where
   no_exports : SameExports w [] []
   an_export : {x : Text} {p : Rule} {s z : Slot} {es fs : List Export} → HoldsCell p → SameSlot w p s z → SameExports w es fs → SameExports w (export x s ∷ es) (export x z ∷ fs)
 
-pub data SameAsk (w : World) : Ask → Ask → Type 0 where
-  same_run : {ls : List Text} → SameAsk w (run ls) (run ls)
-  same_value : {x : Wanted} → SameAsk w (value x) (value x)
-  same_place : SameAsk w place place
-  same_take : {v u : Value} → Same w v u → SameAsk w (take v) (take u)
-  same_take_all : {vs us : List Value} → SameAll w vs us → SameAsk w (take_all vs) (take_all us)
-  same_declares : {how : VariableKind} → SameAsk w (declares how) (declares how)
-  same_collect : SameAsk w collect collect
-  same_entry : SameAsk w entry entry
-  same_matches : {v u : Value} → Same w v u → SameAsk w (matches v) (matches u)
+-- what both are asked, where this is wanted of values
+pub data SameAsk (w : World) (wanted : Wanted) : Ask → Ask → Type 0 where
+  same_run : {ls : List Text} → SameAsk w wanted (run ls) (run ls)
+  same_value : SameAsk w wanted (value wanted) (value wanted)
+  same_place : SameAsk w wanted place place
+  same_take : {v u : Value} → Same w v u → SameAsk w wanted (take v) (take u)
+  same_take_all : {vs us : List Value} → SameAll w vs us → SameAsk w wanted (take_all vs) (take_all us)
+  same_declares : {how : VariableKind} → SameAsk w wanted (declares how) (declares how)
+  same_collect : SameAsk w wanted collect collect
+  same_entry : SameAsk w wanted entry entry
+  same_matches : {v u : Value} → Same w v u → SameAsk w wanted (matches v) (matches u)
 
 -- how many entries there may be yet: as many; or the new run has at least as many left
 pub data Budgets (w : World) (m n : ℕ) : Type 0 where
@@ -150,9 +151,9 @@ pub data Follows (w : World) : Out → Out → Type 0 where
 pub record Acts (w : World) (m k : M) : Type 0 where
   pub act : (w2 : World) → Sub w w2 → (s z : State) → States w2 s z → Follows w2 (m s) (k z)
 
--- a node's meaning in one environment, beside another's in another
-pub record Means (st : Names) (m k : Meaning) : Type 0 where
-  pub mean : {w : World} {e f : Env} {q z : Ask} → Envs w st e f → SameAsk w q z → Acts w (m q e) (k z f)
+-- a node's meaning in one environment, beside another's in another, where this is wanted of it
+pub record Means (wanted : Wanted) (st : Names) (m k : Meaning) : Type 0 where
+  pub mean : {w : World} {e f : Env} {q z : Ask} → Envs w st e f → SameAsk w wanted q z → Acts w (m q e) (k z f)
 
 -- what a loop reads off its row
 abbrev pub LoopHead : Loop → Names → Forest → Forest → Type 0
@@ -161,7 +162,7 @@ LoopHead _ st a b = Unit {0}
 
 pub data Tasks (w : World) : Task → Task → Type 0 where
   same_body : {st : Names} {t : FunctionKind} {a b : Forest} {e f : Env} {v u : Value} {vs us : List Value} → Code st t a b → Envs w st e f → Same w v u → SameAll w vs us → Tasks w (body t a e v vs) (body t b f u us)
-  same_turn : {st : Names} {l : Loop} {ls : List Text} {a b : Forest} {e f : Env} → LoopHead l st a b → Near fields st a b → Envs w st e f → Tasks w (turn l a ls e) (turn l b ls f)
+  same_turn : {st : Names} {l : Loop} {ls : List Text} {a b : Forest} {e f : Env} → LoopHead l st a b → Near itself fields st a b → Envs w st e f → Tasks w (turn l a ls e) (turn l b ls f)
   same_back : {k : Bool} {st : Names} {t : FunctionKind} {a b : Forest} {e f : Env} {v u : Value} {vs us : List Value} → Code st t a b → Envs w st e f → Same w v u → SameAll w vs us → Tasks w (called_back k t a e v vs) (called_back k t b f u us)
 
 -- how a call ends whose code does nothing but give a value
@@ -252,7 +253,7 @@ pub exports_later : {w w2 : World} {v u : List Export} → Sub w w2 → SameExpo
 exports_later g no_exports = no_exports
 exports_later g (an_export h i r) = an_export h (slot_later g i) (exports_later g r)
 
-pub ask_later : {w w2 : World} {v u : Ask} → Sub w w2 → SameAsk w v u → SameAsk w2 v u
+pub ask_later : {w w2 : World} {wanted : Wanted} {v u : Ask} → Sub w w2 → SameAsk w wanted v u → SameAsk w2 wanted v u
 ask_later g same_run = same_run
 ask_later g same_value = same_value
 ask_later g same_place = same_place

@@ -19,7 +19,7 @@ use Rattle.js_meaning.specs.Meaning.{eval}
 use Rattle.js_meaning_near.specs.Quiet.{Quiet}
 use Rattle.js_meaning_near.specs.Wasted.{drops, EndsSoon, ends_soon, stops_soon, Wastes, wastes_nothing, wastes_part, wastes_silent, wastes_known, wastes_call, IsSilent}
 use Rattle.js_meaning_near.specs.Names.{known, silent_function, Names, Binds}
-use Rattle.js_meaning_near.specs.Near.{Row, fields, same_effects, meaning, SameEffects, is_calm}
+use Rattle.js_meaning_near.specs.Near.{Row, fields, same_effects, meaning, SameEffects, hoists_nothing}
 use Rattle.js_meaning_near.specs.Fit.{whole, Fits}
 use Rattle.js_meaning_near.specs.Rewritten.{SameNames, Rewritten, at_place}
 use Rattle.js_meaning_near.specs.Known.{Knows}
@@ -148,10 +148,10 @@ stands E env n ls (node k m a nothing) y = refl
 stands E env n ls (node k m a (absent r)) y = absurd y
 stands E env n ls (node k m a (node l o b s)) y = turn_drops E env (node l o b s) k m a y
 
-calm_kind : (ps : Forest) → is_calm (kind_of ps) ≡ true
-calm_kind nothing = refl
-calm_kind (absent r) = refl
-calm_kind (node k n a r) = refl
+hoists_kind : (ps : Forest) → hoists_nothing (kind_of ps) ≡ true
+hoists_kind nothing = refl
+hoists_kind (absent r) = refl
+hoists_kind (node k n a r) = refl
 
 array_means : (E : Enter) (env : Env) (n m : Note) (es : Forest) (ls : List Text) → with_all (values now (eval E es) env (λ vs. done (gives_all vs))) after_array ≡ meaning E Kind.ExpressionStatement (node Kind.ArrayExpression n (node Kind.Elements m es nothing) nothing) (run ls) env
 unfolding need eval after_array over
@@ -160,7 +160,7 @@ array_means E env n m es ls = sym (all_value (values now (eval E es) env (λ vs.
 -- an array literal of which nobody takes the value
 pub array_wasted : (st : Names) (n m i : Note) (es ps : Forest) → Needed st es ps → SameEffects st (node Kind.ArrayExpression n (node Kind.Elements m es nothing) nothing) (kind_of ps) (below_of i ps) ps ps
 array_wasted st n m i es ps x = record {
-  new_calm = calm_kind ps;
+  new_hoists = hoists_kind ps;
   wastes = λ E env b ls. subst (λ m. Wastes E st env m (eval E ps)) (array_means E env n m es ls) (elements_wasted E env after_array b x (λ vs. vs) array_ends);
   drops_all = λ E env ls. stands E env i ls ps (all_nodes x);
 }
@@ -198,7 +198,7 @@ compared E env k a v n m i j ls =
 pub comparison_wasted : (st : Names) (k : Kind) (a : Forest) (v : Literal) (n m i j : Note)
     → SameEffects st (node (Kind.UnaryExpression unary.LogicalNot) n (node (Kind.BinaryExpression binary.StrictEquality) m (node k i a (node (Kind.Literal v) j nothing nothing)) nothing) nothing) Kind.ExpressionStatement (node k i a nothing) (node k i a nothing) (node k i a nothing)
 comparison_wasted st k a v n m i j = record {
-  new_calm = refl;
+  new_hoists = refl;
   wastes = λ E env b ls. subst (λ m. Wastes E st env m (eval E (node k i a nothing))) (compared E env k a v n m i j ls) (one_part E k i a _ (λ u. wastes_nothing (compared_soon E v u)));
   drops_all = λ E env ls. stands E env i ls (node k i a nothing) tt;
 }
@@ -250,7 +250,7 @@ call_means E env x pure n m i es ls =
 pub call_wasted : (st : Names) (x : Text) (pure : Bool) (n m i j : Note) (es ps : Forest) → st x ≡ known silent_function → Needed st es ps
     → SameEffects st (node (Kind.CallExpression false pure) n (node (Kind.ReferenceName x) m nothing (node Kind.Arguments i es nothing)) nothing) (kind_of ps) (below_of j ps) ps ps
 call_wasted st x pure n m i j es ps q d = record {
-  new_calm = calm_kind ps;
+  new_hoists = hoists_kind ps;
   wastes = λ E env b ls. subst (λ m. Wastes E st env m (eval E ps)) (call_means E env x pure n m i es ls) (wastes_known {x = x} _ q (λ v y. elements_wasted E env (after_arguments E v undef) b d (λ vs. vs) (λ vs. call_ends x q v undef y vs)));
   drops_all = λ E env ls. stands E env j ls ps (all_nodes d);
 }
@@ -258,7 +258,7 @@ call_wasted st x pure n m i j es ps q d = record {
 -- such a statement as a place of change, where the parts stay
 pub effects_place : {C : Names → Type 0} {p : Row} {a b r s : Forest} {l : Kind} (n m : Note) (ps : Forest) → SameNames Kind.ExpressionStatement a l b → ((st : Names) → C st → SameEffects st a l b ps ps) → ((st : Names) → C st → Fits whole fields st ps)
     → Rewritten C whole p r s → Rewritten C whole p (node Kind.ExpressionStatement n a r) (node l m b s)
-effects_place n m ps y f g t = at_place y (λ st c d h o. same_effects (f st h) (fit whole fields st ps (g st h)) o) t
+effects_place n m ps y f g t = at_place y (λ w st c d h o. same_effects (f st h) (fit whole fields st ps (g st h)) o) t
 
 pub call_place : {x : Text} {pure : Bool} {p : Row} {n m i j k : Note} {r s : Forest} → Rewritten (Knows x silent_function) whole p r s
     → Rewritten (Knows x silent_function) whole p (node Kind.ExpressionStatement n (node (Kind.CallExpression false pure) m (node (Kind.ReferenceName x) i nothing (node Kind.Arguments j nothing nothing)) nothing) r) (node Kind.EmptyStatement k nothing s)

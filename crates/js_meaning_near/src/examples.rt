@@ -5,15 +5,19 @@ ghost use Rattle.js_syntax.specs.declared.node_kind.NodeKind.{NodeKind as Kind};
 ghost use Rattle.js_syntax.specs.declared.kind.FunctionKind.TheVariants as function_kind;
 ghost use Rattle.js_syntax.specs.declared.kind.VariableKind.TheVariants as variable;
 ghost use Rattle.js_syntax.specs.declared.value.LiteralValue.{LiteralValue as Literal};
-ghost use Rattle.js_syntax.specs.Node.{Note, Forest, nothing, node, absent};
+ghost use Rattle.js_syntax.specs.Node.{Note, Forest, nothing, node, absent, below_of};
 ghost use Rattle.js_meaning.specs.Value.{Text, this_name, Plain, plain, literal_value};
 ghost use Rattle.js_meaning.specs.Scope.{lexical, function_decls, module_decls};
 ghost use Rattle.js_meaning.specs.Module.{entries};
 ghost use Rattle.js_meaning.specs.Kept.{Refined};
+ghost use Rattle.js_meaning.specs.Node.{itself, to_call};
+ghost use Rattle.js_meaning.specs.Operator.{truthy};
+ghost use Rattle.js_meaning_near.specs.Bare.{stands_bare};
+ghost use Rattle.js_meaning_near.specs.Local.{Plainly};
 ghost use Rattle.js_meaning_near.specs.Near.{fields, items, module_of};
 ghost use Rattle.js_meaning_near.specs.Fit.{whole};
 ghost use Rattle.js_meaning_near.specs.Avoid.{declares, HasCells, ExportsAvoid, InPlace, Avoids};
-ghost use Rattle.js_meaning_near.specs.Examples.{block_of, behind_name, function_of, declaration_of, expression_statement, literal_statement, empty_statement, if_of};
+ghost use Rattle.js_meaning_near.specs.Examples.{block_of, behind_name, function_of, declaration_of, expression_statement, literal_statement, empty_statement, if_of, choice_of};
 
 /// An empty statement leaves a list of statements.
 pub fn an_empty_statement_leaves()
@@ -59,4 +63,17 @@ pub fn a_constant_is_read()
     ensures { (n : Note) (x : Text) (p : Plain) (v : Literal) (c : Forest) → literal_value v ≡ plain p → declares (lexical c) x ≡ false → Avoids true x whole items c → ExportsAvoid x (entries c) →
         Refined (module_of n n (declaration_of n variable.Const x v (expression_statement n (Kind.ReferenceName x) c)))
         (module_of n n (declaration_of n variable.Const x v (expression_statement n (Kind.Literal v) c))) }
+{}
+
+/// A conditional on a literal becomes its branch, though that is a name or a member: where it is a statement, and where it is
+/// called and the branch stands bare there too.
+pub fn a_branch_comes_out_bare()
+    ensures value { (n : Note) (v : Literal) (l z : Kind) (b c r : Forest) → truthy (literal_value v) ≡ true → stands_bare itself l b ≡ true →
+        Plainly Kind.ConditionalExpression (below_of (choice_of n v l b z c nothing)) l b → InPlace whole items (node Kind.ExpressionStatement n (node l n b nothing) r) →
+        Refined (module_of n n (node Kind.ExpressionStatement n (choice_of n v l b z c nothing) r)) (module_of n n (node Kind.ExpressionStatement n (node l n b nothing) r)) }
+    ensures callee { (n : Note) (pure : Bool) (v : Literal) (l z : Kind) (b c es r : Forest) → truthy (literal_value v) ≡ true → stands_bare to_call l b ≡ true →
+        Plainly Kind.ConditionalExpression (below_of (choice_of n v l b z c nothing)) l b →
+        InPlace whole items (node Kind.ExpressionStatement n (node (Kind.CallExpression false pure) n (node l n b (node Kind.Arguments n es nothing)) nothing) r) →
+        Refined (module_of n n (node Kind.ExpressionStatement n (node (Kind.CallExpression false pure) n (choice_of n v l b z c (node Kind.Arguments n es nothing)) nothing) r))
+        (module_of n n (node Kind.ExpressionStatement n (node (Kind.CallExpression false pure) n (node l n b (node Kind.Arguments n es nothing)) nothing) r)) }
 {}

@@ -10,7 +10,9 @@ ghost use Rattle.js_meaning.specs.Kept.{Kept, KeptBack, Refined};
 ghost use Rattle.js_meaning_near.specs.Names.{Fact, exactly, known, silent_function, Names, Fillable, AllPlain, PlainBut};
 ghost use Rattle.js_meaning.specs.Module.{entries, stars, requests};
 ghost use Rattle.js_meaning_near.specs.Local.{Local, IsField};
-ghost use Rattle.js_meaning_near.specs.Near.{is_blunt, is_calm, ComesTo, Silent, SameEffects, Row, items, Near, NearModule, LooseModule, module_of};
+ghost use Rattle.js_meaning.specs.Node.{Wanted, itself};
+ghost use Rattle.js_meaning_near.specs.Bare.{stands_bare};
+ghost use Rattle.js_meaning_near.specs.Near.{is_calm, ComesTo, Silent, SameEffects, Row, items, Near, NearModule, LooseModule, module_of};
 ghost use Rattle.js_meaning_near.specs.Rewritten.{Rewritten};
 ghost use Rattle.js_meaning_near.specs.Unused.{Needed, kind_of, below_of};
 ghost use Rattle.js_syntax.specs.declared.operator.LogicalOperator.{LogicalOperator};
@@ -36,12 +38,12 @@ pub fn near_modules_keep_runs()
 
 /// What looks up nothing that is dead, unread or known is near itself.
 pub fn what_fits_is_near_itself()
-    ensures { (p : Row) (st : Names) (a : Forest) → Fits whole p st a → Near p st a a }
+    ensures { (w : Wanted) (p : Row) (st : Names) (a : Forest) → Fits whole p st a → Near w p st a a }
 {}
 
 /// What changes at one place is near what it was.
 pub fn one_change_is_near()
-    ensures { (p : Row) (st : Names) (a b : Forest) → Once p st a b → Near p st a b }
+    ensures { (w : Wanted) (p : Row) (st : Names) (a b : Forest) → Once w p st a b → Near w p st a b }
 {}
 
 /// Where declarations of a name are gone, it is dead, or unread if it is still declared; all other
@@ -63,19 +65,19 @@ pub fn what_avoids_a_name_fits()
 
 /// A module in which an expression comes to one of its parts, anywhere, refines the one before.
 pub fn a_local_change_refines()
-    ensures { (n m : Note) (a b : Forest) → Local a b → InPlace whole items b → entries a ≡ entries b → stars a ≡ stars b → requests a ≡ requests b → Refined (module_of n m a) (module_of n m b) }
+    ensures { (n m : Note) (a b : Forest) → Local itself a b → InPlace whole items b → entries a ≡ entries b → stars a ≡ stars b → requests a ≡ requests b → Refined (module_of n m a) (module_of n m b) }
 {}
 
-/// A conditional and an `if` on a literal come to the branch that is taken.
+/// A conditional and an `if` on a literal come to the branch that is taken; an expression where it stands bare.
 pub fn a_choice_comes_to_its_branch()
-    ensures conditional { (st : Names) (v : Literal) (n i j : Note) (l z : Kind) (b c : Forest) → truthy (literal_value v) ≡ true → is_blunt l ≡ true → is_calm l ≡ true →
-        ComesTo st Kind.ConditionalExpression (node (Kind.Literal v) n nothing (node l i b (node z j c nothing))) l b }
-    ensures statement { (st : Names) (v : Literal) (n i : Note) (l : Kind) (b r : Forest) → truthy (literal_value v) ≡ true → is_calm l ≡ true → IsField r →
-        ComesTo st Kind.IfStatement (node (Kind.Literal v) n nothing (node l i b r)) l b }
-    ensures other_expression { (st : Names) (v : Literal) (n i j : Note) (l z : Kind) (b c : Forest) → truthy (literal_value v) ≡ false → is_blunt z ≡ true → is_calm z ≡ true →
-        ComesTo st Kind.ConditionalExpression (node (Kind.Literal v) n nothing (node l i b (node z j c nothing))) z c }
-    ensures other_statement { (st : Names) (v : Literal) (n i j : Note) (l z : Kind) (b c : Forest) → truthy (literal_value v) ≡ false → is_calm z ≡ true →
-        ComesTo st Kind.IfStatement (node (Kind.Literal v) n nothing (node l i b (node z j c nothing))) z c }
+    ensures conditional { (w : Wanted) (st : Names) (v : Literal) (n i j : Note) (l z : Kind) (b c : Forest) → truthy (literal_value v) ≡ true → stands_bare w l b ≡ true →
+        ComesTo w st Kind.ConditionalExpression (node (Kind.Literal v) n nothing (node l i b (node z j c nothing))) l b }
+    ensures statement { (w : Wanted) (st : Names) (v : Literal) (n i : Note) (l : Kind) (b r : Forest) → truthy (literal_value v) ≡ true → is_calm l ≡ true → IsField r →
+        ComesTo w st Kind.IfStatement (node (Kind.Literal v) n nothing (node l i b r)) l b }
+    ensures other_expression { (w : Wanted) (st : Names) (v : Literal) (n i j : Note) (l z : Kind) (b c : Forest) → truthy (literal_value v) ≡ false → stands_bare w z c ≡ true →
+        ComesTo w st Kind.ConditionalExpression (node (Kind.Literal v) n nothing (node l i b (node z j c nothing))) z c }
+    ensures other_statement { (w : Wanted) (st : Names) (v : Literal) (n i j : Note) (l z : Kind) (b c : Forest) → truthy (literal_value v) ≡ false → is_calm z ≡ true →
+        ComesTo w st Kind.IfStatement (node (Kind.Literal v) n nothing (node l i b (node z j c nothing))) z c }
 {}
 
 /// Where the new module may make fewer entries it keeps every run of the old one.
@@ -85,7 +87,7 @@ pub fn loose_modules_keep_runs()
 
 /// Rows with changes that are right where this is known of a name are near.
 pub fn what_is_rewritten_is_near()
-    ensures { (x : Text) (f : Fact) (p : Row) (st : Names) (a b : Forest) → Knows x f st → Rewritten (Knows x f) whole p a b → Near p st a b }
+    ensures { (w : Wanted) (x : Text) (f : Fact) (p : Row) (st : Names) (a b : Forest) → Knows x f st → Rewritten (Knows x f) whole p a b → Near w p st a b }
 {}
 
 /// Where a name of the module has one value from its initialisation on, reads of it, wherever they
@@ -104,20 +106,20 @@ pub fn calls_of_an_empty_function_leave()
         Kept (module_of n m (node (Kind.Function function_kind.Declaration pure) o (empty_code i j k l x) r)) (module_of n m (node (Kind.Function function_kind.Declaration pure) o (empty_code i j k l x) s)) }
 {}
 
-/// A logical expression whose left side is a literal comes to its right side, or to the literal.
+/// A logical expression whose left side is a literal comes to its right side, where that stands bare, or to the literal.
 pub fn a_known_left_side_goes()
-    ensures right { (st : Names) (o : LogicalOperator) (v : Literal) (n i : Note) (l : Kind) (b : Forest) → goes_right o (literal_value v) ≡ true → is_blunt l ≡ true → is_calm l ≡ true →
-        ComesTo st (Kind.LogicalExpression o) (node (Kind.Literal v) n nothing (node l i b nothing)) l b }
-    ensures left { (st : Names) (o : LogicalOperator) (v : Literal) (n i : Note) (l : Kind) (b c : Forest) → goes_right o (literal_value v) ≡ false →
-        ComesTo st (Kind.LogicalExpression o) (node (Kind.Literal v) n nothing (node l i b nothing)) (Kind.Literal v) c }
+    ensures right { (w : Wanted) (st : Names) (o : LogicalOperator) (v : Literal) (n i : Note) (l : Kind) (b : Forest) → goes_right o (literal_value v) ≡ true → stands_bare w l b ≡ true →
+        ComesTo w st (Kind.LogicalExpression o) (node (Kind.Literal v) n nothing (node l i b nothing)) l b }
+    ensures left { (w : Wanted) (st : Names) (o : LogicalOperator) (v : Literal) (n i : Note) (l : Kind) (b c : Forest) → goes_right o (literal_value v) ≡ false →
+        ComesTo w st (Kind.LogicalExpression o) (node (Kind.Literal v) n nothing (node l i b nothing)) (Kind.Literal v) c }
 {}
 
-/// A silent part in front leaves a sequence. What would come out bare stands behind another part.
+/// A silent part in front leaves a sequence of two, where the other stands bare. What doesn't stands behind another part.
 pub fn a_silent_part_leaves_a_sequence()
-    ensures blunt { (st : Names) (k l : Kind) (a b : Forest) (n i j : Note) → Silent st k a → is_blunt l ≡ true → is_calm l ≡ true →
-        ComesTo st Kind.SequenceExpression (node Kind.Expressions n (node k i a (node l j b nothing)) nothing) l b }
-    ensures bare { (st : Names) (v z : Literal) (n i j m o p : Note) (l y : Kind) (b c : Forest) → truthy (literal_value v) ≡ true →
-        ComesTo st Kind.ConditionalExpression (node (Kind.Literal v) n nothing (node l i b (node y j c nothing))) Kind.SequenceExpression (node Kind.Expressions m (node (Kind.Literal z) o nothing (node l p b nothing)) nothing) }
+    ensures leaves { (w : Wanted) (st : Names) (k l : Kind) (a b : Forest) (n i j : Note) → Silent st k a → stands_bare w l b ≡ true →
+        ComesTo w st Kind.SequenceExpression (node Kind.Expressions n (node k i a (node l j b nothing)) nothing) l b }
+    ensures bare { (w : Wanted) (st : Names) (v z : Literal) (n i j m o p : Note) (l y : Kind) (b c : Forest) → truthy (literal_value v) ≡ true →
+        ComesTo w st Kind.ConditionalExpression (node (Kind.Literal v) n nothing (node l i b (node y j c nothing))) Kind.SequenceExpression (node Kind.Expressions m (node (Kind.Literal z) o nothing (node l p b nothing)) nothing) }
 {}
 
 /// A call of a function that does nothing comes to its arguments that aren't silent.
