@@ -1,24 +1,29 @@
 -- The definitions, tried on small programs.
-use Rattle.std.proofs.Common.{◌≡◌, [], ◌∷◌, pos, true, false, true≢false, inl, inr, refl, sym}
+use Rattle.std.proofs.Common.{◌≡◌, ◌∙◌, [], ◌∷◌, pos, Bool, true, false, true≢false, codes, inl, inr, refl, sym}
 use Rattle.js_syntax.specs.declared.node_kind.NodeKind.{NodeKind as Kind}
 use Rattle.js_syntax.specs.declared.kind.VariableKind.TheVariants as variable
+use Rattle.js_syntax.specs.declared.operator.LogicalOperator.TheVariants as operator
+use Rattle.js_syntax.specs.declared.operator.UnaryOperator.TheVariants as unary
+use Rattle.js_syntax.specs.declared.value.Key.TheVariants as key
 use Rattle.js_syntax.specs.declared.value.LiteralValue.TheVariants as value
-use Rattle.js_syntax.specs.Node.{Tree, nothing, absent, nowhere, joined}
+use Rattle.js_syntax.specs.Node.{Forest, Tree, Note, nothing, node, absent, nowhere, joined}
 use Rattle.form_rules.specs.Samples.{a_module, a, binds, reads, one, does, declares, let_, function_a, block}
 use Rattle.scope_rules.specs.Context.{body_of}
 use Rattle.scope_rules.specs.Binding.{named_in}
 use Rattle.scope_laws.specs.Place.{Around, first, behind, under}
-use Rattle.steps_allowed.specs.Places.{a_node, At}
-use Rattle.steps_allowed.specs.Branches.{is_blunt}
+use Rattle.min_pass.specs.Around.{outermost as asked_of_program}
+use Rattle.steps_allowed.specs.Uses.{Use, use_at, stands_bare}
+use Rattle.steps_allowed.specs.Places.{a_node, asked_at, At, MayStandBare}
 use Rattle.steps_allowed.specs.Free.{IsFree}
 use Rattle.steps_allowed.specs.SilentStatement.{SilentStatement, silent_statement_empties}
 use Rattle.steps_allowed.specs.EmptyStatement.{empty_statement_leaves}
 use Rattle.steps_allowed.specs.UnusedFunction.{unused_function_leaves}
 use Rattle.steps_allowed.specs.UnusedDeclaration.{a_declaration, SilentDeclaration, unused_declaration_leaves}
 use Rattle.steps_allowed.specs.KnownConditional.{KnownConditional, consequent_is_taken, alternate_is_taken}
+use Rattle.steps_allowed.specs.KnownSide.{right_side_counts, left_side_decides}
 use Rattle.steps_allowed.specs.KnownIf.{an_if, KnownIf, consequent_is_run, alternate_is_run}
-use Rattle.steps_allowed.specs.Edits.{Edit, leaves, becomes, empty_statement, silent_statement, unused_function, unused_declaration, known_conditional, known_if}
-use Rattle.steps_allowed.specs.Rows.{in_list, before, call_of_a, null, if_one, if_null, conditional, depends_on_place, with_a, in_with_a, empty, a_is_read, a_is_exported}
+use Rattle.steps_allowed.specs.Edits.{Edit, leaves, becomes, empty_statement, silent_statement, unused_function, unused_declaration, known_conditional, known_side, known_if}
+use Rattle.steps_allowed.specs.Rows.{in_list, before, call_of_a, null, if_one, if_null, conditional, logical, may_be_named, o_f, parenthesized, in_statement, called, called_in_parentheses, called_in_with, argument, operand, assigned, ComesOut, Stays, with_a, in_with_a, empty, a_is_read, a_is_exported}
 
 pub empties_in_list : Edit (a_module (does one ∷ [])) (a_module (empty ∷ []))
 empties_in_list = becomes (before []) _ _ (silent_statement (silent_statement_empties nowhere nowhere nowhere _ nothing (inl refl, tt)))
@@ -69,14 +74,14 @@ pub exported_stays : IsFree a_is_exported (named_in a (body_of 0)) → ⊥
 exported_stays h = h.unexported _ (inl refl) refl refl
 
 -- where the expression of a statement stands
-abbrev in_statement : Around
-in_statement = in_list (under Kind.ExpressionStatement nowhere (first nothing) nothing)
+abbrev there : Around
+there = in_statement (first nothing)
 
 pub consequent_taken : Edit (a_module (does (conditional one call_of_a (reads a)) ∷ [])) (a_module (does call_of_a ∷ []))
-consequent_taken = becomes in_statement _ _ (known_conditional (consequent_is_taken (value.Number (pos 1)) nowhere nowhere nowhere nowhere _ _ _ _ refl refl))
+consequent_taken = becomes there _ _ (known_conditional (consequent_is_taken (value.Number (pos 1)) nowhere nowhere nowhere nowhere _ _ _ _ refl refl))
 
 pub alternate_taken : Edit (a_module (does (conditional null (reads a) call_of_a) ∷ [])) (a_module (does call_of_a ∷ []))
-alternate_taken = becomes in_statement _ _ (known_conditional (alternate_is_taken value.Null nowhere nowhere nowhere nowhere _ _ _ _ refl refl))
+alternate_taken = becomes there _ _ (known_conditional (alternate_is_taken value.Null nowhere nowhere nowhere nowhere _ _ _ _ refl refl))
 
 pub consequent_run : Edit (a_module (if_one (does call_of_a) ∷ [])) (a_module (does call_of_a ∷ []))
 consequent_run = becomes (before []) _ _ (known_if (consequent_is_run (value.Number (pos 1)) nowhere nowhere nowhere _ _ (absent nothing) refl refl tt refl))
@@ -84,18 +89,80 @@ consequent_run = becomes (before []) _ _ (known_if (consequent_is_run (value.Num
 pub alternate_run : Edit (a_module (if_null empty (does call_of_a) ∷ [])) (a_module (does call_of_a ∷ []))
 alternate_run = becomes (before []) _ _ (known_if (alternate_is_run value.Null nowhere nowhere nowhere nowhere _ _ _ _ refl refl refl))
 
-blunt_anywhere : (k : Kind) → is_blunt k ≡ true → depends_on_place k ≡ false
-blunt_anywhere (Kind.ReferenceName x) h = absurd cc
-blunt_anywhere (Kind.MemberExpression key optional) h = absurd cc
-blunt_anywhere Kind.ChainExpression h = absurd cc
-blunt_anywhere Kind.ParenthesizedExpression h = absurd cc
-blunt_anywhere (Kind.Function how pure) h = absurd cc
-blunt_anywhere (Kind.Class how) h = absurd cc
-blunt_anywhere k h = refl
+pub and_goes_right : Edit (a_module (does (logical operator.And one call_of_a) ∷ [])) (a_module (does call_of_a ∷ []))
+and_goes_right = becomes there _ _ (known_side (right_side_counts operator.And (value.Number (pos 1)) nowhere nowhere nowhere _ _ refl refl))
 
-pub branch_is_blunt : (x y : Tree) → KnownConditional x y → depends_on_place y.kind ≡ false
-branch_is_blunt x y (consequent_is_taken v n m i j k l b c truth blunt) = blunt_anywhere k blunt
-branch_is_blunt x y (alternate_is_taken v n m i j k l b c truth blunt) = blunt_anywhere l blunt
+pub and_stays_left : Edit (a_module (does (logical operator.And null call_of_a) ∷ [])) (a_module (does null ∷ []))
+and_stays_left = becomes there _ _ (known_side (left_side_decides operator.And value.Null nowhere nowhere nowhere _ _ refl))
+
+pub or_goes_right : Edit (a_module (does (logical operator.Or null (reads a)) ∷ [])) (a_module (does (reads a) ∷ []))
+or_goes_right = becomes there _ _ (known_side (right_side_counts operator.Or value.Null nowhere nowhere nowhere _ _ refl refl))
+
+pub or_stays_left : Edit (a_module (does (logical operator.Or one (reads a)) ∷ [])) (a_module (does one ∷ []))
+or_stays_left = becomes there _ _ (known_side (left_side_decides operator.Or (value.Number (pos 1)) nowhere nowhere nowhere _ _ refl))
+
+pub coalesce_goes_right : Edit (a_module (does (logical operator.Coalesce null o_f) ∷ [])) (a_module (does o_f ∷ []))
+coalesce_goes_right = becomes there _ _ (known_side (right_side_counts operator.Coalesce value.Null nowhere nowhere nowhere _ _ refl refl))
+
+pub coalesce_stays_left : Edit (a_module (does (logical operator.Coalesce one o_f) ∷ [])) (a_module (does one ∷ []))
+coalesce_stays_left = becomes there _ _ (known_side (left_side_decides operator.Coalesce (value.Number (pos 1)) nowhere nowhere nowhere _ _ refl))
+
+nameless : (u : Use) (in_with : Bool) (k : Kind) (b : Forest) → stands_bare u in_with k b ≡ true → may_be_named k ≡ false
+nameless u in_with (Kind.Function how pure) b h = absurd cc
+nameless u in_with (Kind.Class how) b h = absurd cc
+nameless u in_with k b h = refl
+
+pub branch_is_nameless : (place : Around) (x y : Tree) → KnownConditional place x y → may_be_named y.kind ≡ false
+branch_is_nameless place x y (consequent_is_taken v n m i j k l b c truth bare) = nameless (use_at place) (asked_at (asked_of_program true) place).in_with k b bare
+branch_is_nameless place x y (alternate_is_taken v n m i j k l b c truth bare) = nameless (use_at place) (asked_at (asked_of_program true) place).in_with l c bare
+
+-- what may not stand bare stays
+stays : (place : Around) (k : Kind) (n : Note) (b : Forest) → stands_bare (use_at place) (asked_at (asked_of_program true) place).in_with k b ≡ false → Stays place (node k n b nothing)
+stays place k n b h y (consequent_is_taken v _ _ _ _ _ _ _ _ truth bare) = true≢false (sym bare ∙ h)
+stays place k n b h y (alternate_is_taken v _ _ _ _ _ _ _ _ truth bare) = true≢false truth
+
+comes : (place : Around) (k : Kind) (n : Note) (b : Forest) → MayStandBare place k b → ComesOut place (node k n b nothing)
+comes place k n b h = becomes place _ _ (known_conditional (consequent_is_taken (value.Number (pos 1)) nowhere nowhere n nowhere k _ b nothing refl h))
+
+-- o.f
+abbrev member : Kind
+member = Kind.MemberExpression (key.Name (codes "f")) false
+
+pub called_member_stays : Stays called o_f
+called_member_stays = stays called member nowhere (reads (codes "o")) refl
+
+pub parenthesized_member_stays : Stays called (parenthesized o_f)
+parenthesized_member_stays = stays called Kind.ParenthesizedExpression nowhere o_f refl
+
+pub called_in_with_stays : Stays called_in_with (reads a)
+called_in_with_stays = stays called_in_with (Kind.ReferenceName a) nowhere nothing refl
+
+pub called_eval_stays : Stays called_in_parentheses (reads (codes "eval"))
+called_eval_stays = stays called_in_parentheses (Kind.ReferenceName (codes "eval")) nowhere nothing refl
+
+pub typed_name_stays : Stays (operand unary.Typeof) (reads a)
+typed_name_stays = stays (operand unary.Typeof) (Kind.ReferenceName a) nowhere nothing refl
+
+pub deleted_member_stays : Stays (operand unary.Delete) o_f
+deleted_member_stays = stays (operand unary.Delete) member nowhere (reads (codes "o")) refl
+
+pub deleted_name_stays : Stays (operand unary.Delete) (reads a)
+deleted_name_stays = stays (operand unary.Delete) (Kind.ReferenceName a) nowhere nothing refl
+
+pub assigned_member_comes : ComesOut assigned o_f
+assigned_member_comes = comes assigned member nowhere (reads (codes "o")) refl
+
+pub argument_name_comes : ComesOut argument (reads a)
+argument_name_comes = comes argument (Kind.ReferenceName a) nowhere nothing refl
+
+pub called_name_comes : ComesOut called (reads a)
+called_name_comes = comes called (Kind.ReferenceName a) nowhere nothing refl
+
+pub typed_member_comes : ComesOut (operand unary.Typeof) o_f
+typed_member_comes = comes (operand unary.Typeof) member nowhere (reads (codes "o")) refl
+
+pub deleted_call_comes : ComesOut (operand unary.Delete) (parenthesized call_of_a)
+deleted_call_comes = comes (operand unary.Delete) Kind.ParenthesizedExpression nowhere call_of_a refl
 
 pub alternate_stays : (y : Tree) → KnownIf (an_if nowhere nowhere (value.Number (pos 1)) (joined empty (block (function_a [] [] ∷ [])))) y → ⊥
 alternate_stays y (consequent_is_run v n m i k b alternate truth branch field none) = true≢false (sym none)

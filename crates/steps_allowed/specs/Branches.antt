@@ -1,13 +1,10 @@
--- Which branches of a choice may stand in its place, and which may be left out.
+-- Which branches of an `if` may stand in its place, and which may be left out.
 use Rattle.std.specs.Prelude.{Bool, true, false, ◌&&◌}
 use Rattle.js_syntax.specs.declared.node_kind.NodeKind.{NodeKind as Kind}
 use Rattle.js_syntax.specs.declared.node_kind.NodeKind.TheVariants.{EmptyStatement as empty_statement, ExpressionStatement as expression_statement, BlockStatement as block_statement, IfStatement as if_statement, BreakStatement as break_statement, ContinueStatement as continue_statement, ReturnStatement as return_statement, ThrowStatement as throw_statement, SwitchStatement as switch_statement, TryStatement as try_statement, Function as function, Class as class, BindingName as binding_name}
 use Rattle.js_syntax.specs.declared.kind.FunctionKind.TheVariants as function_kind
 use Rattle.js_syntax.specs.declared.kind.ClassKind.TheVariants as class_kind
 use Rattle.js_syntax.specs.Node.{Forest, nothing, node, absent}
--- expressions that mean the same wherever they stand: what a member, a name, a parenthesis, a function or a class gives
--- depends on what it stands in (ECMA-262 13.3.6.2, 13.5.1, 8.4)
-pub use Rattle.js_meaning_near.specs.Near.{is_blunt}
 
 -- statements that mean the same wherever one may stand: a label has another meaning in front of a loop (14.13)
 abbrev pub is_branch : Kind → Bool

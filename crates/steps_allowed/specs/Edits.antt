@@ -10,6 +10,7 @@ use Rattle.steps_allowed.specs.UnusedDeclarator.{UnusedDeclarator}
 use Rattle.steps_allowed.specs.UnusedDeclaration.{UnusedDeclaration}
 use Rattle.steps_allowed.specs.SilentStatement.{SilentStatementEmpties}
 use Rattle.steps_allowed.specs.KnownConditional.{KnownConditional}
+use Rattle.steps_allowed.specs.KnownSide.{KnownSide}
 use Rattle.steps_allowed.specs.KnownIf.{KnownIf}
 
 -- which items may leave the list in which they stand
@@ -22,7 +23,8 @@ pub data Leaves (a : Around) (x : Tree) : Type 0 where
 -- which nodes may become others in their places
 pub data Becomes (a : Around) (x y : Tree) : Type 0 where
   silent_statement : SilentStatementEmpties a x y → Becomes a x y
-  known_conditional : KnownConditional x y → Becomes a x y
+  known_conditional : KnownConditional a x y → Becomes a x y
+  known_side : KnownSide a x y → Becomes a x y
   known_if : KnownIf x y → Becomes a x y
 
 pub data Edit : (t u : Forest) → Type 0 where

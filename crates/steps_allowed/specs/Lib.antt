@@ -1,14 +1,17 @@
 pub mod Silent
 pub mod Exposure
+pub mod Uses
 pub mod Places
 pub mod Free
 pub mod Branches
+pub mod Wanted
 pub mod EmptyStatement
 pub mod UnusedFunction
 pub mod UnusedDeclarator
 pub mod UnusedDeclaration
 pub mod SilentStatement
 pub mod KnownConditional
+pub mod KnownSide
 pub mod KnownIf
 pub mod Edits
 pub mod Arranged

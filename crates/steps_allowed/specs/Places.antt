@@ -8,6 +8,7 @@ use Rattle.min_pass.specs.Around.{entered as asked_below, outermost as asked_of_
 use Rattle.scope_rules.specs.Context.{Context, outermost}
 use Rattle.scope_laws.specs.Place.{Around, first, behind, behind_none, under}
 use Rattle.steps_allowed.specs.Silent.{HoldsThere}
+use Rattle.steps_allowed.specs.Uses.{use_at, stands_bare}
 
 abbrev pub a_node : Kind → Note → (below : Forest) → Option Tree
 a_node k n below = Some (record { kind = k; note = n; below = below })
@@ -42,3 +43,7 @@ has_other before (under k n a rest) = has_other false a
 -- what holds at a place
 abbrev pub At : Around → Option Tree → (Bool → Context → ℕ → Type 0) → Type 0
 At a x holds = HoldsThere false (λ at. outermost) 0 0 a x holds
+
+-- the expression itself may stand there for another that gives its value
+abbrev pub MayStandBare : Around → Kind → (below : Forest) → Type 0
+MayStandBare a k below = stands_bare (use_at a) (asked_at (asked_of_program true) a).in_with k below ≡ true

@@ -1,12 +1,19 @@
 -- Small programs that the definitions are tried on.
-use Rattle.std.specs.Prelude.{List, [], ◌∷◌, Bool, true, false, None, codes}
+use Rattle.std.specs.Prelude.{List, [], ◌∷◌, pos, Bool, true, false, None, codes}
 use Rattle.js_syntax.specs.declared.node_kind.NodeKind.{NodeKind as Kind}
 use Rattle.js_syntax.specs.declared.scalar.SourceType.TheVariants as source_type
 use Rattle.js_syntax.specs.declared.kind.VariableKind.TheVariants as variable
+use Rattle.js_syntax.specs.declared.operator.AssignmentOperator.TheVariants as assignment
+use Rattle.js_syntax.specs.declared.operator.LogicalOperator.{LogicalOperator}
+use Rattle.js_syntax.specs.declared.operator.UnaryOperator.{UnaryOperator}
+use Rattle.js_syntax.specs.declared.value.Key.TheVariants as key
 use Rattle.js_syntax.specs.declared.value.LiteralValue.TheVariants as value
-use Rattle.js_syntax.specs.Node.{Forest, nothing, node, nowhere, joined}
+use Rattle.js_syntax.specs.Node.{Forest, Tree, nothing, node, nowhere, joined}
 use Rattle.form_rules.specs.Samples.{over, leaf, row, listed, no, a_module, a, binds, reads, one, does, declares, let_, var_, a_script, block}
-use Rattle.scope_laws.specs.Place.{Around, first, behind, under}
+use Rattle.scope_laws.specs.Place.{Around, first, behind, under, plug}
+use Rattle.steps_allowed.specs.Places.{a_node}
+use Rattle.steps_allowed.specs.KnownConditional.{a_conditional, KnownConditional}
+use Rattle.steps_allowed.specs.Edits.{Edit}
 
 -- a place in a module's list: in front of these statements, and behind these
 abbrev pub in_list : Around → Around
@@ -43,15 +50,54 @@ if_null consequent alternate = over Kind.IfStatement (joined null (joined conseq
 abbrev pub conditional : (test consequent alternate : Forest) → Forest
 conditional test consequent alternate = over Kind.ConditionalExpression (joined test (joined consequent alternate))
 
--- expressions that give something else where they are called, deleted or named (13.3.6.2, 13.5.1, 8.4)
-abbrev pub depends_on_place : Kind → Bool
-depends_on_place (Kind.ReferenceName x) = true
-depends_on_place (Kind.MemberExpression key optional) = true
-depends_on_place Kind.ChainExpression = true
-depends_on_place Kind.ParenthesizedExpression = true
-depends_on_place (Kind.Function how pure) = true
-depends_on_place (Kind.Class how) = true
-depends_on_place k = false
+-- left && right, and the others
+abbrev pub logical : LogicalOperator → (left right : Forest) → Forest
+logical o left right = over (Kind.LogicalExpression o) (joined left right)
+
+-- functions and classes, which may take a name from where they stand (8.4)
+abbrev pub may_be_named : Kind → Bool
+may_be_named (Kind.Function how pure) = true
+may_be_named (Kind.Class how) = true
+may_be_named k = false
+
+-- o.f
+abbrev pub o_f : Forest
+o_f = over (Kind.MemberExpression (key.Name (codes "f")) false) (reads (codes "o"))
+
+-- (e)
+abbrev pub parenthesized : Forest → Forest
+parenthesized e = over Kind.ParenthesizedExpression e
+
+-- the place of a statement's expression
+abbrev pub in_statement : Around → Around
+in_statement place = in_list (under Kind.ExpressionStatement nowhere place nothing)
+
+-- the places of e in e(), in (e)(), in a(e), in typeof e, in delete (e) and the like, and in x = e
+abbrev pub called : Around
+called = in_statement (under (Kind.CallExpression false false) nowhere (first (listed Kind.Arguments [])) nothing)
+
+abbrev pub called_in_parentheses : Around
+called_in_parentheses =
+    in_statement (under (Kind.CallExpression false false) nowhere (under Kind.ParenthesizedExpression nowhere (first nothing) (listed Kind.Arguments [])) nothing)
+
+abbrev pub argument : Around
+argument = in_statement (under (Kind.CallExpression false false) nowhere (past (reads a) (under Kind.Arguments nowhere (first nothing) nothing)) nothing)
+
+abbrev pub operand : UnaryOperator → Around
+operand o = in_statement (under (Kind.UnaryExpression o) nowhere (under Kind.ParenthesizedExpression nowhere (first nothing) nothing) nothing)
+
+abbrev pub assigned : Around
+assigned = in_statement (under (Kind.AssignmentExpression assignment.Assign) nowhere (past (leaf (Kind.TargetName (codes "x"))) (first nothing)) nothing)
+
+-- `1 ? e : null` becomes e there
+abbrev pub ComesOut : Around → Forest → Type 0
+ComesOut place (node k n below rest) = Edit (plug place (a_node Kind.ConditionalExpression nowhere (joined one (node k n below null)))) (plug place (a_node k n below))
+ComesOut place e = ⊥
+
+-- it becomes nothing
+abbrev pub Stays : Around → Forest → Type 0
+Stays place (node k n below rest) = (y : Tree) → KnownConditional place (a_conditional nowhere nowhere (value.Number (pos 1)) (node k n below null)) y → ⊥
+Stays place e = ⊥
 
 -- export d
 abbrev pub exports_declaration : Forest → Forest
@@ -61,11 +107,18 @@ exports_declaration d = over (Kind.ExportNamedDeclaration None) (joined d (liste
 abbrev pub with_a : Forest → Forest
 with_a item = a_script (var_ a ∷ over Kind.WithStatement (joined (reads a) (block (item ∷ []))) ∷ [])
 
--- the place of the item
-abbrev pub in_with_a : Around
-in_with_a =
-    let body = under Kind.BlockStatement nowhere (under Kind.Statements nowhere (first nothing) nothing) nothing in
+-- the place of the item, and others in its place
+abbrev pub in_with : Around → Around
+in_with item =
+    let body = under Kind.BlockStatement nowhere (under Kind.Statements nowhere item nothing) nothing in
     under (Kind.Program source_type.Script) nowhere (under Kind.Statements nowhere (past (var_ a) (under Kind.WithStatement nowhere (past (reads a) body) nothing)) nothing) nothing
+
+abbrev pub in_with_a : Around
+in_with_a = in_with (first nothing)
+
+-- of e in e() there
+abbrev pub called_in_with : Around
+called_in_with = in_with (under Kind.ExpressionStatement nowhere (under (Kind.CallExpression false false) nowhere (first (listed Kind.Arguments [])) nothing) nothing)
 
 abbrev pub empty : Forest
 empty = leaf Kind.EmptyStatement

@@ -1,21 +1,23 @@
 // Small programs that the definitions are tried on.
-ghost use Rattle.std.specs.Prelude.{pos, [], ◌∷◌, None, false, true, ◌≡◌};
+ghost use Rattle.std.specs.Prelude.{pos, [], ◌∷◌, false, ◌≡◌, codes};
 ghost use Rattle.js_syntax.specs.declared.kind.VariableKind.TheVariants as variable;
 ghost use Rattle.js_syntax.specs.declared.node_kind.NodeKind.{NodeKind as Kind};
+ghost use Rattle.js_syntax.specs.declared.operator.LogicalOperator.TheVariants as operator;
+ghost use Rattle.js_syntax.specs.declared.operator.UnaryOperator.TheVariants as unary;
 ghost use Rattle.js_syntax.specs.declared.value.LiteralValue.TheVariants as value;
-ghost use Rattle.js_syntax.specs.Node.{Forest, Tree, nothing, nowhere, joined, below_of};
-ghost use Rattle.form_rules.specs.Samples.{a_module, a_script, a, binds, reads, one, does, declares, let_, function_a, block};
+ghost use Rattle.js_syntax.specs.Node.{Tree, nothing, nowhere, joined};
+ghost use Rattle.form_rules.specs.Samples.{a_module, a, binds, reads, one, does, declares, let_, function_a, block};
 ghost use Rattle.scope_rules.specs.Context.{body_of};
 ghost use Rattle.scope_rules.specs.Binding.{named_in};
-ghost use Rattle.scope_laws.specs.Place.{plug};
+ghost use Rattle.scope_laws.specs.Place.{Around};
 ghost use Rattle.steps_allowed.specs.Places.{a_node, At};
 ghost use Rattle.steps_allowed.specs.Free.{IsFree};
 ghost use Rattle.steps_allowed.specs.SilentStatement.{SilentStatement};
 ghost use Rattle.steps_allowed.specs.UnusedDeclaration.{a_declaration, SilentDeclaration};
 ghost use Rattle.steps_allowed.specs.KnownConditional.{KnownConditional};
 ghost use Rattle.steps_allowed.specs.KnownIf.{an_if, KnownIf};
-ghost use Rattle.steps_allowed.specs.Edits.{Edit, Edits};
-ghost use Rattle.steps_allowed.specs.Rows.{before, call_of_a, call_of_eval, null, if_one, if_null, conditional, depends_on_place, with_a, in_with_a, empty, a_is_read, a_is_exported};
+ghost use Rattle.steps_allowed.specs.Edits.{Edit};
+ghost use Rattle.steps_allowed.specs.Rows.{before, call_of_a, null, if_one, if_null, conditional, logical, may_be_named, o_f, parenthesized, called, called_in_parentheses, called_in_with, argument, operand, assigned, ComesOut, Stays, with_a, in_with_a, empty, a_is_read, a_is_exported};
 
 /// A statement of a literal becomes empty, in a list and alone, and leaves the list then.
 pub fn silent_statements_go()
@@ -65,8 +67,39 @@ pub fn branches_that_declare_stay()
     ensures consequent { (y : Tree) → KnownIf (an_if nowhere nowhere value.Null (joined (block (function_a [] [] ∷ [])) empty)) y → ⊥ }
 {}
 
-/// But no name comes out of a conditional, no member, alone, in a chain or in parentheses, and no function or class: called
-/// there, deleted or given a name, it would do something else.
+/// A logical expression with a literal on its left becomes its right side, if that is evaluated, and else the literal.
+pub fn known_sides_count()
+    ensures and_right { Edit (a_module (does (logical operator.And one call_of_a) ∷ [])) (a_module (does call_of_a ∷ [])) }
+    ensures and_left { Edit (a_module (does (logical operator.And null call_of_a) ∷ [])) (a_module (does null ∷ [])) }
+    ensures or_right { Edit (a_module (does (logical operator.Or null (reads a)) ∷ [])) (a_module (does (reads a) ∷ [])) }
+    ensures or_left { Edit (a_module (does (logical operator.Or one (reads a)) ∷ [])) (a_module (does one ∷ [])) }
+    ensures coalesce_right { Edit (a_module (does (logical operator.Coalesce null o_f) ∷ [])) (a_module (does o_f ∷ [])) }
+    ensures coalesce_left { Edit (a_module (does (logical operator.Coalesce one o_f) ∷ [])) (a_module (does one ∷ [])) }
+{}
+
+/// But no function or class comes out of a conditional: it would take its name from where it stands.
+pub fn what_may_take_a_name_stays()
+    ensures { (place : Around) (x y : Tree) → KnownConditional place x y → may_be_named y.kind ≡ false }
+{}
+
+/// And nothing does where it would do something else: a member that is called gets its object, as a name inside of a `with`
+/// statement may, and the name `eval` makes a direct call of it; `typeof` of a name that nothing declares doesn't throw, and
+/// `delete` takes what a name or a member refers to.
 pub fn what_depends_on_its_place_stays()
-    ensures { (x y : Tree) → KnownConditional x y → depends_on_place y.kind ≡ false }
+    ensures called_member { Stays called o_f }
+    ensures in_parentheses { Stays called (parenthesized o_f) }
+    ensures called_in_with { Stays called_in_with (reads a) }
+    ensures called_eval { Stays called_in_parentheses (reads (codes "eval")) }
+    ensures typed_name { Stays (operand unary.Typeof) (reads a) }
+    ensures deleted_member { Stays (operand unary.Delete) o_f }
+    ensures deleted_name { Stays (operand unary.Delete) (reads a) }
+{}
+
+/// Elsewhere names and members come out too.
+pub fn what_gives_its_value_comes_out()
+    ensures assigned_member { ComesOut assigned o_f }
+    ensures argument_name { ComesOut argument (reads a) }
+    ensures called_name { ComesOut called (reads a) }
+    ensures typed_member { ComesOut (operand unary.Typeof) o_f }
+    ensures deleted_call { ComesOut (operand unary.Delete) (parenthesized call_of_a) }
 {}

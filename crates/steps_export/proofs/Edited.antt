@@ -24,12 +24,13 @@ use Rattle.steps_allowed.specs.UnusedFunction.{unused_function_leaves}
 use Rattle.steps_allowed.specs.UnusedDeclarator.{SilentDeclarator, unused_declarator_leaves}
 use Rattle.steps_allowed.specs.UnusedDeclaration.{SilentDeclaration, one_declarator, unused_declaration_leaves}
 use Rattle.steps_allowed.specs.SilentStatement.{SilentStatement, silent_statement_empties}
-use Rattle.steps_allowed.specs.Edits.{Leaves, empty_statement, unused_function, unused_declarator, unused_declaration, Becomes, silent_statement, known_conditional, known_if, Edit, leaves, becomes, TreeEdits, no_tree_edit, one_tree_edit}
+use Rattle.steps_allowed.specs.Edits.{Leaves, empty_statement, unused_function, unused_declarator, unused_declaration, Becomes, silent_statement, known_conditional, known_side, known_if, Edit, leaves, becomes, TreeEdits, no_tree_edit, one_tree_edit}
 use Rattle.steps_owed.specs.Kept.{is_program}
 use Rattle.steps_owed.specs.Owed.{ByPart}
 use Rattle.steps_owed.proofs.FitsEdits.{edit_fits}
 use Rattle.steps_owed.proofs.Inside.{enclosed_below, enclosed_rest}
 use Rattle.steps_owed.proofs.KnownConditional.{known_conditional_owes}
+use Rattle.steps_owed.proofs.KnownSide.{known_side_owes}
 use Rattle.steps_owed.proofs.KnownIf.{known_if_owes}
 use Rattle.steps_owed.proofs.Owed.{leaving}
 use Rattle.steps_owed.proofs.TableKept as tables
@@ -69,8 +70,8 @@ module _ (e : BindingSite) (top : e.layer.scope ≡ 0) where
   part_settled : (a : Around) (x y : Tree) → ByPart a x y → Fits root (plug a (Some x)) → Among e (exported_declarations (plug a (Some x))) → ExportedBy (plug a (Some y))
   part_settled a x y owed fits h =
       subst ExportedBy (made_plug a y)
-      (settled a x (Some y) Anything fits (λ rest. no_program x.kind x.note x.below rest owed.stands.gives) (λ f. absurd (true≢false f)) (anywhere (Some x) false (λ at. outermost) 0 0 a)
-      (λ w c next some any. part_stays e top x y owed.stands.gives (owed.part fits) c next some) h)
+      (settled a x (Some y) Anything fits (λ rest. no_program x.kind x.note x.below rest (owed.stands fits).gives) (λ f. absurd (true≢false f)) (anywhere (Some x) false (λ at. outermost) 0 0 a)
+      (λ w c next some any. part_stays e top x y (owed.stands fits).gives (owed.part fits) c next some) h)
 
   -- ---- every case
 
@@ -118,6 +119,7 @@ module _ (e : BindingSite) (top : e.layer.scope ≡ 0) where
       (settled a x (Some y) (SilentStatement t below) fits (λ rest. refl) (λ f. absurd (true≢false f)) silent
       (λ w c next some holds. gone_stays e kind.ExpressionStatement n below (Some y) c next (statement_gone t e h top c next some w n below closed holds)) h)
   changed a x y (known_conditional c) fits h = part_settled a x y (known_conditional_owes a x y c) fits h
+  changed a x y (known_side c) fits h = part_settled a x y (known_side_owes a x y c) fits h
   changed a x y (known_if c) fits h = part_settled a x y (known_if_owes a x y c) fits h
 
   edited : (t u : Forest) → Edit t u → Fits root t → Among e (exported_declarations t) → ExportedBy u

@@ -2,7 +2,7 @@
 use Rattle.std.proofs.Common.{◌≡◌, ℕ, [], Bool, true, false, not, ◌||◌, refl, sym, ap, ◌∙◌}
 use Rattle.js_syntax.specs.declared.node_kind.NodeKind.{NodeKind as Kind}
 use Rattle.js_syntax.specs.declared.node_kind.NodeKind.TheVariants.{Program as program, Directive as directive, Statements as statements, FunctionBody as function_body, BlockStatement as block_statement, Cases as cases, SwitchCase as switch_case, SwitchStatement as switch_statement, LabeledStatement as labeled_statement, TryStatement as try_statement, CatchClause as catch_clause, IfStatement as if_statement, WithStatement as with_statement, WhileStatement as while_statement, DoWhileStatement as do_while_statement, ForStatement as for_statement, ForInStatement as for_in_statement, ForOfStatement as for_of_statement, Class as class, ClassBody as class_body, Members as members, MethodDefinition as method_definition, PropertyDefinition as property_definition, BindingName as binding_name, ReferenceName as reference_name, PrivateName as private_name, Super as super, ParenthesizedExpression as parenthesized_expression, ConditionalExpression as conditional_expression, LogicalExpression as logical_expression, VariableDeclaration as variable_declaration, Declarators as declarators, VariableDeclarator as variable_declarator, Parameters as parameters, Properties as properties, Elements as elements, Specifiers as specifiers, BindingRest as binding_rest, TargetRest as target_rest, BindingObject as binding_object, BindingArray as binding_array, BindingProperty as binding_property, BindingDefault as binding_default, ImportDeclaration as import_declaration, ImportSpecifier as import_specifier, ImportDefaultSpecifier as import_default_specifier, ImportNamespaceSpecifier as import_namespace_specifier, ExportNamedDeclaration as export_named_declaration, ExportSpecifier as export_specifier, ForeignSpecifier as foreign_specifier, ExportDefaultDeclaration as export_default_declaration, ExportAllDeclaration as export_all_declaration, Function as function}
-use Rattle.js_syntax.specs.Node.{Note, Forest, node}
+use Rattle.js_syntax.specs.Node.{Note, Forest, node, alone}
 use Rattle.js_syntax.specs.declared.kind.FunctionKind.TheVariants as function_kind
 use Rattle.js_syntax.specs.declared.kind.ClassKind.TheVariants as class_kind
 use Rattle.js_syntax.specs.declared.kind.VariableKind.TheVariants as variable_kind
@@ -12,7 +12,7 @@ use Rattle.form_rules.specs.declared.sought.Sought.{Sought}
 use Rattle.form_rules.specs.declared.sought.Sought.TheVariants.{Nothing as none_sought, Names as names, Bound as bound, Scope as scope, Variables as variables, FunctionScope as function_scope, CatchScope as catch_scope}
 use Rattle.form_rules.specs.Context.{has_use_strict, is_strict_list, is_strict_function, private_key_of, privates_of, is_loop}
 use Rattle.form_rules.specs.Scope.{bound_below, variables_below, scope_below, function_below, sought_below, declared_here}
-use Rattle.form_rules.specs.Rules.{are_names, have_plain_parameters, private_of, first_is_super, is_bare_name, is_name_first, is_rest, is_default, is_constructor, named_by, local_of, locals_named, locals_by, exported_by}
+use Rattle.form_rules.specs.Rules.{are_names, have_plain_parameters, private_of, first_is_super, is_bare_name, is_name_first, is_rest, is_default, is_constructor, named_by, locals_named, locals_by, exported_by}
 use Rattle.steps_keep_form.specs.Part.{gives_way, is_statement, is_asked_for, asks_further}
 use Rattle.steps_keep_form.specs.Sheds.{Row, parts, items, of_item, of_declarators, of_head, other, asked_below, may_empty, Around, may_give_way, sought_inside}
 use Rattle.js_syntax.proofs.Truth.{not_true, first_of_both, second_of_both}
@@ -74,10 +74,18 @@ pub no_super : (k : Kind) (n : Note) (a r : Forest) → is_asked_for k ≡ false
 no_super super n a r h = absurd cc
 no_super k n a r h = refl
 
-pub not_bare : (k : Kind) (n : Note) (a r : Forest) → is_asked_for k ≡ false → is_bare_name (node k n a r) ≡ false
-not_bare (reference_name x) n a r h = absurd cc
-not_bare parenthesized_expression n a r h = absurd cc
-not_bare k n a r h = refl
+-- of a node in whose place a part may stand
+pub not_bare : (k : Kind) (n : Note) (a r : Forest) → gives_way k ≡ true → is_bare_name (node k n a r) ≡ false
+not_bare if_statement n a r h = refl
+not_bare conditional_expression n a r h = refl
+not_bare (logical_expression operator) n a r h = refl
+not_bare k n a r h = absurd cc
+
+-- whether a name stands first, parentheses aside, what stands behind it doesn't matter
+pub bare_alone : (k : Kind) (n : Note) (a r : Forest) → is_bare_name (node k n a r) ≡ is_bare_name (alone k n a)
+bare_alone (reference_name x) n a r = refl
+bare_alone parenthesized_expression n a r = refl
+bare_alone k n a r = refl
 
 pub no_bound_name : (k : Kind) (n : Note) (a r : Forest) → is_asked_for k ≡ false → is_name_first (node k n a r) ≡ false
 no_bound_name (binding_name x) n a r h = absurd cc
@@ -112,10 +120,6 @@ pub no_export_named : (k : Kind) (n : Note) (p : ℕ) (a r : Forest) → is_aske
 no_export_named (export_specifier exported) n p a r h = absurd cc
 no_export_named (foreign_specifier local exported) n p a r h = absurd cc
 no_export_named k n p a r h = refl
-
-pub no_local : (k : Kind) (n : Note) (p : ℕ) (a r : Forest) → is_asked_for k ≡ false → local_of p (node k n a r) ≡ []
-no_local (reference_name x) n p a r h = absurd cc
-no_local k n p a r h = refl
 
 pub no_local_named : (k : Kind) (n : Note) (p : ℕ) (a r : Forest) → is_asked_for k ≡ false → locals_named p (node k n a r) ≡ locals_named p r
 no_local_named (export_specifier exported) n p a r h = absurd cc

@@ -12,7 +12,7 @@ use Rattle.form_rules.specs.declared.sought.Sort.TheVariants.{Lexical as lexical
 use Rattle.form_rules.specs.Scope.{Declared}
 use Rattle.form_rules.specs.Rules.{Exported, is_exported, is_declared, exports_of, named_by, all_named, exported_by, exported_among, first_below, local_of, locals_named, locals_by, locals_among, undeclared}
 use Rattle.steps_keep_form.specs.Sheds.{may_leave, Around, entered, outermost, Sheds, ends, keeps_absent, keeps, leaves, empties, becomes}
-use Rattle.steps_keep_form.proofs.Asked.{given_not, no_export_named, no_local, no_local_named, exports_nothing, exports_no_local, asked_there, not_asked}
+use Rattle.steps_keep_form.proofs.Asked.{given_not, no_export_named, no_local_named, exports_nothing, exports_no_local, asked_there, not_asked}
 use Rattle.steps_keep_form.proofs.Fewer.{Fewer, none, both, more, fewest, behind_all, beside, SameName, SameExport}
 use Rattle.steps_keep_form.proofs.ShedNames.{fewer_declared, one_of_both}
 use Rattle.steps_keep_form.proofs.Rows.{itself, stays_below, behind_left}
@@ -39,7 +39,7 @@ named_fewer p q (keeps_absent rest) = named_fewer p q rest
 named_fewer p q (keeps {k = k} {n = n} {m = m} {a = a} {b = b} {r = r} {s = s} one below rest) = named_node k n m p q a b r s (named_fewer p q rest)
 named_fewer p q (leaves {k = k} {n = n} {a = a} {r = r} may out strict rest) = named_less k n q a r (named_fewer p q rest)
 named_fewer p q (empties may rest) = named_fewer p q rest
-named_fewer p q (becomes {k = k} {l = l} {n = n} {m = m} {a = a} {b = b} {r = r} {s = s} part may rest) =
+named_fewer p q (becomes {k = k} {l = l} {n = n} {m = m} {a = a} {b = b} {r = r} {s = s} part may bare rest) =
     rw (no_export_named l m p b s part.unasked, no_export_named k n q a r (given_not k part.gives)) (named_fewer p q rest)
 
 named_first : (p q : ℕ) {w : Around} {t u : Forest} → may_leave w.row ≡ false → w.is_asked ≡ true → Sheds w t u → FewerExports (named_by p (first_below u)) (named_by q (first_below t))
@@ -48,22 +48,22 @@ named_first p q stays asked (keeps_absent rest) = none
 named_first p q stays asked (keeps one below rest) = named_fewer p q below
 named_first p q stays asked (leaves may out strict rest) = absurd (cc (stays, may))
 named_first p q stays asked (empties {a = a} may rest) = fewest (named_by q a)
-named_first p q stays asked (becomes {w = w} {k = k} part may rest) = absurd (cc (asked, not_asked w k may))
+named_first p q stays asked (becomes {w = w} {k = k} part may bare rest) = absurd (cc (asked, not_asked w k may))
 
 local_node : (k : Kind) (n m : Note) (p q : ℕ) (a b r s : Forest) → FewerExports (local_of p (node k m b s)) (local_of q (node k n a r))
 local_node (reference_name x) n m p q a b r s = both refl none
 local_node k n m p q a b r s = none
 
-local_fewer : (p q : ℕ) {w : Around} {t u : Forest} → may_leave w.row ≡ false → Sheds w t u → FewerExports (local_of p u) (local_of q t)
-local_fewer p q stays ends = none
-local_fewer p q stays (keeps_absent rest) = none
-local_fewer p q stays (keeps {k = k} {n = n} {m = m} {a = a} {b = b} {r = r} {s = s} one below rest) = local_node k n m p q a b r s
-local_fewer p q stays (leaves may out strict rest) = absurd (cc (stays, may))
-local_fewer p q stays (empties may rest) = none
-local_fewer p q stays (becomes {k = k} {l = l} {n = n} {m = m} {a = a} {b = b} {r = r} {s = s} part may rest) = rw (no_local l m p b s part.unasked) (fewest _)
+local_fewer : (p q : ℕ) {w : Around} {t u : Forest} → may_leave w.row ≡ false → w.is_asked ≡ true → Sheds w t u → FewerExports (local_of p u) (local_of q t)
+local_fewer p q stays asked ends = none
+local_fewer p q stays asked (keeps_absent rest) = none
+local_fewer p q stays asked (keeps {k = k} {n = n} {m = m} {a = a} {b = b} {r = r} {s = s} one below rest) = local_node k n m p q a b r s
+local_fewer p q stays asked (leaves may out strict rest) = absurd (cc (stays, may))
+local_fewer p q stays asked (empties may rest) = none
+local_fewer p q stays asked (becomes {w = w} {k = k} part may bare rest) = absurd (cc (asked, not_asked w k may))
 
 locals_node : (w : Around) (k : Kind) (n m : Note) (p q : ℕ) (a b r s : Forest) → Sheds (entered w k a) a b → FewerExports (locals_named p s) (locals_named q r) → FewerExports (locals_named p (node k m b s)) (locals_named q (node k n a r))
-locals_node w (export_specifier exported) n m p q a b r s below f = beside (local_fewer p q (stays_below w.row (export_specifier exported) refl) below) f
+locals_node w (export_specifier exported) n m p q a b r s below f = beside (local_fewer p q (stays_below w.row (export_specifier exported) refl) (asked_there w.row (export_specifier exported) refl) below) f
 locals_node w k n m p q a b r s below f = f
 
 locals_less : (k : Kind) (n : Note) (q : ℕ) (a r : Forest) {xs : List Exported} → FewerExports xs (locals_named q r) → FewerExports xs (locals_named q (node k n a r))
@@ -76,7 +76,7 @@ locals_named_fewer p q (keeps_absent rest) = locals_named_fewer p q rest
 locals_named_fewer p q (keeps {w = w} {k = k} {n = n} {m = m} {a = a} {b = b} {r = r} {s = s} one below rest) = locals_node w k n m p q a b r s below (locals_named_fewer p q rest)
 locals_named_fewer p q (leaves {k = k} {n = n} {a = a} {r = r} may out strict rest) = locals_less k n q a r (locals_named_fewer p q rest)
 locals_named_fewer p q (empties may rest) = locals_named_fewer p q rest
-locals_named_fewer p q (becomes {k = k} {l = l} {n = n} {m = m} {a = a} {b = b} {r = r} {s = s} part may rest) =
+locals_named_fewer p q (becomes {k = k} {l = l} {n = n} {m = m} {a = a} {b = b} {r = r} {s = s} part may bare rest) =
     rw (no_local_named l m p b s part.unasked, no_local_named k n q a r (given_not k part.gives)) (locals_named_fewer p q rest)
 
 locals_first : (p q : ℕ) {w : Around} {t u : Forest} → may_leave w.row ≡ false → w.is_asked ≡ true → Sheds w t u → FewerExports (locals_named p (first_below u)) (locals_named q (first_below t))
@@ -85,7 +85,7 @@ locals_first p q stays asked (keeps_absent rest) = none
 locals_first p q stays asked (keeps one below rest) = locals_named_fewer p q below
 locals_first p q stays asked (leaves may out strict rest) = absurd (cc (stays, may))
 locals_first p q stays asked (empties {a = a} may rest) = fewest (locals_named q a)
-locals_first p q stays asked (becomes {w = w} {k = k} part may rest) = absurd (cc (asked, not_asked w k may))
+locals_first p q stays asked (becomes {w = w} {k = k} part may bare rest) = absurd (cc (asked, not_asked w k may))
 
 -- ---- exports
 
@@ -113,7 +113,7 @@ exported_fewer p q (keeps {w = w} {k = k} {n = n} {m = m} {a = a} {b = b} one be
     beside (exported_by_fewer w k p q a b below) (exported_fewer (p + node_count (node k m b nothing)) (q + node_count (node k n a nothing)) rest)
 exported_fewer p q (leaves {k = k} {n = n} {a = a} may out strict rest) = behind_all (exported_by k q a) (exported_fewer p (q + node_count (node k n a nothing)) rest)
 exported_fewer p q (empties may rest) = exported_fewer _ _ rest
-exported_fewer p q (becomes {k = k} {l = l} {n = n} {m = m} {a = a} {b = b} {r = r} {s = s} part may rest) =
+exported_fewer p q (becomes {k = k} {l = l} {n = n} {m = m} {a = a} {b = b} {r = r} {s = s} part may bare rest) =
     rw (exports_nothing l p b part.unasked, exports_nothing k q a (given_not k part.gives)) (exported_fewer _ _ rest)
 
 pub exported_first : (p q : ℕ) {w : Around} {t u : Forest} → may_leave w.row ≡ false → w.is_asked ≡ true → Sheds w t u → FewerExports (exported_among p (first_below u)) (exported_among q (first_below t))
@@ -122,7 +122,7 @@ exported_first p q stays asked (keeps_absent rest) = none
 exported_first p q stays asked (keeps one below rest) = exported_fewer p q below
 exported_first p q stays asked (leaves may out strict rest) = absurd (cc (stays, may))
 exported_first p q stays asked (empties {a = a} may rest) = fewest (exported_among q a)
-exported_first p q stays asked (becomes {w = w} {k = k} part may rest) = absurd (cc (asked, not_asked w k may))
+exported_first p q stays asked (becomes {w = w} {k = k} part may bare rest) = absurd (cc (asked, not_asked w k may))
 
 -- ---- the names of the module that are exported
 
@@ -139,7 +139,7 @@ locals_fewer p q (keeps {w = w} {k = k} {n = n} {m = m} {a = a} {b = b} one belo
     beside (locals_by_fewer w k p q a b below) (locals_fewer (p + node_count (node k m b nothing)) (q + node_count (node k n a nothing)) rest)
 locals_fewer p q (leaves {k = k} {n = n} {a = a} may out strict rest) = behind_all (locals_by k q a) (locals_fewer p (q + node_count (node k n a nothing)) rest)
 locals_fewer p q (empties may rest) = locals_fewer _ _ rest
-locals_fewer p q (becomes {k = k} {l = l} {n = n} {m = m} {a = a} {b = b} {r = r} {s = s} part may rest) =
+locals_fewer p q (becomes {k = k} {l = l} {n = n} {m = m} {a = a} {b = b} {r = r} {s = s} part may bare rest) =
     rw (exports_no_local l p b part.unasked, exports_no_local k q a (given_not k part.gives)) (locals_fewer _ _ rest)
 
 pub locals_below_first : (p q : ℕ) {w : Around} {t u : Forest} → may_leave w.row ≡ false → w.is_asked ≡ true → Sheds w t u → FewerExports (locals_among p (first_below u)) (locals_among q (first_below t))
@@ -148,7 +148,7 @@ locals_below_first p q stays asked (keeps_absent rest) = none
 locals_below_first p q stays asked (keeps one below rest) = locals_fewer p q below
 locals_below_first p q stays asked (leaves may out strict rest) = absurd (cc (stays, may))
 locals_below_first p q stays asked (empties {a = a} may rest) = fewest (locals_among q a)
-locals_below_first p q stays asked (becomes {w = w} {k = k} part may rest) = absurd (cc (asked, not_asked w k may))
+locals_below_first p q stays asked (becomes {w = w} {k = k} part may bare rest) = absurd (cc (asked, not_asked w k may))
 
 exported_in_more : (x : List ℕ) {ds es : List Exported} → FewerExports ds es → is_exported x ds ≡ true → is_exported x es ≡ true
 exported_in_more x none h = h

@@ -1,6 +1,6 @@
 -- In a tree that fits the table of node types a part may stand for its node wherever a node stands in whose place one may.
 use Rattle.std.proofs.Common.{◌≡◌, inl, inr, List, [], ◌∷◌, Bool, true, false, not, ◌&&◌, ◌||◌, Some, refl, sym, subst, ap, ◌∙◌}
-use Rattle.js_syntax.specs.Class.{Class, root, a_prologue, module_item, statement, block, declaration, declarator_item, binding, expression, private_key, no_node}
+use Rattle.js_syntax.specs.Class.{Class, root, a_prologue, module_item, statement, block, declaration, declarator_item, binding, read_name, expression, private_key, no_node}
 use Rattle.js_syntax.specs.declared.value.Key.{Key}
 use Rattle.js_syntax.specs.declared.value.Key.TheVariants.{Name as key_name, Text as key_text, Number as key_number, Below as key_below}
 use Rattle.js_syntax.specs.declared.node_kind.NodeKind.{NodeKind as Kind}
@@ -30,6 +30,7 @@ is_firm block = true
 is_firm declaration = true
 is_firm declarator_item = true
 is_firm binding = true
+is_firm read_name = true
 is_firm no_node = true
 is_firm c = false
 
@@ -38,18 +39,21 @@ firm_node block an_if_statement vs f h = absurd cc
 firm_node declaration an_if_statement vs f h = absurd cc
 firm_node declarator_item an_if_statement vs f h = absurd cc
 firm_node binding an_if_statement vs f h = absurd cc
+firm_node read_name an_if_statement vs f h = absurd cc
 firm_node no_node an_if_statement vs f h = absurd cc
 firm_node c an_if_statement vs f h = absurd cc
 firm_node block a_conditional_expression vs f h = absurd cc
 firm_node declaration a_conditional_expression vs f h = absurd cc
 firm_node declarator_item a_conditional_expression vs f h = absurd cc
 firm_node binding a_conditional_expression vs f h = absurd cc
+firm_node read_name a_conditional_expression vs f h = absurd cc
 firm_node no_node a_conditional_expression vs f h = absurd cc
 firm_node c a_conditional_expression vs f h = absurd cc
 firm_node block a_logical_expression vs f h = absurd cc
 firm_node declaration a_logical_expression vs f h = absurd cc
 firm_node declarator_item a_logical_expression vs f h = absurd cc
 firm_node binding a_logical_expression vs f h = absurd cc
+firm_node read_name a_logical_expression vs f h = absurd cc
 firm_node no_node a_logical_expression vs f h = absurd cc
 firm_node c a_logical_expression vs f h = absurd cc
 firm_node c r vs f h = refl

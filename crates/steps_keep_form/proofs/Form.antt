@@ -76,7 +76,7 @@ form_kept (empties {n = n} {m = m} {a = a} {r = r} {s = s} may rest) f g same i 
     both_empty (broken_at (g j) empty_statement q nothing ++ []) (broken_in g (suc j) (q + node_count (node empty_statement m nothing nothing)) s) (both_empty (broken_at (g j) empty_statement q nothing) [] (empty_keeps (g j) q) refl)
     (form_kept rest f g same (suc i) (suc j) (p + node_count (node expression_statement n a nothing)) (q + node_count (node empty_statement m nothing nothing)) (λ d. ap (λ n. suc n) (e d))
     (second_empty (broken_at (f i) expression_statement p a ++ broken_in (inside (f i) expression_statement a) 0 (p + one_each expression_statement) a) (broken_in f (suc i) (p + node_count (node expression_statement n a nothing)) r) h))
-form_kept (becomes {k = k} {l = l} {n = n} {m = m} {a = a} {b = b} {r = r} {s = s} part may rest) f g same i j p q e h =
+form_kept (becomes {k = k} {l = l} {n = n} {m = m} {a = a} {b = b} {r = r} {s = s} part may bare rest) f g same i j p q e h =
     let own = broken_at (f i) k p a in
     let below = broken_in (inside (f i) k a) 0 (p + one_each k) a in
     let behind = broken_in f (suc i) (p + node_count (node k n a nothing)) r in
@@ -102,7 +102,7 @@ source_same stays (keeps_absent rest) = refl
 source_same stays (keeps {k = k} {n = n} {m = m} {a = a} {b = b} {r = r} {s = s} one below rest) = source_node k n m a b r s
 source_same stays (leaves may out strict rest) = absurd (cc (stays, may))
 source_same stays (empties may rest) = refl
-source_same stays (becomes {k = k} {l = l} {n = n} {m = m} {a = a} {b = b} {r = r} {s = s} part may rest) = no_source l m b s part.unasked ∙ sym (no_source k n a r (given_not k part.gives))
+source_same stays (becomes {k = k} {l = l} {n = n} {m = m} {a = a} {b = b} {r = r} {s = s} part may bare rest) = no_source l m b s part.unasked ∙ sym (no_source k n a r (given_not k part.gives))
 
 pub stays_well_formed : (t u : Forest) → Sheds outermost t u → IsWellFormed t → IsWellFormed u
 stays_well_formed t u sheds whole =

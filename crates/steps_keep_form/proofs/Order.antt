@@ -106,7 +106,7 @@ list_same stays (keeps_absent rest) = refl
 list_same stays (keeps {k = k} {n = n} {m = m} {a = a} {b = b} {r = r} {s = s} one below rest) = list_node k n m a b r s
 list_same stays (leaves may out strict rest) = absurd (cc (stays, may))
 list_same stays (empties may rest) = refl
-list_same stays (becomes {k = k} {l = l} {n = n} {m = m} {a = a} {b = b} {r = r} {s = s} part may rest) = no_list l m b s part.unasked ∙ sym (no_list k n a r (given_not k part.gives))
+list_same stays (becomes {k = k} {l = l} {n = n} {m = m} {a = a} {b = b} {r = r} {s = s} part may bare rest) = no_list l m b s part.unasked ∙ sym (no_list k n a r (given_not k part.gives))
 
 specifiers_node : (k : Kind) (n m : Note) (a b r s : Forest) → are_specifiers_first (node k m b s) ≡ are_specifiers_first (node k n a r)
 specifiers_node specifiers n m a b r s = refl
@@ -118,7 +118,7 @@ specifiers_same stays (keeps_absent rest) = refl
 specifiers_same stays (keeps {k = k} {n = n} {m = m} {a = a} {b = b} {r = r} {s = s} one below rest) = specifiers_node k n m a b r s
 specifiers_same stays (leaves may out strict rest) = absurd (cc (stays, may))
 specifiers_same stays (empties may rest) = refl
-specifiers_same stays (becomes {k = k} {l = l} {n = n} {m = m} {a = a} {b = b} {r = r} {s = s} part may rest) = no_specifiers l m b s part.unasked ∙ sym (no_specifiers k n a r (given_not k part.gives))
+specifiers_same stays (becomes {k = k} {l = l} {n = n} {m = m} {a = a} {b = b} {r = r} {s = s} part may bare rest) = no_specifiers l m b s part.unasked ∙ sym (no_specifiers k n a r (given_not k part.gives))
 
 binds_node : (k : Kind) (n m : Note) (a b r s : Forest) → binds_none s ≡ binds_none r → binds_none (node k m b s) ≡ binds_none (node k n a r)
 binds_node (binding_name x) n m a b r s h = refl
@@ -130,7 +130,7 @@ binds_same stays (keeps_absent rest) = binds_same stays rest
 binds_same stays (keeps {k = k} {n = n} {m = m} {a = a} {b = b} {r = r} {s = s} one below rest) = binds_node k n m a b r s (binds_same stays rest)
 binds_same stays (leaves may out strict rest) = absurd (cc (stays, may))
 binds_same stays (empties may rest) = binds_same stays rest
-binds_same stays (becomes {k = k} {l = l} {n = n} {m = m} {a = a} {b = b} {r = r} {s = s} part may rest) =
+binds_same stays (becomes {k = k} {l = l} {n = n} {m = m} {a = a} {b = b} {r = r} {s = s} part may bare rest) =
     no_name l m b s part.unasked ∙ binds_same stays rest ∙ sym (no_name k n a r (given_not k part.gives))
 
 -- ---- nodes
@@ -155,7 +155,7 @@ stays_laid_out (keeps {w = w} {k = k} {n = n} {m = m} {a = a} {b = b} {r = r} {s
 stays_laid_out (leaves {w = w} {k = k} {n = n} {a = a} {r = r} may out strict rest) h = stays_laid_out rest (laid_behind w.row k n a r h)
 stays_laid_out (empties {w = w} {n = n} {m = m} {a = a} {r = r} {s = s} may rest) h =
     both (not (has_use_strict s)) (is_laid_out w.row s) (ap not (strict_same rest) ∙ laid_order w.row expression_statement n a r h) (stays_laid_out rest (laid_behind w.row expression_statement n a r h))
-stays_laid_out (becomes {w = w} {k = k} {l = l} {n = n} {m = m} {a = a} {b = b} {r = r} {s = s} part may rest) h =
+stays_laid_out (becomes {w = w} {k = k} {l = l} {n = n} {m = m} {a = a} {b = b} {r = r} {s = s} part may bare rest) h =
     both (is_directive_kind l || not (has_use_strict s)) (stands_right w.row l b && (is_laid_out (row_below w.row l) b && is_laid_out w.row s))
     (ap (λ x. x || not (has_use_strict s)) (no_directive l part.unasked) ∙ ap not (strict_same rest)
     ∙ ap (λ x. x || not (has_use_strict r)) (sym (no_directive k (given_not k part.gives))) ∙ laid_order w.row k n a r h)

@@ -38,7 +38,7 @@ module _ (test : Kind → Forest → Bool) where
   places_fewer p q same emptied unasked (leaves {k = k} {n = n} {a = a} may out strict rest) = less_if (test k a) q (places_fewer p (q + node_count (node k n a nothing)) same emptied unasked rest)
   places_fewer p q same emptied unasked (empties {n = n} {m = m} {a = a} may rest) =
       rw (emptied may) (less_if (test expression_statement a) q (places_fewer (p + node_count (node empty_statement m nothing nothing)) (q + node_count (node expression_statement n a nothing)) same emptied unasked rest))
-  places_fewer p q same emptied unasked (becomes {w = w} {k = k} {l = l} {n = n} {m = m} {a = a} {b = b} part may rest) =
+  places_fewer p q same emptied unasked (becomes {w = w} {k = k} {l = l} {n = n} {m = m} {a = a} {b = b} part may bare rest) =
       rw (unasked (not_asked w k may) l b part.unasked) (less_if (test k a) q (places_fewer (p + node_count (node l m b nothing)) (q + node_count (node k n a nothing)) same emptied unasked rest))
 
 pub none_of_none : {xs ys : List ℕ} → Fewer ℕ Any xs ys → ys ≡ [] → xs ≡ []
@@ -125,7 +125,7 @@ length_fewer (keeps_absent rest) = length_fewer rest
 length_fewer (keeps one below rest) = omega (arith, length_fewer rest)
 length_fewer (leaves may out strict rest) = omega (arith, length_fewer rest)
 length_fewer (empties may rest) = omega (arith, length_fewer rest)
-length_fewer (becomes part may rest) = omega (arith, length_fewer rest)
+length_fewer (becomes part may bare rest) = omega (arith, length_fewer rest)
 
 counts_fewer : (is_head : Bool) (m n : ℕ) → m ≤ n → (n == 0 || not (m == 0)) ≡ true → counts_right is_head n ≡ true → counts_right is_head m ≡ true
 counts_fewer true m n less one right = grind (arith, nat_tests, less, one, right)
@@ -144,7 +144,7 @@ counts_stay is_head stays full asked (keeps {w = w} {k = k} {a = a} {b = b} one 
     counts_in is_head (row_below w.row k) a b (below_declaration w.row k full) one (length_fewer below) (λ d. length_same d below) right
 counts_stay is_head stays full asked (leaves may out strict rest) right = absurd (cc (stays, may))
 counts_stay is_head stays full asked (empties may rest) right = absurd (cc (full, may))
-counts_stay is_head stays full asked (becomes {w = w} {k = k} part may rest) right = absurd (cc (asked, not_asked w k may))
+counts_stay is_head stays full asked (becomes {w = w} {k = k} part may bare rest) right = absurd (cc (asked, not_asked w k may))
 
 pub below_same : {w : Around} {t u : Forest} → w.row ≡ other → w.is_asked ≡ true → Sheds w t u → length_of (first_below u) ≡ length_of (first_below t)
 below_same is asked ends = refl
@@ -152,7 +152,7 @@ below_same is asked (keeps_absent rest) = refl
 below_same is asked (keeps {w = w} {k = k} one below rest) = length_same (plain_stays w.row k (ap is_plain is)) below
 below_same is asked (leaves may out strict rest) = absurd (cc (may, ap may_leave is))
 below_same is asked (empties may rest) = absurd (cc (may, ap may_empty is))
-below_same is asked (becomes {w = w} {k = k} part may rest) = absurd (cc (asked, not_asked w k may))
+below_same is asked (becomes {w = w} {k = k} part may bare rest) = absurd (cc (asked, not_asked w k may))
 
 -- rows below a declaration
 abbrev pub of_variables : Row → Bool
@@ -203,4 +203,4 @@ declarators_left is_head how p q is asked (keeps_absent rest) right = refl
 declarators_left is_head how p q is asked (keeps {w = w} {k = k} one below rest) right = none_wrong is_head how p q (plain_below w.row k is) (asked_in_it w.row k is) below right
 declarators_left is_head how p q {w = w} is asked (leaves may out strict rest) right = absurd (cc (may, (variables_stay w.row is).0))
 declarators_left is_head how p q {w = w} is asked (empties may rest) right = absurd (cc (may, (variables_stay w.row is).1))
-declarators_left is_head how p q {w = w} is asked (becomes {k = k} part may rest) right = absurd (cc (asked, not_asked w k may))
+declarators_left is_head how p q {w = w} is asked (becomes {k = k} part may bare rest) right = absurd (cc (asked, not_asked w k may))

@@ -47,7 +47,7 @@ behind_left stays (keeps_absent rest) = rest
 behind_left stays (keeps one below rest) = rest
 behind_left stays (leaves may out strict rest) = absurd (cc (stays, may))
 behind_left stays (empties may rest) = rest
-behind_left stays (becomes part may rest) = rest
+behind_left stays (becomes part may bare rest) = rest
 
 pub behind_is : (t : Forest) → behind_first t ≡ behind t
 behind_is nothing = refl
@@ -60,7 +60,7 @@ absent_same stays (keeps_absent rest) = refl
 absent_same stays (keeps one below rest) = refl
 absent_same stays (leaves may out strict rest) = absurd (cc (stays, may))
 absent_same stays (empties may rest) = refl
-absent_same stays (becomes part may rest) = refl
+absent_same stays (becomes part may bare rest) = refl
 
 pub length_same : {w : Around} {t u : Forest} → may_leave w.row ≡ false → Sheds w t u → length_of u ≡ length_of t
 length_same stays ends = refl
@@ -68,7 +68,7 @@ length_same stays (keeps_absent rest) = length_same stays rest
 length_same stays (keeps one below rest) = ap (λ n. suc n) (length_same stays rest)
 length_same stays (leaves may out strict rest) = absurd (cc (stays, may))
 length_same stays (empties may rest) = ap (λ n. suc n) (length_same stays rest)
-length_same stays (becomes part may rest) = ap (λ n. suc n) (length_same stays rest)
+length_same stays (becomes part may bare rest) = ap (λ n. suc n) (length_same stays rest)
 
 -- ---- rows of other kinds
 

@@ -162,7 +162,7 @@ module _ (w : Around) (c : Context) (p q : ℕ) (a b : Forest) where
   rule_10_kept : (k : Kind) → Below k → rule_10 c k p a ≡ [] → rule_10 c k q b ≡ []
   rule_10_kept with_statement h g = unless_same (not c.strict) p q 10 g
   rule_10_kept (unary_expression unary.Delete) h g =
-      unless_if (not (c.strict && is_bare_name a)) (not (c.strict && is_bare_name b)) p q 10 (λ e. ap (λ x. not (c.strict && x)) (bare_same (stays_below w.row (unary_expression unary.Delete) refl) h) ∙ e) g
+      unless_if (not (c.strict && is_bare_name a)) (not (c.strict && is_bare_name b)) p q 10 (λ e. ap (λ x. not (c.strict && x)) (bare_same (stays_below w.row (unary_expression unary.Delete) refl) refl h) ∙ e) g
   rule_10_kept k h g = refl
 
   parts_kept : (k : Kind) → Below k → parts_of c k p a ≡ [] → parts_of c k q b ≡ []

@@ -1,18 +1,19 @@
 -- What the contexts and rules of form see of the nodes of a row, where nothing leaves it.
-use Rattle.std.proofs.Common.{◌≡◌, ℕ, ◌+◌, List, [], ◌∷◌, ◌++◌, Bool, false, not, ◌&&◌, ◌||◌, codes, refl, sym, ap, ◌∙◌}
+use Rattle.std.proofs.Common.{◌≡◌, ℕ, ◌+◌, List, [], ◌∷◌, ◌++◌, Bool, true, false, not, ◌&&◌, ◌||◌, codes, refl, sym, ap, ◌∙◌}
 use Rattle.std.specs.Str.{bytes_eq}
 use Rattle.js_tree.specs.Count.{node_count}
 use Rattle.js_syntax.specs.declared.node_kind.NodeKind.{NodeKind as Kind}
 use Rattle.js_syntax.specs.declared.node_kind.NodeKind.TheVariants.{Directive as directive, Statements as statements, FunctionBody as function_body, Parameters as parameters, BindingName as binding_name, ReferenceName as reference_name, ParenthesizedExpression as parenthesized_expression, Super as super, PrivateName as private_name, ClassBody as class_body, Members as members, MethodDefinition as method_definition, PropertyDefinition as property_definition, LabeledStatement as labeled_statement}
 use Rattle.js_syntax.specs.declared.value.Key.TheVariants.{Below as key_below}
-use Rattle.js_syntax.specs.Node.{Note, Forest, nothing, node}
+use Rattle.js_syntax.specs.Node.{Note, Forest, nothing, node, alone}
 use Rattle.form_rules.specs.declared.role.Half.{Half}
 use Rattle.form_rules.specs.declared.role.Half.TheVariants.{Whole as whole}
 use Rattle.form_rules.specs.Context.{has_use_strict, is_strict_list, is_strict_function, private_key_of, privates_of, extends_another, is_absent, is_loop}
 use Rattle.form_rules.specs.Rules.{are_names, have_plain_parameters, Private, privates_named, half_of, private_of, privates_among, first_is_super, is_bare_name, is_name_first, is_last, is_rest, early_rests}
-use Rattle.steps_keep_form.specs.Sheds.{row_below, may_leave, Around, entered, Sheds, ends, keeps_absent, keeps, leaves, empties, becomes}
-use Rattle.steps_keep_form.proofs.Asked.{given_not, not_strict, no_strict_list, no_body, no_name, no_parameters, no_private_key, no_privates, no_private, no_loop, no_super, not_bare, no_bound_name, no_rest}
+use Rattle.steps_keep_form.specs.Sheds.{row_below, deleted_below, may_leave, may_come_out, Around, entered, Sheds, ends, keeps_absent, keeps, leaves, empties, becomes}
+use Rattle.steps_keep_form.proofs.Asked.{given_not, not_strict, no_strict_list, no_body, no_name, no_parameters, no_private_key, no_privates, no_private, no_loop, no_super, not_bare, bare_alone, no_bound_name, no_rest}
 use Rattle.steps_keep_form.proofs.Fewer.{Fewer, none, both, beside, SamePrivate, left_out, leave_out}
+use Rattle.js_syntax.proofs.Truth.{not_true}
 use Rattle.steps_keep_form.proofs.Rows.{stays_below, behind_left, behind_is, absent_same}
 
 -- ---- strict code
@@ -27,7 +28,7 @@ strict_same (keeps_absent rest) = refl
 strict_same (keeps {k = k} {n = n} {m = m} {a = a} {b = b} {r = r} {s = s} one below rest) = strict_node k n m a b r s (strict_same rest)
 strict_same (leaves may out strict rest) = strict_same rest ∙ strict
 strict_same (empties may rest) = refl
-strict_same (becomes {k = k} {l = l} {n = n} {m = m} {a = a} {b = b} {r = r} {s = s} part may rest) = not_strict l m b s part.unasked ∙ sym (not_strict k n a r (given_not k part.gives))
+strict_same (becomes {k = k} {l = l} {n = n} {m = m} {a = a} {b = b} {r = r} {s = s} part may bare rest) = not_strict l m b s part.unasked ∙ sym (not_strict k n a r (given_not k part.gives))
 
 list_node : (w : Around) (k : Kind) (n m : Note) (a b r s : Forest) → Sheds (entered w k a) a b → is_strict_list (node k m b s) ≡ is_strict_list (node k n a r)
 list_node w statements n m a b r s below = strict_same below
@@ -39,7 +40,7 @@ list_same stays (keeps_absent rest) = refl
 list_same stays (keeps {w = w} {k = k} {n = n} {m = m} {a = a} {b = b} {r = r} {s = s} one below rest) = list_node w k n m a b r s below
 list_same stays (leaves may out strict rest) = absurd (cc (stays, may))
 list_same stays (empties may rest) = refl
-list_same stays (becomes {k = k} {l = l} {n = n} {m = m} {a = a} {b = b} {r = r} {s = s} part may rest) = no_strict_list l m b s part.unasked ∙ sym (no_strict_list k n a r (given_not k part.gives))
+list_same stays (becomes {k = k} {l = l} {n = n} {m = m} {a = a} {b = b} {r = r} {s = s} part may bare rest) = no_strict_list l m b s part.unasked ∙ sym (no_strict_list k n a r (given_not k part.gives))
 
 function_node : (w : Around) (k : Kind) (n m : Note) (a b r s : Forest) → Sheds (entered w k a) a b → is_strict_function s ≡ is_strict_function r → is_strict_function (node k m b s) ≡ is_strict_function (node k n a r)
 function_node w function_body n m a b r s below h = list_same (stays_below w.row function_body refl) below
@@ -51,7 +52,7 @@ function_same stays (keeps_absent rest) = function_same stays rest
 function_same stays (keeps {w = w} {k = k} {n = n} {m = m} {a = a} {b = b} {r = r} {s = s} one below rest) = function_node w k n m a b r s below (function_same stays rest)
 function_same stays (leaves may out strict rest) = absurd (cc (stays, may))
 function_same stays (empties may rest) = function_same stays rest
-function_same stays (becomes {k = k} {l = l} {n = n} {m = m} {a = a} {b = b} {r = r} {s = s} part may rest) =
+function_same stays (becomes {k = k} {l = l} {n = n} {m = m} {a = a} {b = b} {r = r} {s = s} part may bare rest) =
     no_body l m b s part.unasked ∙ function_same stays rest ∙ sym (no_body k n a r (given_not k part.gives))
 
 -- ---- parameters
@@ -66,7 +67,7 @@ names_same stays (keeps_absent rest) = names_same stays rest
 names_same stays (keeps {k = k} {n = n} {m = m} {a = a} {b = b} {r = r} {s = s} one below rest) = names_node k n m a b r s (names_same stays rest)
 names_same stays (leaves may out strict rest) = absurd (cc (stays, may))
 names_same stays (empties may rest) = refl
-names_same stays (becomes {k = k} {l = l} {n = n} {m = m} {a = a} {b = b} {r = r} {s = s} part may rest) = no_name l m b s part.unasked ∙ sym (no_name k n a r (given_not k part.gives))
+names_same stays (becomes {k = k} {l = l} {n = n} {m = m} {a = a} {b = b} {r = r} {s = s} part may bare rest) = no_name l m b s part.unasked ∙ sym (no_name k n a r (given_not k part.gives))
 
 plain_node : (w : Around) (k : Kind) (n m : Note) (a b r s : Forest) → Sheds (entered w k a) a b → have_plain_parameters s ≡ have_plain_parameters r → have_plain_parameters (node k m b s) ≡ have_plain_parameters (node k n a r)
 plain_node w parameters n m a b r s below h = names_same (stays_below w.row parameters refl) below
@@ -78,7 +79,7 @@ plain_same stays (keeps_absent rest) = plain_same stays rest
 plain_same stays (keeps {w = w} {k = k} {n = n} {m = m} {a = a} {b = b} {r = r} {s = s} one below rest) = plain_node w k n m a b r s below (plain_same stays rest)
 plain_same stays (leaves may out strict rest) = absurd (cc (stays, may))
 plain_same stays (empties may rest) = plain_same stays rest
-plain_same stays (becomes {k = k} {l = l} {n = n} {m = m} {a = a} {b = b} {r = r} {s = s} part may rest) =
+plain_same stays (becomes {k = k} {l = l} {n = n} {m = m} {a = a} {b = b} {r = r} {s = s} part may bare rest) =
     no_parameters l m b s part.unasked ∙ plain_same stays rest ∙ sym (no_parameters k n a r (given_not k part.gives))
 
 -- ---- classes
@@ -93,7 +94,7 @@ key_same stays (keeps_absent rest) = refl
 key_same stays (keeps {k = k} {n = n} {m = m} {a = a} {b = b} {r = r} {s = s} one below rest) = key_node k n m a b r s
 key_same stays (leaves may out strict rest) = absurd (cc (stays, may))
 key_same stays (empties may rest) = refl
-key_same stays (becomes {k = k} {l = l} {n = n} {m = m} {a = a} {b = b} {r = r} {s = s} part may rest) = no_private_key l m b s part.unasked ∙ sym (no_private_key k n a r (given_not k part.gives))
+key_same stays (becomes {k = k} {l = l} {n = n} {m = m} {a = a} {b = b} {r = r} {s = s} part may bare rest) = no_private_key l m b s part.unasked ∙ sym (no_private_key k n a r (given_not k part.gives))
 
 privates_node : (w : Around) (k : Kind) (n m : Note) (a b r s : Forest) → Sheds (entered w k a) a b → (may_leave (row_below w.row k) ≡ false → privates_of b ≡ privates_of a) → privates_of s ≡ privates_of r
     → privates_of (node k m b s) ≡ privates_of (node k n a r)
@@ -111,7 +112,7 @@ privates_same stays (keeps_absent rest) = privates_same stays rest
 privates_same stays (keeps {w = w} {k = k} {n = n} {m = m} {a = a} {b = b} {r = r} {s = s} one below rest) = privates_node w k n m a b r s below (λ d. privates_same d below) (privates_same stays rest)
 privates_same stays (leaves may out strict rest) = absurd (cc (stays, may))
 privates_same stays (empties may rest) = privates_same stays rest
-privates_same stays (becomes {k = k} {l = l} {n = n} {m = m} {a = a} {b = b} {r = r} {s = s} part may rest) =
+privates_same stays (becomes {k = k} {l = l} {n = n} {m = m} {a = a} {b = b} {r = r} {s = s} part may bare rest) =
     no_privates l m b s part.unasked ∙ privates_same stays rest ∙ sym (no_privates k n a r (given_not k part.gives))
 
 pub extends_same : {w : Around} {t u : Forest} → may_leave w.row ≡ false → Sheds w t u → extends_another u ≡ extends_another t
@@ -134,7 +135,7 @@ privates_fewer p q stays (keeps {w = w} {k = k} {n = n} {m = m} {a = a} {b = b} 
     beside (private_node w k p q a b below) (privates_fewer (p + node_count (node k m b nothing)) (q + node_count (node k n a nothing)) stays rest)
 privates_fewer p q stays (leaves may out strict rest) = absurd (cc (stays, may))
 privates_fewer p q stays (empties may rest) = privates_fewer _ _ stays rest
-privates_fewer p q stays (becomes {k = k} {l = l} {n = n} {m = m} {a = a} {b = b} {r = r} {s = s} part may rest) =
+privates_fewer p q stays (becomes {k = k} {l = l} {n = n} {m = m} {a = a} {b = b} {r = r} {s = s} part may bare rest) =
     rw (no_private l p b part.unasked, no_private k q a (given_not k part.gives)) (privates_fewer _ _ stays rest)
 
 -- ---- loops, `super`, and names in parentheses
@@ -149,7 +150,7 @@ loop_same stays (keeps_absent rest) = refl
 loop_same stays (keeps {w = w} {k = k} {n = n} {m = m} {a = a} {b = b} {r = r} {s = s} one below rest) = loop_node w k n m a b r s (λ d. loop_same d below)
 loop_same stays (leaves may out strict rest) = absurd (cc (stays, may))
 loop_same stays (empties may rest) = refl
-loop_same stays (becomes {k = k} {l = l} {n = n} {m = m} {a = a} {b = b} {r = r} {s = s} part may rest) = no_loop l m b s part.unasked ∙ sym (no_loop k n a r (given_not k part.gives))
+loop_same stays (becomes {k = k} {l = l} {n = n} {m = m} {a = a} {b = b} {r = r} {s = s} part may bare rest) = no_loop l m b s part.unasked ∙ sym (no_loop k n a r (given_not k part.gives))
 
 super_node : (k : Kind) (n m : Note) (a b r s : Forest) → first_is_super (node k m b s) ≡ first_is_super (node k n a r)
 super_node super n m a b r s = refl
@@ -161,20 +162,27 @@ super_same stays (keeps_absent rest) = refl
 super_same stays (keeps {k = k} {n = n} {m = m} {a = a} {b = b} {r = r} {s = s} one below rest) = super_node k n m a b r s
 super_same stays (leaves may out strict rest) = absurd (cc (stays, may))
 super_same stays (empties may rest) = refl
-super_same stays (becomes {k = k} {l = l} {n = n} {m = m} {a = a} {b = b} {r = r} {s = s} part may rest) = no_super l m b s part.unasked ∙ sym (no_super k n a r (given_not k part.gives))
+super_same stays (becomes {k = k} {l = l} {n = n} {m = m} {a = a} {b = b} {r = r} {s = s} part may bare rest) = no_super l m b s part.unasked ∙ sym (no_super k n a r (given_not k part.gives))
 
-bare_node : (w : Around) (k : Kind) (n m : Note) (a b r s : Forest) → (may_leave (row_below w.row k) ≡ false → is_bare_name b ≡ is_bare_name a) → is_bare_name (node k m b s) ≡ is_bare_name (node k n a r)
-bare_node w (reference_name x) n m a b r s f = refl
-bare_node w parenthesized_expression n m a b r s f = f (stays_below w.row parenthesized_expression refl)
-bare_node w k n m a b r s f = refl
+bare_node : (w : Around) (k : Kind) (n m : Note) (a b r s : Forest) → w.is_deleted ≡ true → (may_leave (row_below w.row k) ≡ false → deleted_below w.is_deleted k ≡ true → is_bare_name b ≡ is_bare_name a)
+    → is_bare_name (node k m b s) ≡ is_bare_name (node k n a r)
+bare_node w (reference_name x) n m a b r s taken f = refl
+bare_node w parenthesized_expression n m a b r s taken f = f (stays_below w.row parenthesized_expression refl) taken
+bare_node w k n m a b r s taken f = refl
 
-pub bare_same : {w : Around} {t u : Forest} → may_leave w.row ≡ false → Sheds w t u → is_bare_name u ≡ is_bare_name t
-bare_same stays ends = refl
-bare_same stays (keeps_absent rest) = refl
-bare_same stays (keeps {w = w} {k = k} {n = n} {m = m} {a = a} {b = b} {r = r} {s = s} one below rest) = bare_node w k n m a b r s (λ d. bare_same d below)
-bare_same stays (leaves may out strict rest) = absurd (cc (stays, may))
-bare_same stays (empties may rest) = refl
-bare_same stays (becomes {k = k} {l = l} {n = n} {m = m} {a = a} {b = b} {r = r} {s = s} part may rest) = not_bare l m b s part.unasked ∙ sym (not_bare k n a r (given_not k part.gives))
+not_out : (taken : Bool) (part : Forest) → taken ≡ true → may_come_out taken part ≡ true → is_bare_name part ≡ false
+not_out true part h may = not_true (is_bare_name part) may
+not_out false part h may = absurd cc
+
+-- where `delete` takes them
+pub bare_same : {w : Around} {t u : Forest} → may_leave w.row ≡ false → w.is_deleted ≡ true → Sheds w t u → is_bare_name u ≡ is_bare_name t
+bare_same stays taken ends = refl
+bare_same stays taken (keeps_absent rest) = refl
+bare_same stays taken (keeps {w = w} {k = k} {n = n} {m = m} {a = a} {b = b} {r = r} {s = s} one below rest) = bare_node w k n m a b r s taken (λ d e. bare_same d e below)
+bare_same stays taken (leaves may out strict rest) = absurd (cc (stays, may))
+bare_same stays taken (empties may rest) = refl
+bare_same stays taken (becomes {w = w} {k = k} {l = l} {n = n} {m = m} {a = a} {b = b} {r = r} {s = s} part may bare rest) =
+    bare_alone l m b s ∙ not_out w.is_deleted (alone l m b) taken bare ∙ sym (not_bare k n a r part.gives)
 
 name_node : (k : Kind) (n m : Note) (a b r s : Forest) → is_name_first (node k m b s) ≡ is_name_first (node k n a r)
 name_node (binding_name x) n m a b r s = refl
@@ -186,7 +194,7 @@ name_same stays (keeps_absent rest) = refl
 name_same stays (keeps {k = k} {n = n} {m = m} {a = a} {b = b} {r = r} {s = s} one below rest) = name_node k n m a b r s
 name_same stays (leaves may out strict rest) = absurd (cc (stays, may))
 name_same stays (empties may rest) = refl
-name_same stays (becomes {k = k} {l = l} {n = n} {m = m} {a = a} {b = b} {r = r} {s = s} part may rest) = no_bound_name l m b s part.unasked ∙ sym (no_bound_name k n a r (given_not k part.gives))
+name_same stays (becomes {k = k} {l = l} {n = n} {m = m} {a = a} {b = b} {r = r} {s = s} part may bare rest) = no_bound_name l m b s part.unasked ∙ sym (no_bound_name k n a r (given_not k part.gives))
 
 -- ---- rests stand last
 
@@ -196,7 +204,7 @@ last_same stays (keeps_absent rest) = refl
 last_same stays (keeps one below rest) = refl
 last_same stays (leaves may out strict rest) = absurd (cc (stays, may))
 last_same stays (empties may rest) = refl
-last_same stays (becomes part may rest) = refl
+last_same stays (becomes part may bare rest) = refl
 
 pub rests_last : (p q : ℕ) {w : Around} {t u : Forest} → may_leave w.row ≡ false → Sheds w t u → early_rests q t ≡ [] → early_rests p u ≡ []
 rests_last p q stays ends h = refl
@@ -206,6 +214,6 @@ rests_last p q stays (keeps {k = k} {n = n} {m = m} {a = a} {b = b} {r = r} one 
     leave_out _ _ _ (ap (λ x. is_rest k && not x) (last_same stays rest) ∙ told.0) (rests_last (p + node_count (node k m b nothing)) (q + node_count (node k n a nothing)) stays rest told.1)
 rests_last p q stays (leaves may out strict rest) h = absurd (cc (stays, may))
 rests_last p q stays (empties may rest) h = rests_last _ _ stays rest h
-rests_last p q stays (becomes {k = k} {l = l} {n = n} {m = m} {a = a} {b = b} {r = r} {s = s} part may rest) h =
+rests_last p q stays (becomes {k = k} {l = l} {n = n} {m = m} {a = a} {b = b} {r = r} {s = s} part may bare rest) h =
     rw (no_rest l part.unasked) (rests_last (p + node_count (node l m b nothing)) (q + node_count (node k n a nothing)) stays rest
     (left_out (is_rest k && not (is_last r)) q (early_rests (q + node_count (node k n a nothing)) r) h).1)

@@ -80,7 +80,7 @@ fewer_declared s p q catch (empties {n = n} {m = m} {a = a} {s = r} h rest) =
     rw (declares_nothing s p m r)
     (behind_all (declared_here s q expression_statement ++ declared (sought_below s expression_statement) (q + one_each expression_statement) a)
     (fewer_declared s (p + node_count (alone empty_statement m nothing)) (q + node_count (alone expression_statement n a)) catch rest))
-fewer_declared s p q catch (becomes {w = w} {k = k} {l = l} {n = n} {m = m} {a = a} {b = b} part may rest) =
+fewer_declared s p q catch (becomes {w = w} {k = k} {l = l} {n = n} {m = m} {a = a} {b = b} part may bare rest) =
     beside (behind_all (declared_here s q k) (part_declared s k l a b p (q + one_each k) (no_catch (is_of_catch s) refl) part))
     (fewer_declared s (p + node_count (alone l m b)) (q + node_count (alone k n a)) catch rest)
   where
@@ -216,7 +216,7 @@ still_declared x p q calm (leaves {w = w} {k = k} {n = n} {a = a} {r = r} may ou
 still_declared x p q calm (empties {w = w} {n = n} {m = m} {a = a} {r = r} {s = s} may rest) e h =
     ap (is_declared x) (declares_nothing w.sought p m s)
     ∙ still_declared x (p + node_count (alone empty_statement m nothing)) (q + node_count (alone expression_statement n a)) calm rest e (sym (ap (is_declared x) (nothing_of_expression w.sought q n a r)) ∙ h)
-still_declared x p q calm (becomes {w = w} {k = k} {l = l} {n = n} {m = m} {a = a} {b = b} {r = r} {s = s} part may rest) e h =
+still_declared x p q calm (becomes {w = w} {k = k} {l = l} {n = n} {m = m} {a = a} {b = b} {r = r} {s = s} part may bare rest) e h =
     declared_node x w.sought p l m b s
     ∙ second_of_either (is_declared x (declared_here w.sought p l)) (is_declared x (declared (sought_below w.sought l) (p + one_each l) b) || is_declared x (declared w.sought (p + node_count (alone l m b)) s))
     (one_of_both (is_declared x (declared (sought_below w.sought k) (q + one_each k) a)) (is_declared x (declared w.sought (q + node_count (alone k n a)) r))

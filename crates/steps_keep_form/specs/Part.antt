@@ -1,7 +1,7 @@
 -- Which part of a node may stand in the node's place, as far as the rules of form ask.
 use Rattle.std.specs.Prelude.{◌≡◌, ℕ, [], Bool, true, false}
 use Rattle.js_syntax.specs.declared.node_kind.NodeKind.{NodeKind as Kind}
-use Rattle.js_syntax.specs.declared.node_kind.NodeKind.TheVariants.{Program as program, Directive as directive, Statements as statements, FunctionBody as function_body, ExpressionStatement as expression_statement, EmptyStatement as empty_statement, DebuggerStatement as debugger_statement, BlockStatement as block_statement, StaticBlock as static_block, Cases as cases, SwitchCase as switch_case, SwitchStatement as switch_statement, LabeledStatement as labeled_statement, BreakStatement as break_statement, ContinueStatement as continue_statement, ReturnStatement as return_statement, ThrowStatement as throw_statement, TryStatement as try_statement, CatchClause as catch_clause, IfStatement as if_statement, WithStatement as with_statement, WhileStatement as while_statement, DoWhileStatement as do_while_statement, ForStatement as for_statement, ForInStatement as for_in_statement, ForOfStatement as for_of_statement, Function as function, Class as class, ClassBody as class_body, Members as members, MethodDefinition as method_definition, PropertyDefinition as property_definition, BindingName as binding_name, ReferenceName as reference_name, PrivateName as private_name, Super as super, ParenthesizedExpression as parenthesized_expression, ConditionalExpression as conditional_expression, LogicalExpression as logical_expression, SequenceExpression as sequence_expression, TemplateLiteral as template_literal, VariableDeclaration as variable_declaration, Declarators as declarators, VariableDeclarator as variable_declarator, Parameters as parameters, Properties as properties, Elements as elements, Specifiers as specifiers, BindingRest as binding_rest, TargetRest as target_rest, BindingObject as binding_object, BindingArray as binding_array, BindingProperty as binding_property, BindingDefault as binding_default, ImportDeclaration as import_declaration, ImportSpecifier as import_specifier, ImportDefaultSpecifier as import_default_specifier, ImportNamespaceSpecifier as import_namespace_specifier, ExportNamedDeclaration as export_named_declaration, ExportSpecifier as export_specifier, ForeignSpecifier as foreign_specifier, ExportDefaultDeclaration as export_default_declaration, ExportAllDeclaration as export_all_declaration}
+use Rattle.js_syntax.specs.declared.node_kind.NodeKind.TheVariants.{Program as program, Directive as directive, Statements as statements, FunctionBody as function_body, ExpressionStatement as expression_statement, EmptyStatement as empty_statement, DebuggerStatement as debugger_statement, BlockStatement as block_statement, StaticBlock as static_block, Cases as cases, SwitchCase as switch_case, SwitchStatement as switch_statement, LabeledStatement as labeled_statement, BreakStatement as break_statement, ContinueStatement as continue_statement, ReturnStatement as return_statement, ThrowStatement as throw_statement, TryStatement as try_statement, CatchClause as catch_clause, IfStatement as if_statement, WithStatement as with_statement, WhileStatement as while_statement, DoWhileStatement as do_while_statement, ForStatement as for_statement, ForInStatement as for_in_statement, ForOfStatement as for_of_statement, Function as function, Class as class, ClassBody as class_body, Members as members, MethodDefinition as method_definition, PropertyDefinition as property_definition, BindingName as binding_name, PrivateName as private_name, Super as super, ConditionalExpression as conditional_expression, LogicalExpression as logical_expression, SequenceExpression as sequence_expression, TemplateLiteral as template_literal, VariableDeclaration as variable_declaration, Declarators as declarators, VariableDeclarator as variable_declarator, Parameters as parameters, Properties as properties, Elements as elements, Specifiers as specifiers, BindingRest as binding_rest, TargetRest as target_rest, BindingObject as binding_object, BindingArray as binding_array, BindingProperty as binding_property, BindingDefault as binding_default, ImportDeclaration as import_declaration, ImportSpecifier as import_specifier, ImportDefaultSpecifier as import_default_specifier, ImportNamespaceSpecifier as import_namespace_specifier, ExportNamedDeclaration as export_named_declaration, ExportSpecifier as export_specifier, ForeignSpecifier as foreign_specifier, ExportDefaultDeclaration as export_default_declaration, ExportAllDeclaration as export_all_declaration}
 use Rattle.js_syntax.specs.Node.{Note, Forest, node, joined}
 use Rattle.form_rules.specs.declared.sought.Sought.{Sought}
 use Rattle.form_rules.specs.Scope.{sought_below, declared}
@@ -35,7 +35,8 @@ is_statement for_of_statement = true
 is_statement k = false
 
 -- Nodes for which rules of the nodes around them ask, by what they are or by what they declare; and those for which it matters
--- whether they are a method's function, stand alone as the body of a statement, or stand in the head of a loop.
+-- whether they are a method's function, stand alone as the body of a statement, or stand in the head of a loop. Of a name, in
+-- parentheses or not, `delete` asks, where it stands.
 abbrev pub is_asked_for : Kind → Bool
 is_asked_for (program source) = true
 is_asked_for (directive written) = true
@@ -58,10 +59,8 @@ is_asked_for members = true
 is_asked_for (method_definition how is_static key) = true
 is_asked_for (property_definition is_static key) = true
 is_asked_for (binding_name x) = true
-is_asked_for (reference_name x) = true
 is_asked_for (private_name x) = true
 is_asked_for super = true
-is_asked_for parenthesized_expression = true
 is_asked_for (variable_declaration how) = true
 is_asked_for declarators = true
 is_asked_for variable_declarator = true
@@ -94,6 +93,7 @@ asks_further (variable_declaration how) = true
 asks_further sequence_expression = true
 asks_further template_literal = true
 asks_further (export_named_declaration source) = true
+asks_further (export_specifier exported) = true
 asks_further k = false
 
 -- A part may stand for the whole: a statement for a statement, and an expression for an expression. The other parts declare

@@ -2,13 +2,14 @@
 -- expressions that are statements, and what stands around a part of a node that may stand for the node.
 use Rattle.std.specs.Prelude.{◌≡◌, List, [], ◌∷◌, Bool, true, false, not, ◌&&◌, ◌||◌, ◌==◌, if◌then◌else◌}
 use Rattle.js_syntax.specs.declared.node_kind.NodeKind.{NodeKind as Kind}
-use Rattle.js_syntax.specs.declared.node_kind.NodeKind.TheVariants.{Program as program, Statements as statements, FunctionBody as function_body, BlockStatement as block_statement, StaticBlock as static_block, SwitchCase as switch_case, LabeledStatement as labeled_statement, IfStatement as if_statement, WithStatement as with_statement, WhileStatement as while_statement, DoWhileStatement as do_while_statement, ForStatement as for_statement, ForInStatement as for_in_statement, ForOfStatement as for_of_statement, ExpressionStatement as expression_statement, EmptyStatement as empty_statement, VariableDeclaration as variable_declaration, Declarators as declarators}
+use Rattle.js_syntax.specs.declared.node_kind.NodeKind.TheVariants.{Program as program, Statements as statements, FunctionBody as function_body, BlockStatement as block_statement, StaticBlock as static_block, SwitchCase as switch_case, LabeledStatement as labeled_statement, IfStatement as if_statement, WithStatement as with_statement, WhileStatement as while_statement, DoWhileStatement as do_while_statement, ForStatement as for_statement, ForInStatement as for_in_statement, ForOfStatement as for_of_statement, ExpressionStatement as expression_statement, EmptyStatement as empty_statement, VariableDeclaration as variable_declaration, Declarators as declarators, UnaryExpression as unary_expression, ParenthesizedExpression as parenthesized_expression}
+use Rattle.js_syntax.specs.declared.operator.UnaryOperator.TheVariants as unary
 use Rattle.js_syntax.specs.Node.{Note, Forest, nothing, node, absent, alone}
 use Rattle.form_rules.specs.declared.sought.Sought.{Sought}
 use Rattle.form_rules.specs.declared.sought.Sought.TheVariants.{Nothing as none, Scope as scope}
 use Rattle.form_rules.specs.Context.{has_use_strict}
 use Rattle.form_rules.specs.Scope.{Declared, sought_below, declared}
-use Rattle.form_rules.specs.Rules.{Exported, first_below, length_of, at_top, locals_among, is_exported}
+use Rattle.form_rules.specs.Rules.{Exported, first_below, length_of, at_top, locals_among, is_exported, is_bare_name}
 use Rattle.steps_keep_form.specs.Part.{is_statement, asks_further, StandsFor}
 
 -- The row in which a node stands: the parts of a node that has statements or a list of them; such a list; what lies below a
@@ -60,11 +61,19 @@ asked_below of_item k = true
 asked_below of_head k = true
 asked_below row k = asks_further k
 
--- What stands around a place: its row, and whether a rule asks what lies below the nodes there; the names that the program around
--- exports without declaring them there, and what is sought at the place for the names that are declared at the top of that program.
+-- whether `delete` takes the nodes of a row, parentheses aside
+abbrev pub deleted_below : (is_deleted : Bool) → Kind → Bool
+deleted_below is_deleted (unary_expression unary.Delete) = true
+deleted_below is_deleted parenthesized_expression = is_deleted
+deleted_below is_deleted k = false
+
+-- What stands around a place: its row, and whether a rule asks what lies below the nodes there; whether they are the operand of a
+-- `delete`, of which one asks for a name; the names that the program around exports without declaring them there, and what is
+-- sought at the place for the names that are declared at the top of that program.
 pub record Around : Type 0 where
   pub row : Row
   pub is_asked : Bool
+  pub is_deleted : Bool
   pub exported : List Exported
   pub sought : Sought
 
@@ -77,10 +86,10 @@ sought_inside s (program source) = scope (at_top source)
 sought_inside s k = sought_below s k
 
 abbrev pub entered : Around → Kind → (below : Forest) → Around
-entered w k below = record { row = row_below w.row k; is_asked = asked_below w.row k; exported = exported_below w.exported k below; sought = sought_inside w.sought k }
+entered w k below = record { row = row_below w.row k; is_asked = asked_below w.row k; is_deleted = deleted_below w.is_deleted k; exported = exported_below w.exported k below; sought = sought_inside w.sought k }
 
 abbrev pub outermost : Around
-outermost = record { row = other; is_asked = false; exported = []; sought = none }
+outermost = record { row = other; is_asked = false; is_deleted = false; exported = []; sought = none }
 
 -- none of these declares a name that is exported
 abbrev pub exports_none : List Exported → List Declared → Bool
@@ -96,6 +105,10 @@ keeps_one row a b = true
 abbrev pub may_give_way : Row → (is_asked : Bool) → Kind → Bool
 may_give_way row is_asked whole = not is_asked && (not (is_statement whole) || may_empty row)
 
+-- no name comes out where `delete` takes it, in parentheses or not (ECMA-262 13.5.1.1)
+abbrev pub may_come_out : (is_deleted : Bool) → (part : Forest) → Bool
+may_come_out is_deleted part = not (is_deleted && is_bare_name part)
+
 -- What is left of a row, by what stands around it.
 pub data Sheds : Around → (t u : Forest) → Type 0 where
   ends : {w : Around} → Sheds w nothing nothing
@@ -108,4 +121,5 @@ pub data Sheds : Around → (t u : Forest) → Type 0 where
   -- a statement of an expression becomes empty
   empties : {w : Around} {n m : Note} {a r s : Forest} → may_empty w.row ≡ true → Sheds w r s → Sheds w (node expression_statement n a r) (node empty_statement m nothing s)
   -- a part of a node stands for it
-  becomes : {w : Around} {k l : Kind} {n m : Note} {a b r s : Forest} → StandsFor k a l b → may_give_way w.row w.is_asked k ≡ true → Sheds w r s → Sheds w (node k n a r) (node l m b s)
+  becomes : {w : Around} {k l : Kind} {n m : Note} {a b r s : Forest} → StandsFor k a l b → may_give_way w.row w.is_asked k ≡ true → may_come_out w.is_deleted (alone l m b) ≡ true → Sheds w r s
+      → Sheds w (node k n a r) (node l m b s)

@@ -18,7 +18,7 @@ use Rattle.scope_laws.specs.Lists.{is_list}
 use Rattle.steps_fit.proofs.Holding.{is_sound, planned_below}
 use Rattle.steps_fit.proofs.Passing.{plan_passes, first_passes, behind_passes}
 use Rattle.steps_keep_form.specs.Part.{gives_way}
-use Rattle.steps_owed.proofs.Made.{MadeBy, made_at}
+use Rattle.steps_owed.proofs.Made.{MadeBy, calm_single, made_at}
 use Rattle.steps_marked.proofs.Cuts as cuts
 use Rattle.steps_marked.proofs.Cuts.{Cuts}
 use Rattle.steps_keep_text.proofs.Along.{IsShed}
@@ -114,10 +114,10 @@ cut_nests listed t u (cuts.leaves k n below rest plain) plan sound stands = (λ 
 cut_nests listed t u (cuts.empties l n m below rest) plan sound stands = (λ h. (Prim.omega arith, narrows_itself (row_datas rest)), Prim.omega arith)
 cut_nests listed t u (cuts.parts i k l n m b v w rest gives unasked) plan sound stands =
     let whole = joined v (node l m b w) in
-    let made = made_at whole k (giving_is_calm k gives) (first_place plan) (first_passes is_sound plan refl sound) stands.0 in
+    let made = made_at whole k (calm_single k (giving_is_calm k gives)) (first_place plan) (first_passes is_sound plan refl sound) stands.0 in
     let less : depth (node_data l b (row_datas b)) ≤ depth (node_data k whole (row_datas whole)) = Prim.omega (arith, whole_nests k whole gives made, part_nests v l m b w) in
     (λ h. (less, narrows_itself (row_datas rest)), Prim.omega (arith, less))
-cut_nests listed t u (cuts.inside l k n below now rest c) plan sound stands =
+cut_nests listed t u (cuts.inside l k n below now rest called c) plan sound stands =
     let planned = planned_below below (first_place plan) k stands.0 in
     let less = below_nests (is_list k) k below now refl (cut_nests (is_list k) below now c planned.0 planned.1 planned.2) in
     (λ h. (less, narrows_itself (row_datas rest)), Prim.omega (arith, less))

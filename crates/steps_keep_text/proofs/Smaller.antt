@@ -18,7 +18,7 @@ module _ (counts : Kind → ℕ) (empty : counts empty_statement ≤ counts expr
   cut_lighter listed t u (cuts.leaves k n below rest plain) = Prim.omega arith
   cut_lighter listed t u (cuts.empties l n m below rest) = Prim.omega (arith, empty)
   cut_lighter listed t u (cuts.parts i k l n m b v w rest gives unasked) = Prim.omega (arith, total_joined counts v (node l m b w))
-  cut_lighter listed t u (cuts.inside l k n below now rest c) = Prim.omega (arith, cut_lighter (is_list k) below now c)
+  cut_lighter listed t u (cuts.inside l k n below now rest called c) = Prim.omega (arith, cut_lighter (is_list k) below now c)
   cut_lighter listed t u (cuts.behind l k n below rest now c) = Prim.omega (arith, cut_lighter l rest now c)
   cut_lighter listed t u (cuts.behind_none l rest now c) = cut_lighter l rest now c
 
@@ -50,7 +50,7 @@ cut_levels : (more : ℕ → ℕ) (at : ℕ) (listed : Bool) (t u : Forest) → 
 cut_levels more at listed t u (cuts.leaves k n below rest plain) level = Prim.omega (arith, moved more (level refl) at (suc at) rest)
 cut_levels more at listed t u (cuts.empties l n m below rest) level = Prim.omega arith
 cut_levels more at listed t u (cuts.parts i k l n m b v w rest gives unasked) level = Prim.omega (arith, part_levels (lower k) 0 v l m b w)
-cut_levels more at listed t u (cuts.inside l k n below now rest c) level = Prim.omega (arith, cut_levels (lower k) 0 (is_list k) below now c (list_level k))
+cut_levels more at listed t u (cuts.inside l k n below now rest called c) level = Prim.omega (arith, cut_levels (lower k) 0 (is_list k) below now c (list_level k))
 cut_levels more at listed t u (cuts.behind l k n below rest now c) level = Prim.omega (arith, cut_levels more (suc at) l rest now c level)
 cut_levels more at listed t u (cuts.behind_none l rest now c) level = cut_levels more (suc at) l rest now c level
 

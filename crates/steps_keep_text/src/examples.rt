@@ -4,7 +4,8 @@ ghost use Rattle.serde_json.specs.Data.{depth};
 ghost use Rattle.js_tree.specs.Count.{node_count, levels};
 ghost use Rattle.form_rules.specs.Samples.{a_module, a, reads, one, does};
 ghost use Rattle.json_text.specs.Text.{data_of};
-ghost use Rattle.steps_allowed.specs.Rows.{call_of_a, conditional, empty};
+ghost use Rattle.js_syntax.specs.declared.operator.LogicalOperator.TheVariants as operator;
+ghost use Rattle.steps_allowed.specs.Rows.{call_of_a, null, conditional, logical, empty};
 ghost use Rattle.steps_allowed.specs.Edits.{TreeEdits};
 
 /// Of `1;` edits leave `;`, and then nothing.
@@ -29,4 +30,15 @@ pub fn a_known_conditional_is_taken()
     ensures levels_left { levels (a_module (does call_of_a ∷ [])) ≡ 4 }
     ensures nests { depth (data_of (a_module (does (conditional one call_of_a (reads a)) ∷ []))) ≡ 6 }
     ensures left_nests { depth (data_of (a_module (does call_of_a ∷ []))) ≡ 5 }
+{}
+
+/// Of `null ?? a;` an edit leaves `a;`, one level higher.
+pub fn a_known_left_side_goes()
+    ensures edits { TreeEdits (a_module (does (logical operator.Coalesce null (reads a)) ∷ [])) (a_module (does (reads a) ∷ [])) }
+    ensures nodes { node_count (a_module (does (logical operator.Coalesce null (reads a)) ∷ [])) ≡ 5 }
+    ensures nodes_left { node_count (a_module (does (reads a) ∷ [])) ≡ 3 }
+    ensures levels { levels (a_module (does (logical operator.Coalesce null (reads a)) ∷ [])) ≡ 4 }
+    ensures levels_left { levels (a_module (does (reads a) ∷ [])) ≡ 3 }
+    ensures nests { depth (data_of (a_module (does (logical operator.Coalesce null (reads a)) ∷ []))) ≡ 5 }
+    ensures left_nests { depth (data_of (a_module (does (reads a) ∷ []))) ≡ 4 }
 {}

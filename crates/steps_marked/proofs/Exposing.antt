@@ -1,5 +1,5 @@
 -- An edit exposes no name: strict code stays strict, and no call of `eval` comes.
-use Rattle.std.proofs.Common.{◌≡◌, ◌∙◌, ℕ, Bool, true, false, not, ◌&&◌, ◌||◌, ◌==◌, true≢false, if◌then◌else◌, is_some, Some, None, bytes_eq, codes, refl, sym, subst}
+use Rattle.std.proofs.Common.{◌≡◌, ◌∙◌, ℕ, Bool, true, false, not, ◌&&◌, ◌||◌, ◌==◌, true≢false, if◌then◌else◌, is_some, bytes_eq, codes, refl, sym, subst}
 use Rattle.std.proofs.lemmas.Bool.{and_parts, and_from}
 use Rattle.js_syntax.specs.declared.node_kind.NodeKind.{NodeKind as Kind}
 use Rattle.js_syntax.specs.declared.node_kind.NodeKind.TheVariants as kind
@@ -10,7 +10,7 @@ use Rattle.js_syntax.specs.declared.kind.ClassKind.TheVariants as class_kind
 use Rattle.js_syntax.specs.declared.kind.VariableKind.{VariableKind}
 use Rattle.js_syntax.specs.declared.kind.VariableKind.TheVariants as variable
 use Rattle.js_syntax.specs.Node.{Forest, Note, nothing, node, absent, joined, below_of}
-use Rattle.js_tree.specs.Names.{eval_name, eval_of_call}
+use Rattle.js_tree.specs.Names.{eval_of_call}
 use Rattle.form_rules.specs.Context.{has_use_strict, is_module, is_strict_list, is_strict_function, behind_first}
 use Rattle.scope_rules.specs.Context.{is_there, has_second}
 use Rattle.scope_rules.specs.Site.{has_eval, scope_row}
@@ -62,32 +62,7 @@ part_no_body : (l : Kind) (n : Note) (b rest : Forest) → is_asked_for l ≡ fa
 part_no_body kind.FunctionBody n b rest e = never (sym e)
 part_no_body l n b rest e = refl
 
-no_name : (l : Kind) (n : Note) (b rest : Forest) → is_asked_for l ≡ false → is_some (eval_name (node l n b rest)) ≡ true → ⊥
-no_name kind.ParenthesizedExpression n b rest u e = never (sym u)
-no_name (kind.ReferenceName x) n b rest u e = never (sym u)
-no_name l n b rest u e = never e
-
 -- ---- calls of `eval`
-
-named : {X : Type 0} (b : Bool) (x y : X) → is_some (if b then Some x else None) ≡ true → is_some (if b then Some y else None) ≡ true
-named true x y e = refl
-named false x y e = never e
-
-name_stays : (listed : Bool) (t u : Forest) → Cuts listed t u → listed ≡ false → Only (is_some (eval_name u)) (is_some (eval_name t))
-name_stays listed t u (leaves k n below rest plain) l e = absurd (true≢false l)
-name_stays listed t u (empties r n m below rest) l e = never e
-name_stays listed t u (parts r k x i j b v w rest gives unasked) l e = absurd (no_name x j b rest unasked e)
-name_stays listed t u (inside r kind.ParenthesizedExpression n below now rest h) l e = name_stays false below now h refl e
-name_stays listed t u (inside r (kind.ReferenceName x) n below now rest h) l e = named (bytes_eq x (codes "eval")) _ _ e
-name_stays listed t u (inside r k n below now rest h) l e = never e
-name_stays listed t u (behind r kind.ParenthesizedExpression n below rest now h) l e = e
-name_stays listed t u (behind r (kind.ReferenceName x) n below rest now h) l e = e
-name_stays listed t u (behind r k n below rest now h) l e = never e
-name_stays listed t u (behind_none r rest now h) l e = never e
-
-call_stays : (k : Kind) (below now : Forest) → Cuts (is_list k) below now → Only (is_some (eval_of_call k now)) (is_some (eval_of_call k below))
-call_stays (kind.CallExpression false pure) below now h e = name_stays false below now h refl e
-call_stays k below now h e = never e
 
 evals_part : (v : Forest) (l : Kind) (j : Note) (b w : Forest) → Only (is_some (eval_of_call l b) || has_eval b) (has_eval (joined v (node l j b w)))
 evals_part nothing l j b w e = first_of_either (is_some (eval_of_call l b) || has_eval b) (has_eval w) e
@@ -101,9 +76,9 @@ evals_stay listed t u (parts r k l i j b v w rest gives unasked) e =
     let whole = joined v (node l j b w) in
     only_or (is_some (eval_of_call l b) || has_eval b) (has_eval rest) (is_some (eval_of_call k whole) || has_eval whole) (has_eval rest)
     (λ h. second_of_either (is_some (eval_of_call k whole)) (has_eval whole) (evals_part v l j b w h)) kept e
-evals_stay listed t u (inside r k n below now rest h) e =
+evals_stay listed t u (inside r k n below now rest called h) e =
     only_or (is_some (eval_of_call k now) || has_eval now) (has_eval rest) (is_some (eval_of_call k below) || has_eval below) (has_eval rest)
-    (only_or (is_some (eval_of_call k now)) (has_eval now) (is_some (eval_of_call k below)) (has_eval below) (call_stays k below now h) (evals_stay (is_list k) below now h)) kept e
+    (only_or (is_some (eval_of_call k now)) (has_eval now) (is_some (eval_of_call k below)) (has_eval below) called (evals_stay (is_list k) below now h)) kept e
 evals_stay listed t u (behind r k n below rest now h) e =
     only_or (is_some (eval_of_call k below) || has_eval below) (has_eval now) (is_some (eval_of_call k below) || has_eval below) (has_eval rest) kept (evals_stay r rest now h) e
 evals_stay listed t u (behind_none r rest now h) e = evals_stay r rest now h e
@@ -112,7 +87,7 @@ evals_behind : (listed : Bool) (t u : Forest) → Cuts listed t u → listed ≡
 evals_behind listed t u (leaves k n below rest plain) l e = absurd (true≢false l)
 evals_behind listed t u (empties r n m below rest) l e = e
 evals_behind listed t u (parts r k x i j b v w rest gives unasked) l e = e
-evals_behind listed t u (inside r k n below now rest h) l e = e
+evals_behind listed t u (inside r k n below now rest called h) l e = e
 evals_behind listed t u (behind r k n below rest now h) l e = evals_stay r rest now h e
 evals_behind listed t u (behind_none r rest now h) l e = evals_stay r rest now h e
 
@@ -129,8 +104,8 @@ use_strict_stays listed t u (leaves (kind.Directive written) n below rest plain)
 use_strict_stays listed t u (leaves k n below rest plain) e = never e
 use_strict_stays listed t u (empties r n m below rest) e = never e
 use_strict_stays listed t u (parts r k l i j b v w rest gives unasked) e = never (sym (no_directive k i (joined v (node l j b w)) rest gives) ∙ e)
-use_strict_stays listed t u (inside r (kind.Directive written) n below now rest h) e = e
-use_strict_stays listed t u (inside r k n below now rest h) e = never e
+use_strict_stays listed t u (inside r (kind.Directive written) n below now rest called h) e = e
+use_strict_stays listed t u (inside r k n below now rest called h) e = never e
 use_strict_stays listed t u (behind r (kind.Directive written) n below rest now h) e =
     only_or (bytes_eq written (codes "use strict")) (has_use_strict rest) (bytes_eq written (codes "use strict")) (has_use_strict now) kept (use_strict_stays r rest now h) e
 use_strict_stays listed t u (behind r k n below rest now h) e = never e
@@ -140,8 +115,8 @@ list_stays : (listed : Bool) (t u : Forest) → Cuts listed t u → listed ≡ f
 list_stays listed t u (leaves k n below rest plain) l e = absurd (true≢false l)
 list_stays listed t u (empties r n m below rest) l e = never e
 list_stays listed t u (parts r k x i j b v w rest gives unasked) l e = never (sym (no_list k i (joined v (node x j b w)) rest gives) ∙ e)
-list_stays listed t u (inside r kind.Statements n below now rest h) l e = use_strict_stays true below now h e
-list_stays listed t u (inside r k n below now rest h) l e = never e
+list_stays listed t u (inside r kind.Statements n below now rest called h) l e = use_strict_stays true below now h e
+list_stays listed t u (inside r k n below now rest called h) l e = never e
 list_stays listed t u (behind r kind.Statements n below rest now h) l e = e
 list_stays listed t u (behind r k n below rest now h) l e = never e
 list_stays listed t u (behind_none r rest now h) l e = never e
@@ -150,8 +125,8 @@ function_stays : (listed : Bool) (t u : Forest) → Cuts listed t u → listed �
 function_stays listed t u (leaves k n below rest plain) l e = absurd (true≢false l)
 function_stays listed t u (empties r n m below rest) l e = e
 function_stays listed t u (parts r k x i j b v w rest gives unasked) l e = part_no_body x j b rest unasked ∙ sym (whole_no_body k i (joined v (node x j b w)) rest gives) ∙ e
-function_stays listed t u (inside r kind.FunctionBody n below now rest h) l e = list_stays false below now h refl e
-function_stays listed t u (inside r k n below now rest h) l e = e
+function_stays listed t u (inside r kind.FunctionBody n below now rest called h) l e = list_stays false below now h refl e
+function_stays listed t u (inside r k n below now rest called h) l e = e
 function_stays listed t u (behind r kind.FunctionBody n below rest now h) l e = e
 function_stays listed t u (behind r k n below rest now h) l e = function_stays r rest now h l e
 function_stays listed t u (behind_none r rest now h) l e = function_stays r rest now h l e
@@ -160,7 +135,7 @@ there_same : (listed : Bool) (t u : Forest) → Cuts listed t u → listed ≡ f
 there_same listed t u (leaves k n below rest plain) l = absurd (true≢false l)
 there_same listed t u (empties r n m below rest) l = refl
 there_same listed t u (parts r k x i j b v w rest gives unasked) l = refl
-there_same listed t u (inside r k n below now rest h) l = refl
+there_same listed t u (inside r k n below now rest called h) l = refl
 there_same listed t u (behind r k n below rest now h) l = refl
 there_same listed t u (behind_none r rest now h) l = refl
 
@@ -168,7 +143,7 @@ second_same : (listed : Bool) (t u : Forest) → Cuts listed t u → listed ≡ 
 second_same listed t u (leaves k n below rest plain) l = absurd (true≢false l)
 second_same listed t u (empties r n m below rest) l = refl
 second_same listed t u (parts r k x i j b v w rest gives unasked) l = refl
-second_same listed t u (inside r k n below now rest h) l = refl
+second_same listed t u (inside r k n below now rest called h) l = refl
 second_same listed t u (behind r k n below rest now h) l = there_same r rest now h l
 second_same listed t u (behind_none r rest now h) l = there_same r rest now h l
 
@@ -259,7 +234,7 @@ pub below_stays : (listed : Bool) (t u : Forest) → Cuts listed t u → listed 
 below_stays listed t u (leaves k n below rest plain) l e = absurd (true≢false l)
 below_stays listed t u (empties r n m below rest) l e = never e
 below_stays listed t u (parts r k x i j b v w rest gives unasked) l e = evals_part v x j b w (second_of_either (is_some (eval_of_call x b)) (has_eval b) e)
-below_stays listed t u (inside r k n below now rest h) l e = evals_stay (is_list k) below now h e
+below_stays listed t u (inside r k n below now rest called h) l e = evals_stay (is_list k) below now h e
 below_stays listed t u (behind r k n below rest now h) l e = e
 below_stays listed t u (behind_none r rest now h) l e = never e
 

@@ -1,3 +1,4 @@
+pub mod Called
 pub mod Local
 pub mod Shedding
 pub mod Tables

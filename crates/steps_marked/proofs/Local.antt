@@ -1,10 +1,11 @@
 -- What an edit makes of the row in which it is made, whose other nodes keep their marks.
-use Rattle.std.proofs.Common.{◌≡◌, ◌∙◌, ◌≤◌, true, false, Some, arith, sym, ap}
+use Rattle.std.proofs.Common.{◌≡◌, ◌∙◌, ◌≤◌, true, false, Some, is_some, arith, sym, ap}
 use Rattle.js_syntax.specs.declared.node_kind.NodeKind.{NodeKind as Kind}
 use Rattle.js_syntax.specs.declared.node_kind.NodeKind.TheVariants.{ExpressionStatement as expression_statement, EmptyStatement as empty_statement}
 use Rattle.js_syntax.specs.Class.{root}
 use Rattle.js_syntax.specs.Facts.{weight}
 use Rattle.js_syntax.specs.Node.{Forest, Tree, Note, nothing, node, alone, joined, total}
+use Rattle.js_tree.specs.Names.{eval_name}
 use Rattle.json_shape.specs.Shape.{is_directive_kind, Fits}
 use Rattle.scope_laws.specs.Place as places
 use Rattle.scope_counts.specs.Edits.{Around, plug, in_list}
@@ -18,16 +19,21 @@ use Rattle.steps_allowed.specs.Edits as edits
 use Rattle.steps_allowed.specs.Edits.{Leaves, Edit}
 use Rattle.steps_owed.specs.Owed.{ByPart}
 use Rattle.steps_owed.proofs.KnownConditional.{known_conditional_owes}
+use Rattle.steps_owed.proofs.Bare.{eval_alone}
+use Rattle.steps_owed.proofs.KnownSide.{known_side_owes}
 use Rattle.steps_owed.proofs.KnownIf.{known_if_owes}
 use Rattle.steps_owed.proofs.Owed.{leaving}
 use Rattle.steps_owed.proofs.Places.{place_of, rest_of, placed_is, without_is, listed_is}
 use Rattle.steps_owed.proofs.TableKept as tables
+use Rattle.steps_marked.proofs.Called.{called_at, used_as_callee}
 
--- A node leaves a list, a statement of an expression becomes empty, or a part of a node comes in its place.
+-- A node leaves a list, a statement of an expression becomes empty, or a part of a node comes in its place, which isn't the name
+-- `eval` if it is called.
 pub data Local (place : Around) : (t u : Forest) → Type 0 where
   leaves : (k : Kind) (n : Note) (b rest : Forest) → in_list false place ≡ true → is_directive_kind k ≡ false → 1 ≤ total weight (alone k n b) → Local place (node k n b rest) rest
   empties : (n m : Note) (b rest : Forest) → Local place (node expression_statement n b rest) (node empty_statement m nothing rest)
-  parts : (k l : Kind) (i j : Note) (b v w rest : Forest) → gives_way k ≡ true → is_asked_for l ≡ false → Local place (node k i (joined v (node l j b w)) rest) (node l j b rest)
+  parts : (k l : Kind) (i j : Note) (b v w rest : Forest) → gives_way k ≡ true → is_asked_for l ≡ false → (called_at false place ≡ true → is_some (eval_name (node l j b rest)) ≡ false)
+      → Local place (node k i (joined v (node l j b w)) rest) (node l j b rest)
 
 pub record IsLocal (t u : Forest) : Type 0 where
   pub place : Around
@@ -48,11 +54,13 @@ weighs a x (edits.unused_declaration (unused_declaration_leaves how n m l j name
 by_part : (a : places.Around) (x y : Tree) → ByPart a x y → Fits root (places.plug a (Some x)) → IsLocal (places.plug a (Some x)) (places.plug a (Some y))
 by_part a x y owed fits =
     let part = owed.part fits in
+    let stands = owed.stands fits in
     record {
       place = place_of a;
       old = node x.kind x.note (joined part.before (node y.kind y.note y.below part.after)) (rest_of a);
       new = node y.kind y.note y.below (rest_of a);
-      local = parts x.kind y.kind x.note y.note y.below part.before part.after (rest_of a) owed.stands.gives owed.stands.unasked;
+      local = parts x.kind y.kind x.note y.note y.below part.before part.after (rest_of a) stands.gives stands.unasked
+          (λ c. eval_alone y.kind y.note y.below (rest_of a) ∙ owed.comes_out.uncalled (used_as_callee a c));
       old_is = placed_is a x ∙ ap (λ t. plug (place_of a) (node x.kind x.note t (rest_of a))) part.stands;
       new_is = placed_is a y;
     }
@@ -77,4 +85,5 @@ is_local t u (edits.becomes a x y (edits.silent_statement (silent_statement_empt
   new_is = placed_is a y;
 }
 is_local t u (edits.becomes a x y (edits.known_conditional c)) fits = by_part a x y (known_conditional_owes a x y c) fits
+is_local t u (edits.becomes a x y (edits.known_side c)) fits = by_part a x y (known_side_owes a x y c) fits
 is_local t u (edits.becomes a x y (edits.known_if c)) fits = by_part a x y (known_if_owes a x y c) fits

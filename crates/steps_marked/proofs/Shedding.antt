@@ -30,7 +30,7 @@ module _ (w : Weight) where
   tally_local : (place : Around) (t u : Forest) → Local place t u → tally w u ≤ tally w t
   tally_local place t u (leaves k n b rest listed plain weighs) = Prim.omega arith
   tally_local place t u (empties n m b rest) = Prim.omega arith
-  tally_local place t u (parts k l i j b v x rest gives unasked) = Prim.omega (arith, tally_joined v (node l j b x))
+  tally_local place t u (parts k l i j b v x rest gives unasked uncalled) = Prim.omega (arith, tally_joined v (node l j b x))
 
   tally_plug : (a : Around) (t u : Forest) → tally w u ≤ tally w t → tally w (plug a u) ≤ tally w (plug a t)
   tally_plug here t u h = h
@@ -64,7 +64,7 @@ weight_joined (node k n b v) t = Prim.omega (arith, weight_joined v t)
 weight_local : (place : Around) (t u : Forest) → Local place t u → total facts.weight u < total facts.weight t
 weight_local place t u (leaves k n b rest listed plain weighs) = Prim.omega (arith, weighs)
 weight_local place t u (empties n m b rest) = Prim.omega arith
-weight_local place t u (parts k l i j b v x rest gives unasked) = Prim.omega (arith, weight_joined v (node l j b x), gives_weight k gives)
+weight_local place t u (parts k l i j b v x rest gives unasked uncalled) = Prim.omega (arith, weight_joined v (node l j b x), gives_weight k gives)
 
 weight_plug : (a : Around) (t u : Forest) → total facts.weight u < total facts.weight t → total facts.weight (plug a u) < total facts.weight (plug a t)
 weight_plug here t u h = h
@@ -93,7 +93,7 @@ module _ (P : List ℕ → Option ℕ → Type 0) where
   declared_local : (place : Around) (t u : Forest) → Local place t u → EachDeclaration P t → EachDeclaration P u
   declared_local place t u (leaves k n b rest listed plain weighs) e = e.2
   declared_local place t u (empties n m b rest) e = (tt, tt, e.2)
-  declared_local place t u (parts k l i j b v x rest gives unasked) e = let inner = declared_part v l j b x e.1 in (inner.0, inner.1, e.2)
+  declared_local place t u (parts k l i j b v x rest gives unasked uncalled) e = let inner = declared_part v l j b x e.1 in (inner.0, inner.1, e.2)
 
   declared_plug : (a : Around) (t u : Forest) → (EachDeclaration P t → EachDeclaration P u) → EachDeclaration P (plug a t) → EachDeclaration P (plug a u)
   declared_plug here t u f e = f e
@@ -121,7 +121,7 @@ module _ (P : List ℕ → Option ℕ → Type 0) where
   referring_local : (place : Around) (t u : Forest) → Local place t u → EachReference P t → EachReference P u
   referring_local place t u (leaves k n b rest listed plain weighs) e = e.2
   referring_local place t u (empties n m b rest) e = (tt, tt, e.2)
-  referring_local place t u (parts k l i j b v x rest gives unasked) e = let inner = referring_part v l j b x e.1 in (inner.0, inner.1, e.2)
+  referring_local place t u (parts k l i j b v x rest gives unasked uncalled) e = let inner = referring_part v l j b x e.1 in (inner.0, inner.1, e.2)
 
   referring_plug : (a : Around) (t u : Forest) → (EachReference P t → EachReference P u) → EachReference P (plug a t) → EachReference P (plug a u)
   referring_plug here t u f e = f e

@@ -135,7 +135,7 @@ module _ (s : Scoping) (script : Bool) where
         row_stays (is_list l) b (stand_inside (qs i) l n b) (stand_inside (ps j) l n b) 0 0 (covers_inside l n b b (thinner_itself l b) (c i j f)) (λ e. refl) inner,
         row_stays r rest qs ps (suc i) (suc j) c (λ e. ap suc (f e)) h.2,
       )
-  cuts_told listed t u (inside r k n below now rest g) qs ps i j c f h = (
+  cuts_told listed t u (inside r k n below now rest called g) qs ps i j c f h = (
     tells_less (c i j f) h.0,
     cuts_told (is_list k) below now g (stand_inside (qs i) k n now) (stand_inside (ps j) k n below) 0 0 (covers_inside k n now below (thinner_cuts k below now g) (c i j f)) (λ l. refl) h.1,
     row_stays r rest qs ps (suc i) (suc j) c (λ l. ap suc (f l)) h.2,
@@ -165,7 +165,7 @@ root_stays : (listed : Bool) (t u : Forest) → Cuts listed t u → listed ≡ f
 root_stays listed t u (leaves k n below rest plain) l e = absurd (true≢false l)
 root_stays listed t u (empties r n m below rest) l e = never e
 root_stays listed t u (parts r k x i j b v w rest gives unasked) l e = never (sym (no_program k i (joined v (node x j b w)) rest gives) ∙ e)
-root_stays listed t u (inside r k n below now rest h) l e = record { script = script_first k n n now below rest rest; mark = refl }
+root_stays listed t u (inside r k n below now rest called h) l e = record { script = script_first k n n now below rest rest; mark = refl }
 root_stays listed t u (behind r k n below rest now h) l e = record { script = script_first k n n below below now rest; mark = refl }
 root_stays listed t u (behind_none r rest now h) l e = never e
 

@@ -286,7 +286,7 @@ module _ (e : BindingSite) (top : e.layer.scope ≡ 0) where
       by x is (in_third g) =
           found_third (if all then own_sites (ps j) m k x else []) (collected (all || is_export k) (inside (ps j) other k x) 0 (other + opens_one k x) x) (collected all ps (suc j) (other + scope_count (node k m x nothing)) rest)
           (row_found all r rest qs ps (suc i) (suc j) (next + scope_count (node l n b nothing)) (other + scope_count (node k m x nothing)) (Prim.omega (arith, some)) c (λ a. ap suc (f a)) g)
-  cuts_found all listed t u (cut_inside r k n below now rest x) qs ps i j next other some c f h =
+  cuts_found all listed t u (cut_inside r k n below now rest called x) qs ps i j next other some c f h =
       at_node all (qs i) (ps j) (c i j f) n k now below (collected (all || is_export k) (inside (qs i) next k now) 0 (next + opens_one k now) now) (collected all qs (suc i) (next + scope_count (node k n now nothing)) rest)
       (collected (all || is_export k) (inside (ps j) other k below) 0 (other + opens_one k below) below) (collected all ps (suc j) (other + scope_count (node k n below nothing)) rest)
       (λ g. cuts_found (all || is_export k) (is_list k) below now x (inside (qs i) next k now) (inside (ps j) other k below) 0 0 (next + opens_one k now) (other + opens_one k below) (Prim.omega (arith, some))
@@ -324,10 +324,10 @@ module _ (e : BindingSite) (top : e.layer.scope ≡ 0) where
   root_found listed t u (leaves k n below rest plain) l is h = absurd (true≢false l)
   root_found listed t u (empties r n m below rest) l is h = never is
   root_found listed t u (parts r k x m n b v w rest gives unasked) l is h = never (sym (no_program k m (joined v (node x n b w)) rest gives) ∙ is)
-  root_found listed t u (cut_inside r (kind.Program source) n below now rest x) l is h =
+  root_found listed t u (cut_inside r (kind.Program source) n below now rest called x) l is h =
       program_found source n now below rest rest (λ g. cuts_found false false below now x (inside outermost 0 (kind.Program source) now) (inside outermost 0 (kind.Program source) below) 0 0 1 1 (Prim.omega arith) (covers_program source now below) (λ l. refl) g)
       (λ g. row_found false false rest (λ at. outermost) (λ at. outermost) 1 1 (0 + scope_count (node (kind.Program source) n now nothing)) (0 + scope_count (node (kind.Program source) n below nothing)) (Prim.omega arith) (λ i j f. ahead_outermost) (λ l. refl) g) h
-  root_found listed t u (cut_inside r k n below now rest x) l is h = never is
+  root_found listed t u (cut_inside r k n below now rest called x) l is h = never is
   root_found listed t u (behind r (kind.Program source) n below rest now x) l is h =
       program_found source n below below rest now
       (λ g. row_found false false below (inside outermost 0 (kind.Program source) below) (inside outermost 0 (kind.Program source) below) 0 0 1 1 (Prim.omega arith) (covers_program source below below) (λ l. refl) g)

@@ -1,29 +1,21 @@
--- What holds of the kinds that may stand in the place of a choice.
-use Rattle.std.proofs.Common.{◌≡◌, true, false, refl, sym, true≢false}
+-- What holds of the kinds that may stand in the place of a choice or of a logical expression.
+use Rattle.std.proofs.Common.{◌≡◌, Bool, true, false, not, ◌&&◌, ◌||◌, Some, refl, sym, ap, ◌∙◌, true≢false}
+use Rattle.js_syntax.specs.Class.{expression}
 use Rattle.js_syntax.specs.declared.node_kind.NodeKind.{NodeKind as Kind}
-use Rattle.js_syntax.specs.declared.node_kind.NodeKind.TheVariants.{Literal as literal, ThisExpression as this_expression, ArrayExpression as array_expression, ObjectExpression as object_expression, SequenceExpression as sequence_expression, UnaryExpression as unary_expression, UpdateExpression as update_expression, BinaryExpression as binary_expression, LogicalExpression as logical_expression, AssignmentExpression as assignment_expression, ConditionalExpression as conditional_expression, CallExpression as call_expression, NewExpression as new_expression, EmptyStatement as empty_statement, ExpressionStatement as expression_statement, BlockStatement as block_statement, IfStatement as if_statement, BreakStatement as break_statement, ContinueStatement as continue_statement, ReturnStatement as return_statement, ThrowStatement as throw_statement, SwitchStatement as switch_statement, TryStatement as try_statement}
+use Rattle.js_syntax.specs.declared.node_kind.NodeKind.TheVariants.{Function as function, Class as class, EmptyStatement as empty_statement, ExpressionStatement as expression_statement, BlockStatement as block_statement, IfStatement as if_statement, BreakStatement as break_statement, ContinueStatement as continue_statement, ReturnStatement as return_statement, ThrowStatement as throw_statement, SwitchStatement as switch_statement, TryStatement as try_statement}
+use Rattle.js_syntax.specs.Node.{Forest, nothing}
+use Rattle.js_syntax.specs.Table.{Row, a_function_expression, an_arrow_function, a_class_expression, a_reference_name, a_literal, a_reg_exp, a_this_expression, an_array_expression, an_object_expression, a_sequence_expression, a_unary_expression, an_update_expression, a_binary_expression, an_in_expression, a_logical_expression, an_assignment_expression, a_compound_assignment, a_conditional_expression, a_call_expression, a_new_expression, a_member_expression, a_chain_expression, a_parenthesized_expression, a_template_literal, a_tagged_template_expression, a_new_target, an_import_meta, an_import_expression, fields_of, type_of, stands}
+use Rattle.js_syntax.proofs.Truth.{not_true, first_of_both, second_of_both}
 use Rattle.js_meaning_near.specs.Near.{is_calm}
-use Rattle.steps_allowed.specs.Branches.{is_blunt, is_branch}
+use Rattle.json_shape.specs.Shape.{Values, kind_in, first_of, IsOf, Stand}
+use Rattle.steps_allowed.specs.Branches.{is_branch}
+use Rattle.steps_allowed.specs.Uses.{Use, stands_bare}
 use Rattle.steps_keep_form.specs.Part.{is_statement, is_asked_for}
 use Rattle.steps_owed.specs.TakesPlace.{is_told_by_class}
 
--- nothing around asks for them but by their class
-pub blunt_told : (k : Kind) → is_blunt k ≡ true → is_told_by_class k ≡ true
-blunt_told (Kind.Literal v) blunt = refl
-blunt_told Kind.ThisExpression blunt = refl
-blunt_told Kind.ArrayExpression blunt = refl
-blunt_told Kind.ObjectExpression blunt = refl
-blunt_told Kind.SequenceExpression blunt = refl
-blunt_told (Kind.UnaryExpression o) blunt = refl
-blunt_told (Kind.UpdateExpression o prefix) blunt = refl
-blunt_told (Kind.BinaryExpression o) blunt = refl
-blunt_told (Kind.LogicalExpression o) blunt = refl
-blunt_told (Kind.AssignmentExpression o) blunt = refl
-blunt_told Kind.ConditionalExpression blunt = refl
-blunt_told (Kind.CallExpression optional pure) blunt = refl
-blunt_told (Kind.NewExpression pure) blunt = refl
-blunt_told k blunt = absurd cc
+-- ---- branches of an `if`
 
+-- nothing around asks for them but by their class
 pub branch_told : (k : Kind) → is_branch k ≡ true → is_told_by_class k ≡ true
 branch_told Kind.EmptyStatement branch = refl
 branch_told Kind.ExpressionStatement branch = refl
@@ -38,23 +30,6 @@ branch_told Kind.TryStatement branch = refl
 branch_told k branch = absurd cc
 
 -- they start nothing, and declare nothing themselves
-pub blunt_calm : (k : Kind) → is_blunt k ≡ true → is_calm k ≡ true
-blunt_calm Kind.EmptyStatement h = refl
-blunt_calm Kind.ExpressionStatement h = refl
-blunt_calm Kind.BlockStatement h = refl
-blunt_calm Kind.IfStatement h = refl
-blunt_calm (Kind.LabeledStatement l) h = refl
-blunt_calm (Kind.BreakStatement l) h = refl
-blunt_calm (Kind.ContinueStatement l) h = refl
-blunt_calm Kind.ReturnStatement h = refl
-blunt_calm Kind.ThrowStatement h = refl
-blunt_calm Kind.WhileStatement h = refl
-blunt_calm Kind.DoWhileStatement h = refl
-blunt_calm Kind.ForStatement h = refl
-blunt_calm Kind.SwitchStatement h = refl
-blunt_calm Kind.TryStatement h = refl
-blunt_calm k h = h
-
 pub branch_calm : (k : Kind) → is_branch k ≡ true → is_calm k ≡ true
 branch_calm Kind.EmptyStatement h = refl
 branch_calm Kind.ExpressionStatement h = refl
@@ -69,22 +44,6 @@ branch_calm Kind.TryStatement h = refl
 branch_calm k h = absurd (true≢false (sym h))
 
 -- no rule of form asks for them
-pub blunt_unasked : (k : Kind) → is_blunt k ≡ true → (is_asked_for k ≡ false) × (is_statement k ≡ false)
-blunt_unasked (literal v) h = (refl, refl)
-blunt_unasked this_expression h = (refl, refl)
-blunt_unasked array_expression h = (refl, refl)
-blunt_unasked object_expression h = (refl, refl)
-blunt_unasked sequence_expression h = (refl, refl)
-blunt_unasked (unary_expression operator) h = (refl, refl)
-blunt_unasked (update_expression operator prefix) h = (refl, refl)
-blunt_unasked (binary_expression operator) h = (refl, refl)
-blunt_unasked (logical_expression operator) h = (refl, refl)
-blunt_unasked (assignment_expression operator) h = (refl, refl)
-blunt_unasked conditional_expression h = (refl, refl)
-blunt_unasked (call_expression optional pure) h = (refl, refl)
-blunt_unasked (new_expression pure) h = (refl, refl)
-blunt_unasked k h = absurd cc
-
 pub branch_unasked : (k : Kind) → is_branch k ≡ true → (is_asked_for k ≡ false) × (is_statement k ≡ true)
 branch_unasked empty_statement h = (refl, refl)
 branch_unasked expression_statement h = (refl, refl)
@@ -97,3 +56,70 @@ branch_unasked throw_statement h = (refl, refl)
 branch_unasked switch_statement h = (refl, refl)
 branch_unasked try_statement h = (refl, refl)
 branch_unasked k h = absurd cc
+
+-- ---- expressions
+
+-- functions and classes, for which rules of form ask
+abbrev may_be_named : Kind → Bool
+may_be_named (function how pure) = true
+may_be_named (class how) = true
+may_be_named k = false
+
+abbrev is_quiet_kind : Kind → Bool
+is_quiet_kind k = is_told_by_class k && ((may_be_named k || not (is_asked_for k)) && not (is_statement k))
+
+expression_row : (r : Row) (vs : Values (fields_of r)) → stands expression (type_of r) ≡ Some (first_of r) → is_quiet_kind (kind_in r vs) ≡ true
+expression_row a_function_expression vs h = refl
+expression_row an_arrow_function vs h = refl
+expression_row a_class_expression vs h = refl
+expression_row a_reference_name vs h = refl
+expression_row a_literal vs h = refl
+expression_row a_reg_exp vs h = refl
+expression_row a_this_expression vs h = refl
+expression_row an_array_expression vs h = refl
+expression_row an_object_expression vs h = refl
+expression_row a_sequence_expression vs h = refl
+expression_row a_unary_expression vs h = refl
+expression_row an_update_expression vs h = refl
+expression_row a_binary_expression vs h = refl
+expression_row an_in_expression vs h = refl
+expression_row a_logical_expression vs h = refl
+expression_row an_assignment_expression vs h = refl
+expression_row a_compound_assignment vs h = refl
+expression_row a_conditional_expression vs h = refl
+expression_row a_call_expression vs h = refl
+expression_row a_new_expression vs h = refl
+expression_row a_member_expression vs h = refl
+expression_row a_chain_expression vs h = refl
+expression_row a_parenthesized_expression vs h = refl
+expression_row a_template_literal vs h = refl
+expression_row a_tagged_template_expression vs h = refl
+expression_row a_new_target vs h = refl
+expression_row an_import_meta vs h = refl
+expression_row an_import_expression vs h = refl
+expression_row r vs h = absurd cc
+
+-- one of the table
+abbrev pub IsExpression : Kind → (below : Forest) → Type 0
+IsExpression k b = IsOf k b (λ p. Stand p b) expression
+
+module _ (k : Kind) (b : Forest) (of : IsExpression k b) where
+  quiet_kind : is_quiet_kind k ≡ true
+  quiet_kind = ap is_quiet_kind of.4 ∙ expression_row of.0 of.1 of.2
+
+  pub expression_told : is_told_by_class k ≡ true
+  expression_told = first_of_both (is_told_by_class k) ((may_be_named k || not (is_asked_for k)) && not (is_statement k)) quiet_kind
+
+  pub no_statement : is_statement k ≡ false
+  no_statement = not_true (is_statement k) (second_of_both (may_be_named k || not (is_asked_for k)) (not (is_statement k)) (second_of_both (is_told_by_class k) ((may_be_named k || not (is_asked_for k)) && not (is_statement k)) quiet_kind))
+
+  named_or_unasked : (may_be_named k || not (is_asked_for k)) ≡ true
+  named_or_unasked = first_of_both (may_be_named k || not (is_asked_for k)) (not (is_statement k)) (second_of_both (is_told_by_class k) ((may_be_named k || not (is_asked_for k)) && not (is_statement k)) quiet_kind)
+
+  pub bare_unasked : (u : Use) (in_with : Bool) → stands_bare u in_with k b ≡ true → is_asked_for k ≡ false
+  bare_unasked u in_with bare = not_true (is_asked_for k) (ap (λ n. n || not (is_asked_for k)) (sym (nameless u in_with k b bare)) ∙ named_or_unasked)
+    where
+      nameless : (u : Use) (in_with : Bool) (k : Kind) (b : Forest) → stands_bare u in_with k b ≡ true → may_be_named k ≡ false
+      nameless u in_with (function how pure) b h = absurd (true≢false (sym h))
+      nameless u in_with (class how) b h = absurd (true≢false (sym h))
+      nameless u in_with k b h = refl

@@ -17,18 +17,19 @@ total_joined w (node k n b r) u =
     let later = total_joined w r u in
     Prim.omega (arith, later)
 
-lighter : (k l : Kind) (n m i : Note) (below b before after : Forest) → 1 ≤ weight k → below ≡ joined before (node l i b after) → total weight (node l m b nothing) < total weight (node k n below nothing)
-lighter k l n m i below b before after weighs is =
+-- so a part is lighter than the node
+pub part_lighter : (k l : Kind) (n i : Note) (below b before after : Forest) → 1 ≤ weight k → below ≡ joined before (node l i b after) → total weight (node l i b nothing) < total weight (node k n below nothing)
+part_lighter k l n i below b before after weighs is =
     let whole = ap (total weight) is ∙ total_joined weight before (node l i b after) in
     Prim.omega (arith, weighs, whole)
 
 pub by_part : (a : Around) (x y : Tree) → ByPart a x y → Becoming a x y
 by_part a x y owed = record {
-  lighter = lighter x.kind y.kind x.note y.note owed.stands.note x.below y.below owed.stands.before owed.stands.after owed.weighs owed.stands.is_part;
+  lighter = owed.lighter;
   no_call = owed.no_call;
   may_change = owed.may_change;
-  fits = becoming_fits a x y owed.takes;
-  sheds = part_sheds a x y owed.stands;
+  fits = λ fits. becoming_fits a x y (owed.takes fits) fits;
+  sheds = λ fits. part_sheds a x y (owed.stands fits) owed.comes_out.undeleted fits;
   kept = λ fits s kept. parts_kept a x y (owed.part fits) (fits_program (plug a (Some x)) fits) s kept;
   runs = by_coming owed.coming;
 }

@@ -1,28 +1,20 @@
 -- In trees that fit the table of node types expressions declare no name outside of functions and classes.
-use Rattle.std.proofs.Common.{◌≡◌, ◌∙◌, ℕ, suc, [], ◌∷◌, Bool, true, false, not, ◌&&◌, ◌||◌, inl, inr, refl, sym, ap, true≢false}
-use Rattle.std.specs.Prelude.{Some}
-use Rattle.js_syntax.specs.Class.{Class, root, a_prologue, method_value, private_key, expression, expression_or_private, callee, argument, object_item, chain_part, template, quasi_item, simple_target, target, target_value, target_element, target_item}
+use Rattle.std.proofs.Common.{◌≡◌, ℕ, suc, [], ◌∷◌, Bool, true, false, not, ◌&&◌, ◌||◌, refl}
+use Rattle.js_syntax.specs.Class.{Class, root, method_value, private_key, expression, expression_or_private, callee, argument, object_item, chain_part, template, quasi_item, simple_target, target, target_value, target_element, target_item}
 use Rattle.js_syntax.specs.declared.node_kind.NodeKind.{NodeKind as Kind}
-use Rattle.js_syntax.specs.declared.node_kind.NodeKind.TheVariants.{Function as function, Class as class, BindingName as binding_name, ConditionalExpression as conditional_expression, Hole as hole}
+use Rattle.js_syntax.specs.declared.node_kind.NodeKind.TheVariants.{Function as function, Class as class, BindingName as binding_name}
 use Rattle.js_syntax.specs.declared.kind.FunctionKind.TheVariants as function_kind
 use Rattle.js_syntax.specs.declared.kind.ClassKind.TheVariants as class_kind
-use Rattle.js_syntax.specs.Hint.{has, is_private}
-use Rattle.js_syntax.specs.Node.{Forest, Tree, nothing, node, absent}
+use Rattle.js_syntax.specs.Node.{Forest, nothing, node, absent}
 use Rattle.js_syntax.specs.Table.{Row, a_program, a_function_expression, an_arrow_function, a_class_expression, a_reference_name, a_target_name, a_private_name, a_literal, a_reg_exp, a_this_expression, a_super, an_array_expression, an_object_expression, a_property, a_method_property, a_sequence_expression, a_unary_expression, an_update_expression, a_binary_expression, an_in_expression, a_logical_expression, an_assignment_expression, a_compound_assignment, a_conditional_expression, a_call_expression, a_new_expression, a_member_expression, a_chain_expression, a_parenthesized_expression, a_parenthesized_target, a_template_literal, a_template_element, a_tagged_template_expression, a_spread_element, a_target_rest, a_target_object, a_target_array, a_target_property, a_target_default, a_new_target, an_import_meta, an_import_expression, fields_of}
 use Rattle.js_syntax.proofs.Truth.{first_of_both, second_of_both, both}
-use Rattle.json_shape.specs.Shape.{Values, kind_in, first_of, Place, one, maybe_one, beyond, key_node, key_apart, list, list_with_holes, body, item_or_hole, item_of_body, places, Plan, these, first_place, behind, IsOf, IsAt, Stand, Fits}
+use Rattle.json_shape.specs.Shape.{Values, kind_in, first_of, one, these, Fits}
 use Rattle.json_shape.proofs.Choice.{is_list_kind}
-use Rattle.scope_laws.specs.Place as place
-use Rattle.scope_laws.specs.Place.{Around, plug}
 use Rattle.steps_allowed.specs.Branches.{declares_none_at, declares_none}
 use Rattle.steps_fit.proofs.CoreCalm.{rows_of}
 use Rattle.steps_fit.proofs.CoreRows.{takes_such, if_so, fields_pass}
 use Rattle.steps_fit.proofs.Enclosing.{enclosed}
-use Rattle.steps_fit.proofs.Holding.{is_sound, planned_below}
-use Rattle.steps_fit.proofs.Passing.{plan_passes, first_passes, behind_passes}
-use Rattle.steps_fit.proofs.Calm.{is_calm_class}
 use Rattle.steps_fit.proofs.Shut.{shut, takes_marked, shut_as_planned}
-use Rattle.steps_fit.specs.Hoisted.{holds_variables}
 use Rattle.steps_owed.specs.Part.{DeclaresNothing}
 use Rattle.steps_owed.proofs.Outward.{declares_nothing}
 
@@ -154,48 +146,3 @@ expression_declares_none t fits =
 
 pub expression_declares_nothing : (t : Forest) → Fits expression t → DeclaresNothing t
 expression_declares_nothing t fits = declares_nothing t (expression_declares_none t fits) (enclosed t (these (one expression ∷ [])) refl fits)
-
--- ---- a conditional of such a tree
-
-abbrev is_conditional : Kind → Bool
-is_conditional conditional_expression = true
-is_conditional k = false
-
-abbrev Three : Forest → Type 0
-Three t = Stand (these (one expression ∷ one expression ∷ one expression ∷ [])) t
-
-row_three : (r : Row) (vs : Values (fields_of r)) (private : Bool) (a : Forest) → is_conditional (kind_in r vs) ≡ true → Stand (these (places private (fields_of r) vs)) a → Three a
-row_three a_conditional_expression vs private a h st = st
-row_three r vs private a h st = absurd (true≢false (sym h))
-
-three_of : (a : Forest) (c : Class) (k : Kind) → is_conditional k ≡ true → IsOf k a (λ p. Stand p a) c → Three a
-three_of a c k h of = row_three of.0 of.1 (has is_private a) a (ap is_conditional (sym of.4) ∙ h) of.5
-
-no_list : (kind : Kind) → is_list_kind kind ≡ true → is_conditional kind ≡ true → ⊥
-no_list conditional_expression h e = absurd cc
-no_list kind h e = true≢false (sym e)
-
-three_at : (a : Forest) (p : Place) (k : Kind) → is_sound p ≡ true → is_conditional k ≡ true → IsAt k a (λ p. Stand p a) p → Three a
-three_at a (one c) k s h of = three_of a c k h of
-three_at a (maybe_one c) k s h of = three_of a c k h of
-three_at a beyond k s h at = absurd at
-three_at a (key_apart may) k s h at = absurd at
-three_at a (key_node keys true) k s h at = three_of a private_key k h at.1
-three_at a (key_node keys false) k s h at = three_of a expression k h at
-three_at a (list kind c) k s h at = absurd (no_list kind (first_of_both (is_list_kind kind) (holds_variables kind || is_calm_class c) s) (ap is_conditional (sym at.0) ∙ h))
-three_at a (list_with_holes kind c) k s h at = absurd (no_list kind (first_of_both (is_list_kind kind) (holds_variables kind || is_calm_class c) s) (ap is_conditional (sym at.0) ∙ h))
-three_at a (body c) k s h at = absurd (no_list Kind.Statements refl (ap is_conditional (sym at.0) ∙ h))
-three_at a (item_or_hole c) k s h (inl at) = let e : is_conditional hole ≡ true = ap is_conditional (sym at.0) ∙ h in absurd cc
-three_at a (item_or_hole c) k s h (inr of) = three_of a c k h of
-three_at a (item_of_body c) k s h (inl of) = three_of a a_prologue k h of
-three_at a (item_of_body c) k s h (inr at) = three_of a c k h at.1
-
-three_below : (a : Around) (x : Tree) (plan : Plan) → plan_passes is_sound plan ≡ true → is_conditional x.kind ≡ true → Stand plan (plug a (Some x)) → Three x.below
-three_below (place.first rest) x plan s h st = three_at x.below (first_place plan) x.kind (first_passes is_sound plan refl s) h st.0
-three_below (place.behind k n below a) x plan s h st = three_below a x (behind plan k) (behind_passes is_sound plan k s) h st.1
-three_below (place.behind_none a) x plan s h st = three_below a x (behind plan hole) (behind_passes is_sound plan hole s) h st.1
-three_below (place.under k n a rest) x plan s h st = let planned = planned_below (plug a (Some x)) (first_place plan) k st.0 in three_below a x planned.0 planned.1 h planned.2
-
--- what lies below it is its condition and its branches
-pub parts_are_expressions : (a : Around) (x : Tree) → x.kind ≡ conditional_expression → Fits root (plug a (Some x)) → Stand (these (one expression ∷ one expression ∷ one expression ∷ [])) x.below
-parts_are_expressions a x is fits = three_below a x (these (one root ∷ [])) refl (ap is_conditional is) fits

@@ -1,11 +1,12 @@
--- Which nodes may take the place of others: a part of a choice that of the choice, an empty statement that of one of an expression.
-use Rattle.std.proofs.Common.{◌≡◌, [], ◌∷◌, Bool, true, false, Some, sym, ap, true≢false}
+-- Which nodes may take the place of others: a part of a choice or of a logical expression that of the whole, an empty statement that of one of an expression.
+use Rattle.std.proofs.Common.{◌≡◌, [], ◌∷◌, Bool, true, false, Some, refl, sym, ap, true≢false}
 use Rattle.js_syntax.specs.Class.{Class, module_item, statement, expression, arrow_body, for_init, default_export, expression_or_private, callee, argument}
 use Rattle.js_syntax.specs.declared.node_kind.NodeKind.{NodeKind as Kind}
-use Rattle.js_syntax.specs.declared.node_kind.NodeKind.TheVariants.{ConditionalExpression as conditional_expression, IfStatement as if_statement}
+use Rattle.js_syntax.specs.declared.node_kind.NodeKind.TheVariants.{ConditionalExpression as conditional_expression, LogicalExpression as logical_expression, IfStatement as if_statement}
+use Rattle.js_syntax.specs.declared.operator.LogicalOperator.{LogicalOperator}
 use Rattle.js_syntax.specs.Hint.{has, is_private}
 use Rattle.js_syntax.specs.Node.{Forest, Note, alone}
-use Rattle.js_syntax.specs.Table.{Row as TableRow, a_conditional_expression, an_if_statement, fields_of, type_of, stands}
+use Rattle.js_syntax.specs.Table.{Row as TableRow, a_conditional_expression, a_logical_expression, an_if_statement, fields_of, type_of, stands}
 use Rattle.js_syntax.specs.declared.node_type.NodeType.{NodeType}
 use Rattle.js_syntax.specs.declared.node_type.NodeType.TheVariants as type
 use Rattle.json_shape.specs.Shape.{Values, kind_in, first_of, one, maybe_one, places, these, IsOf, Stand, Fits}
@@ -29,6 +30,17 @@ takes_expressions argument type.SpreadElement r takes stood = absurd cc
 takes_expressions argument t r takes stood = stood
 takes_expressions c t r takes stood = absurd cc
 
+-- logical expressions stand where conditionals do
+logical_takes : (c : Class) → stands c type.LogicalExpression ≡ Some a_logical_expression → stands c type.ConditionalExpression ≡ Some a_conditional_expression
+logical_takes expression h = refl
+logical_takes arrow_body h = refl
+logical_takes for_init h = refl
+logical_takes default_export h = refl
+logical_takes expression_or_private h = refl
+logical_takes callee h = refl
+logical_takes argument h = refl
+logical_takes c h = absurd cc
+
 takes_statements : (c : Class) (t : NodeType) (r : TableRow) → stands c type.IfStatement ≡ Some an_if_statement → stands statement t ≡ Some r → stands c t ≡ Some r
 takes_statements statement t r takes stood = stood
 takes_statements module_item type.ImportDeclaration r takes stood = absurd cc
@@ -43,14 +55,21 @@ module _ (k : Kind) (below : Forest) where
   pub as_conditional : (c : Class) → stands c type.ConditionalExpression ≡ Some a_conditional_expression → IsOf k below (λ p. Stand p below) expression → IsOf k below (λ p. Stand p below) c
   as_conditional c takes of = (of.0, of.1, takes_expressions c (type_of of.0) (first_of of.0) takes of.2, of.3, of.4, of.5)
 
+  pub as_logical : (c : Class) → stands c type.LogicalExpression ≡ Some a_logical_expression → IsOf k below (λ p. Stand p below) expression → IsOf k below (λ p. Stand p below) c
+  as_logical c takes of = as_conditional c (logical_takes c takes) of
+
   pub as_if : (c : Class) → stands c type.IfStatement ≡ Some an_if_statement → IsOf k below (λ p. Stand p below) statement → IsOf k below (λ p. Stand p below) c
   as_if c takes of = (of.0, of.1, takes_statements c (type_of of.0) (first_of of.0) takes of.2, of.3, of.4, of.5)
 
--- ---- conditionals and `if` are of one row of the table
+-- ---- conditionals, logical expressions and `if` are of one row of the table each
 
 abbrev is_conditional : Kind → Bool
 is_conditional conditional_expression = true
 is_conditional k = false
+
+abbrev is_logical : Kind → Bool
+is_logical (logical_expression operator) = true
+is_logical k = false
 
 abbrev is_if : Kind → Bool
 is_if if_statement = true
@@ -66,6 +85,16 @@ conditional_parts : (private : Bool) (r : TableRow) (vs : Values (fields_of r)) 
 conditional_parts private a_conditional_expression vs parts is stand = stand
 conditional_parts private r vs parts is stand = absurd (true≢false (sym is))
 
+logical_class : (c : Class) (r : TableRow) (vs : Values (fields_of r)) → is_logical (kind_in r vs) ≡ true → stands c (type_of r) ≡ Some (first_of r)
+    → stands c type.LogicalExpression ≡ Some a_logical_expression
+logical_class c a_logical_expression vs is stood = stood
+logical_class c r vs is stood = absurd (true≢false (sym is))
+
+logical_parts : (private : Bool) (r : TableRow) (vs : Values (fields_of r)) (parts : Forest) → is_logical (kind_in r vs) ≡ true → Stand (these (places private (fields_of r) vs)) parts
+    → Stand (these (one expression ∷ one expression ∷ [])) parts
+logical_parts private a_logical_expression vs parts is stand = stand
+logical_parts private r vs parts is stand = absurd (true≢false (sym is))
+
 if_class : (c : Class) (r : TableRow) (vs : Values (fields_of r)) → is_if (kind_in r vs) ≡ true → stands c (type_of r) ≡ Some (first_of r)
     → stands c type.IfStatement ≡ Some an_if_statement
 if_class c an_if_statement vs is stood = stood
@@ -76,13 +105,19 @@ if_parts : (private : Bool) (r : TableRow) (vs : Values (fields_of r)) (parts : 
 if_parts private an_if_statement vs parts is stand = stand
 if_parts private r vs parts is stand = absurd (true≢false (sym is))
 
--- a conditional, or an `if`, that fits stands where its class may, and its parts stand
+-- a conditional, a logical expression, or an `if`, that fits stands where its class may, and its parts stand
 module _ (c : Class) (n : Note) (below : Forest) where
   pub conditional_stood : Fits c (alone conditional_expression n below) → stands c type.ConditionalExpression ≡ Some a_conditional_expression
   conditional_stood fits = conditional_class c fits.0.0 fits.0.1 (ap is_conditional (sym fits.0.4)) fits.0.2
 
   pub conditional_below : Fits c (alone conditional_expression n below) → Stand (these (one expression ∷ one expression ∷ one expression ∷ [])) below
   conditional_below fits = conditional_parts (has is_private below) fits.0.0 fits.0.1 below (ap is_conditional (sym fits.0.4)) fits.0.5
+
+  pub logical_stood : (o : LogicalOperator) → Fits c (alone (logical_expression o) n below) → stands c type.LogicalExpression ≡ Some a_logical_expression
+  logical_stood o fits = logical_class c fits.0.0 fits.0.1 (ap is_logical (sym fits.0.4)) fits.0.2
+
+  pub logical_below : (o : LogicalOperator) → Fits c (alone (logical_expression o) n below) → Stand (these (one expression ∷ one expression ∷ [])) below
+  logical_below o fits = logical_parts (has is_private below) fits.0.0 fits.0.1 below (ap is_logical (sym fits.0.4)) fits.0.5
 
   pub if_stood : Fits c (alone if_statement n below) → stands c type.IfStatement ≡ Some an_if_statement
   if_stood fits = if_class c fits.0.0 fits.0.1 (ap is_if (sym fits.0.4)) fits.0.2

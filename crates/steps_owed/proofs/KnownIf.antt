@@ -1,10 +1,10 @@
 -- What an `if` on a literal owes, which becomes the branch that is taken.
-use Rattle.std.proofs.Common.{◌≡◌, ◌&&◌, [], true, Some, arith, refl}
+use Rattle.std.proofs.Common.{◌≡◌, ◌<◌, ◌&&◌, [], true, Some, arith, refl}
 use Rattle.js_syntax.specs.Class.{Class}
 use Rattle.js_syntax.specs.declared.node_kind.NodeKind.{NodeKind as Kind}
 use Rattle.js_syntax.specs.declared.node_kind.NodeKind.TheVariants.{Literal as literal, IfStatement as if_statement}
 use Rattle.js_syntax.specs.declared.value.LiteralValue.{LiteralValue}
-use Rattle.js_syntax.specs.Node.{Note, Forest, Tree, nothing, node}
+use Rattle.js_syntax.specs.Node.{Note, Forest, Tree, nothing, node, forest_of, total}
 use Rattle.js_meaning.specs.Scope.{import_decls}
 use Rattle.js_meaning.specs.Value.{Text}
 use Rattle.js_meaning_near.proofs.Branches.{if_holds, if_fails}
@@ -12,14 +12,17 @@ use Rattle.form_rules.specs.Scope.{sought_below}
 use Rattle.scope_counts.proofs.Leaving.{if_is_plain}
 use Rattle.scope_laws.specs.Place.{Around, plug}
 use Rattle.steps_allowed.specs.KnownIf.{an_if, KnownIf, consequent_is_run, alternate_is_run}
+use Rattle.steps_allowed.specs.Wanted.{wanted_at}
 use Rattle.js_syntax.proofs.Truth.{both}
 use Rattle.steps_fit.specs.Enclosed.{is_enclosed_at, is_enclosed}
 use Rattle.steps_fit.proofs.Enclosing.{fits_enclosed}
 use Rattle.steps_owed.specs.Comes.{Comes}
-use Rattle.steps_owed.specs.Owed.{ByPart}
+use Rattle.steps_owed.specs.Owed.{weight, ComesOut, ByPart}
 use Rattle.steps_owed.specs.Part.{IsPart}
 use Rattle.steps_owed.specs.TakesPlace.{TakesPlace}
+use Rattle.steps_owed.proofs.Bare.{branch_comes_out}
 use Rattle.steps_owed.proofs.BranchKinds.{branch_told, branch_calm, branch_unasked}
+use Rattle.steps_owed.proofs.ByPart.{part_lighter}
 use Rattle.steps_owed.proofs.ChoiceRuns.{consequent_core, alternate_core, imports_before, imports_behind, no_imports_below}
 use Rattle.steps_owed.proofs.FitsTaking.{as_if, if_stood, if_below}
 use Rattle.steps_owed.proofs.Inside.{enclosed_here, enclosed_below, enclosed_rest}
@@ -27,6 +30,14 @@ use Rattle.steps_owed.proofs.Outward.{behind_literal, declares_nothing}
 use Rattle.steps_owed.proofs.PartForm.{Stands, nothing_declared}
 use Rattle.steps_owed.proofs.Undeclared.{no_names, DeclaresNothing, alone_plainly, last_plainly}
 use Rattle.steps_owed.proofs.Unseen.{enclosed_there}
+
+if_lighter : (x y : Tree) → KnownIf x y → total weight (forest_of y) < total weight (forest_of x)
+if_lighter x y (consequent_is_run v n m i k b alternate truth branch field none) = part_lighter if_statement k n i x.below b (node (literal v) m nothing nothing) alternate (Prim.omega arith) refl
+if_lighter x y (alternate_is_run v n m i j k l b c truth branch none) = part_lighter if_statement l n j x.below c (node (literal v) m nothing (node k i b nothing)) nothing (Prim.omega arith) refl
+
+if_comes_out : (a : Around) (x y : Tree) → KnownIf x y → ComesOut a y
+if_comes_out a x y (consequent_is_run v n m i k b alternate truth branch field none) = branch_comes_out a k i b branch
+if_comes_out a x y (alternate_is_run v n m i j k l b c truth branch none) = branch_comes_out a l j c branch
 
 -- by the table of node types, and by the rules of form
 if_takes : (x y : Tree) → KnownIf x y → TakesPlace x y
@@ -96,26 +107,24 @@ if_is_part a x y (alternate_is_run v n m i j k l b c truth branch none) e =
     }
 
 -- by its runs
-if_comes : (x y : Tree) → KnownIf x y → ((source : Text) → import_decls source x.below ≡ []) → Comes x y
-if_comes _ _ (consequent_is_run v n m i k b alternate truth branch field none) h =
+if_comes : (a : Around) (x y : Tree) → KnownIf x y → ((source : Text) → import_decls source x.below ≡ []) → Comes a x y
+if_comes a _ _ (consequent_is_run v n m i k b alternate truth branch field none) h =
     let calm = branch_calm k branch in
     let gone : DeclaresNothing alternate = record { bound = no_names alternate none; imports = λ source. imports_behind source k i b alternate (h source) } in
-    let plain = alone_plainly k i b alternate calm gone in
+    let plain = alone_plainly k i b alternate gone in
     record {
-      comes = λ st. if_holds st v m i k b alternate truth calm field;
+      comes = λ st. if_holds (wanted_at a) st v m i k b alternate truth calm field;
       old_calm = refl;
-      new_calm = calm;
       plainly = record { bound = plain.bound; vars = plain.vars; imports = plain.imports };
       core = consequent_core Kind.IfStatement k n m i (Kind.Literal v) b alternate;
     }
-if_comes _ _ (alternate_is_run v n m i j k l b c truth branch none) h =
+if_comes a _ _ (alternate_is_run v n m i j k l b c truth branch none) h =
     let calm = branch_calm l branch in
     let gone : DeclaresNothing (node k i b nothing) = record { bound = no_names (node k i b nothing) none; imports = λ source. imports_before source k i b (node l j c nothing) (h source) } in
-    let plain = last_plainly k i b (node l j c nothing) c gone (alone_plainly l j c nothing calm (record { bound = refl; imports = λ source. refl })) in
+    let plain = last_plainly k i b (node l j c nothing) l c gone (alone_plainly l j c nothing (record { bound = refl; imports = λ source. refl })) in
     record {
-      comes = λ st. if_fails st v m i j k l b c truth calm;
+      comes = λ st. if_fails (wanted_at a) st v m i j k l b c truth calm;
       old_calm = refl;
-      new_calm = calm;
       plainly = record { bound = plain.bound; vars = plain.vars; imports = plain.imports };
       core = alternate_core Kind.IfStatement k l n m i j (Kind.Literal v) b c;
     }
@@ -124,13 +133,14 @@ known_owes : (n m : Note) (v : LiteralValue) (branches : Forest) (a : Around) (y
 known_owes n m v branches a y known =
     let x = an_if n m v branches in
     record {
-      weighs = Prim.omega arith;
+      lighter = if_lighter x y known;
       no_call = record { counts = refl; lists = λ i. refl; begins = λ i. refl; calls = refl };
       may_change = refl;
-      takes = if_takes x y known;
-      stands = if_stands x y known;
+      takes = λ fits. if_takes x y known;
+      stands = λ fits. if_stands x y known;
+      comes_out = if_comes_out a x y known;
       part = λ fits. if_is_part a x y known (fits_enclosed (plug a (Some x)) fits);
-      coming = λ o p r is fits form core. if_comes x y known (no_imports_below o p r a x y is fits form core if_statement refl refl (λ q i. refl));
+      coming = λ o p r is fits form core. if_comes a x y known (no_imports_below o p r a x y is fits form core if_statement refl refl (λ q i. refl));
     }
 
 pub known_if_owes : (a : Around) (x y : Tree) → KnownIf x y → ByPart a x y

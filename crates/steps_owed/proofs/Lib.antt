@@ -37,9 +37,13 @@ pub mod FitsTaking
 pub mod FitsEdits
 pub mod ChoiceRuns
 pub mod BranchKinds
+pub mod ChoiceParts
+pub mod Bare
+pub mod Wanting
 pub mod ByPart
 pub mod SilentStatement
 pub mod KnownConditional
+pub mod KnownSide
 pub mod KnownIf
 pub mod Edited
 pub mod Refused

@@ -1,23 +1,27 @@
 -- A node becomes a part of itself, and no rule of form is broken.
-use Rattle.std.proofs.Common.{◌≡◌, ℕ, ◌+◌, suc, Bool, true, false, not, ◌&&◌, ◌||◌, ◌==◌, Some, [], ◌++◌, refl, sym, ap, ◌∙◌}
+use Rattle.std.proofs.Common.{◌≡◌, ℕ, ◌+◌, suc, Bool, true, false, not, ◌&&◌, ◌||◌, ◌==◌, Some, [], ◌++◌, refl, sym, ap, ◌∙◌, true≢false}
 use Rattle.js_tree.specs.Count.{one_each, node_count}
 use Rattle.js_syntax.specs.Class.{root}
 use Rattle.js_syntax.specs.declared.node_kind.NodeKind.{NodeKind as Kind}
-use Rattle.js_syntax.specs.declared.node_kind.NodeKind.TheVariants.{BindingName as binding_name, Function as function, Class as class, ConditionalExpression as conditional_expression}
+use Rattle.js_syntax.specs.declared.node_kind.NodeKind.TheVariants.{BindingName as binding_name, Function as function, Class as class, ConditionalExpression as conditional_expression, LogicalExpression as logical_expression, UnaryExpression as unary_expression, ParenthesizedExpression as parenthesized_expression}
+use Rattle.js_syntax.specs.declared.operator.LogicalOperator.{LogicalOperator}
+use Rattle.js_syntax.specs.declared.operator.UnaryOperator.{UnaryOperator}
+use Rattle.js_syntax.specs.declared.operator.UnaryOperator.TheVariants as unary
 use Rattle.js_syntax.specs.declared.kind.FunctionKind.TheVariants as function_kind
 use Rattle.js_syntax.specs.declared.kind.ClassKind.TheVariants as class_kind
-use Rattle.js_syntax.specs.Node.{Forest, Tree, nothing, node, absent, alone}
+use Rattle.js_syntax.specs.Node.{Forest, Tree, nothing, node, absent, alone, forest_of}
 use Rattle.js_syntax.proofs.Truth.{first_of_both, second_of_both}
 use Rattle.form_rules.specs.declared.sought.Sought.{Sought}
 use Rattle.form_rules.specs.declared.sought.Sought.TheVariants.{Nothing as none, Names as names, Bound as bound, Scope as scope, Variables as variables, FunctionScope as function_scope, CatchScope as catch_scope}
 use Rattle.form_rules.specs.Scope.{declared, declared_here, sought_below}
-use Rattle.form_rules.specs.Rules.{length_of}
+use Rattle.form_rules.specs.Rules.{length_of, is_bare_name}
 use Rattle.json_shape.specs.Shape.{Fits}
 use Rattle.scope_laws.specs.Place as place
 use Rattle.scope_laws.specs.Place.{first, behind, behind_none, under, plug}
+use Rattle.steps_allowed.specs.Uses.{Use, as_value, as_deleted, operand_of, use_below, use_there, use_at}
 use Rattle.steps_allowed.specs.Branches.{declares_none_at, declares_none}
 use Rattle.steps_keep_form.specs.Part.{gives_way, StandsFor}
-use Rattle.steps_keep_form.specs.Sheds.{Row, of_declarators, row_below, asked_below, may_give_way, keeps_one, Around, entered, outermost, Sheds, keeps_absent, keeps, becomes}
+use Rattle.steps_keep_form.specs.Sheds.{Row, of_declarators, row_below, asked_below, deleted_below, may_give_way, keeps_one, Around, entered, outermost, Sheds, keeps_absent, keeps, becomes}
 use Rattle.steps_keep_form.proofs.Firm.{may_all_give_way, fits_may_give_way}
 use Rattle.steps_keep_form.proofs.Rows.{itself, keeps_itself}
 use Rattle.steps_keep_form.proofs.Rules.{both_empty}
@@ -92,6 +96,18 @@ nothing_declared s p (node k n a r) h =
 
 -- ---- branches
 
+logical_seeks : (s : Sought) (o : LogicalOperator) → sought_below s (logical_expression o) ≡ none
+logical_seeks none o = refl
+logical_seeks (names f) o = refl
+logical_seeks (bound f) o = refl
+logical_seeks (scope f) o = refl
+logical_seeks variables o = refl
+logical_seeks function_scope o = refl
+logical_seeks (catch_scope f) o = refl
+
+pub none_of_logical : (o : LogicalOperator) (t : Forest) (s : Sought) (p : ℕ) → declared (sought_below s (logical_expression o)) p t ≡ []
+none_of_logical o t s p = ap (λ z. declared z p t) (logical_seeks s o) ∙ none_declared p t
+
 conditional_seeks : (s : Sought) → sought_below s conditional_expression ≡ none
 conditional_seeks none = refl
 conditional_seeks (names f) = refl
@@ -106,6 +122,21 @@ none_of_conditional t s p = ap (λ z. declared z p t) (conditional_seeks s) ∙ 
 
 abbrev pub Stands : (x y : Tree) → Type 0
 Stands x y = StandsFor x.kind x.below y.kind y.below
+
+-- ---- where `delete` takes it
+
+come_out : (d : Bool) (bare : Bool) → (d ≡ true → bare ≡ false) → not (d && bare) ≡ true
+come_out true bare h = ap not (h refl)
+come_out false bare h = refl
+
+operand_deleted : (d : Bool) (o : UnaryOperator) → deleted_below d (unary_expression o) ≡ true → operand_of o ≡ as_deleted
+operand_deleted d unary.Delete h = refl
+operand_deleted d o h = absurd (true≢false (sym h))
+
+deleted_there : (d : Bool) (u : Use) (k : Kind) (i : ℕ) → (d ≡ true → u ≡ as_deleted) → deleted_below d k ≡ true → use_below u k i ≡ as_deleted
+deleted_there d u parenthesized_expression i f h = f h
+deleted_there d u (unary_expression o) i f h = operand_deleted d o h
+deleted_there d u k i f h = absurd (true≢false (sym h))
 
 -- ---- wherever the node stands
 
@@ -123,20 +154,23 @@ module _ (x y : Tree) (stands : Stands x y) where
   may_there : (z : Around) → (not (gives_way x.kind) || may_give_way z.row z.is_asked x.kind) ≡ true → may_give_way z.row z.is_asked x.kind ≡ true
   may_there z h = ap (λ g. not g || may_give_way z.row z.is_asked x.kind) (sym stands.gives) ∙ h
 
-  sheds_there : (a : place.Around) (z : Around) → may_all_give_way z.row z.is_asked (plug a (Some x)) ≡ true → Sheds z (plug a (Some x)) (plug a (Some y))
-  sheds_there (first rest) z h =
+  -- by what the nodes of the row are used for
+  sheds_there : (a : place.Around) (z : Around) (us : ℕ → Use) (at : ℕ) → ((i : ℕ) → z.is_deleted ≡ true → us i ≡ as_deleted) → (use_there us at a ≡ as_deleted → is_bare_name (forest_of y) ≡ false)
+      → may_all_give_way z.row z.is_asked (plug a (Some x)) ≡ true → Sheds z (plug a (Some x)) (plug a (Some y))
+  sheds_there (first rest) z us at used out h =
       becomes stands (may_there z (first_of_both (not (gives_way x.kind) || may_give_way z.row z.is_asked x.kind)
-      (may_all_give_way (row_below z.row x.kind) (asked_below z.row x.kind) x.below && may_all_give_way z.row z.is_asked rest) h)) (itself z rest)
-  sheds_there (behind k n b a) z h =
+      (may_all_give_way (row_below z.row x.kind) (asked_below z.row x.kind) x.below && may_all_give_way z.row z.is_asked rest) h))
+      (come_out z.is_deleted (is_bare_name (forest_of y)) (λ d. out (used at d))) (itself z rest)
+  sheds_there (behind k n b a) z us at used out h =
       keeps (keeps_itself (row_below z.row k) b) (itself (entered z k b) b)
-      (sheds_there a z (second_of_both (may_all_give_way (row_below z.row k) (asked_below z.row k) b) (may_all_give_way z.row z.is_asked (plug a (Some x)))
+      (sheds_there a z us (suc at) used out (second_of_both (may_all_give_way (row_below z.row k) (asked_below z.row k) b) (may_all_give_way z.row z.is_asked (plug a (Some x)))
       (second_of_both (not (gives_way k) || may_give_way z.row z.is_asked k) (may_all_give_way (row_below z.row k) (asked_below z.row k) b && may_all_give_way z.row z.is_asked (plug a (Some x))) h)))
-  sheds_there (behind_none a) z h = keeps_absent (sheds_there a z h)
-  sheds_there (under k n a rest) z h =
+  sheds_there (behind_none a) z us at used out h = keeps_absent (sheds_there a z us (suc at) used out h)
+  sheds_there (under k n a rest) z us at used out h =
       keeps (keeps_all (row_below z.row k) a)
-      (sheds_there a (entered z k (plug a (Some x))) (first_of_both (may_all_give_way (row_below z.row k) (asked_below z.row k) (plug a (Some x))) (may_all_give_way z.row z.is_asked rest)
+      (sheds_there a (entered z k (plug a (Some x))) (λ i. use_below (us at) k i) 0 (λ i d. deleted_there z.is_deleted (us at) k i (used at) d) out (first_of_both (may_all_give_way (row_below z.row k) (asked_below z.row k) (plug a (Some x))) (may_all_give_way z.row z.is_asked rest)
       (second_of_both (not (gives_way k) || may_give_way z.row z.is_asked k) (may_all_give_way (row_below z.row k) (asked_below z.row k) (plug a (Some x)) && may_all_give_way z.row z.is_asked rest) h)))
       (itself z rest)
 
-pub part_sheds : (a : place.Around) (x y : Tree) → Stands x y → Fits root (plug a (Some x)) → Sheds outermost (plug a (Some x)) (plug a (Some y))
-part_sheds a x y stands fits = sheds_there x y stands a outermost (fits_may_give_way (plug a (Some x)) fits)
+pub part_sheds : (a : place.Around) (x y : Tree) → Stands x y → (use_at a ≡ as_deleted → is_bare_name (forest_of y) ≡ false) → Fits root (plug a (Some x)) → Sheds outermost (plug a (Some x)) (plug a (Some y))
+part_sheds a x y stands out fits = sheds_there x y stands a outermost (λ i. as_value) 0 (λ i d. absurd (true≢false (sym d))) out (fits_may_give_way (plug a (Some x)) fits)

@@ -5,34 +5,39 @@ use Rattle.js_syntax.specs.declared.node_kind.NodeKind.{NodeKind as Kind}
 use Rattle.js_syntax.specs.declared.scalar.SourceType.TheVariants as source_type
 use Rattle.js_syntax.specs.Facts.{is_core}
 use Rattle.js_syntax.specs.Node.{Note, Forest, Tree, nothing, node, below_of}
+use Rattle.js_syntax.specs.declared.value.ModuleName.{ModuleName}
 use Rattle.js_meaning.specs.Kept.{Refined}
-use Rattle.js_meaning_near.specs.Near.{is_calm, items, key_of, keys, module_of}
+use Rattle.js_meaning.specs.Module.{specifier_of}
+use Rattle.js_meaning.specs.Node.{Wanted, itself}
+use Rattle.js_meaning_near.specs.Names.{no_names}
+use Rattle.js_meaning_near.specs.Near.{hoists_nothing, wanted_below, ComesTo, items, key_of, keys, module_of}
 use Rattle.js_meaning_near.specs.Fit.{whole}
 use Rattle.js_meaning_near.specs.Avoid.{InPlace}
-use Rattle.js_meaning_near.specs.Local.{KeysStay, Local, at_place, in_below, in_rest, in_absent}
+use Rattle.js_meaning_near.specs.Local.{ReadsSame, Local, at_place, in_below, in_rest, in_absent}
 use Rattle.js_meaning_near.proofs.Instances.{local_change}
 use Rattle.json_shape.specs.Shape.{one, Plan, these, first_place, Stand, Fits}
 use Rattle.json_shape.specs.Shape as shape
 use Rattle.form_rules.specs.Form.{IsWellFormed}
 use Rattle.scope_laws.specs.Place.{Around, first, behind, behind_none, under, plug}
 use Rattle.steps.specs.Steps.{all_core}
+use Rattle.steps_allowed.specs.Wanted.{wanted_in, wanted_at}
 use Rattle.steps_fit.proofs.Formed.{good_program}
 use Rattle.steps_fit.proofs.Held.{core_here, core_below, core_behind, core_alone}
 use Rattle.steps_fit.proofs.Holding.{is_sound, planned_below}
 use Rattle.steps_fit.proofs.Passing.{plan_passes, first_passes, behind_passes}
 use Rattle.steps_fit.proofs.Place.{program_in_place}
 use Rattle.steps_owed.specs.Comes.{Comes}
-use Rattle.steps_owed.proofs.ExportsStay.{entries_stay, stars_stay, requests_stay}
-use Rattle.steps_owed.proofs.Made.{MadeBy, made_at, not_calm, object_stands}
+use Rattle.steps_owed.proofs.ExportsStay.{same_local, entries_stay, stars_stay, requests_stay}
+use Rattle.steps_owed.proofs.Made.{MadeBy, is_single, made_at, not_calm, object_stands, export_stands, name_not_calm}
 use Rattle.js_syntax.proofs.Truth.{both}
 
 -- ---- what is around stays
 
-no_key : (k : Kind) → is_calm k ≡ true → key_of k ≡ None
+no_key : (k : Kind) → hoists_nothing k ≡ true → key_of k ≡ None
 no_key (Kind.Property how method key) h = absurd (true≢false (sym h))
 no_key k h = refl
 
-module _ (x y : Tree) (c : Comes x y) where
+module _ (place : Around) (x y : Tree) (c : Comes place x y) where
   pub core_stays : (a : Around) → all_core (plug a (Some x)) ≡ true → all_core (plug a (Some y)) ≡ true
   core_stays (first rest) h =
       let part = c.core (core_alone x.kind x.note x.below rest h) in
@@ -48,7 +53,7 @@ module _ (x y : Tree) (c : Comes x y) where
 
   -- the keys of an object literal are of its properties, and no property is calm
   keys_of_row : (a : Around) → keys (plug a (Some x)) ≡ keys (plug a (Some y))
-  keys_of_row (first rest) = ap (λ k. k ∷ keys rest) (no_key x.kind c.old_calm ∙ sym (no_key y.kind c.new_calm))
+  keys_of_row (first rest) = ap (λ k. k ∷ keys rest) (no_key x.kind (c.comes no_names).old_hoists ∙ sym (no_key y.kind (c.comes no_names).new_hoists))
   keys_of_row (behind k n below a) = ap (λ ks. key_of k ∷ ks) (keys_of_row a)
   keys_of_row (behind_none a) = refl
   keys_of_row (under k n a rest) = refl
@@ -59,20 +64,29 @@ module _ (x y : Tree) (c : Comes x y) where
   keys_of_object (behind_none a) made = refl
   keys_of_object (under k n a rest) made = keys_of_row a
 
-  keys_stay : (k : Kind) (a : Around) → (is_calm k ≡ true → MadeBy k (plug a (Some x))) → KeysStay k (plug a (Some x)) (plug a (Some y))
-  keys_stay Kind.ObjectExpression a made = keys_of_object a (made refl)
-  keys_stay k a made = tt
+  -- below a specifier of an export stands a name
+  exported_name : (exported : ModuleName) (a : Around) → MadeBy (Kind.ExportSpecifier exported) (plug a (Some x))
+      → specifier_of (Kind.ExportSpecifier exported) (plug a (Some x)) ≡ specifier_of (Kind.ExportSpecifier exported) (plug a (Some y))
+  exported_name exported (first rest) made = absurd (name_not_calm x.kind x.below (export_stands exported (plug (first rest) (Some x)) made).0 c.old_calm)
+  exported_name exported (behind k n below a) made = same_local exported k n below below (plug a (Some x)) (plug a (Some y))
+  exported_name exported (behind_none a) made = refl
+  exported_name exported (under k n a rest) made = same_local exported k n (plug a (Some x)) (plug a (Some y)) rest rest
 
-  local_as_planned : (a : Around) (plan : Plan) → plan_passes is_sound plan ≡ true → Stand plan (plug a (Some x)) → Local (plug a (Some x)) (plug a (Some y))
-  local_as_planned (first rest) plan h st = at_place c.comes c.old_calm c.new_calm c.plainly
-  local_as_planned (behind k n below a) plan h st = in_rest (local_as_planned a (shape.behind plan k) (behind_passes is_sound plan k h) st.1)
-  local_as_planned (behind_none a) plan h st = in_absent (local_as_planned a (shape.behind plan Kind.Hole) (behind_passes is_sound plan Kind.Hole h) st.1)
-  local_as_planned (under k n a rest) plan h st =
+  reads_same : (k : Kind) (a : Around) → (is_single k ≡ true → MadeBy k (plug a (Some x))) → ReadsSame k (plug a (Some x)) (plug a (Some y))
+  reads_same Kind.ObjectExpression a made = keys_of_object a (made refl)
+  reads_same (Kind.ExportSpecifier exported) a made = exported_name exported a (made refl)
+  reads_same k a made = tt
+
+  local_as_planned : (w : Wanted) (a : Around) → wanted_in w a ≡ wanted_at place → (plan : Plan) → plan_passes is_sound plan ≡ true → Stand plan (plug a (Some x)) → Local w (plug a (Some x)) (plug a (Some y))
+  local_as_planned w (first rest) e plan h st = at_place (λ names. subst (λ v. ComesTo v names x.kind x.below y.kind y.below) (sym e) (c.comes names)) c.plainly
+  local_as_planned w (behind k n below a) e plan h st = in_rest (local_as_planned w a e (shape.behind plan k) (behind_passes is_sound plan k h) st.1)
+  local_as_planned w (behind_none a) e plan h st = in_absent (local_as_planned w a e (shape.behind plan Kind.Hole) (behind_passes is_sound plan Kind.Hole h) st.1)
+  local_as_planned w (under k n a rest) e plan h st =
       let planned = planned_below (plug a (Some x)) (first_place plan) k st.0 in
-      in_below (keys_stay k a (λ calm. made_at (plug a (Some x)) k calm (first_place plan) (first_passes is_sound plan refl h) st.0)) (local_as_planned a planned.0 planned.1 planned.2)
+      in_below (reads_same k a (λ single. made_at (plug a (Some x)) k single (first_place plan) (first_passes is_sound plan refl h) st.0)) (local_as_planned (wanted_below w k) a e planned.0 planned.1 planned.2)
 
-pub part_is_local : (a : Around) (x y : Tree) → Comes x y → Fits root (plug a (Some x)) → Local (plug a (Some x)) (plug a (Some y))
-part_is_local a x y c fits = local_as_planned x y c a (these (one root ∷ [])) refl fits
+pub part_is_local : (a : Around) (x y : Tree) → Comes a x y → Fits root (plug a (Some x)) → Local itself (plug a (Some x)) (plug a (Some y))
+part_is_local a x y c fits = local_as_planned a x y c itself a refl (these (one root ∷ [])) refl fits
 
 -- ---- modules
 
@@ -87,23 +101,23 @@ module_in_place n m b fits form core =
 pub record StillModule (n m : Note) (b u : Forest) : Type 0 where
   pub changed : Forest
   pub is : u ≡ module_of n m changed
-  pub local : Local b changed
+  pub local : Local itself b changed
 
-not_of_nothing : {t u : Forest} → Local t u → t ≡ nothing → ⊥
-not_of_nothing (at_place c x y p) e = cc
+not_of_nothing : {w : Wanted} {t u : Forest} → Local w t u → t ≡ nothing → ⊥
+not_of_nothing (at_place c p) e = cc
 not_of_nothing (in_below q s) e = cc
 not_of_nothing (in_rest s) e = cc
 not_of_nothing (in_absent s) e = cc
 
-module_stays : (n m : Note) (b u : Forest) → Local (module_of n m b) u → StillModule n m b u
-module_stays n m b _ (at_place c x y p) = absurd (true≢false (sym x))
-module_stays n m b _ (in_below q (at_place c x y p)) = absurd (true≢false (sym x))
+module_stays : (n m : Note) (b u : Forest) → Local itself (module_of n m b) u → StillModule n m b u
+module_stays n m b _ (at_place c p) = absurd (true≢false (sym (c no_names).old_hoists))
+module_stays n m b _ (in_below q (at_place c p)) = absurd (true≢false (sym (c no_names).old_hoists))
 module_stays n m b _ (in_below q (in_below {b = d} r s)) = record { changed = d; is = refl; local = s }
 module_stays n m b _ (in_below q (in_rest s)) = absurd (not_of_nothing s refl)
 module_stays n m b _ (in_rest s) = absurd (not_of_nothing s refl)
 
-pub parts_stay_modules : (n m : Note) (b : Forest) (a : Around) (x y : Tree) → plug a (Some x) ≡ module_of n m b → Comes x y → Fits root (module_of n m b) → StillModule n m b (plug a (Some y))
-parts_stay_modules n m b a x y is c fits = module_stays n m b (plug a (Some y)) (subst (λ t. Local t (plug a (Some y))) is (part_is_local a x y c (subst (Fits root) (sym is) fits)))
+pub parts_stay_modules : (n m : Note) (b : Forest) (a : Around) (x y : Tree) → plug a (Some x) ≡ module_of n m b → Comes a x y → Fits root (module_of n m b) → StillModule n m b (plug a (Some y))
+parts_stay_modules n m b a x y is c fits = module_stays n m b (plug a (Some y)) (subst (λ t. Local itself t (plug a (Some y))) is (part_is_local a x y c (subst (Fits root) (sym is) fits)))
 
 module_refines : (n m : Note) (b u : Forest) → StillModule n m b u → Fits root u → IsWellFormed u → all_core u ≡ true → Refined (module_of n m b) u
 module_refines n m b u new fits form core =
@@ -112,14 +126,14 @@ module_refines n m b u new fits form core =
     (module_in_place n m new.changed (subst (Fits root) new.is fits) (subst IsWellFormed new.is form) (subst (λ t. all_core t ≡ true) new.is core)) (entries_stay new.local) (stars_stay new.local) (requests_stay new.local))
 
 -- the new module is core, since the old one is
-pub comes_refines : (n m : Note) (b : Forest) (a : Around) (x y : Tree) → plug a (Some x) ≡ module_of n m b → Comes x y
+pub comes_refines : (n m : Note) (b : Forest) (a : Around) (x y : Tree) → plug a (Some x) ≡ module_of n m b → Comes a x y
     → Fits root (module_of n m b) → all_core (module_of n m b) ≡ true → Fits root (plug a (Some y)) → IsWellFormed (plug a (Some y)) → Refined (module_of n m b) (plug a (Some y))
 comes_refines n m b a x y is c fits core new_fits new_form =
     module_refines n m b (plug a (Some y)) (parts_stay_modules n m b a x y is c fits) new_fits new_form
-    (core_stays x y c a (subst (λ t. all_core t ≡ true) (sym is) core))
+    (core_stays a x y c a (subst (λ t. all_core t ≡ true) (sym is) core))
 
 -- the same, where all is known of both modules
-pub parts_refine : (n m : Note) (b : Forest) (a : Around) (x y : Tree) → plug a (Some x) ≡ module_of n m b → Comes x y
+pub parts_refine : (n m : Note) (b : Forest) (a : Around) (x y : Tree) → plug a (Some x) ≡ module_of n m b → Comes a x y
     → Fits root (module_of n m b) → IsWellFormed (module_of n m b) → all_core (module_of n m b) ≡ true
     → Fits root (plug a (Some y)) → IsWellFormed (plug a (Some y)) → all_core (plug a (Some y)) ≡ true → Refined (module_of n m b) (plug a (Some y))
 parts_refine n m b a x y is c fits form core new_fits new_form new_core = comes_refines n m b a x y is c fits core new_fits new_form

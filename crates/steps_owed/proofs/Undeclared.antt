@@ -1,5 +1,5 @@
 -- Rows of nodes that declare no names.
-use Rattle.std.proofs.Common.{◌≡◌, ◌∙◌, ℕ, suc, List, [], ◌++◌, Bool, true, false, ◌==◌, if◌then◌else◌, Some, None, refl, sym, ap, ap₂, subst, true≢false}
+use Rattle.std.proofs.Common.{◌≡◌, ◌∙◌, ℕ, suc, List, [], ◌++◌, Bool, true, false, ◌==◌, if◌then◌else◌, Some, None, refl, sym, ap, subst, true≢false}
 use Rattle.std.proofs.lemmas.List.{append-nil}
 use Rattle.js_syntax.specs.declared.node_kind.NodeKind.{NodeKind as Kind}
 use Rattle.js_syntax.specs.declared.kind.FunctionKind.{FunctionKind}
@@ -147,36 +147,31 @@ pub record DeclaresNothing (t : Forest) : Type 0 where
   pub bound : bound_names t ≡ []
   pub imports : (source : Text) → import_decls source t ≡ []
 
-pub nothing_below : (k : Kind) (n : Note) (a r : Forest) → is_calm k ≡ true → DeclaresNothing (node k n a r) → DeclaresNothing a
-nothing_below k n a r calm h = record {
-  bound = sym (calm_names k (bound_names a) calm) ∙ first_empty (names_of k (bound_names a)) (bound_names r) h.bound;
-  imports = λ source. sym (calm_specifier source k a (import_decls source a) calm) ∙ first_empty (specifier_decls source k a (import_decls source a)) (import_decls source r) (h.imports source);
-}
-
 pub nothing_behind : (k : Kind) (n : Note) (a r : Forest) → DeclaresNothing (node k n a r) → DeclaresNothing r
 nothing_behind k n a r h = record {
   bound = second_empty (names_of k (bound_names a)) (bound_names r) h.bound;
   imports = λ source. second_empty (specifier_decls source k a (import_decls source a)) (import_decls source r) (h.imports source);
 }
 
-pub both_plainly : (a b : Forest) → DeclaresNothing a → DeclaresNothing b → Plainly a b
-both_plainly a b h g = record {
-  bound = h.bound ∙ sym g.bound;
-  vars = no_vars a h.bound ∙ sym (no_vars b g.bound);
-  imports = λ source. h.imports source ∙ sym (g.imports source);
+-- a calm node beside one that stands in a row, which both declare nothing
+pub both_plainly : (k : Kind) (a : Forest) (l : Kind) (n : Note) (b r : Forest) → is_calm k ≡ true → DeclaresNothing a → DeclaresNothing (node l n b r) → Plainly k a l b
+both_plainly k a l n b r calm h g = record {
+  bound = (calm_names k (bound_names a) calm ∙ h.bound) ∙ sym (first_empty (names_of l (bound_names b)) (bound_names r) g.bound);
+  vars = (calm_vars k a (var_names a) calm ∙ no_vars a h.bound) ∙ sym (first_empty (vars_of l b (var_names b)) (var_names r) (no_vars (node l n b r) g.bound));
+  imports = λ source. (calm_specifier source k a (import_decls source a) calm ∙ h.imports source) ∙ sym (first_empty (specifier_decls source l b (import_decls source b)) (import_decls source r) (g.imports source));
 }
 
--- ---- a node beside such as declare nothing
+-- ---- an `if` of which a part declares what it does, beside such as declare nothing
 
-pub alone_plainly : (k : Kind) (n : Note) (a r : Forest) → is_calm k ≡ true → DeclaresNothing r → Plainly (node k n a r) a
-alone_plainly k n a r calm h = record {
-  bound = ap₂ (λ v w. v ++ w) (calm_names k (bound_names a) calm) h.bound ∙ append-nil (bound_names a);
-  vars = ap₂ (λ v w. v ++ w) (calm_vars k a (var_names a) calm) (no_vars r h.bound) ∙ append-nil (var_names a);
-  imports = λ source. ap₂ (λ v w. v ++ w) (calm_specifier source k a (import_decls source a) calm) (h.imports source) ∙ append-nil (import_decls source a);
+pub alone_plainly : (k : Kind) (n : Note) (a r : Forest) → DeclaresNothing r → Plainly Kind.IfStatement (node k n a r) k a
+alone_plainly k n a r h = record {
+  bound = ap (λ v. names_of k (bound_names a) ++ v) h.bound ∙ append-nil (names_of k (bound_names a));
+  vars = ap (λ v. vars_of k a (var_names a) ++ v) (no_vars r h.bound) ∙ append-nil (vars_of k a (var_names a));
+  imports = λ source. ap (λ v. specifier_decls source k a (import_decls source a) ++ v) (h.imports source) ∙ append-nil (specifier_decls source k a (import_decls source a));
 }
 
-pub last_plainly : (k : Kind) (n : Note) (a r b : Forest) → DeclaresNothing (node k n a nothing) → Plainly r b → Plainly (node k n a r) b
-last_plainly k n a r b h g = record {
+pub last_plainly : (k : Kind) (n : Note) (a r : Forest) (l : Kind) (b : Forest) → DeclaresNothing (node k n a nothing) → Plainly Kind.IfStatement r l b → Plainly Kind.IfStatement (node k n a r) l b
+last_plainly k n a r l b h g = record {
   bound = ap (λ v. v ++ bound_names r) (first_empty (names_of k (bound_names a)) [] h.bound) ∙ g.bound;
   vars = ap (λ v. v ++ var_names r) (first_empty (vars_of k a (var_names a)) [] (no_vars (node k n a nothing) h.bound)) ∙ g.vars;
   imports = λ source. ap (λ v. v ++ import_decls source r) (first_empty (specifier_decls source k a (import_decls source a)) [] (h.imports source)) ∙ g.imports source;

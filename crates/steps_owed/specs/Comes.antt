@@ -4,14 +4,16 @@ use Rattle.js_syntax.specs.Node.{Tree, forest_of}
 use Rattle.js_meaning_near.specs.Names.{Names}
 use Rattle.js_meaning_near.specs.Near.{is_calm, ComesTo}
 use Rattle.js_meaning_near.specs.Local.{Plainly}
+use Rattle.scope_laws.specs.Place.{Around}
 use Rattle.steps.specs.Steps.{all_core}
+use Rattle.steps_allowed.specs.Wanted.{wanted_at}
 
-pub record Comes (x y : Tree) : Type 0 where
-  -- whatever is known of the names around, the node comes to what the part does
-  pub comes : (st : Names) → ComesTo st x.kind x.below y.kind y.below
-  -- neither starts anything where its scope is entered, or declares a name itself
+-- At a place.
+pub record Comes (a : Around) (x y : Tree) : Type 0 where
+  -- whatever is known of the names around, the node comes to what the part does, as far as is wanted there
+  pub comes : (st : Names) → ComesTo (wanted_at a) st x.kind x.below y.kind y.below
+  -- the old node starts nothing where its scope is entered, and declares no name itself
   pub old_calm : is_calm x.kind ≡ true
-  pub new_calm : is_calm y.kind ≡ true
-  -- what lies below them declares the same
-  pub plainly : Plainly x.below y.below
+  -- they declare the same
+  pub plainly : Plainly x.kind x.below y.kind y.below
   pub core : all_core (forest_of x) ≡ true → all_core (forest_of y) ≡ true

@@ -1,12 +1,14 @@
 -- What a case of an edit owes, by its shape: all that the laws on edits ask of it.
-use Rattle.std.specs.Prelude.{◌≡◌, ◌⊎◌, ◌≤◌, ◌<◌, ℕ, ◌+◌, Bool, true, false, Some, if◌then◌else◌}
+use Rattle.std.specs.Prelude.{◌≡◌, ◌⊎◌, ◌≤◌, ◌<◌, ℕ, ◌+◌, Bool, true, false, Some, is_some, if◌then◌else◌}
 use Rattle.js_syntax.specs.declared.node_kind.NodeKind.{NodeKind as Kind}
 use Rattle.js_syntax.specs.declared.node_kind.NodeKind.TheVariants.{ExpressionStatement as expression_statement}
 use Rattle.js_syntax.specs.Class.{root}
 use Rattle.js_syntax.specs.Node.{Forest, Tree, Note, alone, total, forest_of}
 use Rattle.js_tree.specs.Count.{one_each}
+use Rattle.js_tree.specs.Names.{eval_name}
 use Rattle.js_meaning_near.specs.Near.{module_of}
 use Rattle.form_rules.specs.Form.{IsWellFormed}
+use Rattle.form_rules.specs.Rules.{is_bare_name}
 use Rattle.form_rules.specs.Scope.{declared}
 use Rattle.json_shape.specs.Shape.{Fits, is_directive_kind}
 use Rattle.min_pass.specs.Around.{outermost as asked_of_program}
@@ -22,6 +24,7 @@ use Rattle.steps_keep_form.specs.Layout.{stands_right}
 use Rattle.steps_keep_form.specs.Sheds as shed
 use Rattle.steps_keep_form.specs.Sheds.{exports_none, Sheds}
 use Rattle.steps_fit.specs.Enclosed.{is_enclosed}
+use Rattle.steps_allowed.specs.Uses.{as_callee, as_deleted, use_at}
 use Rattle.steps_allowed.specs.Places.{asked_at, IsItem, IsDeclarator, has_other, At}
 use Rattle.steps_allowed.specs.Calls.{is_call, begins_with_call, counted, of_list, of_program}
 use Rattle.steps_allowed.specs.Exposure.{exposure, evaluates_somewhere}
@@ -80,7 +83,7 @@ pub record Leaving (a : Around) (x : Tree) : Type 0 where
 -- How it is known that a core module does what it did: by a step, or since the old node comes to what the new one does.
 pub data SameRuns (a : Around) (x y : Tree) : Type 0 where
   by_step : (is_well_placed (plug a (Some x)) ≡ true → Good (plug a (Some x)) → Step steps.outermost (plug a (Some x)) (plug a (Some y))) → SameRuns a x y
-  by_coming : ((n m : Note) (b : Forest) → plug a (Some x) ≡ module_of n m b → Fits root (module_of n m b) → IsWellFormed (module_of n m b) → all_core (module_of n m b) ≡ true → Comes x y) → SameRuns a x y
+  by_coming : ((n m : Note) (b : Forest) → plug a (Some x) ≡ module_of n m b → Fits root (module_of n m b) → IsWellFormed (module_of n m b) → all_core (module_of n m b) ≡ true → Comes a x y) → SameRuns a x y
 
 -- A node that becomes another in its place.
 pub record Becoming (a : Around) (x y : Tree) : Type 0 where
@@ -93,15 +96,22 @@ pub record Becoming (a : Around) (x y : Tree) : Type 0 where
   pub kept : Fits root (plug a (Some x)) → (s : Scoping) → IsKept s (plug a (Some x)) → IsKept s (plug a (Some y))
   pub runs : SameRuns a x y
 
+-- What stands there now, where it matters that a name does: `delete` takes none in strict code (ECMA-262 13.5.1.1), and a call
+-- of `eval` is direct (19.2.1.1).
+pub record ComesOut (a : Around) (y : Tree) : Type 0 where
+  pub undeleted : use_at a ≡ as_deleted → is_bare_name (forest_of y) ≡ false
+  pub uncalled : use_at a ≡ as_callee → is_some (eval_name (forest_of y)) ≡ false
+
 -- A node that becomes a part of it.
 pub record ByPart (a : Around) (x y : Tree) : Type 0 where
-  pub weighs : 1 ≤ weight x.kind
+  pub lighter : total weight (forest_of y) < total weight (forest_of x)
   pub no_call : IsOther x
   pub may_change : MayChange a x
   -- the part may stand where the whole stood, by the table of node types and by the rules of form
-  pub takes : TakesPlace x y
-  pub stands : StandsFor x.kind x.below y.kind y.below
+  pub takes : Fits root (plug a (Some x)) → TakesPlace x y
+  pub stands : Fits root (plug a (Some x)) → StandsFor x.kind x.below y.kind y.below
+  pub comes_out : ComesOut a y
   -- what is left out declares nothing around it
   pub part : Fits root (plug a (Some x)) → IsPart x y
   -- the whole comes to what the part does
-  pub coming : (n m : Note) (b : Forest) → plug a (Some x) ≡ module_of n m b → Fits root (module_of n m b) → IsWellFormed (module_of n m b) → all_core (module_of n m b) ≡ true → Comes x y
+  pub coming : (n m : Note) (b : Forest) → plug a (Some x) ≡ module_of n m b → Fits root (module_of n m b) → IsWellFormed (module_of n m b) → all_core (module_of n m b) ≡ true → Comes a x y

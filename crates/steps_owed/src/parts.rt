@@ -1,13 +1,10 @@
 // A node that becomes a part of itself.
 ghost use Rattle.std.specs.Prelude.{◌≡◌, true, Some};
-ghost use Rattle.js_syntax.specs.Class.{root, expression};
+ghost use Rattle.js_syntax.specs.Class.{expression};
 ghost use Rattle.js_syntax.specs.Node.{Forest, Tree};
 ghost use Rattle.json_shape.specs.Shape.{Fits};
 ghost use Rattle.scope_rules.specs.Table.{Scoping};
 ghost use Rattle.scope_laws.specs.Place.{Around, plug};
-ghost use Rattle.steps_allowed.specs.KnownConditional.{KnownConditional};
-ghost use Rattle.steps_allowed.specs.KnownIf.{KnownIf};
-ghost use Rattle.steps_fit.specs.Enclosed.{is_enclosed};
 ghost use Rattle.steps_owed.specs.Kept.{is_program, IsKept};
 ghost use Rattle.steps_owed.specs.Part.{DeclaresNothing, IsPart};
 

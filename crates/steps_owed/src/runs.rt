@@ -8,14 +8,12 @@ ghost use Rattle.json_shape.specs.Shape.{Fits};
 ghost use Rattle.form_rules.specs.Form.{IsWellFormed};
 ghost use Rattle.scope_laws.specs.Place.{Around, plug};
 ghost use Rattle.steps.specs.Steps.{all_core};
-ghost use Rattle.steps_allowed.specs.KnownConditional.{KnownConditional};
-ghost use Rattle.steps_allowed.specs.KnownIf.{KnownIf};
 ghost use Rattle.steps_owed.specs.Comes.{Comes};
 
 /// Law: where a node of a core module becomes a part that it comes to, the new module refines the old one, and is core.
 pub fn parts_refine()
-    ensures refined { (n m : Note) (b : Forest) (a : Around) (x y : Tree) → Comes x y → plug a (Some x) ≡ module_of n m b
+    ensures refined { (n m : Note) (b : Forest) (a : Around) (x y : Tree) → Comes a x y → plug a (Some x) ≡ module_of n m b
         → Fits root (module_of n m b) → all_core (module_of n m b) ≡ true
         → Fits root (plug a (Some y)) → IsWellFormed (plug a (Some y)) → Refined (module_of n m b) (plug a (Some y)) }
-    ensures core { (a : Around) (x y : Tree) → Comes x y → all_core (plug a (Some x)) ≡ true → all_core (plug a (Some y)) ≡ true }
+    ensures core { (a : Around) (x y : Tree) → Comes a x y → all_core (plug a (Some x)) ≡ true → all_core (plug a (Some y)) ≡ true }
 {}

@@ -1,10 +1,10 @@
 -- What an edit makes of a program that is laid out, row by row, and what it leaves as it was.
-use Rattle.std.proofs.Common.{◌≡◌, ◌∙◌, ◌≤◌, ◌+◌, ℕ, zero, suc, Bool, true, false, not, ◌&&◌, ◌||◌, ◌==◌, true≢false, if◌then◌else◌, cond, is_some, Some, None, bytes_eq, codes, refl, sym, ap, arith}
+use Rattle.std.proofs.Common.{◌≡◌, ◌∙◌, ◌≤◌, ◌+◌, ℕ, zero, suc, Bool, true, false, not, ◌&&◌, ◌||◌, ◌==◌, true≢false, cond, is_some, bytes_eq, codes, refl, sym, ap, arith}
 use Rattle.js_syntax.specs.declared.node_kind.NodeKind.{NodeKind as Kind}
 use Rattle.js_syntax.specs.declared.node_kind.NodeKind.TheVariants as kind
 use Rattle.js_syntax.specs.Node.{Forest, Note, nothing, node, absent, joined}
 use Rattle.js_syntax.proofs.Truth.{first_of_either, second_of_either}
-use Rattle.js_tree.specs.Names.{eval_name, eval_of_call}
+use Rattle.js_tree.specs.Names.{eval_of_call}
 use Rattle.json_shape.specs.Shape.{is_directive_kind}
 use Rattle.form_rules.specs.Context.{is_module, has_use_strict, is_strict_list, is_strict_function, behind_first}
 use Rattle.scope_rules.specs.Context.{opens}
@@ -48,8 +48,8 @@ directives_back : (listed : Bool) (m : Row) (t u : Forest) → Cuts listed t u �
 directives_back listed m t u (cuts.leaves k n below rest plain) laid e = never (none_behind (is_directive_kind k) (has_use_strict rest) (laid_order m k n below rest laid) plain e)
 directives_back listed m t u (cuts.empties r n i below rest) laid e = never e
 directives_back listed m t u (cuts.parts r k l i j b v w rest gives unasked) laid e = never (sym (part_no_directive l j b rest unasked) ∙ e)
-directives_back listed m t u (cuts.inside r (kind.Directive written) n below now rest h) laid e = e
-directives_back listed m t u (cuts.inside r k n below now rest h) laid e = never e
+directives_back listed m t u (cuts.inside r (kind.Directive written) n below now rest called h) laid e = e
+directives_back listed m t u (cuts.inside r k n below now rest called h) laid e = never e
 directives_back listed m t u (cuts.behind r (kind.Directive written) n below rest now h) laid e =
     only_or (bytes_eq written (codes "use strict")) (has_use_strict now) (bytes_eq written (codes "use strict")) (has_use_strict rest) kept
     (directives_back r m rest now h (laid_behind m (kind.Directive written) n below rest laid)) e
@@ -60,8 +60,8 @@ list_back : (listed : Bool) (m : Row) (t u : Forest) → Cuts listed t u → lis
 list_back listed m t u (cuts.leaves k n below rest plain) l laid e = absurd (true≢false l)
 list_back listed m t u (cuts.empties r n i below rest) l laid e = never e
 list_back listed m t u (cuts.parts r k x i j b v w rest gives unasked) l laid e = never (sym (part_no_list x j b rest unasked) ∙ e)
-list_back listed m t u (cuts.inside r kind.Statements n below now rest h) l laid e = directives_back true (row_below m kind.Statements) below now h (laid_below m kind.Statements n below rest laid) e
-list_back listed m t u (cuts.inside r k n below now rest h) l laid e = never e
+list_back listed m t u (cuts.inside r kind.Statements n below now rest called h) l laid e = directives_back true (row_below m kind.Statements) below now h (laid_below m kind.Statements n below rest laid) e
+list_back listed m t u (cuts.inside r k n below now rest called h) l laid e = never e
 list_back listed m t u (cuts.behind r kind.Statements n below rest now h) l laid e = e
 list_back listed m t u (cuts.behind r k n below rest now h) l laid e = never e
 list_back listed m t u (cuts.behind_none r rest now h) l laid e = never e
@@ -70,8 +70,8 @@ function_back : (listed : Bool) (m : Row) (t u : Forest) → Cuts listed t u →
 function_back listed m t u (cuts.leaves k n below rest plain) l laid e = absurd (true≢false l)
 function_back listed m t u (cuts.empties r n i below rest) l laid e = e
 function_back listed m t u (cuts.parts r k x i j b v w rest gives unasked) l laid e = whole_no_body k i (joined v (node x j b w)) rest gives ∙ sym (part_no_body x j b rest unasked) ∙ e
-function_back listed m t u (cuts.inside r kind.FunctionBody n below now rest h) l laid e = list_back false (row_below m kind.FunctionBody) below now h refl (laid_below m kind.FunctionBody n below rest laid) e
-function_back listed m t u (cuts.inside r k n below now rest h) l laid e = e
+function_back listed m t u (cuts.inside r kind.FunctionBody n below now rest called h) l laid e = list_back false (row_below m kind.FunctionBody) below now h refl (laid_below m kind.FunctionBody n below rest laid) e
+function_back listed m t u (cuts.inside r k n below now rest called h) l laid e = e
 function_back listed m t u (cuts.behind r kind.FunctionBody n below rest now h) l laid e = e
 function_back listed m t u (cuts.behind r k n below rest now h) l laid e = function_back r m rest now h l (laid_behind m k n below rest laid) e
 function_back listed m t u (cuts.behind_none r rest now h) l laid e = function_back r m rest now h l (laid_absent m rest laid) e
@@ -90,27 +90,6 @@ same_strict m k below now h laid b = refl
 
 -- ---- calls of `eval`
 
-named : {X : Type 0} (b : Bool) (x y : X) → is_some (if b then Some x else None) ≡ true → is_some (if b then Some y else None) ≡ true
-named true x y e = refl
-named false x y e = never e
-
-no_name : (l : Kind) (n : Note) (b rest : Forest) → is_asked_for l ≡ false → is_some (eval_name (node l n b rest)) ≡ true → false ≡ true
-no_name kind.ParenthesizedExpression n b rest u e = sym u
-no_name (kind.ReferenceName x) n b rest u e = sym u
-no_name l n b rest u e = e
-
-name_stays : (listed : Bool) (t u : Forest) → Cuts listed t u → listed ≡ false → Only (is_some (eval_name u)) (is_some (eval_name t))
-name_stays listed t u (cuts.leaves k n below rest plain) l e = absurd (true≢false l)
-name_stays listed t u (cuts.empties r n m below rest) l e = never e
-name_stays listed t u (cuts.parts r k x i j b v w rest gives unasked) l e = never (no_name x j b rest unasked e)
-name_stays listed t u (cuts.inside r kind.ParenthesizedExpression n below now rest h) l e = name_stays false below now h refl e
-name_stays listed t u (cuts.inside r (kind.ReferenceName x) n below now rest h) l e = named (bytes_eq x (codes "eval")) _ _ e
-name_stays listed t u (cuts.inside r k n below now rest h) l e = never e
-name_stays listed t u (cuts.behind r kind.ParenthesizedExpression n below rest now h) l e = e
-name_stays listed t u (cuts.behind r (kind.ReferenceName x) n below rest now h) l e = e
-name_stays listed t u (cuts.behind r k n below rest now h) l e = never e
-name_stays listed t u (cuts.behind_none r rest now h) l e = never e
-
 abbrev pub calls : Kind → Forest → ℕ
 calls k below = cond (is_some (eval_of_call k below)) 1 0
 
@@ -119,9 +98,8 @@ only_fewer true true f = Prim.omega arith
 only_fewer true false f = never (f refl)
 only_fewer false b f = Prim.omega arith
 
-fewer_calls : (k : Kind) (below now : Forest) → Cuts (is_list k) below now → calls k now ≤ calls k below
-fewer_calls (kind.CallExpression false pure) below now h = only_fewer (is_some (eval_name now)) (is_some (eval_name below)) (name_stays false below now h refl)
-fewer_calls k below now h = Prim.omega arith
+fewer_calls : (k : Kind) (below now : Forest) → Only (is_some (eval_of_call k now)) (is_some (eval_of_call k below)) → calls k now ≤ calls k below
+fewer_calls k below now h = only_fewer (is_some (eval_of_call k now)) (is_some (eval_of_call k below)) h
 
 part_fewer : (v : Forest) (l : Kind) (j : Note) (b w : Forest) → calls l b + evals b ≤ evals (joined v (node l j b w))
 part_fewer nothing l j b w = Prim.omega arith
@@ -132,7 +110,7 @@ pub fewer : (listed : Bool) (t u : Forest) → Cuts listed t u → evals u ≤ e
 fewer listed t u (cuts.leaves k n below rest plain) = Prim.omega arith
 fewer listed t u (cuts.empties r n m below rest) = Prim.omega arith
 fewer listed t u (cuts.parts r k l i j b v w rest gives unasked) = Prim.omega (arith, part_fewer v l j b w)
-fewer listed t u (cuts.inside r k n below now rest h) = Prim.omega (arith, fewer (is_list k) below now h, fewer_calls k below now h)
+fewer listed t u (cuts.inside r k n below now rest called h) = Prim.omega (arith, fewer (is_list k) below now h, fewer_calls k below now called)
 fewer listed t u (cuts.behind r k n below rest now h) = Prim.omega (arith, fewer r rest now h)
 fewer listed t u (cuts.behind_none r rest now h) = fewer r rest now h
 
@@ -167,7 +145,7 @@ behind_same : (listed : Bool) (t u : Forest) → Cuts listed t u → listed ≡ 
 behind_same listed t u (cuts.leaves k n below rest plain) l same = absurd (true≢false l)
 behind_same listed t u (cuts.empties r n m below rest) l same = refl
 behind_same listed t u (cuts.parts r k x i j b v w rest gives unasked) l same = refl
-behind_same listed t u (cuts.inside r k n below now rest h) l same = refl
+behind_same listed t u (cuts.inside r k n below now rest called h) l same = refl
 behind_same listed t u (cuts.behind r k n below rest now h) l same = Prim.omega (arith, same)
 behind_same listed t u (cuts.behind_none r rest now h) l same = same
 
@@ -210,10 +188,10 @@ pub trims : (all listed : Bool) (m : Row) (t u : Forest) → Cuts listed t u →
 trims all listed m t u (cuts.leaves k n below rest plain) laid same = leaves k n below rest
 trims all listed m t u (cuts.empties r n i below rest) laid same = empties r n i below rest
 trims all listed m t u (cuts.parts r k l i j b v w rest gives unasked) laid same = parts r k l i j b v w rest gives
-trims all listed m t u (cuts.inside r k n below now rest h) laid same =
+trims all listed m t u (cuts.inside r k n below now rest called h) laid same =
     let thin = thinner_cuts k below now h in
     let inner = laid_below m k n below rest laid in
-    let left : all ≡ true → evals now ≡ evals below = λ e. Prim.omega (arith, same e, fewer (is_list k) below now h, fewer_calls k below now h) in
+    let left : all ≡ true → evals now ≡ evals below = λ e. Prim.omega (arith, same e, fewer (is_list k) below now h, fewer_calls k below now called) in
     inside r k n below now rest (record { strict = same_strict (row_below m k) k below now h inner; within = same_within k now below thin; opens = same_opens k now below thin; calls = λ e. row_calls k below now h (left e) })
     (trims all (is_list k) (row_below m k) below now h inner left)
 trims all listed m t u (cuts.behind r k n below rest now h) laid same = behind r k n below rest now (trims all r m rest now h (laid_behind m k n below rest laid) (λ e. Prim.omega (arith, same e)))

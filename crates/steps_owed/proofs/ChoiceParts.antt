@@ -1,0 +1,48 @@
+-- What lies below a conditional, a logical expression and a call of a tree that fits the table of node types.
+use Rattle.std.proofs.Common.{◌≡◌, [], ◌∷◌, Bool, true, false, Some, refl, ap, true≢false}
+use Rattle.js_syntax.specs.Class.{root, expression, callee, argument}
+use Rattle.js_syntax.specs.declared.node_kind.NodeKind.{NodeKind as Kind}
+use Rattle.js_syntax.specs.declared.operator.LogicalOperator.{LogicalOperator}
+use Rattle.js_syntax.specs.Hint.{has, is_private}
+use Rattle.js_syntax.specs.Node.{Forest, Note}
+use Rattle.js_syntax.specs.Table.{Row, a_logical_expression, a_call_expression, fields_of}
+use Rattle.json_shape.specs.Shape.{Values, kind_in, one, list, places, these, Stand, Fits}
+use Rattle.scope_laws.specs.Place.{Around, plug}
+use Rattle.steps_owed.proofs.Made.{MadeBy, made_there, conditional_stands}
+
+abbrev is_logical : Kind → Bool
+is_logical (Kind.LogicalExpression o) = true
+is_logical k = false
+
+abbrev is_call : Kind → Bool
+is_call (Kind.CallExpression optional pure) = true
+is_call k = false
+
+row_of_logical : (o : LogicalOperator) (r : Row) (vs : Values (fields_of r)) (private : Bool) (a : Forest)
+    → Kind.LogicalExpression o ≡ kind_in r vs → Stand (these (places private (fields_of r) vs)) a → Stand (these (one expression ∷ one expression ∷ [])) a
+row_of_logical o a_logical_expression vs private a is st = st
+row_of_logical o r vs private a is st = absurd (true≢false (ap is_logical is))
+
+-- a callee, and the list of arguments
+row_of_call : (optional pure : Bool) (r : Row) (vs : Values (fields_of r)) (private : Bool) (a : Forest)
+    → Kind.CallExpression optional pure ≡ kind_in r vs → Stand (these (places private (fields_of r) vs)) a → Stand (these (one callee ∷ list Kind.Arguments argument ∷ [])) a
+row_of_call optional pure a_call_expression vs private a is st = st
+row_of_call optional pure r vs private a is st = absurd (true≢false (ap is_call is))
+
+pub call_stands : (optional pure : Bool) (a : Forest) → MadeBy (Kind.CallExpression optional pure) a → Stand (these (one callee ∷ list Kind.Arguments argument ∷ [])) a
+call_stands optional pure a made = row_of_call optional pure made.row made.values (has is_private a) a made.is made.stands
+
+abbrev pub Three : Forest → Type 0
+Three t = Stand (these (one expression ∷ one expression ∷ one expression ∷ [])) t
+
+abbrev pub Two : Forest → Type 0
+Two t = Stand (these (one expression ∷ one expression ∷ [])) t
+
+pub parts_of_conditional : (a : Around) (n : Note) (below : Forest) → Fits root (plug a (Some (record { kind = Kind.ConditionalExpression; note = n; below = below }))) → Three below
+parts_of_conditional a n below fits =
+    conditional_stands below (made_there a (record { kind = Kind.ConditionalExpression; note = n; below = below }) (these (one root ∷ [])) refl refl fits)
+
+pub sides_of_logical : (a : Around) (o : LogicalOperator) (n : Note) (below : Forest) → Fits root (plug a (Some (record { kind = Kind.LogicalExpression o; note = n; below = below }))) → Two below
+sides_of_logical a o n below fits =
+    let made = made_there a (record { kind = Kind.LogicalExpression o; note = n; below = below }) (these (one root ∷ [])) refl refl fits in
+    row_of_logical o made.row made.values (has is_private below) below made.is made.stands

@@ -1,0 +1,156 @@
+-- What a logical expression with a literal on its left owes, which becomes the side that counts.
+use Rattle.std.proofs.Common.{◌≡◌, ◌<◌, [], ◌∷◌, true, Some, arith, refl, sym, subst}
+use Rattle.js_syntax.specs.Class.{Class, root, expression}
+use Rattle.js_syntax.specs.declared.node_kind.NodeKind.{NodeKind as Kind}
+use Rattle.js_syntax.specs.declared.node_kind.NodeKind.TheVariants.{Literal as literal}
+use Rattle.js_syntax.specs.declared.operator.LogicalOperator.{LogicalOperator}
+use Rattle.js_syntax.specs.declared.value.LiteralValue.{LiteralValue}
+use Rattle.js_syntax.specs.Node.{Note, Forest, Tree, nothing, node, forest_of, total}
+use Rattle.js_meaning_near.specs.Near.{module_of}
+use Rattle.js_meaning_near.proofs.Branches.{right_side_counts as right_counts, left_side_decides as left_decides}
+use Rattle.json_shape.specs.Shape.{one, these, Fits}
+use Rattle.form_rules.specs.Form.{IsWellFormed}
+use Rattle.scope_counts.proofs.Leaving.{logical_is_plain}
+use Rattle.scope_laws.specs.Place.{Around, plug}
+use Rattle.steps.specs.Steps.{all_core}
+use Rattle.min_pass.specs.Around.{outermost as asked_of_program}
+use Rattle.steps_allowed.specs.Places.{asked_at}
+use Rattle.steps_allowed.specs.Uses.{use_at}
+use Rattle.steps_allowed.specs.Wanted.{wanted_at}
+use Rattle.steps_allowed.specs.KnownSide.{a_logical, KnownSide, right_side_counts, left_side_decides}
+use Rattle.steps_fit.proofs.CoreCalm.{nameless_as_planned}
+use Rattle.steps_fit.proofs.Held.{core_below, core_alone}
+use Rattle.steps_owed.specs.Comes.{Comes}
+use Rattle.steps_owed.specs.Owed.{weight, ComesOut, ByPart}
+use Rattle.steps_owed.specs.Part.{IsPart}
+use Rattle.steps_owed.specs.TakesPlace.{TakesPlace}
+use Rattle.steps_owed.proofs.Bare.{bare_comes_out, bare_at}
+use Rattle.steps_owed.proofs.BranchKinds.{expression_told, no_statement, bare_unasked}
+use Rattle.steps_owed.proofs.ByPart.{part_lighter}
+use Rattle.steps_owed.proofs.ChoiceParts.{Two, sides_of_logical}
+use Rattle.steps_owed.proofs.ChoiceRuns.{consequent_core, core_there, no_imports_below}
+use Rattle.steps_owed.proofs.Expressions.{expression_declares_nothing}
+use Rattle.steps_owed.proofs.FitsTaking.{as_logical, logical_stood}
+use Rattle.steps_owed.proofs.Outward.{behind_literal}
+use Rattle.steps_owed.proofs.PartForm.{Stands, none_of_logical}
+use Rattle.steps_owed.proofs.Undeclared.{DeclaresNothing, nothing_behind, both_plainly}
+use Rattle.steps_owed.proofs.Wanting.{wanted_as_used}
+
+side_lighter : (a : Around) (x y : Tree) → KnownSide a x y → total weight (forest_of y) < total weight (forest_of x)
+side_lighter a x y (right_side_counts o v n m i k b goes bare) = part_lighter (Kind.LogicalExpression o) k n i x.below b (node (literal v) m nothing nothing) nothing (Prim.omega arith) refl
+side_lighter a x y (left_side_decides o v n m i k b stays) = part_lighter (Kind.LogicalExpression o) (literal v) n m x.below nothing nothing (node k i b nothing) (Prim.omega arith) refl
+
+-- by the table of node types, and by the rules of form: both sides are expressions
+side_takes : (a : Around) (x y : Tree) → KnownSide a x y → Two x.below → TakesPlace x y
+side_takes a x y (right_side_counts o v n m i k b goes bare) two = record {
+  classes = λ (to : Class) fits. (as_logical k b to (logical_stood to n x.below o fits) two.1.0, tt);
+  old_told = refl;
+  new_told = expression_told k b two.1.0;
+}
+side_takes a x y (left_side_decides o v n m i k b stays) two = record {
+  classes = λ (to : Class) fits. (as_logical (literal v) nothing to (logical_stood to n x.below o fits) two.0, tt);
+  old_told = refl;
+  new_told = refl;
+}
+
+side_stands : (a : Around) (x y : Tree) → KnownSide a x y → Two x.below → Stands x y
+side_stands a x y (right_side_counts o v n m i k b goes bare) two = record {
+  before = node (literal v) m nothing nothing;
+  after = nothing;
+  note = i;
+  is_part = refl;
+  gives = refl;
+  unasked = bare_unasked k b two.1.0 (use_at a) (asked_at (asked_of_program true) a).in_with bare;
+  alike = no_statement k b two.1.0;
+  none_before = none_of_logical o (node (literal v) m nothing nothing);
+  none_after = λ s p. refl;
+}
+side_stands a x y (left_side_decides o v n m i k b stays) two = record {
+  before = nothing;
+  after = node k i b nothing;
+  note = m;
+  is_part = refl;
+  gives = refl;
+  unasked = refl;
+  alike = refl;
+  none_before = λ s p. refl;
+  none_after = none_of_logical o (node k i b nothing);
+}
+
+side_comes_out : (a : Around) (x y : Tree) → KnownSide a x y → ComesOut a y
+side_comes_out a x y (right_side_counts o v n m i k b goes bare) = bare_comes_out a k i b bare
+side_comes_out a x y (left_side_decides o v n m i k b stays) = record { undeleted = λ e. refl; uncalled = λ e. refl }
+
+-- by its table of names
+side_is_part : (a : Around) (x y : Tree) → KnownSide a x y → Two x.below → IsPart x y
+side_is_part a x y (right_side_counts o v n m i k b goes bare) two = record {
+  before = node (literal v) m nothing nothing;
+  after = nothing;
+  stands = refl;
+  plain = logical_is_plain o;
+  before_declares = behind_literal v m nothing (λ aims at. refl);
+  after_declares = λ aims at. refl;
+}
+side_is_part a x y (left_side_decides o v n m i k b stays) two = record {
+  before = nothing;
+  after = node k i b nothing;
+  stands = refl;
+  plain = logical_is_plain o;
+  before_declares = λ aims at. refl;
+  after_declares = expression_declares_nothing (node k i b nothing) (two.1.0, tt);
+}
+
+-- by its runs
+side_comes : (a : Around) (x y : Tree) → KnownSide a x y → Fits root (plug a (Some x)) → all_core (plug a (Some x)) ≡ true → Two x.below → DeclaresNothing x.below → Comes a x y
+side_comes a x y (right_side_counts o v n m i k b goes bare) fits core two h =
+    let right = node k i b nothing in
+    let below = node (Kind.Literal v) m nothing right in
+    let is_core = consequent_core (Kind.LogicalExpression o) k n m i (Kind.Literal v) b nothing in
+    let wanted = wanted_as_used a x (λ e. cc) core fits in
+    record {
+      comes = λ st. right_counts (wanted_at a) st o v m i k b goes (bare_at a k i b two.1.0 (is_core (core_there a x core)) wanted bare);
+      old_calm = refl;
+      plainly = both_plainly (Kind.LogicalExpression o) below k i b nothing refl h (nothing_behind (Kind.Literal v) m nothing right h);
+      core = is_core;
+    }
+side_comes a x y (left_side_decides o v n m i k b stays) fits core two h =
+    let right = node k i b nothing in
+    record {
+      comes = λ st. left_decides (wanted_at a) st o v m i k b nothing stays;
+      old_calm = refl;
+      plainly = both_plainly (Kind.LogicalExpression o) (node (Kind.Literal v) m nothing right) (Kind.Literal v) m nothing right refl h h;
+      core = λ c. core_alone (Kind.Literal v) m nothing right (core_below (Kind.LogicalExpression o) n (node (Kind.Literal v) m nothing right) nothing c);
+    }
+
+module _ (n m : Note) (b : Forest) (a : Around) (o : LogicalOperator) (j : Note) (below : Forest) where
+  abbrev whole : Tree
+  whole = record { kind = Kind.LogicalExpression o; note = j; below = below }
+
+  comes : (y : Tree) → plug a (Some whole) ≡ module_of n m b → Fits root (module_of n m b) → IsWellFormed (module_of n m b) → all_core (module_of n m b) ≡ true → KnownSide a whole y → Comes a whole y
+  comes y is fits form core known =
+      let there = subst (Fits root) (sym is) fits in
+      let all = subst (λ t. all_core t ≡ true) (sym is) core in
+      let two = sides_of_logical a o j below there in
+      side_comes a whole y known there all two
+      (record {
+        bound = nameless_as_planned below (these (one expression ∷ one expression ∷ [])) refl two (core_below (Kind.LogicalExpression o) j below nothing (core_there a whole all));
+        imports = no_imports_below n m b a whole y is fits form core (Kind.LogicalExpression o) refl refl (λ p i. refl);
+      })
+
+known_owes : (a : Around) (o : LogicalOperator) (n m : Note) (v : LiteralValue) (right : Forest) (y : Tree) → KnownSide a (a_logical o n m v right) y → ByPart a (a_logical o n m v right) y
+known_owes a o n m v right y known =
+    let x = a_logical o n m v right in
+    record {
+      lighter = side_lighter a x y known;
+      no_call = record { counts = refl; lists = λ i. refl; begins = λ i. refl; calls = refl };
+      may_change = refl;
+      takes = λ fits. side_takes a x y known (sides_of_logical a o n x.below fits);
+      stands = λ fits. side_stands a x y known (sides_of_logical a o n x.below fits);
+      comes_out = side_comes_out a x y known;
+      part = λ fits. side_is_part a x y known (sides_of_logical a o n x.below fits);
+      coming = λ p q r is fits form core. comes p q r a o n x.below y is fits form core known;
+    }
+
+pub known_side_owes : (a : Around) (x y : Tree) → KnownSide a x y → ByPart a x y
+known_side_owes a x y (right_side_counts o v n m i k b goes bare) = known_owes a o n m v (node k i b nothing) y (right_side_counts o v n m i k b goes bare)
+known_side_owes a x y (left_side_decides o v n m i k b stays) = known_owes a o n m v (node k i b nothing) y (left_side_decides o v n m i k b stays)
