@@ -36,7 +36,7 @@ root_cut : (listed : Bool) (t u : Forest) → Cuts listed t u → listed ≡ fal
 root_cut listed t u (leaves k n below rest plain) l e = absurd (true≢false l)
 root_cut listed t u (empties r n m below rest) l e = never e
 root_cut listed t u (parts r k x i j b v w rest gives unasked) l e = never (sym (no_program k i (joined v (node x j b w)) rest gives) ∙ e)
-root_cut listed t u (inside r k n below now rest h) l e = record { script = script_first k n n now below rest rest; mark = refl }
+root_cut listed t u (inside r k n below now rest called h) l e = record { script = script_first k n n now below rest rest; mark = refl }
 root_cut listed t u (behind r k n below rest now h) l e = record { script = script_first k n n below below now rest; mark = refl }
 root_cut listed t u (behind_none r rest now h) l e = never e
 

@@ -1,0 +1,28 @@
+-- What an expression is used for, along the nodes above it.
+use Rattle.std.proofs.Common.{◌≡◌, ◌∙◌, ◌<◌, ◌≤◌, ◌+◌, ◌==◌, ℕ, zero, suc, List, true, false, ◌||◌, length, drop, slice_index_or, refl, sym, ap, drop-cons, add-one, true≢false}
+use Rattle.std.proofs.lemmas.List.{drop_all}
+use Rattle.min_context.specs.declared.ancestor.Ancestor.{Ancestor}
+use Rattle.steps_allowed.specs.Uses.{Use, as_value, first_as_callee}
+use Rattle.rules_dead_code.specs.Rules.{has_with, is_field_of_with}
+use Rattle.rules_expressions.specs.Uses.{use_in, use_from}
+
+pub behind_callee : (n : ℕ) → (n == 0) ≡ false → first_as_callee n ≡ as_value
+behind_callee zero e = absurd (true≢false e)
+behind_callee (suc n) e = refl
+
+pub next_use : (xs : List Ancestor) (i : ℕ) (d : Ancestor) (u : Use) → i < length xs → use_from u (drop i xs) ≡ use_from (use_in u (slice_index_or xs i d)) (drop (i + 1) xs)
+next_use xs i d u h = ap (use_from u) (drop-cons xs i d h) ∙ ap (λ k. use_from (use_in u (slice_index_or xs i d)) (drop k xs)) (sym (add-one i))
+
+pub last_use : (xs : List Ancestor) (i : ℕ) (u : Use) → length xs ≤ i → use_from u (drop i xs) ≡ u
+last_use xs i u h = ap (use_from u) (drop_all i xs h)
+
+-- ---- `with` statements
+
+pub with_found : (xs : List Ancestor) (i : ℕ) (d : Ancestor) → i < length xs → is_field_of_with (slice_index_or xs i d) ≡ true → has_with (drop i xs) ≡ true
+with_found xs i d h e = ap has_with (drop-cons xs i d h) ∙ ap (λ b. b || has_with (drop (suc i) xs)) e
+
+pub with_passed : (xs : List Ancestor) (i : ℕ) (d : Ancestor) → i < length xs → is_field_of_with (slice_index_or xs i d) ≡ false → has_with (drop i xs) ≡ has_with (drop (i + 1) xs)
+with_passed xs i d h e = ap has_with (drop-cons xs i d h) ∙ ap (λ b. b || has_with (drop (suc i) xs)) e ∙ ap (λ k. has_with (drop k xs)) (sym (add-one i))
+
+pub with_nowhere : (xs : List Ancestor) (i : ℕ) → length xs ≤ i → has_with (drop i xs) ≡ false
+with_nowhere xs i h = ap has_with (drop_all i xs h)

@@ -1,0 +1,20 @@
+use Rattle.std.proofs.Common.{sym, subst}
+use Rattle.min_traverse.specs.Lawful.{Does}
+use Rattle.min_traverse.proofs.Joining.{first_does, then_does}
+use Rattle.rules_expressions.specs.Known.{fold_conditional, fold_logical, at_expression_end}
+use Rattle.min_expressions.proofs.fold.PeepholeOptimizations.fold_expression.Goals as goal
+
+pub returns-then-try_fold_conditional_expression : goal.returns-then-try_fold_conditional_expression
+returns-then-try_fold_conditional_expression c =
+    let at = c.try_fold_conditional_expression in
+    record {
+      does = subst (λ b. Does at_expression_end c.args.ctx.now c.args.node.now b at.new.ctx at.new.node) (sym c.if-try_fold_conditional_expression.true)
+          (first_does fold_conditional fold_logical (subst (λ b. Does fold_conditional c.args.ctx.now c.args.node.now b at.new.ctx at.new.node) c.if-try_fold_conditional_expression.true at.ensures.does));
+    }
+
+pub returns-else-try_fold_conditional_expression : goal.returns-else-try_fold_conditional_expression
+returns-else-try_fold_conditional_expression c =
+    let at = c.try_fold_conditional_expression in
+    record {
+      does = then_does fold_conditional fold_logical (subst (λ b. Does fold_conditional c.args.ctx.now c.args.node.now b at.new.ctx at.new.node) c.if-try_fold_conditional_expression.false at.ensures.does) c.fold_logical_expr.ensures.does;
+    }

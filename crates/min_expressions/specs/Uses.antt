@@ -1,0 +1,10 @@
+-- What code says of an expression's use.
+use Rattle.steps_allowed.specs.Uses.{Use, as_value, as_callee, as_typed, as_deleted}
+use Rattle.min_expressions.specs.declared.uses.Use.{Use as Answer}
+use Rattle.min_expressions.specs.declared.uses.Use.TheVariants as answer
+
+abbrev pub told : Answer → Use
+told answer.Value = as_value
+told answer.Callee = as_callee
+told answer.Typed = as_typed
+told answer.Deleted = as_deleted

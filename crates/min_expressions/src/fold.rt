@@ -1,0 +1,59 @@
+// Rewritings of one expression.
+ghost use Rattle.std.specs.Prelude.{◌≡◌};
+ghost use Rattle.min_traverse.specs.Lawful.{Does};
+ghost use Rattle.rules_expressions.specs.Known.{fold_conditional, fold_logical, at_expression_end};
+ghost use Rattle.rules_expressions.specs.Uses.{spot_of};
+ghost use Rattle.min_expressions.specs.Kept.{matters_at};
+
+use crate::bare::matters_here;
+use crate::kept::{conditional_keeps, keep_child, logical_keeps};
+use js_tree::Node;
+use min_context::MinifierTraverseCtx;
+
+/// What a walk does behind a node, to that node alone. Each call answers whether it did anything.
+pub struct PeepholeOptimizations;
+
+impl PeepholeOptimizations {
+    /// A conditional on a literal becomes the branch that is taken, unless it matters there that this stands there itself.
+    pub fn try_fold_conditional_expression(node: &mut Node, ctx: &mut MinifierTraverseCtx) -> bool
+        ensures does { Does fold_conditional ctx.old node.old result ctx.new node.new }
+    {
+        match conditional_keeps(node, ctx) {
+            Some(at) => {
+                keep_child(node, at, ctx);
+                true
+            }
+            None => false,
+        }
+    }
+
+    /// A logical expression with a literal on its left becomes the side that counts, unless it matters there that this stands there
+    /// itself.
+    pub fn fold_logical_expr(node: &mut Node, ctx: &mut MinifierTraverseCtx) -> bool
+        ensures does { Does fold_logical ctx.old node.old result ctx.new node.new }
+    {
+        match logical_keeps(node, ctx) {
+            Some(at) => {
+                keep_child(node, at, ctx);
+                true
+            }
+            None => false,
+        }
+    }
+
+    /// What becomes of an expression behind which the walk is.
+    pub fn fold_expression(node: &mut Node, ctx: &mut MinifierTraverseCtx) -> bool
+        ensures does { Does at_expression_end ctx.old node.old result ctx.new node.new }
+    {
+        PeepholeOptimizations::try_fold_conditional_expression(node, ctx)
+            || PeepholeOptimizations::fold_logical_expr(node, ctx)
+    }
+
+    /// Whether it matters that an expression stands itself where the walk is, as what a call calls, or what `typeof` or `delete`
+    /// takes: then the value of another may not become it.
+    pub fn should_keep_indirect_access(node: &Node, ctx: &MinifierTraverseCtx) -> bool
+        ensures keeps { result ≡ matters_at (spot_of ctx.now.place) node.now }
+    {
+        matters_here(node, ctx)
+    }
+}

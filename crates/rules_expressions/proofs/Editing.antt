@@ -1,0 +1,65 @@
+-- What the rules do is edits, and where they have an answer an edit applies.
+use Rattle.std.proofs.Common.{◌≡◌, ◌∙◌, Some, refl, sym, ap, subst}
+use Rattle.js_syntax.specs.declared.node_kind.NodeKind.{NodeKind as Kind}
+use Rattle.js_syntax.specs.declared.node_kind.NodeKind.TheVariants.{Literal as literal}
+use Rattle.js_syntax.specs.Node.{Forest, Tree, Note, nothing, node}
+use Rattle.min_context.specs.Place.{place_at}
+use Rattle.scope_laws.specs.Place as places
+use Rattle.scope_counts.specs.Edits.{Around, plug}
+use Rattle.steps_allowed.specs.Edits.{Becomes, Edit, becomes, known_conditional, known_side}
+use Rattle.steps_allowed.specs.KnownConditional.{KnownConditional, a_conditional, consequent_is_taken, alternate_is_taken}
+use Rattle.steps_allowed.specs.KnownSide.{KnownSide, a_logical, right_side_counts, left_side_decides}
+use Rattle.rules_dead_code.specs.Before.{before}
+use Rattle.rules_expressions.specs.Uses.{spot_of}
+use Rattle.rules_expressions.specs.Known.{conditional_becomes, logical_becomes}
+use Rattle.rules_expressions.proofs.Uses.{spot_at, spot_before, plug_before}
+use Rattle.rules_expressions.proofs.Becoming.{Branch, consequent, alternate, branch, branch_is, Side, right_side, left_side, side, side_is}
+
+-- ---- at a place of edits
+
+branch_edits : (a : places.Around) (k : Kind) (n : Note) (parts : Forest) (y : Tree) → Branch (spot_at a) k parts y → KnownConditional a (record { kind = k; note = n; below = parts }) y
+branch_edits a _ n _ _ (consequent v m i j k l b c y w may is) = subst (λ z. KnownConditional a (a_conditional n m v (node k i b (node l j c nothing))) z) is (consequent_is_taken v n m i j k l b c w may)
+branch_edits a _ n _ _ (alternate v m i j k l b c y w may is) = subst (λ z. KnownConditional a (a_conditional n m v (node k i b (node l j c nothing))) z) is (alternate_is_taken v n m i j k l b c w may)
+
+side_edits : (a : places.Around) (k : Kind) (n : Note) (parts : Forest) (y : Tree) → Side (spot_at a) k parts y → KnownSide a (record { kind = k; note = n; below = parts }) y
+side_edits a _ n _ _ (right_side o v m i k b y w may is) = subst (λ z. KnownSide a (a_logical o n m v (node k i b nothing)) z) is (right_side_counts o v n m i k b w may)
+side_edits a _ n _ _ (left_side o v m i k b y w is) = subst (λ z. KnownSide a (a_logical o n m v (node k i b nothing)) z) is (left_side_decides o v n m i k b w)
+
+pub conditional_edits : (a : places.Around) (x y : Tree) → conditional_becomes (spot_at a) x.kind x.below ≡ Some y → KnownConditional a x y
+conditional_edits a x y e = branch_edits a x.kind x.note x.below y (branch (spot_at a) x.kind x.below y e)
+
+pub logical_edits : (a : places.Around) (x y : Tree) → logical_becomes (spot_at a) x.kind x.below ≡ Some y → KnownSide a x y
+logical_edits a x y e = side_edits a x.kind x.note x.below y (side (spot_at a) x.kind x.below y e)
+
+pub conditional_answers : (a : places.Around) (x y : Tree) → KnownConditional a x y → conditional_becomes (spot_at a) x.kind x.below ≡ Some y
+conditional_answers a _ _ (consequent_is_taken v n m i j k l b c w may) = branch_is (consequent v m i j k l b c (record { kind = k; note = i; below = b }) w may refl)
+conditional_answers a _ _ (alternate_is_taken v n m i j k l b c w may) = branch_is (alternate v m i j k l b c (record { kind = l; note = j; below = c }) w may refl)
+
+pub logical_answers : (a : places.Around) (x y : Tree) → KnownSide a x y → logical_becomes (spot_at a) x.kind x.below ≡ Some y
+logical_answers a _ _ (right_side_counts o v n m i k b w may) = side_is (right_side o v m i k b (record { kind = k; note = i; below = b }) w may refl)
+logical_answers a _ _ (left_side_decides o v n m i k b w) = side_is (left_side o v m i k b (record { kind = literal v; note = m; below = nothing }) w refl)
+
+-- ---- at a place of a walk
+
+pub conditional_edits_there : (a : Around) (x y : Tree) (rest : Forest) → conditional_becomes (spot_of (place_at a)) x.kind x.below ≡ Some y → KnownConditional (before a rest) x y
+conditional_edits_there a x y rest e = conditional_edits (before a rest) x y (ap (λ s. conditional_becomes s x.kind x.below) (sym (spot_before a rest)) ∙ e)
+
+pub logical_edits_there : (a : Around) (x y : Tree) (rest : Forest) → logical_becomes (spot_of (place_at a)) x.kind x.below ≡ Some y → KnownSide (before a rest) x y
+logical_edits_there a x y rest e = logical_edits (before a rest) x y (ap (λ s. logical_becomes s x.kind x.below) (sym (spot_before a rest)) ∙ e)
+
+pub conditional_answers_there : (a : Around) (x y : Tree) (rest : Forest) → KnownConditional (before a rest) x y → conditional_becomes (spot_of (place_at a)) x.kind x.below ≡ Some y
+conditional_answers_there a x y rest e = ap (λ s. conditional_becomes s x.kind x.below) (spot_before a rest) ∙ conditional_answers (before a rest) x y e
+
+pub logical_answers_there : (a : Around) (x y : Tree) (rest : Forest) → KnownSide (before a rest) x y → logical_becomes (spot_of (place_at a)) x.kind x.below ≡ Some y
+logical_answers_there a x y rest e = ap (λ s. logical_becomes s x.kind x.below) (spot_before a rest) ∙ logical_answers (before a rest) x y e
+
+edit_there : (a : Around) (x y : Tree) (rest : Forest) → Becomes (before a rest) x y → Edit (plug a (node x.kind x.note x.below rest)) (plug a (node y.kind y.note y.below rest))
+edit_there a x y rest b =
+    subst (λ u. Edit (plug a (node x.kind x.note x.below rest)) u) (plug_before a y rest)
+    (subst (λ t. Edit t (places.plug (before a rest) (Some y))) (plug_before a x rest) (becomes (before a rest) x y b))
+
+pub conditional_edit : (a : Around) (x y : Tree) (rest : Forest) → conditional_becomes (spot_of (place_at a)) x.kind x.below ≡ Some y → Edit (plug a (node x.kind x.note x.below rest)) (plug a (node y.kind y.note y.below rest))
+conditional_edit a x y rest e = edit_there a x y rest (known_conditional (conditional_edits_there a x y rest e))
+
+pub logical_edit : (a : Around) (x y : Tree) (rest : Forest) → logical_becomes (spot_of (place_at a)) x.kind x.below ≡ Some y → Edit (plug a (node x.kind x.note x.below rest)) (plug a (node y.kind y.note y.below rest))
+logical_edit a x y rest e = edit_there a x y rest (known_side (logical_edits_there a x y rest e))

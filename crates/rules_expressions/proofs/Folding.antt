@@ -1,0 +1,32 @@
+-- The rules are lawful for a walker that may make such edits.
+use Rattle.std.proofs.Common.{◌∙◌, ap}
+use Rattle.js_syntax.specs.Node.{Forest}
+use Rattle.scope_counts.specs.Edits.{plug}
+use Rattle.steps_allowed.specs.Edits.{Edit}
+use Rattle.min_options.specs.declared.options.CompressOptions.{CompressOptions}
+use Rattle.min_traverse.specs.Edits.{no_edit, one_edit}
+use Rattle.min_traverse.specs.Lawful.{Lawful}
+use Rattle.min_traverse.specs.Moves.{before}
+use Rattle.min_traverse.proofs.Joining.{either_lawful}
+use Rattle.rules_expressions.specs.Uses.{spot_of}
+use Rattle.rules_expressions.specs.Known.{conditional_becomes, logical_becomes, fold_conditional, fold_logical, at_expression_end}
+use Rattle.rules_expressions.proofs.Becoming.{branch, branch_is_less, side, side_is_less}
+use Rattle.rules_expressions.proofs.Editing.{conditional_edit, logical_edit}
+
+module _ (E : CompressOptions → Forest → Forest → Type 0) (makes : (o : CompressOptions) (t u : Forest) → Edit t u → E o t u) where
+  pub conditionals_fold : Lawful E fold_conditional
+  conditionals_fold = record {
+    edits = λ c a x y r h at e. one_edit (makes c.options (plug a (before x r)) (plug a (before y r)) (conditional_edit a x y r (ap (λ p. conditional_becomes (spot_of p) x.kind x.below) at ∙ e))) no_edit;
+    thins = λ c x y e. (branch_is_less x.note (branch (spot_of c.place) x.kind x.below y e)).thins;
+    lighter = λ c x y e. (branch_is_less x.note (branch (spot_of c.place) x.kind x.below y e)).lighter;
+  }
+
+  pub logicals_fold : Lawful E fold_logical
+  logicals_fold = record {
+    edits = λ c a x y r h at e. one_edit (makes c.options (plug a (before x r)) (plug a (before y r)) (logical_edit a x y r (ap (λ p. logical_becomes (spot_of p) x.kind x.below) at ∙ e))) no_edit;
+    thins = λ c x y e. (side_is_less x.note (side (spot_of c.place) x.kind x.below y e)).thins;
+    lighter = λ c x y e. (side_is_less x.note (side (spot_of c.place) x.kind x.below y e)).lighter;
+  }
+
+  pub expressions_fold : Lawful E at_expression_end
+  expressions_fold = either_lawful conditionals_fold logicals_fold

@@ -1,0 +1,6 @@
+pub mod Uses
+pub mod Becoming
+pub mod Editing
+pub mod Folding
+pub mod Settled
+pub mod Walked

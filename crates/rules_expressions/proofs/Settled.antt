@@ -1,0 +1,47 @@
+-- Where the rules have no answer no edit of theirs applies.
+use Rattle.std.proofs.Common.{◌≡◌, ◌∙◌, Option, Some, None, refl, sym, ap}
+use Rattle.js_syntax.specs.Node.{Forest, Tree}
+use Rattle.min_context.specs.Place.{place_at}
+use Rattle.scope_laws.specs.Place as places
+use Rattle.scope_laws.specs.Place.{first, behind, behind_none, under}
+use Rattle.steps_allowed.specs.KnownConditional.{KnownConditional}
+use Rattle.steps_allowed.specs.KnownSide.{KnownSide}
+use Rattle.steps_owed.proofs.Places.{place_of, rest_of, placed_is}
+use Rattle.rules_dead_code.specs.Before.{before}
+use Rattle.rules_expressions.specs.Uses.{spot_of}
+use Rattle.rules_expressions.specs.Known.{conditional_becomes, logical_becomes}
+use Rattle.rules_expressions.specs.Settled.{IsSettledAt, IsSettled}
+use Rattle.rules_expressions.proofs.Uses.{spot_at, spot_before, plug_before}
+use Rattle.rules_expressions.proofs.Becoming.{no_answer}
+use Rattle.rules_expressions.proofs.Editing.{conditional_edits_there, logical_edits_there, conditional_answers, logical_answers}
+
+before_place : (a : places.Around) → before (place_of a) (rest_of a) ≡ a
+before_place (first rest) = refl
+before_place (behind k n b a) = ap (λ c. behind k n b c) (before_place a)
+before_place (behind_none a) = ap (λ c. behind_none c) (before_place a)
+before_place (under k n a rest) = ap (λ c. under k n c rest) (before_place a)
+
+spot_there : (a : places.Around) → spot_of (place_at (place_of a)) ≡ spot_at a
+spot_there a = spot_before (place_of a) (rest_of a) ∙ ap spot_at (before_place a)
+
+module _ (t : Forest) (settled : IsSettled t) (a : places.Around) (x y : Tree) (is : t ≡ places.plug a (Some x)) where
+  settled_there : IsSettledAt (place_at (place_of a)) x
+  settled_there = settled.each (place_of a) x (rest_of a) (is ∙ placed_is a x)
+
+  pub no_conditional : KnownConditional a x y → ⊥
+  no_conditional k = no_answer (sym settled_there.conditional ∙ ap (λ s. conditional_becomes s x.kind x.below) (spot_there a) ∙ conditional_answers a x y k)
+
+  pub no_side : KnownSide a x y → ⊥
+  no_side k = no_answer (sym settled_there.logical ∙ ap (λ s. logical_becomes s x.kind x.below) (spot_there a) ∙ logical_answers a x y k)
+
+none_of : (o : Option Tree) → ((y : Tree) → o ≡ Some y → ⊥) → o ≡ None
+none_of None never = refl
+none_of (Some y) never = absurd (never y refl)
+
+pub is_settled : (t : Forest) → ((a : places.Around) (x y : Tree) → t ≡ places.plug a (Some x) → KnownConditional a x y → ⊥) → ((a : places.Around) (x y : Tree) → t ≡ places.plug a (Some x) → KnownSide a x y → ⊥) → IsSettled t
+is_settled t never_branch never_side = record {
+  each = λ a x rest is. record {
+    conditional = none_of (conditional_becomes (spot_of (place_at a)) x.kind x.below) (λ y e. never_branch (before a rest) x y (is ∙ sym (plug_before a x rest)) (conditional_edits_there a x y rest e));
+    logical = none_of (logical_becomes (spot_of (place_at a)) x.kind x.below) (λ y e. never_side (before a rest) x y (is ∙ sym (plug_before a x rest)) (logical_edits_there a x y rest e));
+  };
+}

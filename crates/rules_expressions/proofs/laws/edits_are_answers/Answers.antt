@@ -1,0 +1,8 @@
+use Rattle.rules_expressions.proofs.Editing.{conditional_answers_there, logical_answers_there}
+use Rattle.rules_expressions.proofs.laws.edits_are_answers.Goals as goal
+
+pub returns-clause-conditional : goal.returns-clause-conditional
+returns-clause-conditional c = conditional_answers_there
+
+pub returns-clause-logical : goal.returns-clause-logical
+returns-clause-logical c = logical_answers_there

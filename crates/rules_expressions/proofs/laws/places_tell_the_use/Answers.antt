@@ -1,0 +1,8 @@
+use Rattle.rules_expressions.proofs.Uses.{use_is, in_with_is}
+use Rattle.rules_expressions.proofs.laws.places_tell_the_use.Goals as goal
+
+pub returns-clause-used_as : goal.returns-clause-used_as
+returns-clause-used_as c = use_is
+
+pub returns-clause-in_with : goal.returns-clause-in_with
+returns-clause-in_with c = in_with_is

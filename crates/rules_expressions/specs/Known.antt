@@ -1,0 +1,54 @@
+-- Expressions that decide by a literal.
+use Rattle.std.specs.Prelude.{Bool, true, false, Option, None, Some, if◌then◌else◌}
+use Rattle.js_syntax.specs.declared.node_kind.NodeKind.{NodeKind as Kind}
+use Rattle.js_syntax.specs.declared.node_kind.NodeKind.TheVariants.{ConditionalExpression as conditional_expression, LogicalExpression as logical_expression, Literal as literal}
+use Rattle.js_syntax.specs.declared.operator.LogicalOperator.{LogicalOperator}
+use Rattle.js_syntax.specs.declared.value.LiteralValue.{LiteralValue}
+use Rattle.js_syntax.specs.Node.{Forest, Tree, Note, nothing, node}
+use Rattle.js_meaning.specs.Value.{literal_value}
+use Rattle.js_meaning.specs.Operator.{truthy, goes_right}
+use Rattle.min_traverse.specs.Lawful.{Rule, either}
+use Rattle.rules_expressions.specs.Uses.{Spot, spot_of, bare}
+
+-- of both branches the one that is taken
+abbrev pub branch_taken : Spot → (truth : Bool) → (branches : Forest) → Option Tree
+branch_taken s true (node k i b (node l j c nothing)) = bare s k i b
+branch_taken s false (node k i b (node l j c nothing)) = bare s l j c
+branch_taken s truth branches = None
+
+abbrev pub by_condition : Spot → (parts : Forest) → Option Tree
+by_condition s (node (literal v) m nothing branches) = branch_taken s (truthy (literal_value v)) branches
+by_condition s parts = None
+
+abbrev pub conditional_becomes : Spot → Kind → (parts : Forest) → Option Tree
+conditional_becomes s conditional_expression parts = by_condition s parts
+conditional_becomes s k parts = None
+
+-- the right side where that is evaluated, else the literal on the left
+abbrev pub right_taken : Spot → Forest → Option Tree
+right_taken s (node k i b nothing) = bare s k i b
+right_taken s right = None
+
+abbrev pub left_taken : LiteralValue → Note → (right : Forest) → Option Tree
+left_taken v m (node k i b nothing) = Some (record { kind = literal v; note = m; below = nothing })
+left_taken v m right = None
+
+abbrev pub by_left_side : Spot → LogicalOperator → (parts : Forest) → Option Tree
+by_left_side s o (node (literal v) m nothing right) = if goes_right o (literal_value v) then right_taken s right else left_taken v m right
+by_left_side s o parts = None
+
+abbrev pub logical_becomes : Spot → Kind → (parts : Forest) → Option Tree
+logical_becomes s (logical_expression o) parts = by_left_side s o parts
+logical_becomes s k parts = None
+
+-- ---- as rules of a walk
+
+abbrev pub fold_conditional : Rule
+fold_conditional c x = conditional_becomes (spot_of c.place) x.kind x.below
+
+abbrev pub fold_logical : Rule
+fold_logical c x = logical_becomes (spot_of c.place) x.kind x.below
+
+-- what becomes of an expression at its end
+abbrev pub at_expression_end : Rule
+at_expression_end = either fold_conditional fold_logical

@@ -1,0 +1,4 @@
+pub mod Uses
+pub mod Known
+pub mod Settled
+pub mod Samples

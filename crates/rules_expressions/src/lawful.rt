@@ -1,0 +1,15 @@
+// What the rules owe so that a hook may apply them. The law is a contract, so that the check proves it.
+ghost use Rattle.js_syntax.specs.Node.{Forest};
+ghost use Rattle.steps_allowed.specs.Edits.{Edit};
+ghost use Rattle.min_options.specs.declared.options.CompressOptions.{CompressOptions};
+ghost use Rattle.min_traverse.specs.Lawful.{Lawful};
+ghost use Rattle.rules_expressions.specs.Known.{fold_conditional, fold_logical, at_expression_end};
+
+use min_traverse::Traverse;
+
+/// Law: each rule is lawful for a walker that may make the edits of a dead code remover, and so are both, one after the other.
+pub fn rules_are_lawful<T: Traverse>()
+    ensures conditional { ((o : CompressOptions) (t u : Forest) → Edit t u → T.edit o t u) → Lawful T.edit fold_conditional }
+    ensures logical { ((o : CompressOptions) (t u : Forest) → Edit t u → T.edit o t u) → Lawful T.edit fold_logical }
+    ensures both { ((o : CompressOptions) (t u : Forest) → Edit t u → T.edit o t u) → Lawful T.edit at_expression_end }
+{}

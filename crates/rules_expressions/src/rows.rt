@@ -1,0 +1,52 @@
+// Small programs, by computing.
+ghost use Rattle.std.specs.Prelude.{◌≡◌, [], ◌∷◌, codes};
+ghost use Rattle.js_syntax.specs.declared.operator.LogicalOperator.TheVariants as logical_operator;
+ghost use Rattle.js_syntax.specs.declared.operator.UnaryOperator.TheVariants as unary_operator;
+ghost use Rattle.form_rules.specs.Samples.{a, reads, one, does, calls};
+ghost use Rattle.scope_rules.specs.Samples.{b};
+ghost use Rattle.steps_allowed.specs.Rows.{null, conditional, with_a};
+ghost use Rattle.rules_expressions.specs.Samples.{left, left_of, doing, uses, member, logical, unary, parenthesized, empty_text, a_function};
+
+/// A conditional on a literal becomes the branch that is taken, at any depth.
+pub fn branches_left()
+    ensures consequent { left_of (uses (conditional one (reads a) (reads b))) ≡ doing (uses (reads a)) }
+    ensures alternate { left_of (uses (conditional null (reads a) (reads b))) ≡ doing (uses (reads b)) }
+    ensures empty { left_of (uses (conditional empty_text (reads a) (reads b))) ≡ doing (uses (reads b)) }
+    ensures nested { left_of (uses (conditional one (conditional null (reads a) member) (reads b))) ≡ doing (uses member) }
+    ensures unknown { left_of (uses (conditional (reads a) one null)) ≡ doing (uses (conditional (reads a) one null)) }
+{}
+
+/// A logical expression with a literal on its left becomes the side that counts.
+pub fn sides_left()
+    ensures and_right { left_of (uses (logical logical_operator.And one (reads b))) ≡ doing (uses (reads b)) }
+    ensures and_left { left_of (uses (logical logical_operator.And null (reads b))) ≡ doing (uses null) }
+    ensures or_right { left_of (uses (logical logical_operator.Or empty_text (reads b))) ≡ doing (uses (reads b)) }
+    ensures or_left { left_of (uses (logical logical_operator.Or one (reads b))) ≡ doing (uses one) }
+    ensures coalesce_right { left_of (uses (logical logical_operator.Coalesce null (reads b))) ≡ doing (uses (reads b)) }
+    ensures coalesce_left { left_of (uses (logical logical_operator.Coalesce empty_text (reads b))) ≡ doing (uses empty_text) }
+{}
+
+/// A member is not called where the value of a conditional is, also in parentheses (ECMA-262 13.3.6.2); another value is.
+pub fn callees_left()
+    ensures member { left_of (calls (conditional one member null)) ≡ doing (calls (conditional one member null)) }
+    ensures parenthesized { left_of (calls (parenthesized (conditional one member null))) ≡ doing (calls (parenthesized (conditional one member null))) }
+    ensures inside { left_of (calls (conditional one (parenthesized member) null)) ≡ doing (calls (conditional one (parenthesized member) null)) }
+    ensures logical { left_of (calls (logical logical_operator.And one member)) ≡ doing (calls (logical logical_operator.And one member)) }
+    ensures direct_eval { left_of (calls (conditional one (reads (codes "eval")) null)) ≡ doing (calls (conditional one (reads (codes "eval")) null)) }
+    ensures name { left_of (calls (conditional one (reads b) null)) ≡ doing (calls (reads b)) }
+    ensures name_in_with { left (with_a (does (calls (conditional one (reads b) null)))) ≡ with_a (does (calls (conditional one (reads b) null))) }
+    ensures argument { left_of (uses (conditional one member null)) ≡ doing (uses member) }
+{}
+
+/// `typeof` takes a name that nothing declares, and `delete` what a member refers to (13.5.3, 13.5.1).
+pub fn operands_left()
+    ensures typeof_name { left_of (unary unary_operator.Typeof (conditional one (reads b) null)) ≡ doing (unary unary_operator.Typeof (conditional one (reads b) null)) }
+    ensures typeof_member { left_of (unary unary_operator.Typeof (conditional one member null)) ≡ doing (unary unary_operator.Typeof member) }
+    ensures delete_member { left_of (unary unary_operator.Delete (conditional one member null)) ≡ doing (unary unary_operator.Delete (conditional one member null)) }
+    ensures not_member { left_of (unary unary_operator.LogicalNot (conditional one member null)) ≡ doing (unary unary_operator.LogicalNot member) }
+{}
+
+/// A function stays where it might take a name (8.4).
+pub fn functions_left()
+    ensures { left_of (uses (conditional one a_function null)) ≡ doing (uses (conditional one a_function null)) }
+{}
