@@ -42,13 +42,13 @@ stepped : (t u : Forest) → (is_well_placed t ≡ true → Good t → Step oute
 stepped t u step h g = step_refines t u (step h.placed (good_module t h)) h g
 
 -- a node that comes to another
-come : (a : Around) (x y : Tree) → Comes x y → IsSensibleModule (plug a (Some x)) → IsSensible (plug a (Some y)) → Refines (plug a (Some x)) (plug a (Some y))
+come : (a : Around) (x y : Tree) → Comes a x y → IsSensibleModule (plug a (Some x)) → IsSensible (plug a (Some y)) → Refines (plug a (Some x)) (plug a (Some y))
 come a x y comes h g =
     let fits = subst (Fits root) h.is h.sensible.fits in
     let core = subst (λ t. all_core t ≡ true) h.is h.core in
     let still = parts_stay_modules h.note h.list_note h.items a x y h.is comes fits in
     record {
-      left = of_module (plug a (Some y)) (record { note = h.note; list_note = h.list_note; items = still.changed; is = still.is }) (core_stays x y comes a h.core) g;
+      left = of_module (plug a (Some y)) (record { note = h.note; list_note = h.list_note; items = still.changed; is = still.is }) (core_stays a x y comes a h.core) g;
       refined = subst (λ t. Refined t (plug a (Some y))) (sym h.is) (comes_refines h.note h.list_note h.items a x y h.is comes fits core g.fits g.well_formed);
     }
 

@@ -1,12 +1,13 @@
 -- A program without dead code has none with other notes.
-use Rattle.std.proofs.Common.{◌≡◌, ◌∙◌, ◌+◌, ℕ, suc, List, [], ◌∷◌, ◌++◌, map, Bool, true, false, ◌&&◌, ◌||◌, Option, Some, None, is_some, option_map, if◌then◌else◌, refl, sym, ap, ap₂, subst, inl, inr}
+use Rattle.std.proofs.Common.{◌≡◌, ◌∙◌, ◌+◌, ℕ, suc, List, [], ◌∷◌, ◌++◌, map, Bool, true, false, not, ◌&&◌, ◌||◌, Option, Some, None, is_some, option_map, if◌then◌else◌, refl, sym, ap, ap₂, subst, inl, inr}
 use Rattle.std.proofs.lemmas.List.{map-append}
 use Rattle.std.specs.Str.{bytes_eq}
 use mathlib.Core.Path.{fun_ext}
 use Rattle.js_syntax.specs.declared.node_kind.NodeKind.{NodeKind as Kind}
-use Rattle.js_syntax.specs.declared.node_kind.NodeKind.TheVariants.{Function as function, BindingName as binding_name, ReferenceName as reference_name, TargetName as target_name, EmptyStatement as empty_statement, ExpressionStatement as expression_statement, VariableDeclarator as variable_declarator}
+use Rattle.js_syntax.specs.declared.node_kind.NodeKind.TheVariants.{Function as function, BindingName as binding_name, ReferenceName as reference_name, TargetName as target_name, EmptyStatement as empty_statement, ExpressionStatement as expression_statement, VariableDeclarator as variable_declarator, MemberExpression as member_expression, ChainExpression as chain_expression, ParenthesizedExpression as parenthesized_expression, Class as class, ConditionalExpression as conditional_expression, LogicalExpression as logical_expression, Literal as literal}
 use Rattle.js_syntax.specs.declared.kind.FunctionKind.TheVariants as function_kind
 use Rattle.js_syntax.specs.declared.kind.VariableKind.TheVariants as variable
+use Rattle.js_syntax.specs.declared.value.LiteralValue.{LiteralValue}
 use Rattle.js_syntax.specs.Node.{Forest, Tree, Note, nothing, node, absent, nowhere, bare}
 use Rattle.min_pass.specs.declared.around.Around.{Around as Asked}
 use Rattle.min_pass.specs.Around.{is_with, entered as asked_below, outermost as asked_of_program}
@@ -22,14 +23,17 @@ use Rattle.scope_laws.proofs.Among.{among_map, image}
 use Rattle.steps_names.specs.Standing.{is_export, exported_sites, exported_declarations}
 use Rattle.steps_allowed.specs.Silent.{read_in, IsFound, IsSilentNode, IsSilent, HoldsThere}
 use Rattle.steps_allowed.specs.Exposure.{Exposure, exposed_inside, exposed_of, exposed_at, exposure, function_is_exposed, evaluates_somewhere, IsOwnFunction, IsOwnDeclarator}
-use Rattle.steps_allowed.specs.Places.{a_node, asked_at, IsItem, IsDeclarator, At}
+use Rattle.steps_allowed.specs.Uses.{Use, use_below, use_there, use_at, chain_matters, matters, may_take_name, stands_bare}
+use Rattle.steps_allowed.specs.Places.{a_node, asked_at, IsItem, IsDeclarator, At, MayStandBare}
 use Rattle.steps_allowed.specs.Free.{IsFree, Free, FreeDeclarator}
 use Rattle.steps_allowed.specs.SilentStatement.{SilentStatement}
 use Rattle.steps_allowed.specs.UnusedFunction.{a_function}
 use Rattle.steps_allowed.specs.UnusedDeclarator.{a_declarator, SilentDeclarator}
+use Rattle.steps_allowed.specs.KnownConditional.{KnownConditional, consequent_is_taken, alternate_is_taken}
+use Rattle.steps_allowed.specs.KnownSide.{KnownSide, right_side_counts, left_side_decides}
 use Rattle.steps_owed.proofs.ExposedBare.{bare_inside, bare_below, bare_exposed}
 use Rattle.steps_owed.proofs.Focus.{follows_there}
-use Rattle.headline.specs.Clean.{IsDead, an_empty_statement, a_silent_statement, an_unused_function, an_unused_declarator, Clean}
+use Rattle.headline.specs.Clean.{IsDead, an_empty_statement, a_silent_statement, an_unused_function, an_unused_declarator, a_known_conditional, a_known_side, Clean}
 
 -- ---- sites without ids and spans
 
@@ -254,6 +258,7 @@ record Twin (t : Forest) (a : Around) (k : Kind) (n : Note) (b : Forest) : Type 
   is : t ≡ plug around (a_node k note below)
   same : bare below ≡ bare b
   asked : (w : Asked) → asked_at w around ≡ asked_at w a
+  used : (us : ℕ → Use) (at : ℕ) → use_there us at around ≡ use_there us at a
   exposed : (es : ℕ → Exposure) (at : ℕ) → exposed_at es at around (a_node k note below) ≡ exposed_at es at a (a_node k n b)
   holds : (P : Bool → Context → ℕ → Type 0) (w : Bool) (cs : ℕ → Context) (at next : ℕ) → HoldsThere w cs at next a (a_node k n b) P → HoldsThere w cs at next around (a_node k note below) P
 
@@ -267,6 +272,7 @@ twin (first rest) k n b (node l m c r) e = record {
   is = ap (λ j. node j m c r) (same_kind e);
   same = same_below e;
   asked = λ w. refl;
+  used = λ us at. refl;
   exposed = λ es at. refl;
   holds = λ P w cs at next h. h;
 }
@@ -281,6 +287,7 @@ twin (behind j i d a) k n b (node l m c r) e =
       is = ap₂ (λ x y. node x m c y) (same_kind e) o.is;
       same = o.same;
       asked = o.asked;
+      used = λ us at. o.used us (suc at);
       exposed = λ es at. o.exposed es (suc at);
       holds = λ P w cs at next h. subst (λ (q : ℕ). HoldsThere w cs (suc at) q o.around (a_node k o.note o.below) P) (sym (place_as next j m i c d (same_below e))) (o.holds P w cs (suc at) (next + scope_count (node j i d nothing)) h);
     }
@@ -295,6 +302,7 @@ twin (behind_none a) k n b (absent r) e =
       is = ap absent o.is;
       same = o.same;
       asked = o.asked;
+      used = λ us at. o.used us (suc at);
       exposed = λ es at. o.exposed es (suc at);
       holds = λ P w cs at next h. o.holds P w cs (suc at) next h;
     }
@@ -312,6 +320,7 @@ twin (under j i a rest) k n b (node l m c r) e =
       is = ap₂ (λ x y. node x m y r) (same_kind e) o.is;
       same = o.same;
       asked = λ w. o.asked (asked_below w j);
+      used = λ us at. o.used (λ i. use_below (us at) j i) 0;
       exposed = λ es at. ap (λ (fs : ℕ → Exposure). exposed_at fs 0 o.around y) (sym (exposed_same (es at) j (plug a x) (plug o.around y) inner)) ∙ o.exposed (exposed_inside (es at) j (plug a x)) 0;
       holds = λ P w cs at next h.
           subst (λ (q : ℕ). HoldsThere (w || is_with j) (inside (cs at) next j (plug o.around y)) 0 (next + q) o.around y P) (opens_same j (plug a x) (plug o.around y) inner)
@@ -367,6 +376,95 @@ begins : (f : Forest) (x : List ℕ) (m : Note) (rest : Forest) → bare f ≡ b
 begins nothing x m rest e = absurd (nothing_node e)
 begins (absent r) x m rest e = absurd (absent_node e)
 begins (node k n b r) x m rest e = record { note = n; rest_now = r; is = ap₂ (λ j c. node j n c r) (same_kind e) (nothing_bare b (same_below e)); same = sym (same_rest e) }
+
+-- ---- rows that begin with a node
+
+record Opens (f : Forest) (k : Kind) (below rest : Forest) : Type 0 where
+  note : Note
+  below_now : Forest
+  rest_now : Forest
+  is : f ≡ node k note below_now rest_now
+  same_below : bare below_now ≡ bare below
+  same_rest : bare rest_now ≡ bare rest
+
+opened : (f : Forest) (k : Kind) (n : Note) (b r : Forest) → bare f ≡ bare (node k n b r) → Opens f k b r
+opened nothing k n b r e = absurd (nothing_node e)
+opened (absent s) k n b r e = absurd (absent_node e)
+opened (node l m c s) k n b r e = record { note = m; below_now = c; rest_now = s; is = ap (λ j. node j m c s) (same_kind e); same_below = same_below e; same_rest = same_rest e }
+
+-- a literal before one node, or before two
+record BeforeOne (f : Forest) (v : LiteralValue) (k : Kind) (b : Forest) : Type 0 where
+  note : Note
+  first_note : Note
+  first_below : Forest
+  is : f ≡ node (literal v) note nothing (node k first_note first_below nothing)
+  same : bare first_below ≡ bare b
+
+before_one : (f : Forest) (v : LiteralValue) (m i : Note) (k : Kind) (b : Forest) → bare f ≡ bare (node (literal v) m nothing (node k i b nothing)) → BeforeOne f v k b
+before_one f v m i k b e =
+    let o = opened f (literal v) m nothing (node k i b nothing) e in
+    let p = opened o.rest_now k i b nothing o.same_rest in
+    record {
+      note = o.note;
+      first_note = p.note;
+      first_below = p.below_now;
+      is = o.is ∙ ap₂ (λ x y. node (literal v) o.note x y) (nothing_bare o.below_now o.same_below) (p.is ∙ ap (λ x. node k p.note p.below_now x) (nothing_bare p.rest_now p.same_rest));
+      same = p.same_below;
+    }
+
+record BeforeTwo (f : Forest) (v : LiteralValue) (k : Kind) (b : Forest) (l : Kind) (c : Forest) : Type 0 where
+  note : Note
+  first_note : Note
+  first_below : Forest
+  second_note : Note
+  second_below : Forest
+  is : f ≡ node (literal v) note nothing (node k first_note first_below (node l second_note second_below nothing))
+  same_first : bare first_below ≡ bare b
+  same_second : bare second_below ≡ bare c
+
+before_two : (f : Forest) (v : LiteralValue) (m i j : Note) (k : Kind) (b : Forest) (l : Kind) (c : Forest) → bare f ≡ bare (node (literal v) m nothing (node k i b (node l j c nothing))) → BeforeTwo f v k b l c
+before_two f v m i j k b l c e =
+    let o = opened f (literal v) m nothing (node k i b (node l j c nothing)) e in
+    let p = opened o.rest_now k i b (node l j c nothing) o.same_rest in
+    let q = opened p.rest_now l j c nothing p.same_rest in
+    record {
+      note = o.note;
+      first_note = p.note;
+      first_below = p.below_now;
+      second_note = q.note;
+      second_below = q.below_now;
+      is = o.is ∙ ap₂ (λ x y. node (literal v) o.note x y) (nothing_bare o.below_now o.same_below) (p.is ∙ ap (λ x. node k p.note p.below_now x) (q.is ∙ ap (λ x. node l q.note q.below_now x) (nothing_bare q.rest_now q.same_rest)));
+      same_first = p.same_below;
+      same_second = q.same_below;
+    }
+
+-- ---- what may stand bare
+
+chain_bare : (u : Use) (t : Forest) → chain_matters u (bare t) ≡ chain_matters u t
+chain_bare u (node (member_expression key optional) n below rest) = refl
+chain_bare u (node k n below rest) = refl
+chain_bare u (absent rest) = refl
+chain_bare u nothing = refl
+
+matters_bare : (u : Use) (w : Bool) (k : Kind) (t : Forest) → matters u w k (bare t) ≡ matters u w k t
+matters_bare u w (reference_name x) t = refl
+matters_bare u w (member_expression key optional) t = refl
+matters_bare u w chain_expression t = chain_bare u t
+matters_bare u w parenthesized_expression (node k n below rest) = matters_bare u w k below
+matters_bare u w parenthesized_expression (absent rest) = refl
+matters_bare u w parenthesized_expression nothing = refl
+matters_bare u w k t = refl
+
+names_taken_bare : (k : Kind) (t : Forest) → may_take_name k (bare t) ≡ may_take_name k t
+names_taken_bare (function how pure) t = refl
+names_taken_bare (class how) t = refl
+names_taken_bare parenthesized_expression (node k n below rest) = names_taken_bare k below
+names_taken_bare parenthesized_expression (absent rest) = refl
+names_taken_bare parenthesized_expression nothing = refl
+names_taken_bare k t = refl
+
+stands_as : (u : Use) (w : Bool) (k : Kind) (f g : Forest) → bare f ≡ bare g → stands_bare u w k f ≡ stands_bare u w k g
+stands_as u w k f g e = unseen (stands_bare u w k) (λ t. ap₂ (λ m n. not (m || n)) (matters_bare u w k t) (names_taken_bare k t)) f g e
 
 -- ---- dead code
 
@@ -442,11 +540,42 @@ module _ (t u : Forest) (e : bare t ≡ bare u) (clean : Clean t) where
       clean.nothing_is_dead o.around (a_declarator o.note f.note x f.rest_now) there.0
       (an_unused_declarator o.around o.note f.note x f.rest_now (declares_as a o declares) there.1 there.2 there.3)
 
+  bare_as : {k : Kind} {n : Note} {b : Forest} (a : Around) (o : Twin t a k n b) (j : Kind) (c d : Forest) → bare c ≡ bare d → MayStandBare a j d → MayStandBare o.around j c
+  bare_as a o j c d same may =
+      stands_as (use_at o.around) (asked_at (asked_of_program true) o.around).in_with j c d same
+      ∙ ap₂ (λ v (w : Asked). stands_bare v w.in_with j d) (o.used (λ i. Use.as_value) 0) (o.asked (asked_of_program true)) ∙ may
+
+  no_conditional : (a : Around) (x y : Tree) → u ≡ plug a (Some x) → KnownConditional a x y → ⊥
+  no_conditional a x y is (consequent_is_taken v n m i j k l b c truth may) =
+      let o = other_place a conditional_expression n (node (literal v) m nothing (node k i b (node l j c nothing))) is in
+      let f = before_two o.below v m i j k b l c o.same in
+      clean.nothing_is_dead o.around _ (o.is ∙ ap (λ d. plug o.around (a_node conditional_expression o.note d)) f.is)
+      (a_known_conditional o.around _ _ (consequent_is_taken v o.note f.note f.first_note f.second_note k l f.first_below f.second_below truth (bare_as a o k f.first_below b f.same_first may)))
+  no_conditional a x y is (alternate_is_taken v n m i j k l b c truth may) =
+      let o = other_place a conditional_expression n (node (literal v) m nothing (node k i b (node l j c nothing))) is in
+      let f = before_two o.below v m i j k b l c o.same in
+      clean.nothing_is_dead o.around _ (o.is ∙ ap (λ d. plug o.around (a_node conditional_expression o.note d)) f.is)
+      (a_known_conditional o.around _ _ (alternate_is_taken v o.note f.note f.first_note f.second_note k l f.first_below f.second_below truth (bare_as a o l f.second_below c f.same_second may)))
+
+  no_side : (a : Around) (x y : Tree) → u ≡ plug a (Some x) → KnownSide a x y → ⊥
+  no_side a x y is (right_side_counts operator v n m i k b goes may) =
+      let o = other_place a (logical_expression operator) n (node (literal v) m nothing (node k i b nothing)) is in
+      let f = before_one o.below v m i k b o.same in
+      clean.nothing_is_dead o.around _ (o.is ∙ ap (λ d. plug o.around (a_node (logical_expression operator) o.note d)) f.is)
+      (a_known_side o.around _ _ (right_side_counts operator v o.note f.note f.first_note k f.first_below goes (bare_as a o k f.first_below b f.same may)))
+  no_side a x y is (left_side_decides operator v n m i k b goes) =
+      let o = other_place a (logical_expression operator) n (node (literal v) m nothing (node k i b nothing)) is in
+      let f = before_one o.below v m i k b o.same in
+      clean.nothing_is_dead o.around _ (o.is ∙ ap (λ d. plug o.around (a_node (logical_expression operator) o.note d)) f.is)
+      (a_known_side o.around _ _ (left_side_decides operator v o.note f.note f.first_note k f.first_below goes))
+
   none_dead : (a : Around) (x : Option Tree) → u ≡ plug a x → IsDead u a x → ⊥
   none_dead a x is (an_empty_statement b n item) = no_empty b n is item
   none_dead a x is (a_silent_statement b n below silent) = no_silent b n below is silent
   none_dead a x is (an_unused_function b pure n m y rest item own free) = no_function b pure n m y rest is item own free
   none_dead a x is (an_unused_declarator b n m y value item own silent free) = no_declarator b n m y value is item own silent free
+  none_dead a x is (a_known_conditional b y z known) = no_conditional b y z is known
+  none_dead a x is (a_known_side b y z known) = no_side b y z is known
 
 pub clean_as : (t u : Forest) → bare t ≡ bare u → Clean t → Clean u
 clean_as t u e clean = record { nothing_is_dead = none_dead t u e clean }

@@ -1,5 +1,5 @@
 -- What a program without dead code is: read off its tree alone, by the bindings of its names.
-use Rattle.std.specs.Prelude.{◌≡◌, ℕ, List, Bool, Option}
+use Rattle.std.specs.Prelude.{◌≡◌, ℕ, List, Bool, Option, Some}
 use Rattle.js_syntax.specs.declared.node_kind.NodeKind.TheVariants.{EmptyStatement as empty_statement, ExpressionStatement as expression_statement, BindingName as binding_name}
 use Rattle.js_syntax.specs.declared.kind.VariableKind.TheVariants as variable
 use Rattle.js_syntax.specs.Node.{Forest, Tree, Note, nothing, node}
@@ -10,6 +10,9 @@ use Rattle.steps_allowed.specs.Free.{Free, FreeDeclarator}
 use Rattle.steps_allowed.specs.SilentStatement.{SilentStatement}
 use Rattle.steps_allowed.specs.UnusedFunction.{a_function}
 use Rattle.steps_allowed.specs.UnusedDeclarator.{a_declarator, SilentDeclarator}
+-- what decides by a literal, and the part that counts, which may stand in its place
+use Rattle.steps_allowed.specs.KnownConditional.{KnownConditional}
+use Rattle.steps_allowed.specs.KnownSide.{KnownSide}
 -- whose names only the tree's references may use
 use Rattle.steps_allowed.specs.Exposure.{IsOwnFunction, IsOwnDeclarator}
 
@@ -26,6 +29,10 @@ pub data IsDead (t : Forest) : Around → Option Tree → Type 0 where
   -- or none
   an_unused_declarator : (a : Around) (n m : Note) (x : List ℕ) (value : Forest) → IsDeclarator a → IsOwnDeclarator a (a_declarator n m x value)
       → At a (a_declarator n m x value) (SilentDeclarator t (node (binding_name x) m nothing value)) → At a (a_declarator n m x value) (FreeDeclarator t x) → IsDead t a (a_declarator n m x value)
+  -- a conditional whose condition is a literal, if the branch that is taken may stand in its place: the other is never evaluated
+  a_known_conditional : (a : Around) (x y : Tree) → KnownConditional a x y → IsDead t a (Some x)
+  -- a logical expression whose left side is a literal, if the side that counts may stand in its place: the other does nothing
+  a_known_side : (a : Around) (x y : Tree) → KnownSide a x y → IsDead t a (Some x)
 
 -- No part of the program is dead code.
 pub record Clean (t : Forest) : Type 0 where

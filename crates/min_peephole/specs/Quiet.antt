@@ -1,5 +1,5 @@
 -- Whether the rules leave a program as it is, by the table that is made of it.
-use Rattle.std.specs.Prelude.{Bool, true, false, not, ◌&&◌}
+use Rattle.std.specs.Prelude.{Bool, true, false, not, ◌&&◌, is_some}
 use Rattle.js_syntax.specs.declared.node_kind.NodeKind.{NodeKind as Kind}
 use Rattle.js_syntax.specs.declared.node_kind.NodeKind.TheVariants.{Statements as statements}
 use Rattle.js_syntax.specs.Node.{Forest, nothing, node, absent}
@@ -10,6 +10,8 @@ use Rattle.min_context.specs.Place.{Place, Spot, place_of, next_of, below, top}
 use Rattle.exported_names.specs.Answers.{bound_of}
 use Rattle.exported_names.specs.Exported.{exported_of}
 use Rattle.rules_dead_code.specs.Rules.{Facts, where_of, is_silent_statement, has_dead}
+use Rattle.rules_expressions.specs.Uses.{spot_of}
+use Rattle.rules_expressions.specs.Known.{conditional_becomes, logical_becomes}
 
 -- what the first pass knows
 abbrev pub first_facts : Forest → Facts
@@ -19,9 +21,13 @@ abbrev pub is_row : Kind → Bool
 is_row statements = true
 is_row k = false
 
--- a node at a place: no item of a list goes, and no statement becomes empty
+-- an expression at a place comes to no part
+abbrev pub is_settled : Place → Kind → (inner : Forest) → Bool
+is_settled p k inner = not (is_some (conditional_becomes (spot_of p) k inner)) && not (is_some (logical_becomes (spot_of p) k inner))
+
+-- a node at a place: no item of a list goes, no statement becomes empty, and no expression comes to a part
 abbrev pub stays : Facts → Place → Kind → (inner : Forest) → Bool
-stays f p k inner = not (is_row k && has_dead f (where_of p) inner) && not (is_silent_statement f (where_of p) k inner)
+stays f p k inner = not (is_row k && has_dead f (where_of p) inner) && (not (is_silent_statement f (where_of p) k inner) && is_settled p k inner)
 
 -- each node of a row, by its place
 abbrev pub all_stay : Facts → Spot → Forest → Bool

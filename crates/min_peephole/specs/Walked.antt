@@ -6,6 +6,7 @@ use Rattle.symbol_sets.specs.Numbers.{has}
 use Rattle.steps_allowed.specs.Edits.{TreeEdits}
 use Rattle.rules_dead_code.specs.Knows.{Knows}
 use Rattle.rules_dead_code.specs.Quiet.{IsQuiet}
+use Rattle.rules_expressions.specs.Settled.{IsSettled}
 use Rattle.min_context.specs.IsTrue.{IsTrue}
 use Rattle.min_context.specs.Place.{outside}
 use Rattle.min_context.specs.Seen.{Seen, still}
@@ -21,7 +22,8 @@ pub record Walked (names : Names) (c : Seen) (t : Forest) (later : Names) (d : S
   pub exported_only : ExportedOnly later u
   pub place : d.place ≡ outside
   pub lighter : total weight u + busy d ≤ total weight t
-  -- where it asks for no other pass, nothing changed and nothing goes
+  -- where it asks for no other pass, nothing changed, nothing goes and no expression comes to a part
   pub names_same : d.requested ≡ false → later ≡ names
   pub context_same : d.requested ≡ false → d ≡ c
   pub quiet : d.requested ≡ false → IsQuiet (facts_of later d) u
+  pub settled : d.requested ≡ false → IsSettled u

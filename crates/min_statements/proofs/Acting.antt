@@ -38,7 +38,9 @@ use Rattle.steps_told.proofs.Edited.{joined_only, calls_of, edits_names, edits_t
 use Rattle.steps_told.proofs.Nested.{edits_nest}
 use Rattle.steps_export.proofs.Edited.{listed_stay}
 use Rattle.min_statements.specs.Own.{AnyEdit, ExportedOnly, Own, IsToldOnly, Found}
-use Rattle.min_statements.proofs.Calls.{is_no_name, silent_is_no_name, evals_kept, none_dropped}
+use Rattle.min_statements.proofs.Calls.{is_no_name, silent_is_no_name, evals_kept, CallsStay, none_dropped}
+use Rattle.steps_allowed.specs.Uses.{use_at, stands_bare}
+use Rattle.rules_dead_code.specs.Before as in_row
 use Rattle.min_statements.specs.Shed.{shed}
 use Rattle.min_statements.specs.Walker.{Names, facts_of}
 use Rattle.min_statements.proofs.Shed.{LeavesBy, facts_still, edited, splits, ids_add, evals_add}
@@ -144,7 +146,7 @@ pub own_of : (names : Names) (c : Seen) (marked : ℕ → Bool) (t : Forest) →
 own_of names c marked t k only exported = record { flags = k.flags; outermost = k.outermost; bound = k.bound; exported = k.exported; script = k.script; only = only; exported_only = exported }
 
 -- no call of `eval` left that isn't noted
-abbrev Noted : (c d : Seen) (t u : Forest) → Type 0
+abbrev pub Noted : (c d : Seen) (t u : Forest) → Type 0
 Noted c d t u = d.eval_dropped ≡ false → (c.eval_dropped ≡ false) × (evals u ≡ evals t)
 
 only_still : (c d : Seen) (t u : Forest) → TreeEdits t u → Noted c d t u → Fits root t → IsToldOnly c.scoping c.eval_dropped t → IsToldOnly c.scoping d.eval_dropped u
@@ -183,22 +185,25 @@ trim_calls f w x y list tree =
     Prim.omega (arith, ap (λ q. evals (forest_of q)) tree, list_calls x.kind x.note x.below list, list_calls x.kind x.note (trimmed f w x.below) list, splits evals evals_add f w x.below)
 
 module _ (stays : Stays AnyEdit) (names : Names) where
-  moves : {c d : Seen} {x y : Tree} → ((a : Around) (r : Forest) → IsHere c a → Holds Own names (still c) (plug a (before x r)) → TreeEdits (plug a (before x r)) (plug a (before y r)))
-      → ((i : ℕ) → ids i (forest_of y) ≤ ids i (forest_of x)) → total weight (forest_of y) + 1 ≤ total weight (forest_of x) → evals (forest_of y) ≤ evals (forest_of x) → is_no_name x.kind ≡ true → is_no_name y.kind ≡ true
+  noted : {c d : Seen} {x y : Tree} → ((a : Around) (r : Forest) → IsHere c a → CallsStay (in_row.before a r) x y) → Edited c x y true d → (a : Around) (r : Forest) → IsHere c a → Noted (still c) (still d) (plug a (before x r)) (plug a (before y r))
+  noted {c = c} {d = d} {x = x} {y = y} calls e a r p q =
+      let h = calls a r p in
+      let none = none_dropped d.eval_dropped c.eval_dropped (evals (forest_of y)) (evals (forest_of x)) e.evals h.fewer q in
+      (none.0, evals_kept x.kind y.kind x.note y.note x.below y.below r h.old h.in_with none.1 a h.bare)
+
+  pub moves : {c d : Seen} {x y : Tree} → ((a : Around) (r : Forest) → IsHere c a → Holds Own names (still c) (plug a (before x r)) → TreeEdits (plug a (before x r)) (plug a (before y r)))
+      → ((i : ℕ) → ids i (forest_of y) ≤ ids i (forest_of x)) → total weight (forest_of y) + 1 ≤ total weight (forest_of x) → ((a : Around) (r : Forest) → IsHere c a → CallsStay (in_row.before a r) x y)
       → Edited c x y true d → NodeMoves Names AnyEdit (Holds Own) names c x names d y
-  moves {c = c} {d = d} {x = x} {y = y} edits fewer lighter fewer_calls old new e =
-      let noted : (a : Around) (r : Forest) → Noted (still c) (still d) (plug a (before x r)) (plug a (before y r)) = λ a r q.
-      let none = none_dropped d.eval_dropped c.eval_dropped (evals (forest_of y)) (evals (forest_of x)) e.evals fewer_calls q in
-      (none.0, evals_kept x.kind y.kind x.note y.note x.below y.below r old new none.1 a) in
+  moves {c = c} {d = d} {x = x} {y = y} edits fewer lighter calls e =
       held_moves stays (λ a r p h. as_edits (edits a r p h)) fewer lighter (λ q. absurd (true≢false q)) e
-      (λ a r p m h. known_still names (still c) (still d) (plug a (before x r)) (plug a (before y r)) (edits a r p h) m (noted a r) h)
+      (λ a r p m h. known_still names (still c) (still d) (plug a (before x r)) (plug a (before y r)) (edits a r p h) m (noted calls e a r p) h)
 
   trim_edits : (f : Facts) (m : ℕ → Bool) (p : Place) (k : Kind) (n : Note) (b : Forest) → k ≡ statements → (a : Around) (r : Forest) → place_at a ≡ p → Knows f m (plug a (node k n b r)) → TreeEdits (plug a (node k n b r)) (plug a (node k n (trimmed f (where_of p) b) r))
   trim_edits f m p k n b list a r at =
       subst (λ q. Knows f m (plug a (node q n b r)) → TreeEdits (plug a (node q n b r)) (plug a (node q n (trimmed f (where_of p) b) r))) (sym list)
       (λ h. subst (λ q. TreeEdits (plug a (node statements n b r)) (plug a (node statements n (trimmed f (where_of q) b) r))) at (list_trims f m a n b r h))
 
-  stayed : {c d : Seen} {x y : Tree} → y ≡ x → d ≡ c → NodeMoves Names AnyEdit (Holds Own) names c x names d y
+  pub stayed : {c d : Seen} {x y : Tree} → y ≡ x → d ≡ c → NodeMoves Names AnyEdit (Holds Own) names c x names d y
   stayed {c = c} {d = d} {x = x} {y = y} tree context =
       let same : NodeMoves Names AnyEdit (Holds Own) names c x names c x = unchanged_moves (λ a r p t o. o) in
       subst (λ q. NodeMoves Names AnyEdit (Holds Own) names c x names d q) (sym tree) (subst (λ q. NodeMoves Names AnyEdit (Holds Own) names c x names q x) (sym context) same)
@@ -216,9 +221,12 @@ module _ (stays : Stays AnyEdit) (names : Names) where
           (λ a r p h. subst (λ q. TreeEdits (plug a (before x r)) (plug a (before q r))) (sym tree) (trim_edits (facts_of names c) (has c.marked) c.place x.kind x.note x.below list a r p (known names (still c) (plug a (before x r)) h)))
           (λ i. Prim.omega (arith, ap (λ q. ids i (forest_of q)) tree, trimmed_sheds (facts_of names c) (where_of c.place) x.below i))
           (Prim.omega (arith, ap (λ q. total weight (forest_of q)) tree, trimmed_is_lighter (facts_of names c) (where_of c.place) x.below dead))
-          (trim_calls (facts_of names c) (where_of c.place) x y list tree)
-          (ap is_no_name list)
-          (ap (λ q. is_no_name q.kind) tree ∙ ap is_no_name list)
+          (λ a r p. record {
+            fewer = trim_calls (facts_of names c) (where_of c.place) x y list tree;
+            old = ap is_no_name list;
+            in_with = false;
+            bare = subst (λ k. stands_bare (use_at (in_row.before a r)) false k y.below ≡ true) (sym (ap (λ q. q.kind) tree ∙ list)) refl;
+          })
           e
       go false dead =
           let is : trim names c x ≡ None = none_left (record x { below = trimmed (facts_of names c) (where_of c.place) x.below }) dead in
@@ -240,9 +248,12 @@ module _ (stays : Stays AnyEdit) (names : Names) where
           (λ a r p h. one (statement_empties_there (facts_of names c) (has c.marked) a x y r (known names (still c) (plug a (before x r)) h) (ap (λ q. emptied (facts_of names c) (where_of q) x) p ∙ found)))
           (emptied_sheds (facts_of names c) (where_of c.place) x y found)
           (emptied_is_lighter (facts_of names c) (where_of c.place) x y found)
-          (Prim.omega (arith, ap (λ q. evals (forest_of q)) tree))
-          (silent_is_no_name (facts_of names c) (where_of c.place) x.kind x.below silent)
-          (ap (λ q. is_no_name q.kind) tree)
+          (λ a r p. record {
+            fewer = Prim.omega (arith, ap (λ q. evals (forest_of q)) tree);
+            old = silent_is_no_name (facts_of names c) (where_of c.place) x.kind x.below silent;
+            in_with = false;
+            bare = subst (λ k. stands_bare (use_at (in_row.before a r)) false k y.below ≡ true) (sym (ap (λ q. q.kind) tree)) refl;
+          })
           e
       go false silent =
           let is : empty names c x ≡ None = none_left (record { kind = empty_statement; note = unmarked x.note; below = nothing }) silent in
@@ -252,7 +263,7 @@ module _ (stays : Stays AnyEdit) (names : Names) where
 
 -- ---- visits
 
-asked_true : (b : Bool) {P : Type 0} → (b || true) ≡ false → P
+pub asked_true : (b : Bool) {P : Type 0} → (b || true) ≡ false → P
 asked_true true e = absurd (true≢false e)
 asked_true false e = absurd (true≢false e)
 

@@ -1,5 +1,5 @@
 -- How often direct calls of `eval` stand in a tree of which a node becomes another.
-use Rattle.std.proofs.Common.{◌≡◌, ◌∙◌, ◌≤◌, ◌+◌, ℕ, Bool, true, false, true≢false, ◌||◌, if◌then◌else◌, cond, is_some, Option, Some, None, codes, refl, sym, ap, arith}
+use Rattle.std.proofs.Common.{◌≡◌, ◌∙◌, ◌≤◌, ℕ, suc, Bool, true, false, true≢false, not, ◌||◌, if◌then◌else◌, cond, is_some, Some, None, codes, refl, sym, ap, subst, arith}
 use Rattle.std.specs.Prelude.{nat_lt}
 use Rattle.std.specs.Str.{bytes_eq}
 use Rattle.js_syntax.specs.declared.node_kind.NodeKind.{NodeKind as Kind}
@@ -7,7 +7,10 @@ use Rattle.js_syntax.specs.declared.node_kind.NodeKind.TheVariants.{ExpressionSt
 use Rattle.js_syntax.specs.Node.{Forest, Note, Tree, nothing, node, absent}
 use Rattle.js_tree.specs.Names.{eval_name, eval_of_call}
 use Rattle.scope_counts.specs.Edits.{Around, here, behind, behind_none, under, plug}
+use Rattle.scope_laws.specs.Place as places
+use Rattle.steps_allowed.specs.Uses.{Use, as_value, as_callee, use_below, use_there, use_at, matters, may_take_name, stands_bare}
 use Rattle.min_context.specs.Edited.{evals}
+use Rattle.rules_dead_code.specs.Before.{before}
 use Rattle.rules_dead_code.specs.Rules.{Facts, Where, is_silent_statement}
 
 -- a call of it isn't a direct one of `eval`, whatever lies below: it is no name and no parentheses
@@ -34,25 +37,55 @@ one_name : (b : Bool) (x y : Tree) → is_some (if b then Some x else None) ≡ 
 one_name true x y = refl
 one_name false x y = refl
 
-module _ (k l : Kind) (n m : Note) (b c rest : Forest) (old : is_no_name k ≡ true) (new : is_no_name l ≡ true) where
-  name_kept : (a : Around) → is_some (eval_name (plug a (node k n b rest))) ≡ is_some (eval_name (plug a (node l m c rest)))
-  name_kept here = none_named k n b rest old ∙ sym (none_named l m c rest new)
-  name_kept (behind j o d a) = rest_unasked j o d (plug a (node k n b rest)) (plug a (node l m c rest))
-  name_kept (behind_none a) = refl
-  name_kept (under parenthesized_expression o a beside) = name_kept a
-  name_kept (under (reference_name s) o a beside) = one_name (bytes_eq s (codes "eval")) (record { kind = reference_name s; note = o; below = plug a (node k n b rest) }) (record { kind = reference_name s; note = o; below = plug a (node l m c rest) })
-  name_kept (under j o a beside) = refl
+-- What may stand bare where it is called isn't named `eval`, so that no call becomes a direct one (ECMA-262 19.2.1.1).
 
-  call_kept : (j : Kind) (a : Around) → is_some (eval_of_call j (plug a (node k n b rest))) ≡ is_some (eval_of_call j (plug a (node l m c rest)))
-  call_kept (call_expression false pure) a = name_kept a
-  call_kept (call_expression true pure) a = refl
-  call_kept j a = refl
+unmattered : (m t : Bool) → not (m || t) ≡ true → m ≡ false
+unmattered true t e = absurd (true≢false (sym e))
+unmattered false t e = refl
 
-  pub evals_kept : evals (node l m c nothing) ≡ evals (node k n b nothing) → (a : Around) → evals (plug a (node l m c rest)) ≡ evals (plug a (node k n b rest))
-  evals_kept e here = Prim.omega (arith, e)
-  evals_kept e (behind j o d a) = Prim.omega (arith, evals_kept e a)
-  evals_kept e (behind_none a) = evals_kept e a
-  evals_kept e (under j o a beside) = Prim.omega (arith, ap {B = ℕ} (λ x. cond x 1 0) (call_kept j a), evals_kept e a)
+named_if : (w b : Bool) (x : Tree) → w || b ≡ false → is_some (if b then Some x else None) ≡ false
+named_if true b x e = absurd (true≢false e)
+named_if false true x e = absurd (true≢false e)
+named_if false false x e = refl
+
+not_named : (w : Bool) (k : Kind) (n : Note) (below rest : Forest) → matters as_callee w k below ≡ false → is_some (eval_name (node k n below rest)) ≡ false
+not_named w (reference_name x) n below rest e = named_if w (bytes_eq x (codes "eval")) _ e
+not_named w parenthesized_expression n (node k m c r) rest e = not_named w k m c r e
+not_named w parenthesized_expression n (absent r) rest e = refl
+not_named w parenthesized_expression n nothing rest e = refl
+not_named w k n below rest e = refl
+
+module _ (k l : Kind) (n m : Note) (b c rest : Forest) (old : is_no_name k ≡ true) (w : Bool) where
+  name_kept : (us : ℕ → Use) (at : ℕ) (a : Around) → us at ≡ as_callee → stands_bare (use_there us at (before a rest)) w l c ≡ true → is_some (eval_name (plug a (node k n b rest))) ≡ is_some (eval_name (plug a (node l m c rest)))
+  name_kept us at here called bare =
+      none_named k n b rest old ∙ sym (not_named w l m c rest (unmattered (matters as_callee w l c) (may_take_name l c) (subst (λ u. stands_bare u w l c ≡ true) called bare)))
+  name_kept us at (behind j o d a) called bare = rest_unasked j o d (plug a (node k n b rest)) (plug a (node l m c rest))
+  name_kept us at (behind_none a) called bare = refl
+  name_kept us at (under parenthesized_expression o a beside) called bare = name_kept (λ i. use_below (us at) parenthesized_expression i) 0 a called bare
+  name_kept us at (under (reference_name s) o a beside) called bare =
+      one_name (bytes_eq s (codes "eval")) (record { kind = reference_name s; note = o; below = plug a (node k n b rest) }) (record { kind = reference_name s; note = o; below = plug a (node l m c rest) })
+  name_kept us at (under j o a beside) called bare = refl
+
+  call_kept : (u : Use) (j : Kind) (a : Around) → stands_bare (use_there (λ i. use_below u j i) 0 (before a rest)) w l c ≡ true → is_some (eval_of_call j (plug a (node k n b rest))) ≡ is_some (eval_of_call j (plug a (node l m c rest)))
+  call_kept u (call_expression false pure) a bare = name_kept (λ i. use_below u (call_expression false pure) i) 0 a refl bare
+  call_kept u (call_expression true pure) a bare = refl
+  call_kept u j a bare = refl
+
+  evals_there : evals (node l m c nothing) ≡ evals (node k n b nothing) → (us : ℕ → Use) (at : ℕ) (a : Around) → stands_bare (use_there us at (before a rest)) w l c ≡ true → evals (plug a (node l m c rest)) ≡ evals (plug a (node k n b rest))
+  evals_there e us at here bare = Prim.omega (arith, e)
+  evals_there e us at (behind j o d a) bare = Prim.omega (arith, evals_there e us (suc at) a bare)
+  evals_there e us at (behind_none a) bare = evals_there e us (suc at) a bare
+  evals_there e us at (under j o a beside) bare = Prim.omega (arith, ap {B = ℕ} (λ x. cond x 1 0) (call_kept (us at) j a bare), evals_there e (λ i. use_below (us at) j i) 0 a bare)
+
+  pub evals_kept : evals (node l m c nothing) ≡ evals (node k n b nothing) → (a : Around) → stands_bare (use_at (before a rest)) w l c ≡ true → evals (plug a (node l m c rest)) ≡ evals (plug a (node k n b rest))
+  evals_kept e a bare = evals_there e (λ i. as_value) 0 a bare
+
+-- of a node x at a place that becomes y
+pub record CallsStay (a : places.Around) (x y : Tree) : Type 0 where
+  pub fewer : evals (node y.kind y.note y.below nothing) ≤ evals (node x.kind x.note x.below nothing)
+  pub old : is_no_name x.kind ≡ true
+  pub in_with : Bool
+  pub bare : stands_bare (use_at a) in_with y.kind y.below ≡ true
 
 -- ---- where none is noted as dropped, none left
 

@@ -4,5 +4,5 @@ mod Kept
 mod Shed
 mod Calls
 mod Acting
-mod Slots
+mod Expressions
 mod Seeing

@@ -1,16 +1,13 @@
--- A walk that asked for no other pass saw each node, and nothing of it goes.
-use Rattle.std.proofs.Common.{◌≡◌, ◌∙◌, ℕ, suc, Bool, false, true, not, ◌&&◌, Some, refl, sym, ap, subst, true≢false}
+-- A walk that asked for no other pass saw each node, and nothing of it goes or comes to a part.
+use Rattle.std.proofs.Common.{◌≡◌, ◌∙◌, false, true, Option, Some, None, is_some, refl, sym, ap, subst, true≢false}
 use Rattle.js_syntax.specs.Class.{root}
 use Rattle.js_syntax.specs.declared.node_kind.NodeKind.{NodeKind as Kind}
-use Rattle.js_syntax.specs.declared.node_kind.NodeKind.TheVariants.{ExpressionStatement as expression_statement, EmptyStatement as empty_statement}
-use Rattle.js_syntax.proofs.Truth.{first_of_both, second_of_both}
+use Rattle.js_syntax.specs.declared.node_kind.NodeKind.TheVariants.{ExpressionStatement as expression_statement, EmptyStatement as empty_statement, ConditionalExpression as conditional_expression, LogicalExpression as logical_expression}
 use Rattle.json_shape.specs.Shape.{Fits}
 use Rattle.min_pass.specs.Pass.{unmarked}
 use Rattle.js_syntax.specs.Node.{Forest, Tree, nothing, node, absent, forest_of}
-use Rattle.min_context.specs.Above.{above_of, parent_of}
-use Rattle.min_context.specs.declared.ancestor.Above.{Above}
-use Rattle.min_context.specs.declared.ancestor.Ancestor.TheVariants.{Field as field}
-use Rattle.min_context.specs.Place.{Place, Spot, place_of, next_of, below, inside as child_place, outside, top}
+use Rattle.min_context.specs.Above.{above_of}
+use Rattle.min_context.specs.Place.{Place, Spot, place_of, next_of, below, outside, top}
 use Rattle.min_context.specs.Seen.{Seen}
 use Rattle.min_traverse.specs.Slot.{outer_slot, middle_slot, inner_slot, enter_outer, enter_middle, enter_inner, exit_outer, exit_middle, exit_inner}
 use Rattle.min_traverse.specs.Visits.{above_place, Called, NodeVisit, Visits}
@@ -23,15 +20,26 @@ use Rattle.min_traverse.specs.declared.slot.Inner.TheVariants as inner
 use Rattle.rules_dead_code.specs.Rules.{Facts, Where, where_of, has_dead, is_silent_statement}
 use Rattle.min_statements.specs.Own.{Visited, is_written}
 use Rattle.rules_dead_code.specs.Quiet.{EachNode, IsQuietAt, IsQuiet}
-use Rattle.rules_dead_code.proofs.Walked.{quiet_nodes}
+use Rattle.rules_dead_code.proofs.Walked.{each_both, quiet_nodes}
+use Rattle.min_traverse.specs.Lawful.{or_else}
+use Rattle.rules_expressions.specs.Uses.{Spot as Asked, spot_of}
+use Rattle.rules_expressions.specs.Known.{conditional_becomes, logical_becomes, at_expression_end}
+use Rattle.rules_expressions.specs.Settled.{IsSettledAt, IsSettled}
+use Rattle.rules_expressions.proofs.Walked.{settled_nodes}
+use Rattle.slots_fit.specs.Had.{is_always_expression, HasSlots}
+use Rattle.slots_fit.proofs.Had.{slots_had}
 use Rattle.min_statements.specs.Walker.{Names, facts_of}
 use Rattle.min_statements.proofs.Acting.{none_left}
-use Rattle.min_statements.proofs.Slots.{is_watched, is_missed, slot_of_list, slot_of_statement, missed_below, none_missed, all_seen, fits_seen}
 
--- of a list of statements and of a statement that has its own slot
+-- what becomes of an expression at a place
+abbrev becomes : Place → Tree → Option Tree
+becomes p x = or_else (conditional_becomes (spot_of p) x.kind x.below) (logical_becomes (spot_of p) x.kind x.below)
+
+-- of a list of statements, of a statement and of an expression that has its own slot
 record IsAlive (f : Facts) (p : Place) (x : Tree) : Type 0 where
   list : outer_slot (above_place p) x.kind ≡ outer.Statements → has_dead f (where_of p) x.below ≡ false
   statement : outer_slot (above_place p) x.kind ≡ outer.Statement → is_silent_statement f (where_of p) x.kind x.below ≡ false
+  expression : middle_slot (above_place p) x.kind ≡ middle.Expression → is_some (becomes p x) ≡ false
 
 abbrev Same : Names → Seen → Names → Seen → Type 0
 Same s k s' k' = (s ≡ s') × (k ≡ k')
@@ -60,9 +68,13 @@ module _ (s : Names) (k : Seen) (x : Tree) (s' : Names) (k' : Seen) where
   entered_inner inner.VariableDeclaration h = h
   entered_inner inner.None h = h
 
-  left_middle : (o : Middle) → Called Visited is_written (exit_middle o) s k x s' k' → Same s k s' k'
-  left_middle middle.Expression h = h
-  left_middle middle.None h = h
+  record LeftMiddle (o : Middle) : Type 0 where
+    same : Same s k s' k'
+    expression : o ≡ middle.Expression → is_some (at_expression_end k x) ≡ false
+
+  left_middle : (o : Middle) → Called Visited is_written (exit_middle o) s k x s' k' → LeftMiddle o
+  left_middle middle.Expression h = record { same = (sym h.names_same, sym h.context_same); expression = λ e. h.none }
+  left_middle middle.None h = record { same = h; expression = λ e. absurd Prim.cc }
 
   left_inner : (o : Inner) → Called Visited is_written (exit_inner o) s k x s' k' → Same s k s' k'
   left_inner inner.Function h = h
@@ -107,8 +119,10 @@ at_node p x s k s' k' at v inside =
     let f = left_outer v.exits.s2 v.exits.k2 x s' k' (outer_slot (above_place p) x.kind) v.exits.at_third in
     let names_1 : v.s1 ≡ s = sym c.0 ∙ sym b.0 ∙ sym a.0 in
     let context_1 : v.k1 ≡ k = sym c.1 ∙ sym b.1 ∙ sym a.1 in
-    let names_2 : v.exits.s2 ≡ s = sym e.0 ∙ sym d.0 ∙ inside.names_same ∙ names_1 in
-    let context_2 : v.exits.k2 ≡ k = sym e.1 ∙ sym d.1 ∙ inside.context_same ∙ context_1 in
+    let names_2 : v.exits.s2 ≡ s = sym e.same.0 ∙ sym d.0 ∙ inside.names_same ∙ names_1 in
+    let between : v.exits.k1 ≡ k = sym d.1 ∙ inside.context_same ∙ context_1 in
+    let context_2 : v.exits.k2 ≡ k = sym e.same.1 ∙ between in
+    let place_1 : v.exits.k1.place ≡ p = ap {A = Seen} (λ z. z.place) between ∙ at in
     let place_2 : v.exits.k2.place ≡ p = ap {A = Seen} (λ z. z.place) context_2 ∙ at in
     let facts_2 : facts_of v.exits.s2 v.exits.k2 ≡ facts_of s k = ap {A = Names} (λ n. facts_of n v.exits.k2) names_2 ∙ ap {A = Seen} (λ z. facts_of s z) context_2 in
     let facts_1 : facts_of v.s1 v.k1 ≡ facts_of s k = ap {A = Names} (λ n. facts_of n v.k1) names_1 ∙ ap {A = Seen} (λ z. facts_of s z) context_1 in (
@@ -117,6 +131,7 @@ at_node p x s k s' k' at v inside =
       record {
         list = λ q. subst (λ g. has_dead g (where_of p) x.below ≡ false) facts_2 (subst (λ z. has_dead (facts_of v.exits.s2 v.exits.k2) (where_of z) x.below ≡ false) place_2 (f.list q));
         statement = λ q. subst (λ g. is_silent_statement g (where_of p) x.kind x.below ≡ false) facts_2 (subst (λ z. is_silent_statement (facts_of v.exits.s2 v.exits.k2) (where_of z) x.kind x.below ≡ false) place_2 (f.statement q));
+        expression = λ q. subst (λ z. is_some (becomes z x) ≡ false) place_1 (e.expression q);
       },
       subst (λ g. EachNode (IsAlive g) (below p (above_of x.kind x.note)) x.below) facts_1 inside.each,
     )
@@ -158,50 +173,42 @@ alive s s' k k' x y at same v =
 
 -- ---- and each of them has its own slot
 
-unmissed : (m w : Bool) → not (m && w) ≡ true → w ≡ true → m ≡ false
-unmissed true true e h = absurd (true≢false (sym e))
-unmissed true false e h = absurd (true≢false (sym h))
-unmissed false w e h = refl
-
 not_silent : (f : Facts) (w : Where) (k : Kind) (b : Forest) → (k ≡ expression_statement → is_silent_statement f w k b ≡ false) → is_silent_statement f w k b ≡ false
 not_silent f w expression_statement b h = h refl
 not_silent f w k b h = refl
 
-module _ (f : Facts) where
-  quiet_at : (p : Place) (x : Tree) → not (is_missed (above_place p) && is_watched x.kind) ≡ true → IsAlive f p x → IsQuietAt f p x
-  quiet_at p x seen h =
-      let slot : is_watched x.kind ≡ true → is_missed (above_place p) ≡ false = unmissed (is_missed (above_place p)) (is_watched x.kind) seen in
-      record {
-        list = λ e. h.list (ap (λ k. outer_slot (above_place p) k) e ∙ slot_of_list (above_place p) (slot (ap is_watched e)));
-        statement = none_left (record { kind = empty_statement; note = unmarked x.note; below = nothing })
-            (not_silent f (where_of p) x.kind x.below (λ e. h.statement (ap (λ k. outer_slot (above_place p) k) e ∙ slot_of_statement (above_place p) (slot (ap is_watched e)))));
-      }
+quiet_at : (f : Facts) (p : Place) (x : Tree) → IsAlive f p x → HasSlots p x → IsQuietAt f p x
+quiet_at f p x h slots = record {
+  list = λ e. h.list (slots.list e);
+  statement = none_left (record { kind = empty_statement; note = unmarked x.note; below = nothing }) (not_silent f (where_of p) x.kind x.below (λ e. h.statement (slots.statement e)));
+}
 
-  quiet_row : (p : Place) (a : Above) (at : ℕ) (previous : Bool) (t : Forest) → none_missed a.parent at t ≡ true → all_seen t ≡ true
-      → EachNode (IsAlive f) (record { outer = p; above = Some a; at = at; previous = previous }) t → EachNode (IsQuietAt f) (record { outer = p; above = Some a; at = at; previous = previous }) t
-  quiet_row p a at previous nothing m s h = tt
-  quiet_row p a at previous (absent r) m s h = quiet_row p a (suc at) false r m s h
-  quiet_row p a at previous (node k n b r) m s h =
-      let here = not (is_missed (field a.parent at) && is_watched k) in
-      let later = none_missed a.parent (suc at) r in
-      let inner = none_missed (parent_of k) 0 b in
-      let deeper = second_of_both inner (all_seen b && all_seen r) s in (
-        quiet_at (child_place p a at previous) (record { kind = k; note = n; below = b }) (ap (λ q. not (q && is_watched k)) (missed_below p a at previous) ∙ first_of_both here later m) h.0,
-        quiet_row (child_place p a at previous) (above_of k n) 0 false b (first_of_both inner (all_seen b && all_seen r) s) (first_of_both (all_seen b) (all_seen r) deeper) h.1,
-        quiet_row p a (suc at) true r (second_of_both here later m) (second_of_both (all_seen b) (all_seen r) deeper) h.2,
-      )
+first_none : (o p : Option Tree) → is_some (or_else o p) ≡ false → o ≡ None
+first_none None p e = refl
+first_none (Some y) p e = absurd (true≢false e)
 
-  quiet_tree : (x : Tree) → all_seen (forest_of x) ≡ true → EachNode (IsAlive f) top (forest_of x) → EachNode (IsQuietAt f) top (forest_of x)
-  quiet_tree x s h =
-      let inner = none_missed (parent_of x.kind) 0 x.below in (
-        quiet_at outside x refl h.0,
-        quiet_row outside (above_of x.kind x.note) 0 false x.below (first_of_both inner (all_seen x.below && true) s) (first_of_both (all_seen x.below) true (second_of_both inner (all_seen x.below && true) s)) h.1,
-        tt,
-      )
+second_none : (o p : Option Tree) → is_some (or_else o p) ≡ false → p ≡ None
+second_none None None e = refl
+second_none None (Some y) e = absurd (true≢false e)
+second_none (Some y) p e = absurd (true≢false e)
 
--- Nothing of a program goes by what is known that a walk found as it is.
+-- nodes of other kinds come to nothing
+settled_kind : (s : Asked) (k : Kind) (b : Forest) → (is_always_expression k ≡ true → is_some (or_else (conditional_becomes s k b) (logical_becomes s k b)) ≡ false) → (conditional_becomes s k b ≡ None) × (logical_becomes s k b ≡ None)
+settled_kind s conditional_expression b h = (first_none (conditional_becomes s conditional_expression b) None (h refl), refl)
+settled_kind s (logical_expression o) b h = (refl, second_none None (logical_becomes s (logical_expression o) b) (h refl))
+settled_kind s k b h = (refl, refl)
+
+settled_at : (f : Facts) (p : Place) (x : Tree) → IsAlive f p x → HasSlots p x → IsSettledAt p x
+settled_at f p x h slots =
+    let e = settled_kind (spot_of p) x.kind x.below (λ e. h.expression (slots.expression e)) in
+    record { conditional = e.0; logical = e.1 }
+
+-- Nothing of a program goes by what is known that a walk found as it is, and no expression of it comes to a part.
 pub none_goes : (s s' : Names) (k k' : Seen) (x y : Tree) → k.place ≡ outside → y ≡ x → Fits root (forest_of y) → Visits Visited is_written top (forest_of x) s k s' k' → IsQuiet (facts_of s' k') (forest_of y)
-none_goes s s' k k' x y at same fits v = quiet_nodes (facts_of s' k') (forest_of y) (quiet_tree (facts_of s' k') y (fits_seen (forest_of y) fits) (alive s s' k k' x y at same v))
+none_goes s s' k k' x y at same fits v = quiet_nodes (facts_of s' k') (forest_of y) (each_both (quiet_at (facts_of s' k')) top (forest_of y) (alive s s' k k' x y at same v) (slots_had (forest_of y) fits))
+
+pub none_changes : (s s' : Names) (k k' : Seen) (x y : Tree) → k.place ≡ outside → y ≡ x → Fits root (forest_of y) → Visits Visited is_written top (forest_of x) s k s' k' → IsSettled (forest_of y)
+none_changes s s' k k' x y at same fits v = settled_nodes (forest_of y) (each_both (settled_at (facts_of s' k')) top (forest_of y) (alive s s' k k' x y at same v) (slots_had (forest_of y) fits))
 
 pub same_names : (s s' : Names) (k k' : Seen) (x : Tree) → k.place ≡ outside → Visits Visited is_written top (forest_of x) s k s' k' → s' ≡ s
 same_names s s' k k' x at v = (saw top (forest_of x) s k s' k' at v).names_same

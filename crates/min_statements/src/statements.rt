@@ -10,12 +10,14 @@ use exported_names::{bound_references, exported_symbols};
 use js_syntax::SourceType;
 use js_tree::Node;
 use min_context::MinifierTraverseCtx;
+use min_expressions::PeepholeOptimizations;
 use min_traverse::{Hook, Traverse};
 use scope_table::Scoping;
 use std::alloc::{AllocError, Global};
 use std::marker::Model;
 
-/// Takes dead code out of lists of statements, and empties silent statements elsewhere.
+/// Takes dead code out of lists of statements, empties silent statements elsewhere, and lets expressions that decide by a literal
+/// come to the part that counts.
 pub struct Statements {
     // Of each reference by its id, whether it has a symbol: this stays through a run.
     bound: Vec<bool>,
@@ -76,7 +78,10 @@ impl Traverse for Statements {
     ghost visits = { Visited };
 
     fn has(hook: Hook) -> bool {
-        matches!(hook, Hook::ExitStatements | Hook::ExitStatement)
+        matches!(
+            hook,
+            Hook::ExitStatements | Hook::ExitStatement | Hook::ExitExpression
+        )
     }
 
     fn exit_statements(
@@ -94,6 +99,15 @@ impl Traverse for Statements {
         ctx: &mut MinifierTraverseCtx,
     ) -> Result<(), AllocError> {
         empty_statement(self, node, ctx);
+        Ok(())
+    }
+
+    fn exit_expression(
+        &mut self,
+        node: &mut Node,
+        ctx: &mut MinifierTraverseCtx,
+    ) -> Result<(), AllocError> {
+        PeepholeOptimizations::fold_expression(node, ctx);
         Ok(())
     }
 }

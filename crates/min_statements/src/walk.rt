@@ -11,6 +11,7 @@ ghost use Rattle.min_context.specs.Seen.{still};
 ghost use Rattle.min_traverse.specs.Moves.{busy};
 ghost use Rattle.rules_dead_code.specs.Knows.{Knows};
 ghost use Rattle.rules_dead_code.specs.Quiet.{IsQuiet};
+ghost use Rattle.rules_expressions.specs.Settled.{IsSettled};
 ghost use Rattle.min_statements.specs.Own.{ExportedOnly, IsToldOnly};
 ghost use Rattle.min_statements.specs.Walker.{facts_of};
 
@@ -20,10 +21,10 @@ use min_context::MinifierTraverseCtx;
 use min_traverse::traverse_root;
 use std::alloc::AllocError;
 
-/// Takes dead code out of the lists of statements of a whole program, given by its root, and empties silent statements elsewhere:
-/// one pass. What is left comes by edits that a dead code remover may make, exactly what left is marked, and what was known of the
+/// Takes dead code out of the lists of statements of a whole program, given by its root, empties silent statements elsewhere, and lets
+/// expressions that decide by a literal come to the part that counts: one pass. What is left comes by edits that a dead code remover may make, exactly what left is marked, and what was known of the
 /// program is known of what is left. If no other pass is asked for then, the program, the walker and the context are as they
-/// were, and nothing of the program goes by what is known.
+/// were, nothing of the program goes by what is known, and none of its expressions comes to a part.
 ///
 /// It fails where memory is wanting. Then the program, the walker and the context may be dropped, and nothing else is known of them.
 pub fn walk_statements(
@@ -47,6 +48,7 @@ pub fn walk_statements(
     ensures lighter { OnOk result (total weight (forest_of root.new) + busy ctx.new ≤ total weight (forest_of root.old) + busy ctx.old) }
     ensures quiet { OnOk result (ctx.new.requested ≡ false → root.new ≡ root.old) }
     ensures nothing_goes { OnOk result (ctx.new.requested ≡ false → IsQuiet (facts_of walker.new ctx.new) (forest_of root.new)) }
+    ensures settled { OnOk result (ctx.new.requested ≡ false → IsSettled (forest_of root.new)) }
     ensures names { OnOk result (ctx.new.requested ≡ false → walker.new ≡ walker.old) }
     ensures context { OnOk result (ctx.new.requested ≡ false → ctx.new ≡ ctx.old) }
     ensures outside { OnOk result (ctx.new.place ≡ outside) }

@@ -1,4 +1,5 @@
 pub mod Finding
 pub mod Dying
+pub mod Deciding
 pub mod Cleaned
 mod Tried

@@ -20,6 +20,10 @@ use Rattle.rules_dead_code.specs.Rules.{Facts, where_of, has_dead, emptied}
 use Rattle.rules_dead_code.proofs.New.{new_known}
 use Rattle.rules_dead_code.proofs.Tried.{told_only}
 use Rattle.rules_dead_code.proofs.Walked.{quiet_nodes}
+use Rattle.rules_expressions.specs.Uses.{spot_of}
+use Rattle.rules_expressions.specs.Known.{conditional_becomes, logical_becomes}
+use Rattle.rules_expressions.specs.Settled.{IsSettledAt, IsSettled}
+use Rattle.rules_expressions.proofs.Walked.{settled_nodes}
 use Rattle.rules_clean.proofs.Cleaned.{clean}
 use Rattle.rules_clean.specs.Samples.{a_function_of_a_script, a_function_of_a_module, known_of_the_script, taken_for_a_module, taken_for_exported}
 
@@ -33,6 +37,9 @@ fits source = ((a_program, (source, tt), refl, tt, refl, ((refl, (inr (refl, (a_
 
 still : {f : Facts} {p : Place} {x : Tree} → has_dead f (where_of p) x.below ≡ false → emptied f (where_of p) x ≡ None → IsQuietAt f p x
 still stays statement = record { list = λ is. stays; statement = statement }
+
+settles : {p : Place} {x : Tree} → conditional_becomes (spot_of p) x.kind x.below ≡ None → logical_becomes (spot_of p) x.kind x.below ≡ None → IsSettledAt p x
+settles conditional logical = record { conditional = conditional; logical = logical }
 
 -- ---- a function of a script
 
@@ -48,8 +55,13 @@ script_is_quiet =
     quiet_nodes known_of_the_script a_function_of_a_script
     (still refl refl, (still refl refl, (still refl refl, (still refl refl, tt, (still refl refl, tt, (still refl refl, (still refl refl, tt, tt), tt))), tt), tt), tt)
 
+script_is_settled : IsSettled a_function_of_a_script
+script_is_settled =
+    settled_nodes a_function_of_a_script
+    (settles refl refl, (settles refl refl, (settles refl refl, (settles refl refl, tt, (settles refl refl, tt, (settles refl refl, (settles refl refl, tt, tt), tt))), tt), tt), tt)
+
 pub script_is_clean : Clean a_function_of_a_script
-script_is_clean = clean known_of_the_script a_function_of_a_script script_is_known script_is_known_exactly script_is_quiet
+script_is_clean = clean known_of_the_script a_function_of_a_script script_is_known script_is_known_exactly script_is_quiet script_is_settled
 
 pub script_is_not_quiet : IsQuiet taken_for_a_module a_function_of_a_script → ⊥
 script_is_not_quiet q = true≢false (q.lists (under (Kind.Program source_type.Script) (record { span = nowhere.span; id = Some 0 }) here nothing) nowhere _ nothing refl)

@@ -112,7 +112,7 @@ shown = record {
   given_behind_none = λ r h. h;
   given_below = λ k n a r h. first_of_both (are_filled a) (are_filled r) (second_of_both (is_filled k a) (are_filled a && are_filled r) h);
   given_behind = λ k n a r h. second_of_both (are_filled a) (are_filled r) (second_of_both (is_filled k a) (are_filled a && are_filled r) h);
-  rows = λ r vs private n a rest full st. row_arranged r vs private a (first_of_both (is_filled (kind_in r vs) a) (are_filled a && are_filled rest) full) st;
+  rows = λ r vs private n a rest full chosen st. row_arranged r vs private a (first_of_both (is_filled (kind_in r vs) a) (are_filled a && are_filled rest) full) st;
   lists = list_arranged;
   holes = λ a st. refl;
 }

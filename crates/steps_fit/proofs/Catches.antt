@@ -47,7 +47,7 @@ shown = record {
   given_behind_none = λ r h. h;
   given_below = λ k n a r h. h;
   given_behind = λ k n a r h. h;
-  rows = λ r vs private n a rest g st. row_catches r vs private a st;
+  rows = λ r vs private n a rest g chosen st. row_catches r vs private a st;
   lists = list_catches;
   holes = λ a st. refl;
 }

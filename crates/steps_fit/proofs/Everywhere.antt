@@ -6,7 +6,7 @@ use Rattle.js_syntax.specs.Hint.{has, is_private}
 use Rattle.js_syntax.specs.Node.{Note, Forest, nothing, node, absent}
 use Rattle.js_syntax.specs.Table.{Row, fields_of}
 use Rattle.js_syntax.proofs.Truth.{first_of_both, both}
-use Rattle.json_shape.specs.Shape.{Values, kind_in, Place, one, maybe_one, beyond, key_node, key_apart, list, list_with_holes, body, item_or_hole, item_of_body, places, Plan, these, first_place, behind, IsOf, IsAt, Stand, Fits}
+use Rattle.json_shape.specs.Shape.{Values, kind_in, IsChosen, Place, one, maybe_one, beyond, key_node, key_apart, list, list_with_holes, body, item_or_hole, item_of_body, places, Plan, these, first_place, behind, IsOf, IsAt, Stand, Fits}
 use Rattle.json_shape.proofs.Choice.{is_list_kind}
 use Rattle.steps_fit.proofs.Passing.{plan_passes, first_passes, behind_passes}
 use Rattle.steps_fit.proofs.Holding.{is_sound, planned_below}
@@ -19,7 +19,7 @@ pub record IsShown (given : Forest → Bool) (asked : Kind → (below : Forest) 
   pub given_behind_none : (r : Forest) → given (absent r) ≡ true → given r ≡ true
   pub given_below : (k : Kind) (n : Note) (a r : Forest) → given (node k n a r) ≡ true → given a ≡ true
   pub given_behind : (k : Kind) (n : Note) (a r : Forest) → given (node k n a r) ≡ true → given r ≡ true
-  pub rows : (r : Row) (vs : Values (fields_of r)) (private : Bool) (n : Note) (a rest : Forest) → given (node (kind_in r vs) n a rest) ≡ true → Stand (these (places private (fields_of r) vs)) a → asked (kind_in r vs) a ≡ true
+  pub rows : (r : Row) (vs : Values (fields_of r)) (private : Bool) (n : Note) (a rest : Forest) → given (node (kind_in r vs) n a rest) ≡ true → IsChosen r vs → Stand (these (places private (fields_of r) vs)) a → asked (kind_in r vs) a ≡ true
   pub lists : (kind : Kind) (a : Forest) → is_list_kind kind ≡ true → asked kind a ≡ true
   pub holes : (a : Forest) → Stand (these []) a → asked Kind.Hole a ≡ true
 
@@ -27,7 +27,7 @@ module _ (given : Forest → Bool) (asked : Kind → Forest → Bool) (all_so : 
   -- ---- a node
 
   of_row : (c : Class) (k : Kind) (n : Note) (a r : Forest) → given (node k n a r) ≡ true → IsOf k a (λ p. Stand p a) c → asked k a ≡ true
-  of_row c k n a r g of = ap (λ x. asked x a) of.4 ∙ h.rows of.0 of.1 (has is_private a) n a r (ap (λ x. given (node x n a r)) (sym of.4) ∙ g) of.5
+  of_row c k n a r g of = ap (λ x. asked x a) of.4 ∙ h.rows of.0 of.1 (has is_private a) n a r (ap (λ x. given (node x n a r)) (sym of.4) ∙ g) of.3 of.5
 
   a_list : (kind k : Kind) (a : Forest) → k ≡ kind → is_list_kind kind ≡ true → asked k a ≡ true
   a_list kind k a is l = ap (λ x. asked x a) is ∙ h.lists kind a l

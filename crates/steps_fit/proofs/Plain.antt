@@ -29,7 +29,7 @@ shown = record {
   given_behind_none = λ r h. h;
   given_below = core_below;
   given_behind = core_behind;
-  rows = λ r vs private n a rest core st. row_plain r vs private a (core_below (kind_in r vs) n a rest core) st;
+  rows = λ r vs private n a rest core chosen st. row_plain r vs private a (core_below (kind_in r vs) n a rest core) st;
   lists = list_plain;
   holes = λ a st. refl;
 }

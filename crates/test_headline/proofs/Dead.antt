@@ -1,23 +1,27 @@
 -- Which small programs have dead code.
 use Rattle.std.proofs.Common.{◌≡◌, ◌∙◌, inl, inr, [], ◌∷◌, pos, Bool, true, false, ◌||◌, true≢false, Option, Some, None, bytes_eq, codes, refl, sym, ap, arith}
 use Rattle.std.proofs.lemmas.Bool.{or_left, or_right}
-use Rattle.js_syntax.specs.Class.{root, expression, declared_name, binding_element, function_block}
+use Rattle.js_syntax.specs.Class.{root, expression, callee, declared_name, binding_element, function_block}
 use Rattle.js_syntax.specs.declared.node_kind.NodeKind.{NodeKind as Kind}
 use Rattle.js_syntax.specs.declared.scalar.SourceType.TheVariants as source_type
 use Rattle.js_syntax.specs.declared.kind.VariableKind.TheVariants as variable
+use Rattle.js_syntax.specs.declared.operator.LogicalOperator.TheVariants as logical
+use Rattle.js_syntax.specs.declared.value.Key.TheVariants as key
 use Rattle.js_syntax.specs.declared.value.LiteralValue.{LiteralValue as Literal}
 use Rattle.js_syntax.specs.Node.{Forest, Tree, nothing, node, absent, nowhere, joined, below_of}
-use Rattle.js_syntax.specs.Table.{a_program, an_expression_statement, a_call_expression, a_reference_name, a_literal, a_binding_name, a_function_declaration, a_function_body, an_export_declaration, a_variable_declaration, a_variable_declarator}
-use Rattle.form_rules.specs.Samples.{listed, no, a_module, a_script, a, binds, one, does, declares, let_, function_a, block}
-use Rattle.json_shape.specs.Shape.{one as one_of, list, these, Stand, Fits}
+use Rattle.js_syntax.specs.Table.{a_program, an_expression_statement, a_call_expression, a_conditional_expression, a_member_expression, a_reference_name, a_literal, a_binding_name, a_function_declaration, a_function_body, an_export_declaration, a_variable_declaration, a_variable_declarator}
+use Rattle.form_rules.specs.Samples.{over, listed, no, reads, a_module, a_script, a, binds, one, does, declares, let_, function_a, block}
+use Rattle.json_shape.specs.Shape.{one as one_of, key_apart, list, these, Stand, Fits}
 use Rattle.scope_rules.specs.Context.{body_of}
 use Rattle.scope_rules.specs.Site.{BindingSite, ReferenceSite, sites_of, bindings_among, references_among}
 use Rattle.scope_rules.specs.Binding.{Binding, named_in, declared_by, binding_of}
 use Rattle.scope_laws.specs.Exact.{Among}
 use Rattle.scope_laws.specs.Place.{Around, first, behind, behind_none, under, plug}
 use Rattle.steps_names.specs.Standing.{exported_declarations}
-use Rattle.steps_allowed.specs.Rows.{in_list, before, call_of_a, call_of_eval, exports_declaration, empty}
-use Rattle.headline.specs.Clean.{IsDead, an_empty_statement, a_silent_statement, an_unused_function, an_unused_declarator, Clean}
+use Rattle.steps_allowed.specs.Rows.{in_list, in_statement, argument, before, call_of_a, call_of_eval, exports_declaration, empty, null}
+use Rattle.steps_allowed.specs.KnownConditional.{consequent_is_taken, alternate_is_taken}
+use Rattle.steps_allowed.specs.KnownSide.{right_side_counts, left_side_decides}
+use Rattle.headline.specs.Clean.{IsDead, an_empty_statement, a_silent_statement, an_unused_function, an_unused_declarator, a_known_conditional, a_known_side, Clean}
 use Rattle.min_peephole.specs.Quiet.{is_quiet}
 use Rattle.min_peephole.proofs.Quieted.{quiet_clean}
 use Rattle.test_headline.specs.Rows as row
@@ -55,6 +59,17 @@ b_is_unreferred r (inr h) is = h
 pub declarator_is_dead : Clean row.of_two → ⊥
 declarator_is_dead c =
     c.nothing_is_dead second_declarator _ refl (an_unused_declarator second_declarator nowhere nowhere (codes "b") (absent nothing) refl refl (refl, tt) (record { unreferred = b_is_unreferred; unexported = λ e h s d. h }))
+
+-- a(true ? a : b);
+pub conditional_is_dead : Clean row.takes_branch → ⊥
+conditional_is_dead c =
+    c.nothing_is_dead argument _ refl (a_known_conditional argument _ _ (consequent_is_taken (Literal.Boolean true) nowhere nowhere nowhere nowhere (Kind.ReferenceName a) (Kind.ReferenceName (codes "b")) nothing nothing refl refl))
+
+-- null && a();
+pub side_is_dead : Clean row.never_calls → ⊥
+side_is_dead c =
+    let place = in_statement (first nothing) in
+    c.nothing_is_dead place _ refl (a_known_side place _ _ (left_side_decides logical.And Literal.Null nowhere nowhere nowhere (Kind.CallExpression false false) (below_of call_of_a) refl))
 
 -- ---- what has none
 
@@ -140,6 +155,61 @@ global_fits = ((a_program, (source_type.Script, tt), refl, tt, refl, ((refl, (in
 pub global_is_clean : Clean (a_script (function_a [] [] ∷ []))
 global_is_clean = quiet_clean _ global_fits refl
 
+-- (1 ? a.f : null)();
+member_stands : Stand (these (one_of callee ∷ key_apart true ∷ [])) (joined (reads a) no)
+member_stands = ((a_reference_name, (a, tt), refl, tt, refl, tt), (refl, tt))
+
+branches_stand : Stand (these (one_of expression ∷ one_of expression ∷ one_of expression ∷ [])) (joined one (joined (over (Kind.MemberExpression (key.Name (codes "f")) false) (joined (reads a) no)) null))
+branches_stand = (
+  (a_literal, (Literal.Number (pos 1), tt), refl, tt, refl, tt),
+  ((a_member_expression, (key.Name (codes "f"), (false, tt)), refl, tt, refl, member_stands), ((a_literal, (Literal.Null, tt), refl, tt, refl, tt), tt)),
+)
+
+receiver_fits : Fits root row.calls_without_receiver
+receiver_fits = (
+  (
+    a_program,
+    (source_type.Module, tt),
+    refl,
+    tt,
+    refl,
+    (
+      (
+        refl,
+        (
+          inr (
+            refl,
+            (
+              an_expression_statement,
+              tt,
+              refl,
+              tt,
+              refl,
+              (
+                (
+                  a_call_expression,
+                  (false, (false, tt)),
+                  refl,
+                  tt,
+                  refl,
+                  ((a_conditional_expression, tt, refl, tt, refl, branches_stand), ((refl, tt), tt)),
+                ),
+                tt,
+              ),
+            ),
+          ),
+          tt,
+        ),
+      ),
+      tt,
+    ),
+  ),
+  tt,
+)
+
+pub receiver_is_clean : Clean row.calls_without_receiver
+receiver_is_clean = quiet_clean _ receiver_fits refl
+
 -- ---- what the rules take
 
 -- behind the export
@@ -164,6 +234,8 @@ is_suspect Kind.EmptyStatement = true
 is_suspect Kind.ExpressionStatement = true
 is_suspect (Kind.Function how pure) = true
 is_suspect Kind.VariableDeclarator = true
+is_suspect Kind.ConditionalExpression = true
+is_suspect (Kind.LogicalExpression o) = true
 is_suspect k = false
 
 abbrev has_suspect : Forest → Bool
@@ -182,6 +254,10 @@ dead_suspect t a x is (an_empty_statement b n item) = ap has_suspect is ∙ susp
 dead_suspect t a x is (a_silent_statement b n below silent) = ap has_suspect is ∙ suspect_there b _ refl
 dead_suspect t a x is (an_unused_function b pure n m y rest item own free) = ap has_suspect is ∙ suspect_there b _ refl
 dead_suspect t a x is (an_unused_declarator b n m y value item own silent free) = ap has_suspect is ∙ suspect_there b _ refl
+dead_suspect t a x is (a_known_conditional b y z (consequent_is_taken v n m i j k l d e truth may)) = ap has_suspect is ∙ suspect_there b _ refl
+dead_suspect t a x is (a_known_conditional b y z (alternate_is_taken v n m i j k l d e truth may)) = ap has_suspect is ∙ suspect_there b _ refl
+dead_suspect t a x is (a_known_side b y z (right_side_counts o v n m i k d goes may)) = ap has_suspect is ∙ suspect_there b _ refl
+dead_suspect t a x is (a_known_side b y z (left_side_decides o v n m i k d goes)) = ap has_suspect is ∙ suspect_there b _ refl
 
 -- A declaration goes with the last of its declarators, and stays where it has none.
 pub nothing_declared_is_clean : Clean row.declares_nothing

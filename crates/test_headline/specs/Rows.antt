@@ -1,12 +1,14 @@
 -- Small modules.
-use Rattle.std.specs.Prelude.{negsuc, [], ◌∷◌, None, codes}
+use Rattle.std.specs.Prelude.{negsuc, List, [], ◌∷◌, true, false, None, codes}
 use Rattle.js_syntax.specs.declared.node_kind.NodeKind.{NodeKind as Kind}
 use Rattle.js_syntax.specs.declared.kind.VariableKind.TheVariants as variable
+use Rattle.js_syntax.specs.declared.operator.LogicalOperator.TheVariants as logical
 use Rattle.js_syntax.specs.declared.operator.UnaryOperator.TheVariants as unary
+use Rattle.js_syntax.specs.declared.value.Key.TheVariants as key
 use Rattle.js_syntax.specs.declared.value.LiteralValue.{LiteralValue as Literal}
 use Rattle.js_syntax.specs.Node.{Forest, joined}
 use Rattle.form_rules.specs.Samples as form
-use Rattle.steps_allowed.specs.Rows.{call_of_a, call_of_eval, exports_declaration}
+use Rattle.steps_allowed.specs.Rows.{call_of_a, call_of_eval, exports_declaration, null, conditional, logical as either}
 use Rattle.js_meaning.specs.Samples as sample
 use Rattle.js_meaning.specs.Examples.{g, function_g, says_number}
 
@@ -89,3 +91,20 @@ misplaced_export = form.a_module (form.block (exports_declaration (form.let_ for
 -- let; with no declarator
 abbrev pub declares_nothing : Forest
 declares_nothing = form.a_module (form.over (Kind.VariableDeclaration variable.Let) (form.listed Kind.Declarators []) ∷ [])
+
+-- a call of this with these
+abbrev pub calls : (callee : Forest) → (given : List Forest) → Forest
+calls callee given = form.does (form.over (Kind.CallExpression false false) (joined callee (form.listed Kind.Arguments given)))
+
+-- a(true ? a : b);
+abbrev pub takes_branch : Forest
+takes_branch = form.a_module (calls (form.reads form.a) (conditional (form.leaf (Kind.Literal (Literal.Boolean true))) (form.reads form.a) (form.reads (codes "b")) ∷ []) ∷ [])
+
+-- null && a();
+abbrev pub never_calls : Forest
+never_calls = form.a_module (form.does (either logical.And null call_of_a) ∷ [])
+
+-- (1 ? a.f : null)();
+abbrev pub calls_without_receiver : Forest
+calls_without_receiver =
+    form.a_module (calls (conditional form.one (form.over (Kind.MemberExpression (key.Name (codes "f")) false) (joined (form.reads form.a) form.no)) null) [] ∷ [])

@@ -50,25 +50,32 @@ pub fn what_others_may_use_stays()
     ensures shared { Headline row.of_two_in_script row.of_one_in_script → ⊥ }
 {}
 
-/// `1;` doesn't stay.
+/// `1;` doesn't stay, nor does the conditional of `a(true ? a : b);` or what stands right in `null && a();`.
 pub fn dead_code_goes()
-    ensures { Headline row.dead row.dead → ⊥ }
+    ensures number { Headline row.dead row.dead → ⊥ }
+    ensures conditional { Headline row.takes_branch row.takes_branch → ⊥ }
+    ensures side { Headline row.never_calls row.never_calls → ⊥ }
 {}
 
-/// `1;` is dead code, and so are `{ ; }`'s empty statement, a function that nothing calls, and one of two declarators.
+/// `1;` is dead code, and so are `{ ; }`'s empty statement, a function that nothing calls, one of two declarators, a conditional on a
+/// literal, and a logical expression with a literal on its left.
 pub fn dead_code_is_told()
     ensures number { Clean (a_module (does one ∷ [])) → ⊥ }
     ensures empty { Clean (a_module (block (empty ∷ []) ∷ [])) → ⊥ }
     ensures function { Clean (a_module (function_a [] [] ∷ [])) → ⊥ }
     ensures declarator { Clean row.of_two → ⊥ }
+    ensures conditional { Clean row.takes_branch → ⊥ }
+    ensures side { Clean row.never_calls → ⊥ }
 {}
 
-/// A call is none, nor a function that is exported, a variable beside a direct call of `eval`, and a function of a script.
+/// A call is none, nor a function that is exported, a variable beside a direct call of `eval`, a function of a script, and a
+/// conditional that is called so that what it gives has no receiver: `(1 ? a.f : null)();`.
 pub fn what_others_may_use_is_no_dead_code()
     ensures call { Clean (a_module (does call_of_a ∷ [])) }
     ensures exported { Clean (a_module (exports_declaration (function_a [] []) ∷ [])) }
     ensures evaluated { Clean (a_module (declares variable.Let (binds a) one ∷ does call_of_eval ∷ [])) }
     ensures global { Clean (a_script (function_a [] [] ∷ [])) }
+    ensures receiver { Clean row.calls_without_receiver }
 {}
 
 /// By an export in a block, which no program of the table has, a function of the block's that nothing refers to is dead code

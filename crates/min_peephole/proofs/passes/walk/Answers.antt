@@ -34,6 +34,7 @@ returns c =
       names_same = e.names;
       context_same = e.context;
       quiet = e.nothing_goes;
+      settled = e.settled;
     } in
     record {
       walked = subst (λ (z : Tree). Walked c.args.statements.now c.args.ctx.now (forest_of c.args.program.now) c.walk_statements.new.walker c.walk_statements.new.ctx (forest_of z)) (sym left)

@@ -1,5 +1,6 @@
 use Rattle.rules_clean.proofs.Dying.{rules_rest}
+use Rattle.rules_clean.proofs.Deciding.{expressions_rest}
 use Rattle.rules_clean.proofs.laws.rules_take_dead_code_alone.Goals as goal
 
 pub returns : goal.returns
-returns c = rules_rest
+returns c = record { taken = rules_rest; changed = expressions_rest }

@@ -1,0 +1,4 @@
+mod Missed
+mod Statements
+mod Expressions
+pub mod Had
