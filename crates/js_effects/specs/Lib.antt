@@ -1,1 +1,9 @@
 pub mod Silence
+pub mod Answers
+pub mod Each
+pub mod Forms
+pub mod Kinds
+pub mod Values
+pub mod Effects
+pub mod KnownValue
+pub mod Number

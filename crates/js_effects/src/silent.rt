@@ -13,7 +13,7 @@ fn is_expression(kind: FunctionKind) -> bool
     !matches!(kind, FunctionKind::Declaration)
 }
 
-fn is_value(kind: &NodeKind) -> bool
+pub(crate) fn is_value(kind: &NodeKind) -> bool
     ensures { result ≡ silence.is_value kind.now }
 {
     match kind {
@@ -23,7 +23,7 @@ fn is_value(kind: &NodeKind) -> bool
     }
 }
 
-fn converts_nothing(operator: UnaryOperator) -> bool
+pub(crate) fn converts_nothing(operator: UnaryOperator) -> bool
     ensures { result ≡ silence.converts_nothing operator }
 {
     matches!(
