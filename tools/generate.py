@@ -3,6 +3,7 @@ import pathlib
 import subprocess
 import sys
 import clones
+import effects_rows
 import entries
 import equals
 import examples
@@ -17,7 +18,7 @@ import shapes
 import syntax
 import tree_rows
 
-MODULES = [syntax, run_table, read_kinds, entries, clones, equals, shapes, fits, examples, form_rows, tree_rows, scope_examples, runs, identifiers]
+MODULES = [syntax, run_table, read_kinds, entries, clones, equals, shapes, fits, examples, form_rows, tree_rows, effects_rows, scope_examples, runs, identifiers]
 FILES = {path: text for module in MODULES for path, text in module.FILES.items()}
 
 crates = pathlib.Path(__file__).resolve().parent.parent / 'crates'
