@@ -48,7 +48,7 @@ prefix_on es o k x =
     let y = on_trace o k in
     (x.0 ++ y.0, y.1 ∙ ap (λ l. l ++ y.0) x.1 ∙ append_assoc es x.0 y.0)
 
-on_follows : {w : World} {o p : Out} (j k : Completion → M) → Follows w o p → ((w2 : World) → Sub w w2 → (c d : Completion) → SameCompletion w2 c d → Acts w2 (j c) (k d)) → Follows w (go_on o j) (go_on p k)
+pub on_follows : {w : World} {o p : Out} (j k : Completion → M) → Follows w o p → ((w2 : World) → Sub w w2 → (c d : Completion) → SameCompletion w2 c d → Acts w2 (j c) (k d)) → Follows w (go_on o j) (go_on p k)
 on_follows j k (both_go {es = es} {s = s} {z = z} {c = c} {d = d} {w2 = w2} h r e) f =
     more_follows es (follows_back h ((f w2 h c d e).act w2 (same w2) s z r))
 on_follows j k both_stop f = both_stop

@@ -11,7 +11,7 @@ use Rattle.js_syntax.specs.Node.{Forest, nothing, node, absent}
 use Rattle.js_meaning.specs.Value.{Text, this_name}
 use Rattle.js_meaning.specs.Scope.{Way, waiting, Decl, decl, named_so, first_name, own_name, function_decls, module_decls, default_name}
 use Rattle.js_meaning.specs.Module.{Entry, entry_local, entry_import, entries, stars, requests}
-use Rattle.js_meaning.specs.Node as asks
+use Rattle.js_meaning_near.specs.Purpose.{for_values}
 use Rattle.js_meaning_near.specs.Names.{Status, no_names, undeclared, loose, live, dead, unread, known, Names, with_name, Usable, Writable, Fillable, FillableIf, Lone, no_decls, in_both, in_both_unread, in_old_again, in_old, declared, names_below, Plainly, AllPlain, PlainBut}
 use Rattle.js_meaning_near.specs.Near.{Row, fields, items, row_below, Okay, ReceiverOk, Near, ExportsOk, NearModule, near_module}
 use Rattle.js_meaning_near.specs.Fit.{names_after, around_code, within_code, FunctionOk, Part, whole, others, NodeFits, IfCore, Fits}
@@ -370,7 +370,7 @@ nothing_declared : AllPlain no_names
 nothing_declared x = tt
 
 -- a module that declares the same
-pub same_module : (a b : Forest) → module_decls a ≡ module_decls b → entries a ≡ entries b → stars a ≡ stars b → requests a ≡ requests b → ((st : Names) → AllPlain st → Near asks.itself items st a b) → NearModule a b
+pub same_module : (a b : Forest) → module_decls a ≡ module_decls b → entries a ≡ entries b → stars a ≡ stars b → requests a ≡ requests b → ((st : Names) → AllPlain st → Near for_values items st a b) → NearModule a b
 same_module a b d e s q n =
     let st : Names = names_after no_names (module_decls a) in
     let g : AllPlain st = λ x. after_plain (module_decls a) no_names x tt in
@@ -378,7 +378,7 @@ same_module a b d e s q n =
 
 -- a module that declares a name less often, which nothing exports
 pub dropped_module : (x : Text) (a b : Forest) → Dropped x (module_decls a) (module_decls b) → HasCells x (module_decls b) → entries a ≡ entries b → ExportsAvoid x (entries a) → stars a ≡ stars b → requests a ≡ requests b
-    → ((st : Names) → PlainBut x st → Lone (st x) → (declares (module_decls b) x ≡ true → st x ≡ unread) → Near asks.itself items st a b) → NearModule a b
+    → ((st : Names) → PlainBut x st → Lone (st x) → (declares (module_decls b) x ≡ true → st x ≡ unread) → Near for_values items st a b) → NearModule a b
 dropped_module x a b d c e y s q n =
     let t : Dropping x no_names (module_decls a) (module_decls b) = dropped_decls x no_names d c in
     let g : PlainBut x t.within = λ z f. t.plain z f tt in

@@ -19,6 +19,7 @@ use Rattle.js_meaning_near.specs.Local.{IsField}
 use Rattle.js_syntax.specs.declared.operator.LogicalOperator.{LogicalOperator}
 use Rattle.js_meaning.specs.Expression.{in_turn}
 use Rattle.js_meaning_near.specs.Near.{Silent, meaning, is_blunt, is_calm, hoists_nothing, Permits, ComesTo}
+use Rattle.js_meaning_near.specs.Purpose.{Purpose, asked}
 use Rattle.js_meaning_near.specs.Bare.{stands_bare}
 
 true_false : true ≡ false → ⊥
@@ -32,7 +33,7 @@ more_nothing (goes es s c) = refl
 more_nothing (stops es e) = refl
 
 -- what stands bare hoists nothing
-blunt_hoists : (k : Kind) → is_blunt k ≡ true → hoists_nothing k ≡ true
+pub blunt_hoists : (k : Kind) → is_blunt k ≡ true → hoists_nothing k ≡ true
 blunt_hoists (Kind.Literal v) h = refl
 blunt_hoists Kind.ThisExpression h = refl
 blunt_hoists Kind.ArrayExpression h = refl
@@ -102,7 +103,7 @@ bare_does E for_typeof Kind.ParenthesizedExpression (absent r) env h = absurd (t
 bare_does E to_call l b env h = blunt_does E l b (eval E b) env to_call h
 bare_does E for_typeof l b env h = blunt_does E l b (eval E b) env for_typeof h
 
-bare_asks : (E : Enter) (w : Wanted) (l : Kind) (b : Forest) (env : Env) → stands_bare w l b ≡ true → meaning E l b (value w) env ≡ meaning E l b now env
+pub bare_asks : (E : Enter) (w : Wanted) (l : Kind) (b : Forest) (env : Env) → stands_bare w l b ≡ true → meaning E l b (value w) env ≡ meaning E l b now env
 bare_asks E w l b env h = core_asks (is_core l) (does E l b (eval E b)) env w (bare_does E w l b env h)
 
 leads_at : (n : M) (s : State) (o : Out) → o ≡ n s → LeadsFrom s n (more [] o)
@@ -134,9 +135,9 @@ conditional E w v n i j l z b c env (value u) p t h = given (literal_value v) _ 
 conditional E w v n i j l z b c env q p t h = unknown_leads _
 
 -- a conditional on a literal is its live branch, wherever that stands bare
-pub condition_holds : (w : Wanted) (st : Names) (v : Literal) (n i j : Note) (l z : Kind) (b c : Forest) → truthy (literal_value v) ≡ true → stands_bare w l b ≡ true
-    → ComesTo w st Kind.ConditionalExpression (node (Kind.Literal v) n nothing (node l i b (node z j c nothing))) l b
-condition_holds w st v n i j l z b c t h = record { old_hoists = refl; new_hoists = bare_hoists w l b h; comes = λ E env binds q p. conditional E w v n i j l z b c env q p t h }
+pub condition_holds : (u : Purpose) (st : Names) (v : Literal) (n i j : Note) (l z : Kind) (b c : Forest) → truthy (literal_value v) ≡ true → stands_bare (asked u) l b ≡ true
+    → ComesTo u st Kind.ConditionalExpression (node (Kind.Literal v) n nothing (node l i b (node z j c nothing))) l b
+condition_holds u st v n i j l z b c t h = record { old_hoists = refl; new_hoists = bare_hoists (asked u) l b h; comes = λ E env binds q p. conditional E (asked u) v n i j l z b c env q p t h }
 
 other : (E : Enter) (w : Wanted) (v : Literal) (n i j : Note) (l z : Kind) (b c : Forest) (env : Env) (q : Ask) → Permits w q → truthy (literal_value v) ≡ false → stands_bare w z c ≡ true
     → Leads (meaning E Kind.ConditionalExpression (node (Kind.Literal v) n nothing (node l i b (node z j c nothing))) q env) (meaning E z c q env)
@@ -144,9 +145,9 @@ unfolding need eval
 other E w v n i j l z b c env (value u) p t h = given (literal_value v) _ _ (not_chosen (truthy (literal_value v)) _ (meaning E z c now env) t ∙ sym (bare_asks E u z c env (subst (λ u. stands_bare u z c ≡ true) (sym p) h)))
 other E w v n i j l z b c env q p t h = unknown_leads _
 
-pub condition_fails : (w : Wanted) (st : Names) (v : Literal) (n i j : Note) (l z : Kind) (b c : Forest) → truthy (literal_value v) ≡ false → stands_bare w z c ≡ true
-    → ComesTo w st Kind.ConditionalExpression (node (Kind.Literal v) n nothing (node l i b (node z j c nothing))) z c
-condition_fails w st v n i j l z b c t h = record { old_hoists = refl; new_hoists = bare_hoists w z c h; comes = λ E env binds q p. other E w v n i j l z b c env q p t h }
+pub condition_fails : (u : Purpose) (st : Names) (v : Literal) (n i j : Note) (l z : Kind) (b c : Forest) → truthy (literal_value v) ≡ false → stands_bare (asked u) z c ≡ true
+    → ComesTo u st Kind.ConditionalExpression (node (Kind.Literal v) n nothing (node l i b (node z j c nothing))) z c
+condition_fails u st v n i j l z b c t h = record { old_hoists = refl; new_hoists = bare_hoists (asked u) z c h; comes = λ E env binds q p. other E (asked u) v n i j l z b c env q p t h }
 
 choice : (E : Enter) (v : Literal) (n i : Note) (l : Kind) (b r : Forest) (env : Env) (q : Ask) → truthy (literal_value v) ≡ true → IsField r
     → Leads (meaning E Kind.IfStatement (node (Kind.Literal v) n nothing (node l i b r)) q env) (meaning E l b q env)
@@ -162,9 +163,9 @@ choice E v n i l b (node z j c (node y k d r)) env q t h = absurd h
 choice E v n i l b (node z j c (absent r)) env q t h = absurd h
 
 -- an `if` on a literal is its live branch
-pub if_holds : (w : Wanted) (st : Names) (v : Literal) (n i : Note) (l : Kind) (b r : Forest) → truthy (literal_value v) ≡ true → is_calm l ≡ true → IsField r
-    → ComesTo w st Kind.IfStatement (node (Kind.Literal v) n nothing (node l i b r)) l b
-if_holds w st v n i l b r t g h = record { old_hoists = refl; new_hoists = calm_hoists l g; comes = λ E env binds q p. choice E v n i l b r env q t h }
+pub if_holds : (u : Purpose) (st : Names) (v : Literal) (n i : Note) (l : Kind) (b r : Forest) → truthy (literal_value v) ≡ true → is_calm l ≡ true → IsField r
+    → ComesTo u st Kind.IfStatement (node (Kind.Literal v) n nothing (node l i b r)) l b
+if_holds u st v n i l b r t g h = record { old_hoists = refl; new_hoists = calm_hoists l g; comes = λ E env binds q p. choice E v n i l b r env q t h }
 
 other_choice : (E : Enter) (v : Literal) (n i j : Note) (l z : Kind) (b c : Forest) (env : Env) (q : Ask) → truthy (literal_value v) ≡ false
     → Leads (meaning E Kind.IfStatement (node (Kind.Literal v) n nothing (node l i b (node z j c nothing))) q env) (meaning E z c q env)
@@ -172,9 +173,9 @@ unfolding need may eval
 other_choice E v n i j l z b c env (run ls) t = given (literal_value v) _ _ (not_chosen (truthy (literal_value v)) _ (meaning E z c (run ls) env) t)
 other_choice E v n i j l z b c env q t = unknown_leads _
 
-pub if_fails : (w : Wanted) (st : Names) (v : Literal) (n i j : Note) (l z : Kind) (b c : Forest) → truthy (literal_value v) ≡ false → is_calm z ≡ true
-    → ComesTo w st Kind.IfStatement (node (Kind.Literal v) n nothing (node l i b (node z j c nothing))) z c
-if_fails w st v n i j l z b c t g = record { old_hoists = refl; new_hoists = calm_hoists z g; comes = λ E env binds q p. other_choice E v n i j l z b c env q t }
+pub if_fails : (u : Purpose) (st : Names) (v : Literal) (n i j : Note) (l z : Kind) (b c : Forest) → truthy (literal_value v) ≡ false → is_calm z ≡ true
+    → ComesTo u st Kind.IfStatement (node (Kind.Literal v) n nothing (node l i b (node z j c nothing))) z c
+if_fails u st v n i j l z b c t g = record { old_hoists = refl; new_hoists = calm_hoists z g; comes = λ E env binds q p. other_choice E v n i j l z b c env q t }
 
 -- a logical expression whose left side is a literal is its right side, or the literal
 
@@ -184,9 +185,9 @@ unfolding need eval
 right_side E w o v n i l b env (value u) p t h = given (literal_value v) _ _ (chosen (goes_right o (literal_value v)) (meaning E l b now env) _ t ∙ sym (bare_asks E u l b env (subst (λ u. stands_bare u l b ≡ true) (sym p) h)))
 right_side E w o v n i l b env q p t h = unknown_leads _
 
-pub right_side_counts : (w : Wanted) (st : Names) (o : LogicalOperator) (v : Literal) (n i : Note) (l : Kind) (b : Forest) → goes_right o (literal_value v) ≡ true → stands_bare w l b ≡ true
-    → ComesTo w st (Kind.LogicalExpression o) (node (Kind.Literal v) n nothing (node l i b nothing)) l b
-right_side_counts w st o v n i l b t h = record { old_hoists = refl; new_hoists = bare_hoists w l b h; comes = λ E env binds q p. right_side E w o v n i l b env q p t h }
+pub right_side_counts : (u : Purpose) (st : Names) (o : LogicalOperator) (v : Literal) (n i : Note) (l : Kind) (b : Forest) → goes_right o (literal_value v) ≡ true → stands_bare (asked u) l b ≡ true
+    → ComesTo u st (Kind.LogicalExpression o) (node (Kind.Literal v) n nothing (node l i b nothing)) l b
+right_side_counts u st o v n i l b t h = record { old_hoists = refl; new_hoists = bare_hoists (asked u) l b h; comes = λ E env binds q p. right_side E (asked u) o v n i l b env q p t h }
 
 left_side : (E : Enter) (o : LogicalOperator) (v : Literal) (n i : Note) (l : Kind) (b c : Forest) (env : Env) (q : Ask) → goes_right o (literal_value v) ≡ false
     → Leads (meaning E (Kind.LogicalExpression o) (node (Kind.Literal v) n nothing (node l i b nothing)) q env) (meaning E (Kind.Literal v) c q env)
@@ -194,9 +195,9 @@ unfolding need eval
 left_side E o v n i l b c env (value w) t = given (literal_value v) _ _ (not_chosen (goes_right o (literal_value v)) _ (give (literal_value v)) t)
 left_side E o v n i l b c env q t = unknown_leads _
 
-pub left_side_decides : (w : Wanted) (st : Names) (o : LogicalOperator) (v : Literal) (n i : Note) (l : Kind) (b c : Forest) → goes_right o (literal_value v) ≡ false
-    → ComesTo w st (Kind.LogicalExpression o) (node (Kind.Literal v) n nothing (node l i b nothing)) (Kind.Literal v) c
-left_side_decides w st o v n i l b c t = record { old_hoists = refl; new_hoists = refl; comes = λ E env binds q p. left_side E o v n i l b c env q t }
+pub left_side_decides : (u : Purpose) (st : Names) (o : LogicalOperator) (v : Literal) (n i : Note) (l : Kind) (b c : Forest) → goes_right o (literal_value v) ≡ false
+    → ComesTo u st (Kind.LogicalExpression o) (node (Kind.Literal v) n nothing (node l i b nothing)) (Kind.Literal v) c
+left_side_decides u st o v n i l b c t = record { old_hoists = refl; new_hoists = refl; comes = λ E env binds q p. left_side E o v n i l b c env q t }
 
 -- a silent part in front leaves a sequence of two
 
@@ -214,11 +215,11 @@ unfolding need eval in_turn
 sequence E w k l a b n i j env (value u) p s h = quietly (meaning E k a now env) _ (meaning E l b (value u) env) s (λ v. sym (bare_asks E u l b env (subst (λ u. stands_bare u l b ≡ true) (sym p) h)))
 sequence E w k l a b n i j env q p s h = unknown_leads _
 
-pub silent_part_leaves : (w : Wanted) (st : Names) (k l : Kind) (a b : Forest) (n i j : Note) → Silent st k a → stands_bare w l b ≡ true
-    → ComesTo w st Kind.SequenceExpression (node Kind.Expressions n (node k i a (node l j b nothing)) nothing) l b
-silent_part_leaves w st k l a b n i j s h = record { old_hoists = refl; new_hoists = bare_hoists w l b h; comes = λ E env binds q p. sequence E w k l a b n i j env q p (s.silent E env binds) h }
+pub silent_part_leaves : (u : Purpose) (st : Names) (k l : Kind) (a b : Forest) (n i j : Note) → Silent st k a → stands_bare (asked u) l b ≡ true
+    → ComesTo u st Kind.SequenceExpression (node Kind.Expressions n (node k i a (node l j b nothing)) nothing) l b
+silent_part_leaves u st k l a b n i j s h = record { old_hoists = refl; new_hoists = bare_hoists (asked u) l b h; comes = λ E env binds q p. sequence E (asked u) k l a b n i j env q p (s.silent E env binds) h }
 
-given_is : (v : Value) (k : Value → M) → with_value (give v) k ≡ k v
+pub given_is : (v : Value) (k : Value → M) → with_value (give v) k ≡ k v
 unfolding bind done
 given_is v k = λ i s. more_nothing (k v s) i
 
@@ -229,6 +230,6 @@ unfolding need eval in_turn
 zero_first E v z n i j m o p l y b c env (value w) t = given (literal_value v) _ _ (chosen (truthy (literal_value v)) (meaning E l b now env) _ t ∙ sym (given_is (literal_value z) (λ u. meaning E l b now env)))
 zero_first E v z n i j m o p l y b c env q t = unknown_leads _
 
-pub holds_bare : (w : Wanted) (st : Names) (v z : Literal) (n i j m o p : Note) (l y : Kind) (b c : Forest) → truthy (literal_value v) ≡ true
-    → ComesTo w st Kind.ConditionalExpression (node (Kind.Literal v) n nothing (node l i b (node y j c nothing))) Kind.SequenceExpression (node Kind.Expressions m (node (Kind.Literal z) o nothing (node l p b nothing)) nothing)
-holds_bare w st v z n i j m o p l y b c t = record { old_hoists = refl; new_hoists = refl; comes = λ E env binds q h. zero_first E v z n i j m o p l y b c env q t }
+pub holds_bare : (u : Purpose) (st : Names) (v z : Literal) (n i j m o p : Note) (l y : Kind) (b c : Forest) → truthy (literal_value v) ≡ true
+    → ComesTo u st Kind.ConditionalExpression (node (Kind.Literal v) n nothing (node l i b (node y j c nothing))) Kind.SequenceExpression (node Kind.Expressions m (node (Kind.Literal z) o nothing (node l p b nothing)) nothing)
+holds_bare u st v z n i j m o p l y b c t = record { old_hoists = refl; new_hoists = refl; comes = λ E env binds q h. zero_first E v z n i j m o p l y b c env q t }

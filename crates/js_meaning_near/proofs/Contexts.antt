@@ -16,45 +16,51 @@ use Rattle.js_meaning_near.specs.Quiet.{EndsQuietly, gives_quietly, stops_quietl
 use Rattle.js_meaning.specs.Host.{Task, body, Enter}
 use Rattle.js_meaning.specs.Operator.{largest, unary_of}
 use Rattle.js_meaning.specs.Module.{Entry, entry_local, entry_import, entries, stars, requests, distinct, load_all, before, insert, sorted, if_bound, resolve_entries, exporting}
-use Rattle.js_meaning.specs.Node.{Wanted, itself, to_call, for_typeof, run as run_under, Ask, take_all, Meaning, Parts, need, may, each, first_ask}
+use Rattle.js_meaning.specs.Node.{itself, to_call, for_typeof, Ask, now, take_all, Meaning, Parts, need, may, each, first_ask}
 use Rattle.js_meaning.specs.Meaning.{does, if_core, eval, take_this, run_code, enter_body, task_does, enter}
 use Rattle.js_meaning.specs.Run.{finish, finally, module_does, as_value, first_state, seen, run_within, run}
 use Rattle.js_meaning.specs.Kept.{keeps, Keeps, Kept, refines, Refines, Refined}
 use Rattle.js_meaning_near.specs.Names.{Status, known, exactly, Decls, Names, Usable}
-use Rattle.js_meaning_near.specs.Near.{Permits, ComesTo, comes_to, meaning, Silent, NoField, Change, statement_emptied, no_statement_emptied, near_silent, SameEffects, same_effects, LooseModule, loose_module, value_read, Row, fields, items, ReceiverOk, is_row, Near, near_nothing, near_absent, near_node, near_closure, near_hoisted, near_unread, near_known, near_uncovered, changed, leaves, Code, near_code, ExportsOk, NearModule, near_module, module_of, sign_applied}
+use Rattle.js_meaning_near.specs.Near.{Permits, ComesTo, comes_to, meaning, Silent, NoField, Change, statement_emptied, no_statement_emptied, near_silent, same_effects, wastes_more, one_sided, shorter, LooseModule, loose_module, value_read, Row, fields, items, ReceiverOk, is_row, Near, near_nothing, near_absent, near_node, near_closure, near_hoisted, near_unread, near_known, near_uncovered, changed, leaves, Code, near_code, ExportsOk, NearModule, near_module, module_of, sign_applied}
 use Rattle.js_meaning_near.proofs.Worlds.{any_value, only_value, both, slack, In, here, Links, Rule, World, same, no_links, slack_links, no_both, not_in}
-use Rattle.js_meaning_near.proofs.Relations.{HoldsCell, SameSlot, same_local, same_import, as_many, CallEnds, call_gives, call_uncovered, call_out, At, at_nowhere, at_loose, at_live, at_known, at_dead, at_unread, Envs, Same, same_plain, SameOpt, same_none, same_some, SameAll, all_nil, SameCompletion, same_normal, same_gives, same_gives_all, same_refers, same_breaks, same_continues, same_returns, same_throws, SameExports, no_exports, an_export, SameAsk, same_run, same_value, same_place, same_take, same_take_all, same_declares, same_collect, same_entry, same_matches, States, Follows, both_go, both_stop, old_stops, old_out, Acts, Means, envs_later, Tasks, same_body, same_turn, same_back, Enters, same_later, all_later}
+use Rattle.js_meaning_near.proofs.Relations.{HoldsCell, SameSlot, same_local, same_import, as_many, CallEnds, call_gives, call_uncovered, call_out, At, at_nowhere, at_loose, at_live, at_known, at_dead, at_unread, Envs, Same, same_plain, SameOpt, same_none, same_some, SameAll, all_nil, SameCompletion, same_normal, same_gives, same_gives_all, same_refers, same_breaks, same_continues, same_returns, same_throws, SameExports, no_exports, an_export, SameAsk, same_run, same_value, same_place, same_take, same_take_all, same_declares, same_collect, same_entry, same_matches, States, Follows, both_go, both_stop, old_stops, old_out, Acts, Means, Tasks, same_body, same_turn, same_back, Enters, same_later, all_later}
 use Rattle.js_meaning_near.proofs.Acts.{bind_acts, give_both, stop_acts, unknown_acts, normal_acts, value_acts, seq_acts, set_exports_acts, spend_acts, give_acts, give_right}
 use Rattle.js_meaning_near.proofs.Showing.{show_acts, shown_exports_acts, emit_acts}
 use Rattle.js_meaning_near.proofs.Scopes.{envs_bind, no_envs, loose_envs, declare_acts, fill_acts, fill_known, known_value_acts, known_typeof_acts}
-use Rattle.js_meaning_near.specs.Wasted.{drops, Wastes, wastes_nothing, wastes_part, wastes_silent, wastes_known, wastes_call}
-use Rattle.js_meaning_near.proofs.Rows.{same_now, no_part, part, Fields, fields_end, fields_more, Rows, rows_nil, rows_more, need_acts, after_call_acts}
+use Rattle.js_meaning_near.specs.Purpose.{Purpose, for_value, for_effect, ForEffect, asked, Purposes, all, purpose_here, purposes_behind, for_values}
+use Rattle.js_meaning_near.proofs.Rows.{same_now, SomeMeans, no_part, part, has_parts, Fields, fields_more, Rows, rows_nil, rows_more, need_acts, after_call_acts}
 use Rattle.js_meaning_near.proofs.Hosted.{report_acts, host_acts, consult_acts, turn_acts}
-use Rattle.js_meaning_near.proofs.Alone.{quiet_alone, leads_acts, soon_alone, alone_first, call_alone, known_first, no_expression, silent_statement, idle_alone, seq_alone, alone_nothing}
-use Rattle.js_meaning_near.proofs.Nodes.{true_false, start_acts, first_ask_same, closure_acts, hoisted_does, does_acts}
+use Rattle.js_meaning_near.proofs.Alone.{leads_acts, no_expression, silent_statement, idle_alone, seq_alone, alone_nothing}
+use Rattle.js_meaning_near.proofs.Effects.{effects_act, leads_effects}
+use Rattle.js_meaning_near.proofs.Wasting.{statement_acts, wasted_means, sided_means, shorter_means}
+use Rattle.js_meaning_near.proofs.Nodes.{true_false, start_acts, first_ask_same, closure_acts, hoisted_does, does_acts, does_effect}
 use Rattle.js_meaning_near.proofs.Avoid.{false_true}
 
+-- what is alike whatever is asked is so for any purpose
+any_means : {u : Purpose} {st : Names} {m k : Meaning} → ((w : World) (e f : Env) (q z : Ask) (o : Purpose) → Envs w st e f → SameAsk w o q z → Acts w (m q e) (k z f)) → Means u st m k
+any_means {u = u} h = record { mean = λ {w} {e} {f} {q} {z} r s. h w e f q z u r s; effect = λ {w} {e} {f} g r. effects_act (h w e f now now (for_value itself) r same_now) }
+
 -- what is true of core nodes is true of all, since nothing is said of the others
-core_means : {wanted : Wanted} {st : Names} {m k : Meaning} (b : Bool) → Means wanted st m k → Means wanted st (if_core b m) (if_core b k)
+core_means : {u : Purpose} {st : Names} {m k : Meaning} (b : Bool) → Means u st m k → Means u st (if_core b m) (if_core b k)
 core_means true x = x
-core_means false x = record { mean = λ r s. unknown_acts }
+core_means false x = any_means (λ w e f q z o r s. unknown_acts)
 
-uncovered_means : {wanted : Wanted} {st : Names} (m k : Meaning) (b : Bool) → b ≡ false → Means wanted st (if_core b m) (if_core b k)
+uncovered_means : {u : Purpose} {st : Names} (m k : Meaning) (b : Bool) → b ≡ false → Means u st (if_core b m) (if_core b k)
 uncovered_means m k true y = absurd (true_false y)
-uncovered_means m k false y = record { mean = λ r s. unknown_acts }
+uncovered_means m k false y = any_means (λ w e f q z o r s. unknown_acts)
 
-emptied_acts : {w : World} {wanted : Wanted} {st : Names} {k : Kind} {a : Forest} {e f : Env} {q z : Ask} (E : Enter) (n : Note) (r b : Forest) → Silent st k a → Envs w st e f → SameAsk w wanted q z → Acts w (meaning E Kind.ExpressionStatement (node k n a r) q e) (meaning E Kind.EmptyStatement b z f)
+emptied_acts : {w : World} {u : Purpose} {st : Names} {k : Kind} {a : Forest} {e f : Env} {q z : Ask} (E : Enter) (n : Note) (r b : Forest) → Silent st k a → Envs w st e f → SameAsk w u q z → Acts w (meaning E Kind.ExpressionStatement (node k n a r) q e) (meaning E Kind.EmptyStatement b z f)
 unfolding need eval
 emptied_acts E n c b x r same_run = alone_nothing (silent_statement E x r)
 emptied_acts E n c b x r _ = unknown_acts
 
-read_acts : {w : World} {wanted : Wanted} {p : Plain} {q z : Ask} (x : Text) (v : Literal) (e f : Env) (E : Enter) (a b : Forest) → At w (known (exactly p)) (look e x) (look f x) → literal_value v ≡ plain p → SameAsk w wanted q z → Acts w (meaning E (Kind.ReferenceName x) a q e) (meaning E (Kind.Literal v) b z f)
-read_acts {wanted = for_typeof} x v e f E a b l g same_value = known_typeof_acts x l g
-read_acts {wanted = itself} x v e f E a b l g same_value = known_value_acts x l g
-read_acts {wanted = to_call} x v e f E a b l g same_value = known_value_acts x l g
+read_acts : {w : World} {u : Purpose} {p : Plain} {q z : Ask} (x : Text) (v : Literal) (e f : Env) (E : Enter) (a b : Forest) → At w (known (exactly p)) (look e x) (look f x) → literal_value v ≡ plain p → SameAsk w u q z → Acts w (meaning E (Kind.ReferenceName x) a q e) (meaning E (Kind.Literal v) b z f)
+read_acts x v e f E a b l g (same_value {wanted = for_typeof}) = known_typeof_acts x l g
+read_acts x v e f E a b l g (same_value {wanted = itself}) = known_value_acts x l g
+read_acts x v e f E a b l g (same_value {wanted = to_call}) = known_value_acts x l g
 read_acts x v e f E a b l g _ = unknown_acts
 
-known_does : {w : World} {wanted : Wanted} {p : Plain} {q z : Ask} (x : Text) (v : Literal) (e f : Env) (E : Enter) (i j k l : Note) (a b c d r s : Forest) → At w (known (exactly p)) (look e x) (look f x) → literal_value v ≡ plain p → SameAsk w wanted q z
+known_does : {w : World} {u : Purpose} {p : Plain} {q z : Ask} (x : Text) (v : Literal) (e f : Env) (E : Enter) (i j k l : Note) (a b c d r s : Forest) → At w (known (exactly p)) (look e x) (look f x) → literal_value v ≡ plain p → SameAsk w u q z
     → Acts w (meaning E Kind.VariableDeclarator (node (Kind.BindingName x) i a (node (Kind.Literal v) k c r)) q e) (meaning E Kind.VariableDeclarator (node (Kind.BindingName x) j b (node (Kind.Literal v) l d s)) z f)
 unfolding need may eval
 known_does x v e f E i j k l a b c d r s y g same_declares = give_both (λ v. fill (look e x) v (done normal)) (λ v. fill (look f x) v (done normal)) (literal_value v) (literal_value v) (fill_known (literal_value v) y g normal_acts)
@@ -66,31 +72,31 @@ unfolding choose
 minus_acts i true covered = give_acts same_plain
 minus_acts i false covered = absurd cc
 
-sign_acts : {w : World} {wanted : Wanted} {q z : Ask} (i : ℕ) (E : Enter) (e f : Env) (m : Note) (a b r : Forest) → nat_le (suc i) largest ≡ true → SameAsk w wanted q z
+sign_acts : {w : World} {u : Purpose} {q z : Ask} (i : ℕ) (E : Enter) (e f : Env) (m : Note) (a b r : Forest) → nat_le (suc i) largest ≡ true → SameAsk w u q z
     → Acts w (meaning E (Kind.Literal (Literal.Number (negsuc i))) a q e) (meaning E (Kind.UnaryExpression UnaryOperator.UnaryNegation) (node (Kind.Literal (Literal.Number (pos (suc i)))) m b r) z f)
 unfolding need eval choose
 sign_acts i E e f m a b r covered same_value = give_right (unary_of UnaryOperator.UnaryNegation) (plain (number (pos (suc i)))) (minus_acts i (nat_le (suc i) largest) covered)
 sign_acts i E e f m a b r covered _ = unknown_acts
 
-no_statement_acts : {w : World} {wanted : Wanted} {q z : Ask} (E : Enter) (e f : Env) (a b : Forest) → NoField a → SameAsk w wanted q z → Acts w (meaning E Kind.ExpressionStatement a q e) (meaning E Kind.EmptyStatement b z f)
+no_statement_acts : {w : World} {u : Purpose} {q z : Ask} (E : Enter) (e f : Env) (a b : Forest) → NoField a → SameAsk w u q z → Acts w (meaning E Kind.ExpressionStatement a q e) (meaning E Kind.EmptyStatement b z f)
 no_statement_acts E e f a b x same_run = alone_nothing (no_expression E a _ x)
 no_statement_acts E e f a b x _ = unknown_acts
 
-change_means : {wanted : Wanted} {st : Names} {k l : Kind} {a b : Forest} (E : Enter) → Change st k a l b → Means wanted st (meaning E k a) (meaning E l b)
-change_means E (value_read {x = x} {v = v} {a = a} {b = b} y g) = record { mean = λ {w} {e} {f} r s. read_acts x v e f E a b (subst (λ t. At w t (look e x) (look f x)) y (r.at x)) g s }
-change_means E (sign_applied {i = i} {m = m} {a = a} {b = b} {r = c} y) = record { mean = λ {w} {e} {f} r s. sign_acts i E e f m a b c y s }
-change_means E (no_statement_emptied {a = a} {b = b} x) = record { mean = λ {w} {e} {f} r s. no_statement_acts E e f a b x s }
-change_means E (statement_emptied {n = n} {r = c} {b = b} x) = record { mean = λ r s. emptied_acts E n c b x r s }
+change_means : {u : Purpose} {st : Names} {k l : Kind} {a b : Forest} (E : Enter) → Change st k a l b → Means u st (meaning E k a) (meaning E l b)
+change_means E (value_read {x = x} {v = v} {a = a} {b = b} y g) = any_means (λ w e f q z o r s. read_acts x v e f E a b (subst (λ t. At w t (look e x) (look f x)) y (r.at x)) g s)
+change_means E (sign_applied {i = i} {m = m} {a = a} {b = b} {r = c} y) = any_means (λ w e f q z o r s. sign_acts i E e f m a b c y s)
+change_means E (no_statement_emptied {a = a} {b = b} x) = any_means (λ w e f q z o r s. no_statement_acts E e f a b x s)
+change_means E (statement_emptied {n = n} {r = c} {b = b} x) = any_means (λ w e f q z o r s. emptied_acts E n c b x r s)
 
-only_part : {wanted : Wanted} {st : Names} {m k : Meaning} → Fields wanted st (Some m ∷ []) (Some k ∷ []) → Means wanted st m k
+only_part : {u : Purpose} {st : Names} {m k : Meaning} → Fields (all u) st (Some m ∷ []) (Some k ∷ []) → Means u st m k
 only_part (fields_more (part x) c) = x
 
-part_means : {wanted : Wanted} {st : Names} (E : Enter) (l : Kind) (i j : Note) (b : Forest) → Fields wanted st (eval E (node l i b nothing)) (eval E (node l j b nothing)) → Means wanted st (meaning E l b) (meaning E l b)
+part_means : {u : Purpose} {st : Names} (E : Enter) (l : Kind) (i j : Note) (b : Forest) → Fields (all u) st (eval E (node l i b nothing)) (eval E (node l j b nothing)) → Means u st (meaning E l b) (meaning E l b)
 unfolding eval
 part_means E l i j b x = only_part x
 
 -- a row permits what both nodes are asked in it
-permitted : {w : World} {wanted : Wanted} {q z : Ask} → SameAsk w wanted q z → Permits wanted q
+permitted : {w : World} {u : Purpose} {q z : Ask} → SameAsk w u q z → Permits (asked u) q
 permitted same_value = refl
 permitted same_run = tt
 permitted same_place = tt
@@ -101,42 +107,51 @@ permitted same_collect = tt
 permitted same_entry = tt
 permitted (same_matches o) = tt
 
-comes_acts : {w : World} {wanted : Wanted} {st : Names} {k l : Kind} {a b : Forest} {e f : Env} {q z : Ask} (E : Enter) → ComesTo wanted st k a l b → Means wanted st (meaning E l b) (meaning E l b) → Envs w st e f → SameAsk w wanted q z → Acts w (meaning E k a q e) (meaning E l b z f)
-comes_acts {e = e} {q = q} E x m r s = leads_acts (x.comes E e (envs_bind r) q (permitted s)) (m.mean r s)
+asked_now : (u : Purpose) → ForEffect u → Permits (asked u) now
+asked_now for_effect g = refl
+asked_now (for_value wanted) g = absurd g
 
-drops_acts : {st : Names} {e : Env} (E : Enter) → Enters E → {m : M} {ms : Parts} → Wastes E st e m ms → {w : World} {f : Env} {ks : Parts} → Fields itself st ms ks → Envs w st e f → Acts w m (drops ks f)
-unfolding drops
-drops_acts E n (wastes_nothing q) fields_end r = alone_nothing (soon_alone q)
-drops_acts E n (wastes_part g) (fields_more (part x) c) r = value_acts (x.mean r same_now) (λ w2 v u h o. drops_acts E n (g v) c (envs_later h r))
-drops_acts E n (wastes_silent q g) c r = alone_first (quiet_alone q) (λ v. drops_acts E n (g v) c r)
-drops_acts {e = e} E n (wastes_known {x = x} k q g) {w = w} {f = f} c r = known_first x k (subst (λ t. At w t (look e x) (look f x)) q (r.at x)) (λ v y. drops_acts E n (g v y) c r)
-drops_acts {e = e} E n (wastes_call {x = x} v this vs q y g) {w = w} {f = f} c r = alone_first (call_alone E n (subst (λ t. At w t (look e x) (look f x)) q (r.at x)) v this vs y) (λ u. drops_acts E n (g u) c r)
+comes_means : {u : Purpose} {st : Names} {k l : Kind} {a b : Forest} (E : Enter) → ComesTo u st k a l b → Means u st (meaning E l b) (meaning E l b) → Means u st (meaning E k a) (meaning E l b)
+comes_means {u = u} E x m = record {
+  mean = λ {w} {e} {f} {q} r s. leads_acts (x.comes E e (envs_bind r) q (permitted s)) (m.mean r s);
+  effect = λ {w} {e} {f} g r. record { acts = leads_acts (leads_effects (x.comes E e (envs_bind r) now (asked_now u g))) (m.effect g r).acts };
+}
 
-effects_act : {w : World} {wanted : Wanted} {st : Names} {l : Kind} {e f : Env} {q z : Ask} (E : Enter) → Enters E → (a b ps qs : Forest) → SameEffects st a l b ps qs → Fields itself st (eval E ps) (eval E qs) → Envs w st e f → SameAsk w wanted q z → Acts w (meaning E Kind.ExpressionStatement a q e) (meaning E l b z f)
-effects_act {w = w} {e = e} {f = f} E n a b ps qs x c r (same_run {ls = ls}) = subst (λ m. Acts w (meaning E Kind.ExpressionStatement a (run_under ls) e) m) (x.drops_all E f ls) (drops_acts E n (x.wastes E e (envs_bind r) ls) c r)
-effects_act E n a b ps qs x c r _ = unknown_acts
+-- whether something follows a part
+row_parts : (E : Enter) (c : Forest) → is_row c ≡ has_parts (eval E c)
+unfolding eval
+row_parts E nothing = refl
+row_parts E (absent c) = refl
+row_parts E (node k n a c) = refl
 
-pub near_rows : (E : Enter) → Enters E → {wanted : Wanted} {p : Row} {st : Names} {a b : Forest} → Near wanted p st a b → Rows p wanted st (eval E a) (eval E b)
+rows_with : {st : Names} {o q : Option Meaning} (E : Enter) (p : Row) (us : Purposes) (c d : Forest) → SomeMeans (purpose_here us (is_row c)) st o q → Rows p (purposes_behind us) st (eval E c) (eval E d) → Rows p us st (o ∷ eval E c) (q ∷ eval E d)
+rows_with {st = st} {o = o} {q = q} E p us c d x t = rows_more p us (eval E c) (eval E d) (subst (λ more. SomeMeans (purpose_here us more) st o q) (row_parts E c) x) t
+
+pub near_rows : (E : Enter) → Enters E → {us : Purposes} {p : Row} {st : Names} {a b : Forest} → Near us p st a b → Rows p us st (eval E a) (eval E b)
 unfolding eval each
 near_rows E n (near_nothing {p = p} {st = st}) = rows_nil p _ st
-near_rows E n (near_absent {p = p} c) = rows_more p _ _ no_part (near_rows E n c)
-near_rows E n (near_node {p = p} {k = k} y d h a c) =
-    let below = near_rows E n a in
-    rows_more p _ _ (part (core_means (is_core k) (record { mean = λ r s. does_acts E n p _ _ k y d h a below r s }))) (near_rows E n c)
-near_rows E n (near_closure {p = p} {f = k} {pure = pure} i x d y a c) = rows_more p _ _ (part (core_means (is_core (Kind.Function k pure)) (record { mean = λ r s. closure_acts E _ _ pure k i x d y a r s }))) (near_rows E n c)
-near_rows E n (near_hoisted {p = p} {pure = pure} {a = a} {b = b} x y d c) = rows_more p _ _ (part (core_means (is_core (Kind.Function function_kind.Declaration pure)) (record { mean = λ r s. hoisted_does E a b (eval E a) (eval E b) pure pure _ _ s }))) (near_rows E n c)
-near_rows E n (near_unread {p = p} {pure = pure} {also = also} {a = a} {b = b} q g h c) = rows_more p _ _ (part (record { mean = λ r s. hoisted_does E a b (eval E a) (eval E b) pure also _ _ s })) (near_rows E n c)
-near_rows E n (near_silent {p = p} {pure = pure} {a = a} {b = b} q g h u d c) = rows_more p _ _ (part (record { mean = λ r s. hoisted_does E a b (eval E a) (eval E b) pure pure _ _ s })) (near_rows E n c)
-near_rows E n (near_known {q = q} {x = x} {v = v} {i = i} {j = j} {k = k} {l = l} {a = a} {b = b} {e = c1} {f = d1} {r = r1} {s = s1} y g c) = rows_more q _ _ (part (record { mean = λ {w} {e} {f} r s. known_does x v e f E i j k l a b c1 d1 r1 s1 (subst (λ t. At w t (look e x) (look f x)) y (r.at x)) g s })) (near_rows E n c)
-near_rows E n (near_uncovered {p = p} {k = k} {a = a} {b = b} y c) = rows_more p _ _ (part (uncovered_means (does E k a (eval E a)) (does E k b (eval E b)) (is_core k) y)) (near_rows E n c)
-near_rows E n (changed {p = p} q c) = rows_more p _ _ (part (change_means E q)) (near_rows E n c)
-near_rows E n (same_effects {p = p} {a = a} {b = b} {ps = ps} {qs = qs} q t c) = rows_more p _ _ (part (record { mean = λ r s. effects_act E n a b ps qs q (near_rows E n t) r s })) (near_rows E n c)
-near_rows E n (comes_to {p = p} {l = l} {i = i} {j = j} {b = b} q t c) = rows_more p _ _ (part (record { mean = λ r s. comes_acts E q (part_means E l i j b (near_rows E n t)) r s })) (near_rows E n c)
+near_rows E n (near_absent {us = us} {p = p} {c = c} {d = d} t) = rows_with E p us c d no_part (near_rows E n t)
+near_rows E n (near_node {us = us} {p = p} {k = k} {c = c} {d = d} y x h o t) =
+    let below = near_rows E n o in
+    rows_with E p us c d (part (core_means (is_core k) (record { mean = λ r s. does_acts E n p _ _ k y x h o below r s; effect = λ g r. does_effect E n _ p _ _ k g y x h o below r }))) (near_rows E n t)
+near_rows E n (near_closure {us = us} {p = p} {f = k} {pure = pure} {c = c} {d = d} i x y z o t) = rows_with E p us c d (part (core_means (is_core (Kind.Function k pure)) (any_means (λ w e f ask fellow u r s. closure_acts E _ _ pure k i x y z o r s)))) (near_rows E n t)
+near_rows E n (near_hoisted {us = us} {p = p} {pure = pure} {a = a} {b = b} {c = c} {d = d} x y z t) = rows_with E p us c d (part (core_means (is_core (Kind.Function function_kind.Declaration pure)) (any_means (λ w e f ask fellow u r s. hoisted_does E a b (eval E a) (eval E b) pure pure _ _ s)))) (near_rows E n t)
+near_rows E n (near_unread {us = us} {p = p} {pure = pure} {also = also} {a = a} {b = b} {c = c} {d = d} q g h t) = rows_with E p us c d (part (any_means (λ w e f ask fellow u r s. hoisted_does E a b (eval E a) (eval E b) pure also _ _ s))) (near_rows E n t)
+near_rows E n (near_silent {us = us} {p = p} {pure = pure} {a = a} {b = b} {c = c} {d = d} q g h u x t) = rows_with E p us c d (part (any_means (λ w e f ask fellow u r s. hoisted_does E a b (eval E a) (eval E b) pure pure _ _ s))) (near_rows E n t)
+near_rows E n (near_known {us = us} {q = q} {x = x} {v = v} {i = i} {j = j} {k = k} {l = l} {a = a} {b = b} {e = c1} {f = d1} {r = r1} {s = s1} {c = c} {d = d} y g t) =
+    rows_with E q us c d (part (any_means (λ w e f ask fellow u r s. known_does x v e f E i j k l a b c1 d1 r1 s1 (subst (λ t. At w t (look e x) (look f x)) y (r.at x)) g s))) (near_rows E n t)
+near_rows E n (near_uncovered {us = us} {p = p} {k = k} {a = a} {b = b} {c = c} {d = d} y t) = rows_with E p us c d (part (uncovered_means (does E k a (eval E a)) (does E k b (eval E b)) (is_core k) y)) (near_rows E n t)
+near_rows E n (changed {us = us} {p = p} {c = c} {d = d} q t) = rows_with E p us c d (part (change_means E q)) (near_rows E n t)
+near_rows E n (same_effects {us = us} {p = p} {a = a} {b = b} {c = c} {d = d} {ps = ps} {qs = qs} q o t) = rows_with E p us c d (part (any_means (λ w e f ask fellow u r s. statement_acts E n a b ps qs q (near_rows E n o) r s))) (near_rows E n t)
+near_rows E n (comes_to {us = us} {p = p} {l = l} {i = i} {j = j} {b = b} {c = c} {d = d} q o t) = rows_with E p us c d (part (comes_means E q (part_means E l i j b (near_rows E n o)))) (near_rows E n t)
+near_rows E n (wastes_more {us = us} {p = p} {c = c} {d = d} g q o t) = rows_with E p us c d (part (wasted_means E n g q (near_rows E n o))) (near_rows E n t)
+near_rows E n (one_sided {us = us} {p = p} {b = b} {c = c} {d = d} g q o t) = rows_with E p us c d (part (sided_means E b g q (near_rows E n o))) (near_rows E n t)
+near_rows E n (shorter {us = us} {p = p} {i = i} {j = j} {b = b} {c = c} {d = d} q o t) = rows_with E p us c d (part (shorter_means E i j b q (near_rows E n o))) (near_rows E n t)
 near_rows E n (leaves i c) = record { listed = λ {w} {e} {f} {q} r s. seq_alone (idle_alone E q i r) ((near_rows E n c).listed r s) }
 
 -- functions
 
-near_behind : {wanted : Wanted} {st : Names} {a b : Forest} → Near wanted fields st a b → Near wanted fields st (behind a) (behind b)
+near_behind : {us : Purposes} {st : Names} {a b : Forest} → Near us fields st a b → Near (purposes_behind us) fields st (behind a) (behind b)
 near_behind near_nothing = near_nothing
 near_behind (near_absent c) = c
 near_behind (near_node y d h a c) = c
@@ -149,6 +164,9 @@ near_behind (near_uncovered y c) = c
 near_behind (changed q c) = c
 near_behind (same_effects q t c) = c
 near_behind (comes_to q t c) = c
+near_behind (wastes_more g q t c) = c
+near_behind (one_sided g q t c) = c
+near_behind (shorter q t c) = c
 
 this_acts : {w : World} {st : Names} {e f : Env} {v u : Value} {m k : M} (t : FunctionKind) → ReceiverOk t st → Envs w st e f → Same w v u → Acts w m k → Acts w (take_this t v e m) (take_this t u f k)
 this_acts function_kind.Arrow y r q a = a
@@ -156,11 +174,11 @@ this_acts function_kind.Declaration y r q a = fill_acts (r.at this_name) y q a
 this_acts function_kind.Expression y r q a = fill_acts (r.at this_name) y q a
 
 -- a parameter list and a body
-parameters_acts : {w : World} {st : Names} {vs us : List Value} {e f : Env} {ms ks : Parts} (c d : Forest) → Near itself fields st c d → Fields itself st ms ks → SameAll w vs us → Envs w st e f → Acts w (need ms (λ ps r. need r (λ b r. seq (ps (take_all vs) e) (start (behind c) e (b (first_ask (behind c)) e))))) (need ks (λ ps r. need r (λ b r. seq (ps (take_all us) f) (start (behind d) f (b (first_ask (behind d)) f)))))
+parameters_acts : {w : World} {st : Names} {vs us : List Value} {e f : Env} {ms ks : Parts} (c d : Forest) → Near for_values fields st c d → Fields for_values st ms ks → SameAll w vs us → Envs w st e f → Acts w (need ms (λ ps r. need r (λ b r. seq (ps (take_all vs) e) (start (behind c) e (b (first_ask (behind c)) e))))) (need ks (λ ps r. need r (λ b r. seq (ps (take_all us) f) (start (behind d) f (b (first_ask (behind d)) f)))))
 parameters_acts c d n x q r = need_acts x (λ m k ns ls y x. need_acts x (λ m k ns ls z x. seq_acts (y.mean r (same_take_all q)) (start_acts tt (near_behind n) r (z.mean r (first_ask_same (near_behind n))))))
 
 -- behind whatever stands for the name
-code_acts : {w : World} {st : Names} {vs us : List Value} {e f : Env} (E : Enter) (a b : Forest) → is_row a ≡ is_row b → Near itself fields st (behind a) (behind b) → Fields itself st (eval E (behind a)) (eval E (behind b)) → SameAll w vs us → Envs w st e f → Acts w (run_code a (eval E a) vs e) (run_code b (eval E b) us f)
+code_acts : {w : World} {st : Names} {vs us : List Value} {e f : Env} (E : Enter) (a b : Forest) → is_row a ≡ is_row b → Near for_values fields st (behind a) (behind b) → Fields for_values st (eval E (behind a)) (eval E (behind b)) → SameAll w vs us → Envs w st e f → Acts w (run_code a (eval E a) vs e) (run_code b (eval E b) us f)
 unfolding eval may
 code_acts E nothing nothing x n c q r = unknown_acts
 code_acts E nothing (absent d) x n c q r = absurd (false_true x)
@@ -267,12 +285,12 @@ finally_acts same_breaks = unknown_acts
 finally_acts same_continues = unknown_acts
 finally_acts (same_returns q) = unknown_acts
 
-modules_act : {w : World} {st t : Names} {a b : Forest} (E : Enter) → Enters E → Envs w st [] [] → Decls st (module_decls a) (module_decls b) t → entries a ≡ entries b → ExportsOk t (entries a) → stars a ≡ stars b → requests a ≡ requests b → Near itself items t a b → Acts w (module_does E a) (module_does E b)
+modules_act : {w : World} {st t : Names} {a b : Forest} (E : Enter) → Enters E → Envs w st [] [] → Decls st (module_decls a) (module_decls b) t → entries a ≡ entries b → ExportsOk t (entries a) → stars a ≡ stars b → requests a ≡ requests b → Near for_values items t a b → Acts w (module_does E a) (module_does E b)
 unfolding module_does
 modules_act {a = a} {b = b} E n env d x y s q c =
     let load : (w : World) → Acts w (load_all E (distinct (requests a))) (load_all E (distinct (requests b))) = λ w. subst (λ xs. Acts w (load_all E (distinct (requests a))) (load_all E (distinct xs))) q (load_acts E n (distinct (requests a))) in
     bind_acts (bind_acts
-    (declare_acts d env (λ w e f h r. exporting_acts a b x s y r (start_acts tt c r (seq_acts (load w) ((near_rows E n c).listed r same_run)))))
+    (declare_acts d env (λ w e f h r. exporting_acts a b x s y r (start_acts tt c r (seq_acts (load w) ((near_rows E n c).listed r (λ u. same_run))))))
     (λ w c d h z. finish_acts E n z)) (λ w c d h z. finally_acts z)
 
 pub module_acts : {a b : Forest} (E : Enter) → Enters E → NearModule a b → Acts [] (module_does E a) (module_does E b)

@@ -20,13 +20,14 @@ use Rattle.js_meaning.specs.Expression.{call_value, construct_value, ask_host, b
 use Rattle.js_meaning.specs.Statement.{enter_if, test_for, test_then, turn_does}
 use Rattle.js_meaning_near.specs.Names.{Names}
 use Rattle.js_meaning_near.specs.Near.{fields, Near}
+use Rattle.js_meaning_near.specs.Purpose.{for_value, loop_purposes}
 use Rattle.js_meaning_near.proofs.Worlds.{World, Sub, same, later}
 use Rattle.js_meaning_near.proofs.Relations.{Envs, Same, same_plain, same_closure, same_object, same_array, same_error, same_none, same_some, SameAll, SamePlace, same_at_slot, same_at_global, same_at_member, SameCompletion, same_normal, same_gives, same_gives_all, same_refers, same_breaks, same_continues, same_returns, same_throws, same_run, Acts, LoopHead, same_body, same_turn, same_back, Enters, envs_later, same_later, place_later}
 use Rattle.js_meaning_near.proofs.Acts.{acts_later, bind_acts, done_acts, stop_acts, unknown_acts, choose_acts, give_acts, normal_acts, value_acts, raise_acts, set_global_acts, set_import_acts, moves_acts, set_moves_acts}
 use Rattle.js_meaning_near.proofs.Showing.{show_acts, show_all_acts, emit_acts, resolve_acts, resolve_all_acts, resolve_maybe_acts}
 use Rattle.js_meaning_near.proofs.Scopes.{slot_value_acts, global_there_acts, assign_slot_acts, assign_global_acts, copy_acts}
 use Rattle.js_meaning_near.proofs.Operators.{truthy_same, object_same, boolean_same, other_same, either_other, goes_right_same, number_acts, binary_of_acts, updated_acts}
-use Rattle.js_meaning_near.proofs.Rows.{same_now, SomeMeans, no_part, part, Fields, need_acts, may_acts, or_undefined_acts, after_turn_acts}
+use Rattle.js_meaning_near.proofs.Rows.{same_now, SomeMeans, no_part, part, Fields, need_acts, may_acts, or_nothing_acts, after_turn_acts}
 
 pub only_acts : {w : World} {m k : M} (test : Value → Bool) → ((w2 : World) (v u : Value) → Same w2 v u → test v ≡ test u) → Acts w m k → Acts w (only test m) (only test k)
 only_acts test e a = value_acts a (λ w2 v u h q. choose_acts (e w2 v u q) (give_acts q) (stop_acts Ending.host_stopped))
@@ -153,21 +154,21 @@ module _ (E : Enter) (enters : Enters E) where
 
   -- loops
 
-  enter_if_acts : {w : World} {st : Names} {a b : Forest} {e f : Env} {v u : Value} (l : Loop) (ls : List Text) → LoopHead l st a b → Near itself fields st a b → Envs w st e f → Same w v u → Acts w (enter_if E l a ls e v) (enter_if E l b ls f u)
+  enter_if_acts : {w : World} {st : Names} {a b : Forest} {e f : Env} {v u : Value} (l : Loop) (ls : List Text) → LoopHead l st a b → Near (loop_purposes l) fields st a b → Envs w st e f → Same w v u → Acts w (enter_if E l a ls e v) (enter_if E l b ls f u)
   enter_if_acts l ls h n r q = choose_acts (truthy_same q) (enters.entered (same_turn h n r)) normal_acts
 
-  test_for_acts : {w : World} {st : Names} {o p : Option Meaning} {e f : Env} {j k : Value → M} → SomeMeans itself st o p → Envs w st e f → ((w2 : World) (v u : Value) → Sub w w2 → Same w2 v u → Acts w2 (j v) (k u)) → Acts w (test_for o e j) (test_for p f k)
+  test_for_acts : {w : World} {st : Names} {o p : Option Meaning} {e f : Env} {j k : Value → M} → SomeMeans (for_value itself) st o p → Envs w st e f → ((w2 : World) (v u : Value) → Sub w w2 → Same w2 v u → Acts w2 (j v) (k u)) → Acts w (test_for o e j) (test_for p f k)
   test_for_acts {w = w} no_part r b = b w _ _ (same w) same_plain
   test_for_acts (part m) r b = value_acts (m.mean r same_now) b
 
-  pub test_then_acts : {w : World} {st : Names} {a b : Forest} {ms ks : Parts} {e f : Env} (l : Loop) (ls : List Text) → LoopHead l st a b → Near itself fields st a b → Fields itself st ms ks → Envs w st e f → Acts w (test_then E l a ms ls e) (test_then E l b ks ls f)
+  pub test_then_acts : {w : World} {st : Names} {a b : Forest} {ms ks : Parts} {e f : Env} (l : Loop) (ls : List Text) → LoopHead l st a b → Near (loop_purposes l) fields st a b → Fields (loop_purposes l) st ms ks → Envs w st e f → Acts w (test_then E l a ms ls e) (test_then E l b ks ls f)
   test_then_acts while_loop ls h n c r = need_acts c (λ m k ns us x c. value_acts (x.mean r same_now) (λ w2 v u i q. enter_if_acts while_loop ls h n (envs_later i r) q))
   test_then_acts do_loop ls h n c r = need_acts c (λ m k ns us x c. need_acts c (λ m k ns us x c. value_acts (x.mean r same_now) (λ w2 v u i q. enter_if_acts do_loop ls h n (envs_later i r) q)))
   test_then_acts for_loop ls h n c r = may_acts c (λ m k ns us x c. may_acts c (λ m k ns us x c. test_for_acts x r (λ w2 v u i q. enter_if_acts for_loop ls h n (envs_later i r) q)))
 
-  pub turn_acts : {w : World} {st : Names} {a b : Forest} {ms ks : Parts} {e f : Env} (l : Loop) (ls : List Text) → LoopHead l st a b → Near itself fields st a b → Fields itself st ms ks → Envs w st e f → Acts w (turn_does E l a ms ls e) (turn_does E l b ks ls f)
+  pub turn_acts : {w : World} {st : Names} {a b : Forest} {ms ks : Parts} {e f : Env} (l : Loop) (ls : List Text) → LoopHead l st a b → Near (loop_purposes l) fields st a b → Fields (loop_purposes l) st ms ks → Envs w st e f → Acts w (turn_does E l a ms ls e) (turn_does E l b ks ls f)
   turn_acts while_loop ls h n c r = need_acts c (λ m k ns us x d. need_acts d (λ m k ns us x d. bind_acts (x.mean r same_run) (λ w2 v u i q. after_turn_acts ls q (test_then_acts while_loop ls h n c (envs_later i r)))))
   turn_acts do_loop ls h n c r = need_acts c (λ m k ns us x d. bind_acts (x.mean r same_run) (λ w2 v u i q. after_turn_acts ls q (test_then_acts do_loop ls h n c (envs_later i r))))
   turn_acts for_loop ls h n c r =
       may_acts c (λ m k ns us x d. may_acts d (λ m k ns us x d. may_acts d (λ m k ns us z d. need_acts d (λ m k ns us x d.
-      bind_acts (x.mean r same_run) (λ w2 v u i q. after_turn_acts ls q (copy_acts h (envs_later i r) (λ w3 e f g r2. or_undefined_acts z r2 (λ w4 v u j q. test_then_acts for_loop ls h n c (envs_later j r2)))))))))
+      bind_acts (x.mean r same_run) (λ w2 v u i q. after_turn_acts ls q (copy_acts h (envs_later i r) (λ w3 e f g r2. or_nothing_acts z r2 (λ w4 v u j. test_then_acts for_loop ls h n c (envs_later j r2)))))))))

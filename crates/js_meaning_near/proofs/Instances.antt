@@ -5,6 +5,7 @@ use Rattle.std.specs.Str.{bytes_eq}
 use Rattle.js_syntax.specs.declared.node_kind.NodeKind.{NodeKind as Kind}
 use Rattle.js_syntax.specs.declared.kind.FunctionKind.TheVariants as function_kind
 use Rattle.js_syntax.specs.declared.kind.VariableKind.TheVariants as variable
+use Rattle.js_syntax.specs.declared.operator.LogicalOperator.TheVariants as logical
 use Rattle.js_syntax.specs.declared.value.LiteralValue.{LiteralValue as Literal}
 use Rattle.js_syntax.specs.Node.{Note, Forest, nothing, node, absent, below_of}
 use Rattle.js_meaning.specs.Value.{Text, this_name, Plain, Value, plain, literal_value}
@@ -16,15 +17,19 @@ use Rattle.js_meaning.specs.Kept.{Refined}
 use Rattle.js_meaning_near.specs.Quiet.{gives_quietly, Quiet}
 use Rattle.js_meaning.specs.Node as asks
 use Rattle.js_meaning_near.specs.Names.{Decls, known, exactly, Names, no_names, with_name, no_decls, in_both_known, Fillable, AllPlain, PlainBut}
-use Rattle.js_meaning_near.specs.Near.{Silent, idle_empty, idle_function, idle_declarator, idle_declaration, all_idle, one_idle, statement_emptied, value_read, fields, items, Near, near_node, near_known, changed, leaves, near_nothing, near_absent, near_module, module_of}
+use Rattle.js_meaning_near.specs.Near.{Silent, hoists_nothing, first_stays, idle_empty, idle_function, idle_declarator, idle_declaration, all_idle, one_idle, statement_emptied, value_read, fields, items, Near, near_node, near_known, changed, leaves, near_nothing, near_absent, near_module, module_of}
 use Rattle.js_meaning_near.specs.Fit.{names_after, whole}
 use Rattle.js_meaning_near.specs.Once.{Once, at_place, in_rest, in_node, in_declaration, same_node_first}
 use Rattle.js_meaning_near.specs.Avoid.{declares, Dropping, dropped_here, dropped_later, HasCells, ExportsAvoid, InPlace, Avoids}
-use Rattle.js_meaning_near.specs.Examples.{block_of, behind_name, function_of, declaration_of, expression_statement, literal_statement, empty_statement, if_of, choice_of}
+use Rattle.js_meaning_near.specs.Examples.{block_of, behind_name, function_of, declaration_of, expression_statement, literal_statement, empty_statement, if_of, choice_of, array_of, two_of, both_of}
+use Rattle.js_meaning_near.specs.Purpose.{for_value, for_effect, for_values}
 use Rattle.js_meaning_near.specs.Bare.{stands_bare}
 use Rattle.js_meaning_near.specs.Local as local
 use Rattle.js_meaning_near.specs.Local.{Plainly, Local}
+use Rattle.js_meaning_near.specs.Unused.{all_needed, needed, not_needed}
 use Rattle.js_meaning_near.proofs.Branches.{condition_holds}
+use Rattle.js_meaning_near.proofs.Unused.{array_wasted}
+use Rattle.js_meaning_near.proofs.Spared.{spared}
 use Rattle.js_meaning_near.proofs.Local.{local_near, module_decls_stay}
 use Rattle.js_meaning_near.proofs.Contexts.{near_refines}
 use Rattle.js_meaning_near.proofs.Fit.{same_decls, decls_both, fit}
@@ -48,7 +53,7 @@ empty_leaves n a y = near_refines n n n n (same_module (empty_statement n a) a r
 
 -- and a function's body
 
-in_body : {t : Names} {a b : Forest} (n : Note) → Near asks.itself items t a b → Once asks.itself fields t (node Kind.FunctionBody n (node Kind.Statements n a nothing) nothing) (node Kind.FunctionBody n (node Kind.Statements n b nothing) nothing)
+in_body : {t : Names} {a b : Forest} (n : Note) → Near for_values items t a b → Once for_values fields t (node Kind.FunctionBody n (node Kind.Statements n a nothing) nothing) (node Kind.FunctionBody n (node Kind.Statements n b nothing) nothing)
 in_body n o = in_node tt no_decls tt (in_node tt no_decls tt (at_place o) tt) tt
 
 pub empty_leaves_body : (n : Note) (f : Text) (ps a c : Forest) → InPlace whole fields ps → InPlace whole items a → InPlace whole items c → Refined (module_of n n (function_of n f ps (empty_statement n a) c)) (module_of n n (function_of n f ps a c))
@@ -112,7 +117,7 @@ constant_read n x p v c e f y z =
 
 -- an expression comes to one of its parts
 
-pub local_change : (n m : Note) (a b : Forest) → Local asks.itself a b → InPlace whole items b → entries a ≡ entries b → stars a ≡ stars b → requests a ≡ requests b → Refined (module_of n m a) (module_of n m b)
+pub local_change : (n m : Note) (a b : Forest) → Local for_values a b → InPlace whole items b → entries a ≡ entries b → stars a ≡ stars b → requests a ≡ requests b → Refined (module_of n m a) (module_of n m b)
 local_change n m a b s y e t r = near_refines n m n m (near_module (subst (λ ds. Decls no_names ds (module_decls b) (names_after no_names (module_decls b))) (sym (module_decls_stay s)) (same_decls no_names (module_decls b))) e (exports_plain _ (entries a) plain) t r
     (local_near whole items _ s (fits_clear whole items _ b plain y)))
   where
@@ -124,10 +129,30 @@ local_change n m a b s y e t r = near_refines n m n m (near_module (subst (λ ds
 pub bare_value : (n : Note) (v : Literal) (l z : Kind) (b c r : Forest) → truthy (literal_value v) ≡ true → stands_bare asks.itself l b ≡ true
     → Plainly Kind.ConditionalExpression (below_of (choice_of n v l b z c nothing)) l b → InPlace whole items (node Kind.ExpressionStatement n (node l n b nothing) r)
     → Refined (module_of n n (node Kind.ExpressionStatement n (choice_of n v l b z c nothing) r)) (module_of n n (node Kind.ExpressionStatement n (node l n b nothing) r))
-bare_value n v l z b c r t h p y = local_change n n _ _ (local.in_below tt (local.at_place (λ st. condition_holds asks.itself st v n n n l z b c t h) p)) y refl refl refl
+bare_value n v l z b c r t h p y = local_change n n _ _ (local.in_below tt (local.at_place (local.for_part (λ st. condition_holds for_effect st v n n n l z b c t h)) p)) y refl refl refl
 
 pub bare_callee : (n : Note) (pure : Bool) (v : Literal) (l z : Kind) (b c es r : Forest) → truthy (literal_value v) ≡ true → stands_bare asks.to_call l b ≡ true
     → Plainly Kind.ConditionalExpression (below_of (choice_of n v l b z c nothing)) l b → InPlace whole items (node Kind.ExpressionStatement n (node (Kind.CallExpression false pure) n (node l n b (node Kind.Arguments n es nothing)) nothing) r)
     → Refined (module_of n n (node Kind.ExpressionStatement n (node (Kind.CallExpression false pure) n (choice_of n v l b z c (node Kind.Arguments n es nothing)) nothing) r))
     (module_of n n (node Kind.ExpressionStatement n (node (Kind.CallExpression false pure) n (node l n b (node Kind.Arguments n es nothing)) nothing) r))
-bare_callee n pure v l z b c es r t h p y = local_change n n _ _ (local.in_below tt (local.in_below tt (local.at_place (λ st. condition_holds asks.to_call st v n n n l z b c t h) p))) y refl refl refl
+bare_callee n pure v l z b c es r t h p y = local_change n n _ _ (local.in_below tt (local.in_below tt (local.at_place (local.for_part (λ st. condition_holds (for_value asks.to_call) st v n n n l z b c t h)) p))) y refl refl refl
+
+-- values that nobody takes
+
+pub array_unused : (n : Note) (v : Literal) (k l : Kind) (a b r : Forest)
+    → Plainly Kind.ArrayExpression (node Kind.Elements n (node k n a (node (Kind.Literal v) n nothing (node l n b nothing))) nothing) Kind.SequenceExpression (node Kind.Expressions n (node k n a (node l n b nothing)) nothing)
+    → InPlace whole items (node Kind.ExpressionStatement n (two_of n k a l b) r) → Refined (module_of n n (node Kind.ExpressionStatement n (array_of n k a v l b) r)) (module_of n n (node Kind.ExpressionStatement n (two_of n k a l b) r))
+array_unused n v k l a b r p y =
+    let es : Forest = node k n a (node (Kind.Literal v) n nothing (node l n b nothing)) in
+    let ps : Forest = node k n a (node l n b nothing) in
+    local_change n n _ _ (local.in_below tt (local.at_place (spared for_effect Kind.ArrayExpression n n (node Kind.Elements n es nothing) ps tt tt refl refl (λ st. array_wasted st n n n es ps (needed (not_needed (literal_silent st v nothing) (needed all_needed))))) p)) y refl refl refl
+
+pub choice_unused : (n : Note) (v : Literal) (k l : Kind) (a b r : Forest)
+    → Plainly Kind.ConditionalExpression (node k n a (node l n b (node (Kind.Literal v) n nothing nothing))) (Kind.LogicalExpression logical.And) (node k n a (node l n b nothing)) → InPlace whole items (node Kind.ExpressionStatement n (both_of n k a l b) r)
+    → Refined (module_of n n (node Kind.ExpressionStatement n (node Kind.ConditionalExpression n (node k n a (node l n b (node (Kind.Literal v) n nothing nothing))) nothing) r)) (module_of n n (node Kind.ExpressionStatement n (both_of n k a l b) r))
+choice_unused n v k l a b r p y = local_change n n _ _ (local.in_below tt (local.at_place (local.for_sides tt (λ st. first_stays (literal_silent st v nothing))) p)) y refl refl refl
+
+pub branch_unused : (n : Note) (k l : Kind) (a b r : Forest) → hoists_nothing l ≡ true → Plainly Kind.ArrayExpression (node Kind.Elements n (node l n b nothing) nothing) l b → InPlace whole items (node Kind.ExpressionStatement n (both_of n k a l b) r)
+    → Refined (module_of n n (node Kind.ExpressionStatement n (both_of n k a Kind.ArrayExpression (node Kind.Elements n (node l n b nothing) nothing)) r)) (module_of n n (node Kind.ExpressionStatement n (both_of n k a l b) r))
+branch_unused n k l a b r h p y =
+    local_change n n _ _ (local.in_below tt (local.in_below tt (local.in_rest (local.at_place (spared for_effect Kind.ArrayExpression n n (node Kind.Elements n (node l n b nothing) nothing) (node l n b nothing) tt tt refl h (λ st. array_wasted st n n n (node l n b nothing) (node l n b nothing) (needed all_needed))) p)))) y refl refl refl

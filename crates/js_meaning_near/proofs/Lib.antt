@@ -3,11 +3,13 @@ pub mod Relations
 pub mod Acts
 pub mod Showing
 pub mod Scopes
+pub mod Effects
 pub mod Operators
 pub mod Rows
 pub mod Hosted
 pub mod Alone
 pub mod Nodes
+pub mod Wasting
 pub mod Contexts
 pub mod Fit
 pub mod Once
@@ -22,5 +24,6 @@ pub mod Rewritten
 pub mod Known
 pub mod Empty
 pub mod Unused
+pub mod Spared
 pub mod Steady
 pub mod Signed

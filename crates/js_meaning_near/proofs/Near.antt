@@ -8,9 +8,9 @@ use Rattle.js_syntax.specs.Facts.{is_core}
 use Rattle.js_syntax.specs.Node.{Note, Forest, node, bare, nowhere}
 use Rattle.js_meaning.specs.Scope.{Decl, waiting, named_so, behind, first_of, lexical}
 use Rattle.js_meaning.specs.Kept.{Refined}
-use Rattle.js_meaning.specs.Node.{Wanted, itself}
+use Rattle.js_meaning_near.specs.Purpose.{Purposes, purpose_here, purposes_behind, for_values, wanted_below}
 use Rattle.js_meaning_near.specs.Names.{Names, Copied, declared}
-use Rattle.js_meaning_near.specs.Near.{Row, fields, items, wanted_below, Heads, Near, near_nothing, near_absent, near_node, near_closure, near_hoisted, near_uncovered, Code, near_code, module_of}
+use Rattle.js_meaning_near.specs.Near.{Row, fields, items, Heads, is_row, Near, near_nothing, near_absent, near_node, near_closure, near_hoisted, near_uncovered, Code, near_code, module_of}
 use Rattle.js_meaning_near.specs.Fit.{names_after, around_code, within_code, FunctionOk, Part, whole, others, part_of, NodeFits, IfCore, Fits}
 use Rattle.js_meaning_near.specs.Avoid.{InPlace}
 use Rattle.js_meaning_near.proofs.Contexts.{near_refines}
@@ -28,15 +28,15 @@ heads_alike _ t s = tt
 
 -- functions
 
-pub code_alike : {g : Bool} (st : Names) (f : FunctionKind) {a b : Forest} → Like g a b → FunctionOk st f a → Near itself fields (within_code st f a) (behind a) (behind b) → Code (around_code st f a) f a b
+pub code_alike : {g : Bool} (st : Names) (f : FunctionKind) {a b : Forest} → Like g a b → FunctionOk st f a → Near for_values fields (within_code st f a) (behind a) (behind b) → Code (around_code st f a) f a b
 code_alike st function_kind.Declaration s y n = near_code (decls_to _ (function_alike function_kind.Declaration s)) y.1 (row_alike s) n
 code_alike st function_kind.Expression s y n = near_code (decls_to _ (function_alike function_kind.Expression s)) y.1 (row_alike s) n
 code_alike st function_kind.Arrow s y n = near_code (decls_to _ (function_alike function_kind.Arrow s)) y.1 (row_alike s) n
 
 -- nodes of one kind, where what lies below is near and what follows is
 
-pub near_alike : {wanted : Wanted} {g : Bool} {p : Row} {st : Names} {a b c d : Forest} (k : Kind) (n m : Note) (core : Bool) → is_core k ≡ core → Like g a b → ((t : Names) → Heads k t a b)
-    → IfCore core (NodeFits p st k a (λ q r t. Near (wanted_below wanted k) r t (part_of q a) (part_of q b))) → Near wanted p st c d → Near wanted p st (node k n a c) (node k m b d)
+pub near_alike : {us : Purposes} {g : Bool} {p : Row} {st : Names} {a b c d : Forest} (k : Kind) (n m : Note) (core : Bool) → is_core k ≡ core → Like g a b → ((t : Names) → Heads k t a b)
+    → IfCore core (NodeFits p st k a (λ q r t. Near (wanted_below (purpose_here us (is_row c)) k) r t (part_of q a) (part_of q b))) → Near (purposes_behind us) p st c d → Near us p st (node k n a c) (node k m b d)
 near_alike k n m false e s heads y o = near_uncovered e o
 near_alike {st = st} (Kind.Function function_kind.Declaration pure) n m true e s heads y o = near_hoisted (name_alike s) y.0.0 (code_alike st function_kind.Declaration s y.0 y.1) o
 near_alike {st = st} (Kind.Function function_kind.Expression pure) n m true e s heads y o =
@@ -47,7 +47,7 @@ near_alike {st = st} {a = a} k n m true e s heads y o = near_node y.0 (decls_to 
 
 -- rows
 
-pub rows_near : {wanted : Wanted} (q : Part) (p : Row) (st : Names) {a b : Forest} → Alike a b → Fits q p st a → Near wanted p st (part_of q a) (part_of q b)
+pub rows_near : {us : Purposes} (q : Part) (p : Row) (st : Names) {a b : Forest} → Alike a b → Fits q p st a → Near us p st (part_of q a) (part_of q b)
 rows_near whole p st alike_nothing y = near_nothing
 rows_near others p st alike_nothing y = near_nothing
 rows_near others p st (alike_absent r) y = rows_near whole p st r y

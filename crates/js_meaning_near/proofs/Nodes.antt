@@ -16,13 +16,16 @@ use Rattle.js_meaning.specs.Expression.{receiver_of, fill_own, function_value, w
 use Rattle.js_meaning.specs.Statement.{for_does, catch_does}
 use Rattle.js_meaning.specs.Meaning.{default_does, does}
 use Rattle.js_meaning_near.specs.Names.{known, silent_function, unread, Names, Fillable, FillableIf, Decls, Copied, declared, names_below}
-use Rattle.js_meaning_near.specs.Near.{Idle, idle_empty, idle_expression, idle_no_expression, idle_function, idle_declarator, idle_bare_declarator, idle_cut_declarator, idle_declaration, statement_emptied, no_statement_emptied, value_read, SilentCode, near_silent, Row, fields, switch_fields, items, row_below, HoldsCases, Okay, key_of, keys, Heads, IsClosure, hoists_nothing, wanted_below, Near, comes_to, near_nothing, near_absent, near_node, near_closure, near_hoisted, near_unread, near_known, near_uncovered, changed, same_effects, leaves, Code, sign_applied}
+use Rattle.js_meaning_near.specs.Near.{Idle, idle_empty, idle_expression, idle_no_expression, idle_function, idle_declarator, idle_bare_declarator, idle_cut_declarator, idle_declaration, statement_emptied, no_statement_emptied, value_read, SilentCode, near_silent, Row, fields, switch_fields, items, row_below, HoldsCases, Okay, key_of, keys, Heads, IsClosure, hoists_nothing, Near, wastes_more, one_sided, shorter, comes_to, near_nothing, near_absent, near_node, near_closure, near_hoisted, near_unread, near_known, near_uncovered, changed, same_effects, leaves, Code, sign_applied}
+use Rattle.js_meaning_near.specs.Purpose.{Purpose, for_value, for_effect, ForEffect, Purposes, for_values, loop_purposes, wanted_below}
 use Rattle.js_meaning_near.proofs.Worlds.{World}
-use Rattle.js_meaning_near.proofs.Relations.{At, Envs, Same, same_plain, same_closure, same_object, same_array, SameContent, same_empty, same_element, same_property, SameAll, all_nil, all_cons, same_gives, same_refers, same_at_member, same_breaks, same_continues, same_returns, same_throws, SameAsk, same_run, same_value, same_place, same_take, same_take_all, same_declares, same_collect, same_entry, same_matches, Acts, Means, same_turn, Enters, envs_later, same_later, all_later}
+use Rattle.js_meaning_near.proofs.Relations.{At, Envs, Same, same_plain, same_closure, same_object, same_array, SameContent, same_empty, same_element, same_property, SameAll, all_nil, all_cons, same_gives, same_refers, same_at_member, same_breaks, same_continues, same_returns, same_throws, SameAsk, ActsForEffect, same_run, same_value, same_place, same_take, same_take_all, same_declares, same_collect, same_entry, same_matches, Acts, Means, same_turn, Enters, envs_later, same_later, all_later}
 use Rattle.js_meaning_near.proofs.Acts.{acts_later, bind_acts, done_acts, unknown_acts, choose_acts, give_acts, normal_acts, seq_acts, receiver_acts, value_acts, all_acts, place_acts, identity_acts, identity_left, identity_right}
 use Rattle.js_meaning_near.proofs.Scopes.{envs_bind, declare_acts, fill_acts, fill_old, fill_meeting, fill_unread, name_value_acts, typeof_name_acts, name_place_acts, copy_acts}
-use Rattle.js_meaning_near.proofs.Operators.{truthy_same, unary_of_acts}
-use Rattle.js_meaning_near.proofs.Rows.{same_now, Fields, Rows, need_acts, may_acts, all_values_acts, or_undefined_acts, ask_maybe_acts, take_maybe_acts, in_turn_acts, take_each_acts, member_place_acts, after_init_acts, after_label_acts, after_switch_acts, try_acts, choose_case_acts, case_test_acts, declarator_acts}
+use Rattle.js_meaning_near.proofs.Effects.{effects_act, choice_effects, value_effects}
+use Rattle.js_meaning_near.proofs.Branches.{blunt_hoists}
+use Rattle.js_meaning_near.proofs.Operators.{truthy_same, goes_right_same, unary_of_acts}
+use Rattle.js_meaning_near.proofs.Rows.{same_now, Fields, Rows, need_acts, may_acts, all_values_acts, or_undefined_acts, ask_maybe_acts, take_maybe_acts, in_turn_acts, in_turn_effect, need_effect, take_each_acts, member_place_acts, after_init_acts, after_label_acts, after_switch_acts, try_acts, choose_case_acts, case_test_acts, declarator_acts}
 use Rattle.js_meaning_near.proofs.Hosted.{logical_acts, call_acts, construct_acts, binary_acts, get_place_acts, assign_acts, update_acts, test_then_acts}
 
 pub true_false : true ≡ false → ⊥
@@ -77,7 +80,7 @@ no_statement Kind.FunctionBody h = absurd (true_false (sym h))
 no_statement k h = refl
 
 -- `export default` of a function starts it under its name or the default one; of anything else what lies inside
-default_starts : {w : World} {wanted : Wanted} {st : Names} {a b : Forest} {e f : Env} {m k : M} (i j : M → M) → Near wanted fields st a b → Fillable (st default_name) → Envs w st e f → Acts w (i m) (j k) → Acts w m k → Acts w (start_default a i e m) (start_default b j f k)
+default_starts : {w : World} {us : Purposes} {st : Names} {a b : Forest} {e f : Env} {m k : M} (i j : M → M) → Near us fields st a b → Fillable (st default_name) → Envs w st e f → Acts w (i m) (j k) → Acts w m k → Acts w (start_default a i e m) (start_default b j f k)
 default_starts i j near_nothing y r x z = x
 default_starts i j (near_absent c) y r x z = x
 default_starts i j (near_node {k = Kind.Function g pure} o d h a c) y r x z = absurd o
@@ -99,6 +102,9 @@ default_starts i j (changed (value_read q v) c) y r x z = x
 default_starts {f = f} {k = k} i j (same_effects {l = l} {m = o} {b = b} {d = d} q t u) y r x z = rw (starts_no_default l o b d j f k q.new_hoists) x
 default_starts {e = e} {f = f} {m = m} {k = k} i j (comes_to {k = g} {l = l} {n = n} {m = o} {a = a} {b = b} {c = c} {d = d} q t u) y r x z = rw (starts_no_default g n a c i e m q.old_hoists, starts_no_default l o b d j f k q.new_hoists) x
 default_starts i j (changed (sign_applied q) c) y r x z = x
+default_starts {e = e} {f = f} {m = m} {k = k} i j (wastes_more {k = g} {l = l} {n = n} {m = o} {a = a} {b = b} {c = c} {d = d} h q t u) y r x z = rw (starts_no_default g n a c i e m (blunt_hoists g q.old_blunt), starts_no_default l o b d j f k q.new_hoists) x
+default_starts i j (one_sided h q t u) y r x z = x
+default_starts i j (shorter q t u) y r x z = x
 
 -- a switch's cases start in a scope of their own
 abbrev pub Starts : Row → Type 0
@@ -120,7 +126,7 @@ idle_starts (idle_declarator d q) r x = x
 idle_starts (idle_bare_declarator d) r x = x
 idle_starts (idle_declaration q) r x = x
 
-pub start_acts : {wanted : Wanted} {p : Row} {st : Names} {a b : Forest} {w : World} {e f : Env} {m k : M} → Starts p → Near wanted p st a b → Envs w st e f → Acts w m k → Acts w (start a e m) (start b f k)
+pub start_acts : {us : Purposes} {p : Row} {st : Names} {a b : Forest} {w : World} {e f : Env} {m k : M} → Starts p → Near us p st a b → Envs w st e f → Acts w m k → Acts w (start a e m) (start b f k)
 unfolding start
 start_acts s near_nothing r x = x
 start_acts s (near_absent c) r x = start_acts s c r x
@@ -153,15 +159,18 @@ start_acts s (changed (value_read q v) c) r x = start_acts s c r x
 start_acts {e = e} {f = f} {m = m} {k = k} s (same_effects {l = l} {b = b} {d = d} q t u) r x = rw (starts_nothing l b (start b f) f (start d f k) q.new_hoists) (start_acts s u r x)
 start_acts {e = e} {f = f} {m = m} {k = k} s (comes_to {k = g} {l = l} {a = a} {b = b} {c = c} {d = d} q t u) r x = rw (starts_nothing g a (start a e) e (start c e m) q.old_hoists, starts_nothing l b (start b f) f (start d f k) q.new_hoists) (start_acts s u r x)
 start_acts s (changed (sign_applied q) c) r x = start_acts s c r x
+start_acts {e = e} {f = f} {m = m} {k = k} s (wastes_more {k = g} {l = l} {a = a} {b = b} {c = c} {d = d} h q t u) r x = rw (starts_nothing g a (start a e) e (start c e m) (blunt_hoists g q.old_blunt), starts_nothing l b (start b f) f (start d f k) q.new_hoists) (start_acts s u r x)
+start_acts s (one_sided h q t u) r x = start_acts s u r x
+start_acts s (shorter q t u) r x = start_acts s u r x
 start_acts s (leaves i c) r x = idle_starts i r (start_acts s c r x)
 
 -- what a node is asked that may be a statement or an expression
 
-ask_by_same : {w : World} (b : Bool) → SameAsk w itself (ask_by b) (ask_by b)
+ask_by_same : {w : World} (b : Bool) → SameAsk w (for_value itself) (ask_by b) (ask_by b)
 ask_by_same true = same_run
 ask_by_same false = same_now
 
-pub first_ask_same : {w : World} {st : Names} {a b : Forest} → Near itself fields st a b → SameAsk w itself (first_ask a) (first_ask b)
+pub first_ask_same : {w : World} {us : Purposes} {st : Names} {a b : Forest} → Near us fields st a b → SameAsk w (for_value itself) (first_ask a) (first_ask b)
 first_ask_same near_nothing = same_now
 first_ask_same (near_absent c) = same_now
 first_ask_same (near_node {k = k} y d h a c) = ask_by_same (is_statement k)
@@ -177,6 +186,9 @@ first_ask_same (changed (value_read q v) c) = same_now
 first_ask_same (same_effects {l = l} q t u) = rw (no_statement l q.new_hoists) same_now
 first_ask_same (comes_to {k = k} {l = l} q t u) = rw (no_statement k q.old_hoists, no_statement l q.new_hoists) same_now
 first_ask_same (changed (sign_applied q) c) = same_now
+first_ask_same (wastes_more {k = k} {l = l} h q t u) = rw (no_statement k (blunt_hoists k q.old_blunt), no_statement l q.new_hoists) same_now
+first_ask_same (one_sided h q t u) = same_now
+first_ask_same (shorter q t u) = same_now
 
 -- what literals hold
 
@@ -247,7 +259,7 @@ own_acts {w = w} {st = st} {e = e} {f = f} {v = v} {u = u} {m = m} {k = k} o p x
 function_acts : {w : World} {s t : Names} {a b : Forest} {e f : Env} (k : FunctionKind) → own_name k a ≡ own_name k b → Decls s (named_so (waiting true) (own_name k a)) (named_so (waiting true) (own_name k b)) t → FillableIf t (own_name k a) → Code t k a b → Envs w s e f → Acts w (function_value k a e) (function_value k b f)
 function_acts k x d y c r = declare_acts d r (λ w2 e2 f2 h r2. identity_acts (λ w3 i j g l. own_acts _ _ x y (envs_later g r2) (same_closure l c (envs_later g r2)) (give_acts (same_closure l c (envs_later g r2)))))
 
-pub closure_acts : {w : World} {wanted : Wanted} {s t : Names} {a b : Forest} {e f : Env} {q z : Ask} (E : Enter) (ms ks : Parts) (pure : Bool) (k : FunctionKind) → IsClosure k → own_name k a ≡ own_name k b → Decls s (named_so (waiting true) (own_name k a)) (named_so (waiting true) (own_name k b)) t → FillableIf t (own_name k a) → Code t k a b → Envs w s e f → SameAsk w wanted q z → Acts w (does E (Kind.Function k pure) a ms q e) (does E (Kind.Function k pure) b ks z f)
+pub closure_acts : {w : World} {u : Purpose} {s t : Names} {a b : Forest} {e f : Env} {q z : Ask} (E : Enter) (ms ks : Parts) (pure : Bool) (k : FunctionKind) → IsClosure k → own_name k a ≡ own_name k b → Decls s (named_so (waiting true) (own_name k a)) (named_so (waiting true) (own_name k b)) t → FillableIf t (own_name k a) → Code t k a b → Envs w s e f → SameAsk w u q z → Acts w (does E (Kind.Function k pure) a ms q e) (does E (Kind.Function k pure) b ks z f)
 closure_acts E ms ks pure function_kind.Declaration i x d y c r s = absurd i
 closure_acts E ms ks pure function_kind.Expression i x d y c r same_value = function_acts function_kind.Expression x d y c r
 closure_acts E ms ks pure function_kind.Arrow i x d y c r same_value = function_acts function_kind.Arrow x d y c r
@@ -255,14 +267,14 @@ closure_acts E ms ks pure function_kind.Expression i x d y c r _ = unknown_acts
 closure_acts E ms ks pure function_kind.Arrow i x d y c r _ = unknown_acts
 
 -- a declaration has nothing to do where it stands
-pub hoisted_does : {w : World} {wanted : Wanted} {q z : Ask} (E : Enter) (a b : Forest) (ms ks : Parts) (pure also : Bool) (e f : Env) → SameAsk w wanted q z → Acts w (does E (Kind.Function function_kind.Declaration pure) a ms q e) (does E (Kind.Function function_kind.Declaration also) b ks z f)
+pub hoisted_does : {w : World} {u : Purpose} {q z : Ask} (E : Enter) (a b : Forest) (ms ks : Parts) (pure also : Bool) (e f : Env) → SameAsk w u q z → Acts w (does E (Kind.Function function_kind.Declaration pure) a ms q e) (does E (Kind.Function function_kind.Declaration also) b ks z f)
 hoisted_does E a b ms ks pure also e f same_run = normal_acts
 hoisted_does E a b ms ks pure also e f _ = unknown_acts
 
-default_value : {w : World} {st : Names} {m k : Meaning} {e f : Env} → Fillable (st default_name) → Means itself st m k → Envs w st e f → Acts w (with_value (m now e) (λ v. fill (look e default_name) v (done normal))) (with_value (k now f) (λ v. fill (look f default_name) v (done normal)))
+default_value : {w : World} {st : Names} {m k : Meaning} {e f : Env} → Fillable (st default_name) → Means (for_value itself) st m k → Envs w st e f → Acts w (with_value (m now e) (λ v. fill (look e default_name) v (done normal))) (with_value (k now f) (λ v. fill (look f default_name) v (done normal)))
 default_value y x r = value_acts (x.mean r same_now) (λ w2 v u h q. fill_acts ((envs_later h r).at default_name) y q normal_acts)
 
-default_acts : {w : World} {st : Names} {a b : Forest} {m k : Meaning} {e f : Env} → Near itself fields st a b → Fillable (st default_name) → Means itself st m k → Envs w st e f → Acts w (default_does a m e) (default_does b k f)
+default_acts : {w : World} {us : Purposes} {st : Names} {a b : Forest} {m k : Meaning} {e f : Env} → Near us fields st a b → Fillable (st default_name) → Means (for_value itself) st m k → Envs w st e f → Acts w (default_does a m e) (default_does b k f)
 default_acts near_nothing y x r = default_value y x r
 default_acts (near_absent c) y x r = default_value y x r
 default_acts (near_node {k = Kind.Function g pure} o d h a c) y x r = absurd o
@@ -284,21 +296,24 @@ default_acts (changed (value_read q v) c) y x r = default_value y x r
 default_acts {m = m} {k = k} {e = e} {f = f} (same_effects {l = l} {m = o} {b = b} {d = d} q t u) y x r = rw (gives_default l o b d k f q.new_hoists) (default_value y x r)
 default_acts {m = m} {k = k} {e = e} {f = f} (comes_to {k = g} {l = l} {n = n} {m = o} {a = a} {b = b} {c = c} {d = d} q t u) y x r = rw (gives_default g n a c m e q.old_hoists, gives_default l o b d k f q.new_hoists) (default_value y x r)
 default_acts (changed (sign_applied q) c) y x r = default_value y x r
+default_acts {m = m} {k = k} {e = e} {f = f} (wastes_more {k = g} {l = l} {n = n} {m = o} {a = a} {b = b} {c = c} {d = d} h q t u) y x r = rw (gives_default g n a c m e (blunt_hoists g q.old_blunt), gives_default l o b d k f q.new_hoists) (default_value y x r)
+default_acts (one_sided h q t u) y x r = default_value y x r
+default_acts (shorter q t u) y x r = default_value y x r
 
-catch_acts : {w : World} {s t : Names} {ms ks : Parts} {e f : Env} {v u : Value} (a b : Forest) → Decls s (declared Kind.CatchClause a) (declared Kind.CatchClause b) t → Fields itself t ms ks → Envs w s e f → Same w v u → Acts w (catch_does a ms v e) (catch_does b ks u f)
+catch_acts : {w : World} {s t : Names} {ms ks : Parts} {e f : Env} {v u : Value} (a b : Forest) → Decls s (declared Kind.CatchClause a) (declared Kind.CatchClause b) t → Fields for_values t ms ks → Envs w s e f → Same w v u → Acts w (catch_does a ms v e) (catch_does b ks u f)
 catch_acts a b d c r q = declare_acts d r (λ w2 e2 f2 i r2. may_acts c (λ m k ns us x c. need_acts c (λ m k ns us y c. seq_acts (take_maybe_acts x r2 (same_later i q)) (y.mean r2 same_run))))
 
 module _ (E : Enter) (enters : Enters E) where
-  for_acts : {w : World} {s t : Names} {a b : Forest} {ms ks : Parts} {e f : Env} (ls : List Text) → Decls s (lexical (first_of a)) (lexical (first_of b)) t → Copied t (lexical (first_of a)) (lexical (first_of b)) → Near itself fields t a b → Fields itself t ms ks → Envs w s e f → Acts w (for_does E a ms ls e) (for_does E b ks ls f)
+  for_acts : {w : World} {s t : Names} {a b : Forest} {ms ks : Parts} {e f : Env} (ls : List Text) → Decls s (lexical (first_of a)) (lexical (first_of b)) t → Copied t (lexical (first_of a)) (lexical (first_of b)) → Near (loop_purposes for_loop) fields t a b → Fields (loop_purposes for_loop) t ms ks → Envs w s e f → Acts w (for_does E a ms ls e) (for_does E b ks ls f)
   for_acts ls d h n c r = declare_acts d r (λ w2 e2 f2 i r2. may_acts c (λ m k ns us x y. bind_acts (ask_maybe_acts x r2 (first_ask_same n)) (λ w3 v u j q. after_init_acts q (copy_acts h (envs_later j r2) (λ w4 e f g r3. test_then_acts E enters for_loop ls h n c r3)))))
 
   -- one line for each kind and what it may be asked, as in the definition
-  pub does_acts : {wanted : Wanted} {s t : Names} {a b : Forest} {w : World} {e f : Env} {q z : Ask} (p : Row) (ms ks : Parts) (k : Kind) → Okay p s k → Decls s (declared k a) (declared k b) t → Heads k t a b → Near (wanted_below wanted k) (row_below k) (names_below k s t) a b → Rows (row_below k) (wanted_below wanted k) (names_below k s t) ms ks → Envs w s e f → SameAsk w wanted q z → Acts w (does E k a ms q e) (does E k b ks z f)
-  does_acts p ms ks Kind.Statements y d h n c r same_run = c.listed r same_run
+  pub does_acts : {u : Purpose} {s t : Names} {a b : Forest} {w : World} {e f : Env} {q z : Ask} (p : Row) (ms ks : Parts) (k : Kind) → Okay p s k → Decls s (declared k a) (declared k b) t → Heads k t a b → Near (wanted_below u k) (row_below k) (names_below k s t) a b → Rows (row_below k) (wanted_below u k) (names_below k s t) ms ks → Envs w s e f → SameAsk w u q z → Acts w (does E k a ms q e) (does E k b ks z f)
+  does_acts p ms ks Kind.Statements y d h n c r same_run = c.listed r (λ o. same_run)
   does_acts p ms ks (Kind.Directive written) y d h n c r same_run = normal_acts
   does_acts p ms ks Kind.EmptyStatement y d h n c r same_run = normal_acts
   does_acts p ms ks Kind.DebuggerStatement y d h n c r same_run = normal_acts
-  does_acts p ms ks Kind.ExpressionStatement y d h n c r same_run = need_acts c (λ m k ns ls x c. value_acts (x.mean r same_now) (λ w2 v u i q. normal_acts))
+  does_acts p ms ks Kind.ExpressionStatement y d h n c r same_run = need_acts c (λ m k ns ls x c. (x.effect tt r).acts)
   does_acts p ms ks Kind.BlockStatement y d h n c r same_run = declare_acts d r (λ w2 e2 f2 i r2. start_acts tt n r2 (need_acts c (λ m k ns ls x c. x.mean r2 same_run)))
   does_acts p ms ks Kind.IfStatement y d h n c r same_run = need_acts c (λ m k ns ls t c. need_acts c (λ m k ns ls x c. may_acts c (λ m k ns ls o c. value_acts (t.mean r same_now) (λ w2 v u i q. choose_acts (truthy_same q) (x.mean (envs_later i r) same_run) (ask_maybe_acts o (envs_later i r) same_run)))))
   does_acts p ms ks Kind.ReturnStatement y d h n c r same_run = may_acts c (λ m k ns ls o c. or_undefined_acts o r (λ w2 v u i q. done_acts (same_returns q)))
@@ -316,7 +331,7 @@ module _ (E : Enter) (enters : Enters E) where
   does_acts p ms ks Kind.TryStatement y d h n c r same_run = need_acts c (λ m k ns ls x c. may_acts c (λ m k ns ls o c. may_acts c (λ m k ns ls t c. try_acts x o t r)))
   does_acts {a = a} {b = b} p ms ks Kind.CatchClause y d h n c r (same_take q) = catch_acts a b d c r q
   does_acts p ms ks (Kind.VariableDeclaration how) y d h n c r same_run = need_acts c (λ m k ns ls x c. x.mean r same_declares)
-  does_acts p ms ks Kind.Declarators y d h n c r same_declares = c.listed r same_declares
+  does_acts p ms ks Kind.Declarators y d h n c r same_declares = c.listed r (λ o. same_declares)
   does_acts p ms ks Kind.VariableDeclarator y d h n c r (same_declares {how = how}) = need_acts c (λ m k ns ls x c. may_acts c (λ m k ns ls o c. declarator_acts how x o r))
   does_acts p ms ks (Kind.BindingName x) y d h n c r (same_take q) = fill_acts (r.at x) y q normal_acts
   does_acts p ms ks (Kind.Function f pure) y d h n c r q = absurd y
@@ -327,9 +342,9 @@ module _ (E : Enter) (enters : Enters E) where
   does_acts p ms ks Kind.ExportDefaultDeclaration y d h n c r same_run = need_acts c (λ m k ns ls x c. default_acts n y x r)
   does_acts p ms ks (Kind.ExportAllDeclaration name source) y d h n c r same_run = normal_acts
   does_acts p ms ks Kind.ThisExpression y d h n c r same_value = name_value_acts this_name (r.at this_name) y
-  does_acts {wanted = for_typeof} p ms ks (Kind.ReferenceName x) y d h n c r same_value = typeof_name_acts x (r.at x) y
-  does_acts {wanted = itself} p ms ks (Kind.ReferenceName x) y d h n c r same_value = name_value_acts x (r.at x) y
-  does_acts {wanted = to_call} p ms ks (Kind.ReferenceName x) y d h n c r same_value = name_value_acts x (r.at x) y
+  does_acts p ms ks (Kind.ReferenceName x) y d h n c r (same_value {wanted = for_typeof}) = typeof_name_acts x (r.at x) y
+  does_acts p ms ks (Kind.ReferenceName x) y d h n c r (same_value {wanted = itself}) = name_value_acts x (r.at x) y
+  does_acts p ms ks (Kind.ReferenceName x) y d h n c r (same_value {wanted = to_call}) = name_value_acts x (r.at x) y
   does_acts p ms ks (Kind.Literal v) y d h n c r same_value = literal_acts v
   does_acts p ms ks Kind.ArrayExpression y d h n c r same_value = need_acts c (λ m k ns ls x c. all_acts (x.mean r same_collect) (λ w2 vs us i q. identity_acts (λ w3 o p j l. give_acts (same_array l (array_same (all_later j q))))))
   does_acts {a = a} {b = b} p ms ks Kind.ObjectExpression y d h n c r same_value = need_acts c (λ m k ns ls x c. all_acts (x.mean r same_collect) (λ w2 vs us i q. identity_acts (λ w3 o p j l. give_acts (same_object l (object_content_same (below_of a) (below_of b) h (all_later j q))))))
@@ -349,7 +364,18 @@ module _ (E : Enter) (enters : Enters E) where
   does_acts p ms ks Kind.ConditionalExpression y d h n c r same_value = need_acts c (λ m k ns ls t c. need_acts c (λ m k ns ls x c. need_acts c (λ m k ns ls o c. value_acts (t.mean r same_now) (λ w2 v u i q. choose_acts (truthy_same q) (x.mean (envs_later i r) same_now) (o.mean (envs_later i r) same_now)))))
   does_acts p ms ks (Kind.CallExpression false pure) y d h n c r same_value = need_acts c (λ m k ns ls x c. need_acts c (λ m k ns ls t c. receiver_acts (x.mean r same_value) (λ w2 v u o p i q s. all_acts (t.mean (envs_later i r) same_collect) (λ w3 vs us j qs. call_acts E enters (same_later j q) (same_later j s) qs))))
   does_acts p ms ks (Kind.NewExpression pure) y d h n c r same_value = need_acts c (λ m k ns ls x c. need_acts c (λ m k ns ls t c. value_acts (x.mean r same_now) (λ w2 v u i q. all_acts (t.mean (envs_later i r) same_collect) (λ w3 vs us j qs. construct_acts E enters (same_later j q) qs))))
-  does_acts {wanted = wanted} p ms ks (Kind.MemberExpression key false) y d h n c r same_value = member_place_acts key c r (λ w2 v u o p i q s. value_acts (get_place_acts E enters (same_at_member q s)) (λ w3 x t j g. done_acts (same_gives g (received wanted (same_later j q)))))
+  does_acts p ms ks (Kind.MemberExpression key false) y d h n c r (same_value {wanted = wanted}) = member_place_acts key c r (λ w2 v u o p i q s. value_acts (get_place_acts E enters (same_at_member q s)) (λ w3 x t j g. done_acts (same_gives g (received wanted (same_later j q)))))
   does_acts p ms ks (Kind.MemberExpression key false) y d h n c r same_place = member_place_acts key c r (λ w2 v u o p i q s. done_acts (same_refers (same_at_member q s)))
   does_acts p ms ks (Kind.TargetName x) y d h n c r same_place = name_place_acts x (r.at x) y
   does_acts p ms ks _ y d h n c r _ = unknown_acts
+
+  -- of what nobody takes the value: these hand that on, all others do what they do where it is taken
+  pub does_effect : {s t : Names} {a b : Forest} {w : World} {e f : Env} (u : Purpose) (p : Row) (ms ks : Parts) (k : Kind) → ForEffect u → Okay p s k → Decls s (declared k a) (declared k b) t → Heads k t a b → Near (wanted_below u k) (row_below k) (names_below k s t) a b
+      → Rows (row_below k) (wanted_below u k) (names_below k s t) ms ks → Envs w s e f → ActsForEffect w (does E k a ms now e) (does E k b ks now f)
+  does_effect (for_value wanted) p ms ks k g y d h n c r = absurd g
+  does_effect for_effect p ms ks Kind.ParenthesizedExpression g y d h n c r = need_effect c (λ m k ns ls x c. x.effect tt r)
+  does_effect for_effect p ms ks Kind.SequenceExpression g y d h n c r = need_effect c (λ m k ns ls x c. x.effect tt r)
+  does_effect for_effect p ms ks Kind.Expressions g y d h n c r = in_turn_effect c r
+  does_effect for_effect p ms ks (Kind.LogicalExpression o) g y d h n c r = need_effect c (λ m k ns ls x c. need_effect c (λ m k ns ls t c. value_effects (x.mean r same_now) (λ w2 v u i q. choice_effects (goes_right_same o q) (t.effect tt (envs_later i r)) (effects_act (give_acts q)))))
+  does_effect for_effect p ms ks Kind.ConditionalExpression g y d h n c r = need_effect c (λ m k ns ls t c. need_effect c (λ m k ns ls x c. need_effect c (λ m k ns ls o c. value_effects (t.mean r same_now) (λ w2 v u i q. choice_effects (truthy_same q) (x.effect tt (envs_later i r)) (o.effect tt (envs_later i r))))))
+  does_effect for_effect p ms ks k g y d h n c r = effects_act (does_acts {u = for_value itself} p ms ks k y d h n c r same_now)

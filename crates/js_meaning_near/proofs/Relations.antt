@@ -6,10 +6,10 @@ use Rattle.js_syntax.specs.declared.kind.FunctionKind.{FunctionKind}
 use Rattle.js_syntax.specs.declared.kind.VariableKind.{VariableKind}
 use Rattle.js_meaning.specs.Value.{Text, Slot, local, imported, arguments_object, Env, Plain, Value, plain, closure, object, array, error, Content, no_content, element, property, ErrorKind}
 use Rattle.js_meaning.specs.Trace.{Ending, Event}
-use Rattle.js_meaning.specs.State.{State, Cell, cell, Export, export, Place, at_slot, at_global, at_member, Completion, normal, gives, gives_all, refers, breaks, continues, returns, throws, Out, goes, stops, M}
+use Rattle.js_meaning.specs.State.{State, Cell, cell, Export, export, Place, at_slot, at_global, at_member, Completion, normal, gives, gives_all, refers, breaks, continues, returns, throws, Out, goes, stops, M, done, with_value}
 use Rattle.js_meaning.specs.Scope.{look, first_of, lexical}
 use Rattle.js_meaning.specs.Host.{Loop, for_loop, Task, body, turn, called_back, Enter}
-use Rattle.js_meaning.specs.Node.{Wanted, itself, Ask, run, value, place, take, take_all, declares, collect, entry, matches, Meaning}
+use Rattle.js_meaning.specs.Node.{Wanted, Ask, run, value, place, take, take_all, declares, collect, entry, matches, now, Meaning}
 use Rattle.js_meaning.specs.Meaning.{enter_body}
 use Rattle.js_meaning.specs.Run.{seen}
 use Rattle.js_meaning.specs.Kept.{Prefix}
@@ -17,6 +17,7 @@ use Rattle.js_meaning_near.specs.Names.{Status, undeclared, loose, live, dead, u
 use Rattle.js_meaning_near.specs.Quiet.{OnlyAllocates, Quiet}
 use Rattle.js_meaning_near.specs.Wasted.{Meets}
 use Rattle.js_meaning_near.specs.Near.{fields, Near, Code}
+use Rattle.js_meaning_near.specs.Purpose.{Purpose, for_value, ForEffect, loop_purposes}
 use Rattle.js_meaning_near.proofs.Worlds.{Rule, any_value, only_value, an_object, both, left, right, slack, World, In, Sub, Links}
 
 abbrev pub HoldsCell : Rule → Type 0
@@ -109,17 +110,17 @@ pub data SameExports (w : World) : List Export → List Export → Type 0 where
   no_exports : SameExports w [] []
   an_export : {x : Text} {p : Rule} {s z : Slot} {es fs : List Export} → HoldsCell p → SameSlot w p s z → SameExports w es fs → SameExports w (export x s ∷ es) (export x z ∷ fs)
 
--- what both are asked, where this is wanted of values
-pub data SameAsk (w : World) (wanted : Wanted) : Ask → Ask → Type 0 where
-  same_run : {ls : List Text} → SameAsk w wanted (run ls) (run ls)
-  same_value : SameAsk w wanted (value wanted) (value wanted)
-  same_place : SameAsk w wanted place place
-  same_take : {v u : Value} → Same w v u → SameAsk w wanted (take v) (take u)
-  same_take_all : {vs us : List Value} → SameAll w vs us → SameAsk w wanted (take_all vs) (take_all us)
-  same_declares : {how : VariableKind} → SameAsk w wanted (declares how) (declares how)
-  same_collect : SameAsk w wanted collect collect
-  same_entry : SameAsk w wanted entry entry
-  same_matches : {v u : Value} → Same w v u → SameAsk w wanted (matches v) (matches u)
+-- what both are asked, where they are evaluated for this
+pub data SameAsk (w : World) : Purpose → Ask → Ask → Type 0 where
+  same_run : {u : Purpose} {ls : List Text} → SameAsk w u (run ls) (run ls)
+  same_value : {wanted : Wanted} → SameAsk w (for_value wanted) (value wanted) (value wanted)
+  same_place : {u : Purpose} → SameAsk w u place place
+  same_take : {o : Purpose} {v u : Value} → Same w v u → SameAsk w o (take v) (take u)
+  same_take_all : {u : Purpose} {vs us : List Value} → SameAll w vs us → SameAsk w u (take_all vs) (take_all us)
+  same_declares : {u : Purpose} {how : VariableKind} → SameAsk w u (declares how) (declares how)
+  same_collect : {u : Purpose} → SameAsk w u collect collect
+  same_entry : {u : Purpose} → SameAsk w u entry entry
+  same_matches : {o : Purpose} {v u : Value} → Same w v u → SameAsk w o (matches v) (matches u)
 
 -- how many entries there may be yet: as many; or the new run has at least as many left
 pub data Budgets (w : World) (m n : ℕ) : Type 0 where
@@ -151,9 +152,18 @@ pub data Follows (w : World) : Out → Out → Type 0 where
 pub record Acts (w : World) (m k : M) : Type 0 where
   pub act : (w2 : World) → Sub w w2 → (s z : State) → States w2 s z → Follows w2 (m s) (k z)
 
--- a node's meaning in one environment, beside another's in another, where this is wanted of it
-pub record Means (wanted : Wanted) (st : Names) (m k : Meaning) : Type 0 where
-  pub mean : {w : World} {e f : Env} {q z : Ask} → Envs w st e f → SameAsk w wanted q z → Acts w (m q e) (k z f)
+-- what a computation does but for the value that it gives
+abbrev pub effects : M → M
+effects m = with_value m (λ v. done normal)
+
+-- alike but for the values that they give
+pub record ActsForEffect (w : World) (m k : M) : Type 0 where
+  pub acts : Acts w (effects m) (effects k)
+
+-- a node's meaning in one environment, beside another's in another, where it is evaluated for this
+pub record Means (u : Purpose) (st : Names) (m k : Meaning) : Type 0 where
+  pub mean : {w : World} {e f : Env} {q z : Ask} → Envs w st e f → SameAsk w u q z → Acts w (m q e) (k z f)
+  pub effect : {w : World} {e f : Env} → ForEffect u → Envs w st e f → ActsForEffect w (m now e) (k now f)
 
 -- what a loop reads off its row
 abbrev pub LoopHead : Loop → Names → Forest → Forest → Type 0
@@ -162,7 +172,7 @@ LoopHead _ st a b = Unit {0}
 
 pub data Tasks (w : World) : Task → Task → Type 0 where
   same_body : {st : Names} {t : FunctionKind} {a b : Forest} {e f : Env} {v u : Value} {vs us : List Value} → Code st t a b → Envs w st e f → Same w v u → SameAll w vs us → Tasks w (body t a e v vs) (body t b f u us)
-  same_turn : {st : Names} {l : Loop} {ls : List Text} {a b : Forest} {e f : Env} → LoopHead l st a b → Near itself fields st a b → Envs w st e f → Tasks w (turn l a ls e) (turn l b ls f)
+  same_turn : {st : Names} {l : Loop} {ls : List Text} {a b : Forest} {e f : Env} → LoopHead l st a b → Near (loop_purposes l) fields st a b → Envs w st e f → Tasks w (turn l a ls e) (turn l b ls f)
   same_back : {k : Bool} {st : Names} {t : FunctionKind} {a b : Forest} {e f : Env} {v u : Value} {vs us : List Value} → Code st t a b → Envs w st e f → Same w v u → SameAll w vs us → Tasks w (called_back k t a e v vs) (called_back k t b f u us)
 
 -- how a call ends whose code does nothing but give a value
@@ -253,7 +263,7 @@ pub exports_later : {w w2 : World} {v u : List Export} → Sub w w2 → SameExpo
 exports_later g no_exports = no_exports
 exports_later g (an_export h i r) = an_export h (slot_later g i) (exports_later g r)
 
-pub ask_later : {w w2 : World} {wanted : Wanted} {v u : Ask} → Sub w w2 → SameAsk w wanted v u → SameAsk w2 wanted v u
+pub ask_later : {w w2 : World} {o : Purpose} {v u : Ask} → Sub w w2 → SameAsk w o v u → SameAsk w2 o v u
 ask_later g same_run = same_run
 ask_later g same_value = same_value
 ask_later g same_place = same_place

@@ -9,7 +9,7 @@ use Rattle.js_syntax.specs.declared.kind.ClassKind.TheVariants as class_kind
 use Rattle.js_syntax.specs.Node.{Note, Forest, nothing, node}
 use Rattle.js_meaning.specs.Value.{Text}
 use Rattle.js_meaning.specs.Scope.{Decl, waiting, ready, all_so, named_so, first_of, behind, first_name, names_of, bound_names, vars_of, var_names, specifier_decls, import_decls, item_decls, lexical, receiver_decls, function_decls}
-use Rattle.js_meaning.specs.Node.{Wanted, itself}
+use Rattle.js_meaning_near.specs.Purpose.{Purposes, purposes_behind, for_values}
 use Rattle.js_meaning_near.specs.Names.{Names, Decls, Copied, declared, FillableIf}
 use Rattle.js_meaning_near.specs.Near.{Row, fields, Heads, is_row, Near, near_nothing, near_absent, near_node, near_closure, near_hoisted, Code, near_code}
 use Rattle.js_meaning_near.specs.Fit.{names_after, around_code, within_code, FunctionOk, Part, whole, others, part_of}
@@ -162,18 +162,18 @@ rows_kept (in_code y b x s) = refl
 rows_kept (behind_name s) = refl
 rows_kept (behind_no_name s) = refl
 
-code_kept : {C : Names → Type 0} {q : Part} {p : Row} (st : Names) (f : FunctionKind) (a b : Forest) → Rewritten C q p a b → FunctionOk st f b → Near itself fields (within_code st f b) (behind a) (behind b) → Code (around_code st f b) f a b
+code_kept : {C : Names → Type 0} {q : Part} {p : Row} (st : Names) (f : FunctionKind) (a b : Forest) → Rewritten C q p a b → FunctionOk st f b → Near for_values fields (within_code st f b) (behind a) (behind b) → Code (around_code st f b) f a b
 code_kept st function_kind.Declaration a b s y n = near_code (decls_from _ (decls_stay function_kind.Declaration s)) y.1 (rows_kept s) n
 code_kept st function_kind.Expression a b s y n = near_code (decls_from _ (decls_stay function_kind.Expression s)) y.1 (rows_kept s) n
 code_kept st function_kind.Arrow a b s y n = near_code (decls_from _ (decls_stay function_kind.Arrow s)) y.1 (rows_kept s) n
 
-function_near : {C : Names → Type 0} {wanted : Wanted} {q : Part} {e : Row} {p : Row} {st : Names} {pure : Bool} {n m : Note} {a b r s : Forest} (f : FunctionKind) → Rewritten C q e a b → FunctionOk st f b → Near itself fields (within_code st f b) (behind a) (behind b) → Near wanted p st r s → Near wanted p st (node (Kind.Function f pure) n a r) (node (Kind.Function f pure) m b s)
+function_near : {C : Names → Type 0} {us : Purposes} {q : Part} {e : Row} {p : Row} {st : Names} {pure : Bool} {n m : Note} {a b r s : Forest} (f : FunctionKind) → Rewritten C q e a b → FunctionOk st f b → Near for_values fields (within_code st f b) (behind a) (behind b) → Near (purposes_behind us) p st r s → Near us p st (node (Kind.Function f pure) n a r) (node (Kind.Function f pure) m b s)
 function_near {st = st} {a = a} {b = b} function_kind.Declaration s y n o = near_hoisted (name_kept s) (subst (FillableIf st) (sym (name_kept s)) y.0) (code_kept st function_kind.Declaration a b s y n) o
 function_near {st = st} {a = a} {b = b} function_kind.Expression s y n o =
     near_closure tt (name_kept s) (decls_from st (ap (named_so (waiting true)) (name_kept s))) (subst (FillableIf (around_code st function_kind.Expression b)) (sym (name_kept s)) y.0) (code_kept st function_kind.Expression a b s y n) o
 function_near {st = st} {a = a} {b = b} function_kind.Arrow s y n o = near_closure tt refl (same_decls st []) y.0 (code_kept st function_kind.Arrow a b s y n) o
 
-pub rewritten_near : {C : Names → Type 0} {q : Part} {p : Row} {t u : Forest} {wanted : Wanted} (st : Names) → C st → Rewritten C q p t u → Near wanted p st (part_of q t) (part_of q u)
+pub rewritten_near : {C : Names → Type 0} {q : Part} {p : Row} {t u : Forest} {us : Purposes} (st : Names) → C st → Rewritten C q p t u → Near us p st (part_of q t) (part_of q u)
 rewritten_near {q = whole} st g no_more = near_nothing
 rewritten_near {q = others} st g no_more = near_nothing
 rewritten_near st g (behind_absent s) = near_absent (rewritten_near st g s)

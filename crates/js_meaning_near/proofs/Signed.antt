@@ -7,7 +7,7 @@ use Rattle.js_syntax.specs.Facts.{is_core}
 use Rattle.js_syntax.specs.Node.{Note, Forest, nothing, node, absent, below_of}
 use Rattle.js_meaning.specs.Scope.{Decl, first_of, lexical}
 use Rattle.js_meaning.specs.Kept.{Refined}
-use Rattle.js_meaning.specs.Node.{Wanted}
+use Rattle.js_meaning_near.specs.Purpose.{Purposes, purposes_behind}
 use Rattle.js_meaning_near.specs.Names.{Names, Copied}
 use Rattle.js_meaning_near.specs.Near.{Row, fields, items, Heads, keys, Near, near_nothing, near_absent, changed, sign_applied, module_of}
 use Rattle.js_meaning_near.specs.Fit.{Part, whole, others, part_of, Fits}
@@ -62,19 +62,19 @@ heads_signed _ t a may all = tt
 
 -- ---- rows
 
-near_node_signed : {wanted : Wanted} (k : Kind) (a : Forest) → Sign k a → (p : Row) (st : Names) (n : Note) (c : Forest) → NodeMayBeSigned k a → Near wanted p st (node k n a c) (node k n (signed a) (signed c)) → Near wanted p st c (signed c) → Near wanted p st (node k n a c) (signed (node k n a c))
+near_node_signed : {us : Purposes} (k : Kind) (a : Forest) → Sign k a → (p : Row) (st : Names) (n : Note) (c : Forest) → NodeMayBeSigned k a → Near us p st (node k n a c) (node k n (signed a) (signed c)) → Near (purposes_behind us) p st c (signed c) → Near us p st (node k n a c) (signed (node k n a c))
 near_node_signed _ _ is_number p st n c may here rest = changed (sign_applied may) rest
-near_node_signed {wanted = wanted} k a (is_other is) p st n c may here rest = subst (Near wanted p st (node k n a c)) (sym (is n c)) here
+near_node_signed {us = us} k a (is_other is) p st n c may here rest = subst (Near us p st (node k n a c)) (sym (is n c)) here
 
 behind_signed : (k : Kind) (n : Note) (a c : Forest) → Sign k a → part_of others (signed (node k n a c)) ≡ signed c
 behind_signed _ n _ c is_number = refl
 behind_signed k n a c (is_other is) = ap (part_of others) (is n c)
 
-rows_signed : {wanted : Wanted} (q : Part) (p : Row) (st : Names) (a : Forest) → MayBeSigned a → Fits q p st a → Near wanted p st (part_of q a) (part_of q (signed a))
+rows_signed : {us : Purposes} (q : Part) (p : Row) (st : Names) (a : Forest) → MayBeSigned a → Fits q p st a → Near us p st (part_of q a) (part_of q (signed a))
 rows_signed whole p st nothing may y = near_nothing
 rows_signed others p st nothing may y = near_nothing
 rows_signed others p st (absent c) may y = rows_signed whole p st c may y
-rows_signed {wanted = wanted} others p st (node k n a c) may y = subst (Near wanted p st c) (sym (behind_signed k n a c (sign_of k a))) (rows_signed whole p st c may.2 y)
+rows_signed {us = us} others p st (node k n a c) may y = subst (Near us p st c) (sym (behind_signed k n a c (sign_of k a))) (rows_signed whole p st c may.2 y)
 rows_signed whole p st (absent c) may y = near_absent (rows_signed whole p st c may y)
 rows_signed whole p st (node k n a c) may y =
     let rest = rows_signed whole p st c may.2 y.1 in

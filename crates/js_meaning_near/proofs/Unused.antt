@@ -1,5 +1,5 @@
 -- Statements whose values nobody takes: they do no more than their parts.
-use Rattle.std.proofs.Common.{◌≡◌, List, [], ◌∷◌, ◌++◌, Some, refl, sym, ap, subst, ◌∙◌, arith, append_assoc}
+use Rattle.std.proofs.Common.{◌≡◌, List, [], ◌∷◌, Some, refl, sym, ap, subst, ◌∙◌, arith}
 use Rattle.std.specs.Prelude.{Bool, true, false, ◌||◌}
 use Rattle.js_syntax.specs.declared.node_kind.NodeKind.{NodeKind as Kind}
 use Rattle.js_syntax.specs.declared.operator.BinaryOperator.TheVariants as binary
@@ -7,8 +7,7 @@ use Rattle.js_syntax.specs.declared.operator.UnaryOperator.TheVariants as unary
 use Rattle.js_syntax.specs.declared.value.LiteralValue.{LiteralValue as Literal}
 use Rattle.js_syntax.specs.Node.{Note, Forest, nothing, node, absent}
 use Rattle.js_meaning.specs.Value.{Text, Env, Value, undef, array, literal_value}
-use Rattle.js_meaning.specs.Trace.{Event}
-use Rattle.js_meaning.specs.State.{State, Completion, normal, gives, gives_all, refers, breaks, continues, returns, throws, Out, goes, stops, M, more, go_on, bind, done, stop, unknown, choose, give, if_gives, with_receiver, with_value, if_gives_all, with_all, identity}
+use Rattle.js_meaning.specs.State.{State, Completion, normal, gives, gives_all, refers, breaks, continues, returns, throws, M, bind, done, stop, unknown, choose, give, if_gives, with_receiver, with_value, if_gives_all, with_all, identity}
 use Rattle.js_meaning.specs.Operator.{is_other, answer_is, compare, unary_of}
 use Rattle.js_meaning.specs.Host.{Enter}
 use Rattle.js_meaning.specs.Node.{run, now, Meaning, Parts, need, values}
@@ -23,46 +22,11 @@ use Rattle.js_meaning_near.specs.Near.{Row, fields, same_effects, meaning, SameE
 use Rattle.js_meaning_near.specs.Fit.{whole, Fits}
 use Rattle.js_meaning_near.specs.Rewritten.{SameNames, Rewritten, at_place}
 use Rattle.js_meaning_near.specs.Known.{Knows}
+use Rattle.js_meaning_near.proofs.Effects.{more_nothing, bind_on, value_on}
 use Rattle.js_meaning_near.proofs.Fit.{fit}
 use Rattle.js_meaning_near.specs.Unused.{Needed, all_needed, needed, not_needed, kind_of, below_of}
 
--- what goes on after what went on
-
-more_nothing : (o : Out) → more [] o ≡ o
-more_nothing (goes es s c) = refl
-more_nothing (stops es e) = refl
-
-more_more : (es fs : List Event) (o : Out) → more es (more fs o) ≡ more (es ++ fs) o
-more_more es fs (goes gs s c) = ap (λ l. goes l s c) (sym (append_assoc es fs gs))
-more_more es fs (stops gs e) = ap (λ l. stops l e) (sym (append_assoc es fs gs))
-
-more_on : (es : List Event) (o : Out) (g : Completion → M) → go_on (more es o) g ≡ more es (go_on o g)
-more_on es (goes fs s c) g = sym (more_more es fs (g c s))
-more_on es (stops fs e) g = refl
-
-on_on : (o : Out) (f g : Completion → M) → go_on (go_on o f) g ≡ go_on o (λ c. bind (f c) g)
-unfolding bind
-on_on (goes es s c) f g = more_on es (f c s) g
-on_on (stops es e) f g = refl
-
-bind_on : (m : M) (f g : Completion → M) → bind (bind m f) g ≡ bind m (λ c. bind (f c) g)
-unfolding bind
-bind_on m f g = λ i s. on_on (m s) f g i
-
--- a value's continuation, and what follows
-gives_on : (f : Value → M) (g : Value → M) (c : Completion) → bind (if_gives (λ v r. f v) c) (if_gives (λ v r. g v)) ≡ if_gives (λ v r. with_value (f v) g) c
-unfolding bind done stop
-gives_on f g normal = refl
-gives_on f g (gives v r) = refl
-gives_on f g (gives_all vs) = refl
-gives_on f g (refers p) = refl
-gives_on f g (breaks o) = refl
-gives_on f g (continues o) = refl
-gives_on f g (returns v) = refl
-gives_on f g (throws v) = refl
-
-pub value_on : (m : M) (f g : Value → M) → with_value (with_value m f) g ≡ with_value m (λ v. with_value (f v) g)
-value_on m f g = bind_on m (if_gives (λ v r. f v)) (if_gives (λ v r. g v)) ∙ ap (bind m) (λ i c. gives_on f g c i)
+-- values of lists, and what follows
 
 gives_all_on : (f : Value → M) (g : List Value → M) (c : Completion) → bind (if_gives (λ v r. f v) c) (if_gives_all g) ≡ if_gives (λ v r. with_all (f v) g) c
 unfolding bind done stop
@@ -89,22 +53,22 @@ all_then g h (continues o) = refl
 all_then g h (returns v) = refl
 all_then g h (throws v) = refl
 
-all_value : (m : M) (g : List Value → M) (h : Value → M) → with_value (with_all m g) h ≡ with_all m (λ vs. with_value (g vs) h)
+pub all_value : (m : M) (g : List Value → M) (h : Value → M) → with_value (with_all m g) h ≡ with_all m (λ vs. with_value (g vs) h)
 all_value m g h = bind_on m (if_gives_all g) (if_gives (λ v r. h v)) ∙ ap (bind m) (λ i c. all_then g h c i)
 
 -- an array literal of which nobody takes the value
 
-over : Value → M
+unfoldable pub over : Value → M
 over v = done normal
 
 array_soon : (vs : List Value) (s : State) → EndsSoon s (with_all (done (gives_all vs)) (λ vs. with_value (identity (λ i. give (array i (array_content vs)))) over) s)
 unfolding bind done identity over
 array_soon vs s = ends_soon (record { budget = refl; fresh = omega arith; store = λ i h. refl; globals = λ x. refl; imports = λ x y. refl; shown = refl; moves = refl; exports = refl; stars = refl })
 
-part_in : {E : Enter} {st : Names} {env : Env} {ms : Parts} (p : Meaning) (f : Value → M) (g : List Value → M) → ((v : Value) → Wastes E st env (with_all (f v) g) ms) → Wastes E st env (with_all (with_value (p now env) f) g) (Some p ∷ ms)
+pub part_in : {E : Enter} {st : Names} {env : Env} {ms : Parts} (p : Meaning) (f : Value → M) (g : List Value → M) → ((v : Value) → Wastes E st env (with_all (f v) g) ms) → Wastes E st env (with_all (with_value (p now env) f) g) (Some p ∷ ms)
 part_in {E = E} {st = st} {env = env} {ms = ms} p f g h = subst (λ m. Wastes E st env m (Some p ∷ ms)) (sym (all_on (p now env) f g)) (wastes_part h)
 
-silent_in : {E : Enter} {st : Names} {env : Env} {ms : Parts} (m : M) (f : Value → M) (g : List Value → M) → Quiet m → ((v : Value) → Wastes E st env (with_all (f v) g) ms) → Wastes E st env (with_all (with_value m f) g) ms
+pub silent_in : {E : Enter} {st : Names} {env : Env} {ms : Parts} (m : M) (f : Value → M) (g : List Value → M) → Quiet m → ((v : Value) → Wastes E st env (with_all (f v) g) ms) → Wastes E st env (with_all (with_value m f) g) ms
 silent_in {E = E} {st = st} {env = env} {ms = ms} m f g q h = subst (λ m. Wastes E st env m ms) (sym (all_on m f g)) (wastes_silent q h)
 
 after_array : List Value → M
@@ -123,12 +87,12 @@ array_ends vs = wastes_nothing (array_soon vs)
 
 -- what stands for it
 
-abbrev AllNodes : Forest → Type 0
+abbrev pub AllNodes : Forest → Type 0
 AllNodes nothing = Unit {0}
 AllNodes (absent r) = ⊥
 AllNodes (node k n a r) = AllNodes r
 
-all_nodes : {st : Names} {es ps : Forest} → Needed st es ps → AllNodes ps
+pub all_nodes : {st : Names} {es ps : Forest} → Needed st es ps → AllNodes ps
 all_nodes all_needed = tt
 all_nodes (needed x) = all_nodes x
 all_nodes (not_needed q x) = all_nodes x
@@ -140,7 +104,7 @@ turn_drops E env (absent r) k n a y = absurd y
 turn_drops E env (node l m b s) k n a y =
     ap (λ (m : M). with_value (meaning E k a now env) (λ v. m)) (turn_drops E env s l m b y) ∙ sym (value_on (meaning E k a now env) (λ v. in_turn (eval E (node l m b s)) env) over)
 
-stands : (E : Enter) (env : Env) (n : Note) (ls : List Text) (ps : Forest) → AllNodes ps → drops (eval E ps) env ≡ meaning E (kind_of ps) (below_of n ps) (run ls) env
+pub stands : (E : Enter) (env : Env) (n : Note) (ls : List Text) (ps : Forest) → AllNodes ps → drops (eval E ps) env ≡ meaning E (kind_of ps) (below_of n ps) (run ls) env
 unfolding drops need eval over
 stands E env n ls nothing y = refl
 stands E env n ls (absent r) y = absurd y
@@ -148,7 +112,7 @@ stands E env n ls (node k m a nothing) y = refl
 stands E env n ls (node k m a (absent r)) y = absurd y
 stands E env n ls (node k m a (node l o b s)) y = turn_drops E env (node l o b s) k m a y
 
-hoists_kind : (ps : Forest) → hoists_nothing (kind_of ps) ≡ true
+pub hoists_kind : (ps : Forest) → hoists_nothing (kind_of ps) ≡ true
 hoists_kind nothing = refl
 hoists_kind (absent r) = refl
 hoists_kind (node k n a r) = refl
@@ -205,18 +169,18 @@ comparison_wasted st k a v n m i j = record {
 
 -- a call of a function that does nothing; the arguments that aren't silent stay
 
-over_soon : (s : State) → EndsSoon s (over undef s)
+pub over_soon : (s : State) → EndsSoon s (over undef s)
 unfolding over done
 over_soon s = ends_soon (record { budget = refl; fresh = omega arith; store = λ i h. refl; globals = λ x. refl; imports = λ x y. refl; shown = refl; moves = refl; exports = refl; stars = refl })
 
-over_ends : {E : Enter} {st : Names} {env : Env} (v : Value) → Wastes E st env (over v) []
+pub over_ends : {E : Enter} {st : Names} {env : Env} (v : Value) → Wastes E st env (over v) []
 unfolding over
 over_ends v = wastes_nothing over_soon
 
 after_arguments : Enter → Value → Value → List Value → M
 after_arguments E v this vs = with_value (call_value E v this vs) over
 
-given_all : (vs : List Value) (f : List Value → M) → with_all (done (gives_all vs)) f ≡ f vs
+pub given_all : (vs : List Value) (f : List Value → M) → with_all (done (gives_all vs)) f ≡ f vs
 unfolding bind done
 given_all vs f = λ i s. more_nothing (f vs s) i
 

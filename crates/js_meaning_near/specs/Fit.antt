@@ -7,6 +7,7 @@ use Rattle.js_syntax.specs.Facts.{is_core}
 use Rattle.js_syntax.specs.Node.{Forest, nothing, node, absent}
 use Rattle.js_meaning.specs.Scope.{Decl, decl, waiting, named_so, behind, first_name, own_name, function_decls}
 use Rattle.js_meaning_near.specs.Names.{live, Names, with_name, FillableIf, declared, names_below}
+use Rattle.js_meaning_near.specs.Purpose.{Purposes, purposes_behind}
 use Rattle.js_meaning_near.specs.Near.{Row, fields, row_below, Okay, ReceiverOk}
 
 -- the names behind declarations that both programs have
@@ -33,6 +34,11 @@ pub data Part : Type 0 where
 abbrev pub part_of : Part → Forest → Forest
 part_of whole a = a
 part_of others a = behind a
+
+-- and what its expressions are evaluated for
+abbrev pub purposes_of : Part → Purposes → Purposes
+purposes_of whole us = us
+purposes_of others us = purposes_behind us
 
 -- what a core node asks; `below`: what the row below it asks
 abbrev pub NodeFits : Row → Names → Kind → Forest → (Part → Row → Names → Type 0) → Type 0

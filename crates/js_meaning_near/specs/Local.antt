@@ -1,13 +1,16 @@
--- A node that comes to another, anywhere in a row.
+-- A node that another stands for, anywhere in a row.
 use Rattle.std.specs.Prelude.{◌≡◌}
 use Rattle.js_syntax.specs.declared.node_kind.NodeKind.{NodeKind as Kind}
+use Rattle.js_syntax.specs.declared.operator.LogicalOperator.{LogicalOperator}
 use Rattle.js_syntax.specs.Node.{Note, Forest, nothing, node, absent, below_of}
 use Rattle.js_meaning.specs.Value.{Text}
 use Rattle.js_meaning.specs.Scope.{names_of, bound_names, vars_of, var_names, specifier_decls, import_decls}
 use Rattle.js_meaning.specs.Module.{specifier_of}
-use Rattle.js_meaning.specs.Node.{Wanted}
 use Rattle.js_meaning_near.specs.Names.{Names}
-use Rattle.js_meaning_near.specs.Near.{wanted_below, ComesTo, keys}
+use Rattle.js_meaning_near.specs.Purpose.{Purpose, ForEffect, Purposes, purpose_here, purposes_behind, wanted_below}
+use Rattle.js_meaning_near.specs.Near.{fields, is_row, ComesTo, LessWaste, OneSided, Shorter, keys}
+use Rattle.js_meaning_near.specs.Fit.{whole, Fits}
+use Rattle.js_meaning_near.specs.Once.{NodeStays}
 
 -- the one node declares outside what the other does
 pub record Plainly (k : Kind) (a : Forest) (l : Kind) (b : Forest) : Type 0 where
@@ -24,12 +27,21 @@ abbrev pub ReadsSame : Kind → Forest → Forest → Type 0
 ReadsSame (Kind.ExportSpecifier exported) a b = specifier_of (Kind.ExportSpecifier exported) a ≡ specifier_of (Kind.ExportSpecifier exported) b
 ReadsSame k a b = KeysStay k a b
 
--- By what is wanted of the expressions of the rows.
-pub data Local : Wanted → Forest → Forest → Type 0 where
-  at_place : {w : Wanted} {k l : Kind} {n m : Note} {a b r : Forest} → ((st : Names) → ComesTo w st k a l b) → Plainly k a l b → Local w (node k n a r) (node l m b r)
-  in_below : {w : Wanted} {k : Kind} {n : Note} {a b r : Forest} → ReadsSame k a b → Local (wanted_below w k) a b → Local w (node k n a r) (node k n b r)
-  in_rest : {w : Wanted} {k : Kind} {n : Note} {a r s : Forest} → Local w r s → Local w (node k n a r) (node k n a s)
-  in_absent : {w : Wanted} {r s : Forest} → Local w r s → Local w (absent r) (absent s)
+-- A node, and one that may stand for it where it is evaluated for this, whatever is known of the names around.
+pub data Stands (u : Purpose) : Kind → Forest → Kind → Forest → Type 0 where
+  -- a part
+  for_part : {k l : Kind} {a b : Forest} → ((st : Names) → ComesTo u st k a l b) → Stands u k a l b
+  -- what wastes less; its own parts stay where it does
+  for_waste : {k l : Kind} {a b ps : Forest} → ForEffect u → ((st : Names) → LessWaste st k a l b ps ps) → ((st : Names) → NodeStays fields st l b → Fits whole fields st ps) → Stands u k a l b
+  for_sides : {o : LogicalOperator} {a b : Forest} → ForEffect u → ((st : Names) → OneSided st o a b) → Stands u Kind.ConditionalExpression a (Kind.LogicalExpression o) b
+  for_sequence : {n : Note} {a b : Forest} → ((st : Names) → Shorter st a b) → Stands u Kind.SequenceExpression (node Kind.Expressions n a nothing) Kind.SequenceExpression (node Kind.Expressions n b nothing)
+
+-- By what the expressions of the rows are evaluated for.
+pub data Local : Purposes → Forest → Forest → Type 0 where
+  at_place : {us : Purposes} {k l : Kind} {n m : Note} {a b r : Forest} → Stands (purpose_here us (is_row r)) k a l b → Plainly k a l b → Local us (node k n a r) (node l m b r)
+  in_below : {us : Purposes} {k : Kind} {n : Note} {a b r : Forest} → ReadsSame k a b → Local (wanted_below (purpose_here us (is_row r)) k) a b → Local us (node k n a r) (node k n b r)
+  in_rest : {us : Purposes} {k : Kind} {n : Note} {a r s : Forest} → Local (purposes_behind us) r s → Local us (node k n a r) (node k n a s)
+  in_absent : {us : Purposes} {r s : Forest} → Local (purposes_behind us) r s → Local us (absent r) (absent s)
 
 -- a field, or none in its place
 abbrev pub IsField : Forest → Type 0

@@ -12,11 +12,14 @@ use Rattle.js_meaning.specs.Value.{Text, Env, this_name, Plain, Value, plain, li
 use Rattle.js_meaning.specs.Scope.{waiting, named_so, first_of, behind, first_name, lexical, function_decls, own_name, default_name, module_decls}
 use Rattle.js_meaning.specs.Host.{Enter}
 use Rattle.js_meaning.specs.Module.{Entry, entry_local, entry_import, entries, stars, requests}
-use Rattle.js_meaning.specs.Node.{Wanted, itself, to_call, Ask, run, value, Meaning, now}
+use Rattle.js_meaning.specs.Node.{Wanted, Ask, run, value, Meaning, now}
 use Rattle.js_syntax.specs.declared.operator.UnaryOperator.{UnaryOperator}
+use Rattle.js_syntax.specs.declared.operator.LogicalOperator.{LogicalOperator}
+use Rattle.js_syntax.specs.declared.operator.LogicalOperator.TheVariants as logical
 use Rattle.js_meaning.specs.Operator.{largest}
-use Rattle.js_meaning.specs.Expression.{static_key, wanted_by}
+use Rattle.js_meaning.specs.Expression.{static_key}
 use Rattle.js_meaning.specs.Meaning.{does, if_core, enter_body, eval}
+use Rattle.js_meaning_near.specs.Purpose.{Purpose, for_effect, ForEffect, asked, Purposes, all, last_for, purpose_here, purposes_behind, for_values, handed_on, wanted_below}
 use Rattle.js_meaning_near.specs.Quiet.{Quiet, Leads}
 use Rattle.js_meaning_near.specs.Wasted.{Wastes, drops}
 use Rattle.js_meaning_near.specs.Names.{Names, no_names, loose_names, unread, known, exactly, silent_function, Lone, Usable, Writable, Fillable, FillableIf, Binds, Decls, Copied, declared, names_below}
@@ -109,26 +112,17 @@ hoists_nothing (Kind.Function function_kind.Expression pure) = true
 hoists_nothing (Kind.Function function_kind.Arrow pure) = true
 hoists_nothing k = is_calm k
 
--- What is wanted of the expressions below a node, by what is wanted of the node: a callee is called (13.3.6.1, 13.3.11.1),
--- a parenthesis stands for what lies in it (13.2.9.3), and `typeof` takes names that nothing declares (13.5.3.1). Of a list of
--- arguments no value is asked. Of operands of `delete`, which isn't core, this says nothing.
-abbrev pub wanted_below : Wanted → Kind → Wanted
-wanted_below w Kind.ParenthesizedExpression = w
-wanted_below w (Kind.CallExpression optional pure) = to_call
-wanted_below w Kind.TaggedTemplateExpression = to_call
-wanted_below w (Kind.UnaryExpression o) = wanted_by o
-wanted_below w k = itself
-
 -- what a node may be asked of which this is wanted
 abbrev pub Permits : Wanted → Ask → Type 0
 Permits w (value v) = v ≡ w
 Permits w q = Unit {0}
 
--- A node, and one that may stand for it where this is wanted: where the names are bound, it comes to what that one does.
-pub record ComesTo (w : Wanted) (st : Names) (k : Kind) (a : Forest) (l : Kind) (b : Forest) : Type 0 where
+-- A node, and one that may stand for it where it is evaluated for this: where the names are bound, it comes to what that one
+-- does.
+pub record ComesTo (u : Purpose) (st : Names) (k : Kind) (a : Forest) (l : Kind) (b : Forest) : Type 0 where
   pub old_hoists : hoists_nothing k ≡ true
   pub new_hoists : hoists_nothing l ≡ true
-  pub comes : (E : Enter) (env : Env) → Binds st env → (q : Ask) → Permits w q → Leads (meaning E k a q env) (meaning E l b q env)
+  pub comes : (E : Enter) (env : Env) → Binds st env → (q : Ask) → Permits (asked u) q → Leads (meaning E k a q env) (meaning E l b q env)
 
 -- A statement of an expression, and a statement that may stand for it: the new one evaluates these parts, and the old one
 -- these others, and nothing that anybody can tell else.
@@ -136,6 +130,25 @@ pub record SameEffects (st : Names) (a : Forest) (l : Kind) (b ps qs : Forest) :
   pub new_hoists : hoists_nothing l ≡ true
   pub wastes : (E : Enter) (env : Env) → Binds st env → (ls : List Text) → Wastes E st env (meaning E Kind.ExpressionStatement a (run ls) env) (eval E ps)
   pub drops_all : (E : Enter) (env : Env) (ls : List Text) → drops (eval E qs) env ≡ meaning E l b (run ls) env
+
+-- An expression, and one that may stand for it where nobody takes the value: so may a statement of it.
+pub record LessWaste (st : Names) (k : Kind) (a : Forest) (l : Kind) (b ps qs : Forest) : Type 0 where
+  pub old_note : Note
+  pub new_note : Note
+  pub old_blunt : is_blunt k ≡ true
+  pub new_hoists : hoists_nothing l ≡ true
+  pub effects : SameEffects st (node k old_note a nothing) Kind.ExpressionStatement (node l new_note b nothing) ps qs
+
+-- what lies below a conditional of which one branch is silent, and below the logical expression that comes to the other one
+pub data OneSided (st : Names) : LogicalOperator → Forest → Forest → Type 0 where
+  first_stays : {k l z : Kind} {n i j : Note} {a b c : Forest} → Silent st z c → OneSided st logical.And (node k n a (node l i b (node z j c nothing))) (node k n a (node l i b nothing))
+  second_stays : {k l z : Kind} {n i j : Note} {a b c : Forest} → Silent st l b → OneSided st logical.Or (node k n a (node l i b (node z j c nothing))) (node k n a (node z j c nothing))
+
+-- expressions of which the last one's value counts, and the same without some silent ones before it
+pub data Shorter (st : Names) : Forest → Forest → Type 0 where
+  last_stays : {k : Kind} {n : Note} {a : Forest} → Shorter st (node k n a nothing) (node k n a nothing)
+  one_stays : {k : Kind} {n : Note} {a r s : Forest} → Shorter st r s → Shorter st (node k n a r) (node k n a s)
+  one_leaves : {k : Kind} {n : Note} {a r s : Forest} → Silent st k a → Shorter st r s → Shorter st (node k n a r) s
 
 -- How the nodes of a row stand: in a field each; in the fields of a switch; or in a list that items may leave.
 pub data Row : Type 0 where
@@ -191,43 +204,52 @@ abbrev pub is_row : Forest → Bool
 is_row nothing = false
 is_row _ = true
 
--- By what is wanted of the expressions of the rows, how their nodes stand, and the names around them.
+-- By what the expressions of the rows are evaluated for, how their nodes stand, and the names around them.
 mutual
-  pub data Near : Wanted → Row → Names → Forest → Forest → Type 0 where
-    near_nothing : {w : Wanted} {p : Row} {st : Names} → Near w p st nothing nothing
-    near_absent : {w : Wanted} {p : Row} {st : Names} {c d : Forest} → Near w p st c d → Near w p st (absent c) (absent d)
-    near_node : {w : Wanted} {p : Row} {st t : Names} {k : Kind} {n m : Note} {a b c d : Forest} → Okay p st k → Decls st (declared k a) (declared k b) t → Heads k t a b → Near (wanted_below w k) (row_below k) (names_below k st t) a b → Near w p st c d
-        → Near w p st (node k n a c) (node k m b d)
+  pub data Near : Purposes → Row → Names → Forest → Forest → Type 0 where
+    near_nothing : {us : Purposes} {p : Row} {st : Names} → Near us p st nothing nothing
+    near_absent : {us : Purposes} {p : Row} {st : Names} {c d : Forest} → Near (purposes_behind us) p st c d → Near us p st (absent c) (absent d)
+    near_node : {us : Purposes} {p : Row} {st t : Names} {k : Kind} {n m : Note} {a b c d : Forest} → Okay p st k → Decls st (declared k a) (declared k b) t → Heads k t a b → Near (wanted_below (purpose_here us (is_row c)) k) (row_below k) (names_below k st t) a b → Near (purposes_behind us) p st c d
+        → Near us p st (node k n a c) (node k m b d)
     -- a function that an expression gives; its own name lies in a scope around it
-    near_closure : {w : Wanted} {p : Row} {st t : Names} {f : FunctionKind} {pure : Bool} {n m : Note} {a b c d : Forest} → IsClosure f → own_name f a ≡ own_name f b
-        → Decls st (named_so (waiting true) (own_name f a)) (named_so (waiting true) (own_name f b)) t → FillableIf t (own_name f a) → Code t f a b → Near w p st c d
-        → Near w p st (node (Kind.Function f pure) n a c) (node (Kind.Function f pure) m b d)
+    near_closure : {us : Purposes} {p : Row} {st t : Names} {f : FunctionKind} {pure : Bool} {n m : Note} {a b c d : Forest} → IsClosure f → own_name f a ≡ own_name f b
+        → Decls st (named_so (waiting true) (own_name f a)) (named_so (waiting true) (own_name f b)) t → FillableIf t (own_name f a) → Code t f a b → Near (purposes_behind us) p st c d
+        → Near us p st (node (Kind.Function f pure) n a c) (node (Kind.Function f pure) m b d)
     -- a function that a declaration gives, where its scope is entered
-    near_hoisted : {w : Wanted} {p : Row} {st : Names} {pure : Bool} {n m : Note} {a b c d : Forest} → first_name a ≡ first_name b → FillableIf st (first_name a) → Code st function_kind.Declaration a b → Near w p st c d
-        → Near w p st (node (Kind.Function function_kind.Declaration pure) n a c) (node (Kind.Function function_kind.Declaration pure) m b d)
+    near_hoisted : {us : Purposes} {p : Row} {st : Names} {pure : Bool} {n m : Note} {a b c d : Forest} → first_name a ≡ first_name b → FillableIf st (first_name a) → Code st function_kind.Declaration a b → Near (purposes_behind us) p st c d
+        → Near us p st (node (Kind.Function function_kind.Declaration pure) n a c) (node (Kind.Function function_kind.Declaration pure) m b d)
     -- a function that nothing looks up, with any code
-    near_unread : {w : Wanted} {p : Row} {st : Names} {x : Text} {pure also : Bool} {n m : Note} {a b c d : Forest} → st x ≡ unread → first_name a ≡ Some x → first_name b ≡ Some x → Near w p st c d
-        → Near w p st (node (Kind.Function function_kind.Declaration pure) n a c) (node (Kind.Function function_kind.Declaration also) m b d)
+    near_unread : {us : Purposes} {p : Row} {st : Names} {x : Text} {pure also : Bool} {n m : Note} {a b c d : Forest} → st x ≡ unread → first_name a ≡ Some x → first_name b ≡ Some x → Near (purposes_behind us) p st c d
+        → Near us p st (node (Kind.Function function_kind.Declaration pure) n a c) (node (Kind.Function function_kind.Declaration also) m b d)
     -- a declarator that gives a known value
-    near_known : {w : Wanted} {q : Row} {st : Names} {x : Text} {p : Plain} {v : Literal} {n m i j k l : Note} {a b e f r s c d : Forest} → st x ≡ known (exactly p) → literal_value v ≡ plain p → Near w q st c d
-        → Near w q st (node Kind.VariableDeclarator n (node (Kind.BindingName x) i a (node (Kind.Literal v) k e r)) c) (node Kind.VariableDeclarator m (node (Kind.BindingName x) j b (node (Kind.Literal v) l f s)) d)
+    near_known : {us : Purposes} {q : Row} {st : Names} {x : Text} {p : Plain} {v : Literal} {n m i j k l : Note} {a b e f r s c d : Forest} → st x ≡ known (exactly p) → literal_value v ≡ plain p → Near (purposes_behind us) q st c d
+        → Near us q st (node Kind.VariableDeclarator n (node (Kind.BindingName x) i a (node (Kind.Literal v) k e r)) c) (node Kind.VariableDeclarator m (node (Kind.BindingName x) j b (node (Kind.Literal v) l f s)) d)
     -- a function whose calls do nothing but give a value, where that is known of its name
-    near_silent : {w : Wanted} {p : Row} {st : Names} {x : Text} {pure : Bool} {n m : Note} {a b c d : Forest} → st x ≡ known silent_function → first_name a ≡ Some x → first_name b ≡ Some x → SilentCode st a
-        → Code st function_kind.Declaration a b → Near w p st c d → Near w p st (node (Kind.Function function_kind.Declaration pure) n a c) (node (Kind.Function function_kind.Declaration pure) m b d)
+    near_silent : {us : Purposes} {p : Row} {st : Names} {x : Text} {pure : Bool} {n m : Note} {a b c d : Forest} → st x ≡ known silent_function → first_name a ≡ Some x → first_name b ≡ Some x → SilentCode st a
+        → Code st function_kind.Declaration a b → Near (purposes_behind us) p st c d → Near us p st (node (Kind.Function function_kind.Declaration pure) n a c) (node (Kind.Function function_kind.Declaration pure) m b d)
     -- nothing is said of what a node does that isn't core
-    near_uncovered : {w : Wanted} {p : Row} {st : Names} {k : Kind} {n m : Note} {a b c d : Forest} → is_core k ≡ false → Near w p st c d → Near w p st (node k n a c) (node k m b d)
+    near_uncovered : {us : Purposes} {p : Row} {st : Names} {k : Kind} {n m : Note} {a b c d : Forest} → is_core k ≡ false → Near (purposes_behind us) p st c d → Near us p st (node k n a c) (node k m b d)
     -- a node for another
-    changed : {w : Wanted} {p : Row} {st : Names} {k l : Kind} {n m : Note} {a b c d : Forest} → Change st k a l b → Near w p st c d → Near w p st (node k n a c) (node l m b d)
+    changed : {us : Purposes} {p : Row} {st : Names} {k l : Kind} {n m : Note} {a b c d : Forest} → Change st k a l b → Near (purposes_behind us) p st c d → Near us p st (node k n a c) (node l m b d)
     -- a part for the expression that comes to it, as far as is wanted there
-    comes_to : {w : Wanted} {p : Row} {st : Names} {k l : Kind} {n m i j : Note} {a b c d : Forest} → ComesTo w st k a l b → Near w fields st (node l i b nothing) (node l j b nothing) → Near w p st c d → Near w p st (node k n a c) (node l m b d)
+    comes_to : {us : Purposes} {p : Row} {st : Names} {k l : Kind} {n m i j : Note} {a b c d : Forest} → ComesTo (purpose_here us (is_row c)) st k a l b → Near (all (purpose_here us (is_row c))) fields st (node l i b nothing) (node l j b nothing) → Near (purposes_behind us) p st c d → Near us p st (node k n a c) (node l m b d)
     -- a statement for one that wastes more
-    same_effects : {w : Wanted} {p : Row} {st : Names} {l : Kind} {n m : Note} {a b c d ps qs : Forest} → SameEffects st a l b ps qs → Near itself fields st ps qs → Near w p st c d → Near w p st (node Kind.ExpressionStatement n a c) (node l m b d)
+    same_effects : {us : Purposes} {p : Row} {st : Names} {l : Kind} {n m : Note} {a b c d ps qs : Forest} → SameEffects st a l b ps qs → Near (all for_effect) fields st ps qs → Near (purposes_behind us) p st c d → Near us p st (node Kind.ExpressionStatement n a c) (node l m b d)
+    -- an expression of which nobody takes the value, for one that wastes more
+    wastes_more : {us : Purposes} {p : Row} {st : Names} {k l : Kind} {n m : Note} {a b c d ps qs : Forest} → ForEffect (purpose_here us (is_row c)) → LessWaste st k a l b ps qs → Near (all for_effect) fields st ps qs → Near (purposes_behind us) p st c d
+        → Near us p st (node k n a c) (node l m b d)
+    -- so a conditional of which one branch does nothing
+    one_sided : {us : Purposes} {p : Row} {st : Names} {o : LogicalOperator} {n m : Note} {a b c d e : Forest} → ForEffect (purpose_here us (is_row c)) → OneSided st o a e → Near (wanted_below for_effect (Kind.LogicalExpression o)) fields st e b
+        → Near (purposes_behind us) p st c d → Near us p st (node Kind.ConditionalExpression n a c) (node (Kind.LogicalExpression o) m b d)
+    -- a sequence for one with more silent parts
+    shorter : {us : Purposes} {p : Row} {st : Names} {n m i j : Note} {a b c d e : Forest} → Shorter st a e → Near (last_for (handed_on (purpose_here us (is_row c)))) fields st e b → Near (purposes_behind us) p st c d
+        → Near us p st (node Kind.SequenceExpression n (node Kind.Expressions i a nothing) c) (node Kind.SequenceExpression m (node Kind.Expressions j b nothing) d)
     -- an item that the new list doesn't have
-    leaves : {w : Wanted} {st : Names} {k : Kind} {n : Note} {a c d : Forest} → Idle st k a → Near w items st c d → Near w items st (node k n a c) d
+    leaves : {us : Purposes} {st : Names} {k : Kind} {n : Note} {a c d : Forest} → Idle st k a → Near us items st c d → Near us items st (node k n a c) d
 
   -- what lies below a function, by the names around it
   pub data Code : Names → FunctionKind → Forest → Forest → Type 0 where
-    near_code : {st t : Names} {f : FunctionKind} {a b : Forest} → Decls st (function_decls f a) (function_decls f b) t → ReceiverOk f t → is_row a ≡ is_row b → Near itself fields t (behind a) (behind b)
+    near_code : {st t : Names} {f : FunctionKind} {a b : Forest} → Decls st (function_decls f a) (function_decls f b) t → ReceiverOk f t → is_row a ≡ is_row b → Near for_values fields t (behind a) (behind b)
         → Code st f a b
 
 -- what the host sees under each exported name has to be there in both
@@ -239,12 +261,12 @@ ExportsOk st (entry_import x source name ∷ es) = ExportsOk st es
 -- Two modules, by their statements: these are near, the exports and the requests are the same.
 pub data NearModule : Forest → Forest → Type 0 where
   near_module : {t : Names} {a b : Forest} → Decls no_names (module_decls a) (module_decls b) t
-      → entries a ≡ entries b → ExportsOk t (entries a) → stars a ≡ stars b → requests a ≡ requests b → Near itself items t a b → NearModule a b
+      → entries a ≡ entries b → ExportsOk t (entries a) → stars a ≡ stars b → requests a ≡ requests b → Near for_values items t a b → NearModule a b
 
 -- The same, where the new module may make fewer entries.
 pub data LooseModule : Forest → Forest → Type 0 where
   loose_module : {t : Names} {a b : Forest} → Decls loose_names (module_decls a) (module_decls b) t
-      → entries a ≡ entries b → ExportsOk t (entries a) → stars a ≡ stars b → requests a ≡ requests b → Near itself items t a b → LooseModule a b
+      → entries a ≡ entries b → ExportsOk t (entries a) → stars a ≡ stars b → requests a ≡ requests b → Near for_values items t a b → LooseModule a b
 
 -- a module's tree, by its statements
 abbrev pub module_of : Note → Note → Forest → Forest

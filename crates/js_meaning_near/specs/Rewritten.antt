@@ -6,9 +6,9 @@ use Rattle.js_syntax.specs.declared.kind.FunctionKind.{FunctionKind}
 use Rattle.js_syntax.specs.Node.{Note, Forest, nothing, node, absent}
 use Rattle.js_meaning.specs.Value.{Text}
 use Rattle.js_meaning.specs.Scope.{declared_name, names_of, bound_names, vars_of, var_names, specifier_decls, import_decls, item_decls, lexical}
-use Rattle.js_meaning.specs.Node.{Wanted}
 use Rattle.js_meaning_near.specs.Names.{Names, names_below, declared}
 use Rattle.js_meaning_near.specs.Near.{Row, fields, row_below, Okay, Near}
+use Rattle.js_meaning_near.specs.Purpose.{Purposes, purposes_behind}
 use Rattle.js_meaning_near.specs.Fit.{Part, whole, others, FunctionOk, names_after, within_code}
 use Rattle.js_meaning_near.specs.Once.{NodeStays}
 use Rattle.js_meaning_near.specs.Local.{KeysStay}
@@ -32,7 +32,7 @@ pub data Rewritten (C : Names → Type 0) : Part → Row → Forest → Forest �
   no_more : {q : Part} {p : Row} → Rewritten C q p nothing nothing
   behind_absent : {p : Row} {r s : Forest} → Rewritten C whole p r s → Rewritten C whole p (absent r) (absent s)
   -- a place of change
-  at_place : {p : Row} {k l : Kind} {n m : Note} {a b r s : Forest} → SameNames k a l b → ((w : Wanted) (st : Names) (c d : Forest) → C st → Near w p st c d → Near w p st (node k n a c) (node l m b d)) → Rewritten C whole p r s
+  at_place : {p : Row} {k l : Kind} {n m : Note} {a b r s : Forest} → SameNames k a l b → ((us : Purposes) (st : Names) (c d : Forest) → C st → Near (purposes_behind us) p st c d → Near us p st (node k n a c) (node l m b d)) → Rewritten C whole p r s
       → Rewritten C whole p (node k n a r) (node l m b s)
   -- a node that stays
   behind_node : {p : Row} {k : Kind} {n : Note} {a r s : Forest} → ((st : Names) → C st → NodeStays p st k a) → Rewritten C whole p r s → Rewritten C whole p (node k n a r) (node k n a s)

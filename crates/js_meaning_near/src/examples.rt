@@ -4,6 +4,7 @@ ghost use Rattle.std.specs.Str.{bytes_eq};
 ghost use Rattle.js_syntax.specs.declared.node_kind.NodeKind.{NodeKind as Kind};
 ghost use Rattle.js_syntax.specs.declared.kind.FunctionKind.TheVariants as function_kind;
 ghost use Rattle.js_syntax.specs.declared.kind.VariableKind.TheVariants as variable;
+ghost use Rattle.js_syntax.specs.declared.operator.LogicalOperator.TheVariants as logical;
 ghost use Rattle.js_syntax.specs.declared.value.LiteralValue.{LiteralValue as Literal};
 ghost use Rattle.js_syntax.specs.Node.{Note, Forest, nothing, node, absent, below_of};
 ghost use Rattle.js_meaning.specs.Value.{Text, this_name, Plain, plain, literal_value};
@@ -14,10 +15,10 @@ ghost use Rattle.js_meaning.specs.Node.{itself, to_call};
 ghost use Rattle.js_meaning.specs.Operator.{truthy};
 ghost use Rattle.js_meaning_near.specs.Bare.{stands_bare};
 ghost use Rattle.js_meaning_near.specs.Local.{Plainly};
-ghost use Rattle.js_meaning_near.specs.Near.{fields, items, module_of};
+ghost use Rattle.js_meaning_near.specs.Near.{hoists_nothing, fields, items, module_of};
 ghost use Rattle.js_meaning_near.specs.Fit.{whole};
 ghost use Rattle.js_meaning_near.specs.Avoid.{declares, HasCells, ExportsAvoid, InPlace, Avoids};
-ghost use Rattle.js_meaning_near.specs.Examples.{block_of, behind_name, function_of, declaration_of, expression_statement, literal_statement, empty_statement, if_of, choice_of};
+ghost use Rattle.js_meaning_near.specs.Examples.{block_of, behind_name, function_of, declaration_of, expression_statement, literal_statement, empty_statement, if_of, choice_of, array_of, two_of, both_of};
 
 /// An empty statement leaves a list of statements.
 pub fn an_empty_statement_leaves()
@@ -76,4 +77,18 @@ pub fn a_branch_comes_out_bare()
         InPlace whole items (node Kind.ExpressionStatement n (node (Kind.CallExpression false pure) n (node l n b (node Kind.Arguments n es nothing)) nothing) r) →
         Refined (module_of n n (node Kind.ExpressionStatement n (node (Kind.CallExpression false pure) n (choice_of n v l b z c (node Kind.Arguments n es nothing)) nothing) r))
         (module_of n n (node Kind.ExpressionStatement n (node (Kind.CallExpression false pure) n (node l n b (node Kind.Arguments n es nothing)) nothing) r)) }
+{}
+
+/// Where nobody takes the value: `[f, 1, g];` becomes `f, g;`, `t ? f : 1;` becomes `t && f;`, and `t && [f];` becomes `t && f;`.
+pub fn an_unused_value_is_not_made()
+    ensures array { (n : Note) (v : Literal) (k l : Kind) (a b r : Forest) →
+        Plainly Kind.ArrayExpression (node Kind.Elements n (node k n a (node (Kind.Literal v) n nothing (node l n b nothing))) nothing) Kind.SequenceExpression (node Kind.Expressions n (node k n a (node l n b nothing)) nothing) →
+        InPlace whole items (node Kind.ExpressionStatement n (two_of n k a l b) r) → Refined (module_of n n (node Kind.ExpressionStatement n (array_of n k a v l b) r)) (module_of n n (node Kind.ExpressionStatement n (two_of n k a l b) r)) }
+    ensures choice { (n : Note) (v : Literal) (k l : Kind) (a b r : Forest) →
+        Plainly Kind.ConditionalExpression (node k n a (node l n b (node (Kind.Literal v) n nothing nothing))) (Kind.LogicalExpression logical.And) (node k n a (node l n b nothing)) →
+        InPlace whole items (node Kind.ExpressionStatement n (both_of n k a l b) r) →
+        Refined (module_of n n (node Kind.ExpressionStatement n (node Kind.ConditionalExpression n (node k n a (node l n b (node (Kind.Literal v) n nothing nothing))) nothing) r)) (module_of n n (node Kind.ExpressionStatement n (both_of n k a l b) r)) }
+    ensures branch { (n : Note) (k l : Kind) (a b r : Forest) → hoists_nothing l ≡ true → Plainly Kind.ArrayExpression (node Kind.Elements n (node l n b nothing) nothing) l b →
+        InPlace whole items (node Kind.ExpressionStatement n (both_of n k a l b) r) →
+        Refined (module_of n n (node Kind.ExpressionStatement n (both_of n k a Kind.ArrayExpression (node Kind.Elements n (node l n b nothing) nothing)) r)) (module_of n n (node Kind.ExpressionStatement n (both_of n k a l b) r)) }
 {}

@@ -5,18 +5,22 @@ ghost use Rattle.js_syntax.specs.declared.value.LiteralValue.{LiteralValue as Li
 ghost use Rattle.js_syntax.specs.Node.{Note, Forest, nothing, node};
 ghost use Rattle.js_meaning.specs.Value.{Text, Plain, literal_value};
 ghost use Rattle.js_meaning.specs.Operator.{truthy, goes_right};
+ghost use Rattle.js_meaning.specs.Expression.{wanted_by};
 ghost use Rattle.js_meaning.specs.Scope.{Decl, module_decls};
 ghost use Rattle.js_meaning.specs.Kept.{Kept, KeptBack, Refined};
 ghost use Rattle.js_meaning_near.specs.Names.{Fact, exactly, known, silent_function, Names, Fillable, AllPlain, PlainBut};
 ghost use Rattle.js_meaning.specs.Module.{entries, stars, requests};
-ghost use Rattle.js_meaning_near.specs.Local.{Local, IsField};
-ghost use Rattle.js_meaning.specs.Node.{Wanted, itself};
+ghost use Rattle.js_meaning_near.specs.Local.{Stands, Local, IsField};
+ghost use Rattle.js_meaning_near.specs.Purpose.{Purpose, ForEffect, asked, Purposes, for_values};
 ghost use Rattle.js_meaning_near.specs.Bare.{stands_bare};
-ghost use Rattle.js_meaning_near.specs.Near.{is_calm, ComesTo, Silent, SameEffects, Row, items, Near, NearModule, LooseModule, module_of};
+ghost use Rattle.js_meaning_near.specs.Near.{is_blunt, is_calm, hoists_nothing, ComesTo, Silent, SameEffects, Shorter, Row, items, Near, NearModule, LooseModule, module_of};
 ghost use Rattle.js_meaning_near.specs.Rewritten.{Rewritten};
-ghost use Rattle.js_meaning_near.specs.Unused.{Needed, kind_of, below_of};
+ghost use Rattle.js_meaning_near.specs.Unused.{Needed, NeededValues, is_total, compares, kind_of, below_of, expression_kind, expression_below, IsSome};
 ghost use Rattle.js_syntax.specs.declared.operator.LogicalOperator.{LogicalOperator};
+ghost use Rattle.js_syntax.specs.declared.operator.LogicalOperator.TheVariants as logical;
+ghost use Rattle.js_syntax.specs.declared.operator.BinaryOperator.{BinaryOperator};
 ghost use Rattle.js_syntax.specs.declared.operator.BinaryOperator.TheVariants as binary;
+ghost use Rattle.js_syntax.specs.declared.operator.UnaryOperator.{UnaryOperator};
 ghost use Rattle.js_syntax.specs.declared.operator.UnaryOperator.TheVariants as unary;
 ghost use Rattle.js_meaning_near.specs.Known.{Knows, Steady, DeclaredOnce, empty_code};
 ghost use Rattle.js_syntax.specs.declared.kind.FunctionKind.TheVariants as function_kind;
@@ -38,12 +42,12 @@ pub fn near_modules_keep_runs()
 
 /// What looks up nothing that is dead, unread or known is near itself.
 pub fn what_fits_is_near_itself()
-    ensures { (w : Wanted) (p : Row) (st : Names) (a : Forest) → Fits whole p st a → Near w p st a a }
+    ensures { (us : Purposes) (p : Row) (st : Names) (a : Forest) → Fits whole p st a → Near us p st a a }
 {}
 
 /// What changes at one place is near what it was.
 pub fn one_change_is_near()
-    ensures { (w : Wanted) (p : Row) (st : Names) (a b : Forest) → Once w p st a b → Near w p st a b }
+    ensures { (us : Purposes) (p : Row) (st : Names) (a b : Forest) → Once us p st a b → Near us p st a b }
 {}
 
 /// Where declarations of a name are gone, it is dead, or unread if it is still declared; all other
@@ -65,19 +69,19 @@ pub fn what_avoids_a_name_fits()
 
 /// A module in which an expression comes to one of its parts, anywhere, refines the one before.
 pub fn a_local_change_refines()
-    ensures { (n m : Note) (a b : Forest) → Local itself a b → InPlace whole items b → entries a ≡ entries b → stars a ≡ stars b → requests a ≡ requests b → Refined (module_of n m a) (module_of n m b) }
+    ensures { (n m : Note) (a b : Forest) → Local for_values a b → InPlace whole items b → entries a ≡ entries b → stars a ≡ stars b → requests a ≡ requests b → Refined (module_of n m a) (module_of n m b) }
 {}
 
 /// A conditional and an `if` on a literal come to the branch that is taken; an expression where it stands bare.
 pub fn a_choice_comes_to_its_branch()
-    ensures conditional { (w : Wanted) (st : Names) (v : Literal) (n i j : Note) (l z : Kind) (b c : Forest) → truthy (literal_value v) ≡ true → stands_bare w l b ≡ true →
-        ComesTo w st Kind.ConditionalExpression (node (Kind.Literal v) n nothing (node l i b (node z j c nothing))) l b }
-    ensures statement { (w : Wanted) (st : Names) (v : Literal) (n i : Note) (l : Kind) (b r : Forest) → truthy (literal_value v) ≡ true → is_calm l ≡ true → IsField r →
-        ComesTo w st Kind.IfStatement (node (Kind.Literal v) n nothing (node l i b r)) l b }
-    ensures other_expression { (w : Wanted) (st : Names) (v : Literal) (n i j : Note) (l z : Kind) (b c : Forest) → truthy (literal_value v) ≡ false → stands_bare w z c ≡ true →
-        ComesTo w st Kind.ConditionalExpression (node (Kind.Literal v) n nothing (node l i b (node z j c nothing))) z c }
-    ensures other_statement { (w : Wanted) (st : Names) (v : Literal) (n i j : Note) (l z : Kind) (b c : Forest) → truthy (literal_value v) ≡ false → is_calm z ≡ true →
-        ComesTo w st Kind.IfStatement (node (Kind.Literal v) n nothing (node l i b (node z j c nothing))) z c }
+    ensures conditional { (u : Purpose) (st : Names) (v : Literal) (n i j : Note) (l z : Kind) (b c : Forest) → truthy (literal_value v) ≡ true → stands_bare (asked u) l b ≡ true →
+        ComesTo u st Kind.ConditionalExpression (node (Kind.Literal v) n nothing (node l i b (node z j c nothing))) l b }
+    ensures statement { (u : Purpose) (st : Names) (v : Literal) (n i : Note) (l : Kind) (b r : Forest) → truthy (literal_value v) ≡ true → is_calm l ≡ true → IsField r →
+        ComesTo u st Kind.IfStatement (node (Kind.Literal v) n nothing (node l i b r)) l b }
+    ensures other_expression { (u : Purpose) (st : Names) (v : Literal) (n i j : Note) (l z : Kind) (b c : Forest) → truthy (literal_value v) ≡ false → stands_bare (asked u) z c ≡ true →
+        ComesTo u st Kind.ConditionalExpression (node (Kind.Literal v) n nothing (node l i b (node z j c nothing))) z c }
+    ensures other_statement { (u : Purpose) (st : Names) (v : Literal) (n i j : Note) (l z : Kind) (b c : Forest) → truthy (literal_value v) ≡ false → is_calm z ≡ true →
+        ComesTo u st Kind.IfStatement (node (Kind.Literal v) n nothing (node l i b (node z j c nothing))) z c }
 {}
 
 /// Where the new module may make fewer entries it keeps every run of the old one.
@@ -87,7 +91,7 @@ pub fn loose_modules_keep_runs()
 
 /// Rows with changes that are right where this is known of a name are near.
 pub fn what_is_rewritten_is_near()
-    ensures { (w : Wanted) (x : Text) (f : Fact) (p : Row) (st : Names) (a b : Forest) → Knows x f st → Rewritten (Knows x f) whole p a b → Near w p st a b }
+    ensures { (us : Purposes) (x : Text) (f : Fact) (p : Row) (st : Names) (a b : Forest) → Knows x f st → Rewritten (Knows x f) whole p a b → Near us p st a b }
 {}
 
 /// Where a name of the module has one value from its initialisation on, reads of it, wherever they
@@ -108,18 +112,18 @@ pub fn calls_of_an_empty_function_leave()
 
 /// A logical expression whose left side is a literal comes to its right side, where that stands bare, or to the literal.
 pub fn a_known_left_side_goes()
-    ensures right { (w : Wanted) (st : Names) (o : LogicalOperator) (v : Literal) (n i : Note) (l : Kind) (b : Forest) → goes_right o (literal_value v) ≡ true → stands_bare w l b ≡ true →
-        ComesTo w st (Kind.LogicalExpression o) (node (Kind.Literal v) n nothing (node l i b nothing)) l b }
-    ensures left { (w : Wanted) (st : Names) (o : LogicalOperator) (v : Literal) (n i : Note) (l : Kind) (b c : Forest) → goes_right o (literal_value v) ≡ false →
-        ComesTo w st (Kind.LogicalExpression o) (node (Kind.Literal v) n nothing (node l i b nothing)) (Kind.Literal v) c }
+    ensures right { (u : Purpose) (st : Names) (o : LogicalOperator) (v : Literal) (n i : Note) (l : Kind) (b : Forest) → goes_right o (literal_value v) ≡ true → stands_bare (asked u) l b ≡ true →
+        ComesTo u st (Kind.LogicalExpression o) (node (Kind.Literal v) n nothing (node l i b nothing)) l b }
+    ensures left { (u : Purpose) (st : Names) (o : LogicalOperator) (v : Literal) (n i : Note) (l : Kind) (b c : Forest) → goes_right o (literal_value v) ≡ false →
+        ComesTo u st (Kind.LogicalExpression o) (node (Kind.Literal v) n nothing (node l i b nothing)) (Kind.Literal v) c }
 {}
 
 /// A silent part in front leaves a sequence of two, where the other stands bare. What doesn't stands behind another part.
 pub fn a_silent_part_leaves_a_sequence()
-    ensures leaves { (w : Wanted) (st : Names) (k l : Kind) (a b : Forest) (n i j : Note) → Silent st k a → stands_bare w l b ≡ true →
-        ComesTo w st Kind.SequenceExpression (node Kind.Expressions n (node k i a (node l j b nothing)) nothing) l b }
-    ensures bare { (w : Wanted) (st : Names) (v z : Literal) (n i j m o p : Note) (l y : Kind) (b c : Forest) → truthy (literal_value v) ≡ true →
-        ComesTo w st Kind.ConditionalExpression (node (Kind.Literal v) n nothing (node l i b (node y j c nothing))) Kind.SequenceExpression (node Kind.Expressions m (node (Kind.Literal z) o nothing (node l p b nothing)) nothing) }
+    ensures leaves { (u : Purpose) (st : Names) (k l : Kind) (a b : Forest) (n i j : Note) → Silent st k a → stands_bare (asked u) l b ≡ true →
+        ComesTo u st Kind.SequenceExpression (node Kind.Expressions n (node k i a (node l j b nothing)) nothing) l b }
+    ensures bare { (u : Purpose) (st : Names) (v z : Literal) (n i j m o p : Note) (l y : Kind) (b c : Forest) → truthy (literal_value v) ≡ true →
+        ComesTo u st Kind.ConditionalExpression (node (Kind.Literal v) n nothing (node l i b (node y j c nothing))) Kind.SequenceExpression (node Kind.Expressions m (node (Kind.Literal z) o nothing (node l p b nothing)) nothing) }
 {}
 
 /// A call of a function that does nothing comes to its arguments that aren't silent.
@@ -134,6 +138,45 @@ pub fn unused_values_waste_their_parts()
     ensures array { (st : Names) (n m i : Note) (es ps : Forest) → Needed st es ps → SameEffects st (node Kind.ArrayExpression n (node Kind.Elements m es nothing) nothing) (kind_of ps) (below_of i ps) ps ps }
     ensures comparison { (st : Names) (k : Kind) (a : Forest) (v : Literal) (n m i j : Note) →
         SameEffects st (node (Kind.UnaryExpression unary.LogicalNot) n (node (Kind.BinaryExpression binary.StrictEquality) m (node k i a (node (Kind.Literal v) j nothing nothing)) nothing) nothing) Kind.ExpressionStatement (node k i a nothing) (node k i a nothing) (node k i a nothing) }
+{}
+
+/// So does a total operator to its operand, where it takes that as a value; and a comparison to its sides.
+pub fn unused_operators_waste_their_operands()
+    ensures total { (st : Names) (o : UnaryOperator) (k : Kind) (n i j : Note) (a ps : Forest) → is_total o ≡ true → stands_bare (wanted_by o) k a ≡ true → Needed st (node k i a nothing) ps →
+        SameEffects st (node (Kind.UnaryExpression o) n (node k i a nothing) nothing) (kind_of ps) (below_of j ps) ps ps }
+    ensures comparison { (st : Names) (o : BinaryOperator) (k l : Kind) (n i m j : Note) (a b ps : Forest) → compares o ≡ true → Needed st (node k i a (node l m b nothing)) ps →
+        SameEffects st (node (Kind.BinaryExpression o) n (node k i a (node l m b nothing)) nothing) (kind_of ps) (below_of j ps) ps ps }
+{}
+
+/// An object literal to the values of its properties, and a sequence to its parts, where these aren't silent.
+pub fn unused_lists_waste_their_parts()
+    ensures object { (st : Names) (n i j : Note) (es ps : Forest) → NeededValues st es ps → SameEffects st (node Kind.ObjectExpression n (node Kind.Properties i es nothing) nothing) (kind_of ps) (below_of j ps) ps ps }
+    ensures sequence { (st : Names) (n i j : Note) (es ps : Forest) → IsSome es → Needed st es ps → SameEffects st (node Kind.SequenceExpression n (node Kind.Expressions i es nothing) nothing) (kind_of ps) (below_of j ps) ps ps }
+{}
+
+/// A logical expression with a silent right side to its left side, and a conditional with silent branches to its test.
+pub fn unused_choices_waste_their_tests()
+    ensures logical { (st : Names) (o : LogicalOperator) (k l : Kind) (n i m j : Note) (a b ps : Forest) → Silent st l b → Needed st (node k i a nothing) ps →
+        SameEffects st (node (Kind.LogicalExpression o) n (node k i a (node l m b nothing)) nothing) (kind_of ps) (below_of j ps) ps ps }
+    ensures conditional { (st : Names) (k l z : Kind) (n i m o j : Note) (a b c ps : Forest) → Silent st l b → Silent st z c → Needed st (node k i a nothing) ps →
+        SameEffects st (node Kind.ConditionalExpression n (node k i a (node l m b (node z o c nothing))) nothing) (kind_of ps) (below_of j ps) ps ps }
+{}
+
+/// What holds of the statement of an expression, holds of the expression wherever nobody takes its value, if some parts stay.
+pub fn an_expression_may_waste_less()
+    ensures { (u : Purpose) (k : Kind) (i j : Note) (a ps : Forest) → ForEffect u → IsSome ps → is_blunt k ≡ true → hoists_nothing (expression_kind ps) ≡ true →
+        ((st : Names) → SameEffects st (node k i a nothing) (kind_of ps) (below_of j ps) ps ps) → Stands u k a (expression_kind ps) (expression_below j ps) }
+{}
+
+/// There a conditional of which one branch is silent may be a logical expression; and a sequence loses silent parts that
+/// aren't its last one anywhere.
+pub fn one_side_of_a_choice_may_stay()
+    ensures first { (u : Purpose) (k l z : Kind) (n i j : Note) (a b c : Forest) → ForEffect u → ((st : Names) → Silent st z c) →
+        Stands u Kind.ConditionalExpression (node k n a (node l i b (node z j c nothing))) (Kind.LogicalExpression logical.And) (node k n a (node l i b nothing)) }
+    ensures second { (u : Purpose) (k l z : Kind) (n i j : Note) (a b c : Forest) → ForEffect u → ((st : Names) → Silent st l b) →
+        Stands u Kind.ConditionalExpression (node k n a (node l i b (node z j c nothing))) (Kind.LogicalExpression logical.Or) (node k n a (node z j c nothing)) }
+    ensures sequence { (u : Purpose) (n : Note) (es ps : Forest) → ((st : Names) → Shorter st es ps) →
+        Stands u Kind.SequenceExpression (node Kind.Expressions n es nothing) Kind.SequenceExpression (node Kind.Expressions n ps nothing) }
 {}
 
 /// What only reads a name of which something is known stays.

@@ -7,11 +7,12 @@
 //! `specs/Avoid.antt` say which rows stay as they are under such names, `specs/Once.antt` what a change at one place is.
 //! Silence comes in as a premise on runs (`specs/Quiet.antt`).
 //!
-//! For rewritings to come: a node may come to another (`ComesTo`, `specs/Local.antt`) as far as is wanted at its place, which
-//! the node above tells (`wanted_below`): so an expression may come out bare (`specs/Bare.antt`). A statement may come to the
-//! parts of its expression that act (`SameEffects`, `specs/Wasted.antt`), and rows may change at any number of places by what is
-//! known of a name (`specs/Rewritten.antt`, `specs/Known.antt`). A name that is `loose` says that the new module may make fewer
-//! entries.
+//! For rewritings to come: `specs/Purpose.antt` tells of each expression what it is evaluated for, and of which nobody takes
+//! the value. A node may come to another (`ComesTo`, `specs/Local.antt`) as far as is asked for at its place; so an expression
+//! may come out bare (`specs/Bare.antt`). A statement may come to the parts of its expression that act (`SameEffects`,
+//! `specs/Wasted.antt`), and so may an expression whose value nobody takes (`LessWaste`, `OneSided`, `Shorter`). Rows may change
+//! at any number of places by what is known of a name (`specs/Rewritten.antt`, `specs/Known.antt`). A name that is `loose` says
+//! that the new module may make fewer entries.
 //!
 //! `laws` has what is proved: a near module refines the old one (js_meaning's `Refined`), so it keeps its runs,
 //! and the way back. `notes`: runs don't see the notes of nodes, their spans and ids. `signs`: nor whether a negative number

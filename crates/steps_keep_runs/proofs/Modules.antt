@@ -11,6 +11,7 @@ use Rattle.js_meaning.specs.Module.{Entry, entry_local, entry_import, entries, n
 use Rattle.js_meaning.specs.Kept.{Refined}
 use Rattle.js_meaning_near.specs.Names.{Status, undeclared, loose, live, dead, unread, known, Names, no_names, Usable, Plainly, AllPlain, PlainBut}
 use Rattle.js_meaning_near.specs.Near as near
+use Rattle.js_meaning_near.specs.Purpose.{for_values}
 use Rattle.js_meaning_near.specs.Near.{fields, ExportsOk, NearModule, near_module, module_of}
 use Rattle.js_meaning_near.specs.Fit.{Part, whole, others, IfCore}
 use Rattle.js_meaning_near.specs.Avoid.{Dropped, dropped_later, InPlace, NodeInPlace, ExportsAvoid}
@@ -89,7 +90,7 @@ step_near m a b s h f i c t =
     let o : Opened (dropped s) a b = opened (dropped s) a b (module_lists (dropped s) (var_names a) (var_names b) (lexical a) (lexical b) v l) i c in
     let e : entries a ≡ entries b = step_entries s refl f in
     near_module o.crossed.decls e (subst (ExportsOk o.crossed.within) (sym e) o.exports) (step_stars s) (step_requests s)
-    (near_step whole s Kind.Statements near.items o.crossed.within h f (λ e. refl) tt (declare_within (names_in (module_decls (alone Kind.Statements m a))) [] o.crossed.decls (top_names m a) no_names_yet) o.crossed.stays t)
+    (near_step whole s for_values Kind.Statements near.items o.crossed.within h f (λ e. refl) tt (declare_within (names_in (module_decls (alone Kind.Statements m a))) [] o.crossed.decls (top_names m a) no_names_yet) o.crossed.stays t)
 
 -- cases stay in switches
 

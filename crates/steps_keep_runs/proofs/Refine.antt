@@ -7,11 +7,11 @@ use Rattle.js_syntax.specs.declared.kind.FunctionKind.TheVariants as function_ki
 use Rattle.js_meaning.specs.Value.{Text}
 use Rattle.js_meaning.specs.Scope.{Decl, waiting, all_so, named_so, first_of, first_name, bound_names, lexical, function_decls}
 use Rattle.js_meaning.specs.Module.{names_in}
-use Rattle.js_meaning.specs.Node.{Wanted}
+use Rattle.js_meaning_near.specs.Purpose.{Purpose, Purposes, purpose_here, purposes_behind, wanted_below}
 use Rattle.js_meaning_near.specs.Names.{Names, Lone, FillableIf, Decls, no_decls, Copied, declared}
 use Rattle.js_meaning_near.specs.Near as near
-use Rattle.js_meaning_near.specs.Near.{fields, Idle, idle_empty, idle_expression, idle_function, idle_declarator, idle_bare_declarator, idle_declaration, all_idle, one_idle, Change, statement_emptied, Near, near_nothing, near_absent, near_node, near_closure, near_hoisted, near_uncovered, changed, Code, near_code, Heads}
-use Rattle.js_meaning_near.specs.Fit.{names_after, Part, whole, others, part_of, NodeFits, Fits}
+use Rattle.js_meaning_near.specs.Near.{fields, Idle, idle_empty, idle_function, idle_declarator, idle_bare_declarator, idle_declaration, all_idle, one_idle, statement_emptied, Near, near_absent, near_node, near_closure, near_hoisted, near_uncovered, changed, near_code}
+use Rattle.js_meaning_near.specs.Fit.{names_after, Part, whole, others, part_of, purposes_of, NodeFits, Fits}
 use Rattle.js_meaning_near.specs.Avoid.{declares}
 use Rattle.js_meaning_near.proofs.Avoid.{after_plain}
 use Rattle.js_meaning_near.proofs.Fit.{decls_to, same_copied, fit}
@@ -61,9 +61,9 @@ leaves_idle p r (unused_function h u) d g = idle_function g.lone
 leaves_idle {st = st} p r (unused_declarator {how = how} {x = x} h u v) d g = idle_declared d (stays_lone how x whole st p r g) v
 leaves_idle {st = st} p r (unused_declaration {how = how} {x = x} h u v) d g = idle_declaration (one_idle (idle_declared d (stays_lone how x whole st p r g) v) all_idle)
 
-leave : {wanted : Wanted} {w : Around} {p : near.Row} {st : Names} {k : Kind} {n : Note} {a r : Forest} (h : Goes w k a) → Agree w.row p → Declare st w.names → Stays (drop_of h) whole st p r
-    → Near wanted p st r r → Near wanted p st (node k n a r) r
-leave {wanted = wanted} {p = p} {st = st} {k = k} {n = n} {a = a} {r = r} h i d g o = subst (λ p. Near wanted p st r r → Near wanted p st (node k n a r) r) (sym (i (leaves_list h))) (near.leaves (leaves_idle p r h d g)) o
+leave : {us : Purposes} {w : Around} {p : near.Row} {st : Names} {k : Kind} {n : Note} {a r : Forest} (h : Goes w k a) → Agree w.row p → Declare st w.names → Stays (drop_of h) whole st p r
+    → Near us p st r r → Near us p st (node k n a r) r
+leave {us = us} {p = p} {st = st} {k = k} {n = n} {a = a} {r = r} h i d g o = subst (λ p. Near us p st r r → Near us p st (node k n a r) r) (sym (i (leaves_list h))) (near.leaves (leaves_idle p r h d g)) o
 
 -- behind the first field of a function, where that holds still
 
@@ -73,8 +73,8 @@ OthersOk others r t = (r ≡ other) × (still (first_of t) ≡ true)
 
 -- a step inside of a node
 
-abbrev Below : (wanted : Wanted) (w : Around) (k : Kind) {a b : Forest} → Step (entered w k a) a b → Type 0
-Below wanted w k {a} {b} s = (q : Part) (p : near.Row) (st : Names) → Agree (entered w k a).row p → OthersOk q (entered w k a).row a → Declare st (entered w k a).names → Stays (dropped s) q st p b → Near (near.wanted_below wanted k) p st (part_of q a) (part_of q b)
+abbrev Below : (u : Purpose) (w : Around) (k : Kind) {a b : Forest} → Step (entered w k a) a b → Type 0
+Below u w k {a} {b} s = (q : Part) (p : near.Row) (st : Names) → Agree (entered w k a).row p → OthersOk q (entered w k a).row a → Declare st (entered w k a).names → Stays (dropped s) q st p b → Near (purposes_of q (wanted_below u k)) p st (part_of q a) (part_of q b)
 
 names_through : (w : Around) {a b : Forest} (k : Kind) (s : Step (entered w k a) a b) (ds es : List Decl) → LexicalChange (dropped s) ds es → ((x : Text) → is_among (entered w k a).inner x ≡ false → is_among (names_in ds) x ≡ false) → (x : Text) → dropped s ≡ of_function x → declares es x ≡ false
 names_through w k s ds es c f x e = through ds es (dropped s) x c e (f x (inner_free s x e))
@@ -94,8 +94,8 @@ near_block : (w : Around) (n : Note) {a b : Forest} (r : Forest) (k : Kind) (s :
 near_block w n {a} {b} r k s p st o i c y z x d g t =
     enter_block (dropped s) st (declared k a) (declared k b) b c (outer k (dropped s) st p n b r o i g t (names_through w k s (declared k a) (declared k b) c (λ v e. ap (λ l. is_among l v) (sym y) ∙ (inner_front (names_declared k a) w.inner v (ap (λ l. is_among l v) (sym x) ∙ e)).0)))
 
-near_inside : {wanted : Wanted} (w : Around) {n : Note} {a b r : Forest} (k : Kind) (s : Step (entered w k a) a b) (above : Kind) (p : near.Row) (st : Names) → is_core k ≡ true → may_hold above k ≡ true → is_formed (node k n a r) ≡ true → Declare st w.names
-    → Stays (outside k (dropped s)) whole st p (node k n b r) → TidyAt k b (dropped s) → Below wanted w k s → Near wanted p st (node k n a r) (node k n b r)
+near_inside : {us : Purposes} (w : Around) {n : Note} {a b r : Forest} (k : Kind) (s : Step (entered w k a) a b) (above : Kind) (p : near.Row) (st : Names) → is_core k ≡ true → may_hold above k ≡ true → is_formed (node k n a r) ≡ true → Declare st w.names
+    → Stays (outside k (dropped s)) whole st p (node k n b r) → TidyAt k b (dropped s) → Below (purpose_here us (near.is_row r)) w k s → Near us p st (node k n a r) (node k n b r)
 near_inside w (Kind.Program source) s above p st c m f d g t h = absurd (true≢false (sym m))
 near_inside w {n} {a} {b} {r} (Kind.Function function_kind.Declaration pure) s above p st c m f d g t h =
     let k : Kind = Kind.Function function_kind.Declaration pure in
@@ -166,24 +166,24 @@ near_inside w {n} {a} {b} {r} k s above p st c m f d g t h =
     let fits : Fits whole p st (node k n b r) = stays_fits (outside k (dropped s)) whole st p (node k n b r) g in
     near_node (if_core {A = NodeFits p st k b (λ q r t. Fits q r t b)} (is_core k) c fits.0).0 no_decls tt (h whole (near.row_below k) st (agree_below w k a) tt d (stays_below k (dropped s) st p n b r tt c g)) (fit whole p st r fits.1)
 
-inside_core : {wanted : Wanted} (w : Around) {n : Note} {a b r : Forest} (k : Kind) (s : Step (entered w k a) a b) (above : Kind) (p : near.Row) (st : Names) (core : Bool) → is_core k ≡ core → may_hold above k ≡ true → is_formed (node k n a r) ≡ true → Declare st w.names
-    → Stays (outside k (dropped s)) whole st p (node k n b r) → TidyAt k b (dropped s) → Below wanted w k s → Near wanted p st (node k n a r) (node k n b r)
+inside_core : {us : Purposes} (w : Around) {n : Note} {a b r : Forest} (k : Kind) (s : Step (entered w k a) a b) (above : Kind) (p : near.Row) (st : Names) (core : Bool) → is_core k ≡ core → may_hold above k ≡ true → is_formed (node k n a r) ≡ true → Declare st w.names
+    → Stays (outside k (dropped s)) whole st p (node k n b r) → TidyAt k b (dropped s) → Below (purpose_here us (near.is_row r)) w k s → Near us p st (node k n a r) (node k n b r)
 inside_core w k s above p st true c m f d g t h = near_inside w k s above p st c m f d g t h
 inside_core w {n} {a} {b} {r} k s above p st false c m f d g t h = near_uncovered c (fit whole p st r (stays_fits (outside k (dropped s)) whole st p (node k n b r) g).1)
 
-pub near_step : {w : Around} {t u : Forest} (q : Part) (s : Step w t u) {wanted : Wanted} (above : Kind) (p : near.Row) (st : Names) → holds_well above t ≡ true → is_formed t ≡ true → Agree w.row p → OthersOk q w.row t → Declare st w.names → Stays (dropped s) q st p u → Tidy s
-    → Near wanted p st (part_of q t) (part_of q u)
-near_step whole (leaves {r = r} h) above p st m f i o d g t = leave h i d g (fit whole p st r (stays_fits (drop_of h) whole st p r g))
-near_step whole (empties {w = w} {k = k} {m = n} {l = l} {a = a} {r = r} h) above p st m f i o d g t =
+pub near_step : {w : Around} {t u : Forest} (q : Part) (s : Step w t u) (us : Purposes) (above : Kind) (p : near.Row) (st : Names) → holds_well above t ≡ true → is_formed t ≡ true → Agree w.row p → OthersOk q w.row t → Declare st w.names → Stays (dropped s) q st p u → Tidy s
+    → Near (purposes_of q us) p st (part_of q t) (part_of q u)
+near_step whole (leaves {r = r} h) us above p st m f i o d g t = leave h i d g (fit whole p st r (stays_fits (drop_of h) whole st p r g))
+near_step whole (empties {w = w} {k = k} {m = n} {l = l} {a = a} {r = r} h) us above p st m f i o d g t =
     changed (statement_emptied (silent w.names k l a d h.silent)) (fit whole p st r (stays_fits no_drop whole st p (node Kind.EmptyStatement n nothing r) g).1)
-near_step whole (inside {w = w} {k = k} {a = a} {r = r} s) above p st m f i o d g t =
-    inside_core w k s above p st (is_core k) refl (first_of_both (may_hold above k) (holds_well above r) m) f d g t.0 (λ q p st i o d g. near_step q s k p st (form_holds k a r f) (form_below k a r f) i o d g t.1)
-near_step whole (behind_node {k = k} {n = n} {a = a} {r = r} {s = z} s) above p st m f i o d g t =
-    node_stays p st k n a (stays_fits (dropped s) whole st p (node k n a z) g).0 (near_step whole s above p st (second_of_both (may_hold above k) (holds_well above r) m) (form_behind k a r f) i tt d (stays_behind (dropped s) st p k n a z g) t)
-near_step whole (behind_absent {s = z} s) above p st m f i o d g t = near_absent (near_step whole s above p st m f i tt d (stays_absent (dropped s) st p z g) t)
-near_step others (leaves h) above p st m f i o d g t = absurd (leaves_no_other h o.0)
-near_step others (empties h) above p st m f i o d g t = absurd (true≢false (sym o.1))
-near_step others (inside {n = n} s) above p st m f i o d g t = absurd (still_stays (inside {n = n} {r = nothing} s) o.0 o.1)
-near_step others (behind_node {k = k} {n = n} {a = a} {r = r} {s = z} s) above p st m f i o d g t =
-    near_step whole s above p st (second_of_both (may_hold above k) (holds_well above r) m) (form_behind k a r f) i tt d (stays_others (dropped s) st p k n a z g) t
-near_step others (behind_absent {s = z} s) above p st m f i o d g t = near_step whole s above p st m f i tt d (stays_others_absent (dropped s) st p z g) t
+near_step whole (inside {w = w} {k = k} {a = a} {r = r} s) us above p st m f i o d g t =
+    inside_core w k s above p st (is_core k) refl (first_of_both (may_hold above k) (holds_well above r) m) f d g t.0 (λ q p st i o d g. near_step q s (wanted_below (purpose_here us (near.is_row r)) k) k p st (form_holds k a r f) (form_below k a r f) i o d g t.1)
+near_step whole (behind_node {k = k} {n = n} {a = a} {r = r} {s = z} s) us above p st m f i o d g t =
+    node_stays p st k n a (stays_fits (dropped s) whole st p (node k n a z) g).0 (near_step whole s (purposes_behind us) above p st (second_of_both (may_hold above k) (holds_well above r) m) (form_behind k a r f) i tt d (stays_behind (dropped s) st p k n a z g) t)
+near_step whole (behind_absent {s = z} s) us above p st m f i o d g t = near_absent (near_step whole s (purposes_behind us) above p st m f i tt d (stays_absent (dropped s) st p z g) t)
+near_step others (leaves h) us above p st m f i o d g t = absurd (leaves_no_other h o.0)
+near_step others (empties h) us above p st m f i o d g t = absurd (true≢false (sym o.1))
+near_step others (inside {n = n} s) us above p st m f i o d g t = absurd (still_stays (inside {n = n} {r = nothing} s) o.0 o.1)
+near_step others (behind_node {k = k} {n = n} {a = a} {r = r} {s = z} s) us above p st m f i o d g t =
+    near_step whole s (purposes_behind us) above p st (second_of_both (may_hold above k) (holds_well above r) m) (form_behind k a r f) i tt d (stays_others (dropped s) st p k n a z g) t
+near_step others (behind_absent {s = z} s) us above p st m f i o d g t = near_step whole s (purposes_behind us) above p st m f i tt d (stays_others_absent (dropped s) st p z g) t
