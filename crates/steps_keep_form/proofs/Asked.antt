@@ -1,7 +1,7 @@
 -- What the rules of form see of a node that none of them asks for.
 use Rattle.std.proofs.Common.{◌≡◌, ℕ, [], Bool, true, false, not, ◌||◌, refl, sym, ap, ◌∙◌}
 use Rattle.js_syntax.specs.declared.node_kind.NodeKind.{NodeKind as Kind}
-use Rattle.js_syntax.specs.declared.node_kind.NodeKind.TheVariants.{Program as program, Directive as directive, Statements as statements, FunctionBody as function_body, BlockStatement as block_statement, Cases as cases, SwitchCase as switch_case, SwitchStatement as switch_statement, LabeledStatement as labeled_statement, TryStatement as try_statement, CatchClause as catch_clause, IfStatement as if_statement, WithStatement as with_statement, WhileStatement as while_statement, DoWhileStatement as do_while_statement, ForStatement as for_statement, ForInStatement as for_in_statement, ForOfStatement as for_of_statement, Class as class, ClassBody as class_body, Members as members, MethodDefinition as method_definition, PropertyDefinition as property_definition, BindingName as binding_name, ReferenceName as reference_name, PrivateName as private_name, Super as super, ParenthesizedExpression as parenthesized_expression, ConditionalExpression as conditional_expression, LogicalExpression as logical_expression, VariableDeclaration as variable_declaration, Declarators as declarators, VariableDeclarator as variable_declarator, Parameters as parameters, Properties as properties, Elements as elements, Specifiers as specifiers, BindingRest as binding_rest, TargetRest as target_rest, BindingObject as binding_object, BindingArray as binding_array, BindingProperty as binding_property, BindingDefault as binding_default, ImportDeclaration as import_declaration, ImportSpecifier as import_specifier, ImportDefaultSpecifier as import_default_specifier, ImportNamespaceSpecifier as import_namespace_specifier, ExportNamedDeclaration as export_named_declaration, ExportSpecifier as export_specifier, ForeignSpecifier as foreign_specifier, ExportDefaultDeclaration as export_default_declaration, ExportAllDeclaration as export_all_declaration, Function as function}
+use Rattle.js_syntax.specs.declared.node_kind.NodeKind.TheVariants.{Program as program, Directive as directive, Statements as statements, FunctionBody as function_body, BlockStatement as block_statement, Cases as cases, SwitchCase as switch_case, SwitchStatement as switch_statement, LabeledStatement as labeled_statement, TryStatement as try_statement, CatchClause as catch_clause, IfStatement as if_statement, WithStatement as with_statement, WhileStatement as while_statement, DoWhileStatement as do_while_statement, ForStatement as for_statement, ForInStatement as for_in_statement, ForOfStatement as for_of_statement, Class as class, ClassBody as class_body, Members as members, MethodDefinition as method_definition, PropertyDefinition as property_definition, BindingName as binding_name, ReferenceName as reference_name, PrivateName as private_name, Super as super, ParenthesizedExpression as parenthesized_expression, ConditionalExpression as conditional_expression, UnaryExpression as unary_expression, BinaryExpression as binary_expression, LogicalExpression as logical_expression, VariableDeclaration as variable_declaration, Declarators as declarators, VariableDeclarator as variable_declarator, Parameters as parameters, Properties as properties, Elements as elements, Specifiers as specifiers, BindingRest as binding_rest, TargetRest as target_rest, BindingObject as binding_object, BindingArray as binding_array, BindingProperty as binding_property, BindingDefault as binding_default, ImportDeclaration as import_declaration, ImportSpecifier as import_specifier, ImportDefaultSpecifier as import_default_specifier, ImportNamespaceSpecifier as import_namespace_specifier, ExportNamedDeclaration as export_named_declaration, ExportSpecifier as export_specifier, ForeignSpecifier as foreign_specifier, ExportDefaultDeclaration as export_default_declaration, ExportAllDeclaration as export_all_declaration, Function as function}
 use Rattle.js_syntax.specs.Node.{Note, Forest, node, alone}
 use Rattle.js_syntax.specs.declared.kind.FunctionKind.TheVariants as function_kind
 use Rattle.js_syntax.specs.declared.kind.ClassKind.TheVariants as class_kind
@@ -13,7 +13,7 @@ use Rattle.form_rules.specs.declared.sought.Sought.TheVariants.{Nothing as none_
 use Rattle.form_rules.specs.Context.{has_use_strict, is_strict_list, is_strict_function, private_key_of, privates_of, is_loop}
 use Rattle.form_rules.specs.Scope.{bound_below, variables_below, scope_below, function_below, sought_below, declared_here}
 use Rattle.form_rules.specs.Rules.{are_names, have_plain_parameters, private_of, first_is_super, is_bare_name, is_name_first, is_rest, is_default, is_constructor, named_by, locals_named, locals_by, exported_by}
-use Rattle.steps_keep_form.specs.Part.{gives_way, is_statement, is_asked_for, asks_further}
+use Rattle.steps_keep_form.specs.Part.{gives_way, is_statement, is_asked_for, asks_further, Replaces, by_part, by_parts}
 use Rattle.steps_keep_form.specs.Sheds.{Row, parts, items, of_item, of_declarators, of_head, other, asked_below, may_empty, Around, may_give_way, sought_inside}
 use Rattle.js_syntax.proofs.Truth.{not_true, first_of_both, second_of_both}
 
@@ -23,7 +23,22 @@ pub given_not : (k : Kind) → gives_way k ≡ true → is_asked_for k ≡ false
 given_not if_statement h = refl
 given_not conditional_expression h = refl
 given_not (logical_expression operator) h = refl
+given_not (unary_expression operator) h = refl
+given_not (binary_expression operator) h = refl
 given_not k h = absurd cc
+
+module _ {k l : Kind} {n m : Note} {a b : Forest} where
+  pub old_unasked : Replaces k n a l m b → is_asked_for k ≡ false
+  old_unasked (by_part part) = given_not k part.gives
+  old_unasked (by_parts made) = made.old_unasked
+
+  pub new_unasked : Replaces k n a l m b → is_asked_for l ≡ false
+  new_unasked (by_part part) = part.unasked
+  new_unasked (by_parts made) = made.unasked
+
+  pub alike : Replaces k n a l m b → is_statement l ≡ is_statement k
+  alike (by_part part) = part.alike
+  alike (by_parts made) = made.expression ∙ sym made.old_expression
 
 pub not_strict : (k : Kind) (n : Note) (a r : Forest) → is_asked_for k ≡ false → has_use_strict (node k n a r) ≡ false
 not_strict (directive written) n a r h = absurd cc
@@ -73,13 +88,6 @@ no_loop k n a r h = refl
 pub no_super : (k : Kind) (n : Note) (a r : Forest) → is_asked_for k ≡ false → first_is_super (node k n a r) ≡ false
 no_super super n a r h = absurd cc
 no_super k n a r h = refl
-
--- of a node in whose place a part may stand
-pub not_bare : (k : Kind) (n : Note) (a r : Forest) → gives_way k ≡ true → is_bare_name (node k n a r) ≡ false
-not_bare if_statement n a r h = refl
-not_bare conditional_expression n a r h = refl
-not_bare (logical_expression operator) n a r h = refl
-not_bare k n a r h = absurd cc
 
 -- whether a name stands first, parentheses aside, what stands behind it doesn't matter
 pub bare_alone : (k : Kind) (n : Note) (a r : Forest) → is_bare_name (node k n a r) ≡ is_bare_name (alone k n a)
@@ -200,6 +208,8 @@ variables_alike : (k l : Kind) → gives_way k ≡ true → is_asked_for l ≡ f
 variables_alike if_statement l gives unasked alike = refl
 variables_alike conditional_expression l gives unasked alike = no_variables l unasked alike
 variables_alike (logical_expression operator) l gives unasked alike = no_variables l unasked alike
+variables_alike (unary_expression operator) l gives unasked alike = no_variables l unasked alike
+variables_alike (binary_expression operator) l gives unasked alike = no_variables l unasked alike
 variables_alike k l gives unasked alike = absurd cc
 
 pub sought_alike : (s : Sought) (k l : Kind) → is_of_catch s ≡ false → gives_way k ≡ true → is_asked_for l ≡ false → is_statement l ≡ is_statement k → sought_below s l ≡ sought_below (sought_below s k) l

@@ -12,7 +12,7 @@ use Rattle.form_rules.specs.declared.sought.Sort.TheVariants.{Lexical as lexical
 use Rattle.form_rules.specs.Scope.{Declared}
 use Rattle.form_rules.specs.Rules.{Exported, is_exported, is_declared, exports_of, named_by, all_named, exported_by, exported_among, first_below, local_of, locals_named, locals_by, locals_among, undeclared}
 use Rattle.steps_keep_form.specs.Sheds.{may_leave, Around, entered, outermost, Sheds, ends, keeps_absent, keeps, leaves, empties, becomes}
-use Rattle.steps_keep_form.proofs.Asked.{given_not, no_export_named, no_local_named, exports_nothing, exports_no_local, asked_there, not_asked}
+use Rattle.steps_keep_form.proofs.Asked.{old_unasked, new_unasked, no_export_named, no_local_named, exports_nothing, exports_no_local, asked_there, not_asked}
 use Rattle.steps_keep_form.proofs.Fewer.{Fewer, none, both, more, fewest, behind_all, beside, SameName, SameExport}
 use Rattle.steps_keep_form.proofs.ShedNames.{fewer_declared, one_of_both}
 use Rattle.steps_keep_form.proofs.Rows.{itself, stays_below, behind_left}
@@ -40,7 +40,7 @@ named_fewer p q (keeps {k = k} {n = n} {m = m} {a = a} {b = b} {r = r} {s = s} o
 named_fewer p q (leaves {k = k} {n = n} {a = a} {r = r} may out strict rest) = named_less k n q a r (named_fewer p q rest)
 named_fewer p q (empties may rest) = named_fewer p q rest
 named_fewer p q (becomes {k = k} {l = l} {n = n} {m = m} {a = a} {b = b} {r = r} {s = s} part may bare rest) =
-    rw (no_export_named l m p b s part.unasked, no_export_named k n q a r (given_not k part.gives)) (named_fewer p q rest)
+    rw (no_export_named l m p b s (new_unasked part), no_export_named k n q a r (old_unasked part)) (named_fewer p q rest)
 
 named_first : (p q : ℕ) {w : Around} {t u : Forest} → may_leave w.row ≡ false → w.is_asked ≡ true → Sheds w t u → FewerExports (named_by p (first_below u)) (named_by q (first_below t))
 named_first p q stays asked ends = none
@@ -77,7 +77,7 @@ locals_named_fewer p q (keeps {w = w} {k = k} {n = n} {m = m} {a = a} {b = b} {r
 locals_named_fewer p q (leaves {k = k} {n = n} {a = a} {r = r} may out strict rest) = locals_less k n q a r (locals_named_fewer p q rest)
 locals_named_fewer p q (empties may rest) = locals_named_fewer p q rest
 locals_named_fewer p q (becomes {k = k} {l = l} {n = n} {m = m} {a = a} {b = b} {r = r} {s = s} part may bare rest) =
-    rw (no_local_named l m p b s part.unasked, no_local_named k n q a r (given_not k part.gives)) (locals_named_fewer p q rest)
+    rw (no_local_named l m p b s (new_unasked part), no_local_named k n q a r (old_unasked part)) (locals_named_fewer p q rest)
 
 locals_first : (p q : ℕ) {w : Around} {t u : Forest} → may_leave w.row ≡ false → w.is_asked ≡ true → Sheds w t u → FewerExports (locals_named p (first_below u)) (locals_named q (first_below t))
 locals_first p q stays asked ends = none
@@ -114,7 +114,7 @@ exported_fewer p q (keeps {w = w} {k = k} {n = n} {m = m} {a = a} {b = b} one be
 exported_fewer p q (leaves {k = k} {n = n} {a = a} may out strict rest) = behind_all (exported_by k q a) (exported_fewer p (q + node_count (node k n a nothing)) rest)
 exported_fewer p q (empties may rest) = exported_fewer _ _ rest
 exported_fewer p q (becomes {k = k} {l = l} {n = n} {m = m} {a = a} {b = b} {r = r} {s = s} part may bare rest) =
-    rw (exports_nothing l p b part.unasked, exports_nothing k q a (given_not k part.gives)) (exported_fewer _ _ rest)
+    rw (exports_nothing l p b (new_unasked part), exports_nothing k q a (old_unasked part)) (exported_fewer _ _ rest)
 
 pub exported_first : (p q : ℕ) {w : Around} {t u : Forest} → may_leave w.row ≡ false → w.is_asked ≡ true → Sheds w t u → FewerExports (exported_among p (first_below u)) (exported_among q (first_below t))
 exported_first p q stays asked ends = none
@@ -140,7 +140,7 @@ locals_fewer p q (keeps {w = w} {k = k} {n = n} {m = m} {a = a} {b = b} one belo
 locals_fewer p q (leaves {k = k} {n = n} {a = a} may out strict rest) = behind_all (locals_by k q a) (locals_fewer p (q + node_count (node k n a nothing)) rest)
 locals_fewer p q (empties may rest) = locals_fewer _ _ rest
 locals_fewer p q (becomes {k = k} {l = l} {n = n} {m = m} {a = a} {b = b} {r = r} {s = s} part may bare rest) =
-    rw (exports_no_local l p b part.unasked, exports_no_local k q a (given_not k part.gives)) (locals_fewer _ _ rest)
+    rw (exports_no_local l p b (new_unasked part), exports_no_local k q a (old_unasked part)) (locals_fewer _ _ rest)
 
 pub locals_below_first : (p q : ℕ) {w : Around} {t u : Forest} → may_leave w.row ≡ false → w.is_asked ≡ true → Sheds w t u → FewerExports (locals_among p (first_below u)) (locals_among q (first_below t))
 locals_below_first p q stays asked ends = none

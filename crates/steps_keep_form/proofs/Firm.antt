@@ -1,26 +1,38 @@
--- In a tree that fits the table of node types a part may stand for its node wherever a node stands in whose place one may.
-use Rattle.std.proofs.Common.{◌≡◌, inl, inr, List, [], ◌∷◌, Bool, true, false, not, ◌&&◌, ◌||◌, Some, refl, sym, subst, ap, ◌∙◌}
+-- In a tree that fits the table of node types a part may stand for its node wherever a node stands in whose place one may, and an
+-- expression may be rebuilt wherever it stands.
+use Rattle.std.proofs.Common.{◌≡◌, inl, inr, List, [], ◌∷◌, Bool, true, false, not, ◌&&◌, ◌||◌, None, Some, true≢false, refl, sym, subst, ap, ◌∙◌}
 use Rattle.js_syntax.specs.Class.{Class, root, a_prologue, module_item, statement, block, declaration, declarator_item, binding, read_name, expression, private_key, no_node}
 use Rattle.js_syntax.specs.declared.value.Key.{Key}
 use Rattle.js_syntax.specs.declared.value.Key.TheVariants.{Name as key_name, Text as key_text, Number as key_number, Below as key_below}
 use Rattle.js_syntax.specs.declared.node_kind.NodeKind.{NodeKind as Kind}
-use Rattle.js_syntax.specs.declared.node_kind.NodeKind.TheVariants.{Hole as hole, Statements as statements}
+use Rattle.js_syntax.specs.declared.node_kind.NodeKind.TheVariants.{IfStatement as if_statement, ReferenceName as reference_name, Hole as hole, Statements as statements}
 use Rattle.js_syntax.specs.declared.node_type.NodeType.TheVariants as type
 use Rattle.js_syntax.specs.Hint.{has, is_private}
 use Rattle.js_syntax.specs.Field.{Keys, keeps, checks, a_key, child, maybe, each, each_or_hole, a_body, Field, field}
 use Rattle.js_syntax.specs.Node.{Forest, nothing, node, absent}
-use Rattle.js_syntax.specs.Table.{Row as TableRow, a_program, an_if_statement, a_conditional_expression, a_logical_expression, fields_of, type_of, stands}
+use Rattle.js_syntax.specs.Table.{Row as TableRow, a_program, a_block_statement, a_function_body, an_if_statement, a_variable_declaration, a_variable_declarator, a_function_declaration, a_default_function, a_class_declaration, a_default_class, a_binding_name, a_reference_name, a_target_name, a_binding_object, a_target_object, a_binding_array, a_target_array, fields_of, type_of, stands}
 use Rattle.json_shape.specs.Shape.{Values, kind_in, first_of, Place, one, maybe_one, beyond, key_node, key_apart, key_place, list, list_with_holes, body, item_or_hole, item_of_body, places, Plan, these, all, all_or_holes, all_of_body, first_place, behind, after_body_item, is_directive_kind, IsOf, IsAt, Stand, Fits}
-use Rattle.steps_keep_form.specs.Part.{gives_way}
+use Rattle.json_shape.proofs.Choice.{is_list_kind}
+use Rattle.steps_keep_form.specs.Part.{gives_way, is_statement, is_asked_for}
 use Rattle.steps_keep_form.specs.Sheds.{Row, parts, items, of_item, of_declarators, of_head, other, row_below, asked_below, may_empty, may_give_way}
 use Rattle.steps_keep_form.proofs.Planned.{takes_statement, is_open}
 use Rattle.js_syntax.proofs.Truth.{first_of_both, second_of_both, both}
 
--- each node of a row, and each below, in whose place a part may stand, is where it may
+-- a hole is of no class, and where a name stands an export may name it
+abbrev pub is_told_apart : Kind → Bool
+is_told_apart hole = true
+is_told_apart (reference_name x) = true
+is_told_apart k = false
+
+-- nodes that give way to a part of theirs, and expressions
+abbrev pub gives : Kind → Bool
+gives k = gives_way k || (not (is_statement k || is_asked_for k) && not (is_list_kind k || is_told_apart k))
+
+-- each node of a row, and each below, in whose place another may stand, is where one may
 abbrev pub may_all_give_way : Row → (is_asked : Bool) → Forest → Bool
 may_all_give_way row asked nothing = true
 may_all_give_way row asked (absent r) = may_all_give_way row asked r
-may_all_give_way row asked (node k n a r) = (not (gives_way k) || may_give_way row asked k) && (may_all_give_way (row_below row k) (asked_below row k) a && may_all_give_way row asked r)
+may_all_give_way row asked (node k n a r) = (not (gives k) || may_give_way row asked k) && (may_all_give_way (row_below row k) (asked_below row k) a && may_all_give_way row asked r)
 
 -- ---- places
 
@@ -34,29 +46,36 @@ is_firm read_name = true
 is_firm no_node = true
 is_firm c = false
 
-firm_node : (c : Class) (r : TableRow) (vs : Values (fields_of r)) → is_firm c ≡ true → stands c (type_of r) ≡ Some (first_of r) → gives_way (kind_in r vs) ≡ false
-firm_node block an_if_statement vs f h = absurd cc
-firm_node declaration an_if_statement vs f h = absurd cc
-firm_node declarator_item an_if_statement vs f h = absurd cc
-firm_node binding an_if_statement vs f h = absurd cc
-firm_node read_name an_if_statement vs f h = absurd cc
-firm_node no_node an_if_statement vs f h = absurd cc
-firm_node c an_if_statement vs f h = absurd cc
-firm_node block a_conditional_expression vs f h = absurd cc
-firm_node declaration a_conditional_expression vs f h = absurd cc
-firm_node declarator_item a_conditional_expression vs f h = absurd cc
-firm_node binding a_conditional_expression vs f h = absurd cc
-firm_node read_name a_conditional_expression vs f h = absurd cc
-firm_node no_node a_conditional_expression vs f h = absurd cc
-firm_node c a_conditional_expression vs f h = absurd cc
-firm_node block a_logical_expression vs f h = absurd cc
-firm_node declaration a_logical_expression vs f h = absurd cc
-firm_node declarator_item a_logical_expression vs f h = absurd cc
-firm_node binding a_logical_expression vs f h = absurd cc
-firm_node read_name a_logical_expression vs f h = absurd cc
-firm_node no_node a_logical_expression vs f h = absurd cc
-firm_node c a_logical_expression vs f h = absurd cc
-firm_node c r vs f h = refl
+stands_nowhere : {P : Type 0} {r : TableRow} → None ≡ Some r → P
+stands_nowhere h = absurd cc
+
+firm_node : (c : Class) (r : TableRow) (vs : Values (fields_of r)) → is_firm c ≡ true → stands c (type_of r) ≡ Some (first_of r) → gives (kind_in r vs) ≡ false
+firm_node block a_block_statement vs f h = refl
+firm_node block a_function_body vs f h = absurd cc
+firm_node block r vs f h = stands_nowhere h
+firm_node declaration a_function_declaration vs f h = refl
+firm_node declaration a_default_function vs f h = absurd cc
+firm_node declaration a_class_declaration vs f h = refl
+firm_node declaration a_default_class vs f h = absurd cc
+firm_node declaration a_variable_declaration vs f h = refl
+firm_node declaration r vs f h = stands_nowhere h
+firm_node declarator_item a_variable_declarator vs f h = refl
+firm_node declarator_item r vs f h = stands_nowhere h
+firm_node binding a_binding_name vs f h = refl
+firm_node binding a_reference_name vs f h = absurd cc
+firm_node binding a_target_name vs f h = absurd cc
+firm_node binding a_binding_object vs f h = refl
+firm_node binding a_target_object vs f h = absurd cc
+firm_node binding a_binding_array vs f h = refl
+firm_node binding a_target_array vs f h = absurd cc
+firm_node binding r vs f h = stands_nowhere h
+firm_node read_name a_reference_name vs f h = refl
+firm_node read_name a_binding_name vs f h = absurd cc
+firm_node read_name a_target_name vs f h = absurd cc
+firm_node read_name r vs f h = stands_nowhere h
+firm_node no_node a_program vs f h = stands_nowhere h
+firm_node no_node r vs f h = stands_nowhere h
+firm_node c r vs f h = absurd (true≢false (sym f))
 
 if_class : (c : Class) → stands c type.IfStatement ≡ Some an_if_statement → takes_statement c ≡ true
 if_class a_prologue h = absurd cc
@@ -74,8 +93,8 @@ suits row asked (maybe_one c) = suits_class row asked c
 suits row asked beyond = true
 suits row asked (key_node keys private) = suits_class row asked expression && suits_class row asked private_key
 suits row asked (key_apart may) = true
-suits row asked (list kind c) = not (gives_way kind) && suits_class (row_below row kind) (asked_below row kind) c
-suits row asked (list_with_holes kind c) = not (gives_way kind) && suits_class (row_below row kind) (asked_below row kind) c
+suits row asked (list kind c) = not (gives kind) && suits_class (row_below row kind) (asked_below row kind) c
+suits row asked (list_with_holes kind c) = not (gives kind) && suits_class (row_below row kind) (asked_below row kind) c
 suits row asked (body c) = suits_class (row_below row statements) (asked_below row statements) a_prologue && suits_class (row_below row statements) (asked_below row statements) c
 suits row asked (item_or_hole c) = suits_class row asked c
 suits row asked (item_of_body c) = suits_class row asked a_prologue && suits_class row asked c
@@ -157,7 +176,24 @@ module _ (row : Row) (asked : Bool) where
 -- ---- a node at its place
 
 abbrev IsRight : Row → (is_asked : Bool) → Kind → Type 0
-IsRight row asked k = (not (gives_way k) || may_give_way row asked k) ≡ true
+IsRight row asked k = (not (gives k) || may_give_way row asked k) ≡ true
+
+abbrev is_if : Kind → Bool
+is_if if_statement = true
+is_if k = false
+
+no_statement : (k : Kind) → is_if k ≡ false → (gives k && is_statement k) ≡ false
+no_statement if_statement h = absurd cc
+no_statement k h = refl
+
+other_right : (row : Row) (asked : Bool) (k : Kind) → is_if k ≡ false → not asked ≡ true → IsRight row asked k
+other_right row asked k other_than unasked = right (gives k) (is_statement k) asked (no_statement k other_than) unasked
+  where
+    right : (g s a : Bool) → (g && s) ≡ false → not a ≡ true → (not g || (not a && (not s || may_empty row))) ≡ true
+    right true true a e h = absurd cc
+    right true false false e h = refl
+    right true false true e h = absurd cc
+    right false s a e h = refl
 
 -- of a class of which a node may give way
 open_right : (row : Row) (asked : Bool) (c : Class) (r : TableRow) (vs : Values (fields_of r)) → (not asked && (not (takes_statement c) || may_empty row)) ≡ true
@@ -165,9 +201,7 @@ open_right : (row : Row) (asked : Bool) (c : Class) (r : TableRow) (vs : Values 
 open_right row asked c an_if_statement vs may h =
     both (not asked) (may_empty row) (first_of_both (not asked) (not (takes_statement c) || may_empty row) may)
     (ap (λ x. not x || may_empty row) (sym (if_class c h)) ∙ second_of_both (not asked) (not (takes_statement c) || may_empty row) may)
-open_right row asked c a_conditional_expression vs may h = both (not asked) true (first_of_both (not asked) (not (takes_statement c) || may_empty row) may) refl
-open_right row asked c a_logical_expression vs may h = both (not asked) true (first_of_both (not asked) (not (takes_statement c) || may_empty row) may) refl
-open_right row asked c r vs may h = refl
+open_right row asked c r vs may h = other_right row asked (kind_in r vs) refl (first_of_both (not asked) (not (takes_statement c) || may_empty row) may)
 
 class_right : (row : Row) (asked : Bool) (c : Class) (r : TableRow) (vs : Values (fields_of r)) → (is_firm c || (not asked && (not (takes_statement c) || may_empty row))) ≡ true
     → stands c (type_of r) ≡ Some (first_of r) → IsRight row asked (kind_in r vs)
@@ -177,7 +211,7 @@ class_right row asked c r vs suit h = of (is_firm c) refl suit
     of true is s = ap (λ g. not g || may_give_way row asked (kind_in r vs)) (firm_node c r vs is h)
     of false is s = open_right row asked c r vs s h
 
-list_right : (row : Row) (asked : Bool) (kind : Kind) → not (gives_way kind) ≡ true → IsRight row asked kind
+list_right : (row : Row) (asked : Bool) (kind : Kind) → not (gives kind) ≡ true → IsRight row asked kind
 list_right row asked kind h = ap (λ x. x || may_give_way row asked kind) h
 
 module _ (a : Forest) (below : (row : Row) (asked : Bool) (plan : Plan) → suits_plan row asked plan ≡ true → Stand plan a → may_all_give_way row asked a ≡ true) where
@@ -194,7 +228,7 @@ module _ (a : Forest) (below : (row : Row) (asked : Bool) (plan : Plan) → suit
             (places_suit (row_below row made) (asked_below row made) (has is_private a) (fields_of of.0) of.1 (made_suits row unfenced of.0 of.1)) of.5,
       )
 
-  good_list : (row : Row) (asked : Bool) (k kind : Kind) (plan : Plan) → k ≡ kind → not (gives_way kind) ≡ true → suits_plan (row_below row kind) (asked_below row kind) plan ≡ true
+  good_list : (row : Row) (asked : Bool) (k kind : Kind) (plan : Plan) → k ≡ kind → not (gives kind) ≡ true → suits_plan (row_below row kind) (asked_below row kind) plan ≡ true
       → Stand plan a → Good row asked k
   good_list row asked k kind plan is calm suit st = subst (λ x. Good row asked x) (sym is) (list_right row asked kind calm, below (row_below row kind) (asked_below row kind) plan suit st)
 
@@ -220,7 +254,7 @@ may_as_planned nothing row asked plan h st = refl
 may_as_planned (absent r) row asked plan h st = may_as_planned r row asked (behind plan hole) (behind_suits row asked plan hole h) st.1
 may_as_planned (node k n a r) row asked plan h st =
     let good = good_at a (may_as_planned a) row asked (first_place plan) k (first_suits row asked plan h) st.0 in
-    both (not (gives_way k) || may_give_way row asked k) (may_all_give_way (row_below row k) (asked_below row k) a && may_all_give_way row asked r) good.0
+    both (not (gives k) || may_give_way row asked k) (may_all_give_way (row_below row k) (asked_below row k) a && may_all_give_way row asked r) good.0
     (both (may_all_give_way (row_below row k) (asked_below row k) a) (may_all_give_way row asked r) good.1 (may_as_planned r row asked (behind plan k) (behind_suits row asked plan k h) st.1))
 
 pub fits_may_give_way : (t : Forest) → Fits root t → may_all_give_way other false t ≡ true

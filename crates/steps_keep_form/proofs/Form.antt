@@ -10,28 +10,14 @@ use Rattle.form_rules.specs.Context as context
 use Rattle.form_rules.specs.Context.{Context, inside}
 use Rattle.form_rules.specs.Rules.{broken_at}
 use Rattle.form_rules.specs.Form.{broken_in, source_of, broken, IsWellFormed}
-use Rattle.steps_keep_form.specs.Part.{is_asked_for, StandsFor}
+use Rattle.steps_keep_form.specs.Part.{is_asked_for, StandsFor, Replaces, by_part, by_parts}
 use Rattle.steps_keep_form.specs.Sheds.{may_leave, Around, entered, outermost, Sheds, ends, keeps_absent, keeps, leaves, empties, becomes}
 use Rattle.steps_keep_form.proofs.Contexts.{inside_same}
-use Rattle.steps_keep_form.proofs.Asked.{given_not}
+use Rattle.steps_keep_form.proofs.Asked.{old_unasked, new_unasked}
 use Rattle.steps_keep_form.proofs.Rows.{itself}
 use Rattle.steps_keep_form.proofs.Alone.{passed_on, inside_alike, rules_alike}
+use Rattle.steps_keep_form.proofs.Rebuilding.{moved, rebuilt_kept}
 use Rattle.steps_keep_form.proofs.Rules.{first_empty, second_empty, both_empty, rules_kept, empty_keeps}
-
--- in the same contexts, at other places of the tree, a row breaks no rule either
-moved : (t : Forest) (f g : ℕ → Context) → ((i : ℕ) → g i ≡ f i) → (i p q : ℕ) → broken_in f i p t ≡ [] → broken_in g i q t ≡ []
-moved nothing f g same i p q h = refl
-moved (absent r) f g same i p q h = moved r f g same (suc i) p q h
-moved (node k n a r) f g same i p q h =
-    let own = broken_at (f i) k p a in
-    let below = broken_in (inside (f i) k a) 0 (p + one_each k) a in
-    let behind = broken_in f (suc i) (p + node_count (node k n a nothing)) r in
-    let front = first_empty (own ++ below) behind h in
-    both_empty (broken_at (g i) k q a ++ broken_in (inside (g i) k a) 0 (q + one_each k) a) (broken_in g (suc i) (q + node_count (node k n a nothing)) r)
-    (both_empty (broken_at (g i) k q a) (broken_in (inside (g i) k a) 0 (q + one_each k) a)
-    (ap (λ c. broken_at c k q a) (same i) ∙ rules_kept outermost (f i) p q a a k (itself (entered outermost k a) a) (first_empty own below front))
-    (moved a (inside (f i) k a) (inside (g i) k a) (λ x. ap (λ c. inside c k a x) (same i)) 0 (p + one_each k) (q + one_each k) (second_empty own below front)))
-    (moved r f g same (suc i) (p + node_count (node k n a nothing)) (q + node_count (node k n a nothing)) (second_empty (own ++ below) behind h))
 
 -- behind other nodes of a row
 behind_others : (before rest : Forest) (f : ℕ → Context) (i p : ℕ) → broken_in f i p (joined before rest) ≡ [] → (j : ℕ) × (q : ℕ) × (broken_in f j q rest ≡ [])
@@ -55,6 +41,11 @@ part_kept c k l a b p q part h =
     (rules_kept outermost c there.1 q b b l (itself (entered outermost l b) b) (rules_alike l there.1 b part.unasked d c same (first_empty own below front)))
     (moved b (inside d l b) (inside c l b) (λ x. sym (inside_alike c l b x part.unasked) ∙ ap (λ y. inside y l b x) (sym same) ∙ inside_alike d l b x part.unasked) 0 (there.1 + one_each l) (q + one_each l)
     (second_empty own below front))
+
+replaced_kept : (c : Context) (p q : ℕ) {k l : Kind} {n m : Note} {a b : Forest} → Replaces k n a l m b → broken_at c k p a ++ broken_in (inside c k a) 0 (p + one_each k) a ≡ []
+    → broken_at c l q b ++ broken_in (inside c l b) 0 (q + one_each l) b ≡ []
+replaced_kept c p q {k = k} {l = l} {a = a} {b = b} (by_part part) h = part_kept c k l a b (p + one_each k) q part (second_empty (broken_at c k p a) (broken_in (inside c k a) 0 (p + one_each k) a) h)
+replaced_kept c p q {k = k} {l = l} {n = n} {m = m} {a = a} {b = b} (by_parts made) h = rebuilt_kept c k l n m a b p q made h
 
 -- Nodes have the contexts that they had: in a list all have the same one.
 pub form_kept : {w : Around} {t u : Forest} → Sheds w t u → (f g : ℕ → Context) → ((i j : ℕ) → (may_leave w.row ≡ false → i ≡ j) → g j ≡ f i) → (i j p q : ℕ) → (may_leave w.row ≡ false → i ≡ j) → broken_in f i p t ≡ [] → broken_in g j q u ≡ []
@@ -81,7 +72,7 @@ form_kept (becomes {k = k} {l = l} {n = n} {m = m} {a = a} {b = b} {r = r} {s = 
     let below = broken_in (inside (f i) k a) 0 (p + one_each k) a in
     let behind = broken_in f (suc i) (p + node_count (node k n a nothing)) r in
     both_empty (broken_at (g j) l q b ++ broken_in (inside (g j) l b) 0 (q + one_each l) b) (broken_in g (suc j) (q + node_count (node l m b nothing)) s)
-    (ap (λ c. broken_at c l q b ++ broken_in (inside c l b) 0 (q + one_each l) b) (same i j e) ∙ part_kept (f i) k l a b (p + one_each k) q part (second_empty own below (first_empty (own ++ below) behind h)))
+    (ap (λ c. broken_at c l q b ++ broken_in (inside c l b) 0 (q + one_each l) b) (same i j e) ∙ replaced_kept (f i) p q part (first_empty (own ++ below) behind h))
     (form_kept rest f g same (suc i) (suc j) (p + node_count (node k n a nothing)) (q + node_count (node l m b nothing)) (λ d. ap (λ n. suc n) (e d)) (second_empty (own ++ below) behind h))
 
 no_source : (k : Kind) (n : Note) (a r : Forest) → is_asked_for k ≡ false → source_of (node k n a r) ≡ source_of nothing
@@ -102,7 +93,7 @@ source_same stays (keeps_absent rest) = refl
 source_same stays (keeps {k = k} {n = n} {m = m} {a = a} {b = b} {r = r} {s = s} one below rest) = source_node k n m a b r s
 source_same stays (leaves may out strict rest) = absurd (cc (stays, may))
 source_same stays (empties may rest) = refl
-source_same stays (becomes {k = k} {l = l} {n = n} {m = m} {a = a} {b = b} {r = r} {s = s} part may bare rest) = no_source l m b s part.unasked ∙ sym (no_source k n a r (given_not k part.gives))
+source_same stays (becomes {k = k} {l = l} {n = n} {m = m} {a = a} {b = b} {r = r} {s = s} part may bare rest) = no_source l m b s (new_unasked part) ∙ sym (no_source k n a r (old_unasked part))
 
 pub stays_well_formed : (t u : Forest) → Sheds outermost t u → IsWellFormed t → IsWellFormed u
 stays_well_formed t u sheds whole =

@@ -8,6 +8,7 @@ pub mod Parts
 pub mod Contexts
 pub mod Rules
 pub mod Alone
+pub mod Rebuilding
 pub mod Form
 pub mod Laid
 pub mod Kept

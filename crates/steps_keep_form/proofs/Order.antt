@@ -1,14 +1,14 @@
 -- What is left of a tree is laid out as the tree was.
 use Rattle.std.proofs.Common.{◌≡◌, Bool, true, false, not, ◌&&◌, ◌||◌, refl, sym, ap, ◌∙◌}
 use Rattle.js_syntax.specs.declared.node_kind.NodeKind.{NodeKind as Kind}
-use Rattle.js_syntax.specs.declared.node_kind.NodeKind.TheVariants.{Program as program, Directive as directive, Statements as statements, FunctionBody as function_body, ExpressionStatement as expression_statement, BlockStatement as block_statement, StaticBlock as static_block, SwitchCase as switch_case, LabeledStatement as labeled_statement, IfStatement as if_statement, WithStatement as with_statement, WhileStatement as while_statement, DoWhileStatement as do_while_statement, ForStatement as for_statement, ForInStatement as for_in_statement, ForOfStatement as for_of_statement, ConditionalExpression as conditional_expression, LogicalExpression as logical_expression, Function as function, VariableDeclaration as variable_declaration, Declarators as declarators, BindingName as binding_name, Specifiers as specifiers, ExportNamedDeclaration as export_named_declaration}
+use Rattle.js_syntax.specs.declared.node_kind.NodeKind.TheVariants.{Program as program, Directive as directive, Statements as statements, FunctionBody as function_body, ExpressionStatement as expression_statement, BlockStatement as block_statement, StaticBlock as static_block, SwitchCase as switch_case, LabeledStatement as labeled_statement, IfStatement as if_statement, WithStatement as with_statement, WhileStatement as while_statement, DoWhileStatement as do_while_statement, ForStatement as for_statement, ForInStatement as for_in_statement, ForOfStatement as for_of_statement, ConditionalExpression as conditional_expression, UnaryExpression as unary_expression, BinaryExpression as binary_expression, LogicalExpression as logical_expression, Function as function, VariableDeclaration as variable_declaration, Declarators as declarators, BindingName as binding_name, Specifiers as specifiers, ExportNamedDeclaration as export_named_declaration}
 use Rattle.js_syntax.specs.Node.{Note, Forest, nothing, node, absent, joined}
 use Rattle.form_rules.specs.Context.{has_use_strict}
 use Rattle.json_shape.specs.Shape.{is_directive_kind}
-use Rattle.steps_keep_form.specs.Part.{gives_way, is_statement, is_asked_for}
+use Rattle.steps_keep_form.specs.Part.{gives_way, is_statement, is_asked_for, Replaces, by_part, by_parts}
 use Rattle.steps_keep_form.specs.Sheds.{Row, parts, items, row_below, may_leave, may_empty, may_give_way, Around, entered, Sheds, ends, keeps_absent, keeps, leaves, empties, becomes}
 use Rattle.steps_keep_form.proofs.Rows.{stays_below, behind_left, is_usual, is_other}
-use Rattle.steps_keep_form.proofs.Asked.{given_not, statement_may}
+use Rattle.steps_keep_form.proofs.Asked.{old_unasked, new_unasked, alike, statement_may}
 use Rattle.steps_keep_form.proofs.Seen.{strict_same}
 use Rattle.steps_keep_form.specs.Layout.{is_declarators, is_list_first, are_specifiers_first, binds_none, stands_right, is_laid_out}
 use Rattle.steps_keep_form.proofs.Laid.{laid_absent, laid_order, laid_right, laid_below, laid_behind}
@@ -41,6 +41,8 @@ row_of_statement items if_statement g i may = refl
 row_of_statement row if_statement g i may = absurd cc
 row_of_statement row conditional_expression g i may = absurd cc
 row_of_statement row (logical_expression operator) g i may = absurd cc
+row_of_statement row (unary_expression operator) g i may = absurd cc
+row_of_statement row (binary_expression operator) g i may = absurd cc
 row_of_statement row k g i may = absurd cc
 
 below_statement : (row : Row) (l : Kind) → is_asked_for l ≡ false → may_empty row ≡ true → row_below row l ≡ row_below parts l
@@ -50,7 +52,7 @@ below_statement parts l h may = refl
 below_statement items l h may = refl
 below_statement row l h may = absurd cc
 
-of_expression : (l : Kind) → is_asked_for l ≡ false → is_statement l ≡ false → is_usual l ≡ true
+pub of_expression : (l : Kind) → is_asked_for l ≡ false → is_statement l ≡ false → is_usual l ≡ true
 of_expression statements h g = absurd cc
 of_expression declarators h g = absurd cc
 of_expression (variable_declaration how) h g = absurd cc
@@ -94,6 +96,12 @@ laid_part row nothing after l n b h = laid_below row l n b after h
 laid_part row (absent r) after l n b h = laid_part row r after l n b (laid_absent row (joined r (node l n b after)) h)
 laid_part row (node j m c r) after l n b h = laid_part row r after l n b (laid_behind row j m c (joined r (node l n b after)) h)
 
+laid_replaced : (w : Around) {k l : Kind} {n m : Note} {a b : Forest} → Replaces k n a l m b → may_give_way w.row w.is_asked k ≡ true → is_laid_out (row_below w.row k) a ≡ true → is_laid_out (row_below w.row l) b ≡ true
+laid_replaced w {k = k} {l = l} {b = b} (by_part part) may h =
+    ap (λ row. is_laid_out row b) (same_row w k l part.gives part.unasked part.alike may)
+    ∙ laid_part (row_below w.row k) part.before part.after l part.note b (ap (is_laid_out (row_below w.row k)) (sym part.is_part) ∙ h)
+laid_replaced w {l = l} {b = b} (by_parts made) may h = ap (λ row. is_laid_out row b) (is_other w.row l (of_expression l made.unasked made.expression)) ∙ made.laid_out
+
 -- ---- first nodes, where nothing leaves
 
 list_node : (k : Kind) (n m : Note) (a b r s : Forest) → is_list_first (node k m b s) ≡ is_list_first (node k n a r)
@@ -106,7 +114,7 @@ list_same stays (keeps_absent rest) = refl
 list_same stays (keeps {k = k} {n = n} {m = m} {a = a} {b = b} {r = r} {s = s} one below rest) = list_node k n m a b r s
 list_same stays (leaves may out strict rest) = absurd (cc (stays, may))
 list_same stays (empties may rest) = refl
-list_same stays (becomes {k = k} {l = l} {n = n} {m = m} {a = a} {b = b} {r = r} {s = s} part may bare rest) = no_list l m b s part.unasked ∙ sym (no_list k n a r (given_not k part.gives))
+list_same stays (becomes {k = k} {l = l} {n = n} {m = m} {a = a} {b = b} {r = r} {s = s} part may bare rest) = no_list l m b s (new_unasked part) ∙ sym (no_list k n a r (old_unasked part))
 
 specifiers_node : (k : Kind) (n m : Note) (a b r s : Forest) → are_specifiers_first (node k m b s) ≡ are_specifiers_first (node k n a r)
 specifiers_node specifiers n m a b r s = refl
@@ -118,7 +126,7 @@ specifiers_same stays (keeps_absent rest) = refl
 specifiers_same stays (keeps {k = k} {n = n} {m = m} {a = a} {b = b} {r = r} {s = s} one below rest) = specifiers_node k n m a b r s
 specifiers_same stays (leaves may out strict rest) = absurd (cc (stays, may))
 specifiers_same stays (empties may rest) = refl
-specifiers_same stays (becomes {k = k} {l = l} {n = n} {m = m} {a = a} {b = b} {r = r} {s = s} part may bare rest) = no_specifiers l m b s part.unasked ∙ sym (no_specifiers k n a r (given_not k part.gives))
+specifiers_same stays (becomes {k = k} {l = l} {n = n} {m = m} {a = a} {b = b} {r = r} {s = s} part may bare rest) = no_specifiers l m b s (new_unasked part) ∙ sym (no_specifiers k n a r (old_unasked part))
 
 binds_node : (k : Kind) (n m : Note) (a b r s : Forest) → binds_none s ≡ binds_none r → binds_none (node k m b s) ≡ binds_none (node k n a r)
 binds_node (binding_name x) n m a b r s h = refl
@@ -131,7 +139,7 @@ binds_same stays (keeps {k = k} {n = n} {m = m} {a = a} {b = b} {r = r} {s = s} 
 binds_same stays (leaves may out strict rest) = absurd (cc (stays, may))
 binds_same stays (empties may rest) = binds_same stays rest
 binds_same stays (becomes {k = k} {l = l} {n = n} {m = m} {a = a} {b = b} {r = r} {s = s} part may bare rest) =
-    no_name l m b s part.unasked ∙ binds_same stays rest ∙ sym (no_name k n a r (given_not k part.gives))
+    no_name l m b s (new_unasked part) ∙ binds_same stays rest ∙ sym (no_name k n a r (old_unasked part))
 
 -- ---- nodes
 
@@ -157,10 +165,9 @@ stays_laid_out (empties {w = w} {n = n} {m = m} {a = a} {r = r} {s = s} may rest
     both (not (has_use_strict s)) (is_laid_out w.row s) (ap not (strict_same rest) ∙ laid_order w.row expression_statement n a r h) (stays_laid_out rest (laid_behind w.row expression_statement n a r h))
 stays_laid_out (becomes {w = w} {k = k} {l = l} {n = n} {m = m} {a = a} {b = b} {r = r} {s = s} part may bare rest) h =
     both (is_directive_kind l || not (has_use_strict s)) (stands_right w.row l b && (is_laid_out (row_below w.row l) b && is_laid_out w.row s))
-    (ap (λ x. x || not (has_use_strict s)) (no_directive l part.unasked) ∙ ap not (strict_same rest)
-    ∙ ap (λ x. x || not (has_use_strict r)) (sym (no_directive k (given_not k part.gives))) ∙ laid_order w.row k n a r h)
-    (both (stands_right w.row l b) (is_laid_out (row_below w.row l) b && is_laid_out w.row s) (right_there w.row l b part.unasked (λ is. statement_may w k may (sym part.alike ∙ is)))
+    (ap (λ x. x || not (has_use_strict s)) (no_directive l (new_unasked part)) ∙ ap not (strict_same rest)
+    ∙ ap (λ x. x || not (has_use_strict r)) (sym (no_directive k (old_unasked part))) ∙ laid_order w.row k n a r h)
+    (both (stands_right w.row l b) (is_laid_out (row_below w.row l) b && is_laid_out w.row s) (right_there w.row l b (new_unasked part) (λ is. statement_may w k may (sym (alike part) ∙ is)))
     (both (is_laid_out (row_below w.row l) b) (is_laid_out w.row s)
-    (ap (λ row. is_laid_out row b) (same_row w k l part.gives part.unasked part.alike may)
-    ∙ laid_part (row_below w.row k) part.before part.after l part.note b (ap (is_laid_out (row_below w.row k)) (sym part.is_part) ∙ laid_below w.row k n a r h))
+    (laid_replaced w part may (laid_below w.row k n a r h))
     (stays_laid_out rest (laid_behind w.row k n a r h))))

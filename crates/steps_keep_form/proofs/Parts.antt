@@ -10,7 +10,7 @@ use Rattle.js_syntax.specs.Node.{Forest, nothing, node}
 use Rattle.form_rules.specs.Rules.{places_of, all_but_first, first_below, length_of, is_default, is_constructor, has_initializer, is_declarator_wrong, counts_right}
 use Rattle.steps_keep_form.specs.Sheds.{Row, parts, items, of_item, of_declarators, of_head, other, row_below, asked_below, may_leave, may_empty, keeps_one, Around, entered, Sheds, ends, keeps_absent, keeps, leaves, empties, becomes}
 use Rattle.steps_keep_form.specs.Part.{is_asked_for}
-use Rattle.steps_keep_form.proofs.Asked.{no_default, no_constructor, not_asked}
+use Rattle.steps_keep_form.proofs.Asked.{new_unasked, no_default, no_constructor, not_asked}
 use Rattle.steps_keep_form.proofs.Fewer.{Fewer, none, both, more}
 use Rattle.steps_keep_form.proofs.Rows.{stays_below, behind_left, absent_same, length_same}
 use Rattle.steps_keep_form.proofs.Seen.{name_same}
@@ -39,7 +39,7 @@ module _ (test : Kind → Forest → Bool) where
   places_fewer p q same emptied unasked (empties {n = n} {m = m} {a = a} may rest) =
       rw (emptied may) (less_if (test expression_statement a) q (places_fewer (p + node_count (node empty_statement m nothing nothing)) (q + node_count (node expression_statement n a nothing)) same emptied unasked rest))
   places_fewer p q same emptied unasked (becomes {w = w} {k = k} {l = l} {n = n} {m = m} {a = a} {b = b} part may bare rest) =
-      rw (unasked (not_asked w k may) l b part.unasked) (less_if (test k a) q (places_fewer (p + node_count (node l m b nothing)) (q + node_count (node k n a nothing)) same emptied unasked rest))
+      rw (unasked (not_asked w k may) l b (new_unasked part)) (less_if (test k a) q (places_fewer (p + node_count (node l m b nothing)) (q + node_count (node k n a nothing)) same emptied unasked rest))
 
 pub none_of_none : {xs ys : List ℕ} → Fewer ℕ Any xs ys → ys ≡ [] → xs ≡ []
 none_of_none none h = refl

@@ -22,7 +22,7 @@ use Rattle.steps_keep_form.proofs.ShedNames.{fewer_declared, still_declared}
 use Rattle.steps_keep_form.proofs.Rows.{stays_below, is_other, behind_left, absent_same}
 use Rattle.steps_keep_form.proofs.Exports.{exported_first, locals_below_first, locals_anywhere, none_undeclared}
 use Rattle.steps_keep_form.proofs.Asked.{asked_there}
-use Rattle.steps_keep_form.proofs.Seen.{function_same, plain_same, privates_fewer, super_same, bare_same, rests_last}
+use Rattle.steps_keep_form.proofs.Seen.{function_same, plain_same, privates_fewer, super_same, bare_kept, rests_last}
 use Rattle.steps_keep_form.proofs.Parts.{one_default, one_constructor, counts_stay, below_same, are_variables, variables_stay, declarators_left}
 
 -- ---- lists of breaks
@@ -62,6 +62,12 @@ unless_if b c p q rule f h = ap (λ x. unless x q rule) (f (is_kept b p rule h))
 
 unless_same : (b : Bool) (p q rule : ℕ) → unless b p rule ≡ [] → unless b q rule ≡ []
 unless_same b p q rule h = unless_if b b p q rule (λ e. e) h
+
+not_both : (s a b : Bool) → (b ≡ true → a ≡ true) → not (s && a) ≡ true → not (s && b) ≡ true
+not_both true true true f h = absurd cc
+not_both true false true f h = absurd (cc (f refl))
+not_both true a false f h = refl
+not_both false a b f h = refl
 
 if_kept : (b c : Bool) (xs ys : List Break) → c ≡ b → (xs ≡ [] → ys ≡ []) → (if b then [] else xs) ≡ [] → (if c then [] else ys) ≡ []
 if_kept true c xs ys e f h = rw e refl
@@ -162,7 +168,7 @@ module _ (w : Around) (c : Context) (p q : ℕ) (a b : Forest) where
   rule_10_kept : (k : Kind) → Below k → rule_10 c k p a ≡ [] → rule_10 c k q b ≡ []
   rule_10_kept with_statement h g = unless_same (not c.strict) p q 10 g
   rule_10_kept (unary_expression unary.Delete) h g =
-      unless_if (not (c.strict && is_bare_name a)) (not (c.strict && is_bare_name b)) p q 10 (λ e. ap (λ x. not (c.strict && x)) (bare_same (stays_below w.row (unary_expression unary.Delete) refl) refl h) ∙ e) g
+      unless_if (not (c.strict && is_bare_name a)) (not (c.strict && is_bare_name b)) p q 10 (not_both c.strict (is_bare_name a) (is_bare_name b) (bare_kept (stays_below w.row (unary_expression unary.Delete) refl) refl h)) g
   rule_10_kept k h g = refl
 
   parts_kept : (k : Kind) → Below k → parts_of c k p a ≡ [] → parts_of c k q b ≡ []

@@ -1,5 +1,5 @@
 -- What is left of a row declares and exports nothing else than the row did, and still declares what is exported.
-use Rattle.std.proofs.Common.{◌≡◌, ℕ, ◌+◌, List, [], ◌∷◌, ◌++◌, Bool, true, false, not, ◌&&◌, ◌||◌, refl, sym, subst, ap, ◌∙◌}
+use Rattle.std.proofs.Common.{◌≡◌, ℕ, ◌+◌, List, [], ◌∷◌, ◌++◌, Bool, true, false, not, ◌&&◌, ◌||◌, append-nil, refl, sym, subst, ap, ◌∙◌}
 use Rattle.std.specs.Str.{bytes_eq}
 use Rattle.std.proofs.lemmas.Slice.Eq.{bytes_eq-Decides}
 use Rattle.js_tree.specs.Count.{one_each, node_count}
@@ -12,8 +12,8 @@ use Rattle.js_syntax.specs.declared.scalar.SourceType.{SourceType}
 use Rattle.form_rules.specs.Scope.{Declared, declared, declared_here, sought_below}
 use Rattle.form_rules.specs.Rules.{Exported, is_exported, is_declared}
 use Rattle.steps_keep_form.specs.Sheds.{Around, exports_none, sought_inside, exported_below, Sheds, ends, keeps_absent, keeps, leaves, empties, becomes}
-use Rattle.steps_keep_form.specs.Part.{StandsFor}
-use Rattle.steps_keep_form.proofs.Asked.{given_not, no_name_here, is_of_catch, sought_alike, no_catch_below, no_catch_inside, not_asked}
+use Rattle.steps_keep_form.specs.Part.{StandsFor, RebuildsTo, Replaces, by_part, by_parts}
+use Rattle.steps_keep_form.proofs.Asked.{old_unasked, no_name_here, is_of_catch, sought_alike, no_catch_below, no_catch_inside, not_asked}
 use Rattle.steps_keep_form.proofs.Fewer.{Fewer, none, both, more, fewest, behind_all, beside, SameName}
 use Rattle.js_syntax.proofs.Truth.{second_of_either}
 
@@ -68,6 +68,15 @@ part_declared s k l a b p q calm part =
     (λ i. in_front (declared (sought_below s k) (i + node_count (alone l part.note b)) part.after)
     (behind_all (declared_here (sought_below s k) i l) (same_anywhere (sought_below (sought_below s k) l) (p + one_each l) (i + one_each l) b)))))
 
+-- what is rebuilt declares nothing
+rebuilt_declared : (s : Sought) (k l : Kind) (n m : Note) (a b : Forest) (p : ℕ) → RebuildsTo k n a l m b → declared_here s p l ++ declared (sought_below s l) (p + one_each l) b ≡ []
+rebuilt_declared s k l n m a b p made = sym (append-nil (declared_here s p l ++ declared (sought_below s l) (p + one_each l) b)) ∙ made.still_none s p
+
+replaced_declared : (s : Sought) (p q : ℕ) {k l : Kind} {n m : Note} {a b : Forest} → is_of_catch s ≡ false → Replaces k n a l m b
+    → Fewer Declared SameName (declared_here s p l ++ declared (sought_below s l) (p + one_each l) b) (declared (sought_below s k) q a)
+replaced_declared s p q {k = k} {l = l} {a = a} {b = b} calm (by_part part) = part_declared s k l a b p q calm part
+replaced_declared s p q {k = k} {l = l} {n = n} {m = m} {a = a} {b = b} calm (by_parts made) = rw (rebuilt_declared s k l n m a b p made) (fewest (declared (sought_below s k) q a))
+
 pub fewer_declared : {w : Around} {t u : Forest} (s : Sought) (p q : ℕ) → (is_of_catch s ≡ true → w.is_asked ≡ true) → Sheds w t u → Fewer Declared SameName (declared s p u) (declared s q t)
 fewer_declared s p q catch ends = none
 fewer_declared s p q catch (keeps_absent h) = fewer_declared s p q catch h
@@ -81,7 +90,7 @@ fewer_declared s p q catch (empties {n = n} {m = m} {a = a} {s = r} h rest) =
     (behind_all (declared_here s q expression_statement ++ declared (sought_below s expression_statement) (q + one_each expression_statement) a)
     (fewer_declared s (p + node_count (alone empty_statement m nothing)) (q + node_count (alone expression_statement n a)) catch rest))
 fewer_declared s p q catch (becomes {w = w} {k = k} {l = l} {n = n} {m = m} {a = a} {b = b} part may bare rest) =
-    beside (behind_all (declared_here s q k) (part_declared s k l a b p (q + one_each k) (no_catch (is_of_catch s) refl) part))
+    beside (behind_all (declared_here s q k) (replaced_declared s p (q + one_each k) (no_catch (is_of_catch s) refl) part))
     (fewer_declared s (p + node_count (alone l m b)) (q + node_count (alone k n a)) catch rest)
   where
     no_catch : (x : Bool) → is_of_catch s ≡ x → is_of_catch s ≡ false
@@ -155,6 +164,14 @@ kept_below : (x : List ℕ) (es : List Exported) (s : Sought) (k : Kind) (p q : 
 kept_below x es s (program source) p q a b e f h = absurd (cc (sym h ∙ ap (λ t. is_declared x (declared t q a)) (no_program_sought s source) ∙ ap (is_declared x) (none_declared q a)))
 kept_below x es s k p q a b e f h = f e h
 
+no_first : (xs ys : List Declared) → xs ++ ys ≡ [] → xs ≡ []
+no_first [] ys h = refl
+no_first (x ∷ xs) ys h = absurd cc
+
+no_second : (xs ys : List Declared) → xs ++ ys ≡ [] → ys ≡ []
+no_second [] ys h = h
+no_second (x ∷ xs) ys h = absurd cc
+
 -- behind nodes that declare nothing the same is declared
 skipped : (s : Sought) (q : ℕ) (before rest : Forest) → declared s q before ≡ [] → (i : ℕ) × (declared s q (joined before rest) ≡ declared s i rest)
 skipped s q nothing rest h = (q, refl)
@@ -163,14 +180,6 @@ skipped s q (node k n a r) rest h =
     let own = declared_here s q k ++ declared (sought_below s k) (q + one_each k) a in
     let further = skipped s (q + node_count (alone k n a)) r rest (no_second own (declared s (q + node_count (alone k n a)) r) h) in
     (further.0, ap (λ ds. ds ++ declared s (q + node_count (alone k n a)) (joined r rest)) (no_first own (declared s (q + node_count (alone k n a)) r) h) ∙ further.1)
-  where
-    no_first : (xs ys : List Declared) → xs ++ ys ≡ [] → xs ≡ []
-    no_first [] ys h = refl
-    no_first (x ∷ xs) ys h = absurd cc
-
-    no_second : (xs ys : List Declared) → xs ++ ys ≡ [] → ys ≡ []
-    no_second [] ys h = h
-    no_second (x ∷ xs) ys h = absurd cc
 
 -- of those below a node it is a part that declares, if it may stand for the node
 still_by_part : (x : List ℕ) (s : Sought) (k l : Kind) (a b : Forest) (p q : ℕ) → is_of_catch s ≡ false → StandsFor k a l b → is_declared x (declared (sought_below s k) q a) ≡ true
@@ -189,6 +198,18 @@ still_by_part x s k l a b p q calm part h =
     amid_none true b c f g h = absurd cc
     amid_none false true c f g h = refl
     amid_none false false c f g h = absurd (cc (g, h))
+
+-- below what is rebuilt nothing was declared
+nothing_below : (s : Sought) (k l : Kind) (n m : Note) (a b : Forest) → RebuildsTo k n a l m b → declared (sought_below s k) (0 + one_each k) a ≡ []
+nothing_below s k l n m a b made =
+    no_second (declared_here s 0 k) (declared (sought_below s k) (0 + one_each k) a) (sym (append-nil (declared_here s 0 k ++ declared (sought_below s k) (0 + one_each k) a)) ∙ made.none s 0)
+
+still_replaced : (x : List ℕ) (s : Sought) (p q : ℕ) {k l : Kind} {n m : Note} {a b : Forest} → is_of_catch s ≡ false → Replaces k n a l m b → is_declared x (declared (sought_below s k) q a) ≡ true
+    → is_declared x (declared (sought_below s l) p b) ≡ true
+still_replaced x s p q {k = k} {l = l} {a = a} {b = b} calm (by_part part) h = still_by_part x s k l a b p q calm part h
+still_replaced x s p q {k = k} {l = l} {n = n} {m = m} {a = a} {b = b} calm (by_parts made) h =
+    let there = declared_in_more x (same_anywhere (sought_below s k) q (0 + one_each k) a) h in
+    absurd (cc (there, ap (is_declared x) (nothing_below s k l n m a b made)))
 
 -- what is exported is declared by what is left
 pub still_declared : (x : List ℕ) (p q : ℕ) {w : Around} {t u : Forest} → is_of_catch w.sought ≡ false → Sheds w t u → is_exported x w.exported ≡ true
@@ -221,8 +242,8 @@ still_declared x p q calm (becomes {w = w} {k = k} {l = l} {n = n} {m = m} {a = 
     ∙ second_of_either (is_declared x (declared_here w.sought p l)) (is_declared x (declared (sought_below w.sought l) (p + one_each l) b) || is_declared x (declared w.sought (p + node_count (alone l m b)) s))
     (one_of_both (is_declared x (declared (sought_below w.sought k) (q + one_each k) a)) (is_declared x (declared w.sought (q + node_count (alone k n a)) r))
     (is_declared x (declared (sought_below w.sought l) (p + one_each l) b))
-    (is_declared x (declared w.sought (p + node_count (alone l m b)) s)) (still_by_part x w.sought k l a b (p + one_each l) (q + one_each k) calm part)
+    (is_declared x (declared w.sought (p + node_count (alone l m b)) s)) (still_replaced x w.sought (p + one_each l) (q + one_each k) calm part)
     (still_declared x (p + node_count (alone l m b)) (q + node_count (alone k n a)) calm rest e)
     (ap (λ ds. is_declared x ds || (is_declared x (declared (sought_below w.sought k) (q + one_each k) a) || is_declared x (declared w.sought (q + node_count (alone k n a)) r)))
-    (sym (no_name_here w.sought q k (given_not k part.gives)))
+    (sym (no_name_here w.sought q k (old_unasked part)))
     ∙ sym (declared_node x w.sought q k n a r) ∙ h))

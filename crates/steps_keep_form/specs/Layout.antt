@@ -6,7 +6,7 @@ use Rattle.js_syntax.specs.Node.{Forest, nothing, node, absent}
 use Rattle.form_rules.specs.Context.{has_use_strict}
 use Rattle.form_rules.specs.Rules.{behind}
 use Rattle.json_shape.specs.Shape.{is_directive_kind}
-use Rattle.steps_keep_form.specs.Sheds.{Row, parts, of_declarators, other, row_below, may_empty}
+use Rattle.steps_keep_form.specs.Row.{Row, parts, of_declarators, other, row_below, may_empty}
 
 abbrev pub is_parts : Row → Bool
 is_parts parts = true

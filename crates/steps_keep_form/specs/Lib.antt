@@ -1,3 +1,4 @@
+pub mod Row
+pub mod Layout
 pub mod Part
 pub mod Sheds
-pub mod Layout

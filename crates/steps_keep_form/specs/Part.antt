@@ -1,16 +1,21 @@
--- Which part of a node may stand in the node's place, as far as the rules of form ask.
+-- What may stand in a node's place, as far as the rules of form ask: a part of it, or what is built of its parts.
 use Rattle.std.specs.Prelude.{◌≡◌, ℕ, [], Bool, true, false}
 use Rattle.js_syntax.specs.declared.node_kind.NodeKind.{NodeKind as Kind}
-use Rattle.js_syntax.specs.declared.node_kind.NodeKind.TheVariants.{Program as program, Directive as directive, Statements as statements, FunctionBody as function_body, ExpressionStatement as expression_statement, EmptyStatement as empty_statement, DebuggerStatement as debugger_statement, BlockStatement as block_statement, StaticBlock as static_block, Cases as cases, SwitchCase as switch_case, SwitchStatement as switch_statement, LabeledStatement as labeled_statement, BreakStatement as break_statement, ContinueStatement as continue_statement, ReturnStatement as return_statement, ThrowStatement as throw_statement, TryStatement as try_statement, CatchClause as catch_clause, IfStatement as if_statement, WithStatement as with_statement, WhileStatement as while_statement, DoWhileStatement as do_while_statement, ForStatement as for_statement, ForInStatement as for_in_statement, ForOfStatement as for_of_statement, Function as function, Class as class, ClassBody as class_body, Members as members, MethodDefinition as method_definition, PropertyDefinition as property_definition, BindingName as binding_name, PrivateName as private_name, Super as super, ConditionalExpression as conditional_expression, LogicalExpression as logical_expression, SequenceExpression as sequence_expression, TemplateLiteral as template_literal, VariableDeclaration as variable_declaration, Declarators as declarators, VariableDeclarator as variable_declarator, Parameters as parameters, Properties as properties, Elements as elements, Specifiers as specifiers, BindingRest as binding_rest, TargetRest as target_rest, BindingObject as binding_object, BindingArray as binding_array, BindingProperty as binding_property, BindingDefault as binding_default, ImportDeclaration as import_declaration, ImportSpecifier as import_specifier, ImportDefaultSpecifier as import_default_specifier, ImportNamespaceSpecifier as import_namespace_specifier, ExportNamedDeclaration as export_named_declaration, ExportSpecifier as export_specifier, ForeignSpecifier as foreign_specifier, ExportDefaultDeclaration as export_default_declaration, ExportAllDeclaration as export_all_declaration}
-use Rattle.js_syntax.specs.Node.{Note, Forest, node, joined}
+use Rattle.js_syntax.specs.declared.node_kind.NodeKind.TheVariants.{Program as program, Directive as directive, Statements as statements, FunctionBody as function_body, ExpressionStatement as expression_statement, EmptyStatement as empty_statement, DebuggerStatement as debugger_statement, BlockStatement as block_statement, StaticBlock as static_block, Cases as cases, SwitchCase as switch_case, SwitchStatement as switch_statement, LabeledStatement as labeled_statement, BreakStatement as break_statement, ContinueStatement as continue_statement, ReturnStatement as return_statement, ThrowStatement as throw_statement, TryStatement as try_statement, CatchClause as catch_clause, IfStatement as if_statement, WithStatement as with_statement, WhileStatement as while_statement, DoWhileStatement as do_while_statement, ForStatement as for_statement, ForInStatement as for_in_statement, ForOfStatement as for_of_statement, Function as function, Class as class, ClassBody as class_body, Members as members, MethodDefinition as method_definition, PropertyDefinition as property_definition, BindingName as binding_name, PrivateName as private_name, Super as super, ConditionalExpression as conditional_expression, UnaryExpression as unary_expression, BinaryExpression as binary_expression, LogicalExpression as logical_expression, SequenceExpression as sequence_expression, TemplateLiteral as template_literal, VariableDeclaration as variable_declaration, Declarators as declarators, VariableDeclarator as variable_declarator, Parameters as parameters, Properties as properties, Elements as elements, Specifiers as specifiers, BindingRest as binding_rest, TargetRest as target_rest, BindingObject as binding_object, BindingArray as binding_array, BindingProperty as binding_property, BindingDefault as binding_default, ImportDeclaration as import_declaration, ImportSpecifier as import_specifier, ImportDefaultSpecifier as import_default_specifier, ImportNamespaceSpecifier as import_namespace_specifier, ExportNamedDeclaration as export_named_declaration, ExportSpecifier as export_specifier, ForeignSpecifier as foreign_specifier, ExportDefaultDeclaration as export_default_declaration, ExportAllDeclaration as export_all_declaration}
+use Rattle.js_syntax.specs.Node.{Note, Forest, node, joined, alone}
+use Rattle.js_rebuilt.specs.Rebuilt.{Rebuilt}
 use Rattle.form_rules.specs.declared.sought.Sought.{Sought}
 use Rattle.form_rules.specs.Scope.{sought_below, declared}
+use Rattle.steps_keep_form.specs.Row.{other}
+use Rattle.steps_keep_form.specs.Layout.{is_laid_out}
 
 -- Nodes in whose place a part of them may stand: what lies below one is in the context and the scope that the node is in.
 abbrev pub gives_way : Kind → Bool
 gives_way if_statement = true
 gives_way conditional_expression = true
 gives_way (logical_expression operator) = true
+gives_way (unary_expression operator) = true
+gives_way (binary_expression operator) = true
 gives_way k = false
 
 abbrev pub is_statement : Kind → Bool
@@ -108,3 +113,18 @@ pub record StandsFor (whole : Kind) (below : Forest) (part : Kind) (inner : Fore
   pub alike : is_statement part ≡ is_statement whole
   pub none_before : (s : Sought) (place : ℕ) → declared (sought_below s whole) place before ≡ []
   pub none_after : (s : Sought) (place : ℕ) → declared (sought_below s whole) place after ≡ []
+
+-- An expression is rebuilt of its parts. Neither what it was nor what it is declares a name.
+pub record RebuildsTo (old : Kind) (n : Note) (below : Forest) (new : Kind) (m : Note) (inner : Forest) : Type 0 where
+  pub rebuilt : Rebuilt (alone old n below) (alone new m inner)
+  pub old_unasked : is_asked_for old ≡ false
+  pub unasked : is_asked_for new ≡ false
+  pub old_expression : is_statement old ≡ false
+  pub expression : is_statement new ≡ false
+  pub none : (s : Sought) (place : ℕ) → declared s place (alone old n below) ≡ []
+  pub still_none : (s : Sought) (place : ℕ) → declared s place (alone new m inner) ≡ []
+  pub laid_out : is_laid_out other inner ≡ true
+
+pub data Replaces (old : Kind) (n : Note) (below : Forest) (new : Kind) (m : Note) (inner : Forest) : Type 0 where
+  by_part : StandsFor old below new inner → Replaces old n below new m inner
+  by_parts : RebuildsTo old n below new m inner → Replaces old n below new m inner

@@ -1,8 +1,8 @@
 -- What a program may lose so that no rule of form is broken by it: items of lists of statements, declarators of such items,
--- expressions that are statements, and what stands around a part of a node that may stand for the node.
-use Rattle.std.specs.Prelude.{◌≡◌, List, [], ◌∷◌, Bool, true, false, not, ◌&&◌, ◌||◌, ◌==◌, if◌then◌else◌}
+-- expressions that are statements, and what stands around a part of a node, or around those of an expression.
+use Rattle.std.specs.Prelude.{◌≡◌, List, [], ◌∷◌, Bool, true, false, not, ◌&&◌, ◌||◌, ◌==◌}
 use Rattle.js_syntax.specs.declared.node_kind.NodeKind.{NodeKind as Kind}
-use Rattle.js_syntax.specs.declared.node_kind.NodeKind.TheVariants.{Program as program, Statements as statements, FunctionBody as function_body, BlockStatement as block_statement, StaticBlock as static_block, SwitchCase as switch_case, LabeledStatement as labeled_statement, IfStatement as if_statement, WithStatement as with_statement, WhileStatement as while_statement, DoWhileStatement as do_while_statement, ForStatement as for_statement, ForInStatement as for_in_statement, ForOfStatement as for_of_statement, ExpressionStatement as expression_statement, EmptyStatement as empty_statement, VariableDeclaration as variable_declaration, Declarators as declarators, UnaryExpression as unary_expression, ParenthesizedExpression as parenthesized_expression}
+use Rattle.js_syntax.specs.declared.node_kind.NodeKind.TheVariants.{Program as program, ExpressionStatement as expression_statement, EmptyStatement as empty_statement, UnaryExpression as unary_expression, ParenthesizedExpression as parenthesized_expression}
 use Rattle.js_syntax.specs.declared.operator.UnaryOperator.TheVariants as unary
 use Rattle.js_syntax.specs.Node.{Note, Forest, nothing, node, absent, alone}
 use Rattle.form_rules.specs.declared.sought.Sought.{Sought}
@@ -10,50 +10,8 @@ use Rattle.form_rules.specs.declared.sought.Sought.TheVariants.{Nothing as none,
 use Rattle.form_rules.specs.Context.{has_use_strict}
 use Rattle.form_rules.specs.Scope.{Declared, sought_below, declared}
 use Rattle.form_rules.specs.Rules.{Exported, first_below, length_of, at_top, locals_among, is_exported, is_bare_name}
-use Rattle.steps_keep_form.specs.Part.{is_statement, asks_further, StandsFor}
-
--- The row in which a node stands: the parts of a node that has statements or a list of them; such a list; what lies below a
--- variable declaration that is an item of one, and its declarators; what lies below one elsewhere, as in the head of a loop;
--- any other.
-pub data Row : Type 0 where
-  parts items of_item of_declarators of_head other : Row
-
--- nodes below which a statement stands, or a list of them
-abbrev pub has_statements : Kind → Bool
-has_statements (program source) = true
-has_statements function_body = true
-has_statements block_statement = true
-has_statements static_block = true
-has_statements switch_case = true
-has_statements (labeled_statement label) = true
-has_statements if_statement = true
-has_statements with_statement = true
-has_statements while_statement = true
-has_statements do_while_statement = true
-has_statements for_statement = true
-has_statements for_in_statement = true
-has_statements for_of_statement = true
-has_statements k = false
-
-abbrev pub row_below : Row → Kind → Row
-row_below parts statements = items
-row_below items (variable_declaration how) = of_item
-row_below row (variable_declaration how) = of_head
-row_below of_item declarators = of_declarators
-row_below of_item k = other
-row_below of_head k = other
-row_below row k = if has_statements k then parts else other
-
--- rows that nodes leave, and rows in which statements become empty
-abbrev pub may_leave : Row → Bool
-may_leave items = true
-may_leave of_declarators = true
-may_leave row = false
-
-abbrev pub may_empty : Row → Bool
-may_empty parts = true
-may_empty items = true
-may_empty row = false
+pub use Rattle.steps_keep_form.specs.Row.{Row, parts, items, of_item, of_declarators, of_head, other, has_statements, row_below, may_leave, may_empty}
+use Rattle.steps_keep_form.specs.Part.{is_statement, asks_further, Replaces}
 
 -- whether a rule asks what lies below the nodes of a row
 abbrev pub asked_below : Row → Kind → Bool
@@ -120,6 +78,6 @@ pub data Sheds : Around → (t u : Forest) → Type 0 where
       → Sheds w (node k n a r) s
   -- a statement of an expression becomes empty
   empties : {w : Around} {n m : Note} {a r s : Forest} → may_empty w.row ≡ true → Sheds w r s → Sheds w (node expression_statement n a r) (node empty_statement m nothing s)
-  -- a part of a node stands for it
-  becomes : {w : Around} {k l : Kind} {n m : Note} {a b r s : Forest} → StandsFor k a l b → may_give_way w.row w.is_asked k ≡ true → may_come_out w.is_deleted (alone l m b) ≡ true → Sheds w r s
+  -- a part of a node stands for it, or an expression is rebuilt of its parts
+  becomes : {w : Around} {k l : Kind} {n m : Note} {a b r s : Forest} → Replaces k n a l m b → may_give_way w.row w.is_asked k ≡ true → may_come_out w.is_deleted (alone l m b) ≡ true → Sheds w r s
       → Sheds w (node k n a r) (node l m b s)

@@ -1,8 +1,8 @@
 //! When does what is left of a program break no rule of form?
 //!
 //! `specs/Sheds.antt` is a relation between a tree and what is left of it: items of lists of statements
-//! leave, and declarators of such items, statements of an expression become empty, and a part of a node stands
-//! for the node (`specs/Part.antt`). `law` states that
+//! leave, and declarators of such items, statements of an expression become empty, a part of a node stands
+//! for the node, and an expression is rebuilt of its parts (`specs/Part.antt`). `law` states that
 //! the twelve rules of form hold of what is left if they hold of the tree. `laws`: every tree that fits the table of node
 //! types is laid out as a program is (`specs/Layout.antt`), and so is what is left of it.
 //!
