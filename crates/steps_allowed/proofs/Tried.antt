@@ -1,7 +1,8 @@
 -- The definitions, tried on small programs.
-use Rattle.std.proofs.Common.{◌≡◌, ◌∙◌, [], ◌∷◌, pos, Bool, true, false, true≢false, codes, inl, inr, refl, sym}
+use Rattle.std.proofs.Common.{◌≡◌, ◌∙◌, ℕ, Some, None, [], ◌∷◌, pos, Bool, true, false, true≢false, codes, inl, inr, refl, sym}
 use Rattle.js_syntax.specs.declared.node_kind.NodeKind.{NodeKind as Kind}
 use Rattle.js_syntax.specs.declared.kind.VariableKind.TheVariants as variable
+use Rattle.js_syntax.specs.declared.operator.BinaryOperator.TheVariants as binary
 use Rattle.js_syntax.specs.declared.operator.LogicalOperator.TheVariants as operator
 use Rattle.js_syntax.specs.declared.operator.UnaryOperator.TheVariants as unary
 use Rattle.js_syntax.specs.declared.value.Key.TheVariants as key
@@ -22,8 +23,9 @@ use Rattle.steps_allowed.specs.UnusedDeclaration.{a_declaration, SilentDeclarati
 use Rattle.steps_allowed.specs.KnownConditional.{KnownConditional, consequent_is_taken, alternate_is_taken}
 use Rattle.steps_allowed.specs.KnownSide.{right_side_counts, left_side_decides}
 use Rattle.steps_allowed.specs.KnownIf.{an_if, KnownIf, consequent_is_run, alternate_is_run}
-use Rattle.steps_allowed.specs.Edits.{Edit, leaves, becomes, empty_statement, silent_statement, unused_function, unused_declaration, known_conditional, known_side, known_if}
-use Rattle.steps_allowed.specs.Rows.{in_list, before, call_of_a, null, if_one, if_null, conditional, logical, may_be_named, o_f, parenthesized, in_statement, called, called_in_parentheses, called_in_with, argument, operand, assigned, ComesOut, Stays, with_a, in_with_a, empty, a_is_read, a_is_exported}
+use Rattle.steps_allowed.specs.UnusedOperation.{needed_at, one_operand_acts}
+use Rattle.steps_allowed.specs.Edits.{Edit, leaves, becomes, empty_statement, silent_statement, unused_function, unused_declaration, known_conditional, known_side, known_if, unused_operation}
+use Rattle.steps_allowed.specs.Rows.{in_list, before, call_of_a, null, if_one, if_null, conditional, logical, may_be_named, o_f, parenthesized, in_statement, called, called_in_parentheses, called_in_with, argument, operand, applied, equals, assigned, statement, ComesOut, Stays, StaysUnused, with_a, in_with_a, empty, a_is_read, a_is_exported}
 
 pub empties_in_list : Edit (a_module (does one ∷ [])) (a_module (empty ∷ []))
 empties_in_list = becomes (before []) _ _ (silent_statement (silent_statement_empties nowhere nowhere nowhere _ nothing (inl refl, tt)))
@@ -171,3 +173,53 @@ alternate_stays y (alternate_is_run v n m i j k l b c truth branch none) = true�
 pub consequent_stays : (y : Tree) → KnownIf (an_if nowhere nowhere value.Null (joined (block (function_a [] [] ∷ [])) empty)) y → ⊥
 consequent_stays y (consequent_is_run v n m i k b alternate truth branch field none) = true≢false (sym truth)
 consequent_stays y (alternate_is_run v n m i j k l b c truth branch none) = true≢false (sym none)
+
+-- ---- operations of which nobody takes the value
+
+becomes_first : (k : Kind) (l : Kind) (m : Note) (b rest : Forest) → needed_at k (node l m b rest) ≡ Some 0 → Edit (a_module (does (node k nowhere (node l m b rest) nothing) ∷ [])) (a_module (does (node l m b nothing) ∷ []))
+becomes_first k l m b rest h = becomes there _ _ (unused_operation (one_operand_acts 0 _ _ refl h refl))
+
+pub negation_goes : Edit (a_module (does (applied unary.LogicalNot call_of_a) ∷ [])) (a_module (does call_of_a ∷ []))
+negation_goes = becomes_first (Kind.UnaryExpression unary.LogicalNot) _ _ _ _ refl
+
+pub typeof_goes : Edit (a_module (does (applied unary.Typeof call_of_a) ∷ [])) (a_module (does call_of_a ∷ []))
+typeof_goes = becomes_first (Kind.UnaryExpression unary.Typeof) _ _ _ _ refl
+
+pub first_side_stays : Edit (a_module (does (equals call_of_a one) ∷ [])) (a_module (does call_of_a ∷ []))
+first_side_stays = becomes_first (Kind.BinaryExpression binary.StrictEquality) _ _ _ _ refl
+
+pub second_side_stays : Edit (a_module (does (equals null o_f) ∷ [])) (a_module (does o_f ∷ []))
+second_side_stays = becomes there _ _ (unused_operation (one_operand_acts 1 _ _ refl refl refl))
+
+pub left_side_stays : Edit (a_module (does (logical operator.Coalesce (reads a) one) ∷ [])) (a_module (does (reads a) ∷ []))
+left_side_stays = becomes_first (Kind.LogicalExpression operator.Coalesce) _ _ _ _ refl
+
+pub condition_stays : Edit (a_module (does (conditional call_of_a one null) ∷ [])) (a_module (does call_of_a ∷ []))
+condition_stays = becomes_first Kind.ConditionalExpression _ _ _ _ refl
+
+abbrev parenthesis : Around
+parenthesis = in_statement (under Kind.ParenthesizedExpression nowhere (first nothing) nothing)
+
+pub operand_in_parentheses : Edit (a_module (does (parenthesized (equals call_of_a one)) ∷ [])) (a_module (does (parenthesized call_of_a) ∷ []))
+operand_in_parentheses = becomes parenthesis _ _ (unused_operation (one_operand_acts 0 _ _ refl refl refl))
+
+no_index : {i : ℕ} → None ≡ Some i → ⊥
+no_index e = cc
+
+pub both_sides_stay : StaysUnused statement (equals call_of_a (reads a))
+both_sides_stay y (one_operand_acts i _ _ unused at child) = no_index at
+
+pub right_side_stays : StaysUnused statement (logical operator.And (reads a) call_of_a)
+right_side_stays y (one_operand_acts i _ _ unused at child) = no_index at
+
+pub idle_sides_stay : StaysUnused statement (equals one null)
+idle_sides_stay y (one_operand_acts i _ _ unused at child) = no_index at
+
+pub used_negation_stays : StaysUnused argument (applied unary.LogicalNot call_of_a)
+used_negation_stays y (one_operand_acts i _ _ unused at child) = true≢false (sym unused)
+
+pub typeof_name_stays : StaysUnused statement (applied unary.Typeof (reads a))
+typeof_name_stays y (one_operand_acts i _ _ unused at child) = no_index at
+
+pub conversion_stays : StaysUnused statement (applied unary.UnaryPlus call_of_a)
+conversion_stays y (one_operand_acts i _ _ unused at child) = no_index at

@@ -5,6 +5,8 @@ pub mod Places
 pub mod Free
 pub mod Branches
 pub mod Wanted
+pub mod Child
+pub mod Unused
 pub mod EmptyStatement
 pub mod UnusedFunction
 pub mod UnusedDeclarator
@@ -12,6 +14,7 @@ pub mod UnusedDeclaration
 pub mod SilentStatement
 pub mod KnownConditional
 pub mod KnownSide
+pub mod UnusedOperation
 pub mod KnownIf
 pub mod Edits
 pub mod Arranged

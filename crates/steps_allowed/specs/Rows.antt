@@ -4,6 +4,7 @@ use Rattle.js_syntax.specs.declared.node_kind.NodeKind.{NodeKind as Kind}
 use Rattle.js_syntax.specs.declared.scalar.SourceType.TheVariants as source_type
 use Rattle.js_syntax.specs.declared.kind.VariableKind.TheVariants as variable
 use Rattle.js_syntax.specs.declared.operator.AssignmentOperator.TheVariants as assignment
+use Rattle.js_syntax.specs.declared.operator.BinaryOperator.TheVariants as binary
 use Rattle.js_syntax.specs.declared.operator.LogicalOperator.{LogicalOperator}
 use Rattle.js_syntax.specs.declared.operator.UnaryOperator.{UnaryOperator}
 use Rattle.js_syntax.specs.declared.value.Key.TheVariants as key
@@ -13,6 +14,7 @@ use Rattle.form_rules.specs.Samples.{over, leaf, row, listed, no, a_module, a, b
 use Rattle.scope_laws.specs.Place.{Around, first, behind, under, plug}
 use Rattle.steps_allowed.specs.Places.{a_node}
 use Rattle.steps_allowed.specs.KnownConditional.{a_conditional, KnownConditional}
+use Rattle.steps_allowed.specs.UnusedOperation.{UnusedOperation}
 use Rattle.steps_allowed.specs.Edits.{Edit}
 
 -- a place in a module's list: in front of these statements, and behind these
@@ -53,6 +55,14 @@ conditional test consequent alternate = over Kind.ConditionalExpression (joined 
 -- left && right, and the others
 abbrev pub logical : LogicalOperator → (left right : Forest) → Forest
 logical o left right = over (Kind.LogicalExpression o) (joined left right)
+
+-- !e, and the others
+abbrev pub applied : UnaryOperator → (operand : Forest) → Forest
+applied o e = over (Kind.UnaryExpression o) e
+
+-- left === right
+abbrev pub equals : (left right : Forest) → Forest
+equals left right = over (Kind.BinaryExpression binary.StrictEquality) (joined left right)
 
 -- functions and classes, which may take a name from where they stand (8.4)
 abbrev pub may_be_named : Kind → Bool
@@ -98,6 +108,15 @@ ComesOut place e = ⊥
 abbrev pub Stays : Around → Forest → Type 0
 Stays place (node k n below rest) = (y : Tree) → KnownConditional place (a_conditional nowhere nowhere (value.Number (pos 1)) (node k n below null)) y → ⊥
 Stays place e = ⊥
+
+-- the place of e in e;
+abbrev pub statement : Around
+statement = in_statement (first nothing)
+
+-- nothing becomes of an expression there since nobody takes its value
+abbrev pub StaysUnused : Around → Forest → Type 0
+StaysUnused place (node k n below rest) = (y : Tree) → UnusedOperation place (record { kind = k; note = n; below = below }) y → ⊥
+StaysUnused place e = ⊥
 
 -- export d
 abbrev pub exports_declaration : Forest → Forest

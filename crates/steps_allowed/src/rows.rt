@@ -5,7 +5,7 @@ ghost use Rattle.js_syntax.specs.declared.node_kind.NodeKind.{NodeKind as Kind};
 ghost use Rattle.js_syntax.specs.declared.operator.LogicalOperator.TheVariants as operator;
 ghost use Rattle.js_syntax.specs.declared.operator.UnaryOperator.TheVariants as unary;
 ghost use Rattle.js_syntax.specs.declared.value.LiteralValue.TheVariants as value;
-ghost use Rattle.js_syntax.specs.Node.{Tree, nothing, nowhere, joined};
+ghost use Rattle.js_syntax.specs.Node.{Tree, nowhere, joined};
 ghost use Rattle.form_rules.specs.Samples.{a_module, a, binds, reads, one, does, declares, let_, function_a, block};
 ghost use Rattle.scope_rules.specs.Context.{body_of};
 ghost use Rattle.scope_rules.specs.Binding.{named_in};
@@ -17,7 +17,7 @@ ghost use Rattle.steps_allowed.specs.UnusedDeclaration.{a_declaration, SilentDec
 ghost use Rattle.steps_allowed.specs.KnownConditional.{KnownConditional};
 ghost use Rattle.steps_allowed.specs.KnownIf.{an_if, KnownIf};
 ghost use Rattle.steps_allowed.specs.Edits.{Edit};
-ghost use Rattle.steps_allowed.specs.Rows.{before, call_of_a, null, if_one, if_null, conditional, logical, may_be_named, o_f, parenthesized, called, called_in_parentheses, called_in_with, argument, operand, assigned, ComesOut, Stays, with_a, in_with_a, empty, a_is_read, a_is_exported};
+ghost use Rattle.steps_allowed.specs.Rows.{before, call_of_a, null, if_one, if_null, conditional, logical, may_be_named, o_f, parenthesized, called, called_in_parentheses, called_in_with, argument, operand, applied, equals, assigned, statement, ComesOut, Stays, StaysUnused, with_a, in_with_a, empty, a_is_read, a_is_exported};
 
 /// A statement of a literal becomes empty, in a list and alone, and leaves the list then.
 pub fn silent_statements_go()
@@ -102,4 +102,26 @@ pub fn what_gives_its_value_comes_out()
     ensures called_name { ComesOut called (reads a) }
     ensures typed_member { ComesOut (operand unary.Typeof) o_f }
     ensures deleted_call { ComesOut (operand unary.Delete) (parenthesized call_of_a) }
+{}
+
+/// Where nobody takes its value, an operation becomes the operand that acts, if that is one alone.
+pub fn unused_operations_become_operands()
+    ensures negation { Edit (a_module (does (applied unary.LogicalNot call_of_a) ∷ [])) (a_module (does call_of_a ∷ [])) }
+    ensures type_of { Edit (a_module (does (applied unary.Typeof call_of_a) ∷ [])) (a_module (does call_of_a ∷ [])) }
+    ensures first_side { Edit (a_module (does (equals call_of_a one) ∷ [])) (a_module (does call_of_a ∷ [])) }
+    ensures second_side { Edit (a_module (does (equals null o_f) ∷ [])) (a_module (does o_f ∷ [])) }
+    ensures left_side { Edit (a_module (does (logical operator.Coalesce (reads a) one) ∷ [])) (a_module (does (reads a) ∷ [])) }
+    ensures condition { Edit (a_module (does (conditional call_of_a one null) ∷ [])) (a_module (does call_of_a ∷ [])) }
+    ensures in_parentheses { Edit (a_module (does (parenthesized (equals call_of_a one)) ∷ [])) (a_module (does (parenthesized call_of_a) ∷ [])) }
+{}
+
+/// It stays where both sides may act, as names may that nothing is known of; where none does; where its value is taken; where
+/// `typeof` takes a name, which throws nothing then; and where the operator may act itself (13.5.4, 13.8).
+pub fn what_may_act_stays()
+    ensures both { StaysUnused statement (equals call_of_a (reads a)) }
+    ensures right_side { StaysUnused statement (logical operator.And (reads a) call_of_a) }
+    ensures none { StaysUnused statement (equals one null) }
+    ensures used { StaysUnused argument (applied unary.LogicalNot call_of_a) }
+    ensures name { StaysUnused statement (applied unary.Typeof (reads a)) }
+    ensures converted { StaysUnused statement (applied unary.UnaryPlus call_of_a) }
 {}

@@ -201,6 +201,8 @@ no_export true k g = refl
 no_export false kind.IfStatement g = refl
 no_export false kind.ConditionalExpression g = refl
 no_export false (kind.LogicalExpression operator) g = refl
+no_export false (kind.UnaryExpression operator) g = refl
+no_export false (kind.BinaryExpression operator) g = refl
 no_export false k g = never g
 
 no_name : (d : Decl) (all : Bool) (ds : List Decl) → ds ≡ [] → Among d (if all then ds else []) → ⊥

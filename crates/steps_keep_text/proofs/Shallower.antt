@@ -4,9 +4,9 @@ use Rattle.serde_json.specs.Data.{Data, depth}
 use Rattle.js_syntax.specs.Class.{root}
 use Rattle.js_syntax.specs.Hint.{has, is_private}
 use Rattle.js_syntax.specs.declared.node_kind.NodeKind.{NodeKind as Kind}
-use Rattle.js_syntax.specs.declared.node_kind.NodeKind.TheVariants.{IfStatement as if_statement, ConditionalExpression as conditional_expression, LogicalExpression as logical_expression, Hole as hole, Statements as statements, Cases as cases, Declarators as declarators, Parameters as parameters, Members as members, Elements as elements, Properties as properties, Expressions as expressions, Arguments as arguments, Quasis as quasis, Specifiers as specifiers}
+use Rattle.js_syntax.specs.declared.node_kind.NodeKind.TheVariants.{IfStatement as if_statement, ConditionalExpression as conditional_expression, UnaryExpression as unary_expression, BinaryExpression as binary_expression, LogicalExpression as logical_expression, Hole as hole, Statements as statements, Cases as cases, Declarators as declarators, Parameters as parameters, Members as members, Elements as elements, Properties as properties, Expressions as expressions, Arguments as arguments, Quasis as quasis, Specifiers as specifiers}
 use Rattle.js_syntax.specs.Node.{Forest, Note, nothing, node, absent, joined}
-use Rattle.js_syntax.specs.Table.{Row, an_if_statement, a_conditional_expression, a_logical_expression, fields_of}
+use Rattle.js_syntax.specs.Table.{Row, an_if_statement, a_conditional_expression, a_unary_expression, a_binary_expression, an_in_expression, a_logical_expression, fields_of}
 use Rattle.js_meaning_near.specs.Near.{is_calm}
 use Rattle.json_text.specs.Text.{node_data, row_datas, data_of}
 use Rattle.json_shape.specs.Shape.{Values, kind_in, Place, one, places, Plan, these, first_place, behind, Stand}
@@ -29,12 +29,17 @@ use Rattle.steps_keep_text.proofs.Along.{IsShed}
 abbrev parts_of : Kind → ℕ
 parts_of if_statement = 3
 parts_of conditional_expression = 3
+parts_of (unary_expression operator) = 1
+parts_of (binary_expression operator) = 2
 parts_of (logical_expression operator) = 2
 parts_of k = 0
 
 row_parts : (private : Bool) (r : Row) (vs : Values (fields_of r)) → gives_way (kind_in r vs) ≡ true → length (places private (fields_of r) vs) ≤ parts_of (kind_in r vs)
 row_parts private an_if_statement vs gives = Prim.omega arith
 row_parts private a_conditional_expression vs gives = Prim.omega arith
+row_parts private a_unary_expression vs gives = Prim.omega arith
+row_parts private a_binary_expression vs gives = Prim.omega arith
+row_parts private an_in_expression vs gives = Prim.omega arith
 row_parts private a_logical_expression vs gives = Prim.omega arith
 row_parts private r vs gives = absurd (true≢false (sym gives))
 
@@ -58,6 +63,13 @@ three_nest conditional_expression below (d ∷ []) gives few = Prim.omega arith
 three_nest conditional_expression below (d ∷ e ∷ []) gives few = Prim.omega arith
 three_nest conditional_expression below (d ∷ e ∷ f ∷ []) gives few = Prim.omega arith
 three_nest conditional_expression below (d ∷ e ∷ f ∷ g ∷ ds) gives few = absurd (Prim.omega (arith, few))
+three_nest (unary_expression operator) below [] gives few = Prim.omega arith
+three_nest (unary_expression operator) below (d ∷ []) gives few = Prim.omega arith
+three_nest (unary_expression operator) below (d ∷ e ∷ ds) gives few = absurd (Prim.omega (arith, few))
+three_nest (binary_expression operator) below [] gives few = Prim.omega arith
+three_nest (binary_expression operator) below (d ∷ []) gives few = Prim.omega arith
+three_nest (binary_expression operator) below (d ∷ e ∷ []) gives few = Prim.omega arith
+three_nest (binary_expression operator) below (d ∷ e ∷ f ∷ ds) gives few = absurd (Prim.omega (arith, few))
 three_nest (logical_expression operator) below [] gives few = Prim.omega arith
 three_nest (logical_expression operator) below (d ∷ []) gives few = Prim.omega arith
 three_nest (logical_expression operator) below (d ∷ e ∷ []) gives few = Prim.omega arith
@@ -67,6 +79,8 @@ three_nest k below ds gives few = absurd (true≢false (sym gives))
 giving_is_calm : (k : Kind) → gives_way k ≡ true → is_calm k ≡ true
 giving_is_calm if_statement gives = refl
 giving_is_calm conditional_expression gives = refl
+giving_is_calm (unary_expression operator) gives = refl
+giving_is_calm (binary_expression operator) gives = refl
 giving_is_calm (logical_expression operator) gives = refl
 giving_is_calm k gives = absurd (true≢false (sym gives))
 

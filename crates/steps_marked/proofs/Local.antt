@@ -22,6 +22,7 @@ use Rattle.steps_owed.proofs.KnownConditional.{known_conditional_owes}
 use Rattle.steps_owed.proofs.Bare.{eval_alone}
 use Rattle.steps_owed.proofs.KnownSide.{known_side_owes}
 use Rattle.steps_owed.proofs.KnownIf.{known_if_owes}
+use Rattle.steps_owed.proofs.UnusedOperation.{unused_operation_owes}
 use Rattle.steps_owed.proofs.Owed.{leaving}
 use Rattle.steps_owed.proofs.Places.{place_of, rest_of, placed_is, without_is, listed_is}
 use Rattle.steps_owed.proofs.TableKept as tables
@@ -87,3 +88,4 @@ is_local t u (edits.becomes a x y (edits.silent_statement (silent_statement_empt
 is_local t u (edits.becomes a x y (edits.known_conditional c)) fits = by_part a x y (known_conditional_owes a x y c) fits
 is_local t u (edits.becomes a x y (edits.known_side c)) fits = by_part a x y (known_side_owes a x y c) fits
 is_local t u (edits.becomes a x y (edits.known_if c)) fits = by_part a x y (known_if_owes a x y c) fits
+is_local t u (edits.becomes a x y (edits.unused_operation c)) fits = by_part a x y (unused_operation_owes a x y c) fits

@@ -90,6 +90,8 @@ plain_inside : (k : Kind) → gives_way k ≡ true → (p : Stand) (n : Note) (b
 plain_inside kind.IfStatement g p n below at = refl
 plain_inside kind.ConditionalExpression g p n below at = refl
 plain_inside (kind.LogicalExpression operator) g p n below at = refl
+plain_inside (kind.UnaryExpression operator) g p n below at = refl
+plain_inside (kind.BinaryExpression operator) g p n below at = refl
 plain_inside k g p n below at = never g
 
 -- ---- what is told stays told

@@ -133,6 +133,8 @@ module _ (q p : Context) (next other : ℕ) (some : 0 < next) (h : Ahead q p) wh
   ahead_part kind.IfStatement whole g at = record { variables = h.variables; block = h.block; declaring = h.declaring }
   ahead_part kind.ConditionalExpression whole g at = record { variables = h.variables; block = h.block; declaring = h.declaring }
   ahead_part (kind.LogicalExpression operator) whole g at = record { variables = h.variables; block = h.block; declaring = h.declaring }
+  ahead_part (kind.UnaryExpression operator) whole g at = record { variables = h.variables; block = h.block; declaring = h.declaring }
+  ahead_part (kind.BinaryExpression operator) whole g at = record { variables = h.variables; block = h.block; declaring = h.declaring }
   ahead_part k whole g at = never g
 
 abbrev Covers : (listed : Bool) → (qs ps : ℕ → Context) → Type 0
@@ -240,6 +242,8 @@ module _ (e : BindingSite) (top : e.layer.scope ≡ 0) where
   no_export false kind.IfStatement g = refl
   no_export false kind.ConditionalExpression g = refl
   no_export false (kind.LogicalExpression operator) g = refl
+  no_export false (kind.UnaryExpression operator) g = refl
+  no_export false (kind.BinaryExpression operator) g = refl
   no_export false k g = never g
 
   abbrev rest_only : (xs ys zs : List Site) → Among e (bindings_among xs) → Among e (bindings_among (xs ++ ys ++ zs))

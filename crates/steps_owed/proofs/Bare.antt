@@ -11,6 +11,7 @@ use Rattle.js_syntax.specs.Table.{Row, a_function_expression, an_arrow_function,
 use Rattle.js_tree.specs.Names.{eval_name}
 use Rattle.js_meaning.specs.Node.{Wanted, itself, to_call, for_typeof}
 use Rattle.js_meaning_near.specs.Near.{is_blunt}
+use Rattle.js_meaning_near.specs.Purpose.{asked}
 use Rattle.js_meaning_near.specs.Bare as runs
 use Rattle.form_rules.specs.Rules.{is_bare_name}
 use Rattle.json_shape.specs.Shape.{Values, kind_in, first_of, IsChosen, one, places, these, Stand}
@@ -165,6 +166,6 @@ module _ (u : Use) (in_with : Bool) where
       by_kind u in_with k b refl (ap (λ l. gives_more l || is_blunt l) of.4 ∙ core_row of.0 of.1 of.2 (ap is_core (sym of.4) ∙ core_here k n b nothing core)) h
 
 -- at a place where a run wants what the expression is used for
-pub bare_at : (a : Around) (k : Kind) (n : Note) (b : Forest) → IsExpression k b → all_core (alone k n b) ≡ true → wanted_at a ≡ wanted_for (use_at a) → MayStandBare a k b → runs.stands_bare (wanted_at a) k b ≡ true
+pub bare_at : (a : Around) (k : Kind) (n : Note) (b : Forest) → IsExpression k b → all_core (alone k n b) ≡ true → asked (wanted_at a) ≡ wanted_for (use_at a) → MayStandBare a k b → runs.stands_bare (asked (wanted_at a)) k b ≡ true
 bare_at a k n b of core wanted bare =
     subst (λ w. runs.stands_bare w k b ≡ true) (sym wanted) (bare_for_runs (use_at a) (asked_at (asked_of_program true) a).in_with k n b of core bare)

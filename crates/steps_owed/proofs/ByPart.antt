@@ -1,9 +1,10 @@
 -- What a node owes that becomes a part of it, it owes as one that becomes another.
 use Rattle.std.proofs.Common.{◌≡◌, ◌∙◌, ◌≤◌, ◌<◌, ◌+◌, ℕ, Some, arith, ap}
 use Rattle.js_syntax.specs.declared.node_kind.NodeKind.{NodeKind as Kind}
+use Rattle.js_syntax.specs.Facts.{weight}
 use Rattle.js_syntax.specs.Node.{Forest, Tree, Note, nothing, node, absent, joined, total}
 use Rattle.scope_laws.specs.Place.{Around, plug}
-use Rattle.steps_owed.specs.Owed.{weight, ByPart, Becoming, by_coming}
+use Rattle.steps_owed.specs.Owed.{ByPart, Becoming, by_coming}
 use Rattle.steps_owed.proofs.FitsBecoming.{becoming_fits}
 use Rattle.steps_fit.proofs.Modules.{fits_program}
 use Rattle.steps_owed.proofs.PartForm.{part_sheds}

@@ -1,18 +1,26 @@
--- What lies below a conditional, a logical expression and a call of a tree that fits the table of node types.
-use Rattle.std.proofs.Common.{◌≡◌, [], ◌∷◌, Bool, true, false, Some, refl, ap, true≢false}
+-- What lies below a conditional, operators and a call of a tree that fits the table of node types.
+use Rattle.std.proofs.Common.{◌≡◌, [], ◌∷◌, Bool, true, false, Some, refl, sym, ap, ◌∙◌, true≢false}
 use Rattle.js_syntax.specs.Class.{root, expression, callee, argument}
 use Rattle.js_syntax.specs.declared.node_kind.NodeKind.{NodeKind as Kind}
+use Rattle.js_syntax.specs.declared.operator.UnaryOperator.{UnaryOperator}
+use Rattle.js_syntax.specs.declared.operator.BinaryOperator.{BinaryOperator}
 use Rattle.js_syntax.specs.declared.operator.LogicalOperator.{LogicalOperator}
 use Rattle.js_syntax.specs.Hint.{has, is_private}
 use Rattle.js_syntax.specs.Node.{Forest, Note}
-use Rattle.js_syntax.specs.Table.{Row, a_logical_expression, a_call_expression, fields_of}
+use Rattle.js_syntax.specs.Table.{Row, a_unary_expression, a_logical_expression, a_call_expression, fields_of}
+use Rattle.js_meaning_near.specs.Unused.{compares}
 use Rattle.json_shape.specs.Shape.{Values, kind_in, one, list, places, these, Stand, Fits}
 use Rattle.scope_laws.specs.Place.{Around, plug}
+use Rattle.steps_owed.proofs.FitsTaking.{is_comparison, comparison_parts}
 use Rattle.steps_owed.proofs.Made.{MadeBy, made_there, conditional_stands}
 
 abbrev is_logical : Kind → Bool
 is_logical (Kind.LogicalExpression o) = true
 is_logical k = false
+
+abbrev is_unary : Kind → Bool
+is_unary (Kind.UnaryExpression o) = true
+is_unary k = false
 
 abbrev is_call : Kind → Bool
 is_call (Kind.CallExpression optional pure) = true
@@ -22,6 +30,11 @@ row_of_logical : (o : LogicalOperator) (r : Row) (vs : Values (fields_of r)) (pr
     → Kind.LogicalExpression o ≡ kind_in r vs → Stand (these (places private (fields_of r) vs)) a → Stand (these (one expression ∷ one expression ∷ [])) a
 row_of_logical o a_logical_expression vs private a is st = st
 row_of_logical o r vs private a is st = absurd (true≢false (ap is_logical is))
+
+row_of_unary : (o : UnaryOperator) (r : Row) (vs : Values (fields_of r)) (private : Bool) (a : Forest)
+    → Kind.UnaryExpression o ≡ kind_in r vs → Stand (these (places private (fields_of r) vs)) a → Stand (these (one expression ∷ [])) a
+row_of_unary o a_unary_expression vs private a is st = st
+row_of_unary o r vs private a is st = absurd (true≢false (ap is_unary is))
 
 -- a callee, and the list of arguments
 row_of_call : (optional pure : Bool) (r : Row) (vs : Values (fields_of r)) (private : Bool) (a : Forest)
@@ -35,6 +48,9 @@ call_stands optional pure a made = row_of_call optional pure made.row made.value
 abbrev pub Three : Forest → Type 0
 Three t = Stand (these (one expression ∷ one expression ∷ one expression ∷ [])) t
 
+abbrev pub One : Forest → Type 0
+One t = Stand (these (one expression ∷ [])) t
+
 abbrev pub Two : Forest → Type 0
 Two t = Stand (these (one expression ∷ one expression ∷ [])) t
 
@@ -46,3 +62,13 @@ pub sides_of_logical : (a : Around) (o : LogicalOperator) (n : Note) (below : Fo
 sides_of_logical a o n below fits =
     let made = made_there a (record { kind = Kind.LogicalExpression o; note = n; below = below }) (these (one root ∷ [])) refl refl fits in
     row_of_logical o made.row made.values (has is_private below) below made.is made.stands
+
+pub operand_of_unary : (a : Around) (o : UnaryOperator) (n : Note) (below : Forest) → Fits root (plug a (Some (record { kind = Kind.UnaryExpression o; note = n; below = below }))) → One below
+operand_of_unary a o n below fits =
+    let made = made_there a (record { kind = Kind.UnaryExpression o; note = n; below = below }) (these (one root ∷ [])) refl refl fits in
+    row_of_unary o made.row made.values (has is_private below) below made.is made.stands
+
+pub sides_of_comparison : (a : Around) (o : BinaryOperator) → compares o ≡ true → (n : Note) (below : Forest) → Fits root (plug a (Some (record { kind = Kind.BinaryExpression o; note = n; below = below }))) → Two below
+sides_of_comparison a o h n below fits =
+    let made = made_there a (record { kind = Kind.BinaryExpression o; note = n; below = below }) (these (one root ∷ [])) refl refl fits in
+    comparison_parts (has is_private below) made.row made.values below made.chosen (ap is_comparison (sym made.is) ∙ h) made.stands

@@ -1,6 +1,7 @@
 -- What holds behind an edit, by its shape.
 use Rattle.std.proofs.Common.{◌≡◌, ◌∙◌, ◌≤◌, ◌<◌, true, false, true≢false, Some, inl, inr, arith, sym, ap}
 use Rattle.js_syntax.specs.Class.{root}
+use Rattle.js_syntax.specs.Facts.{weight}
 use Rattle.js_syntax.specs.Node.{Forest, Tree, bare, total, forest_of}
 use Rattle.json_shape.specs.Shape.{Fits}
 use Rattle.scope_rules.specs.Table.{Scoping}
@@ -17,7 +18,6 @@ use Rattle.steps_fit.proofs.Sensible.{sensible, renoted}
 use Rattle.steps_fit.proofs.Enclosing.{fits_enclosed}
 use Rattle.steps_fit.proofs.Modules.{fits_program}
 use Rattle.steps_owed.specs.Kept.{IsKept}
-use Rattle.steps_owed.specs.Owed.{weight}
 use Rattle.steps_owed.proofs.Calling.{takes, leave_root, replaced_root, bare_root}
 use Rattle.steps_owed.proofs.Changing.{owed_may_change, bare_changes}
 use Rattle.steps_owed.proofs.FitsEdits.{edit_fits}
@@ -50,7 +50,7 @@ tree_edits_keep t u (one_tree_edit v w x e more) fits s kept = tree_edits_keep w
 
 -- ---- how much there is
 
-left_lighter : (a : Around) (x : Tree) → 1 ≤ weight x.kind → total weight (without a) < total weight (plug a (Some x))
+left_lighter : (a : Around) (x : Tree) → 1 ≤ total weight (forest_of x) → total weight (without a) < total weight (plug a (Some x))
 left_lighter (first rest) x h = Prim.omega (arith, h)
 left_lighter (behind k n b a) x h = Prim.omega (arith, left_lighter a x h)
 left_lighter (behind_none a) x h = left_lighter a x h

@@ -22,7 +22,7 @@ told_not_directive : (k : Kind) → is_told_by_class k ≡ true → is_directive
 told_not_directive (directive written) told = absurd cc
 told_not_directive k told = refl
 
-told_no_list : (k : Kind) → is_told_by_class k ≡ true → is_list_kind k ≡ false
+pub told_no_list : (k : Kind) → is_told_by_class k ≡ true → is_list_kind k ≡ false
 told_no_list Kind.Statements told = absurd cc
 told_no_list Kind.Cases told = absurd cc
 told_no_list Kind.Declarators told = absurd cc

@@ -1,15 +1,19 @@
 -- Which nodes may take the place of others: a part of a choice or of a logical expression that of the whole, an empty statement that of one of an expression.
-use Rattle.std.proofs.Common.{◌≡◌, [], ◌∷◌, Bool, true, false, Some, refl, sym, ap, true≢false}
+use Rattle.std.proofs.Common.{◌≡◌, ◌∙◌, [], ◌∷◌, Bool, true, false, Some, refl, sym, ap, true≢false}
 use Rattle.js_syntax.specs.Class.{Class, module_item, statement, expression, arrow_body, for_init, default_export, expression_or_private, callee, argument}
 use Rattle.js_syntax.specs.declared.node_kind.NodeKind.{NodeKind as Kind}
-use Rattle.js_syntax.specs.declared.node_kind.NodeKind.TheVariants.{ConditionalExpression as conditional_expression, LogicalExpression as logical_expression, IfStatement as if_statement}
+use Rattle.js_syntax.specs.declared.node_kind.NodeKind.TheVariants.{ConditionalExpression as conditional_expression, UnaryExpression as unary_expression, BinaryExpression as binary_expression, LogicalExpression as logical_expression, IfStatement as if_statement}
+use Rattle.js_syntax.specs.declared.operator.UnaryOperator.{UnaryOperator}
+use Rattle.js_syntax.specs.declared.operator.BinaryOperator.{BinaryOperator}
+use Rattle.js_syntax.specs.declared.operator.BinaryOperator.TheVariants as binary
 use Rattle.js_syntax.specs.declared.operator.LogicalOperator.{LogicalOperator}
 use Rattle.js_syntax.specs.Hint.{has, is_private}
 use Rattle.js_syntax.specs.Node.{Forest, Note, alone}
-use Rattle.js_syntax.specs.Table.{Row as TableRow, a_conditional_expression, a_logical_expression, an_if_statement, fields_of, type_of, stands}
+use Rattle.js_syntax.specs.Table.{Row as TableRow, a_conditional_expression, a_unary_expression, a_binary_expression, an_in_expression, a_logical_expression, an_if_statement, fields_of, type_of, stands}
 use Rattle.js_syntax.specs.declared.node_type.NodeType.{NodeType}
 use Rattle.js_syntax.specs.declared.node_type.NodeType.TheVariants as type
-use Rattle.json_shape.specs.Shape.{Values, kind_in, first_of, one, maybe_one, places, these, IsOf, Stand, Fits}
+use Rattle.js_meaning_near.specs.Unused.{compares}
+use Rattle.json_shape.specs.Shape.{Values, kind_in, first_of, is_in, IsChosen, one, maybe_one, places, these, IsOf, Stand, Fits}
 
 -- ---- a class that takes conditionals takes expressions, and one that takes `if` takes statements
 
@@ -41,6 +45,27 @@ logical_takes callee h = refl
 logical_takes argument h = refl
 logical_takes c h = absurd cc
 
+-- and so do operators of one operand, and of two
+unary_takes : (c : Class) → stands c type.UnaryExpression ≡ Some a_unary_expression → stands c type.ConditionalExpression ≡ Some a_conditional_expression
+unary_takes expression h = refl
+unary_takes arrow_body h = refl
+unary_takes for_init h = refl
+unary_takes default_export h = refl
+unary_takes expression_or_private h = refl
+unary_takes callee h = refl
+unary_takes argument h = refl
+unary_takes c h = absurd cc
+
+binary_takes : (c : Class) → stands c type.BinaryExpression ≡ Some a_binary_expression → stands c type.ConditionalExpression ≡ Some a_conditional_expression
+binary_takes expression h = refl
+binary_takes arrow_body h = refl
+binary_takes for_init h = refl
+binary_takes default_export h = refl
+binary_takes expression_or_private h = refl
+binary_takes callee h = refl
+binary_takes argument h = refl
+binary_takes c h = absurd cc
+
 takes_statements : (c : Class) (t : NodeType) (r : TableRow) → stands c type.IfStatement ≡ Some an_if_statement → stands statement t ≡ Some r → stands c t ≡ Some r
 takes_statements statement t r takes stood = stood
 takes_statements module_item type.ImportDeclaration r takes stood = absurd cc
@@ -58,6 +83,12 @@ module _ (k : Kind) (below : Forest) where
   pub as_logical : (c : Class) → stands c type.LogicalExpression ≡ Some a_logical_expression → IsOf k below (λ p. Stand p below) expression → IsOf k below (λ p. Stand p below) c
   as_logical c takes of = as_conditional c (logical_takes c takes) of
 
+  pub as_unary : (c : Class) → stands c type.UnaryExpression ≡ Some a_unary_expression → IsOf k below (λ p. Stand p below) expression → IsOf k below (λ p. Stand p below) c
+  as_unary c takes of = as_conditional c (unary_takes c takes) of
+
+  pub as_binary : (c : Class) → stands c type.BinaryExpression ≡ Some a_binary_expression → IsOf k below (λ p. Stand p below) expression → IsOf k below (λ p. Stand p below) c
+  as_binary c takes of = as_conditional c (binary_takes c takes) of
+
   pub as_if : (c : Class) → stands c type.IfStatement ≡ Some an_if_statement → IsOf k below (λ p. Stand p below) statement → IsOf k below (λ p. Stand p below) c
   as_if c takes of = (of.0, of.1, takes_statements c (type_of of.0) (first_of of.0) takes of.2, of.3, of.4, of.5)
 
@@ -70,6 +101,14 @@ is_conditional k = false
 abbrev is_logical : Kind → Bool
 is_logical (logical_expression operator) = true
 is_logical k = false
+
+abbrev is_unary : Kind → Bool
+is_unary (unary_expression operator) = true
+is_unary k = false
+
+abbrev pub is_comparison : Kind → Bool
+is_comparison (binary_expression operator) = compares operator
+is_comparison k = false
 
 abbrev is_if : Kind → Bool
 is_if if_statement = true
@@ -95,6 +134,33 @@ logical_parts : (private : Bool) (r : TableRow) (vs : Values (fields_of r)) (par
 logical_parts private a_logical_expression vs parts is stand = stand
 logical_parts private r vs parts is stand = absurd (true≢false (sym is))
 
+unary_class : (c : Class) (r : TableRow) (vs : Values (fields_of r)) → is_unary (kind_in r vs) ≡ true → stands c (type_of r) ≡ Some (first_of r)
+    → stands c type.UnaryExpression ≡ Some a_unary_expression
+unary_class c a_unary_expression vs is stood = stood
+unary_class c r vs is stood = absurd (true≢false (sym is))
+
+unary_parts : (private : Bool) (r : TableRow) (vs : Values (fields_of r)) (parts : Forest) → is_unary (kind_in r vs) ≡ true → Stand (these (places private (fields_of r) vs)) parts
+    → Stand (these (one expression ∷ [])) parts
+unary_parts private a_unary_expression vs parts is stand = stand
+unary_parts private r vs parts is stand = absurd (true≢false (sym is))
+
+comparison_class : (c : Class) (r : TableRow) (vs : Values (fields_of r)) → is_comparison (kind_in r vs) ≡ true → stands c (type_of r) ≡ Some (first_of r)
+    → stands c type.BinaryExpression ≡ Some a_binary_expression
+comparison_class c a_binary_expression vs is stood = stood
+comparison_class c an_in_expression vs is stood = stood
+comparison_class c r vs is stood = absurd (true≢false (sym is))
+
+-- `in` compares nothing
+in_compares_not : (o : BinaryOperator) → is_in o ≡ true → compares o ≡ true → ⊥
+in_compares_not binary.In h e = true≢false (sym e)
+in_compares_not o h e = absurd cc
+
+pub comparison_parts : (private : Bool) (r : TableRow) (vs : Values (fields_of r)) (parts : Forest) → IsChosen r vs → is_comparison (kind_in r vs) ≡ true → Stand (these (places private (fields_of r) vs)) parts
+    → Stand (these (one expression ∷ one expression ∷ [])) parts
+comparison_parts private a_binary_expression vs parts chosen is stand = stand
+comparison_parts private an_in_expression vs parts chosen is stand = absurd (in_compares_not vs.0 chosen is)
+comparison_parts private r vs parts chosen is stand = absurd (true≢false (sym is))
+
 if_class : (c : Class) (r : TableRow) (vs : Values (fields_of r)) → is_if (kind_in r vs) ≡ true → stands c (type_of r) ≡ Some (first_of r)
     → stands c type.IfStatement ≡ Some an_if_statement
 if_class c an_if_statement vs is stood = stood
@@ -118,6 +184,18 @@ module _ (c : Class) (n : Note) (below : Forest) where
 
   pub logical_below : (o : LogicalOperator) → Fits c (alone (logical_expression o) n below) → Stand (these (one expression ∷ one expression ∷ [])) below
   logical_below o fits = logical_parts (has is_private below) fits.0.0 fits.0.1 below (ap is_logical (sym fits.0.4)) fits.0.5
+
+  pub unary_stood : (o : UnaryOperator) → Fits c (alone (unary_expression o) n below) → stands c type.UnaryExpression ≡ Some a_unary_expression
+  unary_stood o fits = unary_class c fits.0.0 fits.0.1 (ap is_unary (sym fits.0.4)) fits.0.2
+
+  pub unary_below : (o : UnaryOperator) → Fits c (alone (unary_expression o) n below) → Stand (these (one expression ∷ [])) below
+  unary_below o fits = unary_parts (has is_private below) fits.0.0 fits.0.1 below (ap is_unary (sym fits.0.4)) fits.0.5
+
+  pub comparison_stood : (o : BinaryOperator) → compares o ≡ true → Fits c (alone (binary_expression o) n below) → stands c type.BinaryExpression ≡ Some a_binary_expression
+  comparison_stood o h fits = comparison_class c fits.0.0 fits.0.1 (ap is_comparison (sym fits.0.4) ∙ h) fits.0.2
+
+  pub comparison_below : (o : BinaryOperator) → compares o ≡ true → Fits c (alone (binary_expression o) n below) → Stand (these (one expression ∷ one expression ∷ [])) below
+  comparison_below o h fits = comparison_parts (has is_private below) fits.0.0 fits.0.1 below fits.0.3 (ap is_comparison (sym fits.0.4) ∙ h) fits.0.5
 
   pub if_stood : Fits c (alone if_statement n below) → stands c type.IfStatement ≡ Some an_if_statement
   if_stood fits = if_class c fits.0.0 fits.0.1 (ap is_if (sym fits.0.4)) fits.0.2

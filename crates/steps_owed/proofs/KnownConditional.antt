@@ -4,9 +4,11 @@ use Rattle.js_syntax.specs.Class.{Class, root, expression}
 use Rattle.js_syntax.specs.declared.node_kind.NodeKind.{NodeKind as Kind}
 use Rattle.js_syntax.specs.declared.node_kind.NodeKind.TheVariants.{Literal as literal}
 use Rattle.js_syntax.specs.declared.value.LiteralValue.{LiteralValue}
+use Rattle.js_syntax.specs.Facts.{weight}
 use Rattle.js_syntax.specs.Node.{Note, Forest, Tree, nothing, node, forest_of, total}
 use Rattle.js_meaning_near.specs.Near.{module_of}
 use Rattle.js_meaning_near.proofs.Branches.{condition_holds, condition_fails}
+use Rattle.js_meaning_near.specs.Local.{for_part}
 use Rattle.json_shape.specs.Shape.{one, these, Fits}
 use Rattle.form_rules.specs.Form.{IsWellFormed}
 use Rattle.scope_counts.proofs.Leaving.{conditional_is_plain}
@@ -20,7 +22,7 @@ use Rattle.steps_allowed.specs.KnownConditional.{a_conditional, KnownConditional
 use Rattle.steps_fit.proofs.CoreCalm.{nameless_as_planned}
 use Rattle.steps_fit.proofs.Held.{core_below}
 use Rattle.steps_owed.specs.Comes.{Comes}
-use Rattle.steps_owed.specs.Owed.{weight, ComesOut, ByPart}
+use Rattle.steps_owed.specs.Owed.{ComesOut, ByPart}
 use Rattle.steps_owed.specs.Part.{IsPart}
 use Rattle.steps_owed.specs.TakesPlace.{TakesPlace}
 use Rattle.steps_owed.proofs.Bare.{bare_comes_out, bare_at}
@@ -109,7 +111,7 @@ conditional_comes a x y (consequent_is_taken v n m i j k l b c truth bare) fits 
     let is_core = consequent_core Kind.ConditionalExpression k n m i (Kind.Literal v) b (node l j c nothing) in
     let wanted = wanted_as_used a x (λ e. cc) core fits in
     record {
-      comes = λ st. condition_holds (wanted_at a) st v m i j k l b c truth (bare_at a k i b three.1.0 (is_core (core_there a x core)) wanted bare);
+      stands = for_part (λ st. condition_holds (wanted_at a) st v m i j k l b c truth (bare_at a k i b three.1.0 (is_core (core_there a x core)) wanted bare));
       old_calm = refl;
       plainly = both_plainly Kind.ConditionalExpression below k i b (node l j c nothing) refl h (nothing_behind (Kind.Literal v) m nothing branches h);
       core = is_core;
@@ -120,7 +122,7 @@ conditional_comes a x y (alternate_is_taken v n m i j k l b c truth bare) fits c
     let is_core = alternate_core Kind.ConditionalExpression k l n m i j (Kind.Literal v) b c in
     let wanted = wanted_as_used a x (λ e. cc) core fits in
     record {
-      comes = λ st. condition_fails (wanted_at a) st v m i j k l b c truth (bare_at a l j c three.1.1.0 (is_core (core_there a x core)) wanted bare);
+      stands = for_part (λ st. condition_fails (wanted_at a) st v m i j k l b c truth (bare_at a l j c three.1.1.0 (is_core (core_there a x core)) wanted bare));
       old_calm = refl;
       plainly = both_plainly Kind.ConditionalExpression below l j c nothing refl h (nothing_behind k i b (node l j c nothing) (nothing_behind (Kind.Literal v) m nothing branches h));
       core = is_core;

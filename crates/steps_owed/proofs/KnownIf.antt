@@ -4,9 +4,11 @@ use Rattle.js_syntax.specs.Class.{Class}
 use Rattle.js_syntax.specs.declared.node_kind.NodeKind.{NodeKind as Kind}
 use Rattle.js_syntax.specs.declared.node_kind.NodeKind.TheVariants.{Literal as literal, IfStatement as if_statement}
 use Rattle.js_syntax.specs.declared.value.LiteralValue.{LiteralValue}
+use Rattle.js_syntax.specs.Facts.{weight}
 use Rattle.js_syntax.specs.Node.{Note, Forest, Tree, nothing, node, forest_of, total}
 use Rattle.js_meaning.specs.Scope.{import_decls}
 use Rattle.js_meaning.specs.Value.{Text}
+use Rattle.js_meaning_near.specs.Local.{for_part}
 use Rattle.js_meaning_near.proofs.Branches.{if_holds, if_fails}
 use Rattle.form_rules.specs.Scope.{sought_below}
 use Rattle.scope_counts.proofs.Leaving.{if_is_plain}
@@ -17,7 +19,7 @@ use Rattle.js_syntax.proofs.Truth.{both}
 use Rattle.steps_fit.specs.Enclosed.{is_enclosed_at, is_enclosed}
 use Rattle.steps_fit.proofs.Enclosing.{fits_enclosed}
 use Rattle.steps_owed.specs.Comes.{Comes}
-use Rattle.steps_owed.specs.Owed.{weight, ComesOut, ByPart}
+use Rattle.steps_owed.specs.Owed.{ComesOut, ByPart}
 use Rattle.steps_owed.specs.Part.{IsPart}
 use Rattle.steps_owed.specs.TakesPlace.{TakesPlace}
 use Rattle.steps_owed.proofs.Bare.{branch_comes_out}
@@ -113,7 +115,7 @@ if_comes a _ _ (consequent_is_run v n m i k b alternate truth branch field none)
     let gone : DeclaresNothing alternate = record { bound = no_names alternate none; imports = λ source. imports_behind source k i b alternate (h source) } in
     let plain = alone_plainly k i b alternate gone in
     record {
-      comes = λ st. if_holds (wanted_at a) st v m i k b alternate truth calm field;
+      stands = for_part (λ st. if_holds (wanted_at a) st v m i k b alternate truth calm field);
       old_calm = refl;
       plainly = record { bound = plain.bound; vars = plain.vars; imports = plain.imports };
       core = consequent_core Kind.IfStatement k n m i (Kind.Literal v) b alternate;
@@ -123,7 +125,7 @@ if_comes a _ _ (alternate_is_run v n m i j k l b c truth branch none) h =
     let gone : DeclaresNothing (node k i b nothing) = record { bound = no_names (node k i b nothing) none; imports = λ source. imports_before source k i b (node l j c nothing) (h source) } in
     let plain = last_plainly k i b (node l j c nothing) l c gone (alone_plainly l j c nothing (record { bound = refl; imports = λ source. refl })) in
     record {
-      comes = λ st. if_fails (wanted_at a) st v m i j k l b c truth calm;
+      stands = for_part (λ st. if_fails (wanted_at a) st v m i j k l b c truth calm);
       old_calm = refl;
       plainly = record { bound = plain.bound; vars = plain.vars; imports = plain.imports };
       core = alternate_core Kind.IfStatement k l n m i j (Kind.Literal v) b c;

@@ -5,9 +5,11 @@ use Rattle.js_syntax.specs.declared.node_kind.NodeKind.{NodeKind as Kind}
 use Rattle.js_syntax.specs.declared.node_kind.NodeKind.TheVariants.{Literal as literal}
 use Rattle.js_syntax.specs.declared.operator.LogicalOperator.{LogicalOperator}
 use Rattle.js_syntax.specs.declared.value.LiteralValue.{LiteralValue}
+use Rattle.js_syntax.specs.Facts.{weight}
 use Rattle.js_syntax.specs.Node.{Note, Forest, Tree, nothing, node, forest_of, total}
 use Rattle.js_meaning_near.specs.Near.{module_of}
 use Rattle.js_meaning_near.proofs.Branches.{right_side_counts as right_counts, left_side_decides as left_decides}
+use Rattle.js_meaning_near.specs.Local.{for_part}
 use Rattle.json_shape.specs.Shape.{one, these, Fits}
 use Rattle.form_rules.specs.Form.{IsWellFormed}
 use Rattle.scope_counts.proofs.Leaving.{logical_is_plain}
@@ -21,7 +23,7 @@ use Rattle.steps_allowed.specs.KnownSide.{a_logical, KnownSide, right_side_count
 use Rattle.steps_fit.proofs.CoreCalm.{nameless_as_planned}
 use Rattle.steps_fit.proofs.Held.{core_below, core_alone}
 use Rattle.steps_owed.specs.Comes.{Comes}
-use Rattle.steps_owed.specs.Owed.{weight, ComesOut, ByPart}
+use Rattle.steps_owed.specs.Owed.{ComesOut, ByPart}
 use Rattle.steps_owed.specs.Part.{IsPart}
 use Rattle.steps_owed.specs.TakesPlace.{TakesPlace}
 use Rattle.steps_owed.proofs.Bare.{bare_comes_out, bare_at}
@@ -108,7 +110,7 @@ side_comes a x y (right_side_counts o v n m i k b goes bare) fits core two h =
     let is_core = consequent_core (Kind.LogicalExpression o) k n m i (Kind.Literal v) b nothing in
     let wanted = wanted_as_used a x (λ e. cc) core fits in
     record {
-      comes = λ st. right_counts (wanted_at a) st o v m i k b goes (bare_at a k i b two.1.0 (is_core (core_there a x core)) wanted bare);
+      stands = for_part (λ st. right_counts (wanted_at a) st o v m i k b goes (bare_at a k i b two.1.0 (is_core (core_there a x core)) wanted bare));
       old_calm = refl;
       plainly = both_plainly (Kind.LogicalExpression o) below k i b nothing refl h (nothing_behind (Kind.Literal v) m nothing right h);
       core = is_core;
@@ -116,7 +118,7 @@ side_comes a x y (right_side_counts o v n m i k b goes bare) fits core two h =
 side_comes a x y (left_side_decides o v n m i k b stays) fits core two h =
     let right = node k i b nothing in
     record {
-      comes = λ st. left_decides (wanted_at a) st o v m i k b nothing stays;
+      stands = for_part (λ st. left_decides (wanted_at a) st o v m i k b nothing stays);
       old_calm = refl;
       plainly = both_plainly (Kind.LogicalExpression o) (node (Kind.Literal v) m nothing right) (Kind.Literal v) m nothing right refl h h;
       core = λ c. core_alone (Kind.Literal v) m nothing right (core_below (Kind.LogicalExpression o) n (node (Kind.Literal v) m nothing right) nothing c);

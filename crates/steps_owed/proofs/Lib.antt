@@ -29,6 +29,7 @@ pub mod Changing
 pub mod Places
 pub mod Pruning
 pub mod PartCounts
+pub mod RebuiltCounts
 pub mod Outward
 pub mod Expressions
 pub mod FitsLeaving
@@ -41,10 +42,14 @@ pub mod ChoiceParts
 pub mod Bare
 pub mod Wanting
 pub mod ByPart
+pub mod ByParts
 pub mod SilentStatement
 pub mod KnownConditional
 pub mod KnownSide
 pub mod KnownIf
+pub mod SilentAnywhere
+pub mod UnusedPlace
+pub mod UnusedOperation
 pub mod Edited
 pub mod Refused
 pub mod Outlying

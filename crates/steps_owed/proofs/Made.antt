@@ -7,7 +7,7 @@ use Rattle.js_syntax.specs.Hint.{has, is_private}
 use Rattle.js_syntax.specs.Node.{Forest, Tree}
 use Rattle.js_syntax.specs.Table.{Row, a_reference_name, an_object_expression, a_conditional_expression, an_export_specifier, fields_of, type_of, stands}
 use Rattle.js_meaning_near.specs.Near.{is_calm}
-use Rattle.json_shape.specs.Shape.{Values, kind_in, first_of, Place, one, maybe_one, beyond, key_node, key_apart, list, list_with_holes, body, item_or_hole, item_of_body, places, Plan, these, first_place, IsOf, IsAt, Stand}
+use Rattle.json_shape.specs.Shape.{Values, kind_in, first_of, IsChosen, Place, one, maybe_one, beyond, key_node, key_apart, list, list_with_holes, body, item_or_hole, item_of_body, places, Plan, these, first_place, IsOf, IsAt, Stand}
 use Rattle.json_shape.specs.Shape as shape
 use Rattle.json_shape.proofs.Choice.{is_list_kind}
 use Rattle.scope_laws.specs.Place.{Around, first, behind, behind_none, under, plug}
@@ -20,6 +20,7 @@ use Rattle.js_syntax.proofs.Truth.{first_of_both}
 pub record MadeBy (k : Kind) (a : Forest) : Type 0 where
   pub row : Row
   pub values : Values (fields_of row)
+  pub chosen : IsChosen row values
   pub is : k ≡ kind_in row values
   pub stands : Stand (these (places (has is_private a) (fields_of row) values)) a
 
@@ -56,7 +57,7 @@ not_single k l is h g = true≢false (sym g ∙ ap is_single is ∙ h)
 
 module _ (a : Forest) (k : Kind) (single : is_single k ≡ true) where
   made_of : (c : Class) → IsOf k a (λ p. Stand p a) c → MadeBy k a
-  made_of c of = record { row = of.0; values = of.1; is = of.4; stands = of.5 }
+  made_of c of = record { row = of.0; values = of.1; chosen = of.3; is = of.4; stands = of.5 }
 
   no_list : (kind : Kind) (c : Class) → k ≡ kind → (is_list_kind kind && (holds_variables kind || is_calm_class c)) ≡ true → MadeBy k a
   no_list kind c is h = absurd (not_single k kind is (lists_are_not kind (first_of_both (is_list_kind kind) (holds_variables kind || is_calm_class c) h)) single)

@@ -1,9 +1,10 @@
--- A node becomes a part of itself, and no rule of form is broken.
+-- A node becomes a part of itself, or is rebuilt of its parts, and no rule of form is broken.
 use Rattle.std.proofs.Common.{◌≡◌, ℕ, ◌+◌, suc, Bool, true, false, not, ◌&&◌, ◌||◌, ◌==◌, Some, [], ◌++◌, refl, sym, ap, ◌∙◌, true≢false}
 use Rattle.js_tree.specs.Count.{one_each, node_count}
 use Rattle.js_syntax.specs.Class.{root}
 use Rattle.js_syntax.specs.declared.node_kind.NodeKind.{NodeKind as Kind}
-use Rattle.js_syntax.specs.declared.node_kind.NodeKind.TheVariants.{BindingName as binding_name, Function as function, Class as class, ConditionalExpression as conditional_expression, LogicalExpression as logical_expression, UnaryExpression as unary_expression, ParenthesizedExpression as parenthesized_expression}
+use Rattle.js_syntax.specs.declared.node_kind.NodeKind.TheVariants.{BindingName as binding_name, Function as function, Class as class, ConditionalExpression as conditional_expression, LogicalExpression as logical_expression, UnaryExpression as unary_expression, BinaryExpression as binary_expression, ParenthesizedExpression as parenthesized_expression}
+use Rattle.js_syntax.specs.declared.operator.BinaryOperator.{BinaryOperator}
 use Rattle.js_syntax.specs.declared.operator.LogicalOperator.{LogicalOperator}
 use Rattle.js_syntax.specs.declared.operator.UnaryOperator.{UnaryOperator}
 use Rattle.js_syntax.specs.declared.operator.UnaryOperator.TheVariants as unary
@@ -16,13 +17,14 @@ use Rattle.form_rules.specs.declared.sought.Sought.TheVariants.{Nothing as none,
 use Rattle.form_rules.specs.Scope.{declared, declared_here, sought_below}
 use Rattle.form_rules.specs.Rules.{length_of, is_bare_name}
 use Rattle.json_shape.specs.Shape.{Fits}
+use Rattle.json_shape.proofs.Choice.{is_list_kind}
 use Rattle.scope_laws.specs.Place as place
 use Rattle.scope_laws.specs.Place.{first, behind, behind_none, under, plug}
 use Rattle.steps_allowed.specs.Uses.{Use, as_value, as_deleted, operand_of, use_below, use_there, use_at}
 use Rattle.steps_allowed.specs.Branches.{declares_none_at, declares_none}
-use Rattle.steps_keep_form.specs.Part.{gives_way, StandsFor}
+use Rattle.steps_keep_form.specs.Part.{gives_way, is_statement, is_asked_for, StandsFor, Replaces, by_part}
 use Rattle.steps_keep_form.specs.Sheds.{Row, of_declarators, row_below, asked_below, deleted_below, may_give_way, keeps_one, Around, entered, outermost, Sheds, keeps_absent, keeps, becomes}
-use Rattle.steps_keep_form.proofs.Firm.{may_all_give_way, fits_may_give_way}
+use Rattle.steps_keep_form.proofs.Firm.{is_told_apart, gives, may_all_give_way, fits_may_give_way}
 use Rattle.steps_keep_form.proofs.Rows.{itself, keeps_itself}
 use Rattle.steps_keep_form.proofs.Rules.{both_empty}
 use Rattle.steps_keep_form.proofs.ShedNames.{none_declared}
@@ -108,6 +110,18 @@ logical_seeks (catch_scope f) o = refl
 pub none_of_logical : (o : LogicalOperator) (t : Forest) (s : Sought) (p : ℕ) → declared (sought_below s (logical_expression o)) p t ≡ []
 none_of_logical o t s p = ap (λ z. declared z p t) (logical_seeks s o) ∙ none_declared p t
 
+binary_seeks : (s : Sought) (o : BinaryOperator) → sought_below s (binary_expression o) ≡ none
+binary_seeks none o = refl
+binary_seeks (names f) o = refl
+binary_seeks (bound f) o = refl
+binary_seeks (scope f) o = refl
+binary_seeks variables o = refl
+binary_seeks function_scope o = refl
+binary_seeks (catch_scope f) o = refl
+
+pub none_of_binary : (o : BinaryOperator) (t : Forest) (s : Sought) (p : ℕ) → declared (sought_below s (binary_expression o)) p t ≡ []
+none_of_binary o t s p = ap (λ z. declared z p t) (binary_seeks s o) ∙ none_declared p t
+
 conditional_seeks : (s : Sought) → sought_below s conditional_expression ≡ none
 conditional_seeks none = refl
 conditional_seeks (names f) = refl
@@ -138,9 +152,12 @@ deleted_there d u parenthesized_expression i f h = f h
 deleted_there d u (unary_expression o) i f h = operand_deleted d o h
 deleted_there d u k i f h = absurd (true≢false (sym h))
 
+given_moves : (k : Kind) → gives_way k ≡ true → gives k ≡ true
+given_moves k h = ap (λ g. g || (not (is_statement k || is_asked_for k) && not (is_list_kind k || is_told_apart k))) h
+
 -- ---- wherever the node stands
 
-module _ (x y : Tree) (stands : Stands x y) where
+module _ (x y : Tree) (replaces : Replaces x.kind x.note x.below y.kind y.note y.below) (moves : gives x.kind ≡ true) where
   as_many : (a : place.Around) → length_of (plug a (Some y)) ≡ length_of (plug a (Some x))
   as_many (first rest) = refl
   as_many (behind k n b a) = ap (λ i. suc i) (as_many a)
@@ -151,26 +168,30 @@ module _ (x y : Tree) (stands : Stands x y) where
   keeps_all of_declarators a = ap (λ i. length_of (plug a (Some x)) == 0 || not (i == 0)) (as_many a) ∙ keeps_itself of_declarators (plug a (Some x))
   keeps_all row a = refl
 
-  may_there : (z : Around) → (not (gives_way x.kind) || may_give_way z.row z.is_asked x.kind) ≡ true → may_give_way z.row z.is_asked x.kind ≡ true
-  may_there z h = ap (λ g. not g || may_give_way z.row z.is_asked x.kind) (sym stands.gives) ∙ h
+  may_there : (z : Around) → (not (gives x.kind) || may_give_way z.row z.is_asked x.kind) ≡ true → may_give_way z.row z.is_asked x.kind ≡ true
+  may_there z h = ap (λ g. not g || may_give_way z.row z.is_asked x.kind) (sym moves) ∙ h
 
   -- by what the nodes of the row are used for
   sheds_there : (a : place.Around) (z : Around) (us : ℕ → Use) (at : ℕ) → ((i : ℕ) → z.is_deleted ≡ true → us i ≡ as_deleted) → (use_there us at a ≡ as_deleted → is_bare_name (forest_of y) ≡ false)
       → may_all_give_way z.row z.is_asked (plug a (Some x)) ≡ true → Sheds z (plug a (Some x)) (plug a (Some y))
   sheds_there (first rest) z us at used out h =
-      becomes stands (may_there z (first_of_both (not (gives_way x.kind) || may_give_way z.row z.is_asked x.kind)
+      becomes replaces (may_there z (first_of_both (not (gives x.kind) || may_give_way z.row z.is_asked x.kind)
       (may_all_give_way (row_below z.row x.kind) (asked_below z.row x.kind) x.below && may_all_give_way z.row z.is_asked rest) h))
       (come_out z.is_deleted (is_bare_name (forest_of y)) (λ d. out (used at d))) (itself z rest)
   sheds_there (behind k n b a) z us at used out h =
       keeps (keeps_itself (row_below z.row k) b) (itself (entered z k b) b)
       (sheds_there a z us (suc at) used out (second_of_both (may_all_give_way (row_below z.row k) (asked_below z.row k) b) (may_all_give_way z.row z.is_asked (plug a (Some x)))
-      (second_of_both (not (gives_way k) || may_give_way z.row z.is_asked k) (may_all_give_way (row_below z.row k) (asked_below z.row k) b && may_all_give_way z.row z.is_asked (plug a (Some x))) h)))
+      (second_of_both (not (gives k) || may_give_way z.row z.is_asked k) (may_all_give_way (row_below z.row k) (asked_below z.row k) b && may_all_give_way z.row z.is_asked (plug a (Some x))) h)))
   sheds_there (behind_none a) z us at used out h = keeps_absent (sheds_there a z us (suc at) used out h)
   sheds_there (under k n a rest) z us at used out h =
       keeps (keeps_all (row_below z.row k) a)
       (sheds_there a (entered z k (plug a (Some x))) (λ i. use_below (us at) k i) 0 (λ i d. deleted_there z.is_deleted (us at) k i (used at) d) out (first_of_both (may_all_give_way (row_below z.row k) (asked_below z.row k) (plug a (Some x))) (may_all_give_way z.row z.is_asked rest)
-      (second_of_both (not (gives_way k) || may_give_way z.row z.is_asked k) (may_all_give_way (row_below z.row k) (asked_below z.row k) (plug a (Some x)) && may_all_give_way z.row z.is_asked rest) h)))
+      (second_of_both (not (gives k) || may_give_way z.row z.is_asked k) (may_all_give_way (row_below z.row k) (asked_below z.row k) (plug a (Some x)) && may_all_give_way z.row z.is_asked rest) h)))
       (itself z rest)
 
+pub replaced_sheds : (a : place.Around) (x y : Tree) → Replaces x.kind x.note x.below y.kind y.note y.below → gives x.kind ≡ true → (use_at a ≡ as_deleted → is_bare_name (forest_of y) ≡ false) → Fits root (plug a (Some x))
+    → Sheds outermost (plug a (Some x)) (plug a (Some y))
+replaced_sheds a x y replaces moves out fits = sheds_there x y replaces moves a outermost (λ i. as_value) 0 (λ i d. absurd (true≢false (sym d))) out (fits_may_give_way (plug a (Some x)) fits)
+
 pub part_sheds : (a : place.Around) (x y : Tree) → Stands x y → (use_at a ≡ as_deleted → is_bare_name (forest_of y) ≡ false) → Fits root (plug a (Some x)) → Sheds outermost (plug a (Some x)) (plug a (Some y))
-part_sheds a x y stands out fits = sheds_there x y stands a outermost (λ i. as_value) 0 (λ i d. absurd (true≢false (sym d))) out (fits_may_give_way (plug a (Some x)) fits)
+part_sheds a x y stands = replaced_sheds a x y (by_part stands) (given_moves x.kind stands.gives)

@@ -2,19 +2,21 @@
 use Rattle.std.proofs.Common.{◌≡◌, ◌∙◌, [], ◌∷◌, true, ◌&&◌, None, Some, refl, sym, ap, subst, true≢false}
 use Rattle.js_syntax.specs.Class.{root}
 use Rattle.js_syntax.specs.declared.node_kind.NodeKind.{NodeKind as Kind}
+use Rattle.js_syntax.specs.declared.kind.FunctionKind.TheVariants as function_kind
 use Rattle.js_syntax.specs.declared.scalar.SourceType.TheVariants as source_type
 use Rattle.js_syntax.specs.Facts.{is_core}
 use Rattle.js_syntax.specs.Node.{Note, Forest, Tree, nothing, node, below_of}
 use Rattle.js_syntax.specs.declared.value.ModuleName.{ModuleName}
 use Rattle.js_meaning.specs.Kept.{Refined}
 use Rattle.js_meaning.specs.Module.{specifier_of}
-use Rattle.js_meaning.specs.Node.{Wanted, itself}
 use Rattle.js_meaning_near.specs.Names.{no_names}
-use Rattle.js_meaning_near.specs.Near.{hoists_nothing, wanted_below, ComesTo, items, key_of, keys, module_of}
+use Rattle.js_meaning_near.specs.Purpose.{Purpose, Purposes, for_values, purpose_here, purposes_behind, wanted_below}
+use Rattle.js_meaning_near.specs.Near.{is_calm, hoists_nothing, is_row, items, key_of, keys, module_of}
 use Rattle.js_meaning_near.specs.Fit.{whole}
 use Rattle.js_meaning_near.specs.Avoid.{InPlace}
-use Rattle.js_meaning_near.specs.Local.{ReadsSame, Local, at_place, in_below, in_rest, in_absent}
+use Rattle.js_meaning_near.specs.Local.{ReadsSame, Stands, for_part, for_waste, for_sides, for_sequence, Local, at_place, in_below, in_rest, in_absent}
 use Rattle.js_meaning_near.proofs.Instances.{local_change}
+use Rattle.js_meaning_near.proofs.Local.{old_node}
 use Rattle.json_shape.specs.Shape.{one, Plan, these, first_place, Stand, Fits}
 use Rattle.json_shape.specs.Shape as shape
 use Rattle.form_rules.specs.Form.{IsWellFormed}
@@ -37,6 +39,20 @@ no_key : (k : Kind) → hoists_nothing k ≡ true → key_of k ≡ None
 no_key (Kind.Property how method key) h = absurd (true≢false (sym h))
 no_key k h = refl
 
+calm_hoists : (k : Kind) → is_calm k ≡ true → hoists_nothing k ≡ true
+calm_hoists (Kind.ReferenceName x) h = refl
+calm_hoists (Kind.MemberExpression key optional) h = refl
+calm_hoists Kind.ParenthesizedExpression h = refl
+calm_hoists (Kind.Function function_kind.Declaration pure) h = absurd (true≢false (sym h))
+calm_hoists (Kind.Function how pure) h = refl
+calm_hoists k h = h
+
+new_hoists : {u : Purpose} {k l : Kind} {a b : Forest} → Stands u k a l b → hoists_nothing l ≡ true
+new_hoists (for_part c) = (c no_names).new_hoists
+new_hoists (for_waste e w s) = (w no_names).new_hoists
+new_hoists (for_sides e s) = refl
+new_hoists (for_sequence s) = refl
+
 module _ (place : Around) (x y : Tree) (c : Comes place x y) where
   pub core_stays : (a : Around) → all_core (plug a (Some x)) ≡ true → all_core (plug a (Some y)) ≡ true
   core_stays (first rest) h =
@@ -53,7 +69,7 @@ module _ (place : Around) (x y : Tree) (c : Comes place x y) where
 
   -- the keys of an object literal are of its properties, and no property is calm
   keys_of_row : (a : Around) → keys (plug a (Some x)) ≡ keys (plug a (Some y))
-  keys_of_row (first rest) = ap (λ k. k ∷ keys rest) (no_key x.kind (c.comes no_names).old_hoists ∙ sym (no_key y.kind (c.comes no_names).new_hoists))
+  keys_of_row (first rest) = ap (λ k. k ∷ keys rest) (no_key x.kind (calm_hoists x.kind c.old_calm) ∙ sym (no_key y.kind (new_hoists c.stands)))
   keys_of_row (behind k n below a) = ap (λ ks. key_of k ∷ ks) (keys_of_row a)
   keys_of_row (behind_none a) = refl
   keys_of_row (under k n a rest) = refl
@@ -77,16 +93,16 @@ module _ (place : Around) (x y : Tree) (c : Comes place x y) where
   reads_same (Kind.ExportSpecifier exported) a made = exported_name exported a (made refl)
   reads_same k a made = tt
 
-  local_as_planned : (w : Wanted) (a : Around) → wanted_in w a ≡ wanted_at place → (plan : Plan) → plan_passes is_sound plan ≡ true → Stand plan (plug a (Some x)) → Local w (plug a (Some x)) (plug a (Some y))
-  local_as_planned w (first rest) e plan h st = at_place (λ names. subst (λ v. ComesTo v names x.kind x.below y.kind y.below) (sym e) (c.comes names)) c.plainly
-  local_as_planned w (behind k n below a) e plan h st = in_rest (local_as_planned w a e (shape.behind plan k) (behind_passes is_sound plan k h) st.1)
-  local_as_planned w (behind_none a) e plan h st = in_absent (local_as_planned w a e (shape.behind plan Kind.Hole) (behind_passes is_sound plan Kind.Hole h) st.1)
-  local_as_planned w (under k n a rest) e plan h st =
+  local_as_planned : (us : Purposes) (a : Around) → wanted_in us a ≡ wanted_at place → (plan : Plan) → plan_passes is_sound plan ≡ true → Stand plan (plug a (Some x)) → Local us (plug a (Some x)) (plug a (Some y))
+  local_as_planned us (first rest) e plan h st = at_place (subst (λ u. Stands u x.kind x.below y.kind y.below) (sym e) c.stands) c.plainly
+  local_as_planned us (behind k n below a) e plan h st = in_rest (local_as_planned (purposes_behind us) a e (shape.behind plan k) (behind_passes is_sound plan k h) st.1)
+  local_as_planned us (behind_none a) e plan h st = in_absent (local_as_planned (purposes_behind us) a e (shape.behind plan Kind.Hole) (behind_passes is_sound plan Kind.Hole h) st.1)
+  local_as_planned us (under k n a rest) e plan h st =
       let planned = planned_below (plug a (Some x)) (first_place plan) k st.0 in
-      in_below (reads_same k a (λ single. made_at (plug a (Some x)) k single (first_place plan) (first_passes is_sound plan refl h) st.0)) (local_as_planned (wanted_below w k) a e planned.0 planned.1 planned.2)
+      in_below (reads_same k a (λ single. made_at (plug a (Some x)) k single (first_place plan) (first_passes is_sound plan refl h) st.0)) (local_as_planned (wanted_below (purpose_here us (is_row rest)) k) a e planned.0 planned.1 planned.2)
 
-pub part_is_local : (a : Around) (x y : Tree) → Comes a x y → Fits root (plug a (Some x)) → Local itself (plug a (Some x)) (plug a (Some y))
-part_is_local a x y c fits = local_as_planned a x y c itself a refl (these (one root ∷ [])) refl fits
+pub part_is_local : (a : Around) (x y : Tree) → Comes a x y → Fits root (plug a (Some x)) → Local for_values (plug a (Some x)) (plug a (Some y))
+part_is_local a x y c fits = local_as_planned a x y c for_values a refl (these (one root ∷ [])) refl fits
 
 -- ---- modules
 
@@ -101,23 +117,23 @@ module_in_place n m b fits form core =
 pub record StillModule (n m : Note) (b u : Forest) : Type 0 where
   pub changed : Forest
   pub is : u ≡ module_of n m changed
-  pub local : Local itself b changed
+  pub local : Local for_values b changed
 
-not_of_nothing : {w : Wanted} {t u : Forest} → Local w t u → t ≡ nothing → ⊥
+not_of_nothing : {us : Purposes} {t u : Forest} → Local us t u → t ≡ nothing → ⊥
 not_of_nothing (at_place c p) e = cc
 not_of_nothing (in_below q s) e = cc
 not_of_nothing (in_rest s) e = cc
 not_of_nothing (in_absent s) e = cc
 
-module_stays : (n m : Note) (b u : Forest) → Local itself (module_of n m b) u → StillModule n m b u
-module_stays n m b _ (at_place c p) = absurd (true≢false (sym (c no_names).old_hoists))
-module_stays n m b _ (in_below q (at_place c p)) = absurd (true≢false (sym (c no_names).old_hoists))
+module_stays : (n m : Note) (b u : Forest) → Local for_values (module_of n m b) u → StillModule n m b u
+module_stays n m b _ (at_place c p) = absurd (true≢false (sym (old_node c)))
+module_stays n m b _ (in_below q (at_place c p)) = absurd (true≢false (sym (old_node c)))
 module_stays n m b _ (in_below q (in_below {b = d} r s)) = record { changed = d; is = refl; local = s }
 module_stays n m b _ (in_below q (in_rest s)) = absurd (not_of_nothing s refl)
 module_stays n m b _ (in_rest s) = absurd (not_of_nothing s refl)
 
 pub parts_stay_modules : (n m : Note) (b : Forest) (a : Around) (x y : Tree) → plug a (Some x) ≡ module_of n m b → Comes a x y → Fits root (module_of n m b) → StillModule n m b (plug a (Some y))
-parts_stay_modules n m b a x y is c fits = module_stays n m b (plug a (Some y)) (subst (λ t. Local itself t (plug a (Some y))) is (part_is_local a x y c (subst (Fits root) (sym is) fits)))
+parts_stay_modules n m b a x y is c fits = module_stays n m b (plug a (Some y)) (subst (λ t. Local for_values t (plug a (Some y))) is (part_is_local a x y c (subst (Fits root) (sym is) fits)))
 
 module_refines : (n m : Note) (b u : Forest) → StillModule n m b u → Fits root u → IsWellFormed u → all_core u ≡ true → Refined (module_of n m b) u
 module_refines n m b u new fits form core =

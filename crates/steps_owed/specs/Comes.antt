@@ -1,17 +1,16 @@
--- What a node owes for runs that becomes one of its parts.
+-- What a node owes for runs that becomes one that stands for it.
 use Rattle.std.specs.Prelude.{◌≡◌, true}
 use Rattle.js_syntax.specs.Node.{Tree, forest_of}
-use Rattle.js_meaning_near.specs.Names.{Names}
-use Rattle.js_meaning_near.specs.Near.{is_calm, ComesTo}
-use Rattle.js_meaning_near.specs.Local.{Plainly}
+use Rattle.js_meaning_near.specs.Near.{is_calm}
+use Rattle.js_meaning_near.specs.Local.{Stands, Plainly}
 use Rattle.scope_laws.specs.Place.{Around}
 use Rattle.steps.specs.Steps.{all_core}
 use Rattle.steps_allowed.specs.Wanted.{wanted_at}
 
 -- At a place.
 pub record Comes (a : Around) (x y : Tree) : Type 0 where
-  -- whatever is known of the names around, the node comes to what the part does, as far as is wanted there
-  pub comes : (st : Names) → ComesTo (wanted_at a) st x.kind x.below y.kind y.below
+  -- for what the node is evaluated there, the new one may stand for it, whatever is known of the names around
+  pub stands : Stands (wanted_at a) x.kind x.below y.kind y.below
   -- the old node starts nothing where its scope is entered, and declares no name itself
   pub old_calm : is_calm x.kind ≡ true
   -- they declare the same

@@ -1,12 +1,14 @@
 -- What a case of an edit owes, by its shape: all that the laws on edits ask of it.
-use Rattle.std.specs.Prelude.{◌≡◌, ◌⊎◌, ◌≤◌, ◌<◌, ℕ, ◌+◌, Bool, true, false, Some, is_some, if◌then◌else◌}
+use Rattle.std.specs.Prelude.{◌≡◌, ◌⊎◌, ◌≤◌, ◌<◌, ℕ, ◌+◌, Bool, true, false, Some, is_some}
 use Rattle.js_syntax.specs.declared.node_kind.NodeKind.{NodeKind as Kind}
-use Rattle.js_syntax.specs.declared.node_kind.NodeKind.TheVariants.{ExpressionStatement as expression_statement}
-use Rattle.js_syntax.specs.Class.{root}
+use Rattle.js_syntax.specs.declared.node_kind.NodeKind.TheVariants.{ReferenceName as reference_name}
+use Rattle.js_syntax.specs.Class.{root, expression}
+use Rattle.js_syntax.specs.Facts.{weight}
 use Rattle.js_syntax.specs.Node.{Forest, Tree, Note, alone, total, forest_of}
-use Rattle.js_tree.specs.Count.{one_each}
+use Rattle.js_tree.specs.Count.{node_count, levels}
 use Rattle.js_tree.specs.Names.{eval_name}
 use Rattle.js_meaning_near.specs.Near.{module_of}
+use Rattle.js_rebuilt.specs.Rebuilt.{Rebuilt}
 use Rattle.form_rules.specs.Form.{IsWellFormed}
 use Rattle.form_rules.specs.Rules.{is_bare_name}
 use Rattle.form_rules.specs.Scope.{declared}
@@ -32,7 +34,7 @@ use Rattle.steps_allowed.specs.Changing.{may_change_at}
 use Rattle.steps_owed.specs.Comes.{Comes}
 use Rattle.steps_owed.specs.Good.{Good}
 use Rattle.steps_owed.specs.Kept.{IsKept}
-use Rattle.steps_keep_form.specs.Part.{StandsFor}
+use Rattle.steps_keep_form.specs.Part.{is_asked_for, StandsFor}
 use Rattle.steps_owed.specs.Part.{IsPart}
 use Rattle.steps_owed.specs.TakesPlace.{TakesPlace}
 use Rattle.steps_owed.specs.Seeking.{Within, Seeks}
@@ -44,10 +46,6 @@ pub record IsOther (x : Tree) : Type 0 where
   pub lists : (m : ℕ) → of_list x.kind m ≡ 0
   pub begins : (m : ℕ) → of_program x.kind m ≡ 0
   pub calls : is_call x.kind ≡ false
-
-abbrev pub is_expression_statement : Kind → Bool
-is_expression_statement expression_statement = true
-is_expression_statement k = false
 
 -- edits of a node of this kind are among those of which `may_change_somewhere` tells
 abbrev pub MayChange : Around → Tree → Type 0
@@ -63,13 +61,9 @@ IsUnexported t x in_with c next =
     (z : shed.Around) → Within t (sites (inside c next x.kind x.below) 0 (next + opens_one x.kind x.below) x.below) → stands_right z.row x.kind x.below ≡ true → Seeks t z.sought z.exported c
     → exports_none z.exported (declared z.sought 0 (alone x.kind x.note x.below)) ≡ true
 
--- nodes and statements of expressions: each edit leaves fewer of them
-abbrev pub weight : Kind → ℕ
-weight k = one_each k + (if is_expression_statement k then 1 else 0)
-
 -- An item that leaves its list.
 pub record Leaving (a : Around) (x : Tree) : Type 0 where
-  pub weighs : 1 ≤ weight x.kind
+  pub weighs : 1 ≤ total weight (forest_of x)
   pub listed : IsListed a
   pub no_directive : is_directive_kind x.kind ≡ false
   pub no_call : IsOther x
@@ -115,3 +109,24 @@ pub record ByPart (a : Around) (x y : Tree) : Type 0 where
   pub part : Fits root (plug a (Some x)) → IsPart x y
   -- the whole comes to what the part does
   pub coming : (n m : Note) (b : Forest) → plug a (Some x) ≡ module_of n m b → Fits root (module_of n m b) → IsWellFormed (module_of n m b) → all_core (module_of n m b) ≡ true → Comes a x y
+
+abbrev pub is_read_name : Kind → Bool
+is_read_name (reference_name x) = true
+is_read_name k = false
+
+-- An expression that becomes one that is rebuilt of its parts.
+pub record ByParts (a : Around) (x y : Tree) : Type 0 where
+  pub rebuilt : Rebuilt (forest_of x) (forest_of y)
+  pub lighter : total weight (forest_of y) < total weight (forest_of x)
+  pub no_more : node_count (forest_of y) ≤ node_count (forest_of x)
+  pub no_deeper : levels (forest_of y) ≤ levels (forest_of x)
+  pub no_call : IsOther x
+  pub may_change : MayChange a x
+  -- it may stand where the old one stood, by the table of node types, and by the rules of form, which ask for neither by its kind
+  pub fits_expression : Fits root (plug a (Some x)) → Fits expression (forest_of x)
+  pub takes : Fits root (plug a (Some x)) → TakesPlace x y
+  pub no_name : is_read_name x.kind ≡ false
+  pub old_unasked : Fits root (plug a (Some x)) → is_asked_for x.kind ≡ false
+  pub unasked : Fits root (plug a (Some x)) → is_asked_for y.kind ≡ false
+  pub comes_out : ComesOut a y
+  pub runs : SameRuns a x y

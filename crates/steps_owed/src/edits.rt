@@ -1,6 +1,7 @@
 // What holds behind edits, of every case. Each law is a contract, so that the check proves it.
 ghost use Rattle.std.specs.Prelude.{◌≡◌, ◌≤◌, ◌<◌, true, false};
 ghost use Rattle.js_syntax.specs.Class.{root};
+ghost use Rattle.js_syntax.specs.Facts.{weight};
 ghost use Rattle.js_syntax.specs.Node.{Forest, bare, total};
 ghost use Rattle.json_shape.specs.Shape.{Fits};
 ghost use Rattle.scope_rules.specs.Table.{Scoping};
@@ -10,7 +11,6 @@ ghost use Rattle.steps_allowed.specs.Changing.{may_change_somewhere};
 ghost use Rattle.steps_allowed.specs.Edits.{Edit, TreeEdits, Edits};
 ghost use Rattle.steps_fit.specs.Sensible.{IsSensible};
 ghost use Rattle.steps_owed.specs.Kept.{IsKept};
-ghost use Rattle.steps_owed.specs.Owed.{weight};
 
 /// Law: from a program of the table of node types that breaks no rule of form, edits lead to no other.
 pub fn edits_lead_from_sensible_programs_to_sensible_ones()
@@ -28,7 +28,7 @@ pub fn edits_keep_the_table_of_scopes()
     ensures { (t u : Forest) → TreeEdits t u → Fits root t → (s : Scoping) → IsKept s t → IsKept s u }
 {}
 
-/// Law: each edit leaves fewer nodes and statements of expressions.
+/// Law: each edit makes the tree lighter.
 pub fn an_edit_leaves_less()
     ensures { (t u : Forest) → Edit t u → total weight u < total weight t }
 {}

@@ -1,4 +1,4 @@
-// A node that becomes a part of itself.
+// A node that becomes a part of itself, or is rebuilt of its parts.
 ghost use Rattle.std.specs.Prelude.{◌≡◌, true, Some};
 ghost use Rattle.js_syntax.specs.Class.{expression};
 ghost use Rattle.js_syntax.specs.Node.{Forest, Tree};
@@ -6,6 +6,7 @@ ghost use Rattle.json_shape.specs.Shape.{Fits};
 ghost use Rattle.scope_rules.specs.Table.{Scoping};
 ghost use Rattle.scope_laws.specs.Place.{Around, plug};
 ghost use Rattle.steps_owed.specs.Kept.{is_program, IsKept};
+ghost use Rattle.steps_owed.specs.Owed.{ByParts, Becoming};
 ghost use Rattle.steps_owed.specs.Part.{DeclaresNothing, IsPart};
 
 /// Law: the table of a program stays exact, with shorter lists, where a part of a node stands in its place.
@@ -16,4 +17,9 @@ pub fn parts_keep_the_table()
 /// Law: an expression that fits the table of node types declares no name around it.
 pub fn expressions_declare_nothing()
     ensures { (t : Forest) → Fits expression t → DeclaresNothing t }
+{}
+
+/// Law: what an expression owes that is rebuilt of its parts is all that a node owes which becomes another.
+pub fn expressions_may_be_rebuilt()
+    ensures { (a : Around) (x y : Tree) → ByParts a x y → Becoming a x y }
 {}

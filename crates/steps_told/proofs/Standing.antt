@@ -165,4 +165,6 @@ pub plain_outside : (k : Kind) → gives_way k ≡ true → (below : Forest) (at
 plain_outside kind.IfStatement g below at = refl
 plain_outside kind.ConditionalExpression g below at = refl
 plain_outside (kind.LogicalExpression operator) g below at = refl
+plain_outside (kind.UnaryExpression operator) g below at = refl
+plain_outside (kind.BinaryExpression operator) g below at = refl
 plain_outside k g below at = never g
