@@ -1,5 +1,5 @@
 -- What leaves with an expression that becomes a child of its own.
-use Rattle.std.proofs.Common.{◌≡◌, ◌∙◌, ◌<◌, ◌+◌, ℕ, zero, suc, List, [], ◌∷◌, Bool, true, false, ◌||◌, cond, Option, Some, None, is_some, length, refl, sym, ap, subst, true≢false, arith}
+use Rattle.std.proofs.Common.{◌≡◌, ◌∙◌, ◌<◌, ◌≤◌, ◌+◌, ℕ, zero, suc, List, [], ◌∷◌, Bool, true, false, ◌||◌, cond, Option, Some, None, is_some, length, refl, sym, ap, subst, true≢false, arith}
 use Rattle.std.specs.Prelude.{nat_lt, slice_index_or, slice_set}
 use Rattle.js_syntax.specs.declared.node_kind.NodeKind.{NodeKind as Kind}
 use Rattle.js_syntax.specs.declared.node_kind.NodeKind.TheVariants.{CallExpression as call_expression}
@@ -26,20 +26,21 @@ is_within (t ∷ ts) zero e = Prim.omega arith
 is_within (None ∷ ts) (suc i) e = Prim.omega (arith, is_within ts i e)
 is_within (Some t ∷ ts) (suc i) e = Prim.omega (arith, is_within ts i e)
 
-record Adds (m : Forest → ℕ) : Type 0 where
-  gap : (t : Forest) → m (absent t) ≡ m t
-  joins : (k : Kind) (n : Note) (b t : Forest) → m (node k n b t) ≡ m (node k n b nothing) + m t
+pub record Adds (m : Forest → ℕ) : Type 0 where
+  pub gap : (t : Forest) → m (absent t) ≡ m t
+  pub joins : (k : Kind) (n : Note) (b t : Forest) → m (node k n b t) ≡ m (node k n b nothing) + m t
+  pub below : (k : Kind) (n : Note) (b : Forest) → m b ≤ m (node k n b nothing)
 
-ids_add : (r : ℕ) → Adds (ids r)
-ids_add r = record { gap = λ t. refl; joins = λ k n b t. Prim.omega arith }
+pub ids_add : (r : ℕ) → Adds (ids r)
+ids_add r = record { gap = λ t. refl; joins = λ k n b t. Prim.omega arith; below = λ k n b. Prim.omega arith }
 
-evals_add : Adds evals
-evals_add = record { gap = λ t. refl; joins = λ k n b t. Prim.omega arith }
+pub evals_add : Adds evals
+evals_add = record { gap = λ t. refl; joins = λ k n b t. Prim.omega arith; below = λ k n b. Prim.omega arith }
 
-same_some : {x y : Tree} → Some x ≡ Some y → x ≡ y
+pub same_some : {x y : Tree} → Some x ≡ Some y → x ≡ y
 same_some e = Prim.cc
 
-no_child : {P : Type 0} {y : Tree} → None ≡ Some y → P
+pub no_child : {P : Type 0} {y : Tree} → None ≡ Some y → P
 no_child e = absurd Prim.cc
 
 taken_out : (m : Forest → ℕ) → Adds m → (ts : List (Option Tree)) (i : ℕ) (y : Tree) → child_at i (row ts) ≡ Some y → m (row ts) ≡ m (row (slice_set ts i None)) + m (forest_of y)
@@ -107,3 +108,26 @@ edits i {c = c} {d = d} {e = e} {x = x} {v = v} {y = y} {z = z} {ts = ts} {us = 
     kept_edits c d e x y ts i below there call
     (subst (λ vs. Leaves c (λ r. ids r (row (slice_set vs i None))) (evals (row (slice_set vs i None))) d) same others)
     (subst (λ w. DropsNode d w e) bare itself)
+
+-- ---- one edit after another
+
+lost_twice : (b : Bool) (m n p : ℕ) → n ≤ m → p ≤ n → ((b || nat_lt n m) || nat_lt p n) ≡ (b || nat_lt p m)
+lost_twice true m n p h i = refl
+lost_twice false m n p h i = Prim.grind arith
+
+asked_twice : (b : Bool) → ((b || true) || true) ≡ (b || true)
+asked_twice true = refl
+asked_twice false = refl
+
+-- x became y, that became z, and none brought anything in
+pub edited_twice : {c d e : Seen} (x y z : Tree) → ((m : Forest → ℕ) → Adds m → m (forest_of y) ≤ m (forest_of x)) → ((m : Forest → ℕ) → Adds m → m (forest_of z) ≤ m (forest_of y)) → Edited c x y true d → Edited d y z true e → Edited c x z true e
+edited_twice {c = c} {d = d} {e = e} x y z fewer again first second = record {
+  same = second.same ∙ ap {A = Seen} {B = Seen} (λ v. record v { marked = e.marked; eval_dropped = e.eval_dropped; requested = e.requested }) first.same;
+  room = second.room ∙ first.room;
+  marks = λ r h. second.marks r (Prim.omega (arith, h, first.room)) ∙ ap (λ b. b || nat_lt (ids r (forest_of z)) (ids r (forest_of y))) (first.marks r h)
+      ∙ lost_twice (has c.marked r) (ids r (forest_of x)) (ids r (forest_of y)) (ids r (forest_of z)) (fewer (ids r) (ids_add r)) (again (ids r) (ids_add r));
+  evals = second.evals ∙ ap (λ b. b || nat_lt (evals (forest_of z)) (evals (forest_of y))) first.evals
+      ∙ lost_twice c.eval_dropped (evals (forest_of x)) (evals (forest_of y)) (evals (forest_of z)) (fewer evals evals_add) (again evals evals_add);
+  asked = second.asked ∙ ap (λ b. b || true) first.asked ∙ asked_twice c.requested;
+  none = λ q. absurd (true≢false q);
+}

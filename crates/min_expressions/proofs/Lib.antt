@@ -1,3 +1,5 @@
 pub mod Told
 pub mod Chosen
 pub mod Leaving
+pub mod Needed
+pub mod Pairing

@@ -1,10 +1,10 @@
--- What an expression is used for, along the nodes above it.
-use Rattle.std.proofs.Common.{◌≡◌, ◌∙◌, ◌<◌, ◌≤◌, ◌+◌, ◌==◌, ℕ, zero, suc, List, true, false, ◌||◌, length, drop, slice_index_or, refl, sym, ap, drop-cons, add-one, true≢false}
+-- What an expression is used for, and whether nobody takes its value, along the nodes above it.
+use Rattle.std.proofs.Common.{◌≡◌, ◌∙◌, ◌<◌, ◌≤◌, ◌+◌, ◌==◌, ℕ, zero, suc, List, Bool, true, false, ◌||◌, length, drop, slice_index_or, refl, sym, ap, drop-cons, add-one, true≢false}
 use Rattle.std.proofs.lemmas.List.{drop_all}
 use Rattle.min_context.specs.declared.ancestor.Ancestor.{Ancestor}
 use Rattle.steps_allowed.specs.Uses.{Use, as_value, first_as_callee}
 use Rattle.rules_dead_code.specs.Rules.{has_with, is_field_of_with}
-use Rattle.rules_expressions.specs.Uses.{use_in, use_from}
+use Rattle.rules_expressions.specs.Uses.{use_in, use_from, is_unused_in, is_unused_from}
 
 pub behind_callee : (n : ℕ) → (n == 0) ≡ false → first_as_callee n ≡ as_value
 behind_callee zero e = absurd (true≢false e)
@@ -15,6 +15,12 @@ next_use xs i d u h = ap (use_from u) (drop-cons xs i d h) ∙ ap (λ k. use_fro
 
 pub last_use : (xs : List Ancestor) (i : ℕ) (u : Use) → length xs ≤ i → use_from u (drop i xs) ≡ u
 last_use xs i u h = ap (use_from u) (drop_all i xs h)
+
+pub next_unused : (xs : List Ancestor) (i : ℕ) (d : Ancestor) (u : Bool) → i < length xs → is_unused_from u (drop i xs) ≡ is_unused_from (is_unused_in u (slice_index_or xs i d)) (drop (i + 1) xs)
+next_unused xs i d u h = ap (is_unused_from u) (drop-cons xs i d h) ∙ ap (λ k. is_unused_from (is_unused_in u (slice_index_or xs i d)) (drop k xs)) (sym (add-one i))
+
+pub last_unused : (xs : List Ancestor) (i : ℕ) (u : Bool) → length xs ≤ i → is_unused_from u (drop i xs) ≡ u
+last_unused xs i u h = ap (is_unused_from u) (drop_all i xs h)
 
 -- ---- `with` statements
 

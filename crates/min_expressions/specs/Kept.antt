@@ -1,23 +1,17 @@
 -- Which child of an expression comes out of it, by its index.
-use Rattle.std.specs.Prelude.{ℕ, zero, suc, Bool, true, false, Option, Some, None, if◌then◌else◌}
+use Rattle.std.specs.Prelude.{ℕ, Bool, true, false, Option, Some, None, if◌then◌else◌}
 use Rattle.js_syntax.specs.declared.node_kind.NodeKind.{NodeKind as Kind}
 use Rattle.js_syntax.specs.declared.node_kind.NodeKind.TheVariants.{ConditionalExpression as conditional_expression, LogicalExpression as logical_expression, Literal as literal, CallExpression as call_expression}
 use Rattle.js_syntax.specs.declared.operator.LogicalOperator.{LogicalOperator}
 use Rattle.js_syntax.specs.declared.value.LiteralValue.{LiteralValue}
-use Rattle.js_syntax.specs.Node.{Forest, Tree, nothing, node, absent}
+use Rattle.js_syntax.specs.Node.{Forest, Tree, nothing, node}
 use Rattle.js_meaning.specs.Value.{literal_value}
 use Rattle.js_meaning.specs.Operator.{truthy, goes_right}
+pub use Rattle.steps_allowed.specs.Child.{child_at}
 use Rattle.steps_allowed.specs.Uses.{matters, stands_bare}
 use Rattle.rules_expressions.specs.Uses.{Spot}
 use Rattle.min_expressions.specs.declared.parts.Parts.{Parts as Answer}
 use Rattle.min_expressions.specs.declared.parts.Parts.TheVariants as answer
-
-abbrev pub child_at : ℕ → Forest → Option Tree
-child_at i nothing = None
-child_at zero (node k n below rest) = Some (record { kind = k; note = n; below = below })
-child_at zero (absent rest) = None
-child_at (suc i) (node k n below rest) = child_at i rest
-child_at (suc i) (absent rest) = child_at i rest
 
 -- ---- what is asked of a place
 

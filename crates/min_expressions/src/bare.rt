@@ -84,6 +84,13 @@ fn may_take_name(node: &Node) -> bool
     }
 }
 
+// Whether it is the same with an expression itself, used so, as with the value that another gives.
+pub(crate) fn stands_bare(used: Use, in_with: bool, node: &Node) -> bool
+    ensures { result ≡ stands_bare (told used) in_with node.now.kind node.now.below }
+{
+    !(matters(used, in_with, node) || may_take_name(node))
+}
+
 // Whether it matters that an expression stands itself where the walk is.
 pub(crate) fn matters_here(node: &Node, ctx: &MinifierTraverseCtx) -> bool
     ensures { result ≡ matters_at (spot_of ctx.now.place) node.now }
@@ -96,5 +103,6 @@ pub(crate) fn matters_here(node: &Node, ctx: &MinifierTraverseCtx) -> bool
 pub(crate) fn may_stand_bare(node: &Node, ctx: &MinifierTraverseCtx) -> bool
     ensures { result ≡ stands_at (spot_of ctx.now.place) node.now }
 {
-    !(matters_here(node, ctx) || may_take_name(node))
+    let above = ctx.ancestors_above();
+    stands_bare(use_from(above), has_with(above), node)
 }

@@ -1,14 +1,24 @@
 // Rewritings of one expression.
 ghost use Rattle.std.specs.Prelude.{◌≡◌};
-ghost use Rattle.min_traverse.specs.Lawful.{Does};
+ghost use Rattle.min_traverse.specs.Lawful.{Does, either};
 ghost use Rattle.rules_expressions.specs.Known.{fold_conditional, fold_logical, at_expression_end};
+ghost use Rattle.rules_expressions.specs.Unused.{fold_unused};
 ghost use Rattle.rules_expressions.specs.Uses.{spot_of};
 ghost use Rattle.min_expressions.specs.Kept.{matters_at};
 
 use crate::bare::matters_here;
 use crate::kept::{conditional_keeps, keep_child, logical_keeps};
+use crate::unused::{keep_needed, unused_keeps};
 use js_tree::Node;
 use min_context::MinifierTraverseCtx;
+
+// What a literal decides.
+fn fold_decided(node: &mut Node, ctx: &mut MinifierTraverseCtx) -> bool
+    ensures { Does (either fold_conditional fold_logical) ctx.old node.old result ctx.new node.new }
+{
+    PeepholeOptimizations::try_fold_conditional_expression(node, ctx)
+        || PeepholeOptimizations::fold_logical_expr(node, ctx)
+}
 
 /// What a walk does behind a node, to that node alone. Each call answers whether it did anything.
 pub struct PeepholeOptimizations;
@@ -41,12 +51,24 @@ impl PeepholeOptimizations {
         }
     }
 
+    /// Where nobody takes the value, an operation of which one operand alone acts becomes that operand, and that again.
+    pub fn remove_unused_expression(node: &mut Node, ctx: &mut MinifierTraverseCtx) -> bool
+        ensures does { Does fold_unused ctx.old node.old result ctx.new node.new }
+    {
+        match unused_keeps(node, ctx) {
+            Some(at) => {
+                keep_needed(node, at, ctx);
+                true
+            }
+            None => false,
+        }
+    }
+
     /// What becomes of an expression behind which the walk is.
     pub fn fold_expression(node: &mut Node, ctx: &mut MinifierTraverseCtx) -> bool
         ensures does { Does at_expression_end ctx.old node.old result ctx.new node.new }
     {
-        PeepholeOptimizations::try_fold_conditional_expression(node, ctx)
-            || PeepholeOptimizations::fold_logical_expr(node, ctx)
+        fold_decided(node, ctx) || PeepholeOptimizations::remove_unused_expression(node, ctx)
     }
 
     /// Whether it matters that an expression stands itself where the walk is, as what a call calls, or what `typeof` or `delete`

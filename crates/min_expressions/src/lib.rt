@@ -3,15 +3,21 @@
 //! `PeepholeOptimizations` has a call for each rule of rules_expressions, and one for all of them, in the order in which they are
 //! tried. Each does exactly what its rule says (`Does`): a conditional on a literal becomes the branch that is taken, and a logical
 //! expression with a literal on its left the side that counts, unless it matters where it stands that this stands there itself,
-//! which `should_keep_indirect_access` answers of a name, a member or a chain. What comes out is moved to where the whole stood,
-//! the context is told of all that leaves, and of nothing else, and none of it takes memory.
+//! which `should_keep_indirect_access` answers of a name, a member or a chain. An operation of which nobody takes the value
+//! becomes the operand that acts, if one alone does, and that again (`remove_unused_expression`). What comes out is moved to
+//! where the whole stood, the context is told of all that leaves, and of nothing else, and none of it takes memory. Three calls
+//! answer what rules ask: whether an expression, or the object of a member that is assigned, may refer to something else when it
+//! is evaluated again, and what two checks make of a pair, either way round.
 #![tactic(auto)]
 
 mod bare;
 mod fold;
 mod kept;
 mod known;
+mod may_change;
+mod pair;
 mod parts;
+mod unused;
 mod uses;
 
 pub use fold::PeepholeOptimizations;

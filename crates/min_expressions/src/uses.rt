@@ -1,8 +1,8 @@
-// What an expression is used for, as the nodes above it tell.
-ghost use Rattle.std.specs.Prelude.{◌≡◌};
+// What an expression is used for, and whether anybody takes its value, as the nodes above it tell.
+ghost use Rattle.std.specs.Prelude.{◌≡◌, false};
 ghost use Rattle.steps_allowed.specs.Uses.{as_value, operand_of, first_as_callee};
 ghost use Rattle.rules_dead_code.specs.Rules.{is_field_of_with, has_with};
-ghost use Rattle.rules_expressions.specs.Uses.{use_under, use_in, use_from};
+ghost use Rattle.rules_expressions.specs.Uses.{use_under, use_in, use_from, is_unused_under, is_unused_in, is_unused_from};
 ghost use Rattle.min_expressions.specs.Uses.{told};
 
 use js_syntax::UnaryOperator;
@@ -17,7 +17,7 @@ pub(crate) enum Use {
     Deleted,
 }
 
-fn operand_of(operator: UnaryOperator) -> Use
+pub(crate) fn operand_of(operator: UnaryOperator) -> Use
     ensures { told result ≡ operand_of operator }
 {
     match operator {
@@ -64,6 +64,41 @@ pub(crate) fn use_from(above: &[Ancestor]) -> Use
         used = use_in(used, *ancestor);
     }
     used
+}
+
+fn is_unused_under(unused: bool, parent: Parent, at: u32) -> bool
+    ensures { result ≡ is_unused_under unused parent at }
+{
+    match parent {
+        Parent::ExpressionStatement => true,
+        Parent::ForStatement => at == 2,
+        Parent::ParenthesizedExpression => unused,
+        Parent::SequenceExpression => unused,
+        Parent::Expressions => unused,
+        Parent::LogicalExpression => unused && at != 0,
+        Parent::ConditionalExpression => unused && at != 0,
+        _ => false,
+    }
+}
+
+fn is_unused_in(unused: bool, ancestor: Ancestor) -> bool
+    ensures { result ≡ is_unused_in unused ancestor }
+{
+    match ancestor {
+        Ancestor::Field(parent, at) => is_unused_under(unused, parent, at),
+        Ancestor::None => false,
+    }
+}
+
+// Whether nobody takes its value, by the nodes above, the outermost first.
+pub(crate) fn is_unused_from(above: &[Ancestor]) -> bool
+    ensures { result ≡ is_unused_from false above.now }
+{
+    let mut unused = false;
+    for ancestor in above {
+        unused = is_unused_in(unused, *ancestor);
+    }
+    unused
 }
 
 fn is_field_of_with(ancestor: Ancestor) -> bool

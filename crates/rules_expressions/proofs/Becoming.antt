@@ -16,7 +16,7 @@ use Rattle.rules_expressions.specs.Known.{branch_taken, by_condition, conditiona
 pub no_answer : {P : Type 0} {y : Tree} → None ≡ Some y → P
 no_answer e = absurd Prim.cc
 
-same_answer : {x y : Tree} → Some x ≡ Some y → x ≡ y
+pub same_answer : {x y : Tree} → Some x ≡ Some y → x ≡ y
 same_answer e = Prim.cc
 
 pub data Chosen (b : Bool) (x y : Tree) : Type 0 where

@@ -6,9 +6,10 @@ use Rattle.js_syntax.specs.Node.{Forest, Tree, Note, nothing, node}
 use Rattle.min_context.specs.Place.{place_at}
 use Rattle.scope_laws.specs.Place as places
 use Rattle.scope_counts.specs.Edits.{Around, plug}
-use Rattle.steps_allowed.specs.Edits.{Becomes, Edit, becomes, known_conditional, known_side}
+use Rattle.steps_allowed.specs.Edits.{Becomes, Edit, becomes, known_conditional, known_side, unused_operation}
 use Rattle.steps_allowed.specs.KnownConditional.{KnownConditional, a_conditional, consequent_is_taken, alternate_is_taken}
 use Rattle.steps_allowed.specs.KnownSide.{KnownSide, a_logical, right_side_counts, left_side_decides}
+use Rattle.steps_allowed.specs.UnusedOperation.{UnusedOperation}
 use Rattle.rules_dead_code.specs.Before.{before}
 use Rattle.rules_expressions.specs.Uses.{spot_of}
 use Rattle.rules_expressions.specs.Known.{conditional_becomes, logical_becomes}
@@ -32,12 +33,12 @@ pub logical_edits : (a : places.Around) (x y : Tree) → logical_becomes (spot_a
 logical_edits a x y e = side_edits a x.kind x.note x.below y (side (spot_at a) x.kind x.below y e)
 
 pub conditional_answers : (a : places.Around) (x y : Tree) → KnownConditional a x y → conditional_becomes (spot_at a) x.kind x.below ≡ Some y
-conditional_answers a _ _ (consequent_is_taken v n m i j k l b c w may) = branch_is (consequent v m i j k l b c (record { kind = k; note = i; below = b }) w may refl)
-conditional_answers a _ _ (alternate_is_taken v n m i j k l b c w may) = branch_is (alternate v m i j k l b c (record { kind = l; note = j; below = c }) w may refl)
+conditional_answers a _ _ (consequent_is_taken v n m i j k l b c w may) = branch_is {s = spot_at a} (consequent v m i j k l b c (record { kind = k; note = i; below = b }) w may refl)
+conditional_answers a _ _ (alternate_is_taken v n m i j k l b c w may) = branch_is {s = spot_at a} (alternate v m i j k l b c (record { kind = l; note = j; below = c }) w may refl)
 
 pub logical_answers : (a : places.Around) (x y : Tree) → KnownSide a x y → logical_becomes (spot_at a) x.kind x.below ≡ Some y
-logical_answers a _ _ (right_side_counts o v n m i k b w may) = side_is (right_side o v m i k b (record { kind = k; note = i; below = b }) w may refl)
-logical_answers a _ _ (left_side_decides o v n m i k b w) = side_is (left_side o v m i k b (record { kind = literal v; note = m; below = nothing }) w refl)
+logical_answers a _ _ (right_side_counts o v n m i k b w may) = side_is {s = spot_at a} (right_side o v m i k b (record { kind = k; note = i; below = b }) w may refl)
+logical_answers a _ _ (left_side_decides o v n m i k b w) = side_is {s = spot_at a} (left_side o v m i k b (record { kind = literal v; note = m; below = nothing }) w refl)
 
 -- ---- at a place of a walk
 
@@ -63,3 +64,6 @@ conditional_edit a x y rest e = edit_there a x y rest (known_conditional (condit
 
 pub logical_edit : (a : Around) (x y : Tree) (rest : Forest) → logical_becomes (spot_of (place_at a)) x.kind x.below ≡ Some y → Edit (plug a (node x.kind x.note x.below rest)) (plug a (node y.kind y.note y.below rest))
 logical_edit a x y rest e = edit_there a x y rest (known_side (logical_edits_there a x y rest e))
+
+pub unused_edit : (a : Around) (x y : Tree) (rest : Forest) → UnusedOperation (before a rest) x y → Edit (plug a (node x.kind x.note x.below rest)) (plug a (node y.kind y.note y.below rest))
+unused_edit a x y rest o = edit_there a x y rest (unused_operation o)

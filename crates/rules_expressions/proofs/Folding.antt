@@ -1,17 +1,20 @@
 -- The rules are lawful for a walker that may make such edits.
 use Rattle.std.proofs.Common.{◌∙◌, ap}
-use Rattle.js_syntax.specs.Node.{Forest}
-use Rattle.scope_counts.specs.Edits.{plug}
+use Rattle.js_syntax.specs.Node.{Forest, Tree}
+use Rattle.scope_counts.specs.Edits.{Around, plug}
 use Rattle.steps_allowed.specs.Edits.{Edit}
 use Rattle.min_options.specs.declared.options.CompressOptions.{CompressOptions}
-use Rattle.min_traverse.specs.Edits.{no_edit, one_edit}
+use Rattle.min_traverse.specs.Edits.{Edits, no_edit, one_edit}
 use Rattle.min_traverse.specs.Lawful.{Lawful}
 use Rattle.min_traverse.specs.Moves.{before}
 use Rattle.min_traverse.proofs.Joining.{either_lawful}
+use Rattle.rules_dead_code.specs.Before.{before as place}
 use Rattle.rules_expressions.specs.Uses.{spot_of}
 use Rattle.rules_expressions.specs.Known.{conditional_becomes, logical_becomes, fold_conditional, fold_logical, at_expression_end}
+use Rattle.rules_expressions.specs.Unused.{unused_becomes, fold_unused, UnusedOperations, last, one_more}
 use Rattle.rules_expressions.proofs.Becoming.{branch, branch_is_less, side, side_is_less}
-use Rattle.rules_expressions.proofs.Editing.{conditional_edit, logical_edit}
+use Rattle.rules_expressions.proofs.Unused.{left_part, left_is_less, unused_edits_there}
+use Rattle.rules_expressions.proofs.Editing.{conditional_edit, logical_edit, unused_edit}
 
 module _ (E : CompressOptions → Forest → Forest → Type 0) (makes : (o : CompressOptions) (t u : Forest) → Edit t u → E o t u) where
   pub conditionals_fold : Lawful E fold_conditional
@@ -28,5 +31,17 @@ module _ (E : CompressOptions → Forest → Forest → Type 0) (makes : (o : Co
     lighter = λ c x y e. (side_is_less x.note (side (spot_of c.place) x.kind x.below y e)).lighter;
   }
 
+  -- an edit for each operation
+  unused_edits : (o : CompressOptions) (a : Around) (r : Forest) (x y : Tree) → UnusedOperations (place a r) x y → Edits (E o) (plug a (before x r)) (plug a (before y r))
+  unused_edits o a r x y (last e) = one_edit (makes o (plug a (before x r)) (plug a (before y r)) (unused_edit a x y r e)) no_edit
+  unused_edits o a r x z (one_more y e more) = one_edit (makes o (plug a (before x r)) (plug a (before y r)) (unused_edit a x y r e)) (unused_edits o a r y z more)
+
+  pub unused_fold : Lawful E fold_unused
+  unused_fold = record {
+    edits = λ c a x y r h at e. unused_edits c.options a r x y (unused_edits_there a x y r (ap (λ p. unused_becomes (spot_of p) x.kind x.below) at ∙ e));
+    thins = λ c x y e. (left_is_less x.note (left_part (spot_of c.place) x.kind x.below y e)).thins;
+    lighter = λ c x y e. (left_is_less x.note (left_part (spot_of c.place) x.kind x.below y e)).lighter;
+  }
+
   pub expressions_fold : Lawful E at_expression_end
-  expressions_fold = either_lawful conditionals_fold logicals_fold
+  expressions_fold = either_lawful (either_lawful conditionals_fold logicals_fold) unused_fold

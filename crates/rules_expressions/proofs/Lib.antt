@@ -1,5 +1,6 @@
 pub mod Uses
 pub mod Becoming
+pub mod Unused
 pub mod Editing
 pub mod Folding
 pub mod Settled

@@ -1,4 +1,4 @@
--- Expressions that decide by a literal.
+-- Expressions that decide by a literal, and all rules on expressions.
 use Rattle.std.specs.Prelude.{Bool, true, false, Option, None, Some, if◌then◌else◌}
 use Rattle.js_syntax.specs.declared.node_kind.NodeKind.{NodeKind as Kind}
 use Rattle.js_syntax.specs.declared.node_kind.NodeKind.TheVariants.{ConditionalExpression as conditional_expression, LogicalExpression as logical_expression, Literal as literal}
@@ -9,6 +9,7 @@ use Rattle.js_meaning.specs.Value.{literal_value}
 use Rattle.js_meaning.specs.Operator.{truthy, goes_right}
 use Rattle.min_traverse.specs.Lawful.{Rule, either}
 use Rattle.rules_expressions.specs.Uses.{Spot, spot_of, bare}
+use Rattle.rules_expressions.specs.Unused.{fold_unused}
 
 -- of both branches the one that is taken
 abbrev pub branch_taken : Spot → (truth : Bool) → (branches : Forest) → Option Tree
@@ -51,4 +52,4 @@ fold_logical c x = logical_becomes (spot_of c.place) x.kind x.below
 
 -- what becomes of an expression at its end
 abbrev pub at_expression_end : Rule
-at_expression_end = either fold_conditional fold_logical
+at_expression_end = either (either fold_conditional fold_logical) fold_unused

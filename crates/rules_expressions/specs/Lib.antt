@@ -1,4 +1,5 @@
 pub mod Uses
+pub mod Unused
 pub mod Known
 pub mod Settled
 pub mod Samples

@@ -1,6 +1,7 @@
 -- The rules, tried on small programs.
 use Rattle.std.specs.Prelude.{[], ◌∷◌, true, false, Option, codes}
 use Rattle.js_syntax.specs.declared.node_kind.NodeKind.{NodeKind as Kind}
+use Rattle.js_syntax.specs.declared.operator.BinaryOperator.{BinaryOperator}
 use Rattle.js_syntax.specs.declared.operator.LogicalOperator.{LogicalOperator}
 use Rattle.js_syntax.specs.declared.operator.UnaryOperator.{UnaryOperator}
 use Rattle.js_syntax.specs.declared.value.Key.TheVariants.{Name as key_name}
@@ -14,11 +15,12 @@ use Rattle.min_traverse.specs.Lawful.{or_same, or_else}
 use Rattle.min_traverse.specs.Moves.{before}
 use Rattle.rules_expressions.specs.Uses.{spot_of}
 use Rattle.rules_expressions.specs.Known.{conditional_becomes, logical_becomes}
+use Rattle.rules_expressions.specs.Unused.{unused_becomes}
 
--- ---- what a walk leaves that asks both rules behind each node
+-- ---- what a walk leaves that asks all rules behind each node
 
 abbrev pub becomes_at : Place → Tree → Option Tree
-becomes_at p x = or_else (conditional_becomes (spot_of p) x.kind x.below) (logical_becomes (spot_of p) x.kind x.below)
+becomes_at p x = or_else (or_else (conditional_becomes (spot_of p) x.kind x.below) (logical_becomes (spot_of p) x.kind x.below)) (unused_becomes (spot_of p) x.kind x.below)
 
 abbrev pub folded_at : Place → Tree → Tree
 folded_at p x = or_same x (becomes_at p x)
@@ -50,6 +52,9 @@ member = over (Kind.MemberExpression (key_name (codes "f")) false) (joined (read
 
 abbrev pub logical : LogicalOperator → (left right : Forest) → Forest
 logical o left right = over (Kind.LogicalExpression o) (joined left right)
+
+abbrev pub binary : BinaryOperator → (left right : Forest) → Forest
+binary o left right = over (Kind.BinaryExpression o) (joined left right)
 
 abbrev pub unary : UnaryOperator → Forest → Forest
 unary o e = over (Kind.UnaryExpression o) e

@@ -4,12 +4,14 @@ ghost use Rattle.steps_allowed.specs.Edits.{Edit};
 ghost use Rattle.min_options.specs.declared.options.CompressOptions.{CompressOptions};
 ghost use Rattle.min_traverse.specs.Lawful.{Lawful};
 ghost use Rattle.rules_expressions.specs.Known.{fold_conditional, fold_logical, at_expression_end};
+ghost use Rattle.rules_expressions.specs.Unused.{fold_unused};
 
 use min_traverse::Traverse;
 
-/// Law: each rule is lawful for a walker that may make the edits of a dead code remover, and so are both, one after the other.
+/// Law: each rule is lawful for a walker that may make the edits of a dead code remover, and so are all, one after the other.
 pub fn rules_are_lawful<T: Traverse>()
     ensures conditional { ((o : CompressOptions) (t u : Forest) → Edit t u → T.edit o t u) → Lawful T.edit fold_conditional }
     ensures logical { ((o : CompressOptions) (t u : Forest) → Edit t u → T.edit o t u) → Lawful T.edit fold_logical }
-    ensures both { ((o : CompressOptions) (t u : Forest) → Edit t u → T.edit o t u) → Lawful T.edit at_expression_end }
+    ensures unused { ((o : CompressOptions) (t u : Forest) → Edit t u → T.edit o t u) → Lawful T.edit fold_unused }
+    ensures all { ((o : CompressOptions) (t u : Forest) → Edit t u → T.edit o t u) → Lawful T.edit at_expression_end }
 {}

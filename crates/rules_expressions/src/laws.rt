@@ -1,5 +1,5 @@
 // Why the rules may do what they do. Each law is a contract, so that the check proves it.
-ghost use Rattle.std.specs.Prelude.{◌≡◌, Some, true};
+ghost use Rattle.std.specs.Prelude.{◌≡◌, ◌⊎◌, Some, true};
 ghost use Rattle.js_syntax.specs.Node.{Forest, Tree};
 ghost use Rattle.min_context.specs.Place.{place_at};
 ghost use Rattle.min_pass.specs.Around.{outermost};
@@ -8,33 +8,47 @@ ghost use Rattle.scope_counts.specs.Edits.{Around};
 ghost use Rattle.steps_allowed.specs.KnownConditional.{KnownConditional};
 ghost use Rattle.steps_allowed.specs.KnownSide.{KnownSide};
 ghost use Rattle.steps_allowed.specs.Places.{asked_at};
+ghost use Rattle.steps_allowed.specs.Unused.{is_unused_at};
+ghost use Rattle.steps_allowed.specs.UnusedOperation.{UnusedOperation};
 ghost use Rattle.steps_allowed.specs.Uses.{use_at};
 ghost use Rattle.rules_dead_code.specs.Before.{before};
 ghost use Rattle.rules_expressions.specs.Uses.{spot_of};
 ghost use Rattle.rules_expressions.specs.Known.{conditional_becomes, logical_becomes};
+ghost use Rattle.rules_expressions.specs.Unused.{unused_becomes, UnusedOperations};
 ghost use Rattle.rules_expressions.specs.Settled.{IsSettled};
 
-/// Law: the context of a walk tells what an expression is used for, and whether a `with` statement is around.
+/// Law: the context of a walk tells what an expression is used for, whether a `with` statement is around, and whether nobody takes
+/// the value.
 pub fn places_tell_the_use()
     ensures used_as { (a : Around) (rest : Forest) → (spot_of (place_at a)).used_as ≡ use_at (before a rest) }
     ensures in_with { (a : Around) (rest : Forest) → (spot_of (place_at a)).in_with ≡ (asked_at (outermost true) (before a rest)).in_with }
+    ensures is_unused { (a : Around) (rest : Forest) → (spot_of (place_at a)).is_unused ≡ is_unused_at (before a rest) }
 {}
 
-/// Law: what a rule answers at a place of a walk a node may become there by an edit.
+/// Law: what a rule answers at a place of a walk a node may become there by an edit, or by several one after the other, which leave
+/// nothing more to do there.
 pub fn answers_are_edits()
     ensures conditional { (a : Around) (x y : Tree) (rest : Forest) → conditional_becomes (spot_of (place_at a)) x.kind x.below ≡ Some y → KnownConditional (before a rest) x y }
     ensures logical { (a : Around) (x y : Tree) (rest : Forest) → logical_becomes (spot_of (place_at a)) x.kind x.below ≡ Some y → KnownSide (before a rest) x y }
+    ensures unused { (a : Around) (x y : Tree) (rest : Forest) → unused_becomes (spot_of (place_at a)) x.kind x.below ≡ Some y → UnusedOperations (before a rest) x y }
+    ensures none_left { (a : Around) (x y z : Tree) (rest : Forest) → unused_becomes (spot_of (place_at a)) x.kind x.below ≡ Some y → UnusedOperation (before a rest) y z → ⊥ }
 {}
 
-/// Law: and where such an edit applies the rule answers what it leaves.
+/// Law: and where such an edit applies the rule answers what it leaves, or what more of them leave of that.
 pub fn edits_are_answers()
     ensures conditional { (a : Around) (x y : Tree) (rest : Forest) → KnownConditional (before a rest) x y → conditional_becomes (spot_of (place_at a)) x.kind x.below ≡ Some y }
     ensures logical { (a : Around) (x y : Tree) (rest : Forest) → KnownSide (before a rest) x y → logical_becomes (spot_of (place_at a)) x.kind x.below ≡ Some y }
+    ensures unused { (a : Around) (x z : Tree) (rest : Forest) → UnusedOperation (before a rest) x z → (y : Tree) × (unused_becomes (spot_of (place_at a)) x.kind x.below ≡ Some y) × ((y ≡ z) ⊎ UnusedOperations (before a rest) z y) }
 {}
 
 /// Law: so the rules change nothing of a program exactly where no such edit applies in it.
 pub fn what_is_settled_has_no_edits()
     ensures conditional { (t : Forest) → IsSettled t → (a : places.Around) (x y : Tree) → t ≡ places.plug a (Some x) → KnownConditional a x y → ⊥ }
     ensures logical { (t : Forest) → IsSettled t → (a : places.Around) (x y : Tree) → t ≡ places.plug a (Some x) → KnownSide a x y → ⊥ }
-    ensures settled { (t : Forest) → ((a : places.Around) (x y : Tree) → t ≡ places.plug a (Some x) → KnownConditional a x y → ⊥) → ((a : places.Around) (x y : Tree) → t ≡ places.plug a (Some x) → KnownSide a x y → ⊥) → IsSettled t }
+    ensures unused { (t : Forest) → IsSettled t → (a : places.Around) (x y : Tree) → t ≡ places.plug a (Some x) → UnusedOperation a x y → ⊥ }
+    ensures settled { (t : Forest)
+        → ((a : places.Around) (x y : Tree) → t ≡ places.plug a (Some x) → KnownConditional a x y → ⊥)
+        → ((a : places.Around) (x y : Tree) → t ≡ places.plug a (Some x) → KnownSide a x y → ⊥)
+        → ((a : places.Around) (x y : Tree) → t ≡ places.plug a (Some x) → UnusedOperation a x y → ⊥)
+        → IsSettled t }
 {}

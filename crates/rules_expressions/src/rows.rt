@@ -1,11 +1,12 @@
 // Small programs, by computing.
-ghost use Rattle.std.specs.Prelude.{◌≡◌, [], ◌∷◌, codes};
+ghost use Rattle.std.specs.Prelude.{◌≡◌, codes};
+ghost use Rattle.js_syntax.specs.declared.operator.BinaryOperator.TheVariants as binary_operator;
 ghost use Rattle.js_syntax.specs.declared.operator.LogicalOperator.TheVariants as logical_operator;
 ghost use Rattle.js_syntax.specs.declared.operator.UnaryOperator.TheVariants as unary_operator;
 ghost use Rattle.form_rules.specs.Samples.{a, reads, one, does, calls};
 ghost use Rattle.scope_rules.specs.Samples.{b};
 ghost use Rattle.steps_allowed.specs.Rows.{null, conditional, with_a};
-ghost use Rattle.rules_expressions.specs.Samples.{left, left_of, doing, uses, member, logical, unary, parenthesized, empty_text, a_function};
+ghost use Rattle.rules_expressions.specs.Samples.{left, left_of, doing, uses, member, logical, binary, unary, parenthesized, empty_text, a_function};
 
 /// A conditional on a literal becomes the branch that is taken, at any depth.
 pub fn branches_left()
@@ -40,13 +41,33 @@ pub fn callees_left()
 
 /// `typeof` takes a name that nothing declares, and `delete` what a member refers to (13.5.3, 13.5.1).
 pub fn operands_left()
-    ensures typeof_name { left_of (unary unary_operator.Typeof (conditional one (reads b) null)) ≡ doing (unary unary_operator.Typeof (conditional one (reads b) null)) }
-    ensures typeof_member { left_of (unary unary_operator.Typeof (conditional one member null)) ≡ doing (unary unary_operator.Typeof member) }
-    ensures delete_member { left_of (unary unary_operator.Delete (conditional one member null)) ≡ doing (unary unary_operator.Delete (conditional one member null)) }
-    ensures not_member { left_of (unary unary_operator.LogicalNot (conditional one member null)) ≡ doing (unary unary_operator.LogicalNot member) }
+    ensures typeof_name { left_of (uses (unary unary_operator.Typeof (conditional one (reads b) null))) ≡ doing (uses (unary unary_operator.Typeof (conditional one (reads b) null))) }
+    ensures typeof_member { left_of (uses (unary unary_operator.Typeof (conditional one member null))) ≡ doing (uses (unary unary_operator.Typeof member)) }
+    ensures delete_member { left_of (uses (unary unary_operator.Delete (conditional one member null))) ≡ doing (uses (unary unary_operator.Delete (conditional one member null))) }
+    ensures not_member { left_of (uses (unary unary_operator.LogicalNot (conditional one member null))) ≡ doing (uses (unary unary_operator.LogicalNot member)) }
 {}
 
 /// A function stays where it might take a name (8.4).
 pub fn functions_left()
     ensures { left_of (uses (conditional one a_function null)) ≡ doing (uses (conditional one a_function null)) }
+{}
+
+/// Where nobody takes the value of an operation the operand is left that acts, whatever operations it lies in.
+pub fn operations_left()
+    ensures compared { left_of (unary unary_operator.LogicalNot (binary binary_operator.StrictEquality (calls (reads a)) one)) ≡ doing (calls (reads a)) }
+    ensures negated { left_of (unary unary_operator.LogicalNot (unary unary_operator.LogicalNot (unary unary_operator.LogicalNot (calls (reads a))))) ≡ doing (calls (reads a)) }
+    ensures typeof_call { left_of (unary unary_operator.Typeof (calls (reads a))) ≡ doing (calls (reads a)) }
+    ensures left_side { left_of (logical logical_operator.And (calls (reads a)) one) ≡ doing (calls (reads a)) }
+    ensures condition { left_of (conditional (calls (reads a)) one null) ≡ doing (calls (reads a)) }
+    ensures right_side { left_of (binary binary_operator.StrictEquality one (calls (reads a))) ≡ doing (calls (reads a)) }
+    ensures in_parentheses { left_of (parenthesized (unary unary_operator.LogicalNot (calls (reads a)))) ≡ doing (parenthesized (calls (reads a))) }
+    ensures in_branch { left_of (logical logical_operator.And (reads a) (unary unary_operator.LogicalNot (calls (reads b)))) ≡ doing (logical logical_operator.And (reads a) (calls (reads b))) }
+{}
+
+/// It stays where its value is used, where both sides may act (no name is known), and where a name is the operand of `typeof`, which
+/// takes one that nothing declares (13.5.3).
+pub fn operations_that_stay()
+    ensures used { left_of (uses (unary unary_operator.LogicalNot (calls (reads a)))) ≡ doing (uses (unary unary_operator.LogicalNot (calls (reads a)))) }
+    ensures both { left_of (binary binary_operator.StrictEquality (reads a) (reads b)) ≡ doing (binary binary_operator.StrictEquality (reads a) (reads b)) }
+    ensures name { left_of (unary unary_operator.Typeof (reads a)) ≡ doing (unary unary_operator.Typeof (reads a)) }
 {}

@@ -1,4 +1,4 @@
-use Rattle.rules_expressions.proofs.Folding.{conditionals_fold, logicals_fold, expressions_fold}
+use Rattle.rules_expressions.proofs.Folding.{conditionals_fold, logicals_fold, unused_fold, expressions_fold}
 use Rattle.rules_expressions.proofs.lawful.rules_are_lawful.Goals as goal
 
 pub returns-clause-conditional : goal.returns-clause-conditional
@@ -7,5 +7,8 @@ returns-clause-conditional g c = conditionals_fold g.T.Traverse.edit
 pub returns-clause-logical : goal.returns-clause-logical
 returns-clause-logical g c = logicals_fold g.T.Traverse.edit
 
-pub returns-clause-both : goal.returns-clause-both
-returns-clause-both g c = expressions_fold g.T.Traverse.edit
+pub returns-clause-unused : goal.returns-clause-unused
+returns-clause-unused g c = unused_fold g.T.Traverse.edit
+
+pub returns-clause-all : goal.returns-clause-all
+returns-clause-all g c = expressions_fold g.T.Traverse.edit

@@ -1,4 +1,5 @@
 use Rattle.rules_expressions.proofs.Editing.{conditional_edits_there, logical_edits_there}
+use Rattle.rules_expressions.proofs.Unused.{unused_edits_there, none_left_there}
 use Rattle.rules_expressions.proofs.laws.answers_are_edits.Goals as goal
 
 pub returns-clause-conditional : goal.returns-clause-conditional
@@ -6,3 +7,9 @@ returns-clause-conditional c = conditional_edits_there
 
 pub returns-clause-logical : goal.returns-clause-logical
 returns-clause-logical c = logical_edits_there
+
+pub returns-clause-unused : goal.returns-clause-unused
+returns-clause-unused c = unused_edits_there
+
+pub returns-clause-none_left : goal.returns-clause-none_left
+returns-clause-none_left c = none_left_there

@@ -1,4 +1,5 @@
 use Rattle.rules_expressions.proofs.Editing.{conditional_answers_there, logical_answers_there}
+use Rattle.rules_expressions.proofs.Unused.{unused_answers_there}
 use Rattle.rules_expressions.proofs.laws.edits_are_answers.Goals as goal
 
 pub returns-clause-conditional : goal.returns-clause-conditional
@@ -6,3 +7,6 @@ returns-clause-conditional c = conditional_answers_there
 
 pub returns-clause-logical : goal.returns-clause-logical
 returns-clause-logical c = logical_answers_there
+
+pub returns-clause-unused : goal.returns-clause-unused
+returns-clause-unused c = unused_answers_there

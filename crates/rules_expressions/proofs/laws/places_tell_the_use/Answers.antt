@@ -1,4 +1,4 @@
-use Rattle.rules_expressions.proofs.Uses.{use_is, in_with_is}
+use Rattle.rules_expressions.proofs.Uses.{use_is, in_with_is, is_unused_is}
 use Rattle.rules_expressions.proofs.laws.places_tell_the_use.Goals as goal
 
 pub returns-clause-used_as : goal.returns-clause-used_as
@@ -6,3 +6,6 @@ returns-clause-used_as c = use_is
 
 pub returns-clause-in_with : goal.returns-clause-in_with
 returns-clause-in_with c = in_with_is
+
+pub returns-clause-is_unused : goal.returns-clause-is_unused
+returns-clause-is_unused c = is_unused_is

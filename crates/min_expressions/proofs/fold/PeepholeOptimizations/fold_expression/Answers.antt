@@ -1,20 +1,21 @@
 use Rattle.std.proofs.Common.{sym, subst}
-use Rattle.min_traverse.specs.Lawful.{Does}
+use Rattle.min_traverse.specs.Lawful.{Does, either}
 use Rattle.min_traverse.proofs.Joining.{first_does, then_does}
 use Rattle.rules_expressions.specs.Known.{fold_conditional, fold_logical, at_expression_end}
+use Rattle.rules_expressions.specs.Unused.{fold_unused}
 use Rattle.min_expressions.proofs.fold.PeepholeOptimizations.fold_expression.Goals as goal
 
-pub returns-then-try_fold_conditional_expression : goal.returns-then-try_fold_conditional_expression
-returns-then-try_fold_conditional_expression c =
-    let at = c.try_fold_conditional_expression in
+pub returns-then-fold_decided : goal.returns-then-fold_decided
+returns-then-fold_decided c =
+    let at = c.fold_decided in
     record {
-      does = subst (λ b. Does at_expression_end c.args.ctx.now c.args.node.now b at.new.ctx at.new.node) (sym c.if-try_fold_conditional_expression.true)
-          (first_does fold_conditional fold_logical (subst (λ b. Does fold_conditional c.args.ctx.now c.args.node.now b at.new.ctx at.new.node) c.if-try_fold_conditional_expression.true at.ensures.does));
+      does = subst (λ b. Does at_expression_end c.args.ctx.now c.args.node.now b at.new.ctx at.new.node) (sym c.if-fold_decided.true)
+          (first_does (either fold_conditional fold_logical) fold_unused (subst (λ b. Does (either fold_conditional fold_logical) c.args.ctx.now c.args.node.now b at.new.ctx at.new.node) c.if-fold_decided.true at.ensures));
     }
 
-pub returns-else-try_fold_conditional_expression : goal.returns-else-try_fold_conditional_expression
-returns-else-try_fold_conditional_expression c =
-    let at = c.try_fold_conditional_expression in
+pub returns-else-fold_decided : goal.returns-else-fold_decided
+returns-else-fold_decided c =
+    let at = c.fold_decided in
     record {
-      does = then_does fold_conditional fold_logical (subst (λ b. Does fold_conditional c.args.ctx.now c.args.node.now b at.new.ctx at.new.node) c.if-try_fold_conditional_expression.false at.ensures.does) c.fold_logical_expr.ensures.does;
+      does = then_does (either fold_conditional fold_logical) fold_unused (subst (λ b. Does (either fold_conditional fold_logical) c.args.ctx.now c.args.node.now b at.new.ctx at.new.node) c.if-fold_decided.false at.ensures) c.remove_unused_expression.ensures.does;
     }
