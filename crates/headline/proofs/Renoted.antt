@@ -1,14 +1,18 @@
 -- A program without dead code has none with other notes.
-use Rattle.std.proofs.Common.{◌≡◌, ◌∙◌, ◌+◌, ℕ, suc, List, [], ◌∷◌, ◌++◌, map, Bool, true, false, not, ◌&&◌, ◌||◌, Option, Some, None, is_some, option_map, if◌then◌else◌, refl, sym, ap, ap₂, subst, inl, inr}
+use Rattle.std.proofs.Common.{◌≡◌, ◌∙◌, ◌+◌, ℕ, zero, suc, List, [], ◌∷◌, ◌++◌, map, Bool, true, false, not, ◌&&◌, ◌||◌, Option, Some, None, is_some, option_map, if◌then◌else◌, refl, sym, ap, ap₂, subst, inl, inr, true≢false}
 use Rattle.std.proofs.lemmas.List.{map-append}
 use Rattle.std.specs.Str.{bytes_eq}
 use mathlib.Core.Path.{fun_ext}
 use Rattle.js_syntax.specs.declared.node_kind.NodeKind.{NodeKind as Kind}
-use Rattle.js_syntax.specs.declared.node_kind.NodeKind.TheVariants.{Function as function, BindingName as binding_name, ReferenceName as reference_name, TargetName as target_name, EmptyStatement as empty_statement, ExpressionStatement as expression_statement, VariableDeclarator as variable_declarator, MemberExpression as member_expression, ChainExpression as chain_expression, ParenthesizedExpression as parenthesized_expression, Class as class, ConditionalExpression as conditional_expression, LogicalExpression as logical_expression, Literal as literal}
+use Rattle.js_syntax.specs.declared.node_kind.NodeKind.TheVariants.{Function as function, BindingName as binding_name, ReferenceName as reference_name, TargetName as target_name, EmptyStatement as empty_statement, ExpressionStatement as expression_statement, VariableDeclarator as variable_declarator, MemberExpression as member_expression, ChainExpression as chain_expression, ParenthesizedExpression as parenthesized_expression, Class as class, ConditionalExpression as conditional_expression, LogicalExpression as logical_expression, UnaryExpression as unary_expression, BinaryExpression as binary_expression, Literal as literal}
 use Rattle.js_syntax.specs.declared.kind.FunctionKind.TheVariants as function_kind
 use Rattle.js_syntax.specs.declared.kind.VariableKind.TheVariants as variable
 use Rattle.js_syntax.specs.declared.value.LiteralValue.{LiteralValue}
+use Rattle.js_syntax.specs.declared.operator.UnaryOperator.{UnaryOperator}
+use Rattle.js_syntax.specs.declared.operator.BinaryOperator.{BinaryOperator}
 use Rattle.js_syntax.specs.Node.{Forest, Tree, Note, nothing, node, absent, nowhere, bare}
+use Rattle.js_effects.specs.Silence.{has_effect, may_have_effects}
+use Rattle.js_meaning_near.specs.Unused.{is_total, compares}
 use Rattle.min_pass.specs.declared.around.Around.{Around as Asked}
 use Rattle.min_pass.specs.Around.{is_with, entered as asked_below, outermost as asked_of_program}
 use Rattle.min_pass.specs.Pass.{is_given}
@@ -23,7 +27,9 @@ use Rattle.scope_laws.proofs.Among.{among_map, image}
 use Rattle.steps_names.specs.Standing.{is_export, exported_sites, exported_declarations}
 use Rattle.steps_allowed.specs.Silent.{read_in, IsFound, IsSilentNode, IsSilent, HoldsThere}
 use Rattle.steps_allowed.specs.Exposure.{Exposure, exposed_inside, exposed_of, exposed_at, exposure, function_is_exposed, evaluates_somewhere, IsOwnFunction, IsOwnDeclarator}
-use Rattle.steps_allowed.specs.Uses.{Use, use_below, use_there, use_at, chain_matters, matters, may_take_name, stands_bare}
+use Rattle.steps_allowed.specs.Uses.{Use, as_value, operand_of, use_below, use_there, use_at, chain_matters, matters, may_take_name, stands_bare}
+use Rattle.steps_allowed.specs.Unused.{is_unused_below, unused_there}
+use Rattle.steps_allowed.specs.Child.{child_at}
 use Rattle.steps_allowed.specs.Places.{a_node, asked_at, IsItem, IsDeclarator, At, MayStandBare}
 use Rattle.steps_allowed.specs.Free.{IsFree, Free, FreeDeclarator}
 use Rattle.steps_allowed.specs.SilentStatement.{SilentStatement}
@@ -31,9 +37,10 @@ use Rattle.steps_allowed.specs.UnusedFunction.{a_function}
 use Rattle.steps_allowed.specs.UnusedDeclarator.{a_declarator, SilentDeclarator}
 use Rattle.steps_allowed.specs.KnownConditional.{KnownConditional, consequent_is_taken, alternate_is_taken}
 use Rattle.steps_allowed.specs.KnownSide.{KnownSide, right_side_counts, left_side_decides}
+use Rattle.steps_allowed.specs.UnusedOperation.{acts, is_needed, index_if, operand_needed, side_needed, left_needed, condition_needed, needed_at, UnusedOperation, one_operand_acts}
 use Rattle.steps_owed.proofs.ExposedBare.{bare_inside, bare_below, bare_exposed}
 use Rattle.steps_owed.proofs.Focus.{follows_there}
-use Rattle.headline.specs.Clean.{IsDead, an_empty_statement, a_silent_statement, an_unused_function, an_unused_declarator, a_known_conditional, a_known_side, Clean}
+use Rattle.headline.specs.Clean.{IsDead, an_empty_statement, a_silent_statement, an_unused_function, an_unused_declarator, a_known_conditional, a_known_side, an_unused_operation, Clean}
 
 -- ---- sites without ids and spans
 
@@ -259,6 +266,7 @@ record Twin (t : Forest) (a : Around) (k : Kind) (n : Note) (b : Forest) : Type 
   same : bare below ≡ bare b
   asked : (w : Asked) → asked_at w around ≡ asked_at w a
   used : (us : ℕ → Use) (at : ℕ) → use_there us at around ≡ use_there us at a
+  unused : (us : ℕ → Bool) (at : ℕ) → unused_there us at around ≡ unused_there us at a
   exposed : (es : ℕ → Exposure) (at : ℕ) → exposed_at es at around (a_node k note below) ≡ exposed_at es at a (a_node k n b)
   holds : (P : Bool → Context → ℕ → Type 0) (w : Bool) (cs : ℕ → Context) (at next : ℕ) → HoldsThere w cs at next a (a_node k n b) P → HoldsThere w cs at next around (a_node k note below) P
 
@@ -273,6 +281,7 @@ twin (first rest) k n b (node l m c r) e = record {
   same = same_below e;
   asked = λ w. refl;
   used = λ us at. refl;
+  unused = λ us at. refl;
   exposed = λ es at. refl;
   holds = λ P w cs at next h. h;
 }
@@ -288,6 +297,7 @@ twin (behind j i d a) k n b (node l m c r) e =
       same = o.same;
       asked = o.asked;
       used = λ us at. o.used us (suc at);
+      unused = λ us at. o.unused us (suc at);
       exposed = λ es at. o.exposed es (suc at);
       holds = λ P w cs at next h. subst (λ (q : ℕ). HoldsThere w cs (suc at) q o.around (a_node k o.note o.below) P) (sym (place_as next j m i c d (same_below e))) (o.holds P w cs (suc at) (next + scope_count (node j i d nothing)) h);
     }
@@ -303,6 +313,7 @@ twin (behind_none a) k n b (absent r) e =
       same = o.same;
       asked = o.asked;
       used = λ us at. o.used us (suc at);
+      unused = λ us at. o.unused us (suc at);
       exposed = λ es at. o.exposed es (suc at);
       holds = λ P w cs at next h. o.holds P w cs (suc at) next h;
     }
@@ -321,6 +332,7 @@ twin (under j i a rest) k n b (node l m c r) e =
       same = o.same;
       asked = λ w. o.asked (asked_below w j);
       used = λ us at. o.used (λ i. use_below (us at) j i) 0;
+      unused = λ us at. o.unused (λ i. is_unused_below (us at) j i) 0;
       exposed = λ es at. ap (λ (fs : ℕ → Exposure). exposed_at fs 0 o.around y) (sym (exposed_same (es at) j (plug a x) (plug o.around y) inner)) ∙ o.exposed (exposed_inside (es at) j (plug a x)) 0;
       holds = λ P w cs at next h.
           subst (λ (q : ℕ). HoldsThere (w || is_with j) (inside (cs at) next j (plug o.around y)) 0 (next + q) o.around y P) (opens_same j (plug a x) (plug o.around y) inner)
@@ -463,8 +475,88 @@ names_taken_bare parenthesized_expression (absent rest) = refl
 names_taken_bare parenthesized_expression nothing = refl
 names_taken_bare k t = refl
 
+stands_bare_bare : (u : Use) (w : Bool) (k : Kind) (t : Forest) → stands_bare u w k (bare t) ≡ stands_bare u w k t
+stands_bare_bare u w k t = ap₂ (λ m n. not (m || n)) (matters_bare u w k t) (names_taken_bare k t)
+
 stands_as : (u : Use) (w : Bool) (k : Kind) (f g : Forest) → bare f ≡ bare g → stands_bare u w k f ≡ stands_bare u w k g
-stands_as u w k f g e = unseen (stands_bare u w k) (λ t. ap₂ (λ m n. not (m || n)) (matters_bare u w k t) (names_taken_bare k t)) f g e
+stands_as u w k f g e = unseen (stands_bare u w k) (stands_bare_bare u w k) f g e
+
+-- ---- the operand that is needed
+
+-- no name is known, so no id plays a part
+effects_bare : (t : Forest) → may_have_effects [] true (bare t) ≡ may_have_effects [] true t
+effects_bare nothing = refl
+effects_bare (absent rest) = effects_bare rest
+effects_bare (node k n below rest) = ap₂ (λ x y. has_effect [] true k n x || y) (effects_bare below) (effects_bare rest)
+
+acts_bare : (k : Kind) (n : Note) (t : Forest) → acts k nowhere (bare t) ≡ acts k n t
+acts_bare k n t = effects_bare (node k n t nothing)
+
+is_needed_bare : (u : Use) (k : Kind) (n : Note) (t : Forest) → is_needed u k nowhere (bare t) ≡ is_needed u k n t
+is_needed_bare u k n t = ap₂ (λ x y. x && y) (acts_bare k n t) (stands_bare_bare u false k t)
+
+operand_bare : (o : UnaryOperator) (t : Forest) → operand_needed o (bare t) ≡ operand_needed o t
+operand_bare o (node k n a nothing) = ap (λ x. index_if (is_total o && x) 0) (is_needed_bare (operand_of o) k n a)
+operand_bare o (node k n a (node l m b rest)) = refl
+operand_bare o (node k n a (absent rest)) = refl
+operand_bare o (absent rest) = refl
+operand_bare o nothing = refl
+
+side_bare : (o : BinaryOperator) (t : Forest) → side_needed o (bare t) ≡ side_needed o t
+side_bare o (node k n a (node l m b nothing)) =
+    ap₂ (λ x y. if x then y else index_if (compares o && is_needed as_value k nowhere (bare a)) 0) (acts_bare l m b)
+    (ap₂ (λ x y. index_if (compares o && (not x && y)) 1) (acts_bare k n a) (stands_bare_bare as_value false l b))
+    ∙ ap (λ x. if acts l m b then index_if (compares o && (not (acts k n a) && stands_bare as_value false l b)) 1 else index_if (compares o && x) 0) (is_needed_bare as_value k n a)
+side_bare o (node k n a (node l m b (node j i c rest))) = refl
+side_bare o (node k n a (node l m b (absent rest))) = refl
+side_bare o (node k n a (absent rest)) = refl
+side_bare o (node k n a nothing) = refl
+side_bare o (absent rest) = refl
+side_bare o nothing = refl
+
+left_bare : (t : Forest) → left_needed (bare t) ≡ left_needed t
+left_bare (node k n a (node l m b nothing)) = ap₂ (λ x y. index_if (not x && y) 0) (acts_bare l m b) (is_needed_bare as_value k n a)
+left_bare (node k n a (node l m b (node j i c rest))) = refl
+left_bare (node k n a (node l m b (absent rest))) = refl
+left_bare (node k n a (absent rest)) = refl
+left_bare (node k n a nothing) = refl
+left_bare (absent rest) = refl
+left_bare nothing = refl
+
+condition_bare : (t : Forest) → condition_needed (bare t) ≡ condition_needed t
+condition_bare (node k n a (node l m b (node j i c nothing))) = ap₂ (λ x y. index_if (not x && y) 0) (ap₂ (λ x y. x || y) (acts_bare l m b) (acts_bare j i c)) (is_needed_bare as_value k n a)
+condition_bare (node k n a (node l m b (node j i c (node h g d rest)))) = refl
+condition_bare (node k n a (node l m b (node j i c (absent rest)))) = refl
+condition_bare (node k n a (node l m b (absent rest))) = refl
+condition_bare (node k n a (node l m b nothing)) = refl
+condition_bare (node k n a (absent rest)) = refl
+condition_bare (node k n a nothing) = refl
+condition_bare (absent rest) = refl
+condition_bare nothing = refl
+
+needed_bare : (k : Kind) (t : Forest) → needed_at k (bare t) ≡ needed_at k t
+needed_bare (unary_expression o) t = operand_bare o t
+needed_bare (binary_expression o) t = side_bare o t
+needed_bare (logical_expression o) t = left_bare t
+needed_bare conditional_expression t = condition_bare t
+needed_bare k t = refl
+
+needed_as : (k : Kind) (f g : Forest) → bare f ≡ bare g → needed_at k f ≡ needed_at k g
+needed_as k f g e = unseen (needed_at k) (needed_bare k) f g e
+
+child_bare : (i : ℕ) (t : Forest) → is_some (child_at i (bare t)) ≡ is_some (child_at i t)
+child_bare i nothing = refl
+child_bare zero (absent rest) = refl
+child_bare zero (node k n below rest) = refl
+child_bare (suc i) (absent rest) = child_bare i rest
+child_bare (suc i) (node k n below rest) = child_bare i rest
+
+some_child : (x : Option Tree) → is_some x ≡ true → (y : Tree) × (x ≡ Some y)
+some_child (Some y) h = (y, refl)
+some_child None h = absurd (true≢false (sym h))
+
+child_as : (i : ℕ) (f g : Forest) (y : Tree) → bare f ≡ bare g → child_at i g ≡ Some y → (z : Tree) × (child_at i f ≡ Some z)
+child_as i f g y e h = some_child (child_at i f) (unseen (λ t. is_some (child_at i t)) (child_bare i) f g e ∙ ap is_some h)
 
 -- ---- dead code
 
@@ -569,6 +661,14 @@ module _ (t u : Forest) (e : bare t ≡ bare u) (clean : Clean t) where
       clean.nothing_is_dead o.around _ (o.is ∙ ap (λ d. plug o.around (a_node (logical_expression operator) o.note d)) f.is)
       (a_known_side o.around _ _ (left_side_decides operator v o.note f.note f.first_note k f.first_below goes))
 
+  no_operation : (a : Around) (x y : Tree) → u ≡ plug a (Some x) → UnusedOperation a x y → ⊥
+  no_operation a _ _ is (one_operand_acts i x y unused needed there) =
+      let o = other_place a x.kind x.note x.below is in
+      let now : Tree = record { kind = x.kind; note = o.note; below = o.below } in
+      let z = child_as i o.below x.below y o.same there in
+      clean.nothing_is_dead o.around (Some now) o.is
+      (an_unused_operation o.around now z.0 (one_operand_acts i now z.0 (o.unused (λ j. false) 0 ∙ unused) (needed_as x.kind o.below x.below o.same ∙ needed) z.1))
+
   none_dead : (a : Around) (x : Option Tree) → u ≡ plug a x → IsDead u a x → ⊥
   none_dead a x is (an_empty_statement b n item) = no_empty b n is item
   none_dead a x is (a_silent_statement b n below silent) = no_silent b n below is silent
@@ -576,6 +676,7 @@ module _ (t u : Forest) (e : bare t ≡ bare u) (clean : Clean t) where
   none_dead a x is (an_unused_declarator b n m y value item own silent free) = no_declarator b n m y value is item own silent free
   none_dead a x is (a_known_conditional b y z known) = no_conditional b y z is known
   none_dead a x is (a_known_side b y z known) = no_side b y z is known
+  none_dead a x is (an_unused_operation b y z unused) = no_operation b y z is unused
 
 pub clean_as : (t u : Forest) → bare t ≡ bare u → Clean t → Clean u
 clean_as t u e clean = record { nothing_is_dead = none_dead t u e clean }

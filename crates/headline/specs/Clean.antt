@@ -13,6 +13,8 @@ use Rattle.steps_allowed.specs.UnusedDeclarator.{a_declarator, SilentDeclarator}
 -- what decides by a literal, and the part that counts, which may stand in its place
 use Rattle.steps_allowed.specs.KnownConditional.{KnownConditional}
 use Rattle.steps_allowed.specs.KnownSide.{KnownSide}
+-- what nobody takes the value of, and the operand that acts
+use Rattle.steps_allowed.specs.UnusedOperation.{UnusedOperation}
 -- whose names only the tree's references may use
 use Rattle.steps_allowed.specs.Exposure.{IsOwnFunction, IsOwnDeclarator}
 
@@ -33,6 +35,8 @@ pub data IsDead (t : Forest) : Around → Option Tree → Type 0 where
   a_known_conditional : (a : Around) (x y : Tree) → KnownConditional a x y → IsDead t a (Some x)
   -- a logical expression whose left side is a literal, if the side that counts may stand in its place: the other does nothing
   a_known_side : (a : Around) (x y : Tree) → KnownSide a x y → IsDead t a (Some x)
+  -- an operation of which nobody takes the value, where one operand alone acts: the rest of it does nothing
+  an_unused_operation : (a : Around) (x y : Tree) → UnusedOperation a x y → IsDead t a (Some x)
 
 -- No part of the program is dead code.
 pub record Clean (t : Forest) : Type 0 where

@@ -19,6 +19,7 @@ use Rattle.rules_dead_code.specs.Rules.{Facts, where_of, is_silent_statement, ha
 use Rattle.rules_dead_code.proofs.Walked.{quiet_nodes}
 use Rattle.rules_expressions.specs.Uses.{spot_of}
 use Rattle.rules_expressions.specs.Known.{conditional_becomes, logical_becomes}
+use Rattle.rules_expressions.specs.Unused.{unused_becomes}
 use Rattle.rules_expressions.specs.Settled.{IsSettledAt}
 use Rattle.rules_expressions.proofs.Walked.{settled_nodes}
 use Rattle.min_peephole.specs.Quiet.{first_facts, is_row, is_settled, stays, all_stay, is_quiet}
@@ -46,14 +47,26 @@ module _ (f : Facts) (p : Place) (k : Kind) (n : Note) (inner : Forest) (h : sta
   at_node : (not one_goes ≡ true) × (not is_silent && is_settled p k inner ≡ true)
   at_node = and_parts (not one_goes) (not is_silent && is_settled p k inner) h
 
-  at_expression : (not (is_some (conditional_becomes (spot_of p) k inner)) ≡ true) × (not (is_some (logical_becomes (spot_of p) k inner)) ≡ true)
-  at_expression = and_parts (not (is_some (conditional_becomes (spot_of p) k inner))) (not (is_some (logical_becomes (spot_of p) k inner))) (and_parts (not is_silent) (is_settled p k inner) at_node.1).1
+  abbrev none_known : Bool
+  none_known = not (is_some (logical_becomes (spot_of p) k inner))
+
+  abbrev none_unused : Bool
+  none_unused = not (is_some (unused_becomes (spot_of p) k inner))
+
+  at_expression : (not (is_some (conditional_becomes (spot_of p) k inner)) ≡ true) × (none_known && none_unused ≡ true)
+  at_expression = and_parts (not (is_some (conditional_becomes (spot_of p) k inner))) (none_known && none_unused) (and_parts (not is_silent) (is_settled p k inner) at_node.1).1
 
   quiet_here : IsQuietAt f p (record { kind = k; note = n; below = inner })
   quiet_here = record { list = list_stays k (has_dead f (where_of p) inner) at_node.0; statement = none_empty is_silent _ (and_parts (not is_silent) (is_settled p k inner) at_node.1).0 }
 
   settled_here : IsSettledAt p (record { kind = k; note = n; below = inner })
-  settled_here = record { conditional = none_there (conditional_becomes (spot_of p) k inner) at_expression.0; logical = none_there (logical_becomes (spot_of p) k inner) at_expression.1 }
+  settled_here =
+      let others = and_parts none_known none_unused at_expression.1 in
+      record {
+        conditional = none_there (conditional_becomes (spot_of p) k inner) at_expression.0;
+        logical = none_there (logical_becomes (spot_of p) k inner) others.0;
+        unused = none_there (unused_becomes (spot_of p) k inner) others.1;
+      }
 
 each_stays : (Q : Place → Tree → Type 0) (f : Facts) → ((p : Place) (k : Kind) (n : Note) (inner : Forest) → stays f p k inner ≡ true → Q p (record { kind = k; note = n; below = inner })) → (s : Spot) (t : Forest) → all_stay f s t ≡ true → EachNode Q s t
 each_stays Q f here s nothing h = tt

@@ -12,6 +12,7 @@ use Rattle.exported_names.specs.Exported.{exported_of}
 use Rattle.rules_dead_code.specs.Rules.{Facts, where_of, is_silent_statement, has_dead}
 use Rattle.rules_expressions.specs.Uses.{spot_of}
 use Rattle.rules_expressions.specs.Known.{conditional_becomes, logical_becomes}
+use Rattle.rules_expressions.specs.Unused.{unused_becomes}
 
 -- what the first pass knows
 abbrev pub first_facts : Forest → Facts
@@ -23,7 +24,7 @@ is_row k = false
 
 -- an expression at a place comes to no part
 abbrev pub is_settled : Place → Kind → (inner : Forest) → Bool
-is_settled p k inner = not (is_some (conditional_becomes (spot_of p) k inner)) && not (is_some (logical_becomes (spot_of p) k inner))
+is_settled p k inner = not (is_some (conditional_becomes (spot_of p) k inner)) && (not (is_some (logical_becomes (spot_of p) k inner)) && not (is_some (unused_becomes (spot_of p) k inner)))
 
 -- a node at a place: no item of a list goes, no statement becomes empty, and no expression comes to a part
 abbrev pub stays : Facts → Place → Kind → (inner : Forest) → Bool

@@ -1,10 +1,17 @@
 -- What the hook of expressions does, and that it may.
-use Rattle.std.proofs.Common.{◌≡◌, ◌∙◌, ◌⊎◌, inl, inr, Bool, true, false, Option, Some, None, is_some, refl, sym, ap, subst, arith}
-use Rattle.js_syntax.specs.Node.{Forest, Tree}
+use Rattle.std.proofs.Common.{◌≡◌, ◌∙◌, ◌⊎◌, inl, inr, Bool, true, false, not, ◌||◌, Option, Some, None, is_some, refl, sym, ap, ap₂, subst, arith, true≢false}
+use Rattle.js_syntax.specs.declared.node_kind.NodeKind.{NodeKind as Kind}
+use Rattle.js_syntax.specs.declared.node_kind.NodeKind.TheVariants.{MemberExpression as member_expression, ChainExpression as chain_expression, ParenthesizedExpression as parenthesized_expression}
+use Rattle.js_syntax.specs.declared.operator.UnaryOperator.TheVariants as unary
+use Rattle.js_syntax.specs.Node.{Forest, Note, Tree, nothing, node, absent}
 use Rattle.scope_laws.specs.Place as places
 use Rattle.scope_counts.specs.Edits.{Around}
 use Rattle.steps_allowed.specs.KnownConditional.{KnownConditional, consequent_is_taken, alternate_is_taken}
 use Rattle.steps_allowed.specs.KnownSide.{KnownSide, right_side_counts, left_side_decides}
+use Rattle.steps_allowed.specs.UnusedOperation.{UnusedOperation, one_operand_acts}
+use Rattle.steps_allowed.specs.Uses.{as_value, as_typed, use_at, matters, may_take_name, stands_bare}
+use Rattle.steps_owed.proofs.UnusedPlace.{unused_as_value}
+use Rattle.steps_owed.proofs.UnusedOperation.{Needed, the_operand, first_side, second_side, left_side, the_condition, needed_part}
 use Rattle.min_context.specs.Edited.{Edited}
 use Rattle.min_context.specs.Place.{place_at}
 use Rattle.min_context.specs.Seen.{Seen}
@@ -13,7 +20,9 @@ use Rattle.min_traverse.specs.Moves.{Holds, IsHere, NodeMoves}
 use Rattle.rules_dead_code.specs.Before.{before}
 use Rattle.rules_expressions.specs.Uses.{spot_of}
 use Rattle.rules_expressions.specs.Known.{conditional_becomes, logical_becomes, at_expression_end}
+use Rattle.rules_expressions.specs.Unused.{unused_becomes, UnusedOperations, last, one_more}
 use Rattle.rules_expressions.proofs.Editing.{conditional_edits_there, logical_edits_there}
+use Rattle.rules_expressions.proofs.Unused.{unused_edits_there}
 use Rattle.rules_expressions.proofs.Folding.{expressions_fold}
 use Rattle.min_statements.specs.Own.{AnyEdit, Own, Found}
 use Rattle.min_statements.specs.Walker.{Names}
@@ -28,6 +37,52 @@ side_calls : (a : places.Around) (x y : Tree) → KnownSide a x y → CallsStay 
 side_calls a x y (right_side_counts operator v n m i k b goes may) = record { fewer = Prim.omega arith; old = refl; in_with = _; bare = may }
 side_calls a x y (left_side_decides operator v n m i k b goes) = record { fewer = Prim.omega arith; old = refl; in_with = false; bare = refl }
 
+-- ---- what becomes an operand of its
+
+value_plain : (k : Kind) (b : Forest) → matters as_value false k b ≡ false
+value_plain parenthesized_expression (node k n b rest) = value_plain k b
+value_plain parenthesized_expression (absent rest) = refl
+value_plain parenthesized_expression nothing = refl
+value_plain chain_expression (node (member_expression key optional) n b rest) = refl
+value_plain chain_expression (node k n b rest) = refl
+value_plain chain_expression (absent rest) = refl
+value_plain chain_expression nothing = refl
+value_plain k b = refl
+
+no_name_taken : (m t : Bool) → not (m || t) ≡ true → t ≡ false
+no_name_taken true t e = absurd (true≢false (sym e))
+no_name_taken false true e = absurd (true≢false (sym e))
+no_name_taken false false e = refl
+
+-- what stands bare as the operand of `typeof` does as a value
+value_stands : (k : Kind) (b : Forest) → stands_bare as_typed false k b ≡ true → stands_bare as_value false k b ≡ true
+value_stands k b e = ap₂ (λ m t. not (m || t)) (value_plain k b) (no_name_taken (matters as_typed false k b) (may_take_name k b) e)
+
+module _ (a : places.Around) (n : Note) (used : use_at a ≡ as_value) where
+  stands_there : (k : Kind) (b : Forest) → stands_bare as_value false k b ≡ true → stands_bare (use_at a) false k b ≡ true
+  stands_there k b e = ap (λ u. stands_bare u false k b) used ∙ e
+
+  needed_calls : {k : Kind} {parts : Forest} {y : Tree} → Needed k parts y → CallsStay a (record { kind = k; note = n; below = parts }) y
+  needed_calls (the_operand unary.Typeof k m b total bare) = record { fewer = Prim.omega arith; old = refl; in_with = false; bare = stands_there k b (value_stands k b bare) }
+  needed_calls (the_operand unary.Delete k m b total bare) = absurd (true≢false (sym total))
+  needed_calls (the_operand o k m b total bare) = record { fewer = Prim.omega arith; old = refl; in_with = false; bare = stands_there k b bare }
+  needed_calls (first_side o k l m i b c comparing idle bare) = record { fewer = Prim.omega arith; old = refl; in_with = false; bare = stands_there k b bare }
+  needed_calls (second_side o k l m i b c comparing idle bare) = record { fewer = Prim.omega arith; old = refl; in_with = false; bare = stands_there l c bare }
+  needed_calls (left_side o k l m i b c idle bare) = record { fewer = Prim.omega arith; old = refl; in_with = false; bare = stands_there k b bare }
+  needed_calls (the_condition k l j m i z b c d idle idle_too bare) = record { fewer = Prim.omega arith; old = refl; in_with = false; bare = stands_there k b bare }
+
+operation_calls : (a : places.Around) (x y : Tree) → UnusedOperation a x y → CallsStay a x y
+operation_calls a _ _ (one_operand_acts i x y unused at child) = needed_calls a x.note (unused_as_value a unused) (needed_part x.kind x.below i y at child)
+
+then_calls : {a : places.Around} {x y z : Tree} → CallsStay a x y → CallsStay a y z → CallsStay a x z
+then_calls c d = record { fewer = Prim.omega (arith, c.fewer, d.fewer); old = c.old; in_with = d.in_with; bare = d.bare }
+
+operations_call : {a : places.Around} {x y : Tree} → UnusedOperations a x y → CallsStay a x y
+operations_call {a = a} {x = x} {y = y} (last one) = operation_calls a x y one
+operations_call {a = a} {x = x} (one_more y one more) = then_calls (operation_calls a x y one) (operations_call more)
+
+-- ---- what the rules answer
+
 one_of : (o p : Option Tree) (y : Tree) → or_else o p ≡ Some y → (o ≡ Some y) ⊎ (p ≡ Some y)
 one_of None p y e = inr e
 one_of (Some x) p y e = inl e
@@ -35,11 +90,15 @@ one_of (Some x) p y e = inl e
 calls_stay : (c : Seen) (a : Around) (x y : Tree) (r : Forest) → IsHere c a → at_expression_end c x ≡ Some y → CallsStay (before a r) x y
 calls_stay c a x y r here found =
     let s = spot_of (place_at a) in
-    let there : or_else (conditional_becomes s x.kind x.below) (logical_becomes s x.kind x.below) ≡ Some y =
-    subst (λ q. or_else (conditional_becomes (spot_of q) x.kind x.below) (logical_becomes (spot_of q) x.kind x.below) ≡ Some y) (sym here) found in
-    elim (one_of (conditional_becomes s x.kind x.below) (logical_becomes s x.kind x.below) y there) [
-      | inl e ↦ conditional_calls (before a r) x y (conditional_edits_there a x y r e)
-      | inr e ↦ side_calls (before a r) x y (logical_edits_there a x y r e)
+    let known = or_else (conditional_becomes s x.kind x.below) (logical_becomes s x.kind x.below) in
+    let there : or_else known (unused_becomes s x.kind x.below) ≡ Some y =
+    subst (λ q. or_else (or_else (conditional_becomes (spot_of q) x.kind x.below) (logical_becomes (spot_of q) x.kind x.below)) (unused_becomes (spot_of q) x.kind x.below) ≡ Some y) (sym here) found in
+    elim (one_of known (unused_becomes s x.kind x.below) y there) [
+      | inl e ↦ elim (one_of (conditional_becomes s x.kind x.below) (logical_becomes s x.kind x.below) y e) [
+        | inl d ↦ conditional_calls (before a r) x y (conditional_edits_there a x y r d)
+        | inr d ↦ side_calls (before a r) x y (logical_edits_there a x y r d)
+      ]
+      | inr e ↦ operations_call (unused_edits_there a x y r e)
     ]
 
 module _ (stays : Stays AnyEdit) (names : Names) where

@@ -1,8 +1,8 @@
 -- A walk that asked for no other pass saw each node, and nothing of it goes or comes to a part.
-use Rattle.std.proofs.Common.{◌≡◌, ◌∙◌, false, true, Option, Some, None, is_some, refl, sym, ap, subst, true≢false}
+use Rattle.std.proofs.Common.{◌≡◌, ◌∙◌, Bool, false, true, if◌then◌else◌, Option, Some, None, is_some, refl, sym, ap, subst, true≢false}
 use Rattle.js_syntax.specs.Class.{root}
 use Rattle.js_syntax.specs.declared.node_kind.NodeKind.{NodeKind as Kind}
-use Rattle.js_syntax.specs.declared.node_kind.NodeKind.TheVariants.{ExpressionStatement as expression_statement, EmptyStatement as empty_statement, ConditionalExpression as conditional_expression, LogicalExpression as logical_expression}
+use Rattle.js_syntax.specs.declared.node_kind.NodeKind.TheVariants.{ExpressionStatement as expression_statement, EmptyStatement as empty_statement, UnaryExpression as unary_expression, BinaryExpression as binary_expression, ConditionalExpression as conditional_expression, LogicalExpression as logical_expression}
 use Rattle.json_shape.specs.Shape.{Fits}
 use Rattle.min_pass.specs.Pass.{unmarked}
 use Rattle.js_syntax.specs.Node.{Forest, Tree, nothing, node, absent, forest_of}
@@ -24,6 +24,7 @@ use Rattle.rules_dead_code.proofs.Walked.{each_both, quiet_nodes}
 use Rattle.min_traverse.specs.Lawful.{or_else}
 use Rattle.rules_expressions.specs.Uses.{Spot as Asked, spot_of}
 use Rattle.rules_expressions.specs.Known.{conditional_becomes, logical_becomes, at_expression_end}
+use Rattle.rules_expressions.specs.Unused.{unused_becomes}
 use Rattle.rules_expressions.specs.Settled.{IsSettledAt, IsSettled}
 use Rattle.rules_expressions.proofs.Walked.{settled_nodes}
 use Rattle.slots_fit.specs.Had.{is_always_expression, HasSlots}
@@ -31,9 +32,13 @@ use Rattle.slots_fit.proofs.Had.{slots_had}
 use Rattle.min_statements.specs.Walker.{Names, facts_of}
 use Rattle.min_statements.proofs.Acting.{none_left}
 
--- what becomes of an expression at a place
+-- what becomes of an expression, by what is asked of its place
+abbrev becomes_so : Asked → Kind → (parts : Forest) → Option Tree
+becomes_so s k b = or_else (or_else (conditional_becomes s k b) (logical_becomes s k b)) (unused_becomes s k b)
+
+-- and at a place
 abbrev becomes : Place → Tree → Option Tree
-becomes p x = or_else (conditional_becomes (spot_of p) x.kind x.below) (logical_becomes (spot_of p) x.kind x.below)
+becomes p x = becomes_so (spot_of p) x.kind x.below
 
 -- of a list of statements, of a statement and of an expression that has its own slot
 record IsAlive (f : Facts) (p : Place) (x : Tree) : Type 0 where
@@ -193,15 +198,28 @@ second_none None (Some y) e = absurd (true≢false e)
 second_none (Some y) p e = absurd (true≢false e)
 
 -- nodes of other kinds come to nothing
-settled_kind : (s : Asked) (k : Kind) (b : Forest) → (is_always_expression k ≡ true → is_some (or_else (conditional_becomes s k b) (logical_becomes s k b)) ≡ false) → (conditional_becomes s k b ≡ None) × (logical_becomes s k b ≡ None)
-settled_kind s conditional_expression b h = (first_none (conditional_becomes s conditional_expression b) None (h refl), refl)
-settled_kind s (logical_expression o) b h = (refl, second_none None (logical_becomes s (logical_expression o) b) (h refl))
-settled_kind s k b h = (refl, refl)
+none_either_way : (b : Bool) → (let none : Option Tree = None in if b then none else none) ≡ None
+none_either_way true = refl
+none_either_way false = refl
+
+settled_kind : (s : Asked) (k : Kind) (b : Forest) → (is_always_expression k ≡ true → is_some (becomes_so s k b) ≡ false)
+    → (conditional_becomes s k b ≡ None) × (logical_becomes s k b ≡ None) × (unused_becomes s k b ≡ None)
+settled_kind s conditional_expression b h =
+    let c = conditional_becomes s conditional_expression b in
+    let u = unused_becomes s conditional_expression b in
+    (first_none c None (ap is_some (first_none (or_else c None) u (h refl))), refl, second_none (or_else c None) u (h refl))
+settled_kind s (logical_expression o) b h =
+    let l = logical_becomes s (logical_expression o) b in
+    let u = unused_becomes s (logical_expression o) b in
+    (refl, first_none l u (h refl), second_none l u (h refl))
+settled_kind s (unary_expression o) b h = (refl, refl, second_none None (unused_becomes s (unary_expression o) b) (h refl))
+settled_kind s (binary_expression o) b h = (refl, refl, second_none None (unused_becomes s (binary_expression o) b) (h refl))
+settled_kind s k b h = (refl, refl, none_either_way s.is_unused)
 
 settled_at : (f : Facts) (p : Place) (x : Tree) → IsAlive f p x → HasSlots p x → IsSettledAt p x
 settled_at f p x h slots =
     let e = settled_kind (spot_of p) x.kind x.below (λ e. h.expression (slots.expression e)) in
-    record { conditional = e.0; logical = e.1 }
+    record { conditional = e.0; logical = e.1; unused = e.2 }
 
 -- Nothing of a program goes by what is known that a walk found as it is, and no expression of it comes to a part.
 pub none_goes : (s s' : Names) (k k' : Seen) (x y : Tree) → k.place ≡ outside → y ≡ x → Fits root (forest_of y) → Visits Visited is_written top (forest_of x) s k s' k' → IsQuiet (facts_of s' k') (forest_of y)

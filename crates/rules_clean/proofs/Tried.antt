@@ -22,6 +22,7 @@ use Rattle.rules_dead_code.proofs.Tried.{told_only}
 use Rattle.rules_dead_code.proofs.Walked.{quiet_nodes}
 use Rattle.rules_expressions.specs.Uses.{spot_of}
 use Rattle.rules_expressions.specs.Known.{conditional_becomes, logical_becomes}
+use Rattle.rules_expressions.specs.Unused.{unused_becomes}
 use Rattle.rules_expressions.specs.Settled.{IsSettledAt, IsSettled}
 use Rattle.rules_expressions.proofs.Walked.{settled_nodes}
 use Rattle.rules_clean.proofs.Cleaned.{clean}
@@ -38,8 +39,8 @@ fits source = ((a_program, (source, tt), refl, tt, refl, ((refl, (inr (refl, (a_
 still : {f : Facts} {p : Place} {x : Tree} → has_dead f (where_of p) x.below ≡ false → emptied f (where_of p) x ≡ None → IsQuietAt f p x
 still stays statement = record { list = λ is. stays; statement = statement }
 
-settles : {p : Place} {x : Tree} → conditional_becomes (spot_of p) x.kind x.below ≡ None → logical_becomes (spot_of p) x.kind x.below ≡ None → IsSettledAt p x
-settles conditional logical = record { conditional = conditional; logical = logical }
+settles : {p : Place} {x : Tree} → conditional_becomes (spot_of p) x.kind x.below ≡ None → logical_becomes (spot_of p) x.kind x.below ≡ None → unused_becomes (spot_of p) x.kind x.below ≡ None → IsSettledAt p x
+settles conditional logical unused = record { conditional = conditional; logical = logical; unused = unused }
 
 -- ---- a function of a script
 
@@ -58,7 +59,7 @@ script_is_quiet =
 script_is_settled : IsSettled a_function_of_a_script
 script_is_settled =
     settled_nodes a_function_of_a_script
-    (settles refl refl, (settles refl refl, (settles refl refl, (settles refl refl, tt, (settles refl refl, tt, (settles refl refl, (settles refl refl, tt, tt), tt))), tt), tt), tt)
+    (settles refl refl refl, (settles refl refl refl, (settles refl refl refl, (settles refl refl refl, tt, (settles refl refl refl, tt, (settles refl refl refl, (settles refl refl refl, tt, tt), tt))), tt), tt), tt)
 
 pub script_is_clean : Clean a_function_of_a_script
 script_is_clean = clean known_of_the_script a_function_of_a_script script_is_known script_is_known_exactly script_is_quiet script_is_settled

@@ -1,15 +1,16 @@
 -- Which small programs have dead code.
-use Rattle.std.proofs.Common.{◌≡◌, ◌∙◌, inl, inr, [], ◌∷◌, pos, Bool, true, false, ◌||◌, true≢false, Option, Some, None, bytes_eq, codes, refl, sym, ap, arith}
+use Rattle.std.proofs.Common.{◌≡◌, ◌∙◌, inl, inr, ℕ, [], ◌∷◌, pos, Bool, true, false, ◌||◌, true≢false, Option, Some, None, bytes_eq, codes, refl, sym, ap, arith}
 use Rattle.std.proofs.lemmas.Bool.{or_left, or_right}
 use Rattle.js_syntax.specs.Class.{root, expression, callee, declared_name, binding_element, function_block}
 use Rattle.js_syntax.specs.declared.node_kind.NodeKind.{NodeKind as Kind}
 use Rattle.js_syntax.specs.declared.scalar.SourceType.TheVariants as source_type
 use Rattle.js_syntax.specs.declared.kind.VariableKind.TheVariants as variable
+use Rattle.js_syntax.specs.declared.operator.BinaryOperator.TheVariants as binary
 use Rattle.js_syntax.specs.declared.operator.LogicalOperator.TheVariants as logical
 use Rattle.js_syntax.specs.declared.value.Key.TheVariants as key
 use Rattle.js_syntax.specs.declared.value.LiteralValue.{LiteralValue as Literal}
 use Rattle.js_syntax.specs.Node.{Forest, Tree, nothing, node, absent, nowhere, joined, below_of}
-use Rattle.js_syntax.specs.Table.{a_program, an_expression_statement, a_call_expression, a_conditional_expression, a_member_expression, a_reference_name, a_literal, a_binding_name, a_function_declaration, a_function_body, an_export_declaration, a_variable_declaration, a_variable_declarator}
+use Rattle.js_syntax.specs.Table.{a_program, an_expression_statement, a_call_expression, a_conditional_expression, a_member_expression, a_reference_name, a_literal, a_binary_expression, a_binding_name, a_function_declaration, a_function_body, an_export_declaration, a_variable_declaration, a_variable_declarator}
 use Rattle.form_rules.specs.Samples.{over, listed, no, reads, a_module, a_script, a, binds, one, does, declares, let_, function_a, block}
 use Rattle.json_shape.specs.Shape.{one as one_of, key_apart, list, these, Stand, Fits}
 use Rattle.scope_rules.specs.Context.{body_of}
@@ -18,10 +19,11 @@ use Rattle.scope_rules.specs.Binding.{Binding, named_in, declared_by, binding_of
 use Rattle.scope_laws.specs.Exact.{Among}
 use Rattle.scope_laws.specs.Place.{Around, first, behind, behind_none, under, plug}
 use Rattle.steps_names.specs.Standing.{exported_declarations}
-use Rattle.steps_allowed.specs.Rows.{in_list, in_statement, argument, before, call_of_a, call_of_eval, exports_declaration, empty, null}
+use Rattle.steps_allowed.specs.Rows.{in_list, in_statement, statement, argument, before, call_of_a, call_of_eval, exports_declaration, empty, null}
 use Rattle.steps_allowed.specs.KnownConditional.{consequent_is_taken, alternate_is_taken}
 use Rattle.steps_allowed.specs.KnownSide.{right_side_counts, left_side_decides}
-use Rattle.headline.specs.Clean.{IsDead, an_empty_statement, a_silent_statement, an_unused_function, an_unused_declarator, a_known_conditional, a_known_side, Clean}
+use Rattle.steps_allowed.specs.UnusedOperation.{needed_at, one_operand_acts}
+use Rattle.headline.specs.Clean.{IsDead, an_empty_statement, a_silent_statement, an_unused_function, an_unused_declarator, a_known_conditional, a_known_side, an_unused_operation, Clean}
 use Rattle.min_peephole.specs.Quiet.{is_quiet}
 use Rattle.min_peephole.proofs.Quieted.{quiet_clean}
 use Rattle.test_headline.specs.Rows as row
@@ -71,9 +73,13 @@ side_is_dead c =
     let place = in_statement (first nothing) in
     c.nothing_is_dead place _ refl (a_known_side place _ _ (left_side_decides logical.And Literal.Null nowhere nowhere nowhere (Kind.CallExpression false false) (below_of call_of_a) refl))
 
+-- !(a() === 1);
+pub operation_is_dead : Clean row.compares_call → ⊥
+operation_is_dead c = c.nothing_is_dead statement _ refl (an_unused_operation statement _ _ (one_operand_acts 0 _ _ refl refl refl))
+
 -- ---- what has none
 
-name_stands : Stand (these (one_of expression ∷ [])) call_of_a
+pub name_stands : Stand (these (one_of expression ∷ [])) call_of_a
 name_stands = ((a_call_expression, (false, (false, tt)), refl, tt, refl, ((a_reference_name, (a, tt), refl, tt, refl, tt), ((refl, tt), tt))), tt)
 
 eval_stands : Stand (these (one_of expression ∷ [])) call_of_eval
@@ -210,6 +216,32 @@ receiver_fits = (
 pub receiver_is_clean : Clean row.calls_without_receiver
 receiver_is_clean = quiet_clean _ receiver_fits refl
 
+-- a === b;
+names_stand : Stand (these (one_of expression ∷ one_of expression ∷ [])) (joined (reads a) (reads (codes "b")))
+names_stand = ((a_reference_name, (a, tt), refl, tt, refl, tt), ((a_reference_name, (codes "b", tt), refl, tt, refl, tt), tt))
+
+names_fit : Fits root row.compares_names
+names_fit = (
+  (
+    a_program,
+    (source_type.Module, tt),
+    refl,
+    tt,
+    refl,
+    (
+      (
+        refl,
+        (inr (refl, (an_expression_statement, tt, refl, tt, refl, ((a_binary_expression, (binary.StrictEquality, tt), refl, refl, refl, names_stand), tt))), tt),
+      ),
+      tt,
+    ),
+  ),
+  tt,
+)
+
+pub names_are_clean : Clean row.compares_names
+names_are_clean = quiet_clean _ names_fit refl
+
 -- ---- what the rules take
 
 -- behind the export
@@ -236,6 +268,8 @@ is_suspect (Kind.Function how pure) = true
 is_suspect Kind.VariableDeclarator = true
 is_suspect Kind.ConditionalExpression = true
 is_suspect (Kind.LogicalExpression o) = true
+is_suspect (Kind.UnaryExpression o) = true
+is_suspect (Kind.BinaryExpression o) = true
 is_suspect k = false
 
 abbrev has_suspect : Forest → Bool
@@ -249,6 +283,13 @@ suspect_there (behind k n b a) x h = or_right (is_suspect k) (has_suspect b || h
 suspect_there (behind_none a) x h = suspect_there a x h
 suspect_there (under k n a rest) x h = or_right (is_suspect k) (has_suspect (plug a (Some x)) || has_suspect rest) (or_left (has_suspect (plug a (Some x))) (has_suspect rest) (suspect_there a x h))
 
+needed_suspect : (k : Kind) (below : Forest) (i : ℕ) → needed_at k below ≡ Some i → is_suspect k ≡ true
+needed_suspect Kind.ConditionalExpression below i h = refl
+needed_suspect (Kind.LogicalExpression o) below i h = refl
+needed_suspect (Kind.UnaryExpression o) below i h = refl
+needed_suspect (Kind.BinaryExpression o) below i h = refl
+needed_suspect k below i h = absurd Prim.cc
+
 dead_suspect : (t : Forest) (a : Around) (x : Option Tree) → t ≡ plug a x → IsDead t a x → has_suspect t ≡ true
 dead_suspect t a x is (an_empty_statement b n item) = ap has_suspect is ∙ suspect_there b _ refl
 dead_suspect t a x is (a_silent_statement b n below silent) = ap has_suspect is ∙ suspect_there b _ refl
@@ -258,6 +299,7 @@ dead_suspect t a x is (a_known_conditional b y z (consequent_is_taken v n m i j 
 dead_suspect t a x is (a_known_conditional b y z (alternate_is_taken v n m i j k l d e truth may)) = ap has_suspect is ∙ suspect_there b _ refl
 dead_suspect t a x is (a_known_side b y z (right_side_counts o v n m i k d goes may)) = ap has_suspect is ∙ suspect_there b _ refl
 dead_suspect t a x is (a_known_side b y z (left_side_decides o v n m i k d goes)) = ap has_suspect is ∙ suspect_there b _ refl
+dead_suspect t a x is (an_unused_operation b _ _ (one_operand_acts i y z unused needed child)) = ap has_suspect is ∙ suspect_there b y (needed_suspect y.kind y.below i needed)
 
 -- A declaration goes with the last of its declarators, and stays where it has none.
 pub nothing_declared_is_clean : Clean row.declares_nothing

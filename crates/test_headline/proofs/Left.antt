@@ -3,10 +3,13 @@ use Rattle.std.proofs.Common.{◌≡◌, inl, inr, [], ◌∷◌, pos, false, co
 use Rattle.js_syntax.specs.Class.{root, module_item, expression, argument}
 use Rattle.js_syntax.specs.declared.node_kind.NodeKind.{NodeKind as Kind}
 use Rattle.js_syntax.specs.declared.scalar.SourceType.TheVariants as source_type
+use Rattle.js_syntax.specs.declared.operator.BinaryOperator.TheVariants as binary
+use Rattle.js_syntax.specs.declared.operator.UnaryOperator.TheVariants as unary
 use Rattle.js_syntax.specs.declared.value.LiteralValue.{LiteralValue as Literal}
 use Rattle.js_syntax.specs.Node.{Forest, nothing, nowhere}
-use Rattle.js_syntax.specs.Table.{a_program, an_expression_statement, a_call_expression, a_reference_name, a_literal}
+use Rattle.js_syntax.specs.Table.{a_program, an_expression_statement, a_call_expression, a_unary_expression, a_binary_expression, a_reference_name, a_literal}
 use Rattle.form_rules.specs.Form.{IsWellFormed}
+use Rattle.form_rules.specs.Samples as form
 use Rattle.js_meaning.specs.Samples as sample
 use Rattle.js_meaning.specs.Examples.{says_number}
 use Rattle.json_text.specs.Text.{is_identifier_name}
@@ -14,8 +17,9 @@ use Rattle.json_shape.specs.Shape.{one, these, all, all_of_body, Stand, Fits}
 use Rattle.scope_laws.specs.Place.{Around, first}
 use Rattle.steps_allowed.specs.EmptyStatement.{empty_statement_leaves}
 use Rattle.steps_allowed.specs.SilentStatement.{silent_statement_empties}
-use Rattle.steps_allowed.specs.Edits.{no_tree_edit, one_tree_edit, leaves, becomes, empty_statement, silent_statement}
-use Rattle.steps_allowed.specs.Rows.{in_list, past}
+use Rattle.steps_allowed.specs.UnusedOperation.{one_operand_acts}
+use Rattle.steps_allowed.specs.Edits.{no_tree_edit, one_tree_edit, leaves, becomes, empty_statement, silent_statement, unused_operation}
+use Rattle.steps_allowed.specs.Rows.{in_list, past, statement, call_of_a, equals}
 use Rattle.steps_allowed.proofs.Composing.{tree_edits_are_edits}
 use Rattle.headline.specs.Clean.{Clean}
 use Rattle.headline.specs.Headline.{Edits, Headline}
@@ -23,6 +27,7 @@ use Rattle.headline.proofs.Headline.{headline_of}
 use Rattle.headline_text.specs.Written.{written}
 use Rattle.min_peephole.proofs.Quieted.{quiet_clean}
 use Rattle.test_headline.specs.Rows as row
+use Rattle.test_headline.proofs.Dead.{name_stands, call_is_clean as a_is_clean}
 
 number_stands : Stand (all argument) (sample.number_of 1)
 number_stands = ((a_literal, (Literal.Number (pos 1), tt), refl, tt, refl, tt), tt)
@@ -69,6 +74,42 @@ call_is_clean = quiet_clean row.calls_host left_fits refl
 
 pub headline : Headline row.with_dead row.calls_host
 headline = headline_of row.with_dead row.calls_host fits well_formed two_goes call_is_clean
+
+-- ---- of a negated comparison the call on its left is left, and then it stands alone
+
+compares_stands : Stand (these (one expression ∷ [])) (equals call_of_a form.one)
+compares_stands = ((a_binary_expression, (binary.StrictEquality, tt), refl, refl, refl, (name_stands.0, ((a_literal, (Literal.Number (pos 1), tt), refl, tt, refl, tt), tt))), tt)
+
+compares_fits : Fits root row.compares_call
+compares_fits = (
+  (
+    a_program,
+    (source_type.Module, tt),
+    refl,
+    tt,
+    refl,
+    (
+      (
+        refl,
+        (inr (refl, (an_expression_statement, tt, refl, tt, refl, ((a_unary_expression, (unary.LogicalNot, tt), refl, tt, refl, compares_stands), tt))), tt),
+      ),
+      tt,
+    ),
+  ),
+  tt,
+)
+
+compares_well_formed : IsWellFormed row.compares_call
+unfolding is_identifier_name
+compares_well_formed = refl
+
+operations_go : Edits row.compares_call row.calls_a
+operations_go =
+    tree_edits_are_edits (one_tree_edit _ (form.a_module (form.does (equals call_of_a form.one) ∷ [])) _ (becomes statement _ _ (unused_operation (one_operand_acts 0 _ _ refl refl refl)))
+    (one_tree_edit _ _ _ (becomes statement _ _ (unused_operation (one_operand_acts 0 _ _ refl refl refl))) (no_tree_edit _)))
+
+pub operand_left : Headline row.compares_call row.calls_a
+operand_left = headline_of row.compares_call row.calls_a compares_fits compares_well_formed operations_go a_is_clean
 
 pub written_left : written row.less_four ≡ row.with_minus
 written_left = refl

@@ -8,7 +8,7 @@ use Rattle.js_syntax.specs.declared.value.Key.TheVariants as key
 use Rattle.js_syntax.specs.declared.value.LiteralValue.{LiteralValue as Literal}
 use Rattle.js_syntax.specs.Node.{Forest, joined}
 use Rattle.form_rules.specs.Samples as form
-use Rattle.steps_allowed.specs.Rows.{call_of_a, call_of_eval, exports_declaration, null, conditional, logical as either}
+use Rattle.steps_allowed.specs.Rows.{call_of_a, call_of_eval, exports_declaration, null, conditional, logical as either, applied, equals}
 use Rattle.js_meaning.specs.Samples as sample
 use Rattle.js_meaning.specs.Examples.{g, function_g, says_number}
 
@@ -103,6 +103,18 @@ takes_branch = form.a_module (calls (form.reads form.a) (conditional (form.leaf 
 -- null && a();
 abbrev pub never_calls : Forest
 never_calls = form.a_module (form.does (either logical.And null call_of_a) ∷ [])
+
+-- !(a() === 1);
+abbrev pub compares_call : Forest
+compares_call = form.a_module (form.does (applied unary.LogicalNot (equals call_of_a form.one)) ∷ [])
+
+-- a();
+abbrev pub calls_a : Forest
+calls_a = form.a_module (form.does call_of_a ∷ [])
+
+-- a === b;
+abbrev pub compares_names : Forest
+compares_names = form.a_module (form.does (equals (form.reads form.a) (form.reads (codes "b"))) ∷ [])
 
 -- (1 ? a.f : null)();
 abbrev pub calls_without_receiver : Forest

@@ -50,15 +50,17 @@ pub fn what_others_may_use_stays()
     ensures shared { Headline row.of_two_in_script row.of_one_in_script → ⊥ }
 {}
 
-/// `1;` doesn't stay, nor does the conditional of `a(true ? a : b);` or what stands right in `null && a();`.
+/// `1;` doesn't stay, nor does the conditional of `a(true ? a : b);`, what stands right in `null && a();`, or what of `!(a() === 1);` is
+/// no call.
 pub fn dead_code_goes()
     ensures number { Headline row.dead row.dead → ⊥ }
     ensures conditional { Headline row.takes_branch row.takes_branch → ⊥ }
     ensures side { Headline row.never_calls row.never_calls → ⊥ }
+    ensures operation { Headline row.compares_call row.compares_call → ⊥ }
 {}
 
 /// `1;` is dead code, and so are `{ ; }`'s empty statement, a function that nothing calls, one of two declarators, a conditional on a
-/// literal, and a logical expression with a literal on its left.
+/// literal, a logical expression with a literal on its left, and an operation of which nobody takes the value, where one operand alone acts.
 pub fn dead_code_is_told()
     ensures number { Clean (a_module (does one ∷ [])) → ⊥ }
     ensures empty { Clean (a_module (block (empty ∷ []) ∷ [])) → ⊥ }
@@ -66,16 +68,19 @@ pub fn dead_code_is_told()
     ensures declarator { Clean row.of_two → ⊥ }
     ensures conditional { Clean row.takes_branch → ⊥ }
     ensures side { Clean row.never_calls → ⊥ }
+    ensures operation { Clean row.compares_call → ⊥ }
 {}
 
-/// A call is none, nor a function that is exported, a variable beside a direct call of `eval`, a function of a script, and a
-/// conditional that is called so that what it gives has no receiver: `(1 ? a.f : null)();`.
+/// A call is none, nor a function that is exported, a variable beside a direct call of `eval`, a function of a script, a
+/// conditional that is called so that what it gives has no receiver: `(1 ? a.f : null)();`, and a comparison of which both sides may
+/// act, as names do that nothing declares: `a === b;`.
 pub fn what_others_may_use_is_no_dead_code()
     ensures call { Clean (a_module (does call_of_a ∷ [])) }
     ensures exported { Clean (a_module (exports_declaration (function_a [] []) ∷ [])) }
     ensures evaluated { Clean (a_module (declares variable.Let (binds a) one ∷ does call_of_eval ∷ [])) }
     ensures global { Clean (a_script (function_a [] [] ∷ [])) }
     ensures receiver { Clean row.calls_without_receiver }
+    ensures names { Clean row.compares_names }
 {}
 
 /// By an export in a block, which no program of the table has, a function of the block's that nothing refers to is dead code
@@ -88,9 +93,10 @@ pub fn rules_take_dead_code_alone()
     ensures stays { is_quiet row.declares_nothing ≡ true }
 {}
 
-/// `f(1);` may take the place of `f(1); 2;`.
+/// `f(1);` may take the place of `f(1); 2;`, and `a();` that of `!(a() === 1);`.
 pub fn what_is_left()
-    ensures { Headline row.with_dead row.calls_host }
+    ensures statement { Headline row.with_dead row.calls_host }
+    ensures operand { Headline row.compares_call row.calls_a }
 {}
 
 /// Edits lead from `f(-4); 2;` with a literal for -4 to `f(-4);`, which is written with unary minus on 4.
