@@ -5,6 +5,8 @@ have, inputs that are written otherwise than they were read, and what passes lea
 as they are, words and faults of the outside, and the library call.
 """
 import json
+import sys
+sys.setrecursionlimit(20_000) # for rows that nest deeply
 
 def N(t,**k): return dict(type=t,**k)
 def I(s): return N('Identifier',name=s)
@@ -250,6 +252,33 @@ S('with (o) use(true ? x : 1); in a script',[N('WithStatement',object=o,body=use
 S('with (o) (1 ? g : 0)(); in a script, where g may be a method of o',[N('WithStatement',object=o,body=ES(call(COND(L(1),g,L(0)))))],None,0,0,'script')
 S('export default true ? a : b;',[N('ExportDefaultDeclaration',declaration=COND(L(True),a,b))],[N('ExportDefaultDeclaration',declaration=a)],1,0)
 S('let x = 1; export function h() { return 1 ? x : 0; }',[x_is(L(1)),export(F_('h',[],RETURN(COND(L(1),x,L(0)))))],[x_is(L(1)),export(F_('h',[],RETURN(x)))],1,1)
+
+SAME=lambda l,r,o='===': N('BinaryExpression',operator=o,left=l,right=r)
+NOT=lambda e: un('!',e)
+SEQ=lambda *es: N('SequenceExpression',expressions=list(es))
+FOR=lambda update,body: N('ForStatement',init=None,test=None,update=update,body=body)
+def nots(n,e):
+ for i in range(n): e=NOT(e)
+ return e
+S('!(f() === 2);',[ES(NOT(PAREN(SAME(call(f),L(2)))))],[ES(PAREN(call(f)))],2,0)
+S('!(f() === 2); whose parentheses the parser left out',[ES(NOT(SAME(call(f),L(2))))],[do('f')],1,0)
+S('120 operators ! before f()',[ES(nots(120,call(f)))],[do('f')],1,0)
+S('f() == 2; null !== f(); f() < 1; 1 >= f();',[ES(SAME(call(f),L(2),'==')),ES(SAME(L(None),call(f),'!==')),ES(SAME(call(f),L(1),'<')),ES(SAME(L(1),call(f),'>='))],[do('f'),do('f'),do('f'),do('f')],1,0)
+S('typeof f(); void f(); typeof o.f;',[ES(un('typeof',call(f))),ES(un('void',call(f))),ES(un('typeof',mem(o,f)))],[do('f'),do('f'),ES(mem(o,f))],1,0)
+S('typeof g; which throws nothing where no g is declared',[ES(un('typeof',g))],None,0,0)
+S('f() && 1; f() || (() => a); f() ?? [];',[ES(AND(call(f),L(1))),ES(OR(call(f),fn('ArrowFunctionExpression',None,[],a,True))),ES(ELSE(call(f),N('ArrayExpression',elements=[])))],[do('f'),do('f'),do('f')],1,0)
+S('f() ? 1 : null;',[ES(COND(call(f),L(1),L(None)))],[do('f')],1,0)
+S('a === f(); a && f(); f() ? a : 1; whose sides may both act',[ES(SAME(a,call(f))),ES(AND(a,call(f))),ES(COND(call(f),a,L(1)))],None,0,0)
+S('+f(); -f(); f() + 1; f() in 1; which may act themselves',[ES(un('+',call(f))),ES(un('-',call(f))),ES(SAME(call(f),L(1),'+')),ES(SAME(call(f),L(1),'in'))],None,0,0)
+S('use(!f()); use(f() === 1); whose values are taken',[use(NOT(call(f))),use(SAME(call(f),L(1)))],None,0,0)
+S('a && !f(); a ? !f() : f() === 1; a, !f();',[ES(AND(a,NOT(call(f)))),ES(COND(a,NOT(call(f)),SAME(call(f),L(1)))),ES(SEQ(a,NOT(call(f))))],[ES(AND(a,call(f))),ES(COND(a,call(f),call(f))),ES(SEQ(a,call(f)))],1,0)
+S('use((!f(), a)); !f() && a; whose values may be used',[use(SEQ(NOT(call(f)),a)),ES(AND(NOT(call(f)),a))],None,0,0)
+S('for (;; !f()) g();',[FOR(NOT(call(f)),do('g'))],[FOR(call(f),do('g'))],1,0)
+S('let x = 1; x === 2;',[x_is(L(1)),ES(SAME(x,L(2)))],[],2,0)
+S('!eval("x"); which is no other call then',[ES(NOT(call(I('eval'),L('x'))))],[ES(call(I('eval'),L('x')))],1,0)
+S('!(class extends f() {}); which stays a class that is an operand',[ES(NOT(N('ClassExpression',id=None,superClass=call(f),body=N('ClassBody',body=[]))))],None,0,0)
+S('!f(); in a script',[ES(NOT(call(f)))],[do('f')],1,0,'script')
+S('export default !f(); return !f(); whose values are taken',[N('ExportDefaultDeclaration',declaration=NOT(call(f))),export(F_('h',[],RETURN(NOT(call(f)))))],None,0,0)
 
 
 def text(tree): return json.dumps(tree, sort_keys=True, separators=(',', ':'))

@@ -7,6 +7,7 @@ import effects_rows
 import entries
 import equals
 import examples
+import expression_rows
 import fits
 import form_rows
 import identifiers
@@ -18,7 +19,7 @@ import shapes
 import syntax
 import tree_rows
 
-MODULES = [syntax, run_table, read_kinds, entries, clones, equals, shapes, fits, examples, form_rows, tree_rows, effects_rows, scope_examples, runs, identifiers]
+MODULES = [syntax, run_table, read_kinds, entries, clones, equals, shapes, fits, examples, form_rows, tree_rows, effects_rows, expression_rows, scope_examples, runs, identifiers]
 FILES = {path: text for module in MODULES for path, text in module.FILES.items()}
 
 crates = pathlib.Path(__file__).resolve().parent.parent / 'crates'
