@@ -24,8 +24,9 @@ use Rattle.steps_allowed.specs.KnownConditional.{KnownConditional, consequent_is
 use Rattle.steps_allowed.specs.KnownSide.{right_side_counts, left_side_decides}
 use Rattle.steps_allowed.specs.KnownIf.{an_if, KnownIf, consequent_is_run, alternate_is_run}
 use Rattle.steps_allowed.specs.UnusedOperation.{needed_at, one_operand_acts}
-use Rattle.steps_allowed.specs.Edits.{Edit, leaves, becomes, empty_statement, silent_statement, unused_function, unused_declaration, known_conditional, known_side, known_if, unused_operation}
-use Rattle.steps_allowed.specs.Rows.{in_list, before, call_of_a, null, if_one, if_null, conditional, logical, may_be_named, o_f, parenthesized, in_statement, called, called_in_parentheses, called_in_with, argument, operand, applied, equals, assigned, statement, ComesOut, Stays, StaysUnused, with_a, in_with_a, empty, a_is_read, a_is_exported}
+use Rattle.steps_allowed.specs.UnusedList.{list_becomes, acting_parts_stay}
+use Rattle.steps_allowed.specs.Edits.{Edit, leaves, becomes, empty_statement, silent_statement, unused_function, unused_declaration, known_conditional, known_side, known_if, unused_operation, unused_list}
+use Rattle.steps_allowed.specs.Rows.{in_list, before, call_of_a, null, if_one, if_null, conditional, logical, may_be_named, o_f, parenthesized, in_statement, called, called_in_parentheses, called_in_with, argument, operand, applied, equals, assigned, statement, ComesOut, Stays, StaysUnused, array, spread, hole, sequence, ListStays, with_a, in_with_a, empty, a_is_read, a_is_exported}
 
 pub empties_in_list : Edit (a_module (does one ∷ [])) (a_module (empty ∷ []))
 empties_in_list = becomes (before []) _ _ (silent_statement (silent_statement_empties nowhere nowhere nowhere _ nothing (inl refl, tt)))
@@ -223,3 +224,35 @@ typeof_name_stays y (one_operand_acts i _ _ unused at child) = no_index at
 
 pub conversion_stays : StaysUnused statement (applied unary.UnaryPlus call_of_a)
 conversion_stays y (one_operand_acts i _ _ unused at child) = no_index at
+
+-- ---- lists of which nobody takes the value
+
+becomes_list : (k l : Kind) (b c : Forest) → list_becomes nowhere nowhere k b ≡ Some (record { kind = l; note = nowhere; below = c }) → Edit (a_module (does (node k nowhere b nothing) ∷ [])) (a_module (does (node l nowhere c nothing) ∷ []))
+becomes_list k l b c h = becomes there _ _ (unused_list (acting_parts_stay nowhere nowhere _ _ refl h))
+
+pub acting_elements_stay : Edit (a_module (does (array (call_of_a ∷ one ∷ o_f ∷ [])) ∷ [])) (a_module (does (sequence (call_of_a ∷ o_f ∷ [])) ∷ []))
+acting_elements_stay = becomes_list Kind.ArrayExpression Kind.SequenceExpression _ _ refl
+
+pub acting_element_stays : Edit (a_module (does (array (call_of_a ∷ one ∷ [])) ∷ [])) (a_module (does call_of_a ∷ []))
+acting_element_stays = becomes_list Kind.ArrayExpression (Kind.CallExpression false false) _ _ refl
+
+pub hole_goes : Edit (a_module (does (array (hole ∷ call_of_a ∷ [])) ∷ [])) (a_module (does call_of_a ∷ []))
+hole_goes = becomes_list Kind.ArrayExpression (Kind.CallExpression false false) _ _ refl
+
+pub elements_stay : Edit (a_module (does (array (call_of_a ∷ o_f ∷ [])) ∷ [])) (a_module (does (sequence (call_of_a ∷ o_f ∷ [])) ∷ []))
+elements_stay = becomes_list Kind.ArrayExpression Kind.SequenceExpression _ _ refl
+
+pub acting_parts_of_sequence_stay : Edit (a_module (does (sequence (one ∷ call_of_a ∷ o_f ∷ [])) ∷ [])) (a_module (does (sequence (call_of_a ∷ o_f ∷ [])) ∷ []))
+acting_parts_of_sequence_stay = becomes_list Kind.SequenceExpression Kind.SequenceExpression _ _ refl
+
+no_list : {y : Tree} → None ≡ Some y → ⊥
+no_list e = cc
+
+pub spread_stays : ListStays statement (array (spread (reads a) ∷ []))
+spread_stays y (acting_parts_stay n m _ _ unused is) = no_list is
+
+pub used_array_stays : ListStays argument (array (call_of_a ∷ []))
+used_array_stays y (acting_parts_stay n m _ _ unused is) = true≢false (sym unused)
+
+pub acting_sequence_stays : ListStays statement (sequence (call_of_a ∷ o_f ∷ []))
+acting_sequence_stays y (acting_parts_stay n m _ _ unused is) = no_list is

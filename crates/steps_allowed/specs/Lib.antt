@@ -15,6 +15,7 @@ pub mod SilentStatement
 pub mod KnownConditional
 pub mod KnownSide
 pub mod UnusedOperation
+pub mod UnusedList
 pub mod KnownIf
 pub mod Edits
 pub mod Arranged

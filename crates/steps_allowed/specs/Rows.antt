@@ -15,6 +15,7 @@ use Rattle.scope_laws.specs.Place.{Around, first, behind, under, plug}
 use Rattle.steps_allowed.specs.Places.{a_node}
 use Rattle.steps_allowed.specs.KnownConditional.{a_conditional, KnownConditional}
 use Rattle.steps_allowed.specs.UnusedOperation.{UnusedOperation}
+use Rattle.steps_allowed.specs.UnusedList.{UnusedList}
 use Rattle.steps_allowed.specs.Edits.{Edit}
 
 -- a place in a module's list: in front of these statements, and behind these
@@ -63,6 +64,20 @@ applied o e = over (Kind.UnaryExpression o) e
 -- left === right
 abbrev pub equals : (left right : Forest) → Forest
 equals left right = over (Kind.BinaryExpression binary.StrictEquality) (joined left right)
+
+-- [parts], and ...e and a hole among them
+abbrev pub array : (parts : List Forest) → Forest
+array parts = over Kind.ArrayExpression (listed Kind.Elements parts)
+
+abbrev pub spread : Forest → Forest
+spread e = over Kind.SpreadElement e
+
+abbrev pub hole : Forest
+hole = leaf Kind.Hole
+
+-- parts with commas between them
+abbrev pub sequence : (parts : List Forest) → Forest
+sequence parts = over Kind.SequenceExpression (listed Kind.Expressions parts)
 
 -- functions and classes, which may take a name from where they stand (8.4)
 abbrev pub may_be_named : Kind → Bool
@@ -117,6 +132,11 @@ statement = in_statement (first nothing)
 abbrev pub StaysUnused : Around → Forest → Type 0
 StaysUnused place (node k n below rest) = (y : Tree) → UnusedOperation place (record { kind = k; note = n; below = below }) y → ⊥
 StaysUnused place e = ⊥
+
+-- nor of a list
+abbrev pub ListStays : Around → Forest → Type 0
+ListStays place (node k n below rest) = (y : Tree) → UnusedList place (record { kind = k; note = n; below = below }) y → ⊥
+ListStays place e = ⊥
 
 -- export d
 abbrev pub exports_declaration : Forest → Forest

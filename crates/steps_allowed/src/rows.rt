@@ -17,7 +17,7 @@ ghost use Rattle.steps_allowed.specs.UnusedDeclaration.{a_declaration, SilentDec
 ghost use Rattle.steps_allowed.specs.KnownConditional.{KnownConditional};
 ghost use Rattle.steps_allowed.specs.KnownIf.{an_if, KnownIf};
 ghost use Rattle.steps_allowed.specs.Edits.{Edit};
-ghost use Rattle.steps_allowed.specs.Rows.{before, call_of_a, null, if_one, if_null, conditional, logical, may_be_named, o_f, parenthesized, called, called_in_parentheses, called_in_with, argument, operand, applied, equals, assigned, statement, ComesOut, Stays, StaysUnused, with_a, in_with_a, empty, a_is_read, a_is_exported};
+ghost use Rattle.steps_allowed.specs.Rows.{before, call_of_a, null, if_one, if_null, conditional, logical, may_be_named, o_f, parenthesized, called, called_in_parentheses, called_in_with, argument, operand, applied, equals, assigned, statement, ComesOut, Stays, StaysUnused, array, spread, hole, sequence, ListStays, with_a, in_with_a, empty, a_is_read, a_is_exported};
 
 /// A statement of a literal becomes empty, in a list and alone, and leaves the list then.
 pub fn silent_statements_go()
@@ -124,4 +124,20 @@ pub fn what_may_act_stays()
     ensures used { StaysUnused argument (applied unary.LogicalNot call_of_a) }
     ensures name { StaysUnused statement (applied unary.Typeof (reads a)) }
     ensures converted { StaysUnused statement (applied unary.UnaryPlus call_of_a) }
+{}
+
+/// Where nobody takes its value, of an array and of a sequence the parts stay that act: one alone, or several in a sequence.
+pub fn unused_lists_become_parts()
+    ensures several { Edit (a_module (does (array (call_of_a ∷ one ∷ o_f ∷ [])) ∷ [])) (a_module (does (sequence (call_of_a ∷ o_f ∷ [])) ∷ [])) }
+    ensures one_part { Edit (a_module (does (array (call_of_a ∷ one ∷ [])) ∷ [])) (a_module (does call_of_a ∷ [])) }
+    ensures beside_a_hole { Edit (a_module (does (array (hole ∷ call_of_a ∷ [])) ∷ [])) (a_module (does call_of_a ∷ [])) }
+    ensures all_parts { Edit (a_module (does (array (call_of_a ∷ o_f ∷ [])) ∷ [])) (a_module (does (sequence (call_of_a ∷ o_f ∷ [])) ∷ [])) }
+    ensures sequence { Edit (a_module (does (sequence (one ∷ call_of_a ∷ o_f ∷ [])) ∷ [])) (a_module (does (sequence (call_of_a ∷ o_f ∷ [])) ∷ [])) }
+{}
+
+/// An array stays where something is spread in it, and where its value is taken; and a sequence where each part acts.
+pub fn needed_lists_stay()
+    ensures spread { ListStays statement (array (spread (reads a) ∷ [])) }
+    ensures used { ListStays argument (array (call_of_a ∷ [])) }
+    ensures all_parts { ListStays statement (sequence (call_of_a ∷ o_f ∷ [])) }
 {}

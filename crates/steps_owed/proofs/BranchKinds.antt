@@ -3,7 +3,7 @@ use Rattle.std.proofs.Common.{◌≡◌, Bool, true, false, not, ◌&&◌, ◌||
 use Rattle.js_syntax.specs.Class.{expression}
 use Rattle.js_syntax.specs.declared.node_kind.NodeKind.{NodeKind as Kind}
 use Rattle.js_syntax.specs.declared.node_kind.NodeKind.TheVariants.{Function as function, Class as class, EmptyStatement as empty_statement, ExpressionStatement as expression_statement, BlockStatement as block_statement, IfStatement as if_statement, BreakStatement as break_statement, ContinueStatement as continue_statement, ReturnStatement as return_statement, ThrowStatement as throw_statement, SwitchStatement as switch_statement, TryStatement as try_statement}
-use Rattle.js_syntax.specs.Node.{Forest, nothing}
+use Rattle.js_syntax.specs.Node.{Forest}
 use Rattle.js_syntax.specs.Table.{Row, a_function_expression, an_arrow_function, a_class_expression, a_reference_name, a_literal, a_reg_exp, a_this_expression, an_array_expression, an_object_expression, a_sequence_expression, a_unary_expression, an_update_expression, a_binary_expression, an_in_expression, a_logical_expression, an_assignment_expression, a_compound_assignment, a_conditional_expression, a_call_expression, a_new_expression, a_member_expression, a_chain_expression, a_parenthesized_expression, a_template_literal, a_tagged_template_expression, a_new_target, an_import_meta, an_import_expression, fields_of, type_of, stands}
 use Rattle.js_syntax.proofs.Truth.{not_true, first_of_both, second_of_both}
 use Rattle.js_meaning_near.specs.Near.{is_calm}

@@ -2,18 +2,18 @@
 use Rattle.std.proofs.Common.{◌≡◌, ◌∙◌, [], ◌∷◌, Bool, true, false, Some, refl, sym, ap, true≢false}
 use Rattle.js_syntax.specs.Class.{Class, module_item, statement, expression, arrow_body, for_init, default_export, expression_or_private, callee, argument}
 use Rattle.js_syntax.specs.declared.node_kind.NodeKind.{NodeKind as Kind}
-use Rattle.js_syntax.specs.declared.node_kind.NodeKind.TheVariants.{ConditionalExpression as conditional_expression, UnaryExpression as unary_expression, BinaryExpression as binary_expression, LogicalExpression as logical_expression, IfStatement as if_statement}
+use Rattle.js_syntax.specs.declared.node_kind.NodeKind.TheVariants.{ConditionalExpression as conditional_expression, UnaryExpression as unary_expression, BinaryExpression as binary_expression, LogicalExpression as logical_expression, IfStatement as if_statement, ArrayExpression as array_expression, Elements as elements, SequenceExpression as sequence_expression, Expressions as expressions}
 use Rattle.js_syntax.specs.declared.operator.UnaryOperator.{UnaryOperator}
 use Rattle.js_syntax.specs.declared.operator.BinaryOperator.{BinaryOperator}
 use Rattle.js_syntax.specs.declared.operator.BinaryOperator.TheVariants as binary
 use Rattle.js_syntax.specs.declared.operator.LogicalOperator.{LogicalOperator}
 use Rattle.js_syntax.specs.Hint.{has, is_private}
 use Rattle.js_syntax.specs.Node.{Forest, Note, alone}
-use Rattle.js_syntax.specs.Table.{Row as TableRow, a_conditional_expression, a_unary_expression, a_binary_expression, an_in_expression, a_logical_expression, an_if_statement, fields_of, type_of, stands}
+use Rattle.js_syntax.specs.Table.{Row as TableRow, a_conditional_expression, a_unary_expression, a_binary_expression, an_in_expression, a_logical_expression, an_if_statement, an_array_expression, a_sequence_expression, fields_of, type_of, stands}
 use Rattle.js_syntax.specs.declared.node_type.NodeType.{NodeType}
 use Rattle.js_syntax.specs.declared.node_type.NodeType.TheVariants as type
 use Rattle.js_meaning_near.specs.Unused.{compares}
-use Rattle.json_shape.specs.Shape.{Values, kind_in, first_of, is_in, IsChosen, one, maybe_one, places, these, IsOf, Stand, Fits}
+use Rattle.json_shape.specs.Shape.{Values, kind_in, first_of, is_in, IsChosen, one, maybe_one, list, list_with_holes, places, these, IsOf, Stand, Fits}
 
 -- ---- a class that takes conditionals takes expressions, and one that takes `if` takes statements
 
@@ -66,6 +66,27 @@ binary_takes callee h = refl
 binary_takes argument h = refl
 binary_takes c h = absurd cc
 
+-- and so do arrays and sequences
+array_takes : (c : Class) → stands c type.ArrayExpression ≡ Some an_array_expression → stands c type.ConditionalExpression ≡ Some a_conditional_expression
+array_takes expression h = refl
+array_takes arrow_body h = refl
+array_takes for_init h = refl
+array_takes default_export h = refl
+array_takes expression_or_private h = refl
+array_takes callee h = refl
+array_takes argument h = refl
+array_takes c h = absurd cc
+
+sequence_takes : (c : Class) → stands c type.SequenceExpression ≡ Some a_sequence_expression → stands c type.ConditionalExpression ≡ Some a_conditional_expression
+sequence_takes expression h = refl
+sequence_takes arrow_body h = refl
+sequence_takes for_init h = refl
+sequence_takes default_export h = refl
+sequence_takes expression_or_private h = refl
+sequence_takes callee h = refl
+sequence_takes argument h = refl
+sequence_takes c h = absurd cc
+
 takes_statements : (c : Class) (t : NodeType) (r : TableRow) → stands c type.IfStatement ≡ Some an_if_statement → stands statement t ≡ Some r → stands c t ≡ Some r
 takes_statements statement t r takes stood = stood
 takes_statements module_item type.ImportDeclaration r takes stood = absurd cc
@@ -89,6 +110,12 @@ module _ (k : Kind) (below : Forest) where
   pub as_binary : (c : Class) → stands c type.BinaryExpression ≡ Some a_binary_expression → IsOf k below (λ p. Stand p below) expression → IsOf k below (λ p. Stand p below) c
   as_binary c takes of = as_conditional c (binary_takes c takes) of
 
+  pub as_array : (c : Class) → stands c type.ArrayExpression ≡ Some an_array_expression → IsOf k below (λ p. Stand p below) expression → IsOf k below (λ p. Stand p below) c
+  as_array c takes of = as_conditional c (array_takes c takes) of
+
+  pub as_sequence : (c : Class) → stands c type.SequenceExpression ≡ Some a_sequence_expression → IsOf k below (λ p. Stand p below) expression → IsOf k below (λ p. Stand p below) c
+  as_sequence c takes of = as_conditional c (sequence_takes c takes) of
+
   pub as_if : (c : Class) → stands c type.IfStatement ≡ Some an_if_statement → IsOf k below (λ p. Stand p below) statement → IsOf k below (λ p. Stand p below) c
   as_if c takes of = (of.0, of.1, takes_statements c (type_of of.0) (first_of of.0) takes of.2, of.3, of.4, of.5)
 
@@ -109,6 +136,14 @@ is_unary k = false
 abbrev pub is_comparison : Kind → Bool
 is_comparison (binary_expression operator) = compares operator
 is_comparison k = false
+
+abbrev is_array : Kind → Bool
+is_array array_expression = true
+is_array k = false
+
+abbrev is_sequence : Kind → Bool
+is_sequence sequence_expression = true
+is_sequence k = false
 
 abbrev is_if : Kind → Bool
 is_if if_statement = true
@@ -161,6 +196,26 @@ comparison_parts private a_binary_expression vs parts chosen is stand = stand
 comparison_parts private an_in_expression vs parts chosen is stand = absurd (in_compares_not vs.0 chosen is)
 comparison_parts private r vs parts chosen is stand = absurd (true≢false (sym is))
 
+array_class : (c : Class) (r : TableRow) (vs : Values (fields_of r)) → is_array (kind_in r vs) ≡ true → stands c (type_of r) ≡ Some (first_of r)
+    → stands c type.ArrayExpression ≡ Some an_array_expression
+array_class c an_array_expression vs is stood = stood
+array_class c r vs is stood = absurd (true≢false (sym is))
+
+pub array_parts : (private : Bool) (r : TableRow) (vs : Values (fields_of r)) (parts : Forest) → array_expression ≡ kind_in r vs → Stand (these (places private (fields_of r) vs)) parts
+    → Stand (these (list_with_holes elements argument ∷ [])) parts
+array_parts private an_array_expression vs parts is stand = stand
+array_parts private r vs parts is stand = absurd (true≢false (ap is_array is))
+
+sequence_class : (c : Class) (r : TableRow) (vs : Values (fields_of r)) → is_sequence (kind_in r vs) ≡ true → stands c (type_of r) ≡ Some (first_of r)
+    → stands c type.SequenceExpression ≡ Some a_sequence_expression
+sequence_class c a_sequence_expression vs is stood = stood
+sequence_class c r vs is stood = absurd (true≢false (sym is))
+
+pub sequence_parts : (private : Bool) (r : TableRow) (vs : Values (fields_of r)) (parts : Forest) → sequence_expression ≡ kind_in r vs → Stand (these (places private (fields_of r) vs)) parts
+    → Stand (these (list expressions expression ∷ [])) parts
+sequence_parts private a_sequence_expression vs parts is stand = stand
+sequence_parts private r vs parts is stand = absurd (true≢false (ap is_sequence is))
+
 if_class : (c : Class) (r : TableRow) (vs : Values (fields_of r)) → is_if (kind_in r vs) ≡ true → stands c (type_of r) ≡ Some (first_of r)
     → stands c type.IfStatement ≡ Some an_if_statement
 if_class c an_if_statement vs is stood = stood
@@ -196,6 +251,12 @@ module _ (c : Class) (n : Note) (below : Forest) where
 
   pub comparison_below : (o : BinaryOperator) → compares o ≡ true → Fits c (alone (binary_expression o) n below) → Stand (these (one expression ∷ one expression ∷ [])) below
   comparison_below o h fits = comparison_parts (has is_private below) fits.0.0 fits.0.1 below fits.0.3 (ap is_comparison (sym fits.0.4) ∙ h) fits.0.5
+
+  pub array_stood : Fits c (alone array_expression n below) → stands c type.ArrayExpression ≡ Some an_array_expression
+  array_stood fits = array_class c fits.0.0 fits.0.1 (ap is_array (sym fits.0.4)) fits.0.2
+
+  pub sequence_stood : Fits c (alone sequence_expression n below) → stands c type.SequenceExpression ≡ Some a_sequence_expression
+  sequence_stood fits = sequence_class c fits.0.0 fits.0.1 (ap is_sequence (sym fits.0.4)) fits.0.2
 
   pub if_stood : Fits c (alone if_statement n below) → stands c type.IfStatement ≡ Some an_if_statement
   if_stood fits = if_class c fits.0.0 fits.0.1 (ap is_if (sym fits.0.4)) fits.0.2

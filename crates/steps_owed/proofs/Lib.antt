@@ -50,6 +50,7 @@ pub mod KnownIf
 pub mod SilentAnywhere
 pub mod UnusedPlace
 pub mod UnusedOperation
+pub mod UnusedList
 pub mod Edited
 pub mod Refused
 pub mod Outlying

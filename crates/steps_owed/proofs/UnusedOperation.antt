@@ -109,7 +109,7 @@ needed_part k parts i y e at = absurd cc
 -- ---- runs
 
 -- what may stand bare starts nothing where its scope is entered
-bare_hoists : (w : Wanted) (k : Kind) (b : Forest) → runs.stands_bare w k b ≡ true → hoists_nothing k ≡ true
+pub bare_hoists : (w : Wanted) (k : Kind) (b : Forest) → runs.stands_bare w k b ≡ true → hoists_nothing k ≡ true
 bare_hoists w (Kind.ReferenceName x) b h = refl
 bare_hoists w (Kind.MemberExpression key optional) b h = refl
 bare_hoists w Kind.ParenthesizedExpression b h = refl
@@ -145,7 +145,7 @@ value_not_deleted e = cc
 value_not_called : as_value ≡ as_callee → ⊥
 value_not_called e = cc
 
-comes_out : (a : Around) (y : Tree) → is_unused_at a ≡ true → ComesOut a y
+pub comes_out : (a : Around) (y : Tree) → is_unused_at a ≡ true → ComesOut a y
 comes_out a y unused = record {
   undeleted = λ e. absurd (value_not_deleted (sym (unused_as_value a unused) ∙ e));
   uncalled = λ e. absurd (value_not_called (sym (unused_as_value a unused) ∙ e));
