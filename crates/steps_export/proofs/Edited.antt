@@ -5,7 +5,7 @@ use Rattle.js_syntax.specs.declared.node_kind.NodeKind.TheVariants as kind
 use Rattle.js_syntax.specs.declared.kind.FunctionKind.TheVariants as function_kind
 use Rattle.js_syntax.specs.declared.kind.VariableKind.TheVariants as variable
 use Rattle.js_syntax.specs.Class.{root}
-use Rattle.js_syntax.specs.Node.{Forest, Tree, Note, nothing, node, alone}
+use Rattle.js_syntax.specs.Node.{Forest, Tree, Note, nothing, node, alone, forest_of}
 use Rattle.js_effects.specs.Silence.{is_marked}
 use Rattle.json_shape.specs.Shape.{Fits}
 use Rattle.min_pass.specs.Around.{is_with}
@@ -24,25 +24,27 @@ use Rattle.steps_allowed.specs.UnusedFunction.{unused_function_leaves}
 use Rattle.steps_allowed.specs.UnusedDeclarator.{SilentDeclarator, unused_declarator_leaves}
 use Rattle.steps_allowed.specs.UnusedDeclaration.{SilentDeclaration, one_declarator, unused_declaration_leaves}
 use Rattle.steps_allowed.specs.SilentStatement.{SilentStatement, silent_statement_empties}
-use Rattle.steps_allowed.specs.Edits.{Leaves, empty_statement, unused_function, unused_declarator, unused_declaration, Becomes, silent_statement, known_conditional, known_side, known_if, unused_operation, Edit, leaves, becomes, TreeEdits, no_tree_edit, one_tree_edit}
+use Rattle.steps_allowed.specs.Edits.{Leaves, empty_statement, unused_function, unused_declarator, unused_declaration, Becomes, silent_statement, known_conditional, known_side, known_if, unused_operation, unused_list, Edit, leaves, becomes, TreeEdits, no_tree_edit, one_tree_edit}
 use Rattle.steps_owed.specs.Kept.{is_program}
-use Rattle.steps_owed.specs.Owed.{ByPart}
+use Rattle.steps_owed.specs.Owed.{ByPart, ByParts}
+use Rattle.steps_owed.proofs.Expressions.{expression_declares_nothing}
 use Rattle.steps_owed.proofs.FitsEdits.{edit_fits}
 use Rattle.steps_owed.proofs.Inside.{enclosed_below, enclosed_rest}
 use Rattle.steps_owed.proofs.KnownConditional.{known_conditional_owes}
 use Rattle.steps_owed.proofs.KnownSide.{known_side_owes}
 use Rattle.steps_owed.proofs.KnownIf.{known_if_owes}
 use Rattle.steps_owed.proofs.UnusedOperation.{unused_operation_owes}
+use Rattle.steps_owed.proofs.UnusedList.{unused_list_owes}
 use Rattle.steps_owed.proofs.Owed.{leaving}
 use Rattle.steps_owed.proofs.TableKept as tables
 use Rattle.steps_owed.proofs.Unseen.{both_at, enclosed_there}
 use Rattle.steps_marked.specs.Exports.{IsMarkedAmong}
+use Rattle.steps_marked.proofs.Exposing.{part_no_program}
 use Rattle.steps_marked.proofs.Telling.{no_program}
-use Rattle.steps_marked.proofs.Unexporting.{exports_collected, edits_export}
+use Rattle.steps_marked.proofs.Unexporting.{exports_collected, collected_declared, edits_export}
 use Rattle.rules_dead_code.specs.Quiet.{IsExported}
-use Rattle.steps_export.proofs.Gathered.{collected_declared}
 use Rattle.steps_export.proofs.Going.{Gone, empty_gone, statement_gone, function_gone, declarator_gone, declaration_gone}
-use Rattle.steps_export.proofs.Staying.{made, made_without, made_plug, LeavesLists, Stays, whole, part_stays}
+use Rattle.steps_export.proofs.Staying.{made, made_without, made_plug, LeavesLists, Stays, whole, part_stays, undeclared_stays}
 
 -- ---- at a place
 
@@ -73,6 +75,12 @@ module _ (e : BindingSite) (top : e.layer.scope ≡ 0) where
       subst ExportedBy (made_plug a y)
       (settled a x (Some y) Anything fits (λ rest. no_program x.kind x.note x.below rest (owed.stands fits).gives) (λ f. absurd (true≢false f)) (anywhere (Some x) false (λ at. outermost) 0 0 a)
       (λ w c next some any. part_stays e top x y (owed.stands fits).gives (owed.part fits) c next some) h)
+
+  parts_settled : (a : Around) (x y : Tree) → ByParts a x y → Fits root (plug a (Some x)) → Among e (exported_declarations (plug a (Some x))) → ExportedBy (plug a (Some y))
+  parts_settled a x y owed fits h =
+      subst ExportedBy (made_plug a y)
+      (settled a x (Some y) Anything fits (λ rest. part_no_program x.kind x.note x.below rest (owed.old_unasked fits)) (λ f. absurd (true≢false f)) (anywhere (Some x) false (λ at. outermost) 0 0 a)
+      (λ w c next some any. undeclared_stays e top x y (expression_declares_nothing (forest_of x) (owed.fits_expression fits)) c next some) h)
 
   -- ---- every case
 
@@ -123,6 +131,7 @@ module _ (e : BindingSite) (top : e.layer.scope ≡ 0) where
   changed a x y (known_side c) fits h = part_settled a x y (known_side_owes a x y c) fits h
   changed a x y (known_if c) fits h = part_settled a x y (known_if_owes a x y c) fits h
   changed a x y (unused_operation c) fits h = part_settled a x y (unused_operation_owes a x y c) fits h
+  changed a x y (unused_list c) fits h = parts_settled a x y (unused_list_owes a x y c) fits h
 
   edited : (t u : Forest) → Edit t u → Fits root t → Among e (exported_declarations t) → ExportedBy u
   edited _ _ (leaves a x c) fits h = subst ExportedBy (made_without a) (left a x c (λ f. tables.in_list a (leaving a x c).listed) fits h)

@@ -1,12 +1,11 @@
 -- What a row declares in one layer, all of it or what lies below its exports alone: names with their marks, and no numbers of scopes.
-use Rattle.std.proofs.Common.{◌≡◌, ◌∙◌, ◌<◌, ◌⊎◌, inl, inr, ℕ, suc, ◌+◌, List, [], ◌∷◌, ◌++◌, Bool, true, false, ◌||◌, if◌then◌else◌, refl, sym, ap, ap₂, subst, arith}
+use Rattle.std.proofs.Common.{◌≡◌, ◌∙◌, ◌<◌, ◌⊎◌, inl, inr, ℕ, suc, ◌+◌, List, [], ◌++◌, Bool, true, false, ◌||◌, if◌then◌else◌, refl, sym, ap, ap₂, subst, arith}
 use Rattle.js_syntax.specs.declared.node_kind.NodeKind.{NodeKind as Kind}
 use Rattle.js_syntax.specs.declared.node_kind.NodeKind.TheVariants.{BindingName as binding_name, ReferenceName as reference_name, TargetName as target_name}
 use Rattle.js_syntax.specs.Node.{Forest, Note, nothing, node, absent, joined}
 use Rattle.scope_rules.specs.declared.layer.Layer.{Layer}
 use Rattle.scope_rules.specs.Context.{Context, opens, inside}
-use Rattle.scope_rules.specs.Binding.{same_layer}
-use Rattle.scope_rules.specs.Site.{scope_site, BindingSite, scope_bits, name_sites, scope_sites, own_sites, opens_one, scope_count, sites, bindings_among}
+use Rattle.scope_rules.specs.Site.{scope_site, BindingSite, scope_bits, name_sites, scope_sites, own_sites, opens_one, scope_count, bindings_among}
 use Rattle.scope_laws.specs.Exact.{Among}
 use Rattle.scope_laws.proofs.Among.{among_left, among_right, among_cases}
 use Rattle.scope_counts.specs.Counts.{Decl, Aims, no_part, aims_inside, named, hoisted}
@@ -14,10 +13,9 @@ use Rattle.scope_counts.specs.Edits.{Even}
 use Rattle.scope_counts.specs.Sites.{decls_in}
 use Rattle.scope_counts.proofs.Layers.{aims_at, not_equal, aims_in_other}
 use Rattle.scope_counts.proofs.Counting.{decls_at, at_joined, no_bindings, hoisted_are}
-use Rattle.scope_counts.proofs.Whole.{same_layer_same}
 use Rattle.steps_names.specs.Standing.{is_export}
-use Rattle.steps_names.proofs.Sites.{InThree, in_first, in_second, in_third, binding_in, binding_left, binding_second, binding_third}
-use Rattle.steps_marked.proofs.Unexporting.{collected, all_collected}
+use Rattle.steps_names.proofs.Sites.{InThree, in_first, in_second, in_third, binding_in, binding_left, binding_second}
+use Rattle.steps_marked.proofs.Unexporting.{collected, all_collected, decl_of, among_decls}
 
 abbrev pub gathered : (all : Bool) → (aims : ℕ → Aims) → (at : ℕ) → Forest → List Decl
 gathered all aims at nothing = []
@@ -44,24 +42,6 @@ gathered_hoisted false aims at (node k n below rest) d h =
       | inr g ↦ among_right d (own ++ inner) outer (gathered_hoisted false aims (suc at) rest d g)
     ]
 
-pub collected_declared : (all : Bool) (cs : ℕ → Context) (at next : ℕ) (t : Forest) (b : BindingSite) → Among b (bindings_among (collected all cs at next t)) → Among b (bindings_among (sites cs at next t))
-collected_declared true cs at next t b h = subst (λ ss. Among b (bindings_among ss)) (all_collected cs at next t) h
-collected_declared false cs at next nothing b h = h
-collected_declared false cs at next (absent rest) b h = collected_declared false cs (suc at) next rest b h
-collected_declared false cs at next (node k n below rest) b h =
-    by (binding_in b [] (collected (false || is_export k) (inside (cs at) next k below) 0 (next + opens_one k below) below) (collected false cs (suc at) (next + scope_count (node k n below nothing)) rest) h)
-    (λ g. collected_declared (false || is_export k) (inside (cs at) next k below) 0 (next + opens_one k below) below b g) (λ g. collected_declared false cs (suc at) (next + scope_count (node k n below nothing)) rest b g)
-  where
-    by : InThree b (bindings_among []) (bindings_among (collected (false || is_export k) (inside (cs at) next k below) 0 (next + opens_one k below) below)) (bindings_among (collected false cs (suc at) (next + scope_count (node k n below nothing)) rest))
-        → (Among b (bindings_among (collected (false || is_export k) (inside (cs at) next k below) 0 (next + opens_one k below) below)) → Among b (bindings_among (sites (inside (cs at) next k below) 0 (next + opens_one k below) below)))
-        → (Among b (bindings_among (collected false cs (suc at) (next + scope_count (node k n below nothing)) rest)) → Among b (bindings_among (sites cs (suc at) (next + scope_count (node k n below nothing)) rest)))
-        → Among b (bindings_among (sites cs at next (node k n below rest)))
-    by (in_first g) f l = absurd g
-    by (in_second g) f l =
-        binding_second b (own_sites (cs at) n k below) (sites (inside (cs at) next k below) 0 (next + opens_one k below) below) (sites cs (suc at) (next + scope_count (node k n below nothing)) rest) (f g)
-    by (in_third g) f l =
-        binding_third b (own_sites (cs at) n k below) (sites (inside (cs at) next k below) 0 (next + opens_one k below) below) (sites cs (suc at) (next + scope_count (node k n below nothing)) rest) (l g)
-
 -- ---- by numbers of scopes
 
 pub are_gathered : (l : Layer) (all : Bool) (cs : ℕ → Context) (aims : ℕ → Aims) (at next : ℕ) (t : Forest) → l.scope < next → ((i : ℕ) → aims_at l (cs i) ≡ aims i) → decls_at l (collected all cs at next t) ≡ gathered all aims at t
@@ -74,20 +54,6 @@ are_gathered l false cs aims at next (node k n below rest) h e =
     (are_gathered l (false || is_export k) (inside (cs at) next k below) (aims_inside no_part (aims at) k below) 0 (next + opens_one k below) below (Prim.omega (arith, h))
     (aims_in_other l (cs at) (aims at) next k below (e at) (not_equal next l.scope (λ s. Prim.omega (arith, s, h)))))
     (are_gathered l false cs aims (suc at) (next + scope_count (node k n below nothing)) rest (Prim.omega (arith, h)) e)
-
-abbrev pub decl_of : BindingSite → Decl
-decl_of b = record { name = b.name; symbol = b.id }
-
-among_if : (i : Bool) (d e : Decl) (ds : List Decl) → Among d ds → Among d (if i then e ∷ ds else ds)
-among_if true d e ds h = inr h
-among_if false d e ds h = h
-
-among_decls : (bs : List BindingSite) (b : BindingSite) → Among b bs → Among (decl_of b) (decls_in b.layer bs)
-among_decls [] b h = absurd h
-among_decls (a ∷ bs) b (inl h) =
-    let is : same_layer a.layer b.layer ≡ true = ap (λ (c : BindingSite). same_layer c.layer b.layer) h ∙ same_layer_same b.layer in
-    subst (λ i. Among (decl_of b) (if i then decl_of a ∷ decls_in b.layer bs else decls_in b.layer bs)) (sym is) (inl (ap decl_of h))
-among_decls (a ∷ bs) b (inr h) = among_if (same_layer a.layer b.layer) (decl_of b) (decl_of a) (decls_in b.layer bs) (among_decls bs b h)
 
 pub is_gathered : (b : BindingSite) (all : Bool) (cs : ℕ → Context) (aims : ℕ → Aims) (at next : ℕ) (t : Forest) → b.layer.scope < next → ((i : ℕ) → aims_at b.layer (cs i) ≡ aims i) → Among b (bindings_among (collected all cs at next t))
     → Among (decl_of b) (gathered all aims at t)

@@ -3,7 +3,7 @@ use Rattle.std.proofs.Common.{◌≡◌, ◌∙◌, ◌<◌, inl, inr, ℕ, suc,
 use Rattle.js_syntax.specs.declared.node_kind.NodeKind.{NodeKind as Kind}
 use Rattle.js_syntax.specs.declared.node_kind.NodeKind.TheVariants as kind
 use Rattle.js_syntax.specs.declared.scalar.SourceType.{SourceType}
-use Rattle.js_syntax.specs.Node.{Forest, Tree, Note, nothing, node, absent}
+use Rattle.js_syntax.specs.Node.{Forest, Tree, Note, nothing, node, absent, forest_of}
 use Rattle.min_pass.specs.Around.{is_with}
 use Rattle.scope_rules.specs.declared.layer.Layer.{Layer}
 use Rattle.scope_rules.specs.Context.{Context, has_second, is_there, opens, inside, outermost}
@@ -26,8 +26,8 @@ use Rattle.steps_allowed.specs.Places.{At}
 use Rattle.steps_owed.specs.Kept.{is_program}
 use Rattle.steps_owed.specs.Part.{DeclaresNothing, IsPart}
 use Rattle.steps_marked.specs.Exports.{IsMarkedAmong}
-use Rattle.steps_marked.proofs.Unexporting.{collected}
-use Rattle.steps_export.proofs.Gathered.{gathered, gathered_hoisted, are_gathered, decl_of, is_gathered, own_gathered, in_own, in_inner, in_outer, in_node, first_or_later, gathered_even, joined_cases}
+use Rattle.steps_marked.proofs.Unexporting.{collected, decl_of, declares_none}
+use Rattle.steps_export.proofs.Gathered.{gathered, gathered_hoisted, are_gathered, is_gathered, own_gathered, in_own, in_inner, in_outer, in_node, first_or_later, gathered_even, joined_cases}
 
 never : {P : Type 0} → false ≡ true → P
 never e = absurd (true≢false (sym e))
@@ -252,3 +252,7 @@ part_stays e top x y gives part c next some all a same h =
           ]
           | inr f ↦ absurd f
         ]
+
+-- what declares nothing may become anything
+pub undeclared_stays : (e : BindingSite) → e.layer.scope ≡ 0 → (x y : Tree) → DeclaresNothing (forest_of x) → (c : Context) (next : ℕ) → 0 < next → Stays e x (Some y) c next
+undeclared_stays e top x y none c next some all a same h = absurd (declares_none (forest_of x) none all (λ at. c) 0 next e (Prim.omega (arith, some, top)) h)

@@ -6,7 +6,7 @@
 //!
 //! What leaves declares nothing in the program's own scope but a name that no export is of (`proofs/Going.antt`), and the rest
 //! stays below what it stood below (`proofs/Staying.antt`). A further case of an edit asks for one in `proofs/Edited.antt`, which is a
-//! line where a part stands for the whole. The code is empty: each function's contract is a law.
+//! line where a part stands for the whole or an expression is rebuilt. The code is empty: each function's contract is a law.
 #![tactic(auto)]
 
 pub mod kept;

@@ -1,4 +1,5 @@
 pub mod Along
+pub mod Picked
 pub mod Smaller
 pub mod Shallower
 pub mod StillRead

@@ -22,6 +22,7 @@ use Rattle.steps_owed.proofs.Made.{MadeBy, calm_single, made_at}
 use Rattle.steps_marked.proofs.Cuts as cuts
 use Rattle.steps_marked.proofs.Cuts.{Cuts}
 use Rattle.steps_keep_text.proofs.Along.{IsShed}
+use Rattle.steps_keep_text.proofs.Picked.{picked_nests}
 
 -- ---- a part nests no deeper than the whole
 
@@ -131,6 +132,8 @@ cut_nests listed t u (cuts.parts i k l n m b v w rest gives unasked) plan sound 
     let made = made_at whole k (calm_single k (giving_is_calm k gives)) (first_place plan) (first_passes is_sound plan refl sound) stands.0 in
     let less : depth (node_data l b (row_datas b)) ≤ depth (node_data k whole (row_datas whole)) = Prim.omega (arith, whole_nests k whole gives made, part_nests v l m b w) in
     (λ h. (less, narrows_itself (row_datas rest)), Prim.omega (arith, less))
+cut_nests listed t u (cuts.rebuilds i k l n m a b rest made) plan sound stands =
+    let less = picked_nests made.picks in (λ h. (less, narrows_itself (row_datas rest)), Prim.omega (arith, less))
 cut_nests listed t u (cuts.inside l k n below now rest called c) plan sound stands =
     let planned = planned_below below (first_place plan) k stands.0 in
     let less = below_nests (is_list k) k below now refl (cut_nests (is_list k) below now c planned.0 planned.1 planned.2) in

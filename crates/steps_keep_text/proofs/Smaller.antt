@@ -1,7 +1,7 @@
 -- What edits leave of a tree is no larger, by any count of its nodes, and no deeper.
 use Rattle.std.proofs.Common.{◌≡◌, ◌≤◌, ◌+◌, ℕ, suc, Bool, true, false, refl, sym, true≢false, arith}
 use Rattle.js_syntax.specs.declared.node_kind.NodeKind.{NodeKind as Kind}
-use Rattle.js_syntax.specs.declared.node_kind.NodeKind.TheVariants.{EmptyStatement as empty_statement, ExpressionStatement as expression_statement, Class as class}
+use Rattle.js_syntax.specs.declared.node_kind.NodeKind.TheVariants.{EmptyStatement as empty_statement, ExpressionStatement as expression_statement, Class as class, ArrayExpression as array_expression, Elements as elements, SequenceExpression as sequence_expression, Expressions as expressions}
 use Rattle.js_syntax.specs.Node.{Forest, Note, nothing, node, absent, joined, bare, total}
 use Rattle.js_tree.specs.Count.{one_each, node_count, lower, levels_at, levels}
 use Rattle.json_kept.proofs.Depths.{total_joined}
@@ -10,14 +10,16 @@ use Rattle.scope_laws.proofs.Notes.{total_bare, unseen}
 use Rattle.steps_marked.proofs.Cuts as cuts
 use Rattle.steps_marked.proofs.Cuts.{Cuts}
 use Rattle.steps_keep_text.proofs.Along.{IsShed}
+use Rattle.steps_keep_text.proofs.Picked.{picked_counts}
 
--- ---- counts, by which an empty statement counts no more than one of an expression
+-- ---- counts, by which an empty statement counts no more than one of an expression, and a sequence no more than an array
 
-module _ (counts : Kind → ℕ) (empty : counts empty_statement ≤ counts expression_statement) where
+module _ (counts : Kind → ℕ) (empty : counts empty_statement ≤ counts expression_statement) (sequence : counts sequence_expression ≤ counts array_expression) (in_list : counts expressions ≤ counts elements) where
   cut_lighter : (listed : Bool) (t u : Forest) → Cuts listed t u → total counts u ≤ total counts t
   cut_lighter listed t u (cuts.leaves k n below rest plain) = Prim.omega arith
   cut_lighter listed t u (cuts.empties l n m below rest) = Prim.omega (arith, empty)
   cut_lighter listed t u (cuts.parts i k l n m b v w rest gives unasked) = Prim.omega (arith, total_joined counts v (node l m b w))
+  cut_lighter listed t u (cuts.rebuilds i k l n m a b rest made) = Prim.omega (arith, picked_counts counts sequence in_list made.picks)
   cut_lighter listed t u (cuts.inside l k n below now rest called c) = Prim.omega (arith, cut_lighter (is_list k) below now c)
   cut_lighter listed t u (cuts.behind l k n below rest now c) = Prim.omega (arith, cut_lighter l rest now c)
   cut_lighter listed t u (cuts.behind_none l rest now c) = cut_lighter l rest now c
@@ -50,6 +52,7 @@ cut_levels : (more : ℕ → ℕ) (at : ℕ) (listed : Bool) (t u : Forest) → 
 cut_levels more at listed t u (cuts.leaves k n below rest plain) level = Prim.omega (arith, moved more (level refl) at (suc at) rest)
 cut_levels more at listed t u (cuts.empties l n m below rest) level = Prim.omega arith
 cut_levels more at listed t u (cuts.parts i k l n m b v w rest gives unasked) level = Prim.omega (arith, part_levels (lower k) 0 v l m b w)
+cut_levels more at listed t u (cuts.rebuilds i k l n m a b rest made) level = Prim.omega (arith, made.no_deeper)
 cut_levels more at listed t u (cuts.inside l k n below now rest called c) level = Prim.omega (arith, cut_levels (lower k) 0 (is_list k) below now c (list_level k))
 cut_levels more at listed t u (cuts.behind l k n below rest now c) level = Prim.omega (arith, cut_levels more (suc at) l rest now c level)
 cut_levels more at listed t u (cuts.behind_none l rest now c) level = cut_levels more (suc at) l rest now c level
@@ -63,4 +66,4 @@ pub levels_shed : IsShed levels
 levels_shed = record { renoted = unseen levels (bare_levels (λ at. 0) 0); cut = λ t u c fits. cut_levels (λ at. 0) 0 false t u c (λ h. absurd (true≢false (sym h))) }
 
 pub nodes_shed : IsShed node_count
-nodes_shed = counts_shed one_each (Prim.omega arith)
+nodes_shed = counts_shed one_each (Prim.omega arith) (Prim.omega arith) (Prim.omega arith)

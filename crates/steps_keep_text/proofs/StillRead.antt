@@ -15,16 +15,16 @@ use Rattle.steps_keep_text.proofs.Shallower.{depths_shed}
 
 module _ (t u : Forest) (edits : Edits t u) where
   pub fewer_misnamed : Fits root t → total misnamed u ≤ total misnamed t
-  fewer_misnamed fits = edits_shed (total misnamed) (counts_shed misnamed (Prim.omega arith)) t u edits fits
+  fewer_misnamed fits = edits_shed (total misnamed) (counts_shed misnamed (Prim.omega arith) (Prim.omega arith) (Prim.omega arith)) t u edits fits
 
   pub fewer_negative : Fits root t → total negative u ≤ total negative t
-  fewer_negative fits = edits_shed (total negative) (counts_shed negative (Prim.omega arith)) t u edits fits
+  fewer_negative fits = edits_shed (total negative) (counts_shed negative (Prim.omega arith) (Prim.omega arith) (Prim.omega arith)) t u edits fits
 
   pub left_as_it_is : Fits root t → IsWrittenAsItIs t → IsWrittenAsItIs u
   left_as_it_is fits so = record { numbers = Prim.omega (arith, fewer_negative fits, so.numbers); names = Prim.omega (arith, fewer_misnamed fits, so.names) }
 
   pub left_exact : Fits root t → IsExact t → IsExact u
-  left_exact fits exact = Prim.omega (arith, edits_shed (total inexact) (counts_shed inexact (Prim.omega arith)) t u edits fits, exact)
+  left_exact fits exact = Prim.omega (arith, edits_shed (total inexact) (counts_shed inexact (Prim.omega arith) (Prim.omega arith) (Prim.omega arith)) t u edits fits, exact)
 
   pub left_readable : IsReadable t → IsReadable u
   left_readable r = record {
@@ -36,6 +36,6 @@ module _ (t u : Forest) (edits : Edits t u) where
   pub left_signable : IsSignable t → IsSignable u
   left_signable s = record {
     shape = edits_fit t u edits s.shape;
-    values = Prim.omega (arith, edits_shed (total inexact_size) (counts_shed inexact_size (Prim.omega arith)) t u edits s.shape, s.values);
+    values = Prim.omega (arith, edits_shed (total inexact_size) (counts_shed inexact_size (Prim.omega arith) (Prim.omega arith) (Prim.omega arith)) t u edits s.shape, s.values);
     nesting = Prim.omega (arith, edits_shed _ depths_shed t u edits s.shape, s.nesting);
   }

@@ -6,9 +6,10 @@
 //! (`readable`). So the text of what they leave of a program that was read is read as that (`texts`), and does what a core module
 //! does that they leave (`runs`). `examples` has small programs with their sizes.
 //!
-//! All goes by the shape of an edit (`Cuts` of steps_marked): a node leaves a list, a statement becomes empty, or a part stands for
-//! the whole. So a further case of these shapes asks for nothing here, and a further kind of node that gives way to its parts for
-//! a line of `proofs/Shallower.antt` in each of its lists.
+//! All goes by the shape of an edit (`Cuts` of steps_marked): a node leaves a list, a statement becomes empty, a part stands for the
+//! whole, or an expression is rebuilt of its parts. So a further case of these shapes asks for nothing here, a further kind of node
+//! that gives way to its parts for a line of `proofs/Shallower.antt` in each of its lists, and a further way to rebuild an expression
+//! (`Picks` of steps_marked) for one in `proofs/Picked.antt`.
 //!
 //! The code is empty: each function's contract is a law.
 #![tactic(auto)]

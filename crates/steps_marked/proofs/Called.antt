@@ -3,7 +3,7 @@
 use Rattle.std.proofs.Common.{◌≡◌, ℕ, suc, Bool, true, false, true≢false, is_some, Some, None, if◌then◌else◌, bytes_eq, codes, refl, sym}
 use Rattle.js_syntax.specs.declared.node_kind.NodeKind.{NodeKind as Kind}
 use Rattle.js_syntax.specs.declared.node_kind.NodeKind.TheVariants.{ParenthesizedExpression as parenthesized_expression, CallExpression as call_expression, ReferenceName as reference_name}
-use Rattle.js_syntax.specs.Node.{Forest, node}
+use Rattle.js_syntax.specs.Node.{Forest}
 use Rattle.js_tree.specs.Names.{eval_name, eval_of_call}
 use Rattle.scope_laws.specs.Lists.{is_list}
 use Rattle.scope_laws.specs.Place as places

@@ -16,9 +16,11 @@ use Rattle.scope_rules.specs.Context.{is_there, has_second}
 use Rattle.scope_rules.specs.Site.{has_eval, scope_row}
 use Rattle.scope_laws.specs.Lists.{is_list}
 use Rattle.steps_keep_form.specs.Part.{gives_way, is_asked_for}
+use Rattle.steps_owed.specs.Kept.{is_program}
 use Rattle.steps_allowed.specs.Exposure.{Exposure, in_code, in_block, declaring, shares, is_script_source, at_function_name, at_class_name, exposed_inside, beside_program}
 use Rattle.js_syntax.proofs.Truth.{first_of_either, second_of_either}
-use Rattle.steps_marked.proofs.Cuts.{Cuts, leaves, empties, parts, inside, behind, behind_none}
+use Rattle.steps_marked.proofs.Cuts.{Cuts, leaves, empties, parts, rebuilds, inside, behind, behind_none}
+use Rattle.steps_marked.proofs.Rebuilding.{one_evals}
 
 -- ---- truth values
 
@@ -54,13 +56,25 @@ no_list : (k : Kind) (n : Note) (b rest : Forest) → gives_way k ≡ true → i
 no_list kind.Statements n b rest e = never e
 no_list k n b rest e = refl
 
-whole_no_body : (k : Kind) (n : Note) (b rest : Forest) → gives_way k ≡ true → is_strict_function (node k n b rest) ≡ is_strict_function rest
+pub whole_no_body : (k : Kind) (n : Note) (b rest : Forest) → gives_way k ≡ true → is_strict_function (node k n b rest) ≡ is_strict_function rest
 whole_no_body kind.FunctionBody n b rest e = never e
 whole_no_body k n b rest e = refl
 
-part_no_body : (l : Kind) (n : Note) (b rest : Forest) → is_asked_for l ≡ false → is_strict_function (node l n b rest) ≡ is_strict_function rest
+pub part_no_directive : (l : Kind) (n : Note) (b rest : Forest) → is_asked_for l ≡ false → has_use_strict (node l n b rest) ≡ false
+part_no_directive (kind.Directive written) n b rest e = never (sym e)
+part_no_directive l n b rest e = refl
+
+pub part_no_list : (l : Kind) (n : Note) (b rest : Forest) → is_asked_for l ≡ false → is_strict_list (node l n b rest) ≡ false
+part_no_list kind.Statements n b rest e = never (sym e)
+part_no_list l n b rest e = refl
+
+pub part_no_body : (l : Kind) (n : Note) (b rest : Forest) → is_asked_for l ≡ false → is_strict_function (node l n b rest) ≡ is_strict_function rest
 part_no_body kind.FunctionBody n b rest e = never (sym e)
 part_no_body l n b rest e = refl
+
+pub part_no_program : (l : Kind) (n : Note) (b rest : Forest) → is_asked_for l ≡ false → is_program (node l n b rest) ≡ false
+part_no_program (kind.Program source) n b rest e = never (sym e)
+part_no_program l n b rest e = refl
 
 -- ---- calls of `eval`
 
@@ -76,6 +90,8 @@ evals_stay listed t u (parts r k l i j b v w rest gives unasked) e =
     let whole = joined v (node l j b w) in
     only_or (is_some (eval_of_call l b) || has_eval b) (has_eval rest) (is_some (eval_of_call k whole) || has_eval whole) (has_eval rest)
     (λ h. second_of_either (is_some (eval_of_call k whole)) (has_eval whole) (evals_part v l j b w h)) kept e
+evals_stay listed t u (rebuilds r k l n m a b rest made) e =
+    only_or (is_some (eval_of_call l b) || has_eval b) (has_eval rest) (is_some (eval_of_call k a) || has_eval a) (has_eval rest) (one_evals k l n m a b made.rebuilt) kept e
 evals_stay listed t u (inside r k n below now rest called h) e =
     only_or (is_some (eval_of_call k now) || has_eval now) (has_eval rest) (is_some (eval_of_call k below) || has_eval below) (has_eval rest)
     (only_or (is_some (eval_of_call k now)) (has_eval now) (is_some (eval_of_call k below)) (has_eval below) called (evals_stay (is_list k) below now h)) kept e
@@ -87,6 +103,7 @@ evals_behind : (listed : Bool) (t u : Forest) → Cuts listed t u → listed ≡
 evals_behind listed t u (leaves k n below rest plain) l e = absurd (true≢false l)
 evals_behind listed t u (empties r n m below rest) l e = e
 evals_behind listed t u (parts r k x i j b v w rest gives unasked) l e = e
+evals_behind listed t u (rebuilds r k x n m a b rest made) l e = e
 evals_behind listed t u (inside r k n below now rest called h) l e = e
 evals_behind listed t u (behind r k n below rest now h) l e = evals_stay r rest now h e
 evals_behind listed t u (behind_none r rest now h) l e = evals_stay r rest now h e
@@ -104,6 +121,7 @@ use_strict_stays listed t u (leaves (kind.Directive written) n below rest plain)
 use_strict_stays listed t u (leaves k n below rest plain) e = never e
 use_strict_stays listed t u (empties r n m below rest) e = never e
 use_strict_stays listed t u (parts r k l i j b v w rest gives unasked) e = never (sym (no_directive k i (joined v (node l j b w)) rest gives) ∙ e)
+use_strict_stays listed t u (rebuilds r k l n m a b rest made) e = never (sym (part_no_directive k n a rest made.old_unasked) ∙ e)
 use_strict_stays listed t u (inside r (kind.Directive written) n below now rest called h) e = e
 use_strict_stays listed t u (inside r k n below now rest called h) e = never e
 use_strict_stays listed t u (behind r (kind.Directive written) n below rest now h) e =
@@ -115,6 +133,7 @@ list_stays : (listed : Bool) (t u : Forest) → Cuts listed t u → listed ≡ f
 list_stays listed t u (leaves k n below rest plain) l e = absurd (true≢false l)
 list_stays listed t u (empties r n m below rest) l e = never e
 list_stays listed t u (parts r k x i j b v w rest gives unasked) l e = never (sym (no_list k i (joined v (node x j b w)) rest gives) ∙ e)
+list_stays listed t u (rebuilds r k x n m a b rest made) l e = never (sym (part_no_list k n a rest made.old_unasked) ∙ e)
 list_stays listed t u (inside r kind.Statements n below now rest called h) l e = use_strict_stays true below now h e
 list_stays listed t u (inside r k n below now rest called h) l e = never e
 list_stays listed t u (behind r kind.Statements n below rest now h) l e = e
@@ -125,6 +144,7 @@ function_stays : (listed : Bool) (t u : Forest) → Cuts listed t u → listed �
 function_stays listed t u (leaves k n below rest plain) l e = absurd (true≢false l)
 function_stays listed t u (empties r n m below rest) l e = e
 function_stays listed t u (parts r k x i j b v w rest gives unasked) l e = part_no_body x j b rest unasked ∙ sym (whole_no_body k i (joined v (node x j b w)) rest gives) ∙ e
+function_stays listed t u (rebuilds r k x n m a b rest made) l e = part_no_body x m b rest made.unasked ∙ sym (part_no_body k n a rest made.old_unasked) ∙ e
 function_stays listed t u (inside r kind.FunctionBody n below now rest called h) l e = list_stays false below now h refl e
 function_stays listed t u (inside r k n below now rest called h) l e = e
 function_stays listed t u (behind r kind.FunctionBody n below rest now h) l e = e
@@ -135,6 +155,7 @@ there_same : (listed : Bool) (t u : Forest) → Cuts listed t u → listed ≡ f
 there_same listed t u (leaves k n below rest plain) l = absurd (true≢false l)
 there_same listed t u (empties r n m below rest) l = refl
 there_same listed t u (parts r k x i j b v w rest gives unasked) l = refl
+there_same listed t u (rebuilds r k x n m a b rest made) l = refl
 there_same listed t u (inside r k n below now rest called h) l = refl
 there_same listed t u (behind r k n below rest now h) l = refl
 there_same listed t u (behind_none r rest now h) l = refl
@@ -143,6 +164,7 @@ second_same : (listed : Bool) (t u : Forest) → Cuts listed t u → listed ≡ 
 second_same listed t u (leaves k n below rest plain) l = absurd (true≢false l)
 second_same listed t u (empties r n m below rest) l = refl
 second_same listed t u (parts r k x i j b v w rest gives unasked) l = refl
+second_same listed t u (rebuilds r k x n m a b rest made) l = refl
 second_same listed t u (inside r k n below now rest called h) l = refl
 second_same listed t u (behind r k n below rest now h) l = there_same r rest now h l
 second_same listed t u (behind_none r rest now h) l = there_same r rest now h l
@@ -230,13 +252,14 @@ less_inside k now below t l at = l
 
 -- ---- whole programs
 
-pub below_stays : (listed : Bool) (t u : Forest) → Cuts listed t u → listed ≡ false → Only (has_eval (below_of u)) (has_eval (below_of t))
-below_stays listed t u (leaves k n below rest plain) l e = absurd (true≢false l)
-below_stays listed t u (empties r n m below rest) l e = never e
-below_stays listed t u (parts r k x i j b v w rest gives unasked) l e = evals_part v x j b w (second_of_either (is_some (eval_of_call x b)) (has_eval b) e)
-below_stays listed t u (inside r k n below now rest called h) l e = evals_stay (is_list k) below now h e
-below_stays listed t u (behind r k n below rest now h) l e = e
-below_stays listed t u (behind_none r rest now h) l e = never e
+pub below_stays : (listed : Bool) (t u : Forest) → Cuts listed t u → listed ≡ false → is_program t ≡ true → Only (has_eval (below_of u)) (has_eval (below_of t))
+below_stays listed t u (leaves k n below rest plain) l is e = absurd (true≢false l)
+below_stays listed t u (empties r n m below rest) l is e = never e
+below_stays listed t u (parts r k x i j b v w rest gives unasked) l is e = evals_part v x j b w (second_of_either (is_some (eval_of_call x b)) (has_eval b) e)
+below_stays listed t u (rebuilds r k x n m a b rest made) l is e = never (sym (part_no_program k n a rest made.old_unasked) ∙ is)
+below_stays listed t u (inside r k n below now rest called h) l is e = evals_stay (is_list k) below now h e
+below_stays listed t u (behind r k n below rest now h) l is e = e
+below_stays listed t u (behind_none r rest now h) l is e = never e
 
 pub less_beside : (shared shared_then : Bool) (now below : Forest) → shared ≡ shared_then → Only (has_eval now) (has_eval below) → (at : ℕ) → Less (beside_program shared now at) (beside_program shared_then below at)
 less_beside shared shared_then now below e f at =

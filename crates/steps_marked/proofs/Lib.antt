@@ -1,4 +1,6 @@
 pub mod Called
+pub mod Picked
+pub mod Rebuilding
 pub mod Local
 pub mod Shedding
 pub mod Tables

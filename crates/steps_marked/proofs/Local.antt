@@ -1,11 +1,13 @@
 -- What an edit makes of the row in which it is made, whose other nodes keep their marks.
-use Rattle.std.proofs.Common.{◌≡◌, ◌∙◌, ◌≤◌, true, false, Some, is_some, arith, sym, ap}
+use Rattle.std.proofs.Common.{◌≡◌, ◌∙◌, ◌≤◌, ◌<◌, true, false, Some, is_some, arith, sym, ap}
 use Rattle.js_syntax.specs.declared.node_kind.NodeKind.{NodeKind as Kind}
 use Rattle.js_syntax.specs.declared.node_kind.NodeKind.TheVariants.{ExpressionStatement as expression_statement, EmptyStatement as empty_statement}
-use Rattle.js_syntax.specs.Class.{root}
+use Rattle.js_syntax.specs.Class.{root, expression}
 use Rattle.js_syntax.specs.Facts.{weight}
-use Rattle.js_syntax.specs.Node.{Forest, Tree, Note, nothing, node, alone, joined, total}
+use Rattle.js_syntax.specs.Node.{Forest, Tree, Note, nothing, node, alone, joined, total, forest_of}
+use Rattle.js_tree.specs.Count.{levels}
 use Rattle.js_tree.specs.Names.{eval_name}
+use Rattle.js_rebuilt.specs.Rebuilt.{Rebuilt}
 use Rattle.json_shape.specs.Shape.{is_directive_kind, Fits}
 use Rattle.scope_laws.specs.Place as places
 use Rattle.scope_counts.specs.Edits.{Around, plug, in_list}
@@ -17,24 +19,40 @@ use Rattle.steps_allowed.specs.UnusedDeclaration.{unused_declaration_leaves}
 use Rattle.steps_allowed.specs.SilentStatement.{silent_statement_empties}
 use Rattle.steps_allowed.specs.Edits as edits
 use Rattle.steps_allowed.specs.Edits.{Leaves, Edit}
-use Rattle.steps_owed.specs.Owed.{ByPart}
+use Rattle.steps_owed.specs.Owed.{ByPart, ByParts}
+use Rattle.steps_owed.specs.Part.{DeclaresNothing}
 use Rattle.steps_owed.proofs.KnownConditional.{known_conditional_owes}
 use Rattle.steps_owed.proofs.Bare.{eval_alone}
+use Rattle.steps_owed.proofs.Expressions.{expression_declares_nothing}
 use Rattle.steps_owed.proofs.KnownSide.{known_side_owes}
 use Rattle.steps_owed.proofs.KnownIf.{known_if_owes}
 use Rattle.steps_owed.proofs.UnusedOperation.{unused_operation_owes}
+use Rattle.steps_owed.proofs.UnusedList.{unused_list_owes}
 use Rattle.steps_owed.proofs.Owed.{leaving}
 use Rattle.steps_owed.proofs.Places.{place_of, rest_of, placed_is, without_is, listed_is}
 use Rattle.steps_owed.proofs.TableKept as tables
 use Rattle.steps_marked.proofs.Called.{called_at, used_as_callee}
+use Rattle.steps_marked.proofs.Picked.{Picks, unused_list_picks}
 
--- A node leaves a list, a statement of an expression becomes empty, or a part of a node comes in its place, which isn't the name
--- `eval` if it is called.
+-- An expression is rebuilt of its parts. No rule of form asks for what it was or for what it is, which declares nothing, weighs less and
+-- has no more levels.
+pub record IsRebuilt (k : Kind) (n : Note) (a : Forest) (l : Kind) (m : Note) (b : Forest) : Type 0 where
+  pub rebuilt : Rebuilt (alone k n a) (alone l m b)
+  pub old_unasked : is_asked_for k ≡ false
+  pub unasked : is_asked_for l ≡ false
+  pub declares : DeclaresNothing (alone l m b)
+  pub lighter : total weight (alone l m b) < total weight (alone k n a)
+  pub no_deeper : levels (alone l m b) ≤ levels (alone k n a)
+  pub picks : Picks k a l b
+
+-- A node leaves a list, a statement of an expression becomes empty, a part of a node comes in its place, or an expression is rebuilt of
+-- its parts; what comes isn't the name `eval` if it is called.
 pub data Local (place : Around) : (t u : Forest) → Type 0 where
   leaves : (k : Kind) (n : Note) (b rest : Forest) → in_list false place ≡ true → is_directive_kind k ≡ false → 1 ≤ total weight (alone k n b) → Local place (node k n b rest) rest
   empties : (n m : Note) (b rest : Forest) → Local place (node expression_statement n b rest) (node empty_statement m nothing rest)
   parts : (k l : Kind) (i j : Note) (b v w rest : Forest) → gives_way k ≡ true → is_asked_for l ≡ false → (called_at false place ≡ true → is_some (eval_name (node l j b rest)) ≡ false)
       → Local place (node k i (joined v (node l j b w)) rest) (node l j b rest)
+  rebuilds : (k l : Kind) (n m : Note) (a b rest : Forest) → IsRebuilt k n a l m b → (called_at false place ≡ true → is_some (eval_name (node l m b rest)) ≡ false) → Local place (node k n a rest) (node l m b rest)
 
 pub record IsLocal (t u : Forest) : Type 0 where
   pub place : Around
@@ -66,6 +84,26 @@ by_part a x y owed fits =
       new_is = placed_is a y;
     }
 
+by_parts : (a : places.Around) (x y : Tree) → ByParts a x y → Picks x.kind x.below y.kind y.below → Fits root (places.plug a (Some x)) → IsLocal (places.plug a (Some x)) (places.plug a (Some y))
+by_parts a x y owed picks fits = record {
+  place = place_of a;
+  old = node x.kind x.note x.below (rest_of a);
+  new = node y.kind y.note y.below (rest_of a);
+  local = rebuilds x.kind y.kind x.note y.note x.below y.below (rest_of a)
+      (record {
+        rebuilt = owed.rebuilt;
+        old_unasked = owed.old_unasked fits;
+        unasked = owed.unasked fits;
+        declares = expression_declares_nothing (forest_of y) ((owed.takes fits).classes expression (owed.fits_expression fits));
+        lighter = owed.lighter;
+        no_deeper = owed.no_deeper;
+        picks = picks;
+      })
+      (λ c. eval_alone y.kind y.note y.below (rest_of a) ∙ owed.comes_out.uncalled (used_as_callee a c));
+  old_is = placed_is a x;
+  new_is = placed_is a y;
+}
+
 pub is_local : (t u : Forest) → Edit t u → Fits root t → IsLocal t u
 is_local t u (edits.leaves a x c) fits =
     let owed = leaving a x c in
@@ -89,3 +127,4 @@ is_local t u (edits.becomes a x y (edits.known_conditional c)) fits = by_part a 
 is_local t u (edits.becomes a x y (edits.known_side c)) fits = by_part a x y (known_side_owes a x y c) fits
 is_local t u (edits.becomes a x y (edits.known_if c)) fits = by_part a x y (known_if_owes a x y c) fits
 is_local t u (edits.becomes a x y (edits.unused_operation c)) fits = by_part a x y (unused_operation_owes a x y c) fits
+is_local t u (edits.becomes a x y (edits.unused_list c)) fits = by_parts a x y (unused_list_owes a x y c) (unused_list_picks a x y c) fits

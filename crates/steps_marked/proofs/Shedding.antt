@@ -1,5 +1,5 @@
 -- Edits bring in no references and declarations, and leave less.
-use Rattle.std.proofs.Common.{◌≡◌, ◌≤◌, ◌<◌, ◌+◌, ℕ, List, true, Option, true≢false, arith, sym, subst, ◌++◌, inl, inr, refl}
+use Rattle.std.proofs.Common.{◌≡◌, ◌≤◌, ◌<◌, ◌+◌, ℕ, List, true, false, Option, true≢false, arith, sym, subst, ◌++◌, inl, inr, refl}
 use Rattle.js_syntax.specs.declared.node_kind.NodeKind.{NodeKind as Kind}
 use Rattle.js_syntax.specs.declared.node_kind.NodeKind.TheVariants.{BindingName as binding_name, IfStatement as if_statement, ConditionalExpression as conditional_expression, UnaryExpression as unary_expression, BinaryExpression as binary_expression, LogicalExpression as logical_expression}
 use Rattle.js_syntax.specs.Class.{root}
@@ -10,6 +10,7 @@ use Rattle.scope_laws.specs.Exact.{Among}
 use Rattle.scope_laws.proofs.Among.{among_left, among_right}
 use Rattle.scope_counts.specs.Losing.{referring, own_declaring, declaring}
 use Rattle.scope_counts.proofs.Scopes.{each_joined}
+use Rattle.scope_counts.proofs.Rebuilding.{rebuilt_tally, rebuilt_thins}
 use Rattle.scope_counts.proofs.Tables.{referring_each, each_referring}
 use Rattle.scope_counts.specs.Counts.{Decl, Weight, tally, by_id, ids}
 use Rattle.scope_counts.specs.Edits.{Around, here, behind, behind_none, under, plug}
@@ -17,7 +18,7 @@ use Rattle.scope_counts.specs.Scopes.{EachName, EachDeclaration, EachUse, EachRe
 use Rattle.steps_keep_form.specs.Part.{gives_way}
 use Rattle.steps_allowed.specs.Edits.{Edit, TreeEdits, no_tree_edit, one_tree_edit}
 use Rattle.steps_owed.proofs.FitsEdits.{edit_fits}
-use Rattle.steps_marked.proofs.Local.{Local, leaves, empties, parts, is_local}
+use Rattle.steps_marked.proofs.Local.{Local, leaves, empties, parts, rebuilds, is_local}
 
 -- ---- references
 
@@ -31,6 +32,7 @@ module _ (w : Weight) where
   tally_local place t u (leaves k n b rest listed plain weighs) = Prim.omega arith
   tally_local place t u (empties n m b rest) = Prim.omega arith
   tally_local place t u (parts k l i j b v x rest gives unasked uncalled) = Prim.omega (arith, tally_joined v (node l j b x))
+  tally_local place t u (rebuilds k l n m a b rest made uncalled) = Prim.omega (arith, rebuilt_tally w made.rebuilt)
 
   tally_plug : (a : Around) (t u : Forest) → tally w u ≤ tally w t → tally w (plug a u) ≤ tally w (plug a t)
   tally_plug here t u h = h
@@ -67,6 +69,7 @@ weight_local : (place : Around) (t u : Forest) → Local place t u → total fac
 weight_local place t u (leaves k n b rest listed plain weighs) = Prim.omega (arith, weighs)
 weight_local place t u (empties n m b rest) = Prim.omega arith
 weight_local place t u (parts k l i j b v x rest gives unasked uncalled) = Prim.omega (arith, weight_joined v (node l j b x), gives_weight k gives)
+weight_local place t u (rebuilds k l n m a b rest made uncalled) = Prim.omega (arith, made.lighter)
 
 weight_plug : (a : Around) (t u : Forest) → total facts.weight u < total facts.weight t → total facts.weight (plug a u) < total facts.weight (plug a t)
 weight_plug here t u h = h
@@ -84,6 +87,33 @@ pub edits_weigh_no_more : (t u : Forest) → TreeEdits t u → Fits root t → t
 edits_weigh_no_more t u (no_tree_edit v) fits = Prim.omega arith
 edits_weigh_no_more t u (one_tree_edit v w x e more) fits = Prim.omega (arith, edit_weighs_less v w e fits, edits_weigh_no_more w x more (edit_fits v w e fits))
 
+-- ---- as lists
+
+if_name : (P : List ℕ → Option ℕ → Type 0) (n : Note) (k : Kind) → EachName P n k → (d : Decl) → Among d (own_declaring n k) → P d.name d.symbol
+if_name P n (binding_name x) e d (inl h) = subst (λ (d : Decl). P d.name d.symbol) h e
+if_name P n (binding_name x) e d (inr h) = absurd h
+if_name P n k e d h = absurd h
+
+name_if : (P : List ℕ → Option ℕ → Type 0) (n : Note) (k : Kind) → ((d : Decl) → Among d (own_declaring n k) → P d.name d.symbol) → EachName P n k
+name_if P n (binding_name x) f = f _ (inl refl)
+name_if P n k f = tt
+
+declaring_each : (P : List ℕ → Option ℕ → Type 0) (t : Forest) → EachDeclaration P t → (d : Decl) → Among d (declaring t) → P d.name d.symbol
+declaring_each P nothing e d h = absurd h
+declaring_each P (absent t) e d h = declaring_each P t e d h
+declaring_each P (node k n b t) e d h =
+    each_joined (λ (d : Decl). P d.name d.symbol) (own_declaring n k ++ declaring b) (declaring t)
+    (each_joined (λ (d : Decl). P d.name d.symbol) (own_declaring n k) (declaring b) (if_name P n k e.0) (declaring_each P b e.1)) (declaring_each P t e.2) d h
+
+each_declaring : (P : List ℕ → Option ℕ → Type 0) (t : Forest) → ((d : Decl) → Among d (declaring t) → P d.name d.symbol) → EachDeclaration P t
+each_declaring P nothing f = tt
+each_declaring P (absent t) f = each_declaring P t f
+each_declaring P (node k n b t) f = (
+  name_if P n k (λ d h. f d (among_left d (own_declaring n k ++ declaring b) (declaring t) (among_left d (own_declaring n k) (declaring b) h))),
+  each_declaring P b (λ d h. f d (among_left d (own_declaring n k ++ declaring b) (declaring t) (among_right d (own_declaring n k) (declaring b) h))),
+  each_declaring P t (λ d h. f d (among_right d (own_declaring n k ++ declaring b) (declaring t) h)),
+)
+
 -- ---- declarations
 
 module _ (P : List ℕ → Option ℕ → Type 0) where
@@ -96,6 +126,7 @@ module _ (P : List ℕ → Option ℕ → Type 0) where
   declared_local place t u (leaves k n b rest listed plain weighs) e = e.2
   declared_local place t u (empties n m b rest) e = (tt, tt, e.2)
   declared_local place t u (parts k l i j b v x rest gives unasked uncalled) e = let inner = declared_part v l j b x e.1 in (inner.0, inner.1, e.2)
+  declared_local place t u (rebuilds k l n m a b rest made uncalled) e = each_declaring P u (λ d h. declaring_each P t e d ((rebuilt_thins (λ r. false) k l n m a b rest made.rebuilt).declarations d h))
 
   declared_plug : (a : Around) (t u : Forest) → (EachDeclaration P t → EachDeclaration P u) → EachDeclaration P (plug a t) → EachDeclaration P (plug a u)
   declared_plug here t u f e = f e
@@ -124,6 +155,7 @@ module _ (P : List ℕ → Option ℕ → Type 0) where
   referring_local place t u (leaves k n b rest listed plain weighs) e = e.2
   referring_local place t u (empties n m b rest) e = (tt, tt, e.2)
   referring_local place t u (parts k l i j b v x rest gives unasked uncalled) e = let inner = referring_part v l j b x e.1 in (inner.0, inner.1, e.2)
+  referring_local place t u (rebuilds k l n m a b rest made uncalled) e = each_referring P u (λ d h. referring_each P t e d ((rebuilt_thins (λ r. false) k l n m a b rest made.rebuilt).references d h))
 
   referring_plug : (a : Around) (t u : Forest) → (EachReference P t → EachReference P u) → EachReference P (plug a t) → EachReference P (plug a u)
   referring_plug here t u f e = f e
@@ -140,32 +172,7 @@ module _ (P : List ℕ → Option ℕ → Type 0) where
   edits_refer t u (no_tree_edit v) fits referring = referring
   edits_refer t u (one_tree_edit v w x e more) fits referring = edits_refer w x more (edit_fits v w e fits) (edit_refers v w e fits referring)
 
--- ---- as lists
-
-if_name : (P : List ℕ → Option ℕ → Type 0) (n : Note) (k : Kind) → EachName P n k → (d : Decl) → Among d (own_declaring n k) → P d.name d.symbol
-if_name P n (binding_name x) e d (inl h) = subst (λ (d : Decl). P d.name d.symbol) h e
-if_name P n (binding_name x) e d (inr h) = absurd h
-if_name P n k e d h = absurd h
-
-name_if : (P : List ℕ → Option ℕ → Type 0) (n : Note) (k : Kind) → ((d : Decl) → Among d (own_declaring n k) → P d.name d.symbol) → EachName P n k
-name_if P n (binding_name x) f = f _ (inl refl)
-name_if P n k f = tt
-
-declaring_each : (P : List ℕ → Option ℕ → Type 0) (t : Forest) → EachDeclaration P t → (d : Decl) → Among d (declaring t) → P d.name d.symbol
-declaring_each P nothing e d h = absurd h
-declaring_each P (absent t) e d h = declaring_each P t e d h
-declaring_each P (node k n b t) e d h =
-    each_joined (λ (d : Decl). P d.name d.symbol) (own_declaring n k ++ declaring b) (declaring t)
-    (each_joined (λ (d : Decl). P d.name d.symbol) (own_declaring n k) (declaring b) (if_name P n k e.0) (declaring_each P b e.1)) (declaring_each P t e.2) d h
-
-each_declaring : (P : List ℕ → Option ℕ → Type 0) (t : Forest) → ((d : Decl) → Among d (declaring t) → P d.name d.symbol) → EachDeclaration P t
-each_declaring P nothing f = tt
-each_declaring P (absent t) f = each_declaring P t f
-each_declaring P (node k n b t) f = (
-  name_if P n k (λ d h. f d (among_left d (own_declaring n k ++ declaring b) (declaring t) (among_left d (own_declaring n k) (declaring b) h))),
-  each_declaring P b (λ d h. f d (among_left d (own_declaring n k ++ declaring b) (declaring t) (among_right d (own_declaring n k) (declaring b) h))),
-  each_declaring P t (λ d h. f d (among_right d (own_declaring n k ++ declaring b) (declaring t) h)),
-)
+-- ---- among what stood there
 
 abbrev named : List Decl → List ℕ → Option ℕ → Type 0
 named ds x q = Among (record { name = x; symbol = q }) ds

@@ -8,6 +8,7 @@ use Rattle.js_syntax.specs.declared.kind.VariableKind.{VariableKind}
 use Rattle.js_syntax.specs.declared.kind.VariableKind.TheVariants as variable
 use Rattle.js_syntax.specs.Class.{root}
 use Rattle.js_syntax.specs.Node.{Forest, Tree, Note, nothing, node, absent, joined, below_of}
+use Rattle.js_rebuilt.specs.Rebuilt.{is_operation, Rebuilt, ends, stays, leaves as leaves_whole, opened, built, absent_leaves, absent_comes}
 use Rattle.json_shape.specs.Shape.{Fits}
 use Rattle.scope_rules.specs.Table.{Scoping}
 use Rattle.scope_laws.specs.Lists.{is_list}
@@ -24,8 +25,8 @@ use Rattle.scope_table.specs.Reading.{scope_at}
 use Rattle.scope_laws.proofs.Bindings.{same_value}
 use Rattle.js_syntax.proofs.Truth.{neither}
 use Rattle.steps_marked.specs.Flags.{has_bits, scope_has, is_sloppy_block, Stand, is_within, holds_variables, declares_in, declaring_inside, stand_inside, first_mark, stands_of, stand_at, stand, Tells, Told, FlagsTell}
-use Rattle.steps_marked.proofs.Cuts.{Cuts, leaves, empties, parts, inside, behind, behind_none, edit_cuts}
-use Rattle.steps_marked.proofs.Exposing.{never, Thinner, thinner_itself, thinner_cuts, Less, less_inside, below_stays, less_beside}
+use Rattle.steps_marked.proofs.Cuts.{Cuts, leaves, empties, parts, rebuilds, inside, behind, behind_none, edit_cuts}
+use Rattle.steps_marked.proofs.Exposing.{never, part_no_program, Thinner, thinner_itself, thinner_cuts, Less, less_inside, below_stays, less_beside}
 
 -- ---- places: q is of the tree that is there now, p of the one before
 
@@ -94,6 +95,24 @@ plain_inside (kind.UnaryExpression operator) g p n below at = refl
 plain_inside (kind.BinaryExpression operator) g p n below at = refl
 plain_inside k g p n below at = never g
 
+-- and so does an operation
+pub operation_inside : (k : Kind) → is_operation k ≡ true → (p : Stand) (n : Note) (below : Forest) (at : ℕ) → stand_inside p k n below at ≡ p
+operation_inside (kind.Program source) g p n below at = absurd cc
+operation_inside (kind.Function how pure) g p n below at = absurd cc
+operation_inside (kind.Class how) g p n below at = absurd cc
+operation_inside kind.StaticBlock g p n below at = absurd cc
+operation_inside (kind.PropertyDefinition is_static key) g p n below at = absurd cc
+operation_inside kind.BlockStatement g p n below at = absurd cc
+operation_inside kind.SwitchStatement g p n below at = absurd cc
+operation_inside kind.WithStatement g p n below at = absurd cc
+operation_inside kind.CatchClause g p n below at = absurd cc
+operation_inside kind.ForStatement g p n below at = absurd cc
+operation_inside kind.ForInStatement g p n below at = absurd cc
+operation_inside kind.ForOfStatement g p n below at = absurd cc
+operation_inside (kind.VariableDeclaration how) g p n below at = absurd cc
+operation_inside (kind.ImportDeclaration source) g p n below at = absurd cc
+operation_inside k g p n below at = refl
+
 -- ---- what is told stays told
 
 module _ (s : Scoping) (script : Bool) where
@@ -126,6 +145,46 @@ module _ (s : Scoping) (script : Bool) where
   part_told p (absent v) l n b w at h = part_told p v l n b w (suc at) h
   part_told p (node k m c v) l n b w at h = part_told p v l n b w (suc at) h.2
 
+  -- at one place, at which a node stands, rows are rebuilt
+  module _ (p : Stand) (here : Tells s script p) where
+    abbrev There : Forest → Type 0
+    There t = Told s script (λ i. p) 0 t
+
+    anywhere : (t : Forest) (i j : ℕ) → Told s script (λ i. p) i t → Told s script (λ i. p) j t
+    anywhere nothing i j h = tt
+    anywhere (absent r) i j h = anywhere r (suc i) (suc j) h
+    anywhere (node k n a r) i j h = (h.0, h.1, anywhere r (suc i) (suc j) h.2)
+
+    both_told : (t u : Forest) → There t → There u → There (joined t u)
+    both_told nothing u h g = g
+    both_told (absent r) u h g = anywhere (joined r u) 0 1 (both_told r u (anywhere r 1 0 h) g)
+    both_told (node k n a r) u h g = (h.0, h.1, anywhere (joined r u) 0 1 (both_told r u (anywhere r 1 0 h.2) g))
+
+    before_told : (t u : Forest) → There (joined t u) → There t
+    before_told nothing u h = tt
+    before_told (absent r) u h = anywhere r 0 1 (before_told r u (anywhere (joined r u) 1 0 h))
+    before_told (node k n a r) u h = (h.0, h.1, anywhere r 0 1 (before_told r u (anywhere (joined r u) 1 0 h.2)))
+
+    after_told : (t u : Forest) → There (joined t u) → There u
+    after_told nothing u h = h
+    after_told (absent r) u h = after_told r u (anywhere (joined r u) 1 0 h)
+    after_told (node k n a r) u h = after_told r u (anywhere (joined r u) 1 0 h.2)
+
+    same_there : (k : Kind) (n : Note) (a : Forest) → is_operation k ≡ true → stand_inside p k n a ≡ (λ at. p)
+    same_there k n a is = λ z. λ at. operation_inside k is p n a at z
+
+    rebuilt_told : {t u : Forest} → Rebuilt t u → There t → There u
+    rebuilt_told ends h = tt
+    rebuilt_told (stays {r = r} {s = q} rest) h = (h.0, h.1, anywhere q 0 1 (rebuilt_told rest (anywhere r 1 0 h.2)))
+    rebuilt_told (leaves_whole {r = r} rest) h = rebuilt_told rest (anywhere r 1 0 h.2)
+    rebuilt_told (opened {k = k} {n = n} {a = a} {r = r} is rest) h =
+        rebuilt_told rest (both_told a r (subst (λ (f : ℕ → Stand). Told s script f 0 a) (same_there k n a is) h.1) (anywhere r 1 0 h.2))
+    rebuilt_told (built {l = l} {m = m} {b = b} {s = q} may rest) h =
+        let below = rebuilt_told rest h in
+        (here, subst (λ (f : ℕ → Stand). Told s script f 0 b) (sym (same_there l m b may.operation)) (before_told b q below), anywhere q 0 1 (after_told b q below))
+    rebuilt_told (absent_leaves {r = r} rest) h = rebuilt_told rest (anywhere r 1 0 h)
+    rebuilt_told (absent_comes {s = q} rest) h = anywhere q 0 1 (rebuilt_told rest h)
+
   cuts_told : (listed : Bool) (t u : Forest) → Cuts listed t u → (qs ps : ℕ → Stand) (i j : ℕ) → Covers listed qs ps → (listed ≡ false → i ≡ j) → Told s script ps j t → Told s script qs i u
   cuts_told listed t u (leaves k n below rest plain) qs ps i j c f h = row_stays true rest qs ps i (suc j) c (λ l. absurd (true≢false l)) h.2
   cuts_told listed t u (empties r n m below rest) qs ps i j c f h = (tells_less (c i j f) h.0, tt, row_stays r rest qs ps (suc i) (suc j) c (λ l. ap suc (f l)) h.2)
@@ -135,6 +194,12 @@ module _ (s : Scoping) (script : Bool) where
       let inner = part_told (ps j) v l n b w 0 (subst (λ xs. Told s script xs 0 whole) same h.1) in (
         tells_less (c i j f) h.0,
         row_stays (is_list l) b (stand_inside (qs i) l n b) (stand_inside (ps j) l n b) 0 0 (covers_inside l n b b (thinner_itself l b) (c i j f)) (λ e. refl) inner,
+        row_stays r rest qs ps (suc i) (suc j) c (λ e. ap suc (f e)) h.2,
+      )
+  cuts_told listed t u (rebuilds r k l n m a b rest made) qs ps i j c f h =
+      let new = rebuilt_told (ps j) h.0 made.rebuilt (h.0, h.1, tt) in (
+        tells_less (c i j f) new.0,
+        row_stays (is_list l) b (stand_inside (qs i) l m b) (stand_inside (ps j) l m b) 0 0 (covers_inside l m b b (thinner_itself l b) (c i j f)) (λ e. refl) new.1,
         row_stays r rest qs ps (suc i) (suc j) c (λ e. ap suc (f e)) h.2,
       )
   cuts_told listed t u (inside r k n below now rest called g) qs ps i j c f h = (
@@ -167,6 +232,7 @@ root_stays : (listed : Bool) (t u : Forest) → Cuts listed t u → listed ≡ f
 root_stays listed t u (leaves k n below rest plain) l e = absurd (true≢false l)
 root_stays listed t u (empties r n m below rest) l e = never e
 root_stays listed t u (parts r k x i j b v w rest gives unasked) l e = never (sym (no_program k i (joined v (node x j b w)) rest gives) ∙ e)
+root_stays listed t u (rebuilds r k x n m a b rest made) l e = never (sym (part_no_program k n a rest made.old_unasked) ∙ e)
 root_stays listed t u (inside r k n below now rest called h) l e = record { script = script_first k n n now below rest rest; mark = refl }
 root_stays listed t u (behind r k n below rest now h) l e = record { script = script_first k n n below below now rest; mark = refl }
 root_stays listed t u (behind_none r rest now h) l e = never e
@@ -174,9 +240,10 @@ root_stays listed t u (behind_none r rest now h) l e = never e
 edit_told : (s : Scoping) (t u : Forest) → Edit t u → Fits root t → FlagsTell s t → FlagsTell s u
 edit_told s t u e fits h =
     let c = edit_cuts t u e fits in
-    let same = root_stays false t u c refl (fits_program t fits) in
+    let is = fits_program t fits in
+    let same = root_stays false t u c refl is in
     let first_same : (i j : ℕ) → i ≡ j → Fewer (stands_of u i) (stands_of t j) = λ i j f. subst (λ (m : ℕ). Fewer (stands_of u i) (stands_of t m)) f
-    (record { less = less_beside (is_script u) (is_script t) (below_of u) (below_of t) same.script (below_stays false t u c refl) i; scope = same.mark; variables = same.mark; declaring = same.mark }) in
+    (record { less = less_beside (is_script u) (is_script t) (below_of u) (below_of t) same.script (below_stays false t u c refl is) i; scope = same.mark; variables = same.mark; declaring = same.mark }) in
     subst (λ b. Told s b (stands_of u) 0 u) (sym same.script) (cuts_told s (is_script t) false t u c (stands_of u) (stands_of t) 0 0 (λ i j f. first_same i j (f refl)) (λ l. refl) h)
 
 pub edits_told : (s : Scoping) (t u : Forest) → TreeEdits t u → Fits root t → FlagsTell s t → FlagsTell s u

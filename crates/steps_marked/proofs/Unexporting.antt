@@ -16,20 +16,27 @@ use Rattle.json_shape.specs.Shape.{Fits}
 use Rattle.scope_rules.specs.declared.layer.Layer.{Layer}
 use Rattle.scope_rules.specs.declared.layer.Role.{Role}
 use Rattle.scope_rules.specs.Context.{Context, has_second, own_name_of, body_of, in_body, in_block, declares, at_function_name, at_parameters, in_function, at_class_name, below_it, used, of_method, inside, outermost}
+use Rattle.scope_rules.specs.Binding.{same_layer}
 use Rattle.scope_rules.specs.Site.{Site, scope_site, ScopeSite, BindingSite, own_sites, opens_one, scope_count, sites, bindings_among}
 use Rattle.scope_laws.specs.Exact.{Among}
 use Rattle.scope_laws.specs.Lists.{is_list}
+use Rattle.scope_counts.specs.Counts.{Decl}
+use Rattle.scope_counts.specs.Sites.{decls_in}
+use Rattle.scope_counts.proofs.Layers.{aims_at}
+use Rattle.scope_counts.proofs.Counting.{hoisted_are}
+use Rattle.scope_counts.proofs.Whole.{same_layer_same}
 use Rattle.steps_keep_form.specs.Part.{gives_way}
 use Rattle.steps_names.specs.Standing.{is_export, exported_sites, exported_declarations}
 use Rattle.steps_names.proofs.Sites.{InThree, in_first, in_second, in_third, binding_in, binding_left, binding_second, binding_third}
 use Rattle.steps_fit.proofs.Modules.{fits_program}
 use Rattle.steps_allowed.specs.Edits.{Edit, TreeEdits, no_tree_edit, one_tree_edit}
 use Rattle.steps_owed.specs.Kept.{is_program}
+use Rattle.steps_owed.specs.Part.{DeclaresNothing}
 use Rattle.steps_owed.proofs.FitsEdits.{edit_fits}
 use Rattle.steps_marked.specs.Exports.{IsMarkedAmong, WasExported}
-use Rattle.steps_marked.proofs.Cuts.{Cuts, leaves, empties, parts, inside as cut_inside, behind, behind_none, edit_cuts}
+use Rattle.steps_marked.proofs.Cuts.{Cuts, leaves, empties, parts, rebuilds, inside as cut_inside, behind, behind_none, edit_cuts}
 use Rattle.steps_marked.proofs.Telling.{no_program}
-use Rattle.steps_marked.proofs.Exposing.{never, thinner_cuts}
+use Rattle.steps_marked.proofs.Exposing.{never, part_no_program, thinner_cuts}
 
 -- ---- contexts: what declares in the program's own scope now declared there before
 
@@ -171,6 +178,45 @@ exports_collected cs at next (node k n a r) =
     below_it true e f = e
     below_it false e f = f
 
+pub collected_declared : (all : Bool) (cs : ℕ → Context) (at next : ℕ) (t : Forest) (b : BindingSite) → Among b (bindings_among (collected all cs at next t)) → Among b (bindings_among (sites cs at next t))
+collected_declared true cs at next t b h = subst (λ ss. Among b (bindings_among ss)) (all_collected cs at next t) h
+collected_declared false cs at next nothing b h = h
+collected_declared false cs at next (absent rest) b h = collected_declared false cs (suc at) next rest b h
+collected_declared false cs at next (node k n below rest) b h =
+    by (binding_in b [] (collected (false || is_export k) (inside (cs at) next k below) 0 (next + opens_one k below) below) (collected false cs (suc at) (next + scope_count (node k n below nothing)) rest) h)
+    (λ g. collected_declared (false || is_export k) (inside (cs at) next k below) 0 (next + opens_one k below) below b g) (λ g. collected_declared false cs (suc at) (next + scope_count (node k n below nothing)) rest b g)
+  where
+    by : InThree b (bindings_among []) (bindings_among (collected (false || is_export k) (inside (cs at) next k below) 0 (next + opens_one k below) below)) (bindings_among (collected false cs (suc at) (next + scope_count (node k n below nothing)) rest))
+        → (Among b (bindings_among (collected (false || is_export k) (inside (cs at) next k below) 0 (next + opens_one k below) below)) → Among b (bindings_among (sites (inside (cs at) next k below) 0 (next + opens_one k below) below)))
+        → (Among b (bindings_among (collected false cs (suc at) (next + scope_count (node k n below nothing)) rest)) → Among b (bindings_among (sites cs (suc at) (next + scope_count (node k n below nothing)) rest)))
+        → Among b (bindings_among (sites cs at next (node k n below rest)))
+    by (in_first g) f l = absurd g
+    by (in_second g) f l =
+        binding_second b (own_sites (cs at) n k below) (sites (inside (cs at) next k below) 0 (next + opens_one k below) below) (sites cs (suc at) (next + scope_count (node k n below nothing)) rest) (f g)
+    by (in_third g) f l =
+        binding_third b (own_sites (cs at) n k below) (sites (inside (cs at) next k below) 0 (next + opens_one k below) below) (sites cs (suc at) (next + scope_count (node k n below nothing)) rest) (l g)
+
+-- ---- a row that declares nothing around it
+
+abbrev pub decl_of : BindingSite → Decl
+decl_of b = record { name = b.name; symbol = b.id }
+
+among_if : (i : Bool) (d e : Decl) (ds : List Decl) → Among d ds → Among d (if i then e ∷ ds else ds)
+among_if true d e ds h = inr h
+among_if false d e ds h = h
+
+pub among_decls : (bs : List BindingSite) (b : BindingSite) → Among b bs → Among (decl_of b) (decls_in b.layer bs)
+among_decls [] b h = absurd h
+among_decls (a ∷ bs) b (inl h) =
+    let is : same_layer a.layer b.layer ≡ true = ap (λ (c : BindingSite). same_layer c.layer b.layer) h ∙ same_layer_same b.layer in
+    subst (λ i. Among (decl_of b) (if i then decl_of a ∷ decls_in b.layer bs else decls_in b.layer bs)) (sym is) (inl (ap decl_of h))
+among_decls (a ∷ bs) b (inr h) = among_if (same_layer a.layer b.layer) (decl_of b) (decl_of a) (decls_in b.layer bs) (among_decls bs b h)
+
+pub declares_none : (t : Forest) → DeclaresNothing t → (all : Bool) (cs : ℕ → Context) (at next : ℕ) (b : BindingSite) → b.layer.scope < next → Among b (bindings_among (collected all cs at next t)) → ⊥
+declares_none t none all cs at next b some h =
+    subst (Among (decl_of b)) (hoisted_are b.layer cs (λ i. aims_at b.layer (cs i)) at next t some (λ i. refl) ∙ none (λ i. aims_at b.layer (cs i)) at)
+    (among_decls (bindings_among (sites cs at next t)) b (collected_declared all cs at next t b h))
+
 -- ---- a declaration that is there now, in the program's own scope
 
 module _ (e : BindingSite) (top : e.layer.scope ≡ 0) where
@@ -290,6 +336,19 @@ module _ (e : BindingSite) (top : e.layer.scope ≡ 0) where
       by x is (in_third g) =
           found_third (if all then own_sites (ps j) m k x else []) (collected (all || is_export k) (inside (ps j) other k x) 0 (other + opens_one k x) x) (collected all ps (suc j) (other + scope_count (node k m x nothing)) rest)
           (row_found all r rest qs ps (suc i) (suc j) (next + scope_count (node l n b nothing)) (other + scope_count (node k m x nothing)) (Prim.omega (arith, some)) c (λ a. ap suc (f a)) g)
+  cuts_found all listed t u (rebuilds r k l n m a b rest made) qs ps i j next other some c f h =
+      by (binding_in e (if all then own_sites (qs i) m l b else []) (collected (all || is_export l) (inside (qs i) next l b) 0 (next + opens_one l b) b) (collected all qs (suc i) (next + scope_count (node l m b nothing)) rest) h)
+    where
+      none : Among e (bindings_among ((if all then own_sites (qs i) m l b else []) ++ collected (all || is_export l) (inside (qs i) next l b) 0 (next + opens_one l b) b ++ [])) → ⊥
+      none g = declares_none (node l m b nothing) made.declares all qs i next e (Prim.omega (arith, some, top)) g
+
+      by : InThree e (bindings_among (if all then own_sites (qs i) m l b else [])) (bindings_among (collected (all || is_export l) (inside (qs i) next l b) 0 (next + opens_one l b) b)) (bindings_among (collected all qs (suc i) (next + scope_count (node l m b nothing)) rest))
+          → Found (collected all ps j other (node k n a rest))
+      by (in_first g) = absurd (none (rest_only (if all then own_sites (qs i) m l b else []) (collected (all || is_export l) (inside (qs i) next l b) 0 (next + opens_one l b) b) [] g))
+      by (in_second g) = absurd (none (binding_second e (if all then own_sites (qs i) m l b else []) (collected (all || is_export l) (inside (qs i) next l b) 0 (next + opens_one l b) b) [] g))
+      by (in_third g) =
+          found_third (if all then own_sites (ps j) n k a else []) (collected (all || is_export k) (inside (ps j) other k a) 0 (other + opens_one k a) a) (collected all ps (suc j) (other + scope_count (node k n a nothing)) rest)
+          (row_found all r rest qs ps (suc i) (suc j) (next + scope_count (node l m b nothing)) (other + scope_count (node k n a nothing)) (Prim.omega (arith, some)) c (λ d. ap suc (f d)) g)
   cuts_found all listed t u (cut_inside r k n below now rest called x) qs ps i j next other some c f h =
       at_node all (qs i) (ps j) (c i j f) n k now below (collected (all || is_export k) (inside (qs i) next k now) 0 (next + opens_one k now) now) (collected all qs (suc i) (next + scope_count (node k n now nothing)) rest)
       (collected (all || is_export k) (inside (ps j) other k below) 0 (other + opens_one k below) below) (collected all ps (suc j) (other + scope_count (node k n below nothing)) rest)
@@ -328,6 +387,7 @@ module _ (e : BindingSite) (top : e.layer.scope ≡ 0) where
   root_found listed t u (leaves k n below rest plain) l is h = absurd (true≢false l)
   root_found listed t u (empties r n m below rest) l is h = never is
   root_found listed t u (parts r k x m n b v w rest gives unasked) l is h = never (sym (no_program k m (joined v (node x n b w)) rest gives) ∙ is)
+  root_found listed t u (rebuilds r k x n m a b rest made) l is h = never (sym (part_no_program k n a rest made.old_unasked) ∙ is)
   root_found listed t u (cut_inside r (kind.Program source) n below now rest called x) l is h =
       program_found source n now below rest rest (λ g. cuts_found false false below now x (inside outermost 0 (kind.Program source) now) (inside outermost 0 (kind.Program source) below) 0 0 1 1 (Prim.omega arith) (covers_program source now below) (λ l. refl) g)
       (λ g. row_found false false rest (λ at. outermost) (λ at. outermost) 1 1 (0 + scope_count (node (kind.Program source) n now nothing)) (0 + scope_count (node (kind.Program source) n below nothing)) (Prim.omega arith) (λ i j f. ahead_outermost) (λ l. refl) g) h

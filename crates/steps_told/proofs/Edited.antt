@@ -16,14 +16,14 @@ use Rattle.steps_owed.specs.Kept.{is_program}
 use Rattle.steps_owed.proofs.FitsEdits.{edit_fits}
 use Rattle.steps_marked.specs.Flags.{is_within, Stand, stand_inside, first_mark, stands_of}
 use Rattle.steps_marked.proofs.Cuts.{edit_cuts}
-use Rattle.steps_marked.proofs.Exposing.{Only, never, kept}
-use Rattle.steps_marked.proofs.Telling.{no_program}
+use Rattle.steps_marked.proofs.Exposing.{Only, never, kept, part_no_program}
+use Rattle.steps_marked.proofs.Telling.{no_program, operation_inside}
 use Rattle.min_context.specs.Edited.{evals}
 use Rattle.rules_dead_code.specs.Quiet.{ToldOnly}
 use Rattle.steps_told.specs.Places.{EachPlace}
 use Rattle.steps_told.specs.Parts.{FlagsTellOnly, TellsCallsOnly, TellsNamesOnly, CallsToldOnly, NamesToldOnly}
 use Rattle.steps_told.proofs.Standing.{strict_code, is_block, shares_code, exposed_in_scope, inside_reads, scope_evaluates, scope_strict, scope_sloppy, scope_names, scope_variables, scope_outside, variables_within}
-use Rattle.steps_told.proofs.Trims.{Alike, Trims, leaves, empties, parts, inside, behind, behind_none, fewer, trims}
+use Rattle.steps_told.proofs.Trims.{Alike, Trims, leaves, empties, parts, rebuilds, inside, behind, behind_none, fewer, trims}
 use Rattle.steps_told.proofs.Walking.{trimmed_stays}
 
 -- ---- the parts, and both
@@ -160,6 +160,7 @@ root_stays : (all listed : Bool) (t u : Forest) → Trims all listed t u → lis
 root_stays all listed t u (leaves k n below rest) l e = never (sym l)
 root_stays all listed t u (empties r n m below rest) l e = never e
 root_stays all listed t u (parts r k x i j b v w rest gives) l e = never (sym (no_program k i (joined v (node x j b w)) rest gives) ∙ e)
+root_stays all listed t u (rebuilds r k x n m a b rest made unasked) l e = never (sym (part_no_program k n a rest unasked) ∙ e)
 root_stays all listed t u (inside r (kind.Program source) n below now rest a h) l e = record { script = refl; mark = refl; calls = a.calls }
 root_stays all listed t u (inside r k n below now rest a h) l e = never e
 root_stays all listed t u (behind r (kind.Program source) n below rest now h) l e = record { script = refl; mark = refl; calls = λ g. kept }
@@ -179,7 +180,7 @@ module _ (all : Bool) (t u : Forest) (e : Edit t u) (fits : Fits root t) (left :
 
   throughout_stays : (P : Stand → Type 0) → ((q p : Stand) → Stays all q p → P p → P q) → Throughout P (stands_of t) 0 t → Throughout P (stands_of u) 0 u
   throughout_stays P keeps h =
-      trimmed_stays all stand_inside (λ p k n below. P p) (Stays all) (stays_inside all) (stays_through all) (λ q p k n now below a f x. keeps q p f x) (λ q p n m below f x. keeps q p f x) false t u edit_trims (stands_of u) (stands_of t) 0 0
+      trimmed_stays all stand_inside (λ p k n below. P p) (Stays all) (stays_inside all) (stays_through all) (λ q p k n now below a f x. keeps q p f x) (λ p k l n m below now none x. x) operation_inside false t u edit_trims (stands_of u) (stands_of t) 0 0
       (λ i j f. stays_at_root all t u edit_root i j (f refl)) (λ l. refl) h
 
 edit_names : (s : Scoping) (t u : Forest) → Edit t u → Fits root t → NamesToldOnly s t → NamesToldOnly s u

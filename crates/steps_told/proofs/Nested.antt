@@ -6,6 +6,7 @@ use Rattle.js_syntax.specs.declared.node_kind.NodeKind.{NodeKind as Kind}
 use Rattle.js_syntax.specs.declared.node_kind.NodeKind.TheVariants as kind
 use Rattle.js_syntax.specs.Class.{root}
 use Rattle.js_syntax.specs.Node.{Forest, Note, nothing, node, absent, joined}
+use Rattle.js_rebuilt.specs.Rebuilt.{is_operation, Rebuilt, ends, stays, leaves as leaves_whole, opened, built, absent_leaves, absent_comes}
 use Rattle.json_shape.specs.Shape.{Fits}
 use Rattle.scope_rules.specs.Context.{Context, opens, inside, outermost}
 use Rattle.scope_rules.specs.Site.{opens_one, scope_count, sites_of, found_in}
@@ -13,6 +14,7 @@ use Rattle.scope_rules.specs.Table.{Scoping, scoping_of, symbols_declared}
 use Rattle.scope_rules.specs.Mark.{marked, first_marks}
 use Rattle.scope_table.specs.Reading.{scope_at}
 use Rattle.scope_counts.specs.Exact.{count}
+use Rattle.scope_counts.proofs.Rebuilding.{operation_is_plain}
 use Rattle.scope_laws.specs.Lists.{is_list}
 use Rattle.steps_keep_form.specs.Sheds.{other}
 use Rattle.steps_keep_form.proofs.Fitting.{fits_laid_out}
@@ -23,10 +25,10 @@ use Rattle.steps_marked.proofs.Cuts.{edit_cuts}
 use Rattle.steps_marked.proofs.Exposing.{never}
 use Rattle.steps_told.specs.Places.{EachPlace}
 use Rattle.steps_told.specs.Nesting.{scope_inside, IsScopeIn, NestsAt, own_scope, scope_marks, ScopesNest}
-use Rattle.steps_told.proofs.Standing.{strict_code, within_opens}
+use Rattle.steps_told.proofs.Standing.{strict_code, within_opens, operation_outside}
 use Rattle.steps_told.proofs.Contexts.{looks, inside_looks}
 use Rattle.steps_told.proofs.Made.{IsMade, scope_of, EachMade, new_made}
-use Rattle.steps_told.proofs.Trims.{Trims, leaves, empties, parts, inside as inside_it, behind, behind_none, trims}
+use Rattle.steps_told.proofs.Trims.{Trims, leaves, empties, parts, rebuilds, inside as inside_it, behind, behind_none, trims}
 use Rattle.steps_told.proofs.Walking.{trimmed_stays}
 
 -- ---- counts
@@ -113,10 +115,32 @@ part_marks i nothing l j b w = Prim.omega (arith, marks_of_node i l j b w)
 part_marks i (absent v) l j b w = part_marks i v l j b w
 part_marks i (node k n c v) l j b w = Prim.omega (arith, marks_of_node i k n c (joined v (node l j b w)), part_marks i v l j b w)
 
+marks_joined : (i : ℕ) (t u : Forest) → count i (scope_marks (joined t u)) ≡ count i (scope_marks t) + count i (scope_marks u)
+marks_joined i nothing u = Prim.omega arith
+marks_joined i (absent t) u = marks_joined i t u
+marks_joined i (node k n a t) u = Prim.omega (arith, marks_of_node i k n a (joined t u), marks_of_node i k n a t, marks_joined i t u)
+
+-- an operation makes no scope
+marks_opened : (i : ℕ) (k : Kind) (n : Note) (a r : Forest) → is_operation k ≡ true → count i (scope_marks (node k n a r)) ≡ count i (scope_marks (joined a r))
+marks_opened i k n a r is =
+    let none : count i (own_scope k n a) ≡ 0 = ap (λ b. count i (if b then option_to_list n.id else [])) ((operation_is_plain k is).opens_none a) in
+    Prim.omega (arith, none, marks_of_node i k n a r, marks_joined i a r)
+
+rebuilt_marks : (i : ℕ) {t u : Forest} → Rebuilt t u → count i (scope_marks u) ≤ count i (scope_marks t)
+rebuilt_marks i ends = Prim.omega arith
+rebuilt_marks i (stays {k = k} {n = n} {a = a} {r = r} {s = s} rest) = Prim.omega (arith, marks_of_node i k n a r, marks_of_node i k n a s, rebuilt_marks i rest)
+rebuilt_marks i (leaves_whole {k = k} {n = n} {a = a} {r = r} rest) = Prim.omega (arith, marks_of_node i k n a r, rebuilt_marks i rest)
+rebuilt_marks i (opened {k = k} {n = n} {a = a} {r = r} is rest) = Prim.omega (arith, marks_opened i k n a r is, rebuilt_marks i rest)
+rebuilt_marks i (built {l = l} {m = m} {b = b} {s = s} may rest) = Prim.omega (arith, marks_opened i l m b s may.operation, rebuilt_marks i rest)
+rebuilt_marks i (absent_leaves rest) = rebuilt_marks i rest
+rebuilt_marks i (absent_comes rest) = rebuilt_marks i rest
+
 fewer_marks : (i : ℕ) (all listed : Bool) (t u : Forest) → Trims all listed t u → count i (scope_marks u) ≤ count i (scope_marks t)
 fewer_marks i all listed t u (leaves k n below rest) = Prim.omega (arith, marks_of_node i k n below rest)
 fewer_marks i all listed t u (empties r n m below rest) = Prim.omega (arith, marks_of_node i kind.ExpressionStatement n below rest)
 fewer_marks i all listed t u (parts r k l m n b v w rest gives) = Prim.omega (arith, marks_of_node i l n b rest, marks_of_node i k m (joined v (node l n b w)) rest, part_marks i v l n b w)
+fewer_marks i all listed t u (rebuilds r k l n m a b rest made unasked) =
+    Prim.omega (arith, marks_of_node i k n a rest, marks_of_node i l m b rest, marks_of_node i k n a nothing, marks_of_node i l m b nothing, rebuilt_marks i made)
 fewer_marks i all listed t u (inside_it r k n below now rest a h) =
     let own : count i (own_scope k n now) ≡ count i (own_scope k n below) = ap (λ b. count i (if b then option_to_list n.id else [])) a.opens in
     Prim.omega (arith, marks_of_node i k n below rest, marks_of_node i k n now rest, own, fewer_marks i all (is_list k) below now h)
@@ -128,7 +152,7 @@ edit_nests s t u e fits h =
     let trimmed = trims false false other t u (edit_cuts t u e fits) (fits_laid_out t fits) (λ g. never g) in
     record {
       nested = trimmed_stays false scope_inside (NestsAt s) (λ q p. q ≡ p) (λ q p k n now below a f i j w. ap₂ (λ (b : Bool) (o : Option ℕ). if b then n.id else o) w f)
-          (λ q p k n below at w f. f ∙ sym (ap (λ (b : Bool). if b then n.id else p) w)) (λ q p k n now below a f x o. subst (λ y. IsScopeIn s y n) (sym f) (x (sym a.opens ∙ o))) (λ q p n m below f x o. never o) false t u trimmed (λ at. None)
+          (λ q p k n below at w f. f ∙ sym (ap (λ (b : Bool). if b then n.id else p) w)) (λ q p k n now below a f x o. subst (λ y. IsScopeIn s y n) (sym f) (x (sym a.opens ∙ o))) (λ p k l n m below now none x o. never (sym none ∙ o)) (λ k is p n below at. ap (λ (b : Bool). if b then n.id else p) (operation_outside k is below at)) false t u trimmed (λ at. None)
           (λ at. None) 0 0 (λ i j f. refl) (λ l. refl) h.nested;
       once = λ i. Prim.omega (arith, h.once i, fewer_marks i false false t u trimmed);
     }

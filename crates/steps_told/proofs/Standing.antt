@@ -8,6 +8,7 @@ use Rattle.js_syntax.specs.declared.kind.FunctionKind.TheVariants as function_ki
 use Rattle.js_syntax.specs.declared.kind.ClassKind.{ClassKind}
 use Rattle.js_syntax.specs.declared.kind.ClassKind.TheVariants as class_kind
 use Rattle.js_syntax.specs.Node.{Forest}
+use Rattle.js_rebuilt.specs.Rebuilt.{is_operation}
 use Rattle.form_rules.specs.Context.{is_module, is_strict_list, is_strict_function}
 use Rattle.scope_rules.specs.Context.{has_second, opens}
 use Rattle.scope_rules.specs.Site.{scope_row, has_eval}
@@ -168,3 +169,19 @@ plain_outside (kind.LogicalExpression operator) g below at = refl
 plain_outside (kind.UnaryExpression operator) g below at = refl
 plain_outside (kind.BinaryExpression operator) g below at = refl
 plain_outside k g below at = never g
+
+-- and operations
+pub operation_outside : (k : Kind) → is_operation k ≡ true → (below : Forest) (at : ℕ) → is_within k below at ≡ false
+operation_outside (kind.Program source) g below at = absurd cc
+operation_outside (kind.Function how pure) g below at = absurd cc
+operation_outside (kind.Class how) g below at = absurd cc
+operation_outside kind.StaticBlock g below at = absurd cc
+operation_outside (kind.PropertyDefinition is_static key) g below at = absurd cc
+operation_outside kind.BlockStatement g below at = absurd cc
+operation_outside kind.SwitchStatement g below at = absurd cc
+operation_outside kind.WithStatement g below at = absurd cc
+operation_outside kind.CatchClause g below at = absurd cc
+operation_outside kind.ForStatement g below at = absurd cc
+operation_outside kind.ForInStatement g below at = absurd cc
+operation_outside kind.ForOfStatement g below at = absurd cc
+operation_outside k g below at = refl

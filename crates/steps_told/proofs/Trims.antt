@@ -2,9 +2,10 @@
 use Rattle.std.proofs.Common.{◌≡◌, ◌∙◌, ◌≤◌, ◌+◌, ℕ, zero, suc, Bool, true, false, not, ◌&&◌, ◌||◌, ◌==◌, true≢false, cond, is_some, bytes_eq, codes, refl, sym, ap, arith}
 use Rattle.js_syntax.specs.declared.node_kind.NodeKind.{NodeKind as Kind}
 use Rattle.js_syntax.specs.declared.node_kind.NodeKind.TheVariants as kind
-use Rattle.js_syntax.specs.Node.{Forest, Note, nothing, node, absent, joined}
+use Rattle.js_syntax.specs.Node.{Forest, Note, nothing, node, absent, joined, alone}
 use Rattle.js_syntax.proofs.Truth.{first_of_either, second_of_either}
 use Rattle.js_tree.specs.Names.{eval_of_call}
+use Rattle.js_rebuilt.specs.Rebuilt.{Rebuilt, ends, stays, leaves as leaves_whole, opened, built, absent_leaves, absent_comes}
 use Rattle.json_shape.specs.Shape.{is_directive_kind}
 use Rattle.form_rules.specs.Context.{is_module, has_use_strict, is_strict_list, is_strict_function, behind_first}
 use Rattle.scope_rules.specs.Context.{opens}
@@ -17,27 +18,12 @@ use Rattle.steps_keep_form.proofs.Laid.{laid_absent, laid_order, laid_below, lai
 use Rattle.steps_marked.specs.Flags.{is_within}
 use Rattle.steps_marked.proofs.Cuts as cuts
 use Rattle.steps_marked.proofs.Cuts.{Cuts}
-use Rattle.steps_marked.proofs.Exposing.{Only, only_or, kept, never, Thinner, thinner_cuts}
+use Rattle.steps_marked.proofs.Exposing.{Only, only_or, kept, never, whole_no_body, part_no_directive, part_no_list, part_no_body, Thinner, thinner_cuts}
+use Rattle.steps_marked.proofs.Rebuilding.{calls_no_eval}
 use Rattle.min_context.specs.Edited.{evals}
 use Rattle.steps_told.proofs.Standing.{strict_code}
 
 -- ---- code that wasn't strict is not
-
-part_no_directive : (l : Kind) (n : Note) (b rest : Forest) → is_asked_for l ≡ false → has_use_strict (node l n b rest) ≡ false
-part_no_directive (kind.Directive written) n b rest e = never (sym e)
-part_no_directive l n b rest e = refl
-
-part_no_list : (l : Kind) (n : Note) (b rest : Forest) → is_asked_for l ≡ false → is_strict_list (node l n b rest) ≡ false
-part_no_list kind.Statements n b rest e = never (sym e)
-part_no_list l n b rest e = refl
-
-whole_no_body : (k : Kind) (n : Note) (b rest : Forest) → gives_way k ≡ true → is_strict_function (node k n b rest) ≡ is_strict_function rest
-whole_no_body kind.FunctionBody n b rest e = never e
-whole_no_body k n b rest e = refl
-
-part_no_body : (l : Kind) (n : Note) (b rest : Forest) → is_asked_for l ≡ false → is_strict_function (node l n b rest) ≡ is_strict_function rest
-part_no_body kind.FunctionBody n b rest e = never (sym e)
-part_no_body l n b rest e = refl
 
 none_behind : (k b : Bool) → k || not b ≡ true → k ≡ false → b ≡ true → false ≡ true
 none_behind true b h plain e = absurd (true≢false plain)
@@ -48,6 +34,7 @@ directives_back : (listed : Bool) (m : Row) (t u : Forest) → Cuts listed t u �
 directives_back listed m t u (cuts.leaves k n below rest plain) laid e = never (none_behind (is_directive_kind k) (has_use_strict rest) (laid_order m k n below rest laid) plain e)
 directives_back listed m t u (cuts.empties r n i below rest) laid e = never e
 directives_back listed m t u (cuts.parts r k l i j b v w rest gives unasked) laid e = never (sym (part_no_directive l j b rest unasked) ∙ e)
+directives_back listed m t u (cuts.rebuilds r k l n i a b rest made) laid e = never (sym (part_no_directive l i b rest made.unasked) ∙ e)
 directives_back listed m t u (cuts.inside r (kind.Directive written) n below now rest called h) laid e = e
 directives_back listed m t u (cuts.inside r k n below now rest called h) laid e = never e
 directives_back listed m t u (cuts.behind r (kind.Directive written) n below rest now h) laid e =
@@ -60,6 +47,7 @@ list_back : (listed : Bool) (m : Row) (t u : Forest) → Cuts listed t u → lis
 list_back listed m t u (cuts.leaves k n below rest plain) l laid e = absurd (true≢false l)
 list_back listed m t u (cuts.empties r n i below rest) l laid e = never e
 list_back listed m t u (cuts.parts r k x i j b v w rest gives unasked) l laid e = never (sym (part_no_list x j b rest unasked) ∙ e)
+list_back listed m t u (cuts.rebuilds r k x n i a b rest made) l laid e = never (sym (part_no_list x i b rest made.unasked) ∙ e)
 list_back listed m t u (cuts.inside r kind.Statements n below now rest called h) l laid e = directives_back true (row_below m kind.Statements) below now h (laid_below m kind.Statements n below rest laid) e
 list_back listed m t u (cuts.inside r k n below now rest called h) l laid e = never e
 list_back listed m t u (cuts.behind r kind.Statements n below rest now h) l laid e = e
@@ -70,6 +58,7 @@ function_back : (listed : Bool) (m : Row) (t u : Forest) → Cuts listed t u →
 function_back listed m t u (cuts.leaves k n below rest plain) l laid e = absurd (true≢false l)
 function_back listed m t u (cuts.empties r n i below rest) l laid e = e
 function_back listed m t u (cuts.parts r k x i j b v w rest gives unasked) l laid e = whole_no_body k i (joined v (node x j b w)) rest gives ∙ sym (part_no_body x j b rest unasked) ∙ e
+function_back listed m t u (cuts.rebuilds r k x n i a b rest made) l laid e = part_no_body k n a rest made.old_unasked ∙ sym (part_no_body x i b rest made.unasked) ∙ e
 function_back listed m t u (cuts.inside r kind.FunctionBody n below now rest called h) l laid e = list_back false (row_below m kind.FunctionBody) below now h refl (laid_below m kind.FunctionBody n below rest laid) e
 function_back listed m t u (cuts.inside r k n below now rest called h) l laid e = e
 function_back listed m t u (cuts.behind r kind.FunctionBody n below rest now h) l laid e = e
@@ -106,10 +95,26 @@ part_fewer nothing l j b w = Prim.omega arith
 part_fewer (absent v) l j b w = part_fewer v l j b w
 part_fewer (node k n c v) l j b w = Prim.omega (arith, part_fewer v l j b w)
 
+evals_joined : (t u : Forest) → evals (joined t u) ≡ evals t + evals u
+evals_joined nothing u = Prim.omega arith
+evals_joined (absent t) u = evals_joined t u
+evals_joined (node k n a t) u = Prim.omega (arith, evals_joined t u)
+
+rebuilt_fewer : {t u : Forest} → Rebuilt t u → evals u ≤ evals t
+rebuilt_fewer ends = Prim.omega arith
+rebuilt_fewer (stays rest) = Prim.omega (arith, rebuilt_fewer rest)
+rebuilt_fewer (leaves_whole rest) = Prim.omega (arith, rebuilt_fewer rest)
+rebuilt_fewer (opened {a = a} {r = r} is rest) = Prim.omega (arith, evals_joined a r, rebuilt_fewer rest)
+rebuilt_fewer (built {l = l} {b = b} {s = s} may rest) =
+    let none : calls l b ≡ 0 = ap (λ c. cond c 1 0) (calls_no_eval l b may.calls_none) in Prim.omega (arith, none, evals_joined b s, rebuilt_fewer rest)
+rebuilt_fewer (absent_leaves rest) = rebuilt_fewer rest
+rebuilt_fewer (absent_comes rest) = rebuilt_fewer rest
+
 pub fewer : (listed : Bool) (t u : Forest) → Cuts listed t u → evals u ≤ evals t
 fewer listed t u (cuts.leaves k n below rest plain) = Prim.omega arith
 fewer listed t u (cuts.empties r n m below rest) = Prim.omega arith
 fewer listed t u (cuts.parts r k l i j b v w rest gives unasked) = Prim.omega (arith, part_fewer v l j b w)
+fewer listed t u (cuts.rebuilds r k l n m a b rest made) = Prim.omega (arith, rebuilt_fewer made.rebuilt)
 fewer listed t u (cuts.inside r k n below now rest called h) = Prim.omega (arith, fewer (is_list k) below now h, fewer_calls k below now called)
 fewer listed t u (cuts.behind r k n below rest now h) = Prim.omega (arith, fewer r rest now h)
 fewer listed t u (cuts.behind_none r rest now h) = fewer r rest now h
@@ -145,6 +150,7 @@ behind_same : (listed : Bool) (t u : Forest) → Cuts listed t u → listed ≡ 
 behind_same listed t u (cuts.leaves k n below rest plain) l same = absurd (true≢false l)
 behind_same listed t u (cuts.empties r n m below rest) l same = refl
 behind_same listed t u (cuts.parts r k x i j b v w rest gives unasked) l same = refl
+behind_same listed t u (cuts.rebuilds r k x n m a b rest made) l same = refl
 behind_same listed t u (cuts.inside r k n below now rest called h) l same = refl
 behind_same listed t u (cuts.behind r k n below rest now h) l same = Prim.omega (arith, same)
 behind_same listed t u (cuts.behind_none r rest now h) l same = same
@@ -180,6 +186,7 @@ pub data Trims (all : Bool) : (listed : Bool) → (t u : Forest) → Type 0 wher
   leaves : (k : Kind) (n : Note) (below rest : Forest) → Trims all true (node k n below rest) rest
   empties : (listed : Bool) (n m : Note) (below rest : Forest) → Trims all listed (node kind.ExpressionStatement n below rest) (node kind.EmptyStatement m nothing rest)
   parts : (listed : Bool) (k l : Kind) (i j : Note) (b v w rest : Forest) → gives_way k ≡ true → Trims all listed (node k i (joined v (node l j b w)) rest) (node l j b rest)
+  rebuilds : (listed : Bool) (k l : Kind) (n m : Note) (a b rest : Forest) → Rebuilt (alone k n a) (alone l m b) → is_asked_for k ≡ false → Trims all listed (node k n a rest) (node l m b rest)
   inside : (listed : Bool) (k : Kind) (n : Note) (below now rest : Forest) → Alike all k now below → Trims all (is_list k) below now → Trims all listed (node k n below rest) (node k n now rest)
   behind : (listed : Bool) (k : Kind) (n : Note) (below rest now : Forest) → Trims all listed rest now → Trims all listed (node k n below rest) (node k n below now)
   behind_none : (listed : Bool) (rest now : Forest) → Trims all listed rest now → Trims all listed (absent rest) (absent now)
@@ -188,6 +195,7 @@ pub trims : (all listed : Bool) (m : Row) (t u : Forest) → Cuts listed t u →
 trims all listed m t u (cuts.leaves k n below rest plain) laid same = leaves k n below rest
 trims all listed m t u (cuts.empties r n i below rest) laid same = empties r n i below rest
 trims all listed m t u (cuts.parts r k l i j b v w rest gives unasked) laid same = parts r k l i j b v w rest gives
+trims all listed m t u (cuts.rebuilds r k l n i a b rest made) laid same = rebuilds r k l n i a b rest made.rebuilt made.old_unasked
 trims all listed m t u (cuts.inside r k n below now rest called h) laid same =
     let thin = thinner_cuts k below now h in
     let inner = laid_below m k n below rest laid in
