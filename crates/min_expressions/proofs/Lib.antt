@@ -2,4 +2,5 @@ pub mod Told
 pub mod Chosen
 pub mod Leaving
 pub mod Needed
+pub mod Lists
 pub mod Pairing

@@ -1,5 +1,6 @@
 pub mod Uses
 pub mod Kept
 pub mod Unused
+pub mod Lists
 pub mod MayChange
 pub mod Pair

@@ -3,11 +3,13 @@ ghost use Rattle.std.specs.Prelude.{◌≡◌};
 ghost use Rattle.min_traverse.specs.Lawful.{Does, either};
 ghost use Rattle.rules_expressions.specs.Known.{fold_conditional, fold_logical, at_expression_end};
 ghost use Rattle.rules_expressions.specs.Unused.{fold_unused};
+ghost use Rattle.rules_expressions.specs.Lists.{fold_unused_list};
 ghost use Rattle.rules_expressions.specs.Uses.{spot_of};
 ghost use Rattle.min_expressions.specs.Kept.{matters_at};
 
 use crate::bare::matters_here;
 use crate::kept::{conditional_keeps, keep_child, logical_keeps};
+use crate::list::{keep_list, list_goes};
 use crate::unused::{keep_needed, unused_keeps};
 use js_tree::Node;
 use min_context::MinifierTraverseCtx;
@@ -18,6 +20,13 @@ fn fold_decided(node: &mut Node, ctx: &mut MinifierTraverseCtx) -> bool
 {
     PeepholeOptimizations::try_fold_conditional_expression(node, ctx)
         || PeepholeOptimizations::fold_logical_expr(node, ctx)
+}
+
+// What a literal decides, and what becomes of an operation of which nobody takes the value.
+fn fold_operation(node: &mut Node, ctx: &mut MinifierTraverseCtx) -> bool
+    ensures { Does (either (either fold_conditional fold_logical) fold_unused) ctx.old node.old result ctx.new node.new }
+{
+    fold_decided(node, ctx) || PeepholeOptimizations::remove_unused_expression(node, ctx)
 }
 
 /// What a walk does behind a node, to that node alone. Each call answers whether it did anything.
@@ -64,11 +73,24 @@ impl PeepholeOptimizations {
         }
     }
 
+    /// Where nobody takes the value, an array without spreads, and a sequence of which not all parts act, become the parts that
+    /// act: one that may stand there itself, or a sequence of them.
+    pub fn remove_unused_list(node: &mut Node, ctx: &mut MinifierTraverseCtx) -> bool
+        ensures does { Does fold_unused_list ctx.old node.old result ctx.new node.new }
+    {
+        if list_goes(node, ctx) {
+            keep_list(node, ctx);
+            true
+        } else {
+            false
+        }
+    }
+
     /// What becomes of an expression behind which the walk is.
     pub fn fold_expression(node: &mut Node, ctx: &mut MinifierTraverseCtx) -> bool
         ensures does { Does at_expression_end ctx.old node.old result ctx.new node.new }
     {
-        fold_decided(node, ctx) || PeepholeOptimizations::remove_unused_expression(node, ctx)
+        fold_operation(node, ctx) || PeepholeOptimizations::remove_unused_list(node, ctx)
     }
 
     /// Whether it matters that an expression stands itself where the walk is, as what a call calls, or what `typeof` or `delete`

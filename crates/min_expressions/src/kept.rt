@@ -91,7 +91,7 @@ pub(crate) fn logical_keeps(node: &Node, ctx: &MinifierTraverseCtx) -> Option<us
     }
 }
 
-fn take_at(children: &mut [Option<Node>], at: usize) -> Option<Node>
+pub(crate) fn take_at(children: &mut [Option<Node>], at: usize) -> Option<Node>
     requires { at < length children.old }
     ensures taken { result ≡ slice_index_or children.old at None }
     ensures left { children.new ≡ slice_set children.old at None }

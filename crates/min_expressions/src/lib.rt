@@ -4,16 +4,18 @@
 //! tried. Each does exactly what its rule says (`Does`): a conditional on a literal becomes the branch that is taken, and a logical
 //! expression with a literal on its left the side that counts, unless it matters where it stands that this stands there itself,
 //! which `should_keep_indirect_access` answers of a name, a member or a chain. An operation of which nobody takes the value
-//! becomes the operand that acts, if one alone does, and that again (`remove_unused_expression`). What comes out is moved to
-//! where the whole stood, the context is told of all that leaves, and of nothing else, and none of it takes memory. Three calls
-//! answer what rules ask: whether an expression, or the object of a member that is assigned, may refer to something else when it
-//! is evaluated again, and what two checks make of a pair, either way round.
+//! becomes the operand that acts, if one alone does, and that again (`remove_unused_expression`); an array or a sequence of which
+//! nobody takes the value becomes its parts that act, one alone or several in a sequence (`remove_unused_list`). What comes out is
+//! moved to where the whole stood, a sequence is made of the vectors that are there, the context is told of all that leaves, and of
+//! nothing else, and none of it takes memory. Three calls answer what rules ask: whether an expression, or the object of a member
+//! that is assigned, may refer to something else when it is evaluated again, and what two checks make of a pair, either way round.
 #![tactic(auto)]
 
 mod bare;
 mod fold;
 mod kept;
 mod known;
+mod list;
 mod may_change;
 mod pair;
 mod parts;

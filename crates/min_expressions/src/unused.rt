@@ -44,7 +44,7 @@ fn compares(operator: BinaryOperator) -> bool
     )
 }
 
-fn acts(node: &Node) -> bool
+pub(crate) fn acts(node: &Node) -> bool
     ensures { result ≡ operation.acts node.now.kind node.now.note node.now.below }
 {
     may_have_side_effects(node, &[], true)

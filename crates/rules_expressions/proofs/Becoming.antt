@@ -1,5 +1,5 @@
 -- What the rules answer, case by case.
-use Rattle.std.proofs.Common.{◌≡◌, ◌∙◌, ◌+◌, ◌≤◌, ℕ, Bool, true, false, Some, None, if◌then◌else◌, refl, ap, subst, arith}
+use Rattle.std.proofs.Common.{◌≡◌, ◌∙◌, ◌+◌, ◌≤◌, ℕ, Bool, true, false, Option, Some, None, if◌then◌else◌, refl, ap, subst, arith}
 use Rattle.js_syntax.specs.declared.node_kind.NodeKind.{NodeKind as Kind}
 use Rattle.js_syntax.specs.declared.node_kind.NodeKind.TheVariants.{ConditionalExpression as conditional_expression, LogicalExpression as logical_expression, Literal as literal}
 use Rattle.js_syntax.specs.declared.operator.LogicalOperator.{LogicalOperator}
@@ -18,6 +18,10 @@ no_answer e = absurd Prim.cc
 
 pub same_answer : {x y : Tree} → Some x ≡ Some y → x ≡ y
 same_answer e = Prim.cc
+
+pub none_of : (o : Option Tree) → ((y : Tree) → o ≡ Some y → ⊥) → o ≡ None
+none_of None never = refl
+none_of (Some y) never = absurd (never y refl)
 
 pub data Chosen (b : Bool) (x y : Tree) : Type 0 where
   chosen : b ≡ true → x ≡ y → Chosen b x y

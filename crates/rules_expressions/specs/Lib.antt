@@ -1,5 +1,6 @@
 pub mod Uses
 pub mod Unused
+pub mod Lists
 pub mod Known
 pub mod Settled
 pub mod Samples

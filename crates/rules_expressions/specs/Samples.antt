@@ -1,5 +1,5 @@
 -- The rules, tried on small programs.
-use Rattle.std.specs.Prelude.{[], ◌∷◌, true, false, Option, codes}
+use Rattle.std.specs.Prelude.{List, [], ◌∷◌, true, false, Option, codes}
 use Rattle.js_syntax.specs.declared.node_kind.NodeKind.{NodeKind as Kind}
 use Rattle.js_syntax.specs.declared.operator.BinaryOperator.{BinaryOperator}
 use Rattle.js_syntax.specs.declared.operator.LogicalOperator.{LogicalOperator}
@@ -16,11 +16,14 @@ use Rattle.min_traverse.specs.Moves.{before}
 use Rattle.rules_expressions.specs.Uses.{spot_of}
 use Rattle.rules_expressions.specs.Known.{conditional_becomes, logical_becomes}
 use Rattle.rules_expressions.specs.Unused.{unused_becomes}
+use Rattle.rules_expressions.specs.Lists.{unused_list_becomes}
 
 -- ---- what a walk leaves that asks all rules behind each node
 
 abbrev pub becomes_at : Place → Tree → Option Tree
-becomes_at p x = or_else (or_else (conditional_becomes (spot_of p) x.kind x.below) (logical_becomes (spot_of p) x.kind x.below)) (unused_becomes (spot_of p) x.kind x.below)
+becomes_at p x =
+    or_else (or_else (or_else (conditional_becomes (spot_of p) x.kind x.below) (logical_becomes (spot_of p) x.kind x.below)) (unused_becomes (spot_of p) x.kind x.below))
+    (unused_list_becomes (spot_of p) x.note x.kind x.below)
 
 abbrev pub folded_at : Place → Tree → Tree
 folded_at p x = or_same x (becomes_at p x)
@@ -61,6 +64,15 @@ unary o e = over (Kind.UnaryExpression o) e
 
 abbrev pub parenthesized : Forest → Forest
 parenthesized e = over Kind.ParenthesizedExpression e
+
+abbrev pub array : List Forest → Forest
+array parts = over Kind.ArrayExpression (listed Kind.Elements parts)
+
+abbrev pub spread : Forest → Forest
+spread e = over Kind.SpreadElement e
+
+abbrev pub sequence : List Forest → Forest
+sequence parts = over Kind.SequenceExpression (listed Kind.Expressions parts)
 
 abbrev pub empty_text : Forest
 empty_text = leaf (Kind.Literal (value.Text []))

@@ -5,6 +5,7 @@ ghost use Rattle.min_options.specs.declared.options.CompressOptions.{CompressOpt
 ghost use Rattle.min_traverse.specs.Lawful.{Lawful};
 ghost use Rattle.rules_expressions.specs.Known.{fold_conditional, fold_logical, at_expression_end};
 ghost use Rattle.rules_expressions.specs.Unused.{fold_unused};
+ghost use Rattle.rules_expressions.specs.Lists.{fold_unused_list};
 
 use min_traverse::Traverse;
 
@@ -13,5 +14,6 @@ pub fn rules_are_lawful<T: Traverse>()
     ensures conditional { ((o : CompressOptions) (t u : Forest) → Edit t u → T.edit o t u) → Lawful T.edit fold_conditional }
     ensures logical { ((o : CompressOptions) (t u : Forest) → Edit t u → T.edit o t u) → Lawful T.edit fold_logical }
     ensures unused { ((o : CompressOptions) (t u : Forest) → Edit t u → T.edit o t u) → Lawful T.edit fold_unused }
+    ensures list { ((o : CompressOptions) (t u : Forest) → Edit t u → T.edit o t u) → Lawful T.edit fold_unused_list }
     ensures all { ((o : CompressOptions) (t u : Forest) → Edit t u → T.edit o t u) → Lawful T.edit at_expression_end }
 {}

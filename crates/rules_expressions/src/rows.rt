@@ -1,12 +1,12 @@
 // Small programs, by computing.
-ghost use Rattle.std.specs.Prelude.{◌≡◌, codes};
+ghost use Rattle.std.specs.Prelude.{◌≡◌, codes, [], ◌∷◌};
 ghost use Rattle.js_syntax.specs.declared.operator.BinaryOperator.TheVariants as binary_operator;
 ghost use Rattle.js_syntax.specs.declared.operator.LogicalOperator.TheVariants as logical_operator;
 ghost use Rattle.js_syntax.specs.declared.operator.UnaryOperator.TheVariants as unary_operator;
 ghost use Rattle.form_rules.specs.Samples.{a, reads, one, does, calls};
 ghost use Rattle.scope_rules.specs.Samples.{b};
 ghost use Rattle.steps_allowed.specs.Rows.{null, conditional, with_a};
-ghost use Rattle.rules_expressions.specs.Samples.{left, left_of, doing, uses, member, logical, binary, unary, parenthesized, empty_text, a_function};
+ghost use Rattle.rules_expressions.specs.Samples.{left, left_of, doing, uses, member, logical, binary, unary, parenthesized, array, spread, sequence, empty_text, a_function};
 
 /// A conditional on a literal becomes the branch that is taken, at any depth.
 pub fn branches_left()
@@ -70,4 +70,21 @@ pub fn operations_that_stay()
     ensures used { left_of (uses (unary unary_operator.LogicalNot (calls (reads a)))) ≡ doing (uses (unary unary_operator.LogicalNot (calls (reads a)))) }
     ensures both { left_of (binary binary_operator.StrictEquality (reads a) (reads b)) ≡ doing (binary binary_operator.StrictEquality (reads a) (reads b)) }
     ensures name { left_of (unary unary_operator.Typeof (reads a)) ≡ doing (unary unary_operator.Typeof (reads a)) }
+{}
+
+/// Where nobody takes the value of an array or a sequence its parts are left that act, and one of them alone.
+pub fn lists_left()
+    ensures of_array { left_of (array (calls (reads a) ∷ one ∷ calls (reads b) ∷ [])) ≡ doing (sequence (calls (reads a) ∷ calls (reads b) ∷ [])) }
+    ensures one_of_array { left_of (array (calls (reads a) ∷ one ∷ [])) ≡ doing (calls (reads a)) }
+    ensures of_sequence { left_of (sequence (calls (reads a) ∷ one ∷ calls (reads b) ∷ [])) ≡ doing (sequence (calls (reads a) ∷ calls (reads b) ∷ [])) }
+    ensures one_of_sequence { left_of (sequence (one ∷ calls (reads a) ∷ [])) ≡ doing (calls (reads a)) }
+    ensures in_branch { left_of (logical logical_operator.And (reads a) (array (calls (reads b) ∷ []))) ≡ doing (logical logical_operator.And (reads a) (calls (reads b))) }
+{}
+
+/// What is spread asks for its iterator (13.2.4), so the array stays, as one does whose value is used; and so does a sequence all of
+/// whose parts act.
+pub fn lists_that_stay()
+    ensures spread { left_of (array (spread (calls (reads a)) ∷ [])) ≡ doing (array (spread (calls (reads a)) ∷ [])) }
+    ensures used { left_of (uses (array (calls (reads a) ∷ []))) ≡ doing (uses (array (calls (reads a) ∷ []))) }
+    ensures all_act { left_of (sequence (calls (reads a) ∷ calls (reads b) ∷ [])) ≡ doing (sequence (calls (reads a) ∷ calls (reads b) ∷ [])) }
 {}

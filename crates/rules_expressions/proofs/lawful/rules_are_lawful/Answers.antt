@@ -1,4 +1,4 @@
-use Rattle.rules_expressions.proofs.Folding.{conditionals_fold, logicals_fold, unused_fold, expressions_fold}
+use Rattle.rules_expressions.proofs.Folding.{conditionals_fold, logicals_fold, unused_fold, lists_fold, expressions_fold}
 use Rattle.rules_expressions.proofs.lawful.rules_are_lawful.Goals as goal
 
 pub returns-clause-conditional : goal.returns-clause-conditional
@@ -9,6 +9,9 @@ returns-clause-logical g c = logicals_fold g.T.Traverse.edit
 
 pub returns-clause-unused : goal.returns-clause-unused
 returns-clause-unused g c = unused_fold g.T.Traverse.edit
+
+pub returns-clause-list : goal.returns-clause-list
+returns-clause-list g c = lists_fold g.T.Traverse.edit
 
 pub returns-clause-all : goal.returns-clause-all
 returns-clause-all g c = expressions_fold g.T.Traverse.edit

@@ -1,5 +1,6 @@
 use Rattle.rules_expressions.proofs.Editing.{conditional_edits_there, logical_edits_there}
 use Rattle.rules_expressions.proofs.Unused.{unused_edits_there, none_left_there}
+use Rattle.rules_expressions.proofs.Lists.{list_edits_there}
 use Rattle.rules_expressions.proofs.laws.answers_are_edits.Goals as goal
 
 pub returns-clause-conditional : goal.returns-clause-conditional
@@ -13,3 +14,6 @@ returns-clause-unused c = unused_edits_there
 
 pub returns-clause-none_left : goal.returns-clause-none_left
 returns-clause-none_left c = none_left_there
+
+pub returns-clause-list : goal.returns-clause-list
+returns-clause-list c = list_edits_there

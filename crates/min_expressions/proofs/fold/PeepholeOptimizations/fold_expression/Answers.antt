@@ -3,19 +3,20 @@ use Rattle.min_traverse.specs.Lawful.{Does, either}
 use Rattle.min_traverse.proofs.Joining.{first_does, then_does}
 use Rattle.rules_expressions.specs.Known.{fold_conditional, fold_logical, at_expression_end}
 use Rattle.rules_expressions.specs.Unused.{fold_unused}
+use Rattle.rules_expressions.specs.Lists.{fold_unused_list}
 use Rattle.min_expressions.proofs.fold.PeepholeOptimizations.fold_expression.Goals as goal
 
-pub returns-then-fold_decided : goal.returns-then-fold_decided
-returns-then-fold_decided c =
-    let at = c.fold_decided in
+pub returns-then-fold_operation : goal.returns-then-fold_operation
+returns-then-fold_operation c =
+    let at = c.fold_operation in
     record {
-      does = subst (λ b. Does at_expression_end c.args.ctx.now c.args.node.now b at.new.ctx at.new.node) (sym c.if-fold_decided.true)
-          (first_does (either fold_conditional fold_logical) fold_unused (subst (λ b. Does (either fold_conditional fold_logical) c.args.ctx.now c.args.node.now b at.new.ctx at.new.node) c.if-fold_decided.true at.ensures));
+      does = subst (λ b. Does at_expression_end c.args.ctx.now c.args.node.now b at.new.ctx at.new.node) (sym c.if-fold_operation.true)
+          (first_does (either (either fold_conditional fold_logical) fold_unused) fold_unused_list (subst (λ b. Does (either (either fold_conditional fold_logical) fold_unused) c.args.ctx.now c.args.node.now b at.new.ctx at.new.node) c.if-fold_operation.true at.ensures));
     }
 
-pub returns-else-fold_decided : goal.returns-else-fold_decided
-returns-else-fold_decided c =
-    let at = c.fold_decided in
+pub returns-else-fold_operation : goal.returns-else-fold_operation
+returns-else-fold_operation c =
+    let at = c.fold_operation in
     record {
-      does = then_does (either fold_conditional fold_logical) fold_unused (subst (λ b. Does (either fold_conditional fold_logical) c.args.ctx.now c.args.node.now b at.new.ctx at.new.node) c.if-fold_decided.false at.ensures) c.remove_unused_expression.ensures.does;
+      does = then_does (either (either fold_conditional fold_logical) fold_unused) fold_unused_list (subst (λ b. Does (either (either fold_conditional fold_logical) fold_unused) c.args.ctx.now c.args.node.now b at.new.ctx at.new.node) c.if-fold_operation.false at.ensures) c.remove_unused_list.ensures.does;
     }

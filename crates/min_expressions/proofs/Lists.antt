@@ -1,0 +1,374 @@
+-- What acts of a list, and what doesn't.
+use Rattle.std.proofs.Common.{◌≡◌, ◌∙◌, ◌<◌, ◌≤◌, ◌+◌, ◌++◌, ℕ, suc, List, [], ◌∷◌, Bool, true, false, ◌||◌, ◌&&◌, not, cond, if◌then◌else◌, Option, Some, None, is_some, length, take, drop, get_or, refl, sym, ap, subst, true≢false, arith}
+use Rattle.std.specs.Prelude.{filter, slice_index_or}
+use Rattle.std.proofs.lemmas.List.{drop_all, take_more, take_all, take-append-le}
+use Rattle.js_syntax.specs.declared.node_kind.NodeKind.{NodeKind as Kind}
+use Rattle.js_syntax.specs.declared.node_kind.NodeKind.TheVariants.{ArrayExpression as array_expression, SequenceExpression as sequence_expression, Statements as statements, Cases as cases, Declarators as declarators, Parameters as parameters, Members as members, Elements as elements, Properties as properties, Expressions as expressions, Arguments as arguments, Quasis as quasis, Specifiers as specifiers}
+use Rattle.js_syntax.specs.Node.{Forest, Tree, Note, nothing, node, absent, alone, row, forest_of}
+use Rattle.js_tree.proofs.Rows.{front_of}
+use Rattle.js_tree.proofs.Search.{AsksEach}
+use Rattle.js_tree.specs.Walk.{is_list}
+use Rattle.scope_counts.specs.Counts.{ids}
+use Rattle.min_context.specs.Edited.{evals, Leaves, DropsNode, Edited}
+use Rattle.min_context.specs.Seen.{Seen}
+use Rattle.steps_allowed.specs.UnusedOperation.{acts}
+use Rattle.steps_allowed.specs.UnusedList.{acting, all_act, is_spread, has_spread, as_one, list_becomes}
+use Rattle.steps_allowed.specs.Uses.{as_value, stands_bare}
+use Rattle.rules_expressions.specs.Uses.{Spot}
+use Rattle.rules_expressions.specs.Lists.{new_note, list_note, unused_list_becomes}
+use Rattle.min_expressions.specs.Kept.{child_at}
+use Rattle.min_expressions.specs.Lists.{only, item_acts, idle, Found, none, one, several, found_with, found_from, is_enough, are_one, array_goes, sequence_goes, list_goes}
+use Rattle.min_expressions.specs.Unused.{tree_acts}
+use Rattle.min_expressions.proofs.Leaving.{Adds, ids_add, evals_add, leaves_more, same_some, found, emptied, edits_to}
+
+-- ---- asked of one part after another
+
+or_false : (b : Bool) → b || false ≡ b
+or_false true = refl
+or_false false = refl
+
+pub spread_each : AsksEach has_spread
+spread_each None ts = refl
+spread_each (Some t) ts = ap (λ (b : Bool). b || has_spread (row ts)) (sym (or_false (is_spread t.kind)))
+
+not_both : (a b : Bool) → not (a && b) ≡ not (a && true) || not b
+not_both true b = refl
+not_both false b = refl
+
+abbrev pub some_idle : Forest → Bool
+some_idle t = not (all_act t)
+
+pub idle_each : AsksEach some_idle
+idle_each None ts = refl
+idle_each (Some t) ts = not_both _ (all_act (row ts))
+
+and_true : (b : Bool) → b && true ≡ b
+and_true true = refl
+and_true false = refl
+
+acts_is : (k : Kind) (n : Note) (b : Forest) → not (all_act (alone k n b)) ≡ not (acts k n b || is_list k)
+acts_is statements n b = ap not (and_true (acts statements n b || true))
+acts_is cases n b = ap not (and_true (acts cases n b || true))
+acts_is declarators n b = ap not (and_true (acts declarators n b || true))
+acts_is parameters n b = ap not (and_true (acts parameters n b || true))
+acts_is members n b = ap not (and_true (acts members n b || true))
+acts_is elements n b = ap not (and_true (acts elements n b || true))
+acts_is properties n b = ap not (and_true (acts properties n b || true))
+acts_is expressions n b = ap not (and_true (acts expressions n b || true))
+acts_is arguments n b = ap not (and_true (acts arguments n b || true))
+acts_is quasis n b = ap not (and_true (acts quasis n b || true))
+acts_is specifiers n b = ap not (and_true (acts specifiers n b || true))
+acts_is k n b = ap not (and_true (acts k n b || false))
+
+pub idle_is : (x : Tree) → not (tree_acts x || is_list x.kind) ≡ not (all_act (row (Some x ∷ [])))
+idle_is x = sym (acts_is x.kind x.note x.below)
+
+-- ---- how much acts
+
+pub next_found : (ts : List (Option Tree)) (i : ℕ) (x : Option Tree) (f : Found) → i < length ts → x ≡ get_or ts i x → found_from f (drop i ts) ≡ found_from (found_with f x) (drop (i + 1) ts)
+next_found ts i x f h is = ap (found_from f) (front_of ts i x h is)
+
+pub last_found : (ts : List (Option Tree)) (i : ℕ) (f : Found) → length ts ≤ i → found_from f (drop i ts) ≡ f
+last_found ts i f h = ap (found_from f) (drop_all i ts h)
+
+several_stay : (ts : List (Option Tree)) → is_enough (found_from several ts) ≡ true
+several_stay [] = refl
+several_stay (None ∷ ts) = several_stay ts
+several_stay (Some t ∷ ts) = if_acts (tree_acts t) (several_stay ts)
+  where
+    if_acts : (b : Bool) → is_enough (found_from several ts) ≡ true → is_enough (found_from (if b then several else several) ts) ≡ true
+    if_acts true e = e
+    if_acts false e = e
+
+one_found : (k : Kind) (n : Note) (a : Forest) (ts : List (Option Tree)) → is_enough (found_from (one (stands_bare as_value false k a)) ts) ≡ are_one (node k n a (acting (row ts)))
+one_found k n a [] = refl
+one_found k n a (None ∷ ts) = one_found k n a ts
+one_found k n a (Some t ∷ ts) = if_acts (tree_acts t) (one_found k n a ts)
+  where
+    if_acts : (b : Bool) → is_enough (found_from (one (stands_bare as_value false k a)) ts) ≡ are_one (node k n a (acting (row ts))) → is_enough (found_from (if b then several else one (stands_bare as_value false k a)) ts) ≡ are_one (node k n a (if b then node t.kind t.note t.below (acting (row ts)) else acting (row ts)))
+    if_acts true e = several_stay ts
+    if_acts false e = e
+
+pub enough_found : (ts : List (Option Tree)) → is_enough (found_from none ts) ≡ are_one (acting (row ts))
+enough_found [] = refl
+enough_found (None ∷ ts) = enough_found ts
+enough_found (Some t ∷ ts) = if_acts (tree_acts t) (enough_found ts)
+  where
+    if_acts : (b : Bool) → is_enough (found_from none ts) ≡ are_one (acting (row ts)) → is_enough (found_from (if b then one (stands_bare as_value false t.kind t.below) else none) ts) ≡ are_one (if b then node t.kind t.note t.below (acting (row ts)) else acting (row ts))
+    if_acts true e = one_found t.kind t.note t.below ts
+    if_acts false e = e
+
+-- ---- what stays in the vector
+
+pub acting_kept : (ts : List (Option Tree)) → row (filter item_acts ts) ≡ acting (row ts)
+acting_kept [] = refl
+acting_kept (None ∷ ts) = acting_kept ts
+acting_kept (Some t ∷ ts) = if_acts (tree_acts t) (acting_kept ts)
+  where
+    if_acts : (b : Bool) → row (filter item_acts ts) ≡ acting (row ts) → row (cond b (Some t ∷ filter item_acts ts) (filter item_acts ts)) ≡ (if b then node t.kind t.note t.below (acting (row ts)) else acting (row ts))
+    if_acts true e = ap (node t.kind t.note t.below) e
+    if_acts false e = e
+
+-- ---- what leaves
+
+module _ (m : Forest → ℕ) (a : Adds m) where
+  pub splits : (parts : Forest) → m parts ≡ m (idle parts) + m (acting parts)
+  splits nothing = Prim.omega (arith, a.none)
+  splits (absent rest) = Prim.omega (arith, a.gap rest, splits rest)
+  splits (node k n b rest) = if_acts (acts k n b) (splits rest)
+    where
+      if_acts : (acts : Bool) → m rest ≡ m (idle rest) + m (acting rest) → m (node k n b rest) ≡ m (if acts then idle rest else node k n b (idle rest)) + m (if acts then node k n b (acting rest) else acting rest)
+      if_acts true e = Prim.omega (arith, a.joins k n b rest, a.joins k n b (acting rest), e)
+      if_acts false e = Prim.omega (arith, a.joins k n b rest, a.joins k n b (idle rest), e)
+
+  each_idle : (t : Option Tree) (ts : List (Option Tree)) → m (idle (row (t ∷ ts))) ≡ m (idle (row (t ∷ []))) + m (idle (row ts))
+  each_idle None ts = Prim.omega (arith, a.none)
+  each_idle (Some t) ts = if_acts (tree_acts t)
+    where
+      if_acts : (acts : Bool) → m (if acts then idle (row ts) else node t.kind t.note t.below (idle (row ts))) ≡ m (if acts then nothing else node t.kind t.note t.below nothing) + m (idle (row ts))
+      if_acts true = Prim.omega (arith, a.none)
+      if_acts false = a.joins t.kind t.note t.below (idle (row ts))
+
+  pushed : (ts : List (Option Tree)) (x : Option Tree) → m (idle (row (ts ++ x ∷ []))) ≡ m (idle (row ts)) + m (idle (row (x ∷ [])))
+  pushed [] x = Prim.omega (arith, a.none)
+  pushed (t ∷ ts) x = Prim.omega (arith, each_idle t (ts ++ x ∷ []), pushed ts x, each_idle t ts)
+
+  pub idle_more : (ts : List (Option Tree)) (i : ℕ) (x : Option Tree) → i < length ts → x ≡ get_or ts i x → m (idle (row (take (i + 1) ts))) ≡ m (idle (row (take i ts))) + m (idle (row (x ∷ [])))
+  idle_more ts i x h is = rw (take_more ts i x h, ← is) (pushed (take i ts) x)
+
+abbrev pub IdleLeaves : Seen → Forest → Seen → Type 0
+IdleLeaves c t d = Leaves c (λ r. ids r (idle t)) (evals (idle t)) d
+
+pub next_leaves : {c d e : Seen} (ts : List (Option Tree)) (i : ℕ) (x : Option Tree) → i < length ts → x ≡ get_or ts i x → IdleLeaves c (row (take i ts)) d → IdleLeaves d (row (x ∷ [])) e → IdleLeaves c (row (take (i + 1) ts)) e
+next_leaves ts i x h is so_far here = leaves_more so_far here (λ r. idle_more (ids r) (ids_add r) ts i x h is) (idle_more evals evals_add ts i x h is)
+
+pub all_leave : {c d : Seen} (ts : List (Option Tree)) (i : ℕ) → length ts ≤ i → IdleLeaves c (row (take i ts)) d → IdleLeaves c (row ts) d
+all_leave {c = c} {d = d} ts i h l = subst (λ us. IdleLeaves c (row us) d) (take_all i ts h) l
+
+idle_one : (o : Option Tree) (x : Tree) → o ≡ Some x → tree_acts x ≡ false → idle (row (o ∷ [])) ≡ forest_of x
+idle_one o x is e = ap (λ p. idle (row (p ∷ []))) is ∙ ap (λ b. if b then nothing else forest_of x) e
+
+idle_none : (o : Option Tree) (x : Tree) → o ≡ Some x → tree_acts x ≡ true → idle (row (o ∷ [])) ≡ nothing
+idle_none o x is e = ap (λ p. idle (row (p ∷ []))) is ∙ ap (λ b. if b then nothing else forest_of x) e
+
+pub one_leaves : {c d : Seen} (o : Option Tree) (x : Tree) → o ≡ Some x → tree_acts x ≡ false → Leaves c (λ r. ids r (forest_of x)) (evals (forest_of x)) d → IdleLeaves c (row (o ∷ [])) d
+one_leaves {c = c} {d = d} o x is e l = subst (λ t. Leaves c (λ r. ids r t) (evals t) d) (sym (idle_one o x is e)) l
+
+pub one_stays : {c : Seen} (o : Option Tree) (x : Tree) → o ≡ Some x → tree_acts x ≡ true → Leaves c (λ r. 0) 0 c → IdleLeaves c (row (o ∷ [])) c
+one_stays {c = c} o x is e l = subst (λ t. Leaves c (λ r. ids r t) (evals t) c) (sym (idle_none o x is e)) l
+
+-- ---- one part alone
+
+pub not_alone : (ts : List (Option Tree)) → (length ts ≡ 1 → ⊥) → only (row ts) ≡ None
+not_alone [] h = refl
+not_alone (None ∷ ts) h = refl
+not_alone (Some t ∷ []) h = absurd (h refl)
+not_alone (Some t ∷ None ∷ ts) h = refl
+not_alone (Some t ∷ Some x ∷ ts) h = refl
+
+pub is_alone : (ts : List (Option Tree)) (d : Option Tree) → length ts ≡ 1 → get_or ts 0 d ≡ only (row ts)
+is_alone [] d h = absurd (Prim.omega (arith, h))
+is_alone (None ∷ []) d h = refl
+is_alone (Some t ∷ []) d h = refl
+is_alone (x ∷ y ∷ ts) d h = absurd (Prim.omega (arith, h))
+
+no_node : {P : Type 0} {x : Tree} → None ≡ Some x → P
+no_node e = absurd Prim.cc
+
+abbrev pub made : Note → Note → Forest → Tree
+made n m parts = record { kind = sequence_expression; note = n; below = node expressions m parts nothing }
+
+if_bare : (b : Bool) (x : Tree) → b ≡ true → (if b then Some x else None) ≡ Some x
+if_bare true x e = refl
+if_bare false x e = absurd (true≢false (sym e))
+
+pub one_is : (n m : Note) (parts : Forest) (x : Tree) → are_one parts ≡ true → only parts ≡ Some x → as_one n m parts ≡ Some x
+one_is n m nothing x e f = no_node f
+one_is n m (absent rest) x e f = no_node f
+one_is n m (node k i a nothing) x e f = if_bare (stands_bare as_value false k a) (record { kind = k; note = i; below = a }) e ∙ f
+one_is n m (node k i a (absent rest)) x e f = no_node f
+one_is n m (node k i a (node l j b rest)) x e f = no_node f
+
+pub several_are : (n m : Note) (parts : Forest) → are_one parts ≡ true → only parts ≡ None → as_one n m parts ≡ Some (made n m parts)
+several_are n m nothing e f = absurd (true≢false (sym e))
+several_are n m (absent rest) e f = refl
+several_are n m (node k i a nothing) e f = no_node (sym f)
+several_are n m (node k i a (absent rest)) e f = refl
+several_are n m (node k i a (node l j b rest)) e f = refl
+
+-- ---- the list of an array or of a sequence
+
+pub record IsListOf (k : Kind) (t : Forest) : Type 0 where
+  pub list : Tree
+  pub below : t ≡ forest_of list
+  pub becomes : (n m : Note) → list_becomes n m k t ≡ as_one n m (acting list.below)
+  pub is_one : are_one (acting list.below) ≡ true
+  -- neither counts itself
+  pub no_id : (r : ℕ) (n : Note) (b : Forest) → ids r (alone k n b) ≡ ids r b
+  pub list_no_id : (r : ℕ) → ids r (forest_of list) ≡ ids r list.below
+  pub no_eval : (n : Note) (b : Forest) → evals (alone k n b) ≡ evals b
+  pub list_no_eval : evals (forest_of list) ≡ evals list.below
+
+-- whether parts are one expression
+one_same : (n m : Note) (parts : Forest) → is_some (as_one n m parts) ≡ are_one parts
+one_same n m nothing = refl
+one_same n m (absent rest) = refl
+one_same n m (node k i a nothing) = if_stands (stands_bare as_value false k a)
+  where
+    if_stands : (b : Bool) → is_some {T = Tree} (if b then Some (record { kind = k; note = i; below = a }) else None) ≡ b
+    if_stands true = refl
+    if_stands false = refl
+one_same n m (node k i a (absent rest)) = refl
+one_same n m (node k i a (node l j b rest)) = refl
+
+as_one_is_one : (n m : Note) (parts : Forest) → is_some (as_one n m parts) ≡ true → are_one parts ≡ true
+as_one_is_one n m parts e = sym (one_same n m parts) ∙ e
+
+unless : (b : Bool) (o : Option Tree) → is_some (if b then None else o) ≡ true → (b ≡ false) × (is_some o ≡ true)
+unless true o e = absurd (true≢false (sym e))
+unless false o e = (refl, e)
+
+no_list : {P : Type 0} → false ≡ true → P
+no_list e = absurd (true≢false (sym e))
+
+pub list_of : (n m : Note) (k : Kind) (t : Forest) → is_some (list_becomes n m k t) ≡ true → IsListOf k t
+list_of n m array_expression (node elements i parts nothing) e =
+    let w = unless (has_spread parts) (as_one n m (acting parts)) e in
+    record {
+      list = record { kind = elements; note = i; below = parts };
+      below = refl;
+      becomes = λ p q. ap (λ (b : Bool). if b then None else as_one p q (acting parts)) w.0;
+      is_one = as_one_is_one n m (acting parts) w.1;
+      no_id = λ r p b. Prim.omega arith;
+      list_no_id = λ r. Prim.omega arith;
+      no_eval = λ p b. Prim.omega arith;
+      list_no_eval = Prim.omega arith;
+    }
+list_of n m sequence_expression (node expressions i parts nothing) e =
+    let w = unless (all_act parts) (as_one n m (acting parts)) e in
+    record {
+      list = record { kind = expressions; note = i; below = parts };
+      below = refl;
+      becomes = λ p q. ap (λ (b : Bool). if b then None else as_one p q (acting parts)) w.0;
+      is_one = as_one_is_one n m (acting parts) w.1;
+      no_id = λ r p b. Prim.omega arith;
+      list_no_id = λ r. Prim.omega arith;
+      no_eval = λ p b. Prim.omega arith;
+      list_no_eval = Prim.omega arith;
+    }
+list_of n m k t e = no_list e
+
+-- the row that it stands in alone
+abbrev behind : Forest → Forest
+behind (node k n b rest) = rest
+behind t = nothing
+
+no_items : (ts : List (Option Tree)) → row ts ≡ nothing → length ts ≡ 0
+no_items [] e = refl
+no_items (None ∷ ts) e = absurd Prim.cc
+no_items (Some t ∷ ts) e = absurd Prim.cc
+
+pub alone_in : (ts : List (Option Tree)) (t : Tree) → row ts ≡ forest_of t → length ts ≡ 1
+alone_in [] t e = absurd Prim.cc
+alone_in (None ∷ ts) t e = absurd Prim.cc
+alone_in (Some x ∷ ts) t e = ap suc (no_items ts (ap behind e))
+
+module _ {k : Kind} {t : Forest} (w : IsListOf k t) where
+  pub its_row : (ts us : List (Option Tree)) → row ts ≡ t → us ≡ ts → length us ≡ 1
+  its_row ts us e f = ap length f ∙ alone_in ts w.list (e ∙ w.below)
+
+  pub left_row : (n : ℕ) (ts us vs xs : List (Option Tree)) → row ts ≡ t → us ≡ ts → n ≡ length ts → length vs ≡ length us → length (take n (vs ++ xs)) ≡ 1
+  left_row n ts us vs xs e f taken same =
+      ap length (take-append-le n vs xs (Prim.omega (arith, taken, same, ap length f)) ∙ take_all n vs (Prim.omega (arith, taken, same, ap length f))) ∙ same ∙ its_row ts us e f
+
+  pub its_list : {ts us : List (Option Tree)} {o : Option Tree} {x : Tree} → row ts ≡ t → us ≡ ts → o ≡ slice_index_or us 0 None → o ≡ Some x → x ≡ w.list
+  its_list {ts = ts} {us = us} {o = o} {x = x} e f taken is = same_some (sym (found 0 {ts = ts} {us = us} {t = t} {o = o} {y = x} e f taken is) ∙ ap (child_at 0) w.below)
+
+record Counts (y : Tree) (parts : Forest) : Type 0 where
+  same_ids : (r : ℕ) → ids r (forest_of y) ≡ ids r parts
+  same_evals : evals (forest_of y) ≡ evals parts
+
+made_counts : (n m : Note) (parts : Forest) (y : Tree) → Some (made n m parts) ≡ Some y → Counts y parts
+made_counts n m parts y e = subst (λ z. Counts z parts) (same_some e) (record { same_ids = λ r. Prim.omega arith; same_evals = Prim.omega arith })
+
+alone_counts : (b : Bool) (k : Kind) (i : Note) (a : Forest) (y : Tree) → (if b then Some (record { kind = k; note = i; below = a }) else None) ≡ Some y → Counts y (alone k i a)
+alone_counts true k i a y e = subst (λ z. Counts z (alone k i a)) (same_some e) (record { same_ids = λ r. refl; same_evals = refl })
+alone_counts false k i a y e = no_node e
+
+counts : (n m : Note) (parts : Forest) (y : Tree) → as_one n m parts ≡ Some y → Counts y parts
+counts n m nothing y e = no_node e
+counts n m (absent rest) y e = made_counts n m (absent rest) y e
+counts n m (node k i a nothing) y e = alone_counts (stands_bare as_value false k a) k i a y e
+counts n m (node k i a (absent rest)) y e = made_counts n m (node k i a (absent rest)) y e
+counts n m (node k i a (node l j b rest)) y e = made_counts n m (node k i a (node l j b rest)) y e
+
+-- what acts of x became y
+pub list_edits : {c d e : Seen} {v y z l : Tree} (x : Tree) (n m : Note) (w : IsListOf x.kind x.below) → l ≡ w.list → as_one n m (acting l.below) ≡ Some z → y ≡ z
+    → v.kind ≡ x.kind → v.note ≡ x.note → v.below ≡ nothing → IdleLeaves c l.below d → DropsNode d v e → Edited c x y true e
+list_edits {c = c} {d = d} {e = e} {v = v} {y = y} {z = z} {l = l} x n m w is left put kind note empty others itself =
+    let s = counts n m (acting l.below) z left in
+    edits_to c d e x y others (subst (λ u. DropsNode d u e) (emptied v x.kind x.note kind note empty) itself)
+    (λ r. Prim.omega (arith, w.no_id r x.note x.below, w.no_id r x.note nothing, ap (ids r) w.below, w.list_no_id r, ap {A = Tree} (λ u. ids r u.below) is, splits (ids r) (ids_add r) l.below, s.same_ids r, ap (λ u. ids r (forest_of u)) put))
+    (Prim.omega (arith, w.no_eval x.note x.below, w.no_eval x.note nothing, ap evals w.below, w.list_no_eval, ap {A = Tree} (λ u. evals u.below) is, splits evals evals_add l.below, s.same_evals, ap (λ u. evals (forest_of u)) put))
+
+pub list_kept : {y z l : Tree} (x : Tree) (w : IsListOf x.kind x.below) → l ≡ w.list → as_one (new_note x.note) (new_note l.note) (acting l.below) ≡ Some z → y ≡ z → list_becomes (new_note x.note) (new_note (list_note x.below)) x.kind x.below ≡ Some y
+list_kept {l = l} x w is left put =
+    w.becomes (new_note x.note) (new_note (list_note x.below)) ∙ ap (λ u. as_one (new_note x.note) (new_note (list_note u)) (acting w.list.below)) w.below
+    ∙ ap {A = Tree} (λ u. as_one (new_note x.note) (new_note u.note) (acting u.below)) (sym is) ∙ left ∙ ap Some (sym put)
+
+-- ---- as the rule says it
+
+unless_same : (b : Bool) (o : Option Tree) (c : Bool) → is_some o ≡ c → is_some (if b then None else o) ≡ not b && c
+unless_same true o c e = refl
+unless_same false o c e = e
+
+array_same : (n m : Note) (t : Forest) → is_some (list_becomes n m array_expression t) ≡ array_goes (only t)
+array_same n m nothing = refl
+array_same n m (absent rest) = refl
+array_same n m (node elements i parts nothing) = unless_same (has_spread parts) (as_one n m (acting parts)) (are_one (acting parts)) (one_same n m (acting parts))
+array_same n m (node elements i parts (absent rest)) = refl
+array_same n m (node elements i parts (node l j b rest)) = refl
+array_same n m (node k i parts nothing) = refl
+array_same n m (node k i parts (absent rest)) = refl
+array_same n m (node k i parts (node l j b rest)) = refl
+
+sequence_same : (n m : Note) (t : Forest) → is_some (list_becomes n m sequence_expression t) ≡ sequence_goes (only t)
+sequence_same n m nothing = refl
+sequence_same n m (absent rest) = refl
+sequence_same n m (node expressions i parts nothing) = unless_same (all_act parts) (as_one n m (acting parts)) (are_one (acting parts)) (one_same n m (acting parts))
+sequence_same n m (node expressions i parts (absent rest)) = refl
+sequence_same n m (node expressions i parts (node l j b rest)) = refl
+sequence_same n m (node k i parts nothing) = refl
+sequence_same n m (node k i parts (absent rest)) = refl
+sequence_same n m (node k i parts (node l j b rest)) = refl
+
+if_unused : (b : Bool) (o : Option Tree) (c : Bool) → is_some o ≡ c → is_some (if b then o else None) ≡ b && c
+if_unused true o c e = e
+if_unused false o c e = refl
+
+if_none : (b : Bool) → is_some {T = Tree} (if b then None else None) ≡ false
+if_none true = refl
+if_none false = refl
+
+pub goes_same : (s : Spot) (n : Note) (k : Kind) (t : Forest) → is_some (unused_list_becomes s n k t) ≡ list_goes s k t
+goes_same s n array_expression t = if_unused s.is_unused _ _ (array_same (new_note n) (new_note (list_note t)) t)
+goes_same s n sequence_expression t = if_unused s.is_unused _ _ (sequence_same (new_note n) (new_note (list_note t)) t)
+goes_same s n k t = if_none s.is_unused
+
+used : (b : Bool) (o : Option Tree) → is_some (if b then o else None) ≡ true → (b ≡ true) × (is_some o ≡ true)
+used true o e = (refl, e)
+used false o e = absurd (true≢false (sym e))
+
+no_tree : (o : Option Tree) → is_some o ≡ false → o ≡ None
+no_tree None e = refl
+no_tree (Some x) e = absurd (true≢false e)
+
+module _ (s : Spot) (n : Note) (k : Kind) (t : Forest) where
+  pub goes_there : list_goes s k t ≡ true → is_some (list_becomes (new_note n) (new_note (list_note t)) k t) ≡ true
+  goes_there e = (used s.is_unused (list_becomes (new_note n) (new_note (list_note t)) k t) (goes_same s n k t ∙ e)).1
+
+  pub list_left : (y : Tree) → list_goes s k t ≡ true → list_becomes (new_note n) (new_note (list_note t)) k t ≡ Some y → unused_list_becomes s n k t ≡ Some y
+  list_left y e f = ap (λ b. if b then list_becomes (new_note n) (new_note (list_note t)) k t else None) (used s.is_unused (list_becomes (new_note n) (new_note (list_note t)) k t) (goes_same s n k t ∙ e)).0 ∙ f
+
+  pub list_stays : list_goes s k t ≡ false → unused_list_becomes s n k t ≡ None
+  list_stays e = no_tree (unused_list_becomes s n k t) (goes_same s n k t ∙ e)

@@ -1,0 +1,21 @@
+use Rattle.std.proofs.Common.{◌∙◌, sym}
+use Rattle.min_traverse.proofs.Joining.{does_none, does_some}
+use Rattle.rules_expressions.specs.Lists.{fold_unused_list}
+use Rattle.rules_expressions.specs.Uses.{spot_of}
+use Rattle.min_expressions.proofs.Lists.{goes_there, list_left, list_stays}
+use Rattle.min_expressions.proofs.fold.PeepholeOptimizations.remove_unused_list.Goals as goal
+
+pub keep_list-requires : goal.keep_list-requires
+keep_list-requires c = record { goes = goes_there (spot_of c.args.ctx.now.place) c.args.node.now.note c.args.node.now.kind c.args.node.now.below (sym c.list_goes.ensures ∙ c.if-list_goes.true) }
+
+pub returns-then-list_goes : goal.returns-then-list_goes
+returns-then-list_goes c = record {
+  does = does_some fold_unused_list c.args.ctx.now c.args.node.now c.keep_list.new.node
+      (list_left (spot_of c.args.ctx.now.place) c.args.node.now.note c.args.node.now.kind c.args.node.now.below c.keep_list.new.node (sym c.list_goes.ensures ∙ c.if-list_goes.true) c.keep_list.ensures.kept)
+      c.keep_list.ensures.edited;
+}
+
+pub returns-else-list_goes : goal.returns-else-list_goes
+returns-else-list_goes c = record {
+  does = does_none fold_unused_list c.args.ctx.now c.args.node.now (list_stays (spot_of c.args.ctx.now.place) c.args.node.now.note c.args.node.now.kind c.args.node.now.below (sym c.list_goes.ensures ∙ c.if-list_goes.false));
+}
