@@ -4,4 +4,5 @@ pub mod Once
 pub mod Sound
 pub mod Refining
 pub mod Headline
+mod RenotedUnused
 pub mod Renoted

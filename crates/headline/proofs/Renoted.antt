@@ -1,18 +1,14 @@
 -- A program without dead code has none with other notes.
-use Rattle.std.proofs.Common.{◌≡◌, ◌∙◌, ◌+◌, ℕ, zero, suc, List, [], ◌∷◌, ◌++◌, map, Bool, true, false, not, ◌&&◌, ◌||◌, Option, Some, None, is_some, option_map, if◌then◌else◌, refl, sym, ap, ap₂, subst, inl, inr, true≢false}
+use Rattle.std.proofs.Common.{◌≡◌, ◌∙◌, ◌+◌, ℕ, suc, List, [], ◌∷◌, ◌++◌, map, Bool, true, false, ◌&&◌, ◌||◌, Option, Some, None, is_some, option_map, if◌then◌else◌, refl, sym, ap, ap₂, subst, inl, inr}
 use Rattle.std.proofs.lemmas.List.{map-append}
 use Rattle.std.specs.Str.{bytes_eq}
 use mathlib.Core.Path.{fun_ext}
 use Rattle.js_syntax.specs.declared.node_kind.NodeKind.{NodeKind as Kind}
-use Rattle.js_syntax.specs.declared.node_kind.NodeKind.TheVariants.{Function as function, BindingName as binding_name, ReferenceName as reference_name, TargetName as target_name, EmptyStatement as empty_statement, ExpressionStatement as expression_statement, VariableDeclarator as variable_declarator, MemberExpression as member_expression, ChainExpression as chain_expression, ParenthesizedExpression as parenthesized_expression, Class as class, ConditionalExpression as conditional_expression, LogicalExpression as logical_expression, UnaryExpression as unary_expression, BinaryExpression as binary_expression, Literal as literal}
+use Rattle.js_syntax.specs.declared.node_kind.NodeKind.TheVariants.{Function as function, BindingName as binding_name, ReferenceName as reference_name, TargetName as target_name, EmptyStatement as empty_statement, ExpressionStatement as expression_statement, VariableDeclarator as variable_declarator, ConditionalExpression as conditional_expression, LogicalExpression as logical_expression, Literal as literal}
 use Rattle.js_syntax.specs.declared.kind.FunctionKind.TheVariants as function_kind
 use Rattle.js_syntax.specs.declared.kind.VariableKind.TheVariants as variable
 use Rattle.js_syntax.specs.declared.value.LiteralValue.{LiteralValue}
-use Rattle.js_syntax.specs.declared.operator.UnaryOperator.{UnaryOperator}
-use Rattle.js_syntax.specs.declared.operator.BinaryOperator.{BinaryOperator}
 use Rattle.js_syntax.specs.Node.{Forest, Tree, Note, nothing, node, absent, nowhere, bare}
-use Rattle.js_effects.specs.Silence.{has_effect, may_have_effects}
-use Rattle.js_meaning_near.specs.Unused.{is_total, compares}
 use Rattle.min_pass.specs.declared.around.Around.{Around as Asked}
 use Rattle.min_pass.specs.Around.{is_with, entered as asked_below, outermost as asked_of_program}
 use Rattle.min_pass.specs.Pass.{is_given}
@@ -27,9 +23,8 @@ use Rattle.scope_laws.proofs.Among.{among_map, image}
 use Rattle.steps_names.specs.Standing.{is_export, exported_sites, exported_declarations}
 use Rattle.steps_allowed.specs.Silent.{read_in, IsFound, IsSilentNode, IsSilent, HoldsThere}
 use Rattle.steps_allowed.specs.Exposure.{Exposure, exposed_inside, exposed_of, exposed_at, exposure, function_is_exposed, evaluates_somewhere, IsOwnFunction, IsOwnDeclarator}
-use Rattle.steps_allowed.specs.Uses.{Use, as_value, operand_of, use_below, use_there, use_at, chain_matters, matters, may_take_name, stands_bare}
+use Rattle.steps_allowed.specs.Uses.{Use, use_below, use_there, use_at, stands_bare}
 use Rattle.steps_allowed.specs.Unused.{is_unused_below, unused_there}
-use Rattle.steps_allowed.specs.Child.{child_at}
 use Rattle.steps_allowed.specs.Places.{a_node, asked_at, IsItem, IsDeclarator, At, MayStandBare}
 use Rattle.steps_allowed.specs.Free.{IsFree, Free, FreeDeclarator}
 use Rattle.steps_allowed.specs.SilentStatement.{SilentStatement}
@@ -37,10 +32,12 @@ use Rattle.steps_allowed.specs.UnusedFunction.{a_function}
 use Rattle.steps_allowed.specs.UnusedDeclarator.{a_declarator, SilentDeclarator}
 use Rattle.steps_allowed.specs.KnownConditional.{KnownConditional, consequent_is_taken, alternate_is_taken}
 use Rattle.steps_allowed.specs.KnownSide.{KnownSide, right_side_counts, left_side_decides}
-use Rattle.steps_allowed.specs.UnusedOperation.{acts, is_needed, index_if, operand_needed, side_needed, left_needed, condition_needed, needed_at, UnusedOperation, one_operand_acts}
+use Rattle.steps_allowed.specs.UnusedOperation.{UnusedOperation, one_operand_acts}
+use Rattle.steps_allowed.specs.UnusedList.{UnusedList, acting_parts_stay}
 use Rattle.steps_owed.proofs.ExposedBare.{bare_inside, bare_below, bare_exposed}
 use Rattle.steps_owed.proofs.Focus.{follows_there}
-use Rattle.headline.specs.Clean.{IsDead, an_empty_statement, a_silent_statement, an_unused_function, an_unused_declarator, a_known_conditional, a_known_side, an_unused_operation, Clean}
+use Rattle.headline.specs.Clean.{IsDead, an_empty_statement, a_silent_statement, an_unused_function, an_unused_declarator, a_known_conditional, a_known_side, an_unused_operation, an_unused_list, Clean}
+use Rattle.headline.proofs.RenotedUnused.{stands_as, needed_as, child_as, list_as}
 
 -- ---- sites without ids and spans
 
@@ -450,114 +447,6 @@ before_two f v m i j k b l c e =
       same_second = q.same_below;
     }
 
--- ---- what may stand bare
-
-chain_bare : (u : Use) (t : Forest) → chain_matters u (bare t) ≡ chain_matters u t
-chain_bare u (node (member_expression key optional) n below rest) = refl
-chain_bare u (node k n below rest) = refl
-chain_bare u (absent rest) = refl
-chain_bare u nothing = refl
-
-matters_bare : (u : Use) (w : Bool) (k : Kind) (t : Forest) → matters u w k (bare t) ≡ matters u w k t
-matters_bare u w (reference_name x) t = refl
-matters_bare u w (member_expression key optional) t = refl
-matters_bare u w chain_expression t = chain_bare u t
-matters_bare u w parenthesized_expression (node k n below rest) = matters_bare u w k below
-matters_bare u w parenthesized_expression (absent rest) = refl
-matters_bare u w parenthesized_expression nothing = refl
-matters_bare u w k t = refl
-
-names_taken_bare : (k : Kind) (t : Forest) → may_take_name k (bare t) ≡ may_take_name k t
-names_taken_bare (function how pure) t = refl
-names_taken_bare (class how) t = refl
-names_taken_bare parenthesized_expression (node k n below rest) = names_taken_bare k below
-names_taken_bare parenthesized_expression (absent rest) = refl
-names_taken_bare parenthesized_expression nothing = refl
-names_taken_bare k t = refl
-
-stands_bare_bare : (u : Use) (w : Bool) (k : Kind) (t : Forest) → stands_bare u w k (bare t) ≡ stands_bare u w k t
-stands_bare_bare u w k t = ap₂ (λ m n. not (m || n)) (matters_bare u w k t) (names_taken_bare k t)
-
-stands_as : (u : Use) (w : Bool) (k : Kind) (f g : Forest) → bare f ≡ bare g → stands_bare u w k f ≡ stands_bare u w k g
-stands_as u w k f g e = unseen (stands_bare u w k) (stands_bare_bare u w k) f g e
-
--- ---- the operand that is needed
-
--- no name is known, so no id plays a part
-effects_bare : (t : Forest) → may_have_effects [] true (bare t) ≡ may_have_effects [] true t
-effects_bare nothing = refl
-effects_bare (absent rest) = effects_bare rest
-effects_bare (node k n below rest) = ap₂ (λ x y. has_effect [] true k n x || y) (effects_bare below) (effects_bare rest)
-
-acts_bare : (k : Kind) (n : Note) (t : Forest) → acts k nowhere (bare t) ≡ acts k n t
-acts_bare k n t = effects_bare (node k n t nothing)
-
-is_needed_bare : (u : Use) (k : Kind) (n : Note) (t : Forest) → is_needed u k nowhere (bare t) ≡ is_needed u k n t
-is_needed_bare u k n t = ap₂ (λ x y. x && y) (acts_bare k n t) (stands_bare_bare u false k t)
-
-operand_bare : (o : UnaryOperator) (t : Forest) → operand_needed o (bare t) ≡ operand_needed o t
-operand_bare o (node k n a nothing) = ap (λ x. index_if (is_total o && x) 0) (is_needed_bare (operand_of o) k n a)
-operand_bare o (node k n a (node l m b rest)) = refl
-operand_bare o (node k n a (absent rest)) = refl
-operand_bare o (absent rest) = refl
-operand_bare o nothing = refl
-
-side_bare : (o : BinaryOperator) (t : Forest) → side_needed o (bare t) ≡ side_needed o t
-side_bare o (node k n a (node l m b nothing)) =
-    ap₂ (λ x y. if x then y else index_if (compares o && is_needed as_value k nowhere (bare a)) 0) (acts_bare l m b)
-    (ap₂ (λ x y. index_if (compares o && (not x && y)) 1) (acts_bare k n a) (stands_bare_bare as_value false l b))
-    ∙ ap (λ x. if acts l m b then index_if (compares o && (not (acts k n a) && stands_bare as_value false l b)) 1 else index_if (compares o && x) 0) (is_needed_bare as_value k n a)
-side_bare o (node k n a (node l m b (node j i c rest))) = refl
-side_bare o (node k n a (node l m b (absent rest))) = refl
-side_bare o (node k n a (absent rest)) = refl
-side_bare o (node k n a nothing) = refl
-side_bare o (absent rest) = refl
-side_bare o nothing = refl
-
-left_bare : (t : Forest) → left_needed (bare t) ≡ left_needed t
-left_bare (node k n a (node l m b nothing)) = ap₂ (λ x y. index_if (not x && y) 0) (acts_bare l m b) (is_needed_bare as_value k n a)
-left_bare (node k n a (node l m b (node j i c rest))) = refl
-left_bare (node k n a (node l m b (absent rest))) = refl
-left_bare (node k n a (absent rest)) = refl
-left_bare (node k n a nothing) = refl
-left_bare (absent rest) = refl
-left_bare nothing = refl
-
-condition_bare : (t : Forest) → condition_needed (bare t) ≡ condition_needed t
-condition_bare (node k n a (node l m b (node j i c nothing))) = ap₂ (λ x y. index_if (not x && y) 0) (ap₂ (λ x y. x || y) (acts_bare l m b) (acts_bare j i c)) (is_needed_bare as_value k n a)
-condition_bare (node k n a (node l m b (node j i c (node h g d rest)))) = refl
-condition_bare (node k n a (node l m b (node j i c (absent rest)))) = refl
-condition_bare (node k n a (node l m b (absent rest))) = refl
-condition_bare (node k n a (node l m b nothing)) = refl
-condition_bare (node k n a (absent rest)) = refl
-condition_bare (node k n a nothing) = refl
-condition_bare (absent rest) = refl
-condition_bare nothing = refl
-
-needed_bare : (k : Kind) (t : Forest) → needed_at k (bare t) ≡ needed_at k t
-needed_bare (unary_expression o) t = operand_bare o t
-needed_bare (binary_expression o) t = side_bare o t
-needed_bare (logical_expression o) t = left_bare t
-needed_bare conditional_expression t = condition_bare t
-needed_bare k t = refl
-
-needed_as : (k : Kind) (f g : Forest) → bare f ≡ bare g → needed_at k f ≡ needed_at k g
-needed_as k f g e = unseen (needed_at k) (needed_bare k) f g e
-
-child_bare : (i : ℕ) (t : Forest) → is_some (child_at i (bare t)) ≡ is_some (child_at i t)
-child_bare i nothing = refl
-child_bare zero (absent rest) = refl
-child_bare zero (node k n below rest) = refl
-child_bare (suc i) (absent rest) = child_bare i rest
-child_bare (suc i) (node k n below rest) = child_bare i rest
-
-some_child : (x : Option Tree) → is_some x ≡ true → (y : Tree) × (x ≡ Some y)
-some_child (Some y) h = (y, refl)
-some_child None h = absurd (true≢false (sym h))
-
-child_as : (i : ℕ) (f g : Forest) (y : Tree) → bare f ≡ bare g → child_at i g ≡ Some y → (z : Tree) × (child_at i f ≡ Some z)
-child_as i f g y e h = some_child (child_at i f) (unseen (λ t. is_some (child_at i t)) (child_bare i) f g e ∙ ap is_some h)
-
 -- ---- dead code
 
 module _ (t u : Forest) (e : bare t ≡ bare u) (clean : Clean t) where
@@ -669,6 +558,13 @@ module _ (t u : Forest) (e : bare t ≡ bare u) (clean : Clean t) where
       clean.nothing_is_dead o.around (Some now) o.is
       (an_unused_operation o.around now z.0 (one_operand_acts i now z.0 (o.unused (λ j. false) 0 ∙ unused) (needed_as x.kind o.below x.below o.same ∙ needed) z.1))
 
+  no_list : (a : Around) (x y : Tree) → u ≡ plug a (Some x) → UnusedList a x y → ⊥
+  no_list a _ _ is (acting_parts_stay n m x y unused becomes) =
+      let o = other_place a x.kind x.note x.below is in
+      let now : Tree = record { kind = x.kind; note = o.note; below = o.below } in
+      let z = list_as n m x.kind o.below x.below y o.same becomes in
+      clean.nothing_is_dead o.around (Some now) o.is (an_unused_list o.around now z.0 (acting_parts_stay n m now z.0 (o.unused (λ j. false) 0 ∙ unused) z.1))
+
   none_dead : (a : Around) (x : Option Tree) → u ≡ plug a x → IsDead u a x → ⊥
   none_dead a x is (an_empty_statement b n item) = no_empty b n is item
   none_dead a x is (a_silent_statement b n below silent) = no_silent b n below is silent
@@ -677,6 +573,7 @@ module _ (t u : Forest) (e : bare t ≡ bare u) (clean : Clean t) where
   none_dead a x is (a_known_conditional b y z known) = no_conditional b y z is known
   none_dead a x is (a_known_side b y z known) = no_side b y z is known
   none_dead a x is (an_unused_operation b y z unused) = no_operation b y z is unused
+  none_dead a x is (an_unused_list b y z unused) = no_list b y z is unused
 
 pub clean_as : (t u : Forest) → bare t ≡ bare u → Clean t → Clean u
 clean_as t u e clean = record { nothing_is_dead = none_dead t u e clean }

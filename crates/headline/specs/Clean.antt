@@ -15,6 +15,8 @@ use Rattle.steps_allowed.specs.KnownConditional.{KnownConditional}
 use Rattle.steps_allowed.specs.KnownSide.{KnownSide}
 -- what nobody takes the value of, and the operand that acts
 use Rattle.steps_allowed.specs.UnusedOperation.{UnusedOperation}
+-- and an array or a sequence, and its parts that act
+use Rattle.steps_allowed.specs.UnusedList.{UnusedList}
 -- whose names only the tree's references may use
 use Rattle.steps_allowed.specs.Exposure.{IsOwnFunction, IsOwnDeclarator}
 
@@ -37,6 +39,9 @@ pub data IsDead (t : Forest) : Around → Option Tree → Type 0 where
   a_known_side : (a : Around) (x y : Tree) → KnownSide a x y → IsDead t a (Some x)
   -- an operation of which nobody takes the value, where one operand alone acts: the rest of it does nothing
   an_unused_operation : (a : Around) (x y : Tree) → UnusedOperation a x y → IsDead t a (Some x)
+  -- an array of which nobody takes the value and in which nothing is spread, or such a sequence of which not all parts act: what
+  -- doesn't act of it does nothing
+  an_unused_list : (a : Around) (x y : Tree) → UnusedList a x y → IsDead t a (Some x)
 
 -- No part of the program is dead code.
 pub record Clean (t : Forest) : Type 0 where

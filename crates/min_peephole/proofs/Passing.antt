@@ -75,7 +75,7 @@ module _ (names : Names) (c : Seen) (t : Forest) (b : BetweenPasses names c t) w
   pub exact : Exact c.scoping t
   exact = pruned_exact t b.holds.fits unmarked c.scoping c.scoping (none_pruned c.scoping) (exact_by c.scoping (has c.marked) unmarked t (none_has c b.marks) b.holds.lists)
 
-  -- where nothing goes, and no expression comes to a part
+  -- where nothing goes, and no expression comes to its parts
   pub no_dead_code : IsQuiet (facts_of names c) t → IsSettled t → Clean t
   no_dead_code quiet settled =
       let k : Knows (facts_of names c) unmarked t = record { fits = b.holds.fits; exact = exact_by c.scoping (has c.marked) unmarked t (none_has c b.marks) b.holds.lists; flags = b.flags; outermost = b.outermost; bound = b.bound; exported = b.exported; script = b.source } in

@@ -20,9 +20,10 @@ use Rattle.rules_dead_code.proofs.Walked.{quiet_nodes}
 use Rattle.rules_expressions.specs.Uses.{spot_of}
 use Rattle.rules_expressions.specs.Known.{conditional_becomes, logical_becomes}
 use Rattle.rules_expressions.specs.Unused.{unused_becomes}
+use Rattle.rules_expressions.specs.Lists.{unused_list_becomes}
 use Rattle.rules_expressions.specs.Settled.{IsSettledAt}
 use Rattle.rules_expressions.proofs.Walked.{settled_nodes}
-use Rattle.min_peephole.specs.Quiet.{first_facts, is_row, is_settled, stays, all_stay, is_quiet}
+use Rattle.min_peephole.specs.Quiet.{first_facts, is_row, decides_none, wastes_none, stays, all_stay, is_quiet}
 use Rattle.rules_clean.proofs.Cleaned.{clean}
 
 list_stays : (k : Kind) (dead : Bool) → not (is_row k && dead) ≡ true → k ≡ statements → dead ≡ false
@@ -37,45 +38,44 @@ none_there : (o : Option Tree) → not (is_some o) ≡ true → o ≡ None
 none_there None h = refl
 none_there (Some y) h = absurd (true≢false (sym h))
 
-module _ (f : Facts) (p : Place) (k : Kind) (n : Note) (inner : Forest) (h : stays f p k inner ≡ true) where
+module _ (f : Facts) (p : Place) (n : Note) (k : Kind) (inner : Forest) (h : stays f p n k inner ≡ true) where
   abbrev one_goes : Bool
   one_goes = is_row k && has_dead f (where_of p) inner
 
   abbrev is_silent : Bool
   is_silent = is_silent_statement f (where_of p) k inner
 
-  at_node : (not one_goes ≡ true) × (not is_silent && is_settled p k inner ≡ true)
-  at_node = and_parts (not one_goes) (not is_silent && is_settled p k inner) h
+  abbrev is_settled : Bool
+  is_settled = decides_none p k inner && wastes_none p n k inner
 
-  abbrev none_known : Bool
-  none_known = not (is_some (logical_becomes (spot_of p) k inner))
+  at_node : (not one_goes ≡ true) × (not is_silent && is_settled ≡ true)
+  at_node = and_parts (not one_goes) (not is_silent && is_settled) h
 
-  abbrev none_unused : Bool
-  none_unused = not (is_some (unused_becomes (spot_of p) k inner))
-
-  at_expression : (not (is_some (conditional_becomes (spot_of p) k inner)) ≡ true) × (none_known && none_unused ≡ true)
-  at_expression = and_parts (not (is_some (conditional_becomes (spot_of p) k inner))) (none_known && none_unused) (and_parts (not is_silent) (is_settled p k inner) at_node.1).1
+  at_expression : (decides_none p k inner ≡ true) × (wastes_none p n k inner ≡ true)
+  at_expression = and_parts (decides_none p k inner) (wastes_none p n k inner) (and_parts (not is_silent) is_settled at_node.1).1
 
   quiet_here : IsQuietAt f p (record { kind = k; note = n; below = inner })
-  quiet_here = record { list = list_stays k (has_dead f (where_of p) inner) at_node.0; statement = none_empty is_silent _ (and_parts (not is_silent) (is_settled p k inner) at_node.1).0 }
+  quiet_here = record { list = list_stays k (has_dead f (where_of p) inner) at_node.0; statement = none_empty is_silent _ (and_parts (not is_silent) is_settled at_node.1).0 }
 
   settled_here : IsSettledAt p (record { kind = k; note = n; below = inner })
   settled_here =
-      let others = and_parts none_known none_unused at_expression.1 in
+      let decides = and_parts (not (is_some (conditional_becomes (spot_of p) k inner))) (not (is_some (logical_becomes (spot_of p) k inner))) at_expression.0 in
+      let wastes = and_parts (not (is_some (unused_becomes (spot_of p) k inner))) (not (is_some (unused_list_becomes (spot_of p) n k inner))) at_expression.1 in
       record {
-        conditional = none_there (conditional_becomes (spot_of p) k inner) at_expression.0;
-        logical = none_there (logical_becomes (spot_of p) k inner) others.0;
-        unused = none_there (unused_becomes (spot_of p) k inner) others.1;
+        conditional = none_there (conditional_becomes (spot_of p) k inner) decides.0;
+        logical = none_there (logical_becomes (spot_of p) k inner) decides.1;
+        unused = none_there (unused_becomes (spot_of p) k inner) wastes.0;
+        list = none_there (unused_list_becomes (spot_of p) n k inner) wastes.1;
       }
 
-each_stays : (Q : Place → Tree → Type 0) (f : Facts) → ((p : Place) (k : Kind) (n : Note) (inner : Forest) → stays f p k inner ≡ true → Q p (record { kind = k; note = n; below = inner })) → (s : Spot) (t : Forest) → all_stay f s t ≡ true → EachNode Q s t
+each_stays : (Q : Place → Tree → Type 0) (f : Facts) → ((p : Place) (n : Note) (k : Kind) (inner : Forest) → stays f p n k inner ≡ true → Q p (record { kind = k; note = n; below = inner })) → (s : Spot) (t : Forest) → all_stay f s t ≡ true → EachNode Q s t
 each_stays Q f here s nothing h = tt
 each_stays Q f here s (absent rest) h = each_stays Q f here (next_of s false) rest h
 each_stays Q f here s (node k n inner rest) h =
     let inside = below (place_of s) (above_of k n) in
-    let a = and_parts (stays f (place_of s) k inner) (all_stay f inside inner && all_stay f (next_of s true) rest) h in
+    let a = and_parts (stays f (place_of s) n k inner) (all_stay f inside inner && all_stay f (next_of s true) rest) h in
     let b = and_parts (all_stay f inside inner) (all_stay f (next_of s true) rest) a.1 in
-    (here (place_of s) k n inner a.0, each_stays Q f here inside inner b.0, each_stays Q f here (next_of s true) rest b.1)
+    (here (place_of s) n k inner a.0, each_stays Q f here inside inner b.0, each_stays Q f here (next_of s true) rest b.1)
 
 pub quiet_clean : (t : Forest) → Fits root t → is_quiet t ≡ true → Clean t
 quiet_clean t fits quiet =

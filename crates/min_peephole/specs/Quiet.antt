@@ -2,7 +2,7 @@
 use Rattle.std.specs.Prelude.{Bool, true, false, not, ◌&&◌, is_some}
 use Rattle.js_syntax.specs.declared.node_kind.NodeKind.{NodeKind as Kind}
 use Rattle.js_syntax.specs.declared.node_kind.NodeKind.TheVariants.{Statements as statements}
-use Rattle.js_syntax.specs.Node.{Forest, nothing, node, absent}
+use Rattle.js_syntax.specs.Node.{Forest, Note, nothing, node, absent}
 use Rattle.js_scoping.specs.Build.{table_of, numbered}
 use Rattle.steps_allowed.specs.Exposure.{is_script}
 use Rattle.min_context.specs.Above.{above_of}
@@ -13,6 +13,7 @@ use Rattle.rules_dead_code.specs.Rules.{Facts, where_of, is_silent_statement, ha
 use Rattle.rules_expressions.specs.Uses.{spot_of}
 use Rattle.rules_expressions.specs.Known.{conditional_becomes, logical_becomes}
 use Rattle.rules_expressions.specs.Unused.{unused_becomes}
+use Rattle.rules_expressions.specs.Lists.{unused_list_becomes}
 
 -- what the first pass knows
 abbrev pub first_facts : Forest → Facts
@@ -22,19 +23,23 @@ abbrev pub is_row : Kind → Bool
 is_row statements = true
 is_row k = false
 
--- an expression at a place comes to no part
-abbrev pub is_settled : Place → Kind → (inner : Forest) → Bool
-is_settled p k inner = not (is_some (conditional_becomes (spot_of p) k inner)) && (not (is_some (logical_becomes (spot_of p) k inner)) && not (is_some (unused_becomes (spot_of p) k inner)))
+-- an expression at a place doesn't decide by a literal
+abbrev pub decides_none : Place → Kind → (inner : Forest) → Bool
+decides_none p k inner = not (is_some (conditional_becomes (spot_of p) k inner)) && not (is_some (logical_becomes (spot_of p) k inner))
 
--- a node at a place: no item of a list goes, no statement becomes empty, and no expression comes to a part
-abbrev pub stays : Facts → Place → Kind → (inner : Forest) → Bool
-stays f p k inner = not (is_row k && has_dead f (where_of p) inner) && (not (is_silent_statement f (where_of p) k inner) && is_settled p k inner)
+-- and, where nobody takes its value, is no operation and no list that comes to what of it acts
+abbrev pub wastes_none : Place → Note → Kind → (inner : Forest) → Bool
+wastes_none p n k inner = not (is_some (unused_becomes (spot_of p) k inner)) && not (is_some (unused_list_becomes (spot_of p) n k inner))
+
+-- a node at a place: no item of a list goes, no statement becomes empty, and no expression comes to its parts
+abbrev pub stays : Facts → Place → Note → Kind → (inner : Forest) → Bool
+stays f p n k inner = not (is_row k && has_dead f (where_of p) inner) && (not (is_silent_statement f (where_of p) k inner) && (decides_none p k inner && wastes_none p n k inner))
 
 -- each node of a row, by its place
 abbrev pub all_stay : Facts → Spot → Forest → Bool
 all_stay f s nothing = true
 all_stay f s (absent rest) = all_stay f (next_of s false) rest
-all_stay f s (node k n inner rest) = stays f (place_of s) k inner && (all_stay f (below (place_of s) (above_of k n)) inner && all_stay f (next_of s true) rest)
+all_stay f s (node k n inner rest) = stays f (place_of s) n k inner && (all_stay f (below (place_of s) (above_of k n)) inner && all_stay f (next_of s true) rest)
 
 abbrev pub is_quiet : Forest → Bool
 is_quiet t = all_stay (first_facts t) top (numbered t)

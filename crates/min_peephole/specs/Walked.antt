@@ -22,7 +22,7 @@ pub record Walked (names : Names) (c : Seen) (t : Forest) (later : Names) (d : S
   pub exported_only : ExportedOnly later u
   pub place : d.place ≡ outside
   pub lighter : total weight u + busy d ≤ total weight t
-  -- where it asks for no other pass, nothing changed, nothing goes and no expression comes to a part
+  -- where it asks for no other pass, nothing changed, nothing goes and no expression comes to its parts
   pub names_same : d.requested ≡ false → later ≡ names
   pub context_same : d.requested ≡ false → d ≡ c
   pub quiet : d.requested ≡ false → IsQuiet (facts_of later d) u

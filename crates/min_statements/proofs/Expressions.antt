@@ -1,28 +1,32 @@
 -- What the hook of expressions does, and that it may.
-use Rattle.std.proofs.Common.{◌≡◌, ◌∙◌, ◌⊎◌, inl, inr, Bool, true, false, not, ◌||◌, Option, Some, None, is_some, refl, sym, ap, ap₂, subst, arith, true≢false}
+use Rattle.std.proofs.Common.{◌≡◌, ◌∙◌, ◌≤◌, ◌⊎◌, inl, inr, Bool, true, false, not, ◌||◌, Option, Some, None, is_some, if◌then◌else◌, refl, sym, ap, ap₂, subst, arith, true≢false}
 use Rattle.js_syntax.specs.declared.node_kind.NodeKind.{NodeKind as Kind}
-use Rattle.js_syntax.specs.declared.node_kind.NodeKind.TheVariants.{MemberExpression as member_expression, ChainExpression as chain_expression, ParenthesizedExpression as parenthesized_expression}
+use Rattle.js_syntax.specs.declared.node_kind.NodeKind.TheVariants.{ArrayExpression as array_expression, Elements as elements, MemberExpression as member_expression, ChainExpression as chain_expression, ParenthesizedExpression as parenthesized_expression, SequenceExpression as sequence_expression, Expressions as expressions}
 use Rattle.js_syntax.specs.declared.operator.UnaryOperator.TheVariants as unary
-use Rattle.js_syntax.specs.Node.{Forest, Note, Tree, nothing, node, absent}
+use Rattle.js_syntax.specs.Node.{Forest, Note, Tree, nothing, node, absent, forest_of}
 use Rattle.scope_laws.specs.Place as places
 use Rattle.scope_counts.specs.Edits.{Around}
 use Rattle.steps_allowed.specs.KnownConditional.{KnownConditional, consequent_is_taken, alternate_is_taken}
 use Rattle.steps_allowed.specs.KnownSide.{KnownSide, right_side_counts, left_side_decides}
-use Rattle.steps_allowed.specs.UnusedOperation.{UnusedOperation, one_operand_acts}
+use Rattle.steps_allowed.specs.UnusedOperation.{acts, UnusedOperation, one_operand_acts}
+use Rattle.steps_allowed.specs.UnusedList.{acting, all_act, has_spread, as_one, list_becomes, UnusedList, acting_parts_stay}
 use Rattle.steps_allowed.specs.Uses.{as_value, as_typed, use_at, matters, may_take_name, stands_bare}
 use Rattle.steps_owed.proofs.UnusedPlace.{unused_as_value}
 use Rattle.steps_owed.proofs.UnusedOperation.{Needed, the_operand, first_side, second_side, left_side, the_condition, needed_part}
-use Rattle.min_context.specs.Edited.{Edited}
+use Rattle.min_context.specs.Edited.{evals, Edited}
 use Rattle.min_context.specs.Place.{place_at}
 use Rattle.min_context.specs.Seen.{Seen}
 use Rattle.min_traverse.specs.Lawful.{Stays, Does, or_same, or_else}
 use Rattle.min_traverse.specs.Moves.{Holds, IsHere, NodeMoves}
 use Rattle.rules_dead_code.specs.Before.{before}
-use Rattle.rules_expressions.specs.Uses.{spot_of}
+use Rattle.rules_expressions.specs.Uses.{Spot, spot_of}
 use Rattle.rules_expressions.specs.Known.{conditional_becomes, logical_becomes, at_expression_end}
 use Rattle.rules_expressions.specs.Unused.{unused_becomes, UnusedOperations, last, one_more}
+use Rattle.rules_expressions.specs.Lists.{unused_list_becomes}
+use Rattle.rules_expressions.proofs.Becoming.{no_answer, same_answer, chosen, chosen_if}
 use Rattle.rules_expressions.proofs.Editing.{conditional_edits_there, logical_edits_there}
 use Rattle.rules_expressions.proofs.Unused.{unused_edits_there}
+use Rattle.rules_expressions.proofs.Lists.{list_edits_there}
 use Rattle.rules_expressions.proofs.Folding.{expressions_fold}
 use Rattle.min_statements.specs.Own.{AnyEdit, Own, Found}
 use Rattle.min_statements.specs.Walker.{Names}
@@ -81,24 +85,74 @@ operations_call : {a : places.Around} {x y : Tree} → UnusedOperations a x y �
 operations_call {a = a} {x = x} {y = y} (last one) = operation_calls a x y one
 operations_call {a = a} {x = x} (one_more y one more) = then_calls (operation_calls a x y one) (operations_call more)
 
+-- ---- what becomes its parts that act
+
+acting_calls : (parts : Forest) → evals (acting parts) ≤ evals parts
+acting_calls nothing = Prim.omega arith
+acting_calls (absent rest) = acting_calls rest
+acting_calls (node k n b rest) = if_acts (acts k n b) (acting_calls rest)
+  where
+    if_acts : (does : Bool) → evals (acting rest) ≤ evals rest → evals (if does then node k n b (acting rest) else acting rest) ≤ evals (node k n b rest)
+    if_acts true h = Prim.omega (arith, h)
+    if_acts false h = Prim.omega (arith, h)
+
+-- what is left of these parts
+record LeavesCalls (parts : Forest) (y : Tree) : Type 0 where
+  fewer : evals (forest_of y) ≤ evals parts
+  bare : stands_bare as_value false y.kind y.below ≡ true
+
+several_call : (n m : Note) (parts : Forest) (y : Tree) → (let made : Tree = record { kind = sequence_expression; note = n; below = node expressions m parts nothing } in Some made ≡ Some y) → LeavesCalls parts y
+several_call n m parts y e = subst (LeavesCalls parts) (same_answer e) (record { fewer = Prim.omega arith; bare = refl })
+
+one_calls : (n m : Note) (parts : Forest) (y : Tree) → as_one n m parts ≡ Some y → LeavesCalls parts y
+one_calls n m nothing y e = no_answer e
+one_calls n m (absent rest) y e = several_call n m (absent rest) y e
+one_calls n m (node k i b nothing) y e =
+    elim (chosen_if (stands_bare as_value false k b) (record { kind = k; note = i; below = b }) y e) [ chosen may is ↦ subst (LeavesCalls (node k i b nothing)) is (record { fewer = Prim.omega arith; bare = may }) ]
+one_calls n m (node k i b (node l j c rest)) y e = several_call n m (node k i b (node l j c rest)) y e
+one_calls n m (node k i b (absent rest)) y e = several_call n m (node k i b (absent rest)) y e
+
+unless : (b : Bool) (o : Option Tree) (y : Tree) → (if b then None else o) ≡ Some y → o ≡ Some y
+unless true o y e = no_answer e
+unless false o y e = e
+
+module _ (a : places.Around) (i : Note) (used : use_at a ≡ as_value) where
+  parts_call : (n m : Note) (k : Kind) (below : Forest) (y : Tree) → list_becomes n m k below ≡ Some y → CallsStay a (record { kind = k; note = i; below = below }) y
+  parts_call n m array_expression (node elements j parts nothing) y e =
+      let left = one_calls n m (acting parts) y (unless (has_spread parts) (as_one n m (acting parts)) y e) in
+      record { fewer = Prim.omega (arith, left.fewer, acting_calls parts); old = refl; in_with = false; bare = stands_there a i used y.kind y.below left.bare }
+  parts_call n m sequence_expression (node expressions j parts nothing) y e =
+      let left = one_calls n m (acting parts) y (unless (all_act parts) (as_one n m (acting parts)) y e) in
+      record { fewer = Prim.omega (arith, left.fewer, acting_calls parts); old = refl; in_with = false; bare = stands_there a i used y.kind y.below left.bare }
+  parts_call n m k below y e = no_answer e
+
+list_calls : (a : places.Around) (x y : Tree) → UnusedList a x y → CallsStay a x y
+list_calls a _ _ (acting_parts_stay n m x y unused becomes) = parts_call a x.note (unused_as_value a unused) n m x.kind x.below y becomes
+
 -- ---- what the rules answer
 
 one_of : (o p : Option Tree) (y : Tree) → or_else o p ≡ Some y → (o ≡ Some y) ⊎ (p ≡ Some y)
 one_of None p y e = inr e
 one_of (Some x) p y e = inl e
 
+abbrev answer_at : Spot → Tree → Option Tree
+answer_at s x = or_else (or_else (or_else (conditional_becomes s x.kind x.below) (logical_becomes s x.kind x.below)) (unused_becomes s x.kind x.below)) (unused_list_becomes s x.note x.kind x.below)
+
 calls_stay : (c : Seen) (a : Around) (x y : Tree) (r : Forest) → IsHere c a → at_expression_end c x ≡ Some y → CallsStay (before a r) x y
 calls_stay c a x y r here found =
     let s = spot_of (place_at a) in
     let known = or_else (conditional_becomes s x.kind x.below) (logical_becomes s x.kind x.below) in
-    let there : or_else known (unused_becomes s x.kind x.below) ≡ Some y =
-    subst (λ q. or_else (or_else (conditional_becomes (spot_of q) x.kind x.below) (logical_becomes (spot_of q) x.kind x.below)) (unused_becomes (spot_of q) x.kind x.below) ≡ Some y) (sym here) found in
-    elim (one_of known (unused_becomes s x.kind x.below) y there) [
-      | inl e ↦ elim (one_of (conditional_becomes s x.kind x.below) (logical_becomes s x.kind x.below) y e) [
-        | inl d ↦ conditional_calls (before a r) x y (conditional_edits_there a x y r d)
-        | inr d ↦ side_calls (before a r) x y (logical_edits_there a x y r d)
+    let none_taken = or_else known (unused_becomes s x.kind x.below) in
+    let there : or_else none_taken (unused_list_becomes s x.note x.kind x.below) ≡ Some y = subst (λ q. answer_at (spot_of q) x ≡ Some y) (sym here) found in
+    elim (one_of none_taken (unused_list_becomes s x.note x.kind x.below) y there) [
+      | inl e ↦ elim (one_of known (unused_becomes s x.kind x.below) y e) [
+        | inl d ↦ elim (one_of (conditional_becomes s x.kind x.below) (logical_becomes s x.kind x.below) y d) [
+          | inl conditional ↦ conditional_calls (before a r) x y (conditional_edits_there a x y r conditional)
+          | inr logical ↦ side_calls (before a r) x y (logical_edits_there a x y r logical)
+        ]
+        | inr operation ↦ operations_call (unused_edits_there a x y r operation)
       ]
-      | inr e ↦ operations_call (unused_edits_there a x y r e)
+      | inr parts ↦ list_calls (before a r) x y (list_edits_there a x y r parts)
     ]
 
 module _ (stays : Stays AnyEdit) (names : Names) where

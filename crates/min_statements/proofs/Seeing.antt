@@ -1,11 +1,11 @@
--- A walk that asked for no other pass saw each node, and nothing of it goes or comes to a part.
+-- A walk that asked for no other pass saw each node, and nothing of it goes or comes to its parts.
 use Rattle.std.proofs.Common.{◌≡◌, ◌∙◌, Bool, false, true, if◌then◌else◌, Option, Some, None, is_some, refl, sym, ap, subst, true≢false}
 use Rattle.js_syntax.specs.Class.{root}
 use Rattle.js_syntax.specs.declared.node_kind.NodeKind.{NodeKind as Kind}
-use Rattle.js_syntax.specs.declared.node_kind.NodeKind.TheVariants.{ExpressionStatement as expression_statement, EmptyStatement as empty_statement, UnaryExpression as unary_expression, BinaryExpression as binary_expression, ConditionalExpression as conditional_expression, LogicalExpression as logical_expression}
+use Rattle.js_syntax.specs.declared.node_kind.NodeKind.TheVariants.{ExpressionStatement as expression_statement, EmptyStatement as empty_statement, ArrayExpression as array_expression, UnaryExpression as unary_expression, BinaryExpression as binary_expression, SequenceExpression as sequence_expression, ConditionalExpression as conditional_expression, LogicalExpression as logical_expression}
 use Rattle.json_shape.specs.Shape.{Fits}
 use Rattle.min_pass.specs.Pass.{unmarked}
-use Rattle.js_syntax.specs.Node.{Forest, Tree, nothing, node, absent, forest_of}
+use Rattle.js_syntax.specs.Node.{Forest, Tree, Note, nothing, node, absent, forest_of}
 use Rattle.min_context.specs.Above.{above_of}
 use Rattle.min_context.specs.Place.{Place, Spot, place_of, next_of, below, outside, top}
 use Rattle.min_context.specs.Seen.{Seen}
@@ -25,6 +25,7 @@ use Rattle.min_traverse.specs.Lawful.{or_else}
 use Rattle.rules_expressions.specs.Uses.{Spot as Asked, spot_of}
 use Rattle.rules_expressions.specs.Known.{conditional_becomes, logical_becomes, at_expression_end}
 use Rattle.rules_expressions.specs.Unused.{unused_becomes}
+use Rattle.rules_expressions.specs.Lists.{unused_list_becomes}
 use Rattle.rules_expressions.specs.Settled.{IsSettledAt, IsSettled}
 use Rattle.rules_expressions.proofs.Walked.{settled_nodes}
 use Rattle.slots_fit.specs.Had.{is_always_expression, HasSlots}
@@ -33,12 +34,12 @@ use Rattle.min_statements.specs.Walker.{Names, facts_of}
 use Rattle.min_statements.proofs.Acting.{none_left}
 
 -- what becomes of an expression, by what is asked of its place
-abbrev becomes_so : Asked → Kind → (parts : Forest) → Option Tree
-becomes_so s k b = or_else (or_else (conditional_becomes s k b) (logical_becomes s k b)) (unused_becomes s k b)
+abbrev becomes_so : Asked → Note → Kind → (parts : Forest) → Option Tree
+becomes_so s n k b = or_else (or_else (or_else (conditional_becomes s k b) (logical_becomes s k b)) (unused_becomes s k b)) (unused_list_becomes s n k b)
 
 -- and at a place
 abbrev becomes : Place → Tree → Option Tree
-becomes p x = becomes_so (spot_of p) x.kind x.below
+becomes p x = becomes_so (spot_of p) x.note x.kind x.below
 
 -- of a list of statements, of a statement and of an expression that has its own slot
 record IsAlive (f : Facts) (p : Place) (x : Tree) : Type 0 where
@@ -202,26 +203,36 @@ none_either_way : (b : Bool) → (let none : Option Tree = None in if b then non
 none_either_way true = refl
 none_either_way false = refl
 
-settled_kind : (s : Asked) (k : Kind) (b : Forest) → (is_always_expression k ≡ true → is_some (becomes_so s k b) ≡ false)
-    → (conditional_becomes s k b ≡ None) × (logical_becomes s k b ≡ None) × (unused_becomes s k b ≡ None)
-settled_kind s conditional_expression b h =
+settled_kind : (s : Asked) (n : Note) (k : Kind) (b : Forest) → (is_always_expression k ≡ true → is_some (becomes_so s n k b) ≡ false)
+    → (conditional_becomes s k b ≡ None) × (logical_becomes s k b ≡ None) × (unused_becomes s k b ≡ None) × (unused_list_becomes s n k b ≡ None)
+settled_kind s n conditional_expression b h =
     let c = conditional_becomes s conditional_expression b in
     let u = unused_becomes s conditional_expression b in
-    (first_none c None (ap is_some (first_none (or_else c None) u (h refl))), refl, second_none (or_else c None) u (h refl))
-settled_kind s (logical_expression o) b h =
-    let l = logical_becomes s (logical_expression o) b in
+    let l = unused_list_becomes s n conditional_expression b in
+    let e = ap is_some (first_none (or_else (or_else c None) u) l (h refl)) in
+    (first_none c None (ap is_some (first_none (or_else c None) u e)), refl, second_none (or_else c None) u e, none_either_way s.is_unused)
+settled_kind s n (logical_expression o) b h =
+    let c = logical_becomes s (logical_expression o) b in
     let u = unused_becomes s (logical_expression o) b in
-    (refl, first_none l u (h refl), second_none l u (h refl))
-settled_kind s (unary_expression o) b h = (refl, refl, second_none None (unused_becomes s (unary_expression o) b) (h refl))
-settled_kind s (binary_expression o) b h = (refl, refl, second_none None (unused_becomes s (binary_expression o) b) (h refl))
-settled_kind s k b h = (refl, refl, none_either_way s.is_unused)
+    let l = unused_list_becomes s n (logical_expression o) b in
+    let e = ap is_some (first_none (or_else c u) l (h refl)) in
+    (refl, first_none c u e, second_none c u e, none_either_way s.is_unused)
+settled_kind s n (unary_expression o) b h =
+    (refl, refl, first_none (unused_becomes s (unary_expression o) b) (unused_list_becomes s n (unary_expression o) b) (h refl), none_either_way s.is_unused)
+settled_kind s n (binary_expression o) b h =
+    (refl, refl, first_none (unused_becomes s (binary_expression o) b) (unused_list_becomes s n (binary_expression o) b) (h refl), none_either_way s.is_unused)
+settled_kind s n array_expression b h =
+    (refl, refl, none_either_way s.is_unused, second_none (unused_becomes s array_expression b) (unused_list_becomes s n array_expression b) (h refl))
+settled_kind s n sequence_expression b h =
+    (refl, refl, none_either_way s.is_unused, second_none (unused_becomes s sequence_expression b) (unused_list_becomes s n sequence_expression b) (h refl))
+settled_kind s n k b h = (refl, refl, none_either_way s.is_unused, none_either_way s.is_unused)
 
 settled_at : (f : Facts) (p : Place) (x : Tree) → IsAlive f p x → HasSlots p x → IsSettledAt p x
 settled_at f p x h slots =
-    let e = settled_kind (spot_of p) x.kind x.below (λ e. h.expression (slots.expression e)) in
-    record { conditional = e.0; logical = e.1; unused = e.2 }
+    let e = settled_kind (spot_of p) x.note x.kind x.below (λ e. h.expression (slots.expression e)) in
+    record { conditional = e.0; logical = e.1; unused = e.2; list = e.3 }
 
--- Nothing of a program goes by what is known that a walk found as it is, and no expression of it comes to a part.
+-- Nothing of a program goes by what is known that a walk found as it is, and no expression of it comes to its parts.
 pub none_goes : (s s' : Names) (k k' : Seen) (x y : Tree) → k.place ≡ outside → y ≡ x → Fits root (forest_of y) → Visits Visited is_written top (forest_of x) s k s' k' → IsQuiet (facts_of s' k') (forest_of y)
 none_goes s s' k k' x y at same fits v = quiet_nodes (facts_of s' k') (forest_of y) (each_both (quiet_at (facts_of s' k')) top (forest_of y) (alive s s' k k' x y at same v) (slots_had (forest_of y) fits))
 

@@ -9,7 +9,7 @@ ghost use Rattle.rules_dead_code.specs.Quiet.{Exactly, IsQuiet};
 ghost use Rattle.rules_expressions.specs.Settled.{IsSettled};
 
 /// Law: of a program without dead code the rules take nothing out, by whatever is known of it, and whichever ids are marked; and no
-/// expression of it comes to a part, whatever is known.
+/// expression of it comes to its parts, whatever is known.
 pub fn rules_take_dead_code_alone()
     ensures taken { (f : Facts) (marked : ℕ → Bool) (t : Forest) → Knows f marked t → Clean t → IsQuiet f t }
     ensures changed { (t : Forest) → Clean t → IsSettled t }

@@ -9,10 +9,10 @@ use Rattle.js_syntax.specs.declared.operator.BinaryOperator.TheVariants as binar
 use Rattle.js_syntax.specs.declared.operator.LogicalOperator.TheVariants as logical
 use Rattle.js_syntax.specs.declared.value.Key.TheVariants as key
 use Rattle.js_syntax.specs.declared.value.LiteralValue.{LiteralValue as Literal}
-use Rattle.js_syntax.specs.Node.{Forest, Tree, nothing, node, absent, nowhere, joined, below_of}
-use Rattle.js_syntax.specs.Table.{a_program, an_expression_statement, a_call_expression, a_conditional_expression, a_member_expression, a_reference_name, a_literal, a_binary_expression, a_binding_name, a_function_declaration, a_function_body, an_export_declaration, a_variable_declaration, a_variable_declarator}
+use Rattle.js_syntax.specs.Node.{Forest, Tree, Note, nothing, node, absent, nowhere, joined, below_of}
+use Rattle.js_syntax.specs.Table.{a_program, an_expression_statement, a_call_expression, a_conditional_expression, a_member_expression, a_reference_name, a_literal, a_binary_expression, a_sequence_expression, a_binding_name, a_function_declaration, a_function_body, an_export_declaration, a_variable_declaration, a_variable_declarator}
 use Rattle.form_rules.specs.Samples.{over, listed, no, reads, a_module, a_script, a, binds, one, does, declares, let_, function_a, block}
-use Rattle.json_shape.specs.Shape.{one as one_of, key_apart, list, these, Stand, Fits}
+use Rattle.json_shape.specs.Shape.{one as one_of, key_apart, list, these, all, Stand, Fits}
 use Rattle.scope_rules.specs.Context.{body_of}
 use Rattle.scope_rules.specs.Site.{BindingSite, ReferenceSite, sites_of, bindings_among, references_among}
 use Rattle.scope_rules.specs.Binding.{Binding, named_in, declared_by, binding_of}
@@ -23,7 +23,8 @@ use Rattle.steps_allowed.specs.Rows.{in_list, in_statement, statement, argument,
 use Rattle.steps_allowed.specs.KnownConditional.{consequent_is_taken, alternate_is_taken}
 use Rattle.steps_allowed.specs.KnownSide.{right_side_counts, left_side_decides}
 use Rattle.steps_allowed.specs.UnusedOperation.{needed_at, one_operand_acts}
-use Rattle.headline.specs.Clean.{IsDead, an_empty_statement, a_silent_statement, an_unused_function, an_unused_declarator, a_known_conditional, a_known_side, an_unused_operation, Clean}
+use Rattle.steps_allowed.specs.UnusedList.{list_becomes, acting_parts_stay}
+use Rattle.headline.specs.Clean.{IsDead, an_empty_statement, a_silent_statement, an_unused_function, an_unused_declarator, a_known_conditional, a_known_side, an_unused_operation, an_unused_list, Clean}
 use Rattle.min_peephole.specs.Quiet.{is_quiet}
 use Rattle.min_peephole.proofs.Quieted.{quiet_clean}
 use Rattle.test_headline.specs.Rows as row
@@ -76,6 +77,10 @@ side_is_dead c =
 -- !(a() === 1);
 pub operation_is_dead : Clean row.compares_call → ⊥
 operation_is_dead c = c.nothing_is_dead statement _ refl (an_unused_operation statement _ _ (one_operand_acts 0 _ _ refl refl refl))
+
+-- [a(), 1];
+pub list_is_dead : Clean row.lists_call → ⊥
+list_is_dead c = c.nothing_is_dead statement _ refl (an_unused_list statement _ _ (acting_parts_stay nowhere nowhere _ _ refl refl))
 
 -- ---- what has none
 
@@ -242,6 +247,35 @@ names_fit = (
 pub names_are_clean : Clean row.compares_names
 names_are_clean = quiet_clean _ names_fit refl
 
+-- a(), b();
+pub other_stands : Stand (these (one_of expression ∷ [])) row.call_of_b
+other_stands = ((a_call_expression, (false, (false, tt)), refl, tt, refl, ((a_reference_name, (codes "b", tt), refl, tt, refl, tt), ((refl, tt), tt))), tt)
+
+calls_stand : Stand (all expression) (joined call_of_a row.call_of_b)
+calls_stand = (name_stands.0, (other_stands.0, tt))
+
+sequence_fits : Fits root row.calls_both
+sequence_fits = (
+  (
+    a_program,
+    (source_type.Module, tt),
+    refl,
+    tt,
+    refl,
+    (
+      (
+        refl,
+        (inr (refl, (an_expression_statement, tt, refl, tt, refl, ((a_sequence_expression, tt, refl, tt, refl, ((refl, calls_stand), tt)), tt))), tt),
+      ),
+      tt,
+    ),
+  ),
+  tt,
+)
+
+pub sequence_is_clean : Clean row.calls_both
+sequence_is_clean = quiet_clean _ sequence_fits refl
+
 -- ---- what the rules take
 
 -- behind the export
@@ -270,6 +304,8 @@ is_suspect Kind.ConditionalExpression = true
 is_suspect (Kind.LogicalExpression o) = true
 is_suspect (Kind.UnaryExpression o) = true
 is_suspect (Kind.BinaryExpression o) = true
+is_suspect Kind.ArrayExpression = true
+is_suspect Kind.SequenceExpression = true
 is_suspect k = false
 
 abbrev has_suspect : Forest → Bool
@@ -290,6 +326,11 @@ needed_suspect (Kind.UnaryExpression o) below i h = refl
 needed_suspect (Kind.BinaryExpression o) below i h = refl
 needed_suspect k below i h = absurd Prim.cc
 
+list_suspect : (n m : Note) (k : Kind) (below : Forest) (y : Tree) → list_becomes n m k below ≡ Some y → is_suspect k ≡ true
+list_suspect n m Kind.ArrayExpression below y h = refl
+list_suspect n m Kind.SequenceExpression below y h = refl
+list_suspect n m k below y h = absurd Prim.cc
+
 dead_suspect : (t : Forest) (a : Around) (x : Option Tree) → t ≡ plug a x → IsDead t a x → has_suspect t ≡ true
 dead_suspect t a x is (an_empty_statement b n item) = ap has_suspect is ∙ suspect_there b _ refl
 dead_suspect t a x is (a_silent_statement b n below silent) = ap has_suspect is ∙ suspect_there b _ refl
@@ -300,6 +341,7 @@ dead_suspect t a x is (a_known_conditional b y z (alternate_is_taken v n m i j k
 dead_suspect t a x is (a_known_side b y z (right_side_counts o v n m i k d goes may)) = ap has_suspect is ∙ suspect_there b _ refl
 dead_suspect t a x is (a_known_side b y z (left_side_decides o v n m i k d goes)) = ap has_suspect is ∙ suspect_there b _ refl
 dead_suspect t a x is (an_unused_operation b _ _ (one_operand_acts i y z unused needed child)) = ap has_suspect is ∙ suspect_there b y (needed_suspect y.kind y.below i needed)
+dead_suspect t a x is (an_unused_list b _ _ (acting_parts_stay n m y z unused becomes)) = ap has_suspect is ∙ suspect_there b y (list_suspect n m y.kind y.below z becomes)
 
 -- A declaration goes with the last of its declarators, and stays where it has none.
 pub nothing_declared_is_clean : Clean row.declares_nothing

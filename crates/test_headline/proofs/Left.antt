@@ -6,19 +6,20 @@ use Rattle.js_syntax.specs.declared.scalar.SourceType.TheVariants as source_type
 use Rattle.js_syntax.specs.declared.operator.BinaryOperator.TheVariants as binary
 use Rattle.js_syntax.specs.declared.operator.UnaryOperator.TheVariants as unary
 use Rattle.js_syntax.specs.declared.value.LiteralValue.{LiteralValue as Literal}
-use Rattle.js_syntax.specs.Node.{Forest, nothing, nowhere}
-use Rattle.js_syntax.specs.Table.{a_program, an_expression_statement, a_call_expression, a_unary_expression, a_binary_expression, a_reference_name, a_literal}
+use Rattle.js_syntax.specs.Node.{Forest, nothing, nowhere, joined}
+use Rattle.js_syntax.specs.Table.{a_program, an_expression_statement, a_call_expression, a_unary_expression, a_binary_expression, an_array_expression, a_reference_name, a_literal}
 use Rattle.form_rules.specs.Form.{IsWellFormed}
 use Rattle.form_rules.specs.Samples as form
 use Rattle.js_meaning.specs.Samples as sample
 use Rattle.js_meaning.specs.Examples.{says_number}
 use Rattle.json_text.specs.Text.{is_identifier_name}
-use Rattle.json_shape.specs.Shape.{one, these, all, all_of_body, Stand, Fits}
+use Rattle.json_shape.specs.Shape.{one, these, all, all_or_holes, all_of_body, Stand, Fits}
 use Rattle.scope_laws.specs.Place.{Around, first}
 use Rattle.steps_allowed.specs.EmptyStatement.{empty_statement_leaves}
 use Rattle.steps_allowed.specs.SilentStatement.{silent_statement_empties}
 use Rattle.steps_allowed.specs.UnusedOperation.{one_operand_acts}
-use Rattle.steps_allowed.specs.Edits.{no_tree_edit, one_tree_edit, leaves, becomes, empty_statement, silent_statement, unused_operation}
+use Rattle.steps_allowed.specs.UnusedList.{acting_parts_stay}
+use Rattle.steps_allowed.specs.Edits.{no_tree_edit, one_tree_edit, leaves, becomes, empty_statement, silent_statement, unused_operation, unused_list}
 use Rattle.steps_allowed.specs.Rows.{in_list, past, statement, call_of_a, equals}
 use Rattle.steps_allowed.proofs.Composing.{tree_edits_are_edits}
 use Rattle.headline.specs.Clean.{Clean}
@@ -27,7 +28,7 @@ use Rattle.headline.proofs.Headline.{headline_of}
 use Rattle.headline_text.specs.Written.{written}
 use Rattle.min_peephole.proofs.Quieted.{quiet_clean}
 use Rattle.test_headline.specs.Rows as row
-use Rattle.test_headline.proofs.Dead.{name_stands, call_is_clean as a_is_clean}
+use Rattle.test_headline.proofs.Dead.{name_stands, call_is_clean as a_is_clean, sequence_is_clean}
 
 number_stands : Stand (all argument) (sample.number_of 1)
 number_stands = ((a_literal, (Literal.Number (pos 1), tt), refl, tt, refl, tt), tt)
@@ -110,6 +111,78 @@ operations_go =
 
 pub operand_left : Headline row.compares_call row.calls_a
 operand_left = headline_of row.compares_call row.calls_a compares_fits compares_well_formed operations_go a_is_clean
+
+-- ---- of an array the calls are left: one alone, or two in a sequence
+
+call_is_argument : Stand (all argument) call_of_a
+call_is_argument = ((a_call_expression, (false, (false, tt)), refl, tt, refl, ((a_reference_name, (form.a, tt), refl, tt, refl, tt), ((refl, tt), tt))), tt)
+
+other_is_argument : Stand (all argument) row.call_of_b
+other_is_argument = ((a_call_expression, (false, (false, tt)), refl, tt, refl, ((a_reference_name, (codes "b", tt), refl, tt, refl, tt), ((refl, tt), tt))), tt)
+
+one_element : Stand (all_or_holes argument) (joined call_of_a form.one)
+one_element = (inr call_is_argument.0, (inr number_stands.0, tt))
+
+two_elements : Stand (all_or_holes argument) (joined call_of_a (joined form.one row.call_of_b))
+two_elements = (inr call_is_argument.0, (inr number_stands.0, (inr other_is_argument.0, tt)))
+
+lists_fit : Fits root row.lists_call
+lists_fit = (
+  (
+    a_program,
+    (source_type.Module, tt),
+    refl,
+    tt,
+    refl,
+    (
+      (
+        refl,
+        (inr (refl, (an_expression_statement, tt, refl, tt, refl, ((an_array_expression, tt, refl, tt, refl, ((refl, one_element), tt)), tt))), tt),
+      ),
+      tt,
+    ),
+  ),
+  tt,
+)
+
+both_fit : Fits root row.lists_calls
+both_fit = (
+  (
+    a_program,
+    (source_type.Module, tt),
+    refl,
+    tt,
+    refl,
+    (
+      (
+        refl,
+        (inr (refl, (an_expression_statement, tt, refl, tt, refl, ((an_array_expression, tt, refl, tt, refl, ((refl, two_elements), tt)), tt))), tt),
+      ),
+      tt,
+    ),
+  ),
+  tt,
+)
+
+lists_well_formed : IsWellFormed row.lists_call
+unfolding is_identifier_name
+lists_well_formed = refl
+
+both_well_formed : IsWellFormed row.lists_calls
+unfolding is_identifier_name
+both_well_formed = refl
+
+list_goes : Edits row.lists_call row.calls_a
+list_goes = tree_edits_are_edits (one_tree_edit _ _ _ (becomes statement _ _ (unused_list (acting_parts_stay nowhere nowhere _ _ refl refl))) (no_tree_edit _))
+
+both_stay : Edits row.lists_calls row.calls_both
+both_stay = tree_edits_are_edits (one_tree_edit _ _ _ (becomes statement _ _ (unused_list (acting_parts_stay nowhere nowhere _ _ refl refl))) (no_tree_edit _))
+
+pub part_left : Headline row.lists_call row.calls_a
+part_left = headline_of row.lists_call row.calls_a lists_fit lists_well_formed list_goes a_is_clean
+
+pub parts_left : Headline row.lists_calls row.calls_both
+parts_left = headline_of row.lists_calls row.calls_both both_fit both_well_formed both_stay sequence_is_clean
 
 pub written_left : written row.less_four ≡ row.with_minus
 written_left = refl

@@ -12,7 +12,7 @@ use Rattle.js_meaning.specs.Trace.{Act, ShownExport, Event, Ending, ended, Run}
 use Rattle.js_meaning.specs.Kept.{Kept, KeptBack, Keeps, ComesBack}
 use Rattle.headline.specs.Headline.{Headline}
 use Rattle.test_headline.specs.Rows as row
-use Rattle.test_headline.proofs.Dead.{number_is_dead, conditional_is_dead, side_is_dead, operation_is_dead}
+use Rattle.test_headline.proofs.Dead.{number_is_dead, conditional_is_dead, side_is_dead, operation_is_dead, list_is_dead}
 use Rattle.test_headline.proofs.Runs.{answers, empty_runs, export_runs, call_runs, own_call_runs, no_call_runs, loop_runs}
 
 -- what is asked of two runs is asked of what they compute to
@@ -80,6 +80,9 @@ side_goes h = side_is_dead h.clean
 
 pub operation_goes : Headline row.compares_call row.compares_call → ⊥
 operation_goes h = operation_is_dead h.clean
+
+pub list_goes : Headline row.lists_call row.lists_call → ⊥
+list_goes h = list_is_dead h.clean
 
 -- ---- what others may use: where nothing may change, as many names are declared as before
 

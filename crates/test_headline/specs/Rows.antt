@@ -8,7 +8,7 @@ use Rattle.js_syntax.specs.declared.value.Key.TheVariants as key
 use Rattle.js_syntax.specs.declared.value.LiteralValue.{LiteralValue as Literal}
 use Rattle.js_syntax.specs.Node.{Forest, joined}
 use Rattle.form_rules.specs.Samples as form
-use Rattle.steps_allowed.specs.Rows.{call_of_a, call_of_eval, exports_declaration, null, conditional, logical as either, applied, equals}
+use Rattle.steps_allowed.specs.Rows.{call_of_a, call_of_eval, exports_declaration, null, conditional, logical as either, applied, equals, array, sequence}
 use Rattle.js_meaning.specs.Samples as sample
 use Rattle.js_meaning.specs.Examples.{g, function_g, says_number}
 
@@ -111,6 +111,22 @@ compares_call = form.a_module (form.does (applied unary.LogicalNot (equals call_
 -- a();
 abbrev pub calls_a : Forest
 calls_a = form.a_module (form.does call_of_a ∷ [])
+
+-- [a(), 1];
+abbrev pub lists_call : Forest
+lists_call = form.a_module (form.does (array (call_of_a ∷ form.one ∷ [])) ∷ [])
+
+-- b()
+abbrev pub call_of_b : Forest
+call_of_b = form.over (Kind.CallExpression false false) (joined (form.reads (codes "b")) (form.listed Kind.Arguments []))
+
+-- [a(), 1, b()];
+abbrev pub lists_calls : Forest
+lists_calls = form.a_module (form.does (array (call_of_a ∷ form.one ∷ call_of_b ∷ [])) ∷ [])
+
+-- a(), b();
+abbrev pub calls_both : Forest
+calls_both = form.a_module (form.does (sequence (call_of_a ∷ call_of_b ∷ [])) ∷ [])
 
 -- a === b;
 abbrev pub compares_names : Forest

@@ -50,17 +50,19 @@ pub fn what_others_may_use_stays()
     ensures shared { Headline row.of_two_in_script row.of_one_in_script → ⊥ }
 {}
 
-/// `1;` doesn't stay, nor does the conditional of `a(true ? a : b);`, what stands right in `null && a();`, or what of `!(a() === 1);` is
-/// no call.
+/// `1;` doesn't stay, nor does the conditional of `a(true ? a : b);`, what stands right in `null && a();`, or what of `!(a() === 1);` and
+/// of `[a(), 1];` is no call.
 pub fn dead_code_goes()
     ensures number { Headline row.dead row.dead → ⊥ }
     ensures conditional { Headline row.takes_branch row.takes_branch → ⊥ }
     ensures side { Headline row.never_calls row.never_calls → ⊥ }
     ensures operation { Headline row.compares_call row.compares_call → ⊥ }
+    ensures list { Headline row.lists_call row.lists_call → ⊥ }
 {}
 
 /// `1;` is dead code, and so are `{ ; }`'s empty statement, a function that nothing calls, one of two declarators, a conditional on a
-/// literal, a logical expression with a literal on its left, and an operation of which nobody takes the value, where one operand alone acts.
+/// literal, a logical expression with a literal on its left, an operation of which nobody takes the value, where one operand alone acts,
+/// and an array of which nobody takes the value.
 pub fn dead_code_is_told()
     ensures number { Clean (a_module (does one ∷ [])) → ⊥ }
     ensures empty { Clean (a_module (block (empty ∷ []) ∷ [])) → ⊥ }
@@ -69,11 +71,12 @@ pub fn dead_code_is_told()
     ensures conditional { Clean row.takes_branch → ⊥ }
     ensures side { Clean row.never_calls → ⊥ }
     ensures operation { Clean row.compares_call → ⊥ }
+    ensures list { Clean row.lists_call → ⊥ }
 {}
 
 /// A call is none, nor a function that is exported, a variable beside a direct call of `eval`, a function of a script, a
-/// conditional that is called so that what it gives has no receiver: `(1 ? a.f : null)();`, and a comparison of which both sides may
-/// act, as names do that nothing declares: `a === b;`.
+/// conditional that is called so that what it gives has no receiver: `(1 ? a.f : null)();`, a comparison of which both sides may
+/// act, as names do that nothing declares: `a === b;`, and a sequence of two calls: `a(), b();`.
 pub fn what_others_may_use_is_no_dead_code()
     ensures call { Clean (a_module (does call_of_a ∷ [])) }
     ensures exported { Clean (a_module (exports_declaration (function_a [] []) ∷ [])) }
@@ -81,6 +84,7 @@ pub fn what_others_may_use_is_no_dead_code()
     ensures global { Clean (a_script (function_a [] [] ∷ [])) }
     ensures receiver { Clean row.calls_without_receiver }
     ensures names { Clean row.compares_names }
+    ensures sequence { Clean row.calls_both }
 {}
 
 /// By an export in a block, which no program of the table has, a function of the block's that nothing refers to is dead code
@@ -93,10 +97,12 @@ pub fn rules_take_dead_code_alone()
     ensures stays { is_quiet row.declares_nothing ≡ true }
 {}
 
-/// `f(1);` may take the place of `f(1); 2;`, and `a();` that of `!(a() === 1);`.
+/// `f(1);` may take the place of `f(1); 2;`, `a();` that of `!(a() === 1);` and of `[a(), 1];`, and `a(), b();` that of `[a(), 1, b()];`.
 pub fn what_is_left()
     ensures statement { Headline row.with_dead row.calls_host }
     ensures operand { Headline row.compares_call row.calls_a }
+    ensures part { Headline row.lists_call row.calls_a }
+    ensures parts { Headline row.lists_calls row.calls_both }
 {}
 
 /// Edits lead from `f(-4); 2;` with a literal for -4 to `f(-4);`, which is written with unary minus on 4.
