@@ -1,5 +1,5 @@
 -- The definitions, tried on small programs.
-use Rattle.std.proofs.Common.{◌≡◌, ◌∙◌, ℕ, Some, None, [], ◌∷◌, pos, Bool, true, false, true≢false, codes, inl, inr, refl, sym}
+use Rattle.std.proofs.Common.{◌≡◌, ◌∙◌, ℕ, Some, None, [], ◌∷◌, pos, Bool, true, false, true≢false, codes, inl, inr, refl, sym, ap}
 use Rattle.js_syntax.specs.declared.node_kind.NodeKind.{NodeKind as Kind}
 use Rattle.js_syntax.specs.declared.kind.VariableKind.TheVariants as variable
 use Rattle.js_syntax.specs.declared.operator.BinaryOperator.TheVariants as binary
@@ -13,7 +13,7 @@ use Rattle.scope_rules.specs.Context.{body_of}
 use Rattle.scope_rules.specs.Binding.{named_in}
 use Rattle.scope_laws.specs.Place.{Around, first, behind, under}
 use Rattle.min_pass.specs.Around.{outermost as asked_of_program}
-use Rattle.steps_allowed.specs.Uses.{Use, use_at, stands_bare}
+use Rattle.steps_allowed.specs.Uses.{Use, use_at, matters, stands_bare}
 use Rattle.steps_allowed.specs.Places.{a_node, asked_at, At, MayStandBare}
 use Rattle.steps_allowed.specs.Free.{IsFree}
 use Rattle.steps_allowed.specs.SilentStatement.{SilentStatement, silent_statement_empties}
@@ -25,8 +25,9 @@ use Rattle.steps_allowed.specs.KnownSide.{right_side_counts, left_side_decides}
 use Rattle.steps_allowed.specs.KnownIf.{an_if, KnownIf, consequent_is_run, alternate_is_run}
 use Rattle.steps_allowed.specs.UnusedOperation.{needed_at, one_operand_acts}
 use Rattle.steps_allowed.specs.UnusedList.{list_becomes, acting_parts_stay}
-use Rattle.steps_allowed.specs.Edits.{Edit, leaves, becomes, empty_statement, silent_statement, unused_function, unused_declaration, known_conditional, known_side, known_if, unused_operation, unused_list}
-use Rattle.steps_allowed.specs.Rows.{in_list, before, call_of_a, null, if_one, if_null, conditional, logical, may_be_named, o_f, parenthesized, in_statement, called, called_in_parentheses, called_in_with, argument, operand, applied, equals, assigned, statement, ComesOut, Stays, StaysUnused, array, spread, hole, sequence, ListStays, with_a, in_with_a, empty, a_is_read, a_is_exported}
+use Rattle.steps_allowed.specs.IndirectChoice.{value_alone_counts}
+use Rattle.steps_allowed.specs.Edits.{Edit, leaves, becomes, empty_statement, silent_statement, unused_function, unused_declaration, known_conditional, known_side, known_if, unused_operation, unused_list, indirect_choice}
+use Rattle.steps_allowed.specs.Rows.{in_list, before, call_of_a, null, if_one, if_null, conditional, logical, may_be_named, o_f, parenthesized, in_statement, called, called_in_parentheses, called_in_with, argument, operand, applied, equals, assigned, statement, ComesOut, Stays, StaysUnused, array, spread, hole, sequence, ListStays, behind_zero, placed, StaysDirect, with_a, in_with_a, empty, a_is_read, a_is_exported}
 
 pub empties_in_list : Edit (a_module (does one ∷ [])) (a_module (empty ∷ []))
 empties_in_list = becomes (before []) _ _ (silent_statement (silent_statement_empties nowhere nowhere nowhere _ nothing (inl refl, tt)))
@@ -256,3 +257,36 @@ used_array_stays y (acting_parts_stay n m _ _ unused is) = true≢false (sym unu
 
 pub acting_sequence_stays : ListStays statement (sequence (call_of_a ∷ o_f ∷ []))
 acting_sequence_stays y (acting_parts_stay n m _ _ unused is) = no_list is
+
+-- ---- choices of which the value alone counts
+
+pub called_member_behind_zero : Edit (placed called (conditional one o_f null)) (placed called (behind_zero o_f))
+called_member_behind_zero = becomes called _ _ (indirect_choice (value_alone_counts nowhere nowhere nowhere _ _ refl refl))
+
+pub alternate_behind_zero : Edit (placed called (conditional null (reads a) o_f)) (placed called (behind_zero o_f))
+alternate_behind_zero = becomes called _ _ (indirect_choice (value_alone_counts nowhere nowhere nowhere _ _ refl refl))
+
+pub right_side_behind_zero : Edit (placed called (logical operator.Or null o_f)) (placed called (behind_zero o_f))
+right_side_behind_zero = becomes called _ _ (indirect_choice (value_alone_counts nowhere nowhere nowhere _ _ refl refl))
+
+pub typed_name_behind_zero : Edit (placed (operand unary.Typeof) (conditional one (reads a) null)) (placed (operand unary.Typeof) (behind_zero (reads a)))
+typed_name_behind_zero = becomes (operand unary.Typeof) _ _ (indirect_choice (value_alone_counts nowhere nowhere nowhere _ _ refl refl))
+
+pub deleted_member_behind_zero : Edit (placed (operand unary.Delete) (conditional one o_f null)) (placed (operand unary.Delete) (behind_zero o_f))
+deleted_member_behind_zero = becomes (operand unary.Delete) _ _ (indirect_choice (value_alone_counts nowhere nowhere nowhere _ _ refl refl))
+
+-- what may stand there itself does
+stays_direct : (place : Around) (k : Kind) (n : Note) (b : Forest) → matters (use_at place) (asked_at (asked_of_program true) place).in_with k b ≡ false → StaysDirect place (node k n b nothing)
+stays_direct place k n b h y (value_alone_counts _ _ _ _ z counts it_matters) =
+    let part : Tree = record { kind = k; note = n; below = b } in
+    let is : part ≡ z = cc counts in
+    true≢false (sym it_matters ∙ (ap (λ (x : Tree). matters (use_at place) (asked_at (asked_of_program true) place).in_with x.kind x.below) (sym is) ∙ h))
+
+pub argument_name_stays_direct : StaysDirect argument (reads a)
+argument_name_stays_direct = stays_direct argument (Kind.ReferenceName a) nowhere nothing refl
+
+pub typed_member_stays_direct : StaysDirect (operand unary.Typeof) o_f
+typed_member_stays_direct = stays_direct (operand unary.Typeof) member nowhere (reads (codes "o")) refl
+
+pub called_name_stays_direct : StaysDirect called (reads a)
+called_name_stays_direct = stays_direct called (Kind.ReferenceName a) nowhere nothing refl

@@ -16,6 +16,7 @@ pub mod KnownConditional
 pub mod KnownSide
 pub mod UnusedOperation
 pub mod UnusedList
+pub mod IndirectChoice
 pub mod KnownIf
 pub mod Edits
 pub mod Arranged

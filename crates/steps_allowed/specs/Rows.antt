@@ -16,6 +16,7 @@ use Rattle.steps_allowed.specs.Places.{a_node}
 use Rattle.steps_allowed.specs.KnownConditional.{a_conditional, KnownConditional}
 use Rattle.steps_allowed.specs.UnusedOperation.{UnusedOperation}
 use Rattle.steps_allowed.specs.UnusedList.{UnusedList}
+use Rattle.steps_allowed.specs.IndirectChoice.{IndirectChoice}
 use Rattle.steps_allowed.specs.Edits.{Edit}
 
 -- a place in a module's list: in front of these statements, and behind these
@@ -79,6 +80,10 @@ hole = leaf Kind.Hole
 abbrev pub sequence : (parts : List Forest) → Forest
 sequence parts = over Kind.SequenceExpression (listed Kind.Expressions parts)
 
+-- (0, e)
+abbrev pub behind_zero : Forest → Forest
+behind_zero e = sequence (leaf (Kind.Literal (value.Number (pos 0))) ∷ e ∷ [])
+
 -- functions and classes, which may take a name from where they stand (8.4)
 abbrev pub may_be_named : Kind → Bool
 may_be_named (Kind.Function how pure) = true
@@ -123,6 +128,16 @@ ComesOut place e = ⊥
 abbrev pub Stays : Around → Forest → Type 0
 Stays place (node k n below rest) = (y : Tree) → KnownConditional place (a_conditional nowhere nowhere (value.Number (pos 1)) (node k n below null)) y → ⊥
 Stays place e = ⊥
+
+-- an expression in a place
+abbrev pub placed : Around → Forest → Forest
+placed place (node k n below rest) = plug place (a_node k n below)
+placed place e = nothing
+
+-- `1 ? e : null` doesn't become (0, e) there
+abbrev pub StaysDirect : Around → Forest → Type 0
+StaysDirect place (node k n below rest) = (y : Tree) → IndirectChoice place (a_conditional nowhere nowhere (value.Number (pos 1)) (node k n below null)) y → ⊥
+StaysDirect place e = ⊥
 
 -- the place of e in e;
 abbrev pub statement : Around

@@ -17,7 +17,7 @@ ghost use Rattle.steps_allowed.specs.UnusedDeclaration.{a_declaration, SilentDec
 ghost use Rattle.steps_allowed.specs.KnownConditional.{KnownConditional};
 ghost use Rattle.steps_allowed.specs.KnownIf.{an_if, KnownIf};
 ghost use Rattle.steps_allowed.specs.Edits.{Edit};
-ghost use Rattle.steps_allowed.specs.Rows.{before, call_of_a, null, if_one, if_null, conditional, logical, may_be_named, o_f, parenthesized, called, called_in_parentheses, called_in_with, argument, operand, applied, equals, assigned, statement, ComesOut, Stays, StaysUnused, array, spread, hole, sequence, ListStays, with_a, in_with_a, empty, a_is_read, a_is_exported};
+ghost use Rattle.steps_allowed.specs.Rows.{before, call_of_a, null, if_one, if_null, conditional, logical, may_be_named, o_f, parenthesized, called, called_in_parentheses, called_in_with, argument, operand, applied, equals, assigned, statement, ComesOut, Stays, StaysUnused, array, spread, hole, sequence, ListStays, behind_zero, placed, StaysDirect, with_a, in_with_a, empty, a_is_read, a_is_exported};
 
 /// A statement of a literal becomes empty, in a list and alone, and leaves the list then.
 pub fn silent_statements_go()
@@ -102,6 +102,22 @@ pub fn what_gives_its_value_comes_out()
     ensures called_name { ComesOut called (reads a) }
     ensures typed_member { ComesOut (operand unary.Typeof) o_f }
     ensures deleted_call { ComesOut (operand unary.Delete) (parenthesized call_of_a) }
+{}
+
+/// Where it matters that the part doesn't stand there itself, it stands behind a zero.
+pub fn indirect_choices_stand_behind_a_zero()
+    ensures called_member { Edit (placed called (conditional one o_f null)) (placed called (behind_zero o_f)) }
+    ensures alternate { Edit (placed called (conditional null (reads a) o_f)) (placed called (behind_zero o_f)) }
+    ensures right_side { Edit (placed called (logical operator.Or null o_f)) (placed called (behind_zero o_f)) }
+    ensures typed_name { Edit (placed (operand unary.Typeof) (conditional one (reads a) null)) (placed (operand unary.Typeof) (behind_zero (reads a))) }
+    ensures deleted_member { Edit (placed (operand unary.Delete) (conditional one o_f null)) (placed (operand unary.Delete) (behind_zero o_f)) }
+{}
+
+/// Elsewhere it doesn't.
+pub fn direct_choices_take_no_zero()
+    ensures argument_name { StaysDirect argument (reads a) }
+    ensures typed_member { StaysDirect (operand unary.Typeof) o_f }
+    ensures called_name { StaysDirect called (reads a) }
 {}
 
 /// Where nobody takes its value, an operation becomes the operand that acts, if that is one alone.

@@ -28,11 +28,12 @@ use Rattle.steps_owed.proofs.KnownSide.{known_side_owes}
 use Rattle.steps_owed.proofs.KnownIf.{known_if_owes}
 use Rattle.steps_owed.proofs.UnusedOperation.{unused_operation_owes}
 use Rattle.steps_owed.proofs.UnusedList.{unused_list_owes}
+use Rattle.steps_owed.proofs.IndirectChoice.{indirect_choice_owes}
 use Rattle.steps_owed.proofs.Owed.{leaving}
 use Rattle.steps_owed.proofs.Places.{place_of, rest_of, placed_is, without_is, listed_is}
 use Rattle.steps_owed.proofs.TableKept as tables
 use Rattle.steps_marked.proofs.Called.{called_at, used_as_callee}
-use Rattle.steps_marked.proofs.Picked.{Picks, unused_list_picks}
+use Rattle.steps_marked.proofs.Picked.{Picks, unused_list_picks, indirect_choice_picks}
 
 -- An expression is rebuilt of its parts. No rule of form asks for what it was or for what it is, which declares nothing, weighs less and
 -- has no more levels.
@@ -128,3 +129,4 @@ is_local t u (edits.becomes a x y (edits.known_side c)) fits = by_part a x y (kn
 is_local t u (edits.becomes a x y (edits.known_if c)) fits = by_part a x y (known_if_owes a x y c) fits
 is_local t u (edits.becomes a x y (edits.unused_operation c)) fits = by_part a x y (unused_operation_owes a x y c) fits
 is_local t u (edits.becomes a x y (edits.unused_list c)) fits = by_parts a x y (unused_list_owes a x y c) (unused_list_picks a x y c) fits
+is_local t u (edits.becomes a x y (edits.indirect_choice c)) fits = by_parts a x y (indirect_choice_owes a x y c) (indirect_choice_picks a x y c) fits

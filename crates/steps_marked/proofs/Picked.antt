@@ -1,13 +1,18 @@
--- What an array or a sequence comes to: one of its parts, or several in a sequence.
-use Rattle.std.proofs.Common.{◌≡◌, Bool, true, false, Option, Some, None, if◌then◌else◌, refl, subst}
+-- What an array or a sequence comes to: one of its parts, or several in a sequence; and what a choice does, one of its parts behind
+-- a zero.
+use Rattle.std.proofs.Common.{◌≡◌, pos, Bool, true, false, Option, Some, None, if◌then◌else◌, refl, subst}
 use Rattle.js_syntax.specs.declared.node_kind.NodeKind.{NodeKind as Kind}
-use Rattle.js_syntax.specs.declared.node_kind.NodeKind.TheVariants.{ArrayExpression as array_expression, Elements as elements, SequenceExpression as sequence_expression, Expressions as expressions}
+use Rattle.js_syntax.specs.declared.node_kind.NodeKind.TheVariants.{ArrayExpression as array_expression, Elements as elements, SequenceExpression as sequence_expression, Expressions as expressions, ConditionalExpression as conditional_expression, LogicalExpression as logical_expression, Literal as literal}
+use Rattle.js_syntax.specs.declared.value.LiteralValue.{LiteralValue}
+use Rattle.js_syntax.specs.declared.value.LiteralValue.TheVariants as value
 use Rattle.js_syntax.specs.Node.{Forest, Tree, Note, nothing, node, absent, alone}
 use Rattle.scope_laws.specs.Place.{Around}
 use Rattle.scope_laws.proofs.Bindings.{same_value}
+use Rattle.steps_allowed.specs.IndirectChoice.{IndirectChoice, value_alone_counts}
 use Rattle.steps_allowed.specs.UnusedList.{acting, all_act, has_spread, as_one, list_becomes, UnusedList, acting_parts_stay}
 use Rattle.steps_allowed.specs.UnusedOperation.{acts}
 use Rattle.steps_allowed.specs.Uses.{as_value, stands_bare}
+use Rattle.steps_owed.proofs.IndirectChoice.{Counts, consequent_counts, alternate_counts, right_side_counts, part_that_counts}
 
 -- some of the nodes of a row, in their order
 pub data SomeOf : (r s : Forest) → Type 0 where
@@ -22,9 +27,15 @@ holds_parts array_expression elements = true
 holds_parts sequence_expression expressions = true
 holds_parts k l = false
 
+abbrev pub is_choice : Kind → Bool
+is_choice conditional_expression = true
+is_choice (logical_expression operator) = true
+is_choice k = false
+
 pub data Picks : (k : Kind) (below : Forest) (l : Kind) (inner : Forest) → Type 0 where
   one_part : (k j l : Kind) (i m : Note) (parts inner : Forest) → holds_parts k j ≡ true → SomeOf parts (alone l m inner) → Picks k (node j i parts nothing) l inner
   several : (k j : Kind) (i m : Note) (parts left : Forest) → holds_parts k j ≡ true → SomeOf parts left → Picks k (node j i parts nothing) sequence_expression (node expressions m left nothing)
+  part_behind_zero : (k l : Kind) (v : LiteralValue) (o m i p : Note) (parts inner : Forest) → is_choice k ≡ true → SomeOf parts (alone l p inner) → Picks k (node (literal v) o nothing parts) sequence_expression (node expressions m (node (literal (value.Number (pos 0))) i nothing (alone l p inner)) nothing)
 
 -- ---- the parts that act
 
@@ -66,3 +77,13 @@ list_picks n m k a y is = absurd cc
 
 pub unused_list_picks : (a : Around) (x y : Tree) → UnusedList a x y → Picks x.kind x.below y.kind y.below
 unused_list_picks a _ _ (acting_parts_stay n m x y unused is) = list_picks n m x.kind x.below y is
+
+-- ---- the part that counts
+
+choice_picks : (m i : Note) {x z : Tree} → Counts x z → Picks x.kind x.below sequence_expression (node expressions m (node (literal (value.Number (pos 0))) i nothing (alone z.kind z.note z.below)) nothing)
+choice_picks m i {x = x} (consequent_counts v o p h j k l b c truth) = part_behind_zero x.kind k v p m i h (node k h b (node l j c nothing)) b refl (stays (leaves none))
+choice_picks m i {x = x} (alternate_counts v o p h j k l b c truth) = part_behind_zero x.kind l v p m i j (node k h b (node l j c nothing)) c refl (leaves (stays none))
+choice_picks m i {x = x} (right_side_counts q v o p h k b goes) = part_behind_zero x.kind k v p m i h (node k h b nothing) b refl (stays none)
+
+pub indirect_choice_picks : (a : Around) (x y : Tree) → IndirectChoice a x y → Picks x.kind x.below y.kind y.below
+indirect_choice_picks a x _ (value_alone_counts n m i _ z counts matters) = choice_picks m i (part_that_counts x.note x.kind x.below z counts)

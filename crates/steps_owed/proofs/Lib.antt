@@ -51,6 +51,8 @@ pub mod SilentAnywhere
 pub mod UnusedPlace
 pub mod UnusedOperation
 pub mod UnusedList
+pub mod BehindZero
+pub mod IndirectChoice
 pub mod Edited
 pub mod Refused
 pub mod Outlying

@@ -14,7 +14,7 @@ use Rattle.js_syntax.specs.Facts.{weight, is_core}
 use Rattle.js_syntax.specs.Node.{Note, Forest, Tree, nothing, node, absent, forest_of, joined, total}
 use Rattle.js_syntax.specs.Table.{Row, an_array_expression, a_sequence_expression, a_spread_element, fields_of, type_of, stands}
 use Rattle.js_syntax.proofs.Truth.{both, first_of_neither, second_of_neither}
-use Rattle.js_tree.specs.Count.{one_each, node_count, lower, levels_at, levels}
+use Rattle.js_tree.specs.Count.{lower, levels_at, levels}
 use Rattle.js_rebuilt.specs.Rebuilt.{MayBeBuilt, Rebuilt, ends, stays, leaves, opened, built, absent_leaves}
 use Rattle.js_meaning.specs.Scope.{specifier_decls, import_decls}
 use Rattle.js_meaning.specs.Value.{Text}
@@ -102,11 +102,11 @@ is_listed n m k below y e = absurd cc
 
 -- ---- rebuilt
 
-list_is_built : (parts : Forest) → MayBeBuilt expressions parts
+pub list_is_built : (parts : Forest) → MayBeBuilt expressions parts
 list_is_built parts = record { operation = refl; calls_none = refl; breaks_none = λ c place. refl }
 
 -- a sequence has two parts or more
-sequence_is_built : (m : Note) (k l : Kind) (i j : Note) (a b r : Forest) → MayBeBuilt sequence_expression (node expressions m (node k i a (node l j b r)) nothing)
+pub sequence_is_built : (m : Note) (k l : Kind) (i j : Note) (a b r : Forest) → MayBeBuilt sequence_expression (node expressions m (node k i a (node l j b r)) nothing)
 sequence_is_built m k l i j a b r = record { operation = refl; calls_none = refl; breaks_none = λ c place. ap (λ b. unless b place 11 ++ []) (lt-ltb 1 (suc (suc (length_of r))) (Prim.omega arith)) }
 
 acting_rebuilt : (parts : Forest) → Rebuilt (joined parts nothing) (joined (acting parts) nothing)
@@ -137,10 +137,6 @@ acting_less w (node k n a r) = each (acts k n a) (acting_less w r)
 left_weighs : {n m : Note} {parts : Forest} {y : Tree} → Left n m parts y → total weight (forest_of y) ≤ total weight parts + 2
 left_weighs (one_left k i a bare) = Prim.omega arith
 left_weighs (several_left k l i j a b r) = Prim.omega arith
-
-left_counts : {n m : Note} {parts : Forest} {y : Tree} → Left n m parts y → node_count (forest_of y) ≤ node_count parts + 1
-left_counts (one_left k i a bare) = Prim.omega arith
-left_counts (several_left k l i j a b r) = Prim.omega arith
 
 acting_lower : (f g : ℕ → ℕ) → ((i : ℕ) → g i ≡ 0) → (parts : Forest) (i j : ℕ) → levels_at g j (acting parts) ≤ levels_at f i parts
 acting_lower f g none nothing i j = Prim.omega arith
@@ -315,7 +311,6 @@ module _ (a : Around) (unused : is_unused_at a ≡ true) (p n m i : Note) (parts
     array_owes = record {
       rebuilt = opened refl (opened refl (left_rebuilt (joined parts nothing) left (acting_rebuilt parts)));
       lighter = lighter;
-      no_more = let h = left_counts left in let less = acting_less one_each parts in Prim.omega (arith, h, less);
       no_deeper = let h = left_lower (levels_at (λ i. lower elements i) 0 parts) left (λ g none. acting_lower (λ i. lower elements i) g none parts 0 0) in Prim.omega (arith, h);
       no_call = record { counts = refl; lists = λ i. refl; begins = λ i. refl; calls = refl };
       may_change = refl;
@@ -365,7 +360,6 @@ module _ (a : Around) (unused : is_unused_at a ≡ true) (p n m i : Note) (parts
     sequence_owes = record {
       rebuilt = opened refl (opened refl (left_rebuilt (joined parts nothing) left (acting_rebuilt parts)));
       lighter = lighter;
-      no_more = let h = left_counts left in let less = acting_less one_each parts in Prim.omega (arith, h, less);
       no_deeper = let h = left_lower (levels_at (λ i. lower expressions i) 0 parts) left (λ g none. acting_lower (λ i. lower expressions i) g none parts 0 0) in Prim.omega (arith, h);
       no_call = record { counts = refl; lists = λ i. refl; begins = λ i. refl; calls = refl };
       may_change = refl;

@@ -5,7 +5,7 @@ use Rattle.js_syntax.specs.declared.node_kind.NodeKind.TheVariants.{ReferenceNam
 use Rattle.js_syntax.specs.Class.{root, expression}
 use Rattle.js_syntax.specs.Facts.{weight}
 use Rattle.js_syntax.specs.Node.{Forest, Tree, Note, alone, total, forest_of}
-use Rattle.js_tree.specs.Count.{node_count, levels}
+use Rattle.js_tree.specs.Count.{levels}
 use Rattle.js_tree.specs.Names.{eval_name}
 use Rattle.js_meaning_near.specs.Near.{module_of}
 use Rattle.js_rebuilt.specs.Rebuilt.{Rebuilt}
@@ -118,7 +118,6 @@ is_read_name k = false
 pub record ByParts (a : Around) (x y : Tree) : Type 0 where
   pub rebuilt : Rebuilt (forest_of x) (forest_of y)
   pub lighter : total weight (forest_of y) < total weight (forest_of x)
-  pub no_more : node_count (forest_of y) ≤ node_count (forest_of x)
   pub no_deeper : levels (forest_of y) ≤ levels (forest_of x)
   pub no_call : IsOther x
   pub may_change : MayChange a x
