@@ -1,5 +1,5 @@
 -- What the text of a program is read as, and what that of one program promises of another.
-use Rattle.std.specs.Prelude.{◌≡◌, ◌≤◌, ◌⊎◌, true, Ok}
+use Rattle.std.specs.Prelude.{◌≡◌, ◌≤◌, true, Ok}
 use Rattle.serde_json.specs.Data.{depth}
 use Rattle.serde_json.specs.Read.{max_depth}
 use Rattle.js_syntax.specs.Node.{Forest, bare, total}
@@ -16,19 +16,14 @@ use Rattle.json_kept.specs.Respelled.{negative, misnamed}
 abbrev pub written : Forest → Forest
 written t = bare (signed t)
 
--- What is asked of a tree that was read: that each name of it is one, and, where a number of it is negative, that its text
--- keeps JSON's limit of nesting. Without such numbers it does.
-pub record IsWritable (t : Forest) : Type 0 where
-  pub names : total misnamed t ≡ 0
-  pub nesting : (total negative t ≡ 0) ⊎ (depth (data_of t) ≤ max_depth)
-
--- Of a program that was read, and what is left of it.
+-- Of a program that was read, and what is left of it. Of the program it is asked that each name of it is one.
 pub record TextHeadline (t u : Forest) : Type 0 where
-  -- the text is read as what is left, with unary minus in the place of negative numbers
-  pub read : IsWritable t → IsReadAs (text_of u) (Ok (written u))
+  -- where the text keeps JSON's limit of nesting, it is read as what is left, with unary minus in the place of negative numbers, as
+  -- `data_of` has it already
+  pub read : total misnamed t ≡ 0 → depth (data_of u) ≤ max_depth → IsReadAs (text_of u) (Ok (written u))
   -- and as what is left itself, where no number of the program is negative
   pub plain : total negative t ≡ 0 → written u ≡ bare u
-  -- of a core module every run is kept: for every script and bound
-  pub kept : IsWritable t → is_core_module t ≡ true → Kept t (written u)
+  -- of a core module every run is kept, for every script and bound, however deep the text nests
+  pub kept : total misnamed t ≡ 0 → is_core_module t ≡ true → Kept t (written u)
   -- where a run of what is written ends or is stopped by the host, the old one was the same, unless it was uncovered
-  pub back : IsWritable t → is_core_module t ≡ true → KeptBack t (written u)
+  pub back : total misnamed t ≡ 0 → is_core_module t ≡ true → KeptBack t (written u)

@@ -2,8 +2,9 @@
 //!
 //! `texts`: whatever edits (`Edits` of steps_allowed) lead from a program that was read and breaks no rule of form to what is
 //! left, its text is read as that, without spans and ids and with unary minus on their magnitudes in the place of negative
-//! numbers, and keeps the runs of a core module (`TextHeadline` of `specs/Written.antt`). It puts `steps_keep_text`, on texts,
-//! and `headline`, on runs, together. `names`: what is read has the table of the tree with negative numbers.
+//! numbers, if it keeps JSON's limit of nesting, and keeps the runs of a core module (`TextHeadline` of `specs/Written.antt`). It
+//! puts `steps_keep_text`, on texts, and `headline`, on runs, together. `names`: what is read has the table of the tree with
+//! negative numbers.
 //!
 //! The code is empty: each function's contract is a law.
 #![tactic(auto)]

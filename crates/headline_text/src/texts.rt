@@ -7,8 +7,9 @@ ghost use Rattle.json_text.specs.Text.{text_of};
 ghost use Rattle.steps_allowed.specs.Edits.{Edits};
 ghost use Rattle.headline_text.specs.Written.{TextHeadline};
 
-/// Law: where edits lead from a program that was read and breaks no rule of form, the text of what they leave is read as that,
-/// and keeps the runs of a core module; names and nesting are asked of the tree that was read alone.
+/// Law: where edits lead from a program that was read and breaks no rule of form, the text of what they leave is read as that if
+/// it keeps JSON's limit of nesting, and keeps the runs of a core module. Names are asked of the tree that was read alone, and the
+/// nesting of what is left alone: edits may leave a text that nests deeper than the one that was read.
 pub fn texts_of_edits_keep_runs()
     ensures { (bytes : List ℕ) (t u : Forest) → IsReadAs bytes (Ok t) → IsWellFormed t → Edits t u → IsUtf8 (text_of u) → TextHeadline t u }
 {}

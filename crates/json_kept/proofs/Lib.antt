@@ -1,7 +1,6 @@
 pub mod Depths
 pub mod Plainly
 pub mod Reading
-pub mod Narrow
 pub mod Exact
 pub mod SignsWritten
 pub mod SignsFit

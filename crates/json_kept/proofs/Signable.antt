@@ -43,9 +43,12 @@ tree_exact nothing = omega arith
 tree_exact (node k n below rest) = omega (arith, scalars_exact (scalars_of k), tree_exact below, tree_exact rest)
 tree_exact (absent rest) = tree_exact rest
 
+pub read_exact_sizes : (bytes : List ℕ) (t : Forest) → IsReadAs bytes (Ok t) → total misnamed t ≡ 0 → total inexact_size t ≡ 0
+read_exact_sizes bytes t read names = omega (arith, tree_exact t, (program_read read.1.0 t read.1.2).ranged, names)
+
 pub read_signable : (bytes : List ℕ) (t : Forest) → IsReadAs bytes (Ok t) → total misnamed t ≡ 0 → depth (data_of t) ≤ max_depth → IsSignable t
 read_signable bytes t read names shallow = record {
   shape = nodes_fit 128 root untyped read.1.0 t read.1.2;
-  values = omega (arith, tree_exact t, (program_read read.1.0 t read.1.2).ranged, names);
+  values = read_exact_sizes bytes t read names;
   nesting = shallow;
 }

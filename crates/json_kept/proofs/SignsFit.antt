@@ -289,7 +289,7 @@ node_may (literal (value.Number (negsuc i))) a p ok at exact = covered i exact
 node_may object_expression a p ok at exact = object_listed a p ok at
 node_may k a p ok at exact = tt
 
-pub may_be_signed : (t : Forest) (plan : Plan) → plan_ok plan ≡ true → Stand plan t → total inexact_size t ≡ 0 → MayBeSigned t
+may_be_signed : (t : Forest) (plan : Plan) → plan_ok plan ≡ true → Stand plan t → total inexact_size t ≡ 0 → MayBeSigned t
 may_be_signed nothing plan ok h exact = tt
 may_be_signed (absent rest) plan ok h exact = may_be_signed rest (behind plan hole) (behind_ok plan hole ok) h.1 exact
 may_be_signed (node k n a rest) plan ok h exact =
@@ -369,5 +369,5 @@ signed_readable t s = record {
   nesting = omega (arith, ap depth (data_signed t), s.nesting);
 }
 
-pub signable_may : (t : Forest) → IsSignable t → MayBeSigned t
-signable_may t s = may_be_signed t (these (one root ∷ [])) refl s.shape s.values
+pub exact_may : (t : Forest) → Fits root t → total inexact_size t ≡ 0 → MayBeSigned t
+exact_may t = may_be_signed t (these (one root ∷ [])) refl

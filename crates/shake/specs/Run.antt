@@ -48,7 +48,7 @@ IsInUtf8 t = IsUtf8 (text_of t)
 pub record Shaken (t u : Forest) (passes : ℕ) : Type 0 where
   -- it is the program that was read without its dead code: edits lead to it, it keeps the runs, and has no dead code
   pub headline : Headline t u
-  -- its text is UTF-8, is read as it, and keeps the runs
+  -- its text is UTF-8, is read as it where it keeps JSON's limit of nesting, and keeps the runs
   pub utf8 : IsInUtf8 u
   pub text : TextHeadline t u
   -- it is lighter by one at least for each pass; where there was none, only empty statements of lists are gone

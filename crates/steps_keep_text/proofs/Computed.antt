@@ -9,8 +9,10 @@ use Rattle.steps_allowed.specs.SilentStatement.{silent_statement_empties}
 use Rattle.steps_allowed.specs.EmptyStatement.{empty_statement_leaves}
 use Rattle.steps_allowed.specs.KnownConditional.{consequent_is_taken}
 use Rattle.steps_allowed.specs.KnownSide.{right_side_counts}
-use Rattle.steps_allowed.specs.Edits.{TreeEdits, no_tree_edit, one_tree_edit, leaves, becomes, empty_statement, silent_statement, known_conditional, known_side}
-use Rattle.steps_allowed.specs.Rows.{in_statement, before, call_of_a, null, conditional, logical, empty}
+use Rattle.steps_allowed.specs.IndirectChoice.{value_alone_counts}
+use Rattle.steps_allowed.specs.Edits.{TreeEdits, no_tree_edit, one_tree_edit, leaves, becomes, empty_statement, silent_statement, known_conditional, known_side, indirect_choice}
+use Rattle.steps_allowed.specs.Rows.{in_statement, before, called, call_of_a, null, conditional, logical, empty}
+use Rattle.steps_keep_text.specs.Samples.{calls_choice, calls_behind_zero}
 
 pub statement_goes : TreeEdits (a_module (does one ∷ [])) (a_module [])
 statement_goes =
@@ -26,3 +28,6 @@ conditional_taken = one_tree_edit _ _ _ (becomes there _ _ (known_conditional (c
 
 pub right_side_counted : TreeEdits (a_module (does (logical operator.Coalesce null (reads a)) ∷ [])) (a_module (does (reads a) ∷ []))
 right_side_counted = one_tree_edit _ _ _ (becomes there _ _ (known_side (right_side_counts operator.Coalesce value.Null nowhere nowhere nowhere _ _ refl refl))) (no_tree_edit _)
+
+pub part_put_behind_zero : TreeEdits calls_choice calls_behind_zero
+part_put_behind_zero = one_tree_edit _ _ _ (becomes called _ _ (indirect_choice (value_alone_counts nowhere nowhere nowhere _ _ refl refl))) (no_tree_edit _)

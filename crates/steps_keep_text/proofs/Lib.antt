@@ -1,7 +1,6 @@
 pub mod Along
 pub mod Picked
 pub mod Smaller
-pub mod Shallower
 pub mod StillRead
 pub mod Computed
 pub mod ReadBack

@@ -1,36 +1,45 @@
--- What comes of an array or a sequence counts no more, and its text nests no deeper.
-use Rattle.std.proofs.Common.{◌≤◌, ◌+◌, ℕ, arith}
-use Rattle.serde_json.specs.Data.{depth}
+-- What comes of an array, a sequence or a choice counts no more.
+use Rattle.std.proofs.Common.{◌≡◌, ◌≤◌, ◌+◌, ℕ, pos, arith}
 use Rattle.js_syntax.specs.declared.node_kind.NodeKind.{NodeKind as Kind}
-use Rattle.js_syntax.specs.declared.node_kind.NodeKind.TheVariants.{ArrayExpression as array_expression, Elements as elements, SequenceExpression as sequence_expression, Expressions as expressions}
+use Rattle.js_syntax.specs.declared.node_kind.NodeKind.TheVariants.{EmptyStatement as empty_statement, ExpressionStatement as expression_statement, ArrayExpression as array_expression, Elements as elements, SequenceExpression as sequence_expression, Expressions as expressions, ConditionalExpression as conditional_expression, LogicalExpression as logical_expression, Literal as literal}
+use Rattle.js_syntax.specs.declared.operator.LogicalOperator.{LogicalOperator}
+use Rattle.js_syntax.specs.declared.value.LiteralValue.{LiteralValue}
+use Rattle.js_syntax.specs.declared.value.LiteralValue.TheVariants as value
 use Rattle.js_syntax.specs.Node.{Forest, total}
-use Rattle.json_text.specs.Text.{node_data, row_datas}
-use Rattle.json_kept.proofs.Depths.{deepest, items_deep}
-use Rattle.steps_marked.proofs.Picked.{SomeOf, none, stays, leaves, absent_leaves, Picks, one_part, several}
+use Rattle.steps_marked.proofs.Picked.{SomeOf, none, stays, leaves, absent_leaves, Picks, one_part, several, part_behind_zero}
 
-some_counts : (counts : Kind → ℕ) {r s : Forest} → SomeOf r s → total counts s ≤ total counts r
-some_counts counts none = Prim.omega arith
-some_counts counts (stays rest) = Prim.omega (arith, some_counts counts rest)
-some_counts counts (leaves rest) = Prim.omega (arith, some_counts counts rest)
-some_counts counts (absent_leaves rest) = some_counts counts rest
+-- counts by which what edits build counts no more than what it is built of
+pub record IsSparing (counts : Kind → ℕ) : Type 0 where
+  pub empty : counts empty_statement ≤ counts expression_statement
+  pub of_array : counts sequence_expression ≤ counts array_expression
+  pub of_elements : counts expressions ≤ counts elements
+  pub of_conditional : counts sequence_expression + counts expressions ≤ counts conditional_expression
+  pub of_logical : (o : LogicalOperator) → counts sequence_expression + counts expressions ≤ counts (logical_expression o)
+  pub zero : (v : LiteralValue) → counts (literal (value.Number (pos 0))) ≤ counts (literal v)
 
--- by which a sequence counts no more than an array
-pub picked_counts : (counts : Kind → ℕ) → counts sequence_expression ≤ counts array_expression → counts expressions ≤ counts elements → {k l : Kind} {a b : Forest} → Picks k a l b → counts l + total counts b ≤ counts k + total counts a
-picked_counts counts whole list (one_part k j l i m parts inner holds some) = Prim.omega (arith, some_counts counts some)
-picked_counts counts whole list (several array_expression elements i m parts left holds some) = Prim.omega (arith, whole, list, some_counts counts some)
-picked_counts counts whole list (several sequence_expression expressions i m parts left holds some) = Prim.omega (arith, some_counts counts some)
-picked_counts counts whole list (several k j i m parts left holds some) = absurd cc
+-- as they are where none of that is counted
+pub uncounted : (counts : Kind → ℕ) → counts empty_statement ≡ 0 → counts sequence_expression ≡ 0 → counts expressions ≡ 0 → counts (literal (value.Number (pos 0))) ≡ 0 → IsSparing counts
+uncounted counts empty sequence list zero = record {
+  empty = Prim.omega (arith, empty);
+  of_array = Prim.omega (arith, sequence);
+  of_elements = Prim.omega (arith, list);
+  of_conditional = Prim.omega (arith, sequence, list);
+  of_logical = λ o. Prim.omega (arith, sequence, list);
+  zero = λ v. Prim.omega (arith, zero);
+}
 
-some_nest : {r s : Forest} → SomeOf r s → deepest (row_datas s) ≤ deepest (row_datas r)
-some_nest none = Prim.omega arith
-some_nest (stays rest) = Prim.omega (arith, some_nest rest)
-some_nest (leaves rest) = Prim.omega (arith, some_nest rest)
-some_nest (absent_leaves rest) = Prim.omega (arith, some_nest rest)
+module _ (counts : Kind → ℕ) where
+  some_counts : {r s : Forest} → SomeOf r s → total counts s ≤ total counts r
+  some_counts none = Prim.omega arith
+  some_counts (stays rest) = Prim.omega (arith, some_counts rest)
+  some_counts (leaves rest) = Prim.omega (arith, some_counts rest)
+  some_counts (absent_leaves rest) = some_counts rest
 
-pub picked_nests : {k l : Kind} {a b : Forest} → Picks k a l b → depth (node_data l b (row_datas b)) ≤ depth (node_data k a (row_datas a))
-picked_nests (one_part array_expression elements l i m parts inner holds some) = Prim.omega (arith, items_deep (row_datas parts), some_nest some)
-picked_nests (one_part sequence_expression expressions l i m parts inner holds some) = Prim.omega (arith, items_deep (row_datas parts), some_nest some)
-picked_nests (one_part k j l i m parts inner holds some) = absurd cc
-picked_nests (several array_expression elements i m parts left holds some) = Prim.omega (arith, items_deep (row_datas parts), items_deep (row_datas left), some_nest some)
-picked_nests (several sequence_expression expressions i m parts left holds some) = Prim.omega (arith, items_deep (row_datas parts), items_deep (row_datas left), some_nest some)
-picked_nests (several k j i m parts left holds some) = absurd cc
+  pub picked_counts : IsSparing counts → {k l : Kind} {a b : Forest} → Picks k a l b → counts l + total counts b ≤ counts k + total counts a
+  picked_counts spares (one_part k j l i m parts inner holds some) = Prim.omega (arith, some_counts some)
+  picked_counts spares (several array_expression elements i m parts left holds some) = Prim.omega (arith, spares.of_array, spares.of_elements, some_counts some)
+  picked_counts spares (several sequence_expression expressions i m parts left holds some) = Prim.omega (arith, some_counts some)
+  picked_counts spares (several k j i m parts left holds some) = absurd cc
+  picked_counts spares (part_behind_zero conditional_expression l v o m i p parts inner choice some) = Prim.omega (arith, spares.of_conditional, spares.zero v, some_counts some)
+  picked_counts spares (part_behind_zero (logical_expression q) l v o m i p parts inner choice some) = Prim.omega (arith, spares.of_logical q, spares.zero v, some_counts some)
+  picked_counts spares (part_behind_zero k l v o m i p parts inner choice some) = absurd cc

@@ -1,4 +1,4 @@
--- The text of what edits leave of a program that was read is read as what they leave.
+-- The text of what edits leave of a program that was read is read as what they leave, where it keeps JSON's limit of nesting.
 use Rattle.std.proofs.Common.{◌≡◌, ◌≤◌, ℕ, List, Ok, IsUtf8, sym, ap, subst, arith}
 use Rattle.serde_json.specs.Data.{depth}
 use Rattle.serde_json.specs.Read.{max_depth}
@@ -14,12 +14,13 @@ use Rattle.json_shape.proofs.FittingNodes.{nodes_fit}
 use Rattle.json_kept.specs.Respelled.{negative, misnamed, IsWrittenAsItIs}
 use Rattle.json_kept.specs.Signs.{IsSignable}
 use Rattle.json_kept.proofs.Exact.{read_readable}
-use Rattle.json_kept.proofs.Signable.{read_signable}
-use Rattle.json_kept.proofs.SignsFit.{signed_readable, signable_may}
+use Rattle.json_kept.proofs.Signable.{read_exact_sizes}
+use Rattle.json_kept.proofs.SignsFit.{signed_readable, exact_may}
 use Rattle.json_kept.proofs.SignsWritten.{data_signed, signed_itself}
 use Rattle.json_kept.proofs.Texts.{readable_text}
 use Rattle.steps_allowed.specs.Edits.{Edits}
-use Rattle.steps_keep_text.proofs.StillRead.{fewer_negative, left_readable, left_signable}
+use Rattle.steps_owed.proofs.FitsEdits.{edits_fit}
+use Rattle.steps_keep_text.proofs.StillRead.{fewer_negative, left_exact_sizes, left_readable, left_signable}
 
 -- a signable tree is read back with its signs applied
 pub signable_text : (u : Forest) → IsSignable u → IsUtf8 (text_of u) → IsReadAs (text_of u) (Ok (bare (signed u)))
@@ -31,18 +32,18 @@ pub read_fits : (bytes : List ℕ) (t : Forest) → IsReadAs bytes (Ok t) → Fi
 read_fits bytes t read = nodes_fit 128 root untyped read.1.0 t read.1.2
 
 module _ (bytes : List ℕ) (t u : Forest) (read : IsReadAs bytes (Ok t)) (edits : Edits t u) where
-  pub read_as_it_is : IsWrittenAsItIs t → IsUtf8 (text_of u) → IsReadAs (text_of u) (Ok (bare u))
-  read_as_it_is so utf8 = readable_text u (left_readable t u edits (read_readable bytes t read so)) utf8
+  fits : Fits root t
+  fits = read_fits bytes t read
+
+  pub read_as_it_is : IsWrittenAsItIs t → depth (data_of u) ≤ max_depth → IsUtf8 (text_of u) → IsReadAs (text_of u) (Ok (bare u))
+  read_as_it_is so shallow utf8 = readable_text u (left_readable t u edits fits (read_readable bytes t read so).values shallow) utf8
 
   pub unsigned : total negative t ≡ 0 → signed u ≡ u
-  unsigned none = signed_itself u (Prim.omega (arith, fewer_negative t u edits (read_fits bytes t read), none))
+  unsigned none = signed_itself u (Prim.omega (arith, fewer_negative t u edits fits, none))
 
-  module _ (names : total misnamed t ≡ 0) (shallow : depth (data_of t) ≤ max_depth) where
-    signable : IsSignable u
-    signable = left_signable t u edits (read_signable bytes t read names shallow)
-
-    pub read_with_signs : IsUtf8 (text_of u) → IsReadAs (text_of u) (Ok (bare (signed u)))
-    read_with_signs utf8 = signable_text u signable utf8
+  module _ (names : total misnamed t ≡ 0) where
+    pub read_with_signs : depth (data_of u) ≤ max_depth → IsUtf8 (text_of u) → IsReadAs (text_of u) (Ok (bare (signed u)))
+    read_with_signs shallow utf8 = signable_text u (left_signable t u edits fits (read_exact_sizes bytes t read names) shallow) utf8
 
     pub runs_with_signs : MayBeSigned u
-    runs_with_signs = signable_may u signable
+    runs_with_signs = exact_may u (edits_fit t u edits fits) (left_exact_sizes t u edits fits (read_exact_sizes bytes t read names))

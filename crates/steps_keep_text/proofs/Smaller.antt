@@ -1,7 +1,7 @@
 -- What edits leave of a tree is no larger, by any count of its nodes, and no deeper.
 use Rattle.std.proofs.Common.{◌≡◌, ◌≤◌, ◌+◌, ℕ, suc, Bool, true, false, refl, sym, true≢false, arith}
 use Rattle.js_syntax.specs.declared.node_kind.NodeKind.{NodeKind as Kind}
-use Rattle.js_syntax.specs.declared.node_kind.NodeKind.TheVariants.{EmptyStatement as empty_statement, ExpressionStatement as expression_statement, Class as class, ArrayExpression as array_expression, Elements as elements, SequenceExpression as sequence_expression, Expressions as expressions}
+use Rattle.js_syntax.specs.declared.node_kind.NodeKind.TheVariants.{Class as class}
 use Rattle.js_syntax.specs.Node.{Forest, Note, nothing, node, absent, joined, bare, total}
 use Rattle.js_tree.specs.Count.{one_each, node_count, lower, levels_at, levels}
 use Rattle.json_kept.proofs.Depths.{total_joined}
@@ -10,22 +10,22 @@ use Rattle.scope_laws.proofs.Notes.{total_bare, unseen}
 use Rattle.steps_marked.proofs.Cuts as cuts
 use Rattle.steps_marked.proofs.Cuts.{Cuts}
 use Rattle.steps_keep_text.proofs.Along.{IsShed}
-use Rattle.steps_keep_text.proofs.Picked.{picked_counts}
+use Rattle.steps_keep_text.proofs.Picked.{IsSparing, picked_counts}
 
--- ---- counts, by which an empty statement counts no more than one of an expression, and a sequence no more than an array
+-- ---- counts, by which what edits build counts no more than what it is built of
 
-module _ (counts : Kind → ℕ) (empty : counts empty_statement ≤ counts expression_statement) (sequence : counts sequence_expression ≤ counts array_expression) (in_list : counts expressions ≤ counts elements) where
+module _ (counts : Kind → ℕ) (spares : IsSparing counts) where
   cut_lighter : (listed : Bool) (t u : Forest) → Cuts listed t u → total counts u ≤ total counts t
   cut_lighter listed t u (cuts.leaves k n below rest plain) = Prim.omega arith
-  cut_lighter listed t u (cuts.empties l n m below rest) = Prim.omega (arith, empty)
+  cut_lighter listed t u (cuts.empties l n m below rest) = Prim.omega (arith, spares.empty)
   cut_lighter listed t u (cuts.parts i k l n m b v w rest gives unasked) = Prim.omega (arith, total_joined counts v (node l m b w))
-  cut_lighter listed t u (cuts.rebuilds i k l n m a b rest made) = Prim.omega (arith, picked_counts counts sequence in_list made.picks)
+  cut_lighter listed t u (cuts.rebuilds i k l n m a b rest made) = Prim.omega (arith, picked_counts counts spares made.picks)
   cut_lighter listed t u (cuts.inside l k n below now rest called c) = Prim.omega (arith, cut_lighter (is_list k) below now c)
   cut_lighter listed t u (cuts.behind l k n below rest now c) = Prim.omega (arith, cut_lighter l rest now c)
   cut_lighter listed t u (cuts.behind_none l rest now c) = cut_lighter l rest now c
 
   pub counts_shed : IsShed (total counts)
-  counts_shed = record { renoted = unseen (total counts) (total_bare counts); cut = λ t u c fits. cut_lighter false t u c }
+  counts_shed = record { renoted = unseen (total counts) (total_bare counts); cut = cut_lighter false }
 
 -- ---- levels: in a list none stands lower than the others by its place
 
@@ -63,7 +63,14 @@ bare_levels more at (absent rest) = bare_levels more (suc at) rest
 bare_levels more at (node k n below rest) = Prim.omega (arith, bare_levels (lower k) 0 below, bare_levels more (suc at) rest)
 
 pub levels_shed : IsShed levels
-levels_shed = record { renoted = unseen levels (bare_levels (λ at. 0) 0); cut = λ t u c fits. cut_levels (λ at. 0) 0 false t u c (λ h. absurd (true≢false (sym h))) }
+levels_shed = record { renoted = unseen levels (bare_levels (λ at. 0) 0); cut = λ t u c. cut_levels (λ at. 0) 0 false t u c (λ h. absurd (true≢false (sym h))) }
 
 pub nodes_shed : IsShed node_count
-nodes_shed = counts_shed one_each (Prim.omega arith) (Prim.omega arith) (Prim.omega arith)
+nodes_shed = counts_shed one_each (record {
+  empty = Prim.omega arith;
+  of_array = Prim.omega arith;
+  of_elements = Prim.omega arith;
+  of_conditional = Prim.omega arith;
+  of_logical = λ o. Prim.omega arith;
+  zero = λ v. Prim.omega arith;
+})

@@ -7,6 +7,7 @@ ghost use Rattle.json_text.specs.Text.{data_of};
 ghost use Rattle.js_syntax.specs.declared.operator.LogicalOperator.TheVariants as operator;
 ghost use Rattle.steps_allowed.specs.Rows.{call_of_a, null, conditional, logical, empty};
 ghost use Rattle.steps_allowed.specs.Edits.{TreeEdits};
+ghost use Rattle.steps_keep_text.specs.Samples.{calls_choice, calls_behind_zero};
 
 /// Of `1;` edits leave `;`, and then nothing.
 pub fn a_silent_statement_goes()
@@ -41,4 +42,16 @@ pub fn a_known_left_side_goes()
     ensures levels_left { levels (a_module (does (reads a) ∷ [])) ≡ 3 }
     ensures nests { depth (data_of (a_module (does (logical operator.Coalesce null (reads a)) ∷ []))) ≡ 5 }
     ensures left_nests { depth (data_of (a_module (does (reads a) ∷ []))) ≡ 4 }
+{}
+
+/// Of `(1 ? o.f : null)();` an edit leaves `(0, o.f)();`: a node fewer and as many levels of them, but its text nests one level
+/// deeper.
+pub fn an_indirect_choice_nests_deeper()
+    ensures edits { TreeEdits calls_choice calls_behind_zero }
+    ensures nodes { node_count calls_choice ≡ 8 }
+    ensures nodes_left { node_count calls_behind_zero ≡ 7 }
+    ensures levels { levels calls_choice ≡ 6 }
+    ensures levels_left { levels calls_behind_zero ≡ 6 }
+    ensures nests { depth (data_of calls_choice) ≡ 7 }
+    ensures left_nests { depth (data_of calls_behind_zero) ≡ 8 }
 {}

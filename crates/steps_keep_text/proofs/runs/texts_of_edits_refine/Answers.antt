@@ -7,6 +7,6 @@ use Rattle.steps_keep_text.proofs.runs.texts_of_edits_refine.Goals as goal
 
 pub returns : goal.returns
 returns c = record {
-  of_module = λ bytes t u read edits names shallow core. module_refines u core (runs_with_signs bytes t u read edits names shallow);
-  of_program = λ bytes t u read edits names shallow core refined. refined_joined t u (bare (signed u)) refined (module_refines u core (runs_with_signs bytes t u read edits names shallow));
+  of_module = λ bytes t u read edits names core. module_refines u core (runs_with_signs bytes t u read edits names);
+  of_program = λ bytes t u read edits names core refined. refined_joined t u (bare (signed u)) refined (module_refines u core (runs_with_signs bytes t u read edits names));
 }
