@@ -17,28 +17,28 @@ abbrev pub chosen : Option ℕ → Forest → Option Tree
 chosen None t = None
 chosen (Some i) t = child_at i t
 
-no_index : {P : Type 0} {i : ℕ} → None ≡ Some i → P
+pub no_index : {P : Type 0} {i : ℕ} → None ≡ Some i → P
 no_index e = absurd Prim.cc
 
-abbrev three : (x y z : Tree) → Forest
+abbrev pub three : (x y z : Tree) → Forest
 three x y z = node x.kind x.note x.below (node y.kind y.note y.below (node z.kind z.note z.below nothing))
 
-abbrev two : (x y : Tree) → Forest
+abbrev pub two : (x y : Tree) → Forest
 two x y = node x.kind x.note x.below (node y.kind y.note y.below nothing)
 
-some_kept : (b : Bool) (n i : ℕ) → kept_if b n ≡ Some i → n ≡ i
+pub some_kept : (b : Bool) (n i : ℕ) → kept_if b n ≡ Some i → n ≡ i
 some_kept true n i e = Prim.cc
 some_kept false n i e = no_index e
 
-second_kept : (b : Bool) (x y z : Tree) → chosen (kept_if b 1) (three x y z) ≡ (if b then Some y else None)
+pub second_kept : (b : Bool) (x y z : Tree) → chosen (kept_if b 1) (three x y z) ≡ (if b then Some y else None)
 second_kept true x y z = refl
 second_kept false x y z = refl
 
-third_kept : (b : Bool) (x y z : Tree) → chosen (kept_if b 2) (three x y z) ≡ (if b then Some z else None)
+pub third_kept : (b : Bool) (x y z : Tree) → chosen (kept_if b 2) (three x y z) ≡ (if b then Some z else None)
 third_kept true x y z = refl
 third_kept false x y z = refl
 
-right_kept : (b : Bool) (x y : Tree) → chosen (kept_if b 1) (two x y) ≡ (if b then Some y else None)
+pub right_kept : (b : Bool) (x y : Tree) → chosen (kept_if b 1) (two x y) ≡ (if b then Some y else None)
 right_kept true x y = refl
 right_kept false x y = refl
 

@@ -359,7 +359,7 @@ used : (b : Bool) (o : Option Tree) → is_some (if b then o else None) ≡ true
 used true o e = (refl, e)
 used false o e = absurd (true≢false (sym e))
 
-no_tree : (o : Option Tree) → is_some o ≡ false → o ≡ None
+pub no_tree : (o : Option Tree) → is_some o ≡ false → o ≡ None
 no_tree None e = refl
 no_tree (Some x) e = absurd (true≢false e)
 

@@ -1,18 +1,21 @@
 // Rewritings of one expression.
-ghost use Rattle.std.specs.Prelude.{◌≡◌};
+ghost use Rattle.std.specs.Prelude.{◌≡◌, IfOk, IfErr};
 ghost use Rattle.min_traverse.specs.Lawful.{Does, either};
 ghost use Rattle.rules_expressions.specs.Known.{fold_conditional, fold_logical, at_expression_end};
 ghost use Rattle.rules_expressions.specs.Unused.{fold_unused};
 ghost use Rattle.rules_expressions.specs.Lists.{fold_unused_list};
+ghost use Rattle.rules_expressions.specs.Indirect.{fold_indirect};
 ghost use Rattle.rules_expressions.specs.Uses.{spot_of};
 ghost use Rattle.min_expressions.specs.Kept.{matters_at};
 
 use crate::bare::matters_here;
+use crate::indirect::{goes_behind, keep_behind_zero};
 use crate::kept::{conditional_keeps, keep_child, logical_keeps};
 use crate::list::{keep_list, list_goes};
 use crate::unused::{keep_needed, unused_keeps};
 use js_tree::Node;
 use min_context::MinifierTraverseCtx;
+use std::alloc::AllocError;
 
 // What a literal decides.
 fn fold_decided(node: &mut Node, ctx: &mut MinifierTraverseCtx) -> bool
@@ -27,6 +30,13 @@ fn fold_operation(node: &mut Node, ctx: &mut MinifierTraverseCtx) -> bool
     ensures { Does (either (either fold_conditional fold_logical) fold_unused) ctx.old node.old result ctx.new node.new }
 {
     fold_decided(node, ctx) || PeepholeOptimizations::remove_unused_expression(node, ctx)
+}
+
+// All that takes no memory.
+fn fold_without_memory(node: &mut Node, ctx: &mut MinifierTraverseCtx) -> bool
+    ensures { Does (either (either (either fold_conditional fold_logical) fold_unused) fold_unused_list) ctx.old node.old result ctx.new node.new }
+{
+    fold_operation(node, ctx) || PeepholeOptimizations::remove_unused_list(node, ctx)
 }
 
 /// What a walk does behind a node, to that node alone. Each call answers whether it did anything.
@@ -86,11 +96,36 @@ impl PeepholeOptimizations {
         }
     }
 
-    /// What becomes of an expression behind which the walk is.
-    pub fn fold_expression(node: &mut Node, ctx: &mut MinifierTraverseCtx) -> bool
-        ensures does { Does at_expression_end ctx.old node.old result ctx.new node.new }
+    /// An expression that a literal decides, where it matters that the part that counts doesn't stand there itself, becomes that part
+    /// behind a zero, as `(0, o.f)()`. It fails only for want of memory; then all is as it was.
+    pub fn put_behind_zero(
+        node: &mut Node,
+        ctx: &mut MinifierTraverseCtx,
+    ) -> Result<bool, AllocError>
+        ensures does { IfOk result (λ b. Does fold_indirect ctx.old node.old b ctx.new node.new) }
+        ensures refused { IfErr result (λ e. (node.new ≡ node.old) × (ctx.new ≡ ctx.old)) }
     {
-        fold_operation(node, ctx) || PeepholeOptimizations::remove_unused_list(node, ctx)
+        match goes_behind(node, ctx) {
+            Some(at) => {
+                keep_behind_zero(node, at, ctx)?;
+                Ok(true)
+            }
+            None => Ok(false),
+        }
+    }
+
+    /// What becomes of an expression behind which the walk is. It fails only for want of memory; then all is as it was.
+    pub fn fold_expression(
+        node: &mut Node,
+        ctx: &mut MinifierTraverseCtx,
+    ) -> Result<bool, AllocError>
+        ensures does { IfOk result (λ b. Does at_expression_end ctx.old node.old b ctx.new node.new) }
+        ensures refused { IfErr result (λ e. (node.new ≡ node.old) × (ctx.new ≡ ctx.old)) }
+    {
+        if fold_without_memory(node, ctx) {
+            return Ok(true);
+        }
+        PeepholeOptimizations::put_behind_zero(node, ctx)
     }
 
     /// Whether it matters that an expression stands itself where the walk is, as what a call calls, or what `typeof` or `delete`

@@ -100,7 +100,11 @@ pub(crate) fn take_at(children: &mut [Option<Node>], at: usize) -> Option<Node>
 }
 
 // A child leaves its row, and the context is told of the others.
-fn take_out(children: &mut [Option<Node>], at: usize, ctx: &mut MinifierTraverseCtx) -> Option<Node>
+pub(crate) fn take_out(
+    children: &mut [Option<Node>],
+    at: usize,
+    ctx: &mut MinifierTraverseCtx,
+) -> Option<Node>
     requires { at < length children.old }
     ensures taken { result ≡ slice_index_or children.old at None }
     ensures left { Leaves ctx.old (λ r. ids r (row (slice_set children.old at None))) (evals (row (slice_set children.old at None))) ctx.new }

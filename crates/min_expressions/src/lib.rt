@@ -5,14 +5,17 @@
 //! expression with a literal on its left the side that counts, unless it matters where it stands that this stands there itself,
 //! which `should_keep_indirect_access` answers of a name, a member or a chain. An operation of which nobody takes the value
 //! becomes the operand that acts, if one alone does, and that again (`remove_unused_expression`); an array or a sequence of which
-//! nobody takes the value becomes its parts that act, one alone or several in a sequence (`remove_unused_list`). What comes out is
-//! moved to where the whole stood, a sequence is made of the vectors that are there, the context is told of all that leaves, and of
-//! nothing else, and none of it takes memory. Three calls answer what rules ask: whether an expression, or the object of a member
-//! that is assigned, may refer to something else when it is evaluated again, and what two checks make of a pair, either way round.
+//! nobody takes the value becomes its parts that act, one alone or several in a sequence (`remove_unused_list`). Where it matters that
+//! the part that a literal chooses doesn't stand there itself, it becomes that part behind a zero, as `(0, o.f)()` (`put_behind_zero`).
+//! What comes out is moved to where the whole stood, a sequence is made of the vectors that are there, and the context is told of all
+//! that leaves, and of nothing else. Only a new zero takes memory, before anything is touched. Three calls answer what rules ask:
+//! whether an expression, or the object of a member that is assigned, may refer to something else when it is evaluated again, and what
+//! two checks make of a pair, either way round.
 #![tactic(auto)]
 
 mod bare;
 mod fold;
+mod indirect;
 mod kept;
 mod known;
 mod list;

@@ -260,7 +260,7 @@ fn take_only(parts: &mut Vec<Option<Node>>) -> Option<Node>
 }
 
 // A sequence of these parts, in the row of one field that is given.
-fn sequence(
+pub(crate) fn sequence(
     span: Span,
     mut children: Vec<Option<Node>>,
     list_span: Span,

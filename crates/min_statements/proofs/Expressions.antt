@@ -1,8 +1,10 @@
 -- What the hook of expressions does, and that it may.
 use Rattle.std.proofs.Common.{◌≡◌, ◌∙◌, ◌≤◌, ◌⊎◌, inl, inr, Bool, true, false, not, ◌||◌, Option, Some, None, is_some, if◌then◌else◌, refl, sym, ap, ap₂, subst, arith, true≢false}
 use Rattle.js_syntax.specs.declared.node_kind.NodeKind.{NodeKind as Kind}
-use Rattle.js_syntax.specs.declared.node_kind.NodeKind.TheVariants.{ArrayExpression as array_expression, Elements as elements, MemberExpression as member_expression, ChainExpression as chain_expression, ParenthesizedExpression as parenthesized_expression, SequenceExpression as sequence_expression, Expressions as expressions}
+use Rattle.js_syntax.specs.declared.node_kind.NodeKind.TheVariants.{ArrayExpression as array_expression, Elements as elements, MemberExpression as member_expression, ChainExpression as chain_expression, ParenthesizedExpression as parenthesized_expression, SequenceExpression as sequence_expression, Expressions as expressions, ConditionalExpression as conditional_expression, LogicalExpression as logical_expression, Literal as literal}
+use Rattle.js_syntax.specs.declared.operator.LogicalOperator.{LogicalOperator}
 use Rattle.js_syntax.specs.declared.operator.UnaryOperator.TheVariants as unary
+use Rattle.js_syntax.specs.declared.value.LiteralValue.{LiteralValue}
 use Rattle.js_syntax.specs.Node.{Forest, Note, Tree, nothing, node, absent, forest_of}
 use Rattle.scope_laws.specs.Place as places
 use Rattle.scope_counts.specs.Edits.{Around}
@@ -10,6 +12,7 @@ use Rattle.steps_allowed.specs.KnownConditional.{KnownConditional, consequent_is
 use Rattle.steps_allowed.specs.KnownSide.{KnownSide, right_side_counts, left_side_decides}
 use Rattle.steps_allowed.specs.UnusedOperation.{acts, UnusedOperation, one_operand_acts}
 use Rattle.steps_allowed.specs.UnusedList.{acting, all_act, has_spread, as_one, list_becomes, UnusedList, acting_parts_stay}
+use Rattle.steps_allowed.specs.IndirectChoice.{branch_counts, part_counts, IndirectChoice, value_alone_counts}
 use Rattle.steps_allowed.specs.Uses.{as_value, as_typed, use_at, matters, may_take_name, stands_bare}
 use Rattle.steps_owed.proofs.UnusedPlace.{unused_as_value}
 use Rattle.steps_owed.proofs.UnusedOperation.{Needed, the_operand, first_side, second_side, left_side, the_condition, needed_part}
@@ -23,15 +26,17 @@ use Rattle.rules_expressions.specs.Uses.{Spot, spot_of}
 use Rattle.rules_expressions.specs.Known.{conditional_becomes, logical_becomes, at_expression_end}
 use Rattle.rules_expressions.specs.Unused.{unused_becomes, UnusedOperations, last, one_more}
 use Rattle.rules_expressions.specs.Lists.{unused_list_becomes}
+use Rattle.rules_expressions.specs.Indirect.{indirect_becomes}
 use Rattle.rules_expressions.proofs.Becoming.{no_answer, same_answer, chosen, chosen_if}
 use Rattle.rules_expressions.proofs.Editing.{conditional_edits_there, logical_edits_there}
 use Rattle.rules_expressions.proofs.Unused.{unused_edits_there}
 use Rattle.rules_expressions.proofs.Lists.{list_edits_there}
+use Rattle.rules_expressions.proofs.Indirect.{indirect_edits_there}
 use Rattle.rules_expressions.proofs.Folding.{expressions_fold}
 use Rattle.min_statements.specs.Own.{AnyEdit, Own, Found}
 use Rattle.min_statements.specs.Walker.{Names}
 use Rattle.min_statements.proofs.Acting.{as_tree_edits, asked_true, moves, stayed}
-use Rattle.min_statements.proofs.Calls.{CallsStay}
+use Rattle.min_statements.proofs.Calls.{is_no_name, CallsStay}
 
 conditional_calls : (a : places.Around) (x y : Tree) → KnownConditional a x y → CallsStay a x y
 conditional_calls a x y (consequent_is_taken v n m i j k l b c truth may) = record { fewer = Prim.omega arith; old = refl; in_with = _; bare = may }
@@ -129,6 +134,34 @@ module _ (a : places.Around) (i : Note) (used : use_at a ≡ as_value) where
 list_calls : (a : places.Around) (x y : Tree) → UnusedList a x y → CallsStay a x y
 list_calls a _ _ (acting_parts_stay n m x y unused becomes) = parts_call a x.note (unused_as_value a unused) n m x.kind x.below y becomes
 
+-- ---- what comes to stand behind a zero
+
+record CountsCalls (k : Kind) (parts : Forest) (z : Tree) : Type 0 where
+  fewer : evals (forest_of z) ≤ evals parts
+  old : is_no_name k ≡ true
+
+branch_calls : (v : LiteralValue) (m : Note) (t : Bool) (branches : Forest) (z : Tree) → branch_counts t branches ≡ Some z → CountsCalls conditional_expression (node (literal v) m nothing branches) z
+branch_calls v m true (node k i b (node l j c nothing)) z e =
+    subst (CountsCalls conditional_expression (node (literal v) m nothing (node k i b (node l j c nothing)))) (same_answer e) (record { fewer = Prim.omega arith; old = refl })
+branch_calls v m false (node k i b (node l j c nothing)) z e =
+    subst (CountsCalls conditional_expression (node (literal v) m nothing (node k i b (node l j c nothing)))) (same_answer e) (record { fewer = Prim.omega arith; old = refl })
+branch_calls v m t branches z e = no_answer e
+
+right_calls : (o : LogicalOperator) (v : LiteralValue) (m i : Note) (k : Kind) (b : Forest) (z : Tree) (right : Bool) → (let x : Tree = record { kind = k; note = i; below = b } in (if right then Some x else None) ≡ Some z)
+    → CountsCalls (logical_expression o) (node (literal v) m nothing (node k i b nothing)) z
+right_calls o v m i k b z true e = subst (CountsCalls (logical_expression o) (node (literal v) m nothing (node k i b nothing))) (same_answer e) (record { fewer = Prim.omega arith; old = refl })
+right_calls o v m i k b z false e = no_answer e
+
+part_calls : (k : Kind) (parts : Forest) (z : Tree) → part_counts k parts ≡ Some z → CountsCalls k parts z
+part_calls conditional_expression (node (literal v) m nothing branches) z e = branch_calls v m _ branches z e
+part_calls (logical_expression o) (node (literal v) m nothing (node k i b nothing)) z e = right_calls o v m i k b z _ e
+part_calls k parts z e = no_answer e
+
+indirect_calls : (a : places.Around) (x y : Tree) → IndirectChoice a x y → CallsStay a x y
+indirect_calls a _ _ (value_alone_counts n m i x z counts itself) =
+    let calls = part_calls x.kind x.below z counts in
+    record { fewer = Prim.omega (arith, calls.fewer); old = calls.old; in_with = false; bare = refl }
+
 -- ---- what the rules answer
 
 one_of : (o p : Option Tree) (y : Tree) → or_else o p ≡ Some y → (o ≡ Some y) ⊎ (p ≡ Some y)
@@ -136,23 +169,27 @@ one_of None p y e = inr e
 one_of (Some x) p y e = inl e
 
 abbrev answer_at : Spot → Tree → Option Tree
-answer_at s x = or_else (or_else (or_else (conditional_becomes s x.kind x.below) (logical_becomes s x.kind x.below)) (unused_becomes s x.kind x.below)) (unused_list_becomes s x.note x.kind x.below)
+answer_at s x = or_else (or_else (or_else (or_else (conditional_becomes s x.kind x.below) (logical_becomes s x.kind x.below)) (unused_becomes s x.kind x.below)) (unused_list_becomes s x.note x.kind x.below)) (indirect_becomes s x.note x.kind x.below)
 
 calls_stay : (c : Seen) (a : Around) (x y : Tree) (r : Forest) → IsHere c a → at_expression_end c x ≡ Some y → CallsStay (before a r) x y
 calls_stay c a x y r here found =
     let s = spot_of (place_at a) in
     let known = or_else (conditional_becomes s x.kind x.below) (logical_becomes s x.kind x.below) in
     let none_taken = or_else known (unused_becomes s x.kind x.below) in
-    let there : or_else none_taken (unused_list_becomes s x.note x.kind x.below) ≡ Some y = subst (λ q. answer_at (spot_of q) x ≡ Some y) (sym here) found in
-    elim (one_of none_taken (unused_list_becomes s x.note x.kind x.below) y there) [
-      | inl e ↦ elim (one_of known (unused_becomes s x.kind x.below) y e) [
-        | inl d ↦ elim (one_of (conditional_becomes s x.kind x.below) (logical_becomes s x.kind x.below) y d) [
-          | inl conditional ↦ conditional_calls (before a r) x y (conditional_edits_there a x y r conditional)
-          | inr logical ↦ side_calls (before a r) x y (logical_edits_there a x y r logical)
+    let itself = or_else none_taken (unused_list_becomes s x.note x.kind x.below) in
+    let there : or_else itself (indirect_becomes s x.note x.kind x.below) ≡ Some y = subst (λ q. answer_at (spot_of q) x ≡ Some y) (sym here) found in
+    elim (one_of itself (indirect_becomes s x.note x.kind x.below) y there) [
+      | inl f ↦ elim (one_of none_taken (unused_list_becomes s x.note x.kind x.below) y f) [
+        | inl e ↦ elim (one_of known (unused_becomes s x.kind x.below) y e) [
+          | inl d ↦ elim (one_of (conditional_becomes s x.kind x.below) (logical_becomes s x.kind x.below) y d) [
+            | inl conditional ↦ conditional_calls (before a r) x y (conditional_edits_there a x y r conditional)
+            | inr logical ↦ side_calls (before a r) x y (logical_edits_there a x y r logical)
+          ]
+          | inr operation ↦ operations_call (unused_edits_there a x y r operation)
         ]
-        | inr operation ↦ operations_call (unused_edits_there a x y r operation)
+        | inr parts ↦ list_calls (before a r) x y (list_edits_there a x y r parts)
       ]
-      | inr parts ↦ list_calls (before a r) x y (list_edits_there a x y r parts)
+      | inr indirect ↦ indirect_calls (before a r) x y (indirect_edits_there a x y r indirect)
     ]
 
 module _ (stays : Stays AnyEdit) (names : Names) where

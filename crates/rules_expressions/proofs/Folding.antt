@@ -13,10 +13,12 @@ use Rattle.rules_expressions.specs.Uses.{spot_of}
 use Rattle.rules_expressions.specs.Known.{conditional_becomes, logical_becomes, fold_conditional, fold_logical, at_expression_end}
 use Rattle.rules_expressions.specs.Unused.{unused_becomes, fold_unused, UnusedOperations, last, one_more}
 use Rattle.rules_expressions.specs.Lists.{unused_list_becomes, fold_unused_list}
+use Rattle.rules_expressions.specs.Indirect.{indirect_becomes, fold_indirect}
 use Rattle.rules_expressions.proofs.Becoming.{branch, branch_is_less, side, side_is_less}
 use Rattle.rules_expressions.proofs.Unused.{left_part, left_is_less, unused_edits_there}
 use Rattle.rules_expressions.proofs.Lists.{list_is_less, list_edits_there}
-use Rattle.rules_expressions.proofs.Editing.{conditional_edit, logical_edit, unused_edit, list_edit}
+use Rattle.rules_expressions.proofs.Indirect.{indirect_is_less, indirect_edits_there}
+use Rattle.rules_expressions.proofs.Editing.{conditional_edit, logical_edit, unused_edit, list_edit, indirect_edit}
 
 module _ (E : CompressOptions → Forest → Forest → Type 0) (makes : (o : CompressOptions) (t u : Forest) → Edit t u → E o t u) where
   pub conditionals_fold : Lawful E fold_conditional
@@ -52,5 +54,12 @@ module _ (E : CompressOptions → Forest → Forest → Type 0) (makes : (o : Co
     lighter = λ c x y e. (list_is_less (spot_of c.place) x.note x.kind x.below y e).lighter;
   }
 
+  pub indirect_fold : Lawful E fold_indirect
+  indirect_fold = record {
+    edits = λ c a x y r h at e. one_edit (makes c.options (plug a (before x r)) (plug a (before y r)) (indirect_edit a x y r (indirect_edits_there a x y r (ap (λ p. indirect_becomes (spot_of p) x.note x.kind x.below) at ∙ e)))) no_edit;
+    thins = λ c x y e. (indirect_is_less (spot_of c.place) x.note x.kind x.below y e).thins;
+    lighter = λ c x y e. (indirect_is_less (spot_of c.place) x.note x.kind x.below y e).lighter;
+  }
+
   pub expressions_fold : Lawful E at_expression_end
-  expressions_fold = either_lawful (either_lawful (either_lawful conditionals_fold logicals_fold) unused_fold) lists_fold
+  expressions_fold = either_lawful (either_lawful (either_lawful (either_lawful conditionals_fold logicals_fold) unused_fold) lists_fold) indirect_fold

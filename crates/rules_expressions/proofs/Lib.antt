@@ -2,6 +2,7 @@ pub mod Uses
 pub mod Becoming
 pub mod Unused
 pub mod Lists
+pub mod Indirect
 pub mod Editing
 pub mod Folding
 pub mod Settled

@@ -11,6 +11,7 @@ use Rattle.min_traverse.specs.Lawful.{Rule, either}
 use Rattle.rules_expressions.specs.Uses.{Spot, spot_of, bare}
 use Rattle.rules_expressions.specs.Unused.{fold_unused}
 use Rattle.rules_expressions.specs.Lists.{fold_unused_list}
+use Rattle.rules_expressions.specs.Indirect.{fold_indirect}
 
 -- of both branches the one that is taken
 abbrev pub branch_taken : Spot → (truth : Bool) → (branches : Forest) → Option Tree
@@ -53,4 +54,4 @@ fold_logical c x = logical_becomes (spot_of c.place) x.kind x.below
 
 -- what becomes of an expression at its end
 abbrev pub at_expression_end : Rule
-at_expression_end = either (either (either fold_conditional fold_logical) fold_unused) fold_unused_list
+at_expression_end = either (either (either (either fold_conditional fold_logical) fold_unused) fold_unused_list) fold_indirect

@@ -1,5 +1,5 @@
 -- The rules, tried on small programs.
-use Rattle.std.specs.Prelude.{List, [], ◌∷◌, true, false, Option, codes}
+use Rattle.std.specs.Prelude.{pos, List, [], ◌∷◌, true, false, Option, codes}
 use Rattle.js_syntax.specs.declared.node_kind.NodeKind.{NodeKind as Kind}
 use Rattle.js_syntax.specs.declared.operator.BinaryOperator.{BinaryOperator}
 use Rattle.js_syntax.specs.declared.operator.LogicalOperator.{LogicalOperator}
@@ -17,13 +17,14 @@ use Rattle.rules_expressions.specs.Uses.{spot_of}
 use Rattle.rules_expressions.specs.Known.{conditional_becomes, logical_becomes}
 use Rattle.rules_expressions.specs.Unused.{unused_becomes}
 use Rattle.rules_expressions.specs.Lists.{unused_list_becomes}
+use Rattle.rules_expressions.specs.Indirect.{indirect_becomes}
 
 -- ---- what a walk leaves that asks all rules behind each node
 
 abbrev pub becomes_at : Place → Tree → Option Tree
 becomes_at p x =
-    or_else (or_else (or_else (conditional_becomes (spot_of p) x.kind x.below) (logical_becomes (spot_of p) x.kind x.below)) (unused_becomes (spot_of p) x.kind x.below))
-    (unused_list_becomes (spot_of p) x.note x.kind x.below)
+    or_else (or_else (or_else (or_else (conditional_becomes (spot_of p) x.kind x.below) (logical_becomes (spot_of p) x.kind x.below)) (unused_becomes (spot_of p) x.kind x.below))
+    (unused_list_becomes (spot_of p) x.note x.kind x.below)) (indirect_becomes (spot_of p) x.note x.kind x.below)
 
 abbrev pub folded_at : Place → Tree → Tree
 folded_at p x = or_same x (becomes_at p x)
@@ -73,6 +74,10 @@ spread e = over Kind.SpreadElement e
 
 abbrev pub sequence : List Forest → Forest
 sequence parts = over Kind.SequenceExpression (listed Kind.Expressions parts)
+
+-- (0, e)
+abbrev pub indirect : Forest → Forest
+indirect e = sequence (leaf (Kind.Literal (value.Number (pos 0))) ∷ e ∷ [])
 
 abbrev pub empty_text : Forest
 empty_text = leaf (Kind.Literal (value.Text []))

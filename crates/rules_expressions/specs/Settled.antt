@@ -7,6 +7,7 @@ use Rattle.rules_expressions.specs.Uses.{spot_of}
 use Rattle.rules_expressions.specs.Known.{conditional_becomes, logical_becomes}
 use Rattle.rules_expressions.specs.Unused.{unused_becomes}
 use Rattle.rules_expressions.specs.Lists.{unused_list_becomes}
+use Rattle.rules_expressions.specs.Indirect.{indirect_becomes}
 
 -- at one place
 pub record IsSettledAt (p : Place) (x : Tree) : Type 0 where
@@ -14,6 +15,7 @@ pub record IsSettledAt (p : Place) (x : Tree) : Type 0 where
   pub logical : logical_becomes (spot_of p) x.kind x.below ≡ None
   pub unused : unused_becomes (spot_of p) x.kind x.below ≡ None
   pub list : unused_list_becomes (spot_of p) x.note x.kind x.below ≡ None
+  pub indirect : indirect_becomes (spot_of p) x.note x.kind x.below ≡ None
 
 pub record IsSettled (t : Forest) : Type 0 where
   pub each : (a : Around) (x : Tree) (rest : Forest) → t ≡ plug a (node x.kind x.note x.below rest) → IsSettledAt (place_at a) x

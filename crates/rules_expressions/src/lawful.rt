@@ -6,6 +6,7 @@ ghost use Rattle.min_traverse.specs.Lawful.{Lawful};
 ghost use Rattle.rules_expressions.specs.Known.{fold_conditional, fold_logical, at_expression_end};
 ghost use Rattle.rules_expressions.specs.Unused.{fold_unused};
 ghost use Rattle.rules_expressions.specs.Lists.{fold_unused_list};
+ghost use Rattle.rules_expressions.specs.Indirect.{fold_indirect};
 
 use min_traverse::Traverse;
 
@@ -15,5 +16,6 @@ pub fn rules_are_lawful<T: Traverse>()
     ensures logical { ((o : CompressOptions) (t u : Forest) → Edit t u → T.edit o t u) → Lawful T.edit fold_logical }
     ensures unused { ((o : CompressOptions) (t u : Forest) → Edit t u → T.edit o t u) → Lawful T.edit fold_unused }
     ensures list { ((o : CompressOptions) (t u : Forest) → Edit t u → T.edit o t u) → Lawful T.edit fold_unused_list }
+    ensures indirect { ((o : CompressOptions) (t u : Forest) → Edit t u → T.edit o t u) → Lawful T.edit fold_indirect }
     ensures all { ((o : CompressOptions) (t u : Forest) → Edit t u → T.edit o t u) → Lawful T.edit at_expression_end }
 {}

@@ -6,7 +6,7 @@ ghost use Rattle.js_syntax.specs.declared.operator.UnaryOperator.TheVariants as 
 ghost use Rattle.form_rules.specs.Samples.{a, reads, one, does, calls};
 ghost use Rattle.scope_rules.specs.Samples.{b};
 ghost use Rattle.steps_allowed.specs.Rows.{null, conditional, with_a};
-ghost use Rattle.rules_expressions.specs.Samples.{left, left_of, doing, uses, member, logical, binary, unary, parenthesized, array, spread, sequence, empty_text, a_function};
+ghost use Rattle.rules_expressions.specs.Samples.{left, left_of, doing, uses, member, logical, binary, unary, parenthesized, array, spread, sequence, indirect, empty_text, a_function};
 
 /// A conditional on a literal becomes the branch that is taken, at any depth.
 pub fn branches_left()
@@ -27,23 +27,29 @@ pub fn sides_left()
     ensures coalesce_left { left_of (uses (logical logical_operator.Coalesce empty_text (reads b))) ≡ doing (uses empty_text) }
 {}
 
-/// A member is not called where the value of a conditional is, also in parentheses (ECMA-262 13.3.6.2); another value is.
+/// A member is not called where the value of a conditional is, also in parentheses (ECMA-262 13.3.6.2), so it stays behind a zero;
+/// another value is called.
 pub fn callees_left()
-    ensures member { left_of (calls (conditional one member null)) ≡ doing (calls (conditional one member null)) }
-    ensures parenthesized { left_of (calls (parenthesized (conditional one member null))) ≡ doing (calls (parenthesized (conditional one member null))) }
-    ensures inside { left_of (calls (conditional one (parenthesized member) null)) ≡ doing (calls (conditional one (parenthesized member) null)) }
-    ensures logical { left_of (calls (logical logical_operator.And one member)) ≡ doing (calls (logical logical_operator.And one member)) }
-    ensures direct_eval { left_of (calls (conditional one (reads (codes "eval")) null)) ≡ doing (calls (conditional one (reads (codes "eval")) null)) }
+    ensures member { left_of (calls (conditional one member null)) ≡ doing (calls (indirect member)) }
+    ensures parenthesized { left_of (calls (parenthesized (conditional one member null))) ≡ doing (calls (parenthesized (indirect member))) }
+    ensures alternate { left_of (calls (conditional null one member)) ≡ doing (calls (indirect member)) }
+    ensures inside { left_of (calls (conditional one (parenthesized member) null)) ≡ doing (calls (indirect (parenthesized member))) }
+    ensures logical { left_of (calls (logical logical_operator.And one member)) ≡ doing (calls (indirect member)) }
+    ensures or_member { left_of (calls (logical logical_operator.Or null member)) ≡ doing (calls (indirect member)) }
+    ensures left_side { left_of (calls (logical logical_operator.And null member)) ≡ doing (calls null) }
+    ensures unknown { left_of (calls (conditional (reads a) member null)) ≡ doing (calls (conditional (reads a) member null)) }
+    ensures direct_eval { left_of (calls (conditional one (reads (codes "eval")) null)) ≡ doing (calls (indirect (reads (codes "eval")))) }
     ensures name { left_of (calls (conditional one (reads b) null)) ≡ doing (calls (reads b)) }
-    ensures name_in_with { left (with_a (does (calls (conditional one (reads b) null)))) ≡ with_a (does (calls (conditional one (reads b) null))) }
+    ensures name_in_with { left (with_a (does (calls (conditional one (reads b) null)))) ≡ with_a (does (calls (indirect (reads b)))) }
     ensures argument { left_of (uses (conditional one member null)) ≡ doing (uses member) }
 {}
 
-/// `typeof` takes a name that nothing declares, and `delete` what a member refers to (13.5.3, 13.5.1).
+/// `typeof` takes a name that nothing declares, and `delete` what a member refers to (13.5.3, 13.5.1), so these stay behind a zero as
+/// operands.
 pub fn operands_left()
-    ensures typeof_name { left_of (uses (unary unary_operator.Typeof (conditional one (reads b) null))) ≡ doing (uses (unary unary_operator.Typeof (conditional one (reads b) null))) }
+    ensures typeof_name { left_of (uses (unary unary_operator.Typeof (conditional one (reads b) null))) ≡ doing (uses (unary unary_operator.Typeof (indirect (reads b)))) }
     ensures typeof_member { left_of (uses (unary unary_operator.Typeof (conditional one member null))) ≡ doing (uses (unary unary_operator.Typeof member)) }
-    ensures delete_member { left_of (uses (unary unary_operator.Delete (conditional one member null))) ≡ doing (uses (unary unary_operator.Delete (conditional one member null))) }
+    ensures delete_member { left_of (uses (unary unary_operator.Delete (conditional one member null))) ≡ doing (uses (unary unary_operator.Delete (indirect member))) }
     ensures not_member { left_of (uses (unary unary_operator.LogicalNot (conditional one member null))) ≡ doing (uses (unary unary_operator.LogicalNot member)) }
 {}
 

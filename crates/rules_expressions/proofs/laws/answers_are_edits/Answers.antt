@@ -1,6 +1,7 @@
 use Rattle.rules_expressions.proofs.Editing.{conditional_edits_there, logical_edits_there}
 use Rattle.rules_expressions.proofs.Unused.{unused_edits_there, none_left_there}
 use Rattle.rules_expressions.proofs.Lists.{list_edits_there}
+use Rattle.rules_expressions.proofs.Indirect.{indirect_edits_there}
 use Rattle.rules_expressions.proofs.laws.answers_are_edits.Goals as goal
 
 pub returns-clause-conditional : goal.returns-clause-conditional
@@ -17,3 +18,6 @@ returns-clause-none_left c = none_left_there
 
 pub returns-clause-list : goal.returns-clause-list
 returns-clause-list c = list_edits_there
+
+pub returns-clause-indirect : goal.returns-clause-indirect
+returns-clause-indirect c = indirect_edits_there

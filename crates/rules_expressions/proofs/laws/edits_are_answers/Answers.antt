@@ -1,6 +1,7 @@
 use Rattle.rules_expressions.proofs.Editing.{conditional_answers_there, logical_answers_there}
 use Rattle.rules_expressions.proofs.Unused.{unused_answers_there}
 use Rattle.rules_expressions.proofs.Lists.{list_answers_there}
+use Rattle.rules_expressions.proofs.Indirect.{indirect_answers_there}
 use Rattle.rules_expressions.proofs.laws.edits_are_answers.Goals as goal
 
 pub returns-clause-conditional : goal.returns-clause-conditional
@@ -14,3 +15,6 @@ returns-clause-unused c = unused_answers_there
 
 pub returns-clause-list : goal.returns-clause-list
 returns-clause-list c = list_answers_there
+
+pub returns-clause-indirect : goal.returns-clause-indirect
+returns-clause-indirect c = indirect_answers_there

@@ -1,4 +1,4 @@
-use Rattle.rules_expressions.proofs.Settled.{no_conditional, no_side, no_unused, no_list, is_settled}
+use Rattle.rules_expressions.proofs.Settled.{no_conditional, no_side, no_unused, no_list, no_indirect, is_settled}
 use Rattle.rules_expressions.proofs.laws.what_is_settled_has_no_edits.Goals as goal
 
 pub returns-clause-conditional : goal.returns-clause-conditional
@@ -12,6 +12,9 @@ returns-clause-unused c = no_unused
 
 pub returns-clause-list : goal.returns-clause-list
 returns-clause-list c = no_list
+
+pub returns-clause-indirect : goal.returns-clause-indirect
+returns-clause-indirect c = no_indirect
 
 pub returns-clause-settled : goal.returns-clause-settled
 returns-clause-settled c = is_settled

@@ -5,6 +5,6 @@ use Rattle.min_statements.proofs.statements.StatementsTraverse.exit_expression.G
 
 pub returns : goal.returns
 returns c = record {
-  moves = expression_moves (stays AnyEdit (λ o t u e. e)) c.args.self.now c.fold_expression.ensures.does;
-  visited = λ quiet. expression_visits c.args.self.now quiet c.fold_expression.ensures.does;
+  moves = expression_moves (stays AnyEdit (λ o t u e. e)) c.args.self.now c.in_ok-fold_expression.ensures.does;
+  visited = λ quiet. expression_visits c.args.self.now quiet c.in_ok-fold_expression.ensures.does;
 }

@@ -1,0 +1,202 @@
+-- What a literal chooses comes to stand behind a zero, as the rule says it.
+use Rattle.std.proofs.Common.{◌≡◌, ◌∙◌, ◌≤◌, ℕ, Bool, true, false, ◌||◌, Option, Some, None, if◌then◌else◌, is_some, refl, sym, ap, subst, arith}
+use Rattle.std.specs.Option.{option_map}
+use Rattle.std.specs.Prelude.{nat_lt}
+use Rattle.js_syntax.specs.declared.node_kind.NodeKind.{NodeKind as Kind}
+use Rattle.js_syntax.specs.declared.node_kind.NodeKind.TheVariants.{ConditionalExpression as conditional_expression, LogicalExpression as logical_expression, Literal as literal}
+use Rattle.js_syntax.specs.declared.operator.LogicalOperator.{LogicalOperator}
+use Rattle.js_syntax.specs.declared.value.LiteralValue.{LiteralValue}
+use Rattle.js_syntax.specs.Node.{Forest, Tree, Note, nothing, node, absent, forest_of}
+use Rattle.js_meaning.specs.Value.{literal_value}
+use Rattle.js_meaning.specs.Operator.{truthy, goes_right}
+use Rattle.scope_counts.specs.Counts.{ids}
+use Rattle.symbol_sets.specs.Numbers.{has}
+use Rattle.steps_allowed.specs.IndirectChoice.{branch_counts, part_counts}
+use Rattle.min_context.specs.Edited.{evals, Edited}
+use Rattle.min_context.specs.Seen.{Seen}
+use Rattle.min_traverse.specs.Lawful.{Rule, Does, or_same}
+use Rattle.rules_expressions.specs.Uses.{Spot}
+use Rattle.rules_expressions.specs.Indirect.{behind_if, indirect_becomes}
+use Rattle.min_expressions.specs.Kept.{matters_at, child_at, literal_in, kept_if, parts_of, is_call}
+use Rattle.min_expressions.specs.Indirect.{branch_behind, branch_of, side_behind, side_of, goes_behind, put_behind}
+use Rattle.min_expressions.proofs.Chosen.{chosen, no_index, three, two, some_kept, second_kept, third_kept, right_kept}
+use Rattle.min_expressions.proofs.Lists.{no_tree}
+
+-- a part that may not stand there itself
+abbrev if_matters : Spot → Option Tree → Option Tree
+if_matters s None = None
+if_matters s (Some z) = if matters_at s z then Some z else None
+
+module _ (s : Spot) where
+  -- ---- the branch of a conditional
+
+  by_truth : (t : Bool) (x y z : Tree) → chosen (if t then kept_if (matters_at s y) 1 else kept_if (matters_at s z) 2) (three x y z) ≡ if_matters s (branch_counts t (two y z))
+  by_truth true x y z = second_kept (matters_at s y) x y z
+  by_truth false x y z = third_kept (matters_at s z) x y z
+
+  branch_chosen : (v : LiteralValue) (m : Note) (t : Bool) → truthy (literal_value v) ≡ t → (branches : Forest) → chosen (branch_of s (parts_of (node (literal v) m nothing branches))) (node (literal v) m nothing branches) ≡ if_matters s (branch_counts t branches)
+  branch_chosen v m t w (node k i b (node l j c nothing)) =
+      let x : Tree = record { kind = literal v; note = m; below = nothing } in
+      let y : Tree = record { kind = k; note = i; below = b } in
+      let z : Tree = record { kind = l; note = j; below = c } in
+      ap (λ u. chosen (if u then kept_if (matters_at s y) 1 else kept_if (matters_at s z) 2) (three x y z)) w ∙ by_truth t x y z
+  branch_chosen v m true w nothing = refl
+  branch_chosen v m true w (absent rest) = refl
+  branch_chosen v m true w (node k i b nothing) = refl
+  branch_chosen v m true w (node k i b (absent rest)) = refl
+  branch_chosen v m true w (node k i b (node l j c (absent rest))) = refl
+  branch_chosen v m true w (node k i b (node l j c (node h p d rest))) = refl
+  branch_chosen v m false w nothing = refl
+  branch_chosen v m false w (absent rest) = refl
+  branch_chosen v m false w (node k i b nothing) = refl
+  branch_chosen v m false w (node k i b (absent rest)) = refl
+  branch_chosen v m false w (node k i b (node l j c (absent rest))) = refl
+  branch_chosen v m false w (node k i b (node l j c (node h p d rest))) = refl
+
+  none_of_three : (o : Option LiteralValue) (x y z : Tree) → o ≡ None → chosen (branch_behind s o y z) (three x y z) ≡ None
+  none_of_three o x y z e = ap (λ q. chosen (branch_behind s q y z) (three x y z)) e
+
+  no_branch : (k : Kind) (n : Note) (a rest : Forest) → literal_in k a ≡ None → chosen (branch_of s (parts_of (node k n a rest))) (node k n a rest) ≡ None
+  no_branch k n a (node l m b (node j i c nothing)) e = none_of_three (literal_in k a) (record { kind = k; note = n; below = a }) (record { kind = l; note = m; below = b }) (record { kind = j; note = i; below = c }) e
+  no_branch k n a nothing e = refl
+  no_branch k n a (absent rest) e = refl
+  no_branch k n a (node l m b nothing) e = refl
+  no_branch k n a (node l m b (absent rest)) e = refl
+  no_branch k n a (node l m b (node j i c (absent rest))) e = refl
+  no_branch k n a (node l m b (node j i c (node h p d rest))) e = refl
+
+  by_test : (t : Forest) → chosen (branch_of s (parts_of t)) t ≡ if_matters s (part_counts conditional_expression t)
+  by_test nothing = refl
+  by_test (absent rest) = refl
+  by_test (node (literal v) m nothing branches) = branch_chosen v m (truthy (literal_value v)) refl branches
+  by_test (node k n a rest) = no_branch k n a rest refl
+
+  -- ---- the side of a logical expression
+
+  by_side : (t : Bool) (x y : Tree) → chosen (if t then kept_if (matters_at s y) 1 else None) (two x y) ≡ if_matters s (if t then Some y else None)
+  by_side true x y = right_kept (matters_at s y) x y
+  by_side false x y = refl
+
+  side_chosen : (o : LogicalOperator) (v : LiteralValue) (m : Note) (right : Forest) → chosen (side_of s o (parts_of (node (literal v) m nothing right))) (node (literal v) m nothing right) ≡ if_matters s (part_counts (logical_expression o) (node (literal v) m nothing right))
+  side_chosen o v m (node k i b nothing) = by_side (goes_right o (literal_value v)) (record { kind = literal v; note = m; below = nothing }) (record { kind = k; note = i; below = b })
+  side_chosen o v m nothing = refl
+  side_chosen o v m (absent rest) = refl
+  side_chosen o v m (node k i b (absent rest)) = refl
+  side_chosen o v m (node k i b (node l j c nothing)) = refl
+  side_chosen o v m (node k i b (node l j c (absent rest))) = refl
+  side_chosen o v m (node k i b (node l j c (node h p d rest))) = refl
+
+  no_side : (o : LogicalOperator) (k : Kind) (n : Note) (a rest : Forest) → literal_in k a ≡ None → chosen (side_of s o (parts_of (node k n a rest))) (node k n a rest) ≡ None
+  no_side o k n a (node l m b nothing) e =
+      let y : Tree = record { kind = l; note = m; below = b } in
+      ap (λ q. chosen (side_behind s o q y) (two (record { kind = k; note = n; below = a }) y)) e
+  no_side o k n a nothing e = refl
+  no_side o k n a (absent rest) e = refl
+  no_side o k n a (node l m b (absent rest)) e = refl
+  no_side o k n a (node l m b (node j i c nothing)) e = refl
+  no_side o k n a (node l m b (node j i c (absent rest))) e = refl
+  no_side o k n a (node l m b (node j i c (node h p d rest))) e = refl
+
+  by_left : (o : LogicalOperator) (t : Forest) → chosen (side_of s o (parts_of t)) t ≡ if_matters s (part_counts (logical_expression o) t)
+  by_left o nothing = refl
+  by_left o (absent rest) = refl
+  by_left o (node (literal v) m nothing right) = side_chosen o v m right
+  by_left o (node k n a rest) = no_side o k n a rest refl
+
+  -- ---- either of them
+
+  part_chosen : (k : Kind) (t : Forest) → chosen (goes_behind s k t) t ≡ if_matters s (part_counts k t)
+  part_chosen conditional_expression t = by_test t
+  part_chosen (logical_expression o) t = by_left o t
+  part_chosen k t = refl
+
+  put_if : (n : Note) (b : Bool) (z : Tree) → option_map (put_behind n) (if b then Some z else None) ≡ (if b then Some (put_behind n z) else None)
+  put_if n true z = refl
+  put_if n false z = refl
+
+  put_same : (n : Note) (o : Option Tree) → option_map (put_behind n) (if_matters s o) ≡ behind_if s n o
+  put_same n None = refl
+  put_same n (Some z) = put_if n (matters_at s z) z
+
+  behind_chosen : (n : Note) (k : Kind) (t : Forest) → option_map (put_behind n) (chosen (goes_behind s k t) t) ≡ indirect_becomes s n k t
+  behind_chosen n k t = ap (option_map (put_behind n)) (part_chosen k t) ∙ put_same n (part_counts k t)
+
+  pub goes_as_ruled : (n : Note) (k : Kind) (t : Forest) (i : ℕ) (y : Tree) → goes_behind s k t ≡ Some i → option_map (put_behind n) (child_at i t) ≡ Some y → indirect_becomes s n k t ≡ Some y
+  goes_as_ruled n k t i y e f = sym (behind_chosen n k t) ∙ ap (λ o. option_map (put_behind n) (chosen o t)) e ∙ f
+
+  pub stays_as_ruled : (n : Note) (k : Kind) (t : Forest) → goes_behind s k t ≡ None → indirect_becomes s n k t ≡ None
+  stays_as_ruled n k t e = sym (behind_chosen n k t) ∙ ap (λ o. option_map (put_behind n) (chosen o t)) e
+
+  -- ---- it is there, behind the first, and no call loses it
+
+  pub record IsBehind (k : Kind) (t : Forest) (i : ℕ) : Type 0 where
+    pub there : is_some (child_at i t) ≡ true
+    pub second : 1 ≤ i
+    pub call : is_call k ≡ false
+
+  branch_there : (o : Option LiteralValue) (x y z : Tree) (i : ℕ) → branch_behind s o y z ≡ Some i → IsBehind conditional_expression (three x y z) i
+  branch_there None x y z i e = no_index e
+  branch_there (Some v) x y z i e = by (truthy (literal_value v)) e
+    where
+      by : (t : Bool) → (if t then kept_if (matters_at s y) 1 else kept_if (matters_at s z) 2) ≡ Some i → IsBehind conditional_expression (three x y z) i
+      by true f = subst (IsBehind conditional_expression (three x y z)) (some_kept (matters_at s y) 1 i f) (record { there = refl; second = Prim.omega arith; call = refl })
+      by false f = subst (IsBehind conditional_expression (three x y z)) (some_kept (matters_at s z) 2 i f) (record { there = refl; second = Prim.omega arith; call = refl })
+
+  branches_there : (t : Forest) (i : ℕ) → branch_of s (parts_of t) ≡ Some i → IsBehind conditional_expression t i
+  branches_there (node k n a (node l m b (node j p c nothing))) i e = branch_there (literal_in k a) (record { kind = k; note = n; below = a }) (record { kind = l; note = m; below = b }) (record { kind = j; note = p; below = c }) i e
+  branches_there nothing i e = no_index e
+  branches_there (absent rest) i e = no_index e
+  branches_there (node k n a nothing) i e = no_index e
+  branches_there (node k n a (absent rest)) i e = no_index e
+  branches_there (node k n a (node l m b nothing)) i e = no_index e
+  branches_there (node k n a (node l m b (absent rest))) i e = no_index e
+  branches_there (node k n a (node l m b (node j p c (absent rest)))) i e = no_index e
+  branches_there (node k n a (node l m b (node j p c (node h q d rest)))) i e = no_index e
+
+  side_there : (o : LogicalOperator) (l : Option LiteralValue) (x y : Tree) (i : ℕ) → side_behind s o l y ≡ Some i → IsBehind (logical_expression o) (two x y) i
+  side_there o None x y i e = no_index e
+  side_there o (Some v) x y i e = by (goes_right o (literal_value v)) e
+    where
+      by : (t : Bool) → (if t then kept_if (matters_at s y) 1 else None) ≡ Some i → IsBehind (logical_expression o) (two x y) i
+      by true f = subst (IsBehind (logical_expression o) (two x y)) (some_kept (matters_at s y) 1 i f) (record { there = refl; second = Prim.omega arith; call = refl })
+      by false f = no_index f
+
+  sides_there : (o : LogicalOperator) (t : Forest) (i : ℕ) → side_of s o (parts_of t) ≡ Some i → IsBehind (logical_expression o) t i
+  sides_there o (node k n a (node l m b nothing)) i e = side_there o (literal_in k a) (record { kind = k; note = n; below = a }) (record { kind = l; note = m; below = b }) i e
+  sides_there o nothing i e = no_index e
+  sides_there o (absent rest) i e = no_index e
+  sides_there o (node k n a nothing) i e = no_index e
+  sides_there o (node k n a (absent rest)) i e = no_index e
+  sides_there o (node k n a (node l m b (absent rest))) i e = no_index e
+  sides_there o (node k n a (node l m b (node j p c nothing))) i e = no_index e
+  sides_there o (node k n a (node l m b (node j p c (absent rest)))) i e = no_index e
+  sides_there o (node k n a (node l m b (node j p c (node h q d rest)))) i e = no_index e
+
+  pub is_behind : (k : Kind) (t : Forest) (i : ℕ) → goes_behind s k t ≡ Some i → IsBehind k t i
+  is_behind conditional_expression t i e = branches_there t i e
+  is_behind (logical_expression o) t i e = sides_there o t i e
+  is_behind k t i e = no_index e
+
+-- ---- what leaves: the zero before it counts for nothing
+
+pub edited_behind : {c e : Seen} {x z y w : Tree} (n : Note) → y ≡ w → w ≡ put_behind n z → Edited c x z true e → Edited c x y true e
+edited_behind {c = c} {e = e} {x = x} {z = z} {y = y} {w = w} n put is edited =
+    subst (λ u. Edited c x u true e) (sym (put ∙ is)) (record {
+      same = edited.same;
+      room = edited.room;
+      marks = λ r h. edited.marks r h ∙ ap (λ m. has c.marked r || nat_lt m (ids r (forest_of x))) (ids_same r);
+      evals = edited.evals ∙ ap (λ m. c.eval_dropped || nat_lt m (evals (forest_of x))) evals_same;
+      asked = edited.asked;
+      none = edited.none;
+    })
+  where
+    ids_same : (r : ℕ) → ids r (forest_of z) ≡ ids r (forest_of (put_behind n z))
+    ids_same r = Prim.omega arith
+
+    evals_same : evals (forest_of z) ≡ evals (forest_of (put_behind n z))
+    evals_same = Prim.omega arith
+
+-- ---- a call that did nothing
+
+pub nothing_done : {c d : Seen} {x y : Tree} (rule : Rule) → Does rule c x false d y → (y ≡ x) × (d ≡ c)
+nothing_done {c = c} {x = x} rule w = (w.tree ∙ ap (or_same x) (no_tree (rule c x) (sym w.answers)), w.edited.none (sym w.answers))

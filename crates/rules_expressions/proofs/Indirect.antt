@@ -1,0 +1,82 @@
+-- What becomes of choices on a literal where it matters that the part that counts doesn't stand there itself.
+use Rattle.std.proofs.Common.{◌≡◌, ◌∙◌, ◌+◌, ◌≤◌, ℕ, Bool, true, false, Option, Some, None, if◌then◌else◌, refl, sym, ap, subst, arith}
+use Rattle.js_syntax.specs.declared.node_kind.NodeKind.{NodeKind as Kind}
+use Rattle.js_syntax.specs.declared.node_kind.NodeKind.TheVariants.{ConditionalExpression as conditional_expression, LogicalExpression as logical_expression, Literal as literal}
+use Rattle.js_syntax.specs.declared.operator.LogicalOperator.{LogicalOperator}
+use Rattle.js_syntax.specs.declared.value.LiteralValue.{LiteralValue}
+use Rattle.js_syntax.specs.Facts.{weight}
+use Rattle.js_syntax.specs.Node.{Forest, Tree, Note, nothing, node, bare, forest_of, total}
+use Rattle.js_meaning.specs.Value.{literal_value}
+use Rattle.js_meaning.specs.Operator.{truthy, goes_right}
+use Rattle.scope_counts.specs.Counts.{ids}
+use Rattle.min_context.specs.Place.{place_at}
+use Rattle.scope_laws.specs.Place as places
+use Rattle.scope_counts.specs.Edits.{Around}
+use Rattle.steps_allowed.specs.IndirectChoice.{branch_counts, part_counts, behind_zero, IndirectChoice, value_alone_counts}
+use Rattle.steps_allowed.specs.Uses.{matters}
+use Rattle.rules_dead_code.specs.Before.{before}
+use Rattle.rules_expressions.specs.Uses.{Spot, spot_of}
+use Rattle.rules_expressions.specs.Lists.{new_note}
+use Rattle.rules_expressions.specs.Indirect.{behind_if, indirect_becomes}
+use Rattle.rules_expressions.proofs.Uses.{spot_at, spot_before}
+use Rattle.rules_expressions.proofs.Becoming.{no_answer, same_answer, chosen, chosen_if, IsLess}
+
+-- ---- an answer is a part that counts, behind a zero
+
+record IsBehind (s : Spot) (n : Note) (o : Option Tree) (y : Tree) : Type 0 where
+  part : Tree
+  counts : o ≡ Some part
+  itself : matters s.used_as s.in_with part.kind part.below ≡ true
+  is : behind_zero (new_note n) (new_note n) (new_note n) part ≡ y
+
+is_behind : (s : Spot) (n : Note) (o : Option Tree) (y : Tree) → behind_if s n o ≡ Some y → IsBehind s n o y
+is_behind s n None y e = no_answer e
+is_behind s n (Some z) y e = elim (chosen_if (matters s.used_as s.in_with z.kind z.below) (behind_zero (new_note n) (new_note n) (new_note n) z) y e) [ chosen may is ↦ record { part = z; counts = refl; itself = may; is = is } ]
+
+-- ---- the answer is an edit, and where an edit applies there is an answer
+
+pub indirect_edits : (a : places.Around) (x y : Tree) → indirect_becomes (spot_at a) x.note x.kind x.below ≡ Some y → IndirectChoice a x y
+indirect_edits a x y e =
+    let h = is_behind (spot_at a) x.note (part_counts x.kind x.below) y e in
+    subst (λ z. IndirectChoice a x z) h.is (value_alone_counts (new_note x.note) (new_note x.note) (new_note x.note) x h.part h.counts h.itself)
+
+pub indirect_answers : (a : places.Around) (x z : Tree) → IndirectChoice a x z → (y : Tree) × (indirect_becomes (spot_at a) x.note x.kind x.below ≡ Some y) × (bare (forest_of y) ≡ bare (forest_of z))
+indirect_answers a _ _ (value_alone_counts n m i x z counts itself) =
+    let y : Tree = behind_zero (new_note x.note) (new_note x.note) (new_note x.note) z in
+    (y, ap (λ o. behind_if (spot_at a) x.note o) counts ∙ ap (λ b. if b then Some y else None) itself, refl)
+
+-- at a place of a walk
+pub indirect_edits_there : (a : Around) (x y : Tree) (rest : Forest) → indirect_becomes (spot_of (place_at a)) x.note x.kind x.below ≡ Some y → IndirectChoice (before a rest) x y
+indirect_edits_there a x y rest e = indirect_edits (before a rest) x y (ap (λ s. indirect_becomes s x.note x.kind x.below) (sym (spot_before a rest)) ∙ e)
+
+pub indirect_answers_there : (a : Around) (x z : Tree) (rest : Forest) → IndirectChoice (before a rest) x z → (y : Tree) × (indirect_becomes (spot_of (place_at a)) x.note x.kind x.below ≡ Some y) × (bare (forest_of y) ≡ bare (forest_of z))
+indirect_answers_there a x z rest o = let w = indirect_answers (before a rest) x z o in (w.0, ap (λ s. indirect_becomes s x.note x.kind x.below) (spot_before a rest) ∙ w.1, w.2)
+
+-- ---- the choice weighs more than a sequence and a zero
+
+record IsSmall (k : Kind) (parts : Forest) (z : Tree) : Type 0 where
+  fewer : (r : ℕ) → ids r (forest_of z) ≤ ids r parts
+  lighter : total weight (forest_of z) + 4 ≤ weight k + total weight parts
+
+small_branch : (v : LiteralValue) (m : Note) (t : Bool) (branches : Forest) (z : Tree) → branch_counts t branches ≡ Some z → IsSmall conditional_expression (node (literal v) m nothing branches) z
+small_branch v m true (node k i b (node l j c nothing)) z e =
+    subst (λ y. IsSmall conditional_expression (node (literal v) m nothing (node k i b (node l j c nothing))) y) (same_answer e) (record { fewer = λ r. Prim.omega arith; lighter = Prim.omega arith })
+small_branch v m false (node k i b (node l j c nothing)) z e =
+    subst (λ y. IsSmall conditional_expression (node (literal v) m nothing (node k i b (node l j c nothing))) y) (same_answer e) (record { fewer = λ r. Prim.omega arith; lighter = Prim.omega arith })
+small_branch v m t branches z e = no_answer e
+
+small_side : (o : LogicalOperator) (v : LiteralValue) (m i : Note) (k : Kind) (b : Forest) (z : Tree) (right : Bool) → (let x : Tree = record { kind = k; note = i; below = b } in (if right then Some x else None) ≡ Some z)
+    → IsSmall (logical_expression o) (node (literal v) m nothing (node k i b nothing)) z
+small_side o v m i k b z true e = subst (λ y. IsSmall (logical_expression o) (node (literal v) m nothing (node k i b nothing)) y) (same_answer e) (record { fewer = λ r. Prim.omega arith; lighter = Prim.omega arith })
+small_side o v m i k b z false e = no_answer e
+
+small_part : (k : Kind) (parts : Forest) (z : Tree) → part_counts k parts ≡ Some z → IsSmall k parts z
+small_part conditional_expression (node (literal v) m nothing branches) z e = small_branch v m (truthy (literal_value v)) branches z e
+small_part (logical_expression o) (node (literal v) m nothing (node k i b nothing)) z e = small_side o v m i k b z (goes_right o (literal_value v)) e
+small_part k parts z e = no_answer e
+
+pub indirect_is_less : (s : Spot) (n : Note) (k : Kind) (parts : Forest) (y : Tree) → indirect_becomes s n k parts ≡ Some y → IsLess (record { kind = k; note = n; below = parts }) y
+indirect_is_less s n k parts y e =
+    let h = is_behind s n (part_counts k parts) y e in
+    let l = small_part k parts h.part h.counts in
+    subst (λ z. IsLess (record { kind = k; note = n; below = parts }) z) h.is (record { thins = λ r. Prim.omega (arith, l.fewer r); lighter = Prim.omega (arith, l.lighter) })
