@@ -5,4 +5,5 @@ pub mod Sound
 pub mod Refining
 pub mod Headline
 mod RenotedUnused
+mod RenotedChoice
 pub mod Renoted

@@ -23,7 +23,7 @@ use Rattle.scope_laws.proofs.Among.{among_map, image}
 use Rattle.steps_names.specs.Standing.{is_export, exported_sites, exported_declarations}
 use Rattle.steps_allowed.specs.Silent.{read_in, IsFound, IsSilentNode, IsSilent, HoldsThere}
 use Rattle.steps_allowed.specs.Exposure.{Exposure, exposed_inside, exposed_of, exposed_at, exposure, function_is_exposed, evaluates_somewhere, IsOwnFunction, IsOwnDeclarator}
-use Rattle.steps_allowed.specs.Uses.{Use, use_below, use_there, use_at, stands_bare}
+use Rattle.steps_allowed.specs.Uses.{Use, use_below, use_there, use_at, matters, stands_bare}
 use Rattle.steps_allowed.specs.Unused.{is_unused_below, unused_there}
 use Rattle.steps_allowed.specs.Places.{a_node, asked_at, IsItem, IsDeclarator, At, MayStandBare}
 use Rattle.steps_allowed.specs.Free.{IsFree, Free, FreeDeclarator}
@@ -34,10 +34,12 @@ use Rattle.steps_allowed.specs.KnownConditional.{KnownConditional, consequent_is
 use Rattle.steps_allowed.specs.KnownSide.{KnownSide, right_side_counts, left_side_decides}
 use Rattle.steps_allowed.specs.UnusedOperation.{UnusedOperation, one_operand_acts}
 use Rattle.steps_allowed.specs.UnusedList.{UnusedList, acting_parts_stay}
+use Rattle.steps_allowed.specs.IndirectChoice.{IndirectChoice, value_alone_counts}
 use Rattle.steps_owed.proofs.ExposedBare.{bare_inside, bare_below, bare_exposed}
 use Rattle.steps_owed.proofs.Focus.{follows_there}
-use Rattle.headline.specs.Clean.{IsDead, an_empty_statement, a_silent_statement, an_unused_function, an_unused_declarator, a_known_conditional, a_known_side, an_unused_operation, an_unused_list, Clean}
+use Rattle.headline.specs.Clean.{IsDead, an_empty_statement, a_silent_statement, an_unused_function, an_unused_declarator, a_known_conditional, a_known_side, an_unused_operation, an_unused_list, an_indirect_choice, Clean}
 use Rattle.headline.proofs.RenotedUnused.{stands_as, needed_as, child_as, list_as}
+use Rattle.headline.proofs.RenotedChoice.{counts_as}
 
 -- ---- sites without ids and spans
 
@@ -565,6 +567,14 @@ module _ (t u : Forest) (e : bare t ≡ bare u) (clean : Clean t) where
       let z = list_as n m x.kind o.below x.below y o.same becomes in
       clean.nothing_is_dead o.around (Some now) o.is (an_unused_list o.around now z.0 (acting_parts_stay n m now z.0 (o.unused (λ j. false) 0 ∙ unused) z.1))
 
+  no_choice : (a : Around) (x y : Tree) → u ≡ plug a (Some x) → IndirectChoice a x y → ⊥
+  no_choice a _ _ is (value_alone_counts n m i x z counts alone) =
+      let o = other_place a x.kind x.note x.below is in
+      let now : Tree = record { kind = x.kind; note = o.note; below = o.below } in
+      let p = counts_as (use_at a) (asked_at (asked_of_program true) a).in_with x.kind o.below x.below z o.same counts alone in
+      let alone_now = ap₂ (λ v (w : Asked). matters v w.in_with p.0.kind p.0.below) (o.used (λ j. Use.as_value) 0) (o.asked (asked_of_program true)) ∙ p.2 in
+      clean.nothing_is_dead o.around (Some now) o.is (an_indirect_choice o.around now _ (value_alone_counts n m i now p.0 p.1 alone_now))
+
   none_dead : (a : Around) (x : Option Tree) → u ≡ plug a x → IsDead u a x → ⊥
   none_dead a x is (an_empty_statement b n item) = no_empty b n is item
   none_dead a x is (a_silent_statement b n below silent) = no_silent b n below is silent
@@ -574,6 +584,7 @@ module _ (t u : Forest) (e : bare t ≡ bare u) (clean : Clean t) where
   none_dead a x is (a_known_side b y z known) = no_side b y z is known
   none_dead a x is (an_unused_operation b y z unused) = no_operation b y z is unused
   none_dead a x is (an_unused_list b y z unused) = no_list b y z is unused
+  none_dead a x is (an_indirect_choice b y z decides) = no_choice b y z is decides
 
 pub clean_as : (t u : Forest) → bare t ≡ bare u → Clean t → Clean u
 clean_as t u e clean = record { nothing_is_dead = none_dead t u e clean }

@@ -22,7 +22,7 @@ chain_bare u (node k n below rest) = refl
 chain_bare u (absent rest) = refl
 chain_bare u nothing = refl
 
-matters_bare : (u : Use) (w : Bool) (k : Kind) (t : Forest) → matters u w k (bare t) ≡ matters u w k t
+pub matters_bare : (u : Use) (w : Bool) (k : Kind) (t : Forest) → matters u w k (bare t) ≡ matters u w k t
 matters_bare u w (reference_name x) t = refl
 matters_bare u w (member_expression key optional) t = refl
 matters_bare u w chain_expression t = chain_bare u t

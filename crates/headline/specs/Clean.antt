@@ -17,6 +17,8 @@ use Rattle.steps_allowed.specs.KnownSide.{KnownSide}
 use Rattle.steps_allowed.specs.UnusedOperation.{UnusedOperation}
 -- and an array or a sequence, and its parts that act
 use Rattle.steps_allowed.specs.UnusedList.{UnusedList}
+-- and what decides by a literal, and the part that counts, which may not stand there itself
+use Rattle.steps_allowed.specs.IndirectChoice.{IndirectChoice}
 -- whose names only the tree's references may use
 use Rattle.steps_allowed.specs.Exposure.{IsOwnFunction, IsOwnDeclarator}
 
@@ -42,6 +44,9 @@ pub data IsDead (t : Forest) : Around → Option Tree → Type 0 where
   -- an array of which nobody takes the value and in which nothing is spread, or such a sequence of which not all parts act: what
   -- doesn't act of it does nothing
   an_unused_list : (a : Around) (x y : Tree) → UnusedList a x y → IsDead t a (Some x)
+  -- a conditional or a logical expression that a literal decides, where the part that counts may stand behind a zero alone: the rest
+  -- of it does nothing
+  an_indirect_choice : (a : Around) (x y : Tree) → IndirectChoice a x y → IsDead t a (Some x)
 
 -- No part of the program is dead code.
 pub record Clean (t : Forest) : Type 0 where

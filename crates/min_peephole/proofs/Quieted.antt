@@ -21,6 +21,7 @@ use Rattle.rules_expressions.specs.Uses.{spot_of}
 use Rattle.rules_expressions.specs.Known.{conditional_becomes, logical_becomes}
 use Rattle.rules_expressions.specs.Unused.{unused_becomes}
 use Rattle.rules_expressions.specs.Lists.{unused_list_becomes}
+use Rattle.rules_expressions.specs.Indirect.{indirect_becomes}
 use Rattle.rules_expressions.specs.Settled.{IsSettledAt}
 use Rattle.rules_expressions.proofs.Walked.{settled_nodes}
 use Rattle.min_peephole.specs.Quiet.{first_facts, is_row, decides_none, wastes_none, stays, all_stay, is_quiet}
@@ -46,26 +47,30 @@ module _ (f : Facts) (p : Place) (n : Note) (k : Kind) (inner : Forest) (h : sta
   is_silent = is_silent_statement f (where_of p) k inner
 
   abbrev is_settled : Bool
-  is_settled = decides_none p k inner && wastes_none p n k inner
+  is_settled = decides_none p n k inner && wastes_none p n k inner
 
   at_node : (not one_goes ≡ true) × (not is_silent && is_settled ≡ true)
   at_node = and_parts (not one_goes) (not is_silent && is_settled) h
 
-  at_expression : (decides_none p k inner ≡ true) × (wastes_none p n k inner ≡ true)
-  at_expression = and_parts (decides_none p k inner) (wastes_none p n k inner) (and_parts (not is_silent) is_settled at_node.1).1
+  at_expression : (decides_none p n k inner ≡ true) × (wastes_none p n k inner ≡ true)
+  at_expression = and_parts (decides_none p n k inner) (wastes_none p n k inner) (and_parts (not is_silent) is_settled at_node.1).1
 
   quiet_here : IsQuietAt f p (record { kind = k; note = n; below = inner })
   quiet_here = record { list = list_stays k (has_dead f (where_of p) inner) at_node.0; statement = none_empty is_silent _ (and_parts (not is_silent) is_settled at_node.1).0 }
 
   settled_here : IsSettledAt p (record { kind = k; note = n; below = inner })
   settled_here =
-      let decides = and_parts (not (is_some (conditional_becomes (spot_of p) k inner))) (not (is_some (logical_becomes (spot_of p) k inner))) at_expression.0 in
+      let bare = not (is_some (logical_becomes (spot_of p) k inner)) in
+      let behind = not (is_some (indirect_becomes (spot_of p) n k inner)) in
+      let decides = and_parts (not (is_some (conditional_becomes (spot_of p) k inner))) (bare && behind) at_expression.0 in
+      let others = and_parts bare behind decides.1 in
       let wastes = and_parts (not (is_some (unused_becomes (spot_of p) k inner))) (not (is_some (unused_list_becomes (spot_of p) n k inner))) at_expression.1 in
       record {
         conditional = none_there (conditional_becomes (spot_of p) k inner) decides.0;
-        logical = none_there (logical_becomes (spot_of p) k inner) decides.1;
+        logical = none_there (logical_becomes (spot_of p) k inner) others.0;
         unused = none_there (unused_becomes (spot_of p) k inner) wastes.0;
         list = none_there (unused_list_becomes (spot_of p) n k inner) wastes.1;
+        indirect = none_there (indirect_becomes (spot_of p) n k inner) others.1;
       }
 
 each_stays : (Q : Place → Tree → Type 0) (f : Facts) → ((p : Place) (n : Note) (k : Kind) (inner : Forest) → stays f p n k inner ≡ true → Q p (record { kind = k; note = n; below = inner })) → (s : Spot) (t : Forest) → all_stay f s t ≡ true → EachNode Q s t

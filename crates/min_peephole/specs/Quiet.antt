@@ -14,6 +14,7 @@ use Rattle.rules_expressions.specs.Uses.{spot_of}
 use Rattle.rules_expressions.specs.Known.{conditional_becomes, logical_becomes}
 use Rattle.rules_expressions.specs.Unused.{unused_becomes}
 use Rattle.rules_expressions.specs.Lists.{unused_list_becomes}
+use Rattle.rules_expressions.specs.Indirect.{indirect_becomes}
 
 -- what the first pass knows
 abbrev pub first_facts : Forest → Facts
@@ -24,8 +25,8 @@ is_row statements = true
 is_row k = false
 
 -- an expression at a place doesn't decide by a literal
-abbrev pub decides_none : Place → Kind → (inner : Forest) → Bool
-decides_none p k inner = not (is_some (conditional_becomes (spot_of p) k inner)) && not (is_some (logical_becomes (spot_of p) k inner))
+abbrev pub decides_none : Place → Note → Kind → (inner : Forest) → Bool
+decides_none p n k inner = not (is_some (conditional_becomes (spot_of p) k inner)) && (not (is_some (logical_becomes (spot_of p) k inner)) && not (is_some (indirect_becomes (spot_of p) n k inner)))
 
 -- and, where nobody takes its value, is no operation and no list that comes to what of it acts
 abbrev pub wastes_none : Place → Note → Kind → (inner : Forest) → Bool
@@ -33,7 +34,7 @@ wastes_none p n k inner = not (is_some (unused_becomes (spot_of p) k inner)) && 
 
 -- a node at a place: no item of a list goes, no statement becomes empty, and no expression comes to its parts
 abbrev pub stays : Facts → Place → Note → Kind → (inner : Forest) → Bool
-stays f p n k inner = not (is_row k && has_dead f (where_of p) inner) && (not (is_silent_statement f (where_of p) k inner) && (decides_none p k inner && wastes_none p n k inner))
+stays f p n k inner = not (is_row k && has_dead f (where_of p) inner) && (not (is_silent_statement f (where_of p) k inner) && (decides_none p n k inner && wastes_none p n k inner))
 
 -- each node of a row, by its place
 abbrev pub all_stay : Facts → Spot → Forest → Bool

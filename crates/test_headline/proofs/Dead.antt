@@ -10,8 +10,10 @@ use Rattle.js_syntax.specs.declared.operator.LogicalOperator.TheVariants as logi
 use Rattle.js_syntax.specs.declared.value.Key.TheVariants as key
 use Rattle.js_syntax.specs.declared.value.LiteralValue.{LiteralValue as Literal}
 use Rattle.js_syntax.specs.Node.{Forest, Tree, Note, nothing, node, absent, nowhere, joined, below_of}
-use Rattle.js_syntax.specs.Table.{a_program, an_expression_statement, a_call_expression, a_conditional_expression, a_member_expression, a_reference_name, a_literal, a_binary_expression, a_sequence_expression, a_binding_name, a_function_declaration, a_function_body, an_export_declaration, a_variable_declaration, a_variable_declarator}
-use Rattle.form_rules.specs.Samples.{over, listed, no, reads, a_module, a_script, a, binds, one, does, declares, let_, function_a, block}
+use Rattle.js_syntax.specs.Table.{a_program, an_expression_statement, a_call_expression, a_member_expression, a_reference_name, a_literal, a_binary_expression, a_sequence_expression, a_binding_name, a_function_declaration, a_function_body, an_export_declaration, a_variable_declaration, a_variable_declarator}
+use Rattle.form_rules.specs.Samples.{leaf, listed, no, reads, a_module, a_script, a, binds, one, does, declares, let_, function_a, block}
+use Rattle.js_meaning.specs.Samples as sample
+use Rattle.js_meaning.specs.Examples.{g, o}
 use Rattle.json_shape.specs.Shape.{one as one_of, key_apart, list, these, all, Stand, Fits}
 use Rattle.scope_rules.specs.Context.{body_of}
 use Rattle.scope_rules.specs.Site.{BindingSite, ReferenceSite, sites_of, bindings_among, references_among}
@@ -19,12 +21,13 @@ use Rattle.scope_rules.specs.Binding.{Binding, named_in, declared_by, binding_of
 use Rattle.scope_laws.specs.Exact.{Among}
 use Rattle.scope_laws.specs.Place.{Around, first, behind, behind_none, under, plug}
 use Rattle.steps_names.specs.Standing.{exported_declarations}
-use Rattle.steps_allowed.specs.Rows.{in_list, in_statement, statement, argument, before, call_of_a, call_of_eval, exports_declaration, empty, null}
+use Rattle.steps_allowed.specs.Rows.{in_list, in_statement, statement, called, argument, before, call_of_a, call_of_eval, exports_declaration, empty}
 use Rattle.steps_allowed.specs.KnownConditional.{consequent_is_taken, alternate_is_taken}
 use Rattle.steps_allowed.specs.KnownSide.{right_side_counts, left_side_decides}
 use Rattle.steps_allowed.specs.UnusedOperation.{needed_at, one_operand_acts}
 use Rattle.steps_allowed.specs.UnusedList.{list_becomes, acting_parts_stay}
-use Rattle.headline.specs.Clean.{IsDead, an_empty_statement, a_silent_statement, an_unused_function, an_unused_declarator, a_known_conditional, a_known_side, an_unused_operation, an_unused_list, Clean}
+use Rattle.steps_allowed.specs.IndirectChoice.{part_counts, value_alone_counts}
+use Rattle.headline.specs.Clean.{IsDead, an_empty_statement, a_silent_statement, an_unused_function, an_unused_declarator, a_known_conditional, a_known_side, an_unused_operation, an_unused_list, an_indirect_choice, Clean}
 use Rattle.min_peephole.specs.Quiet.{is_quiet}
 use Rattle.min_peephole.proofs.Quieted.{quiet_clean}
 use Rattle.test_headline.specs.Rows as row
@@ -81,6 +84,10 @@ operation_is_dead c = c.nothing_is_dead statement _ refl (an_unused_operation st
 -- [a(), 1];
 pub list_is_dead : Clean row.lists_call → ⊥
 list_is_dead c = c.nothing_is_dead statement _ refl (an_unused_list statement _ _ (acting_parts_stay nowhere nowhere _ _ refl refl))
+
+-- (1 ? o.g : null)();
+pub choice_is_dead : Clean row.calls_chosen → ⊥
+choice_is_dead c = c.nothing_is_dead called _ refl (an_indirect_choice called _ _ (value_alone_counts nowhere nowhere nowhere _ _ refl refl))
 
 -- ---- what has none
 
@@ -166,15 +173,12 @@ global_fits = ((a_program, (source_type.Script, tt), refl, tt, refl, ((refl, (in
 pub global_is_clean : Clean (a_script (function_a [] [] ∷ []))
 global_is_clean = quiet_clean _ global_fits refl
 
--- (1 ? a.f : null)();
-member_stands : Stand (these (one_of callee ∷ key_apart true ∷ [])) (joined (reads a) no)
-member_stands = ((a_reference_name, (a, tt), refl, tt, refl, tt), (refl, tt))
+-- (0, o.g)();
+pub member_stands : Stand (these (one_of callee ∷ key_apart true ∷ [])) (joined (sample.name o) no)
+member_stands = ((a_reference_name, (o, tt), refl, tt, refl, tt), (refl, tt))
 
-branches_stand : Stand (these (one_of expression ∷ one_of expression ∷ one_of expression ∷ [])) (joined one (joined (over (Kind.MemberExpression (key.Name (codes "f")) false) (joined (reads a) no)) null))
-branches_stand = (
-  (a_literal, (Literal.Number (pos 1), tt), refl, tt, refl, tt),
-  ((a_member_expression, (key.Name (codes "f"), (false, tt)), refl, tt, refl, member_stands), ((a_literal, (Literal.Null, tt), refl, tt, refl, tt), tt)),
-)
+behind_zero_stands : Stand (all expression) (joined (leaf (Kind.Literal (Literal.Number (pos 0)))) row.member_g)
+behind_zero_stands = ((a_literal, (Literal.Number (pos 0), tt), refl, tt, refl, tt), ((a_member_expression, (key.Name g, (false, tt)), refl, tt, refl, member_stands), tt))
 
 receiver_fits : Fits root row.calls_without_receiver
 receiver_fits = (
@@ -203,7 +207,7 @@ receiver_fits = (
                   refl,
                   tt,
                   refl,
-                  ((a_conditional_expression, tt, refl, tt, refl, branches_stand), ((refl, tt), tt)),
+                  ((a_sequence_expression, tt, refl, tt, refl, ((refl, behind_zero_stands), tt)), ((refl, tt), tt)),
                 ),
                 tt,
               ),
@@ -331,6 +335,11 @@ list_suspect n m Kind.ArrayExpression below y h = refl
 list_suspect n m Kind.SequenceExpression below y h = refl
 list_suspect n m k below y h = absurd Prim.cc
 
+choice_suspect : (k : Kind) (below : Forest) (z : Tree) → part_counts k below ≡ Some z → is_suspect k ≡ true
+choice_suspect Kind.ConditionalExpression below z h = refl
+choice_suspect (Kind.LogicalExpression o) below z h = refl
+choice_suspect k below z h = absurd Prim.cc
+
 dead_suspect : (t : Forest) (a : Around) (x : Option Tree) → t ≡ plug a x → IsDead t a x → has_suspect t ≡ true
 dead_suspect t a x is (an_empty_statement b n item) = ap has_suspect is ∙ suspect_there b _ refl
 dead_suspect t a x is (a_silent_statement b n below silent) = ap has_suspect is ∙ suspect_there b _ refl
@@ -342,6 +351,7 @@ dead_suspect t a x is (a_known_side b y z (right_side_counts o v n m i k d goes 
 dead_suspect t a x is (a_known_side b y z (left_side_decides o v n m i k d goes)) = ap has_suspect is ∙ suspect_there b _ refl
 dead_suspect t a x is (an_unused_operation b _ _ (one_operand_acts i y z unused needed child)) = ap has_suspect is ∙ suspect_there b y (needed_suspect y.kind y.below i needed)
 dead_suspect t a x is (an_unused_list b _ _ (acting_parts_stay n m y z unused becomes)) = ap has_suspect is ∙ suspect_there b y (list_suspect n m y.kind y.below z becomes)
+dead_suspect t a x is (an_indirect_choice b _ _ (value_alone_counts n m i y z counts alone)) = ap has_suspect is ∙ suspect_there b y (choice_suspect y.kind y.below z counts)
 
 -- A declaration goes with the last of its declarators, and stays where it has none.
 pub nothing_declared_is_clean : Clean row.declares_nothing

@@ -5,13 +5,14 @@ use Rattle.js_syntax.specs.declared.node_kind.NodeKind.{NodeKind as Kind}
 use Rattle.js_syntax.specs.declared.scalar.SourceType.TheVariants as source_type
 use Rattle.js_syntax.specs.declared.operator.BinaryOperator.TheVariants as binary
 use Rattle.js_syntax.specs.declared.operator.UnaryOperator.TheVariants as unary
+use Rattle.js_syntax.specs.declared.value.Key.TheVariants as key
 use Rattle.js_syntax.specs.declared.value.LiteralValue.{LiteralValue as Literal}
 use Rattle.js_syntax.specs.Node.{Forest, nothing, nowhere, joined}
-use Rattle.js_syntax.specs.Table.{a_program, an_expression_statement, a_call_expression, a_unary_expression, a_binary_expression, an_array_expression, a_reference_name, a_literal}
+use Rattle.js_syntax.specs.Table.{a_program, an_expression_statement, a_call_expression, a_unary_expression, a_binary_expression, a_conditional_expression, a_member_expression, an_array_expression, a_reference_name, a_literal}
 use Rattle.form_rules.specs.Form.{IsWellFormed}
 use Rattle.form_rules.specs.Samples as form
 use Rattle.js_meaning.specs.Samples as sample
-use Rattle.js_meaning.specs.Examples.{says_number}
+use Rattle.js_meaning.specs.Examples.{g, says_number}
 use Rattle.json_text.specs.Text.{is_identifier_name}
 use Rattle.json_shape.specs.Shape.{one, these, all, all_or_holes, all_of_body, Stand, Fits}
 use Rattle.scope_laws.specs.Place.{Around, first}
@@ -19,8 +20,9 @@ use Rattle.steps_allowed.specs.EmptyStatement.{empty_statement_leaves}
 use Rattle.steps_allowed.specs.SilentStatement.{silent_statement_empties}
 use Rattle.steps_allowed.specs.UnusedOperation.{one_operand_acts}
 use Rattle.steps_allowed.specs.UnusedList.{acting_parts_stay}
-use Rattle.steps_allowed.specs.Edits.{no_tree_edit, one_tree_edit, leaves, becomes, empty_statement, silent_statement, unused_operation, unused_list}
-use Rattle.steps_allowed.specs.Rows.{in_list, past, statement, call_of_a, equals}
+use Rattle.steps_allowed.specs.IndirectChoice.{value_alone_counts}
+use Rattle.steps_allowed.specs.Edits.{no_tree_edit, one_tree_edit, leaves, becomes, empty_statement, silent_statement, unused_operation, unused_list, indirect_choice}
+use Rattle.steps_allowed.specs.Rows.{in_list, past, statement, called, call_of_a, equals, null}
 use Rattle.steps_allowed.proofs.Composing.{tree_edits_are_edits}
 use Rattle.headline.specs.Clean.{Clean}
 use Rattle.headline.specs.Headline.{Edits, Headline}
@@ -28,7 +30,7 @@ use Rattle.headline.proofs.Headline.{headline_of}
 use Rattle.headline_text.specs.Written.{written}
 use Rattle.min_peephole.proofs.Quieted.{quiet_clean}
 use Rattle.test_headline.specs.Rows as row
-use Rattle.test_headline.proofs.Dead.{name_stands, call_is_clean as a_is_clean, sequence_is_clean}
+use Rattle.test_headline.proofs.Dead.{name_stands, member_stands, call_is_clean as a_is_clean, sequence_is_clean, receiver_is_clean}
 
 number_stands : Stand (all argument) (sample.number_of 1)
 number_stands = ((a_literal, (Literal.Number (pos 1), tt), refl, tt, refl, tt), tt)
@@ -183,6 +185,66 @@ part_left = headline_of row.lists_call row.calls_a lists_fit lists_well_formed l
 
 pub parts_left : Headline row.lists_calls row.calls_both
 parts_left = headline_of row.lists_calls row.calls_both both_fit both_well_formed both_stay sequence_is_clean
+
+-- ---- of a choice on a literal that is called the part that counts is left, behind a zero
+
+branches_stand : Stand (these (one expression ∷ one expression ∷ one expression ∷ [])) (joined form.one (joined row.member_g null))
+branches_stand = (
+  (a_literal, (Literal.Number (pos 1), tt), refl, tt, refl, tt),
+  ((a_member_expression, (key.Name g, (false, tt)), refl, tt, refl, member_stands), ((a_literal, (Literal.Null, tt), refl, tt, refl, tt), tt)),
+)
+
+chosen_fits : Fits root row.calls_chosen
+chosen_fits = (
+  (
+    a_program,
+    (source_type.Module, tt),
+    refl,
+    tt,
+    refl,
+    (
+      (
+        refl,
+        (
+          inr (
+            refl,
+            (
+              an_expression_statement,
+              tt,
+              refl,
+              tt,
+              refl,
+              (
+                (
+                  a_call_expression,
+                  (false, (false, tt)),
+                  refl,
+                  tt,
+                  refl,
+                  ((a_conditional_expression, tt, refl, tt, refl, branches_stand), ((refl, tt), tt)),
+                ),
+                tt,
+              ),
+            ),
+          ),
+          tt,
+        ),
+      ),
+      tt,
+    ),
+  ),
+  tt,
+)
+
+chosen_well_formed : IsWellFormed row.calls_chosen
+unfolding is_identifier_name
+chosen_well_formed = refl
+
+choice_goes : Edits row.calls_chosen row.calls_without_receiver
+choice_goes = tree_edits_are_edits (one_tree_edit _ _ _ (becomes called _ _ (indirect_choice (value_alone_counts nowhere nowhere nowhere _ _ refl refl))) (no_tree_edit _))
+
+pub value_left : Headline row.calls_chosen row.calls_without_receiver
+value_left = headline_of row.calls_chosen row.calls_without_receiver chosen_fits chosen_well_formed choice_goes receiver_is_clean
 
 pub written_left : written row.less_four ≡ row.with_minus
 written_left = refl

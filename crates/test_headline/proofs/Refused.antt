@@ -1,5 +1,5 @@
 -- What the headline refuses of the small modules.
-use Rattle.std.proofs.Common.{◌≡◌, ◌∙◌, ◌⊎◌, inl, inr, Bool, true, false, true≢false, List, [], ◌∷◌, refl, sym, ap, subst, arith}
+use Rattle.std.proofs.Common.{◌≡◌, ◌∙◌, ◌⊎◌, inl, inr, Bool, true, false, ◌||◌, true≢false, List, [], ◌∷◌, refl, sym, ap, subst, arith}
 use Rattle.js_syntax.specs.declared.kind.VariableKind.TheVariants as variable
 use Rattle.js_syntax.specs.Node.{Forest, bare, total}
 use Rattle.form_rules.specs.Samples.{a_module, a_script, a, binds, one, does, declares, function_a}
@@ -8,12 +8,13 @@ use Rattle.steps_allowed.specs.Changing.{may_change_somewhere}
 use Rattle.steps_allowed.specs.Rows.{call_of_eval}
 use Rattle.steps_allowed.specs.Edits.{Edits}
 use Rattle.steps_owed.proofs.Edited.{nothing_changes}
+use Rattle.js_meaning.specs.Value.{Shown, plainly, host}
 use Rattle.js_meaning.specs.Trace.{Act, ShownExport, Event, Ending, ended, Run}
 use Rattle.js_meaning.specs.Kept.{Kept, KeptBack, Keeps, ComesBack}
 use Rattle.headline.specs.Headline.{Headline}
 use Rattle.test_headline.specs.Rows as row
-use Rattle.test_headline.proofs.Dead.{number_is_dead, conditional_is_dead, side_is_dead, operation_is_dead, list_is_dead}
-use Rattle.test_headline.proofs.Runs.{answers, empty_runs, export_runs, call_runs, own_call_runs, no_call_runs, loop_runs}
+use Rattle.test_headline.proofs.Dead.{number_is_dead, conditional_is_dead, side_is_dead, operation_is_dead, list_is_dead, choice_is_dead}
+use Rattle.test_headline.proofs.Runs.{answers, gives_function, empty_runs, export_runs, call_runs, own_call_runs, no_call_runs, chosen_runs, member_runs, loop_runs}
 
 -- what is asked of two runs is asked of what they compute to
 keeps_computed : (p q r s : Run) → p ≡ r → q ≡ s → Keeps p q → Keeps r s
@@ -48,6 +49,18 @@ begins_done : List Event → Bool
 begins_done [] = false
 begins_done (e ∷ es) = is_done e.act
 
+is_object : Shown → Bool
+is_object (plainly (host i called)) = true
+is_object x = false
+
+has_receiver : Act → Bool
+has_receiver (Act.call f this xs) = is_object this
+has_receiver act = false
+
+calls_on_object : List Event → Bool
+calls_on_object [] = false
+calls_on_object (e ∷ es) = has_receiver e.act || calls_on_object es
+
 pub export_shown : Kept row.exports_one row.empty → ⊥
 unfolding shows_exports has_some
 export_shown k = true≢false (sym (ap (λ r. shows_exports r.ending) (keeps_computed _ _ _ _ export_runs (empty_runs 0) (k answers 0))))
@@ -59,6 +72,10 @@ call_shown k = true≢false (ap (λ r. is_alone r.trace) (keeps_computed _ _ _ _
 pub function_called : Kept row.calls_own row.calls_nothing → ⊥
 unfolding begins_done is_done
 function_called k = true≢false (sym (ap (λ r. begins_done r.trace) (keeps_computed _ _ _ _ own_call_runs no_call_runs (k answers 1))))
+
+pub receiver_shown : Kept row.calls_chosen row.calls_member → ⊥
+unfolding is_object has_receiver calls_on_object
+receiver_shown k = true≢false (ap (λ r. calls_on_object r.trace) (keeps_computed _ _ _ _ chosen_runs member_runs (k gives_function 0)))
 
 out_or_same : (new : Run) → is_out new.ending ≡ false → (Ending.out ≡ Ending.uncovered) ⊎ (record { trace = []; ending = Ending.out } ≡ new) → ⊥
 unfolding is_out
@@ -83,6 +100,9 @@ operation_goes h = operation_is_dead h.clean
 
 pub list_goes : Headline row.lists_call row.lists_call → ⊥
 list_goes h = list_is_dead h.clean
+
+pub choice_goes : Headline row.calls_chosen row.calls_chosen → ⊥
+choice_goes h = choice_is_dead h.clean
 
 -- ---- what others may use: where nothing may change, as many names are declared as before
 

@@ -1,6 +1,6 @@
 -- The runs of the small modules, computed.
-use Rattle.std.proofs.Common.{◌≡◌, ℕ, [], ◌∷◌, refl}
-use Rattle.js_meaning.specs.Value.{first, Sort, Parts}
+use Rattle.std.proofs.Common.{◌≡◌, ℕ, [], ◌∷◌, true, false, refl}
+use Rattle.js_meaning.specs.Value.{host, plainly, first, Sort, Parts}
 use Rattle.js_meaning.specs.Trace.{Act, Ending, ended, Script}
 use Rattle.js_meaning.specs.State.{bind, done, stop, choose, alloc, read, store, identity, get_global, set_global, get_import, set_import, spend, with_moves, set_moves, with_exports, set_exports, put_event}
 use Rattle.js_meaning.specs.Show.{show, show_all, show_exports, emit, resolve, resolve_all}
@@ -13,7 +13,7 @@ use Rattle.js_meaning.specs.Module.{load_all, resolve_entries}
 use Rattle.js_meaning.specs.Meaning.{take_each, eval, task_does, enter}
 use Rattle.js_meaning.specs.Run.{module_does, run_within, run}
 use Rattle.js_meaning.specs.Samples as sample
-use Rattle.js_meaning.specs.Examples.{exporting_number, said_number}
+use Rattle.js_meaning.specs.Examples.{exporting_number, said_number, member_moves, got_member}
 use Rattle.test_headline.specs.Rows as row
 
 -- opens every act, so that a run computes
@@ -44,6 +44,18 @@ own_call_runs = refl
 pub no_call_runs : run row.calls_nothing answers 1 ≡ record { trace = sample.bare (Act.failed (first 0 Sort.a_reference_error Parts.no_parts)) ∷ []; ending = ended sample.no_exports }
 unfolding computes
 no_call_runs = refl
+
+-- a host that answers with a function of its own, and then undefined
+abbrev pub gives_function : Script
+gives_function = sample.with_moves member_moves
+
+pub chosen_runs : run row.calls_chosen gives_function 0 ≡ sample.over_with (got_member ∷ sample.bare (Act.call (plainly (host 9 true)) sample.nothing_shown []) ∷ [])
+unfolding computes
+chosen_runs = refl
+
+pub member_runs : run row.calls_member gives_function 0 ≡ sample.over_with (got_member ∷ sample.bare (Act.call (plainly (host 9 true)) (plainly (host 2 false)) []) ∷ [])
+unfolding computes
+member_runs = refl
 
 pub loop_runs : run row.never_ends answers 0 ≡ record { trace = []; ending = Ending.out }
 unfolding computes

@@ -4,13 +4,12 @@ use Rattle.js_syntax.specs.declared.node_kind.NodeKind.{NodeKind as Kind}
 use Rattle.js_syntax.specs.declared.kind.VariableKind.TheVariants as variable
 use Rattle.js_syntax.specs.declared.operator.LogicalOperator.TheVariants as logical
 use Rattle.js_syntax.specs.declared.operator.UnaryOperator.TheVariants as unary
-use Rattle.js_syntax.specs.declared.value.Key.TheVariants as key
 use Rattle.js_syntax.specs.declared.value.LiteralValue.{LiteralValue as Literal}
 use Rattle.js_syntax.specs.Node.{Forest, joined}
 use Rattle.form_rules.specs.Samples as form
-use Rattle.steps_allowed.specs.Rows.{call_of_a, call_of_eval, exports_declaration, null, conditional, logical as either, applied, equals, array, sequence}
+use Rattle.steps_allowed.specs.Rows.{call_of_a, call_of_eval, exports_declaration, null, conditional, logical as either, applied, equals, array, sequence, behind_zero}
 use Rattle.js_meaning.specs.Samples as sample
-use Rattle.js_meaning.specs.Examples.{g, function_g, says_number}
+use Rattle.js_meaning.specs.Examples.{g, o, function_g, says_number}
 
 abbrev pub empty : Forest
 empty = sample.a_module []
@@ -132,7 +131,18 @@ calls_both = form.a_module (form.does (sequence (call_of_a ∷ call_of_b ∷ [])
 abbrev pub compares_names : Forest
 compares_names = form.a_module (form.does (equals (form.reads form.a) (form.reads (codes "b"))) ∷ [])
 
--- (1 ? a.f : null)();
+-- o.g
+abbrev pub member_g : Forest
+member_g = sample.member (sample.name o) g
+
+-- (1 ? o.g : null)();
+abbrev pub calls_chosen : Forest
+calls_chosen = form.a_module (calls (conditional form.one member_g null) [] ∷ [])
+
+-- (0, o.g)();
 abbrev pub calls_without_receiver : Forest
-calls_without_receiver =
-    form.a_module (calls (conditional form.one (form.over (Kind.MemberExpression (key.Name (codes "f")) false) (joined (form.reads form.a) form.no)) null) [] ∷ [])
+calls_without_receiver = form.a_module (calls (behind_zero member_g) [] ∷ [])
+
+-- o.g();
+abbrev pub calls_member : Forest
+calls_member = form.a_module (calls member_g [] ∷ [])

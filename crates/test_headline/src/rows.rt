@@ -37,7 +37,13 @@ pub fn endless_loops_stay()
     ensures refused { Headline row.never_ends row.empty → ⊥ }
 {}
 
-/// Nor does what other code may use go: a variable, a function and one of two declarators beside a direct call of `eval`,
+/// `(1 ? o.g : null)();` doesn't become `o.g();`, whose call has a receiver.
+pub fn receivers_stay_away()
+    ensures kept { Kept row.calls_chosen row.calls_member → ⊥ }
+    ensures refused { Headline row.calls_chosen row.calls_member → ⊥ }
+{}
+
+/// What other code may use doesn't go: a variable, a function and one of two declarators beside a direct call of `eval`,
 /// a function of a script, one in a block of sloppy code, and a variable and one of two declarators of a script. No run
 /// tells, since the call is of a function of the host, and scripts have no runs; the list of changes does.
 pub fn what_others_may_use_stays()
@@ -50,19 +56,21 @@ pub fn what_others_may_use_stays()
     ensures shared { Headline row.of_two_in_script row.of_one_in_script → ⊥ }
 {}
 
-/// `1;` doesn't stay, nor does the conditional of `a(true ? a : b);`, what stands right in `null && a();`, or what of `!(a() === 1);` and
-/// of `[a(), 1];` is no call.
+/// `1;` doesn't stay, nor does the conditional of `a(true ? a : b);` or of `(1 ? o.g : null)();`, what stands right in `null && a();`, or
+/// what of `!(a() === 1);` and of `[a(), 1];` is no call.
 pub fn dead_code_goes()
     ensures number { Headline row.dead row.dead → ⊥ }
     ensures conditional { Headline row.takes_branch row.takes_branch → ⊥ }
     ensures side { Headline row.never_calls row.never_calls → ⊥ }
     ensures operation { Headline row.compares_call row.compares_call → ⊥ }
     ensures list { Headline row.lists_call row.lists_call → ⊥ }
+    ensures called { Headline row.calls_chosen row.calls_chosen → ⊥ }
 {}
 
 /// `1;` is dead code, and so are `{ ; }`'s empty statement, a function that nothing calls, one of two declarators, a conditional on a
 /// literal, a logical expression with a literal on its left, an operation of which nobody takes the value, where one operand alone acts,
-/// and an array of which nobody takes the value.
+/// an array of which nobody takes the value, and a conditional on a literal that is called so that what it gives has no receiver:
+/// `(1 ? o.g : null)();`.
 pub fn dead_code_is_told()
     ensures number { Clean (a_module (does one ∷ [])) → ⊥ }
     ensures empty { Clean (a_module (block (empty ∷ []) ∷ [])) → ⊥ }
@@ -72,11 +80,12 @@ pub fn dead_code_is_told()
     ensures side { Clean row.never_calls → ⊥ }
     ensures operation { Clean row.compares_call → ⊥ }
     ensures list { Clean row.lists_call → ⊥ }
+    ensures called { Clean row.calls_chosen → ⊥ }
 {}
 
 /// A call is none, nor a function that is exported, a variable beside a direct call of `eval`, a function of a script, a
-/// conditional that is called so that what it gives has no receiver: `(1 ? a.f : null)();`, a comparison of which both sides may
-/// act, as names do that nothing declares: `a === b;`, and a sequence of two calls: `a(), b();`.
+/// sequence that is called so that what it gives has no receiver: `(0, o.g)();`, a comparison of which both sides may act, as names
+/// do that nothing declares: `a === b;`, and a sequence of two calls: `a(), b();`.
 pub fn what_others_may_use_is_no_dead_code()
     ensures call { Clean (a_module (does call_of_a ∷ [])) }
     ensures exported { Clean (a_module (exports_declaration (function_a [] []) ∷ [])) }
@@ -97,12 +106,14 @@ pub fn rules_take_dead_code_alone()
     ensures stays { is_quiet row.declares_nothing ≡ true }
 {}
 
-/// `f(1);` may take the place of `f(1); 2;`, `a();` that of `!(a() === 1);` and of `[a(), 1];`, and `a(), b();` that of `[a(), 1, b()];`.
+/// `f(1);` may take the place of `f(1); 2;`, `a();` that of `!(a() === 1);` and of `[a(), 1];`, `a(), b();` that of `[a(), 1, b()];`,
+/// and `(0, o.g)();` that of `(1 ? o.g : null)();`.
 pub fn what_is_left()
     ensures statement { Headline row.with_dead row.calls_host }
     ensures operand { Headline row.compares_call row.calls_a }
     ensures part { Headline row.lists_call row.calls_a }
     ensures parts { Headline row.lists_calls row.calls_both }
+    ensures value { Headline row.calls_chosen row.calls_without_receiver }
 {}
 
 /// Edits lead from `f(-4); 2;` with a literal for -4 to `f(-4);`, which is written with unary minus on 4.
