@@ -26,8 +26,10 @@ use Rattle.steps_allowed.specs.KnownIf.{an_if, KnownIf, consequent_is_run, alter
 use Rattle.steps_allowed.specs.UnusedOperation.{needed_at, one_operand_acts}
 use Rattle.steps_allowed.specs.UnusedList.{list_becomes, acting_parts_stay}
 use Rattle.steps_allowed.specs.IndirectChoice.{value_alone_counts}
-use Rattle.steps_allowed.specs.Edits.{Edit, leaves, becomes, empty_statement, silent_statement, unused_function, unused_declaration, known_conditional, known_side, known_if, unused_operation, unused_list, indirect_choice}
-use Rattle.steps_allowed.specs.Rows.{in_list, before, call_of_a, null, if_one, if_null, conditional, logical, may_be_named, o_f, parenthesized, in_statement, called, called_in_parentheses, called_in_with, argument, operand, applied, equals, assigned, statement, ComesOut, Stays, StaysUnused, array, spread, hole, sequence, ListStays, behind_zero, placed, StaysDirect, with_a, in_with_a, empty, a_is_read, a_is_exported}
+use Rattle.steps_allowed.specs.OneSidedChoice.{one_branch_acts}
+use Rattle.steps_allowed.specs.IdleParts.{idle_parts_leave}
+use Rattle.steps_allowed.specs.Edits.{Edit, leaves, becomes, empty_statement, silent_statement, unused_function, unused_declaration, known_conditional, known_side, known_if, unused_operation, unused_list, indirect_choice, one_sided_choice, idle_parts}
+use Rattle.steps_allowed.specs.Rows.{in_list, before, call_of_a, null, if_one, if_null, conditional, logical, may_be_named, o_f, parenthesized, in_statement, called, called_in_parentheses, called_in_with, argument, operand, applied, equals, assigned, statement, ComesOut, Stays, StaysUnused, array, spread, hole, sequence, ListStays, ChoiceStays, PartsStay, behind_zero, placed, StaysDirect, with_a, in_with_a, empty, a_is_read, a_is_exported}
 
 pub empties_in_list : Edit (a_module (does one ∷ [])) (a_module (empty ∷ []))
 empties_in_list = becomes (before []) _ _ (silent_statement (silent_statement_empties nowhere nowhere nowhere _ nothing (inl refl, tt)))
@@ -290,3 +292,34 @@ typed_member_stays_direct = stays_direct (operand unary.Typeof) member nowhere (
 
 pub called_name_stays_direct : StaysDirect called (reads a)
 called_name_stays_direct = stays_direct called (Kind.ReferenceName a) nowhere nothing refl
+
+-- ---- conditionals of which one branch acts
+
+pub acting_consequent_stays : Edit (a_module (does (conditional (reads a) call_of_a one) ∷ [])) (a_module (does (logical operator.And (reads a) call_of_a) ∷ []))
+acting_consequent_stays = becomes there _ _ (one_sided_choice (one_branch_acts nowhere _ _ refl refl))
+
+pub acting_alternate_stays : Edit (a_module (does (conditional (reads a) one call_of_a) ∷ [])) (a_module (does (logical operator.Or (reads a) call_of_a) ∷ []))
+acting_alternate_stays = becomes there _ _ (one_sided_choice (one_branch_acts nowhere _ _ refl refl))
+
+pub acting_branches_stay : ChoiceStays statement (conditional (reads a) call_of_a o_f)
+acting_branches_stay y (one_branch_acts n _ _ unused is) = no_list is
+
+pub idle_branches_stay : ChoiceStays statement (conditional (reads a) one null)
+idle_branches_stay y (one_branch_acts n _ _ unused is) = no_list is
+
+pub used_choice_stays : ChoiceStays argument (conditional (reads a) call_of_a one)
+used_choice_stays y (one_branch_acts n _ _ unused is) = true≢false (sym unused)
+
+-- ---- parts of a sequence that don't act
+
+pub last_part_stays : Edit (placed argument (sequence (one ∷ reads a ∷ []))) (placed argument (reads a))
+last_part_stays = becomes argument _ _ (idle_parts (idle_parts_leave nowhere nowhere _ _ refl))
+
+pub acting_parts_and_last_stay : Edit (placed argument (sequence (call_of_a ∷ one ∷ reads a ∷ []))) (placed argument (sequence (call_of_a ∷ reads a ∷ [])))
+acting_parts_and_last_stay = becomes argument _ _ (idle_parts (idle_parts_leave nowhere nowhere _ _ refl))
+
+pub called_member_stays_behind : PartsStay called (sequence (one ∷ o_f ∷ []))
+called_member_stays_behind y (idle_parts_leave n m _ _ is) = no_list is
+
+pub acting_parts_all_stay : PartsStay argument (sequence (call_of_a ∷ one ∷ []))
+acting_parts_all_stay y (idle_parts_leave n m _ _ is) = no_list is

@@ -17,6 +17,8 @@ pub mod KnownSide
 pub mod UnusedOperation
 pub mod UnusedList
 pub mod IndirectChoice
+pub mod OneSidedChoice
+pub mod IdleParts
 pub mod KnownIf
 pub mod Edits
 pub mod Arranged

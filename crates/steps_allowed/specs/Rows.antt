@@ -17,6 +17,8 @@ use Rattle.steps_allowed.specs.KnownConditional.{a_conditional, KnownConditional
 use Rattle.steps_allowed.specs.UnusedOperation.{UnusedOperation}
 use Rattle.steps_allowed.specs.UnusedList.{UnusedList}
 use Rattle.steps_allowed.specs.IndirectChoice.{IndirectChoice}
+use Rattle.steps_allowed.specs.OneSidedChoice.{OneSidedChoice}
+use Rattle.steps_allowed.specs.IdleParts.{IdleParts}
 use Rattle.steps_allowed.specs.Edits.{Edit}
 
 -- a place in a module's list: in front of these statements, and behind these
@@ -152,6 +154,16 @@ StaysUnused place e = ⊥
 abbrev pub ListStays : Around → Forest → Type 0
 ListStays place (node k n below rest) = (y : Tree) → UnusedList place (record { kind = k; note = n; below = below }) y → ⊥
 ListStays place e = ⊥
+
+-- nor of a conditional, since one branch alone acts
+abbrev pub ChoiceStays : Around → Forest → Type 0
+ChoiceStays place (node k n below rest) = (y : Tree) → OneSidedChoice place (record { kind = k; note = n; below = below }) y → ⊥
+ChoiceStays place e = ⊥
+
+-- nor of a sequence, since a part doesn't act
+abbrev pub PartsStay : Around → Forest → Type 0
+PartsStay place (node k n below rest) = (y : Tree) → IdleParts place (record { kind = k; note = n; below = below }) y → ⊥
+PartsStay place e = ⊥
 
 -- export d
 abbrev pub exports_declaration : Forest → Forest

@@ -17,7 +17,7 @@ ghost use Rattle.steps_allowed.specs.UnusedDeclaration.{a_declaration, SilentDec
 ghost use Rattle.steps_allowed.specs.KnownConditional.{KnownConditional};
 ghost use Rattle.steps_allowed.specs.KnownIf.{an_if, KnownIf};
 ghost use Rattle.steps_allowed.specs.Edits.{Edit};
-ghost use Rattle.steps_allowed.specs.Rows.{before, call_of_a, null, if_one, if_null, conditional, logical, may_be_named, o_f, parenthesized, called, called_in_parentheses, called_in_with, argument, operand, applied, equals, assigned, statement, ComesOut, Stays, StaysUnused, array, spread, hole, sequence, ListStays, behind_zero, placed, StaysDirect, with_a, in_with_a, empty, a_is_read, a_is_exported};
+ghost use Rattle.steps_allowed.specs.Rows.{before, call_of_a, null, if_one, if_null, conditional, logical, may_be_named, o_f, parenthesized, called, called_in_parentheses, called_in_with, argument, operand, applied, equals, assigned, statement, ComesOut, Stays, StaysUnused, array, spread, hole, sequence, ListStays, ChoiceStays, PartsStay, behind_zero, placed, StaysDirect, with_a, in_with_a, empty, a_is_read, a_is_exported};
 
 /// A statement of a literal becomes empty, in a list and alone, and leaves the list then.
 pub fn silent_statements_go()
@@ -156,4 +156,29 @@ pub fn needed_lists_stay()
     ensures spread { ListStays statement (array (spread (reads a) ∷ [])) }
     ensures used { ListStays argument (array (call_of_a ∷ [])) }
     ensures all_parts { ListStays statement (sequence (call_of_a ∷ o_f ∷ [])) }
+{}
+
+/// Of a conditional of which nobody takes the value, and of which one branch alone acts, a logical expression is left.
+pub fn one_sided_choices_become_logical()
+    ensures consequent { Edit (a_module (does (conditional (reads a) call_of_a one) ∷ [])) (a_module (does (logical operator.And (reads a) call_of_a) ∷ [])) }
+    ensures alternate { Edit (a_module (does (conditional (reads a) one call_of_a) ∷ [])) (a_module (does (logical operator.Or (reads a) call_of_a) ∷ [])) }
+{}
+
+/// It stays where both branches act, where neither does, and where its value is taken.
+pub fn other_choices_stay()
+    ensures both { ChoiceStays statement (conditional (reads a) call_of_a o_f) }
+    ensures neither { ChoiceStays statement (conditional (reads a) one null) }
+    ensures used { ChoiceStays argument (conditional (reads a) call_of_a one) }
+{}
+
+/// Of a sequence the parts leave that don't act, but for the last. Where that is left alone it stands there itself.
+pub fn idle_parts_go()
+    ensures all_but_the_last { Edit (placed argument (sequence (one ∷ reads a ∷ []))) (placed argument (reads a)) }
+    ensures one_between { Edit (placed argument (sequence (call_of_a ∷ one ∷ reads a ∷ []))) (placed argument (sequence (call_of_a ∷ reads a ∷ []))) }
+{}
+
+/// It stays where it matters that the last doesn't stand there itself, and where the parts before it act.
+pub fn needed_parts_stay()
+    ensures called_member { PartsStay called (sequence (one ∷ o_f ∷ [])) }
+    ensures acting { PartsStay argument (sequence (call_of_a ∷ one ∷ [])) }
 {}

@@ -59,7 +59,7 @@ module _ (a : Around) (x y : Tree) (owed : ByParts a x y) (fits : Fits root (plu
 
   rebuilds : RebuildsTo x.kind x.note x.below y.kind y.note y.below
   rebuilds = record {
-    rebuilt = owed.rebuilt;
+    rebuilt = owed.rebuilt fits;
     old_unasked = owed.old_unasked fits;
     unasked = owed.unasked fits;
     old_expression = no_statement x.kind x.below old_fits.0;
@@ -79,6 +79,6 @@ by_parts a x y owed = record {
   may_change = owed.may_change;
   fits = λ fits. becoming_fits a x y (owed.takes fits) fits;
   sheds = λ fits. replaced_sheds a x y (replaced_by_parts (rebuilds a x y owed fits)) (old_moves a x y owed fits) owed.comes_out.undeleted fits;
-  kept = λ fits s kept. rebuilt_kept a x y owed.rebuilt (expression_declares_nothing (forest_of x) (old_fits a x y owed fits)) (owed.old_unasked fits) (fits_program (plug a (Some x)) fits) s kept;
+  kept = λ fits s kept. rebuilt_kept a x y (owed.rebuilt fits) (expression_declares_nothing (forest_of x) (old_fits a x y owed fits)) (owed.old_unasked fits) (fits_program (plug a (Some x)) fits) s kept;
   runs = owed.runs;
 }

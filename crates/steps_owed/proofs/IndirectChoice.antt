@@ -199,6 +199,8 @@ behind_comes : (a : Around) (n m i : Note) {x z : Tree} → Counts x z → Decla
 behind_comes a n m i {x = x} {z = z} counts h =
     let y = behind_zero n m i z in
     record {
+      inner = y.below;
+      same = refl;
       stands = behind_stands (wanted_at a) n m i counts;
       old_calm = choice_calm counts;
       plainly = both_plainly x.kind x.below sequence_expression n y.below nothing (choice_calm counts) h (behind_declares n m i z (counted_declares counts h));
@@ -231,7 +233,7 @@ counted_owes : (a : Around) (n m i : Note) {x z : Tree} → Counts x z → ByPar
 counted_owes a n m i {x = x} {z = z} counts =
     let y = behind_zero n m i z in
     record {
-      rebuilt = part_is_behind n m i x z (part_is_left counts);
+      rebuilt = λ fits. part_is_behind n m i x z (part_is_left counts);
       lighter = behind_lighter n m i counts;
       no_deeper = behind_no_deeper n m i counts;
       no_call = choice_is_other counts;

@@ -111,6 +111,8 @@ conditional_comes a x y (consequent_is_taken v n m i j k l b c truth bare) fits 
     let is_core = consequent_core Kind.ConditionalExpression k n m i (Kind.Literal v) b (node l j c nothing) in
     let wanted = wanted_as_used a x (λ e. cc) core fits in
     record {
+      inner = b;
+      same = refl;
       stands = for_part (λ st. condition_holds (wanted_at a) st v m i j k l b c truth (bare_at a k i b three.1.0 (is_core (core_there a x core)) wanted bare));
       old_calm = refl;
       plainly = both_plainly Kind.ConditionalExpression below k i b (node l j c nothing) refl h (nothing_behind (Kind.Literal v) m nothing branches h);
@@ -122,6 +124,8 @@ conditional_comes a x y (alternate_is_taken v n m i j k l b c truth bare) fits c
     let is_core = alternate_core Kind.ConditionalExpression k l n m i j (Kind.Literal v) b c in
     let wanted = wanted_as_used a x (λ e. cc) core fits in
     record {
+      inner = c;
+      same = refl;
       stands = for_part (λ st. condition_fails (wanted_at a) st v m i j k l b c truth (bare_at a l j c three.1.1.0 (is_core (core_there a x core)) wanted bare));
       old_calm = refl;
       plainly = both_plainly Kind.ConditionalExpression below l j c nothing refl h (nothing_behind k i b (node l j c nothing) (nothing_behind (Kind.Literal v) m nothing branches h));

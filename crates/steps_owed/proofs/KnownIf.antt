@@ -115,6 +115,8 @@ if_comes a _ _ (consequent_is_run v n m i k b alternate truth branch field none)
     let gone : DeclaresNothing alternate = record { bound = no_names alternate none; imports = λ source. imports_behind source k i b alternate (h source) } in
     let plain = alone_plainly k i b alternate gone in
     record {
+      inner = b;
+      same = refl;
       stands = for_part (λ st. if_holds (wanted_at a) st v m i k b alternate truth calm field);
       old_calm = refl;
       plainly = record { bound = plain.bound; vars = plain.vars; imports = plain.imports };
@@ -125,6 +127,8 @@ if_comes a _ _ (alternate_is_run v n m i j k l b c truth branch none) h =
     let gone : DeclaresNothing (node k i b nothing) = record { bound = no_names (node k i b nothing) none; imports = λ source. imports_before source k i b (node l j c nothing) (h source) } in
     let plain = last_plainly k i b (node l j c nothing) l c gone (alone_plainly l j c nothing (record { bound = refl; imports = λ source. refl })) in
     record {
+      inner = c;
+      same = refl;
       stands = for_part (λ st. if_fails (wanted_at a) st v m i j k l b c truth calm);
       old_calm = refl;
       plainly = record { bound = plain.bound; vars = plain.vars; imports = plain.imports };

@@ -110,6 +110,8 @@ side_comes a x y (right_side_counts o v n m i k b goes bare) fits core two h =
     let is_core = consequent_core (Kind.LogicalExpression o) k n m i (Kind.Literal v) b nothing in
     let wanted = wanted_as_used a x (λ e. cc) core fits in
     record {
+      inner = b;
+      same = refl;
       stands = for_part (λ st. right_counts (wanted_at a) st o v m i k b goes (bare_at a k i b two.1.0 (is_core (core_there a x core)) wanted bare));
       old_calm = refl;
       plainly = both_plainly (Kind.LogicalExpression o) below k i b nothing refl h (nothing_behind (Kind.Literal v) m nothing right h);
@@ -118,6 +120,8 @@ side_comes a x y (right_side_counts o v n m i k b goes bare) fits core two h =
 side_comes a x y (left_side_decides o v n m i k b stays) fits core two h =
     let right = node k i b nothing in
     record {
+      inner = nothing;
+      same = refl;
       stands = for_part (λ st. left_decides (wanted_at a) st o v m i k b nothing stays);
       old_calm = refl;
       plainly = both_plainly (Kind.LogicalExpression o) (node (Kind.Literal v) m nothing right) (Kind.Literal v) m nothing right refl h h;

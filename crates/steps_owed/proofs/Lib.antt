@@ -53,6 +53,9 @@ pub mod UnusedOperation
 pub mod UnusedList
 pub mod BehindZero
 pub mod IndirectChoice
+pub mod OneSidedChoice
+pub mod LastPart
+pub mod IdleParts
 pub mod Edited
 pub mod Refused
 pub mod Outlying

@@ -1,22 +1,25 @@
 -- Where a node of a core module becomes a part that it comes to, the new module refines the old one.
-use Rattle.std.proofs.Common.{◌≡◌, ◌∙◌, [], ◌∷◌, true, ◌&&◌, None, Some, refl, sym, ap, subst, true≢false}
+use Rattle.std.proofs.Common.{◌≡◌, ◌∙◌, [], ◌∷◌, Bool, true, false, ◌&&◌, None, Some, refl, sym, ap, subst, true≢false}
 use Rattle.js_syntax.specs.Class.{root}
 use Rattle.js_syntax.specs.declared.node_kind.NodeKind.{NodeKind as Kind}
 use Rattle.js_syntax.specs.declared.kind.FunctionKind.TheVariants as function_kind
 use Rattle.js_syntax.specs.declared.scalar.SourceType.TheVariants as source_type
 use Rattle.js_syntax.specs.Facts.{is_core}
-use Rattle.js_syntax.specs.Node.{Note, Forest, Tree, nothing, node, below_of}
+use Rattle.js_syntax.specs.Node.{Note, Forest, Tree, nothing, node, absent, nowhere, bare, below_of}
 use Rattle.js_syntax.specs.declared.value.ModuleName.{ModuleName}
 use Rattle.js_meaning.specs.Kept.{Refined}
 use Rattle.js_meaning.specs.Module.{specifier_of}
+use Rattle.js_meaning.proofs.Kept.{refined_joined}
 use Rattle.js_meaning_near.specs.Names.{no_names}
 use Rattle.js_meaning_near.specs.Purpose.{Purpose, Purposes, for_values, purpose_here, purposes_behind, wanted_below}
 use Rattle.js_meaning_near.specs.Near.{is_calm, hoists_nothing, is_row, items, key_of, keys, module_of}
 use Rattle.js_meaning_near.specs.Fit.{whole}
 use Rattle.js_meaning_near.specs.Avoid.{InPlace}
 use Rattle.js_meaning_near.specs.Local.{ReadsSame, Stands, for_part, for_waste, for_sides, for_sequence, Local, at_place, in_below, in_rest, in_absent}
+use Rattle.js_meaning_near.proofs.Alike.{same_alike, place_alike}
 use Rattle.js_meaning_near.proofs.Instances.{local_change}
 use Rattle.js_meaning_near.proofs.Local.{old_node}
+use Rattle.js_meaning_near.proofs.Near.{alike_refine}
 use Rattle.json_shape.specs.Shape.{one, Plan, these, first_place, Stand, Fits}
 use Rattle.json_shape.specs.Shape as shape
 use Rattle.form_rules.specs.Form.{IsWellFormed}
@@ -67,14 +70,18 @@ module _ (place : Around) (x y : Tree) (c : Comes place x y) where
       both (is_core k) (all_core (plug a (Some y)) && all_core rest) (core_here k n (plug a (Some x)) rest h)
       (both (all_core (plug a (Some y))) (all_core rest) (core_stays a (core_below k n (plug a (Some x)) rest h)) (core_behind k n (plug a (Some x)) rest h))
 
+  -- what comes, but for notes below it
+  abbrev pub what_comes : Tree
+  what_comes = record { kind = y.kind; note = y.note; below = c.inner }
+
   -- the keys of an object literal are of its properties, and no property is calm
-  keys_of_row : (a : Around) → keys (plug a (Some x)) ≡ keys (plug a (Some y))
-  keys_of_row (first rest) = ap (λ k. k ∷ keys rest) (no_key x.kind (calm_hoists x.kind c.old_calm) ∙ sym (no_key y.kind (new_hoists c.stands)))
+  keys_of_row : (a : Around) → keys (plug a (Some x)) ≡ keys (plug a (Some what_comes))
+  keys_of_row (first rest) = ap (λ k. k ∷ keys rest) (no_key x.kind (calm_hoists x.kind c.old_calm) ∙ sym (no_key what_comes.kind (new_hoists c.stands)))
   keys_of_row (behind k n below a) = ap (λ ks. key_of k ∷ ks) (keys_of_row a)
   keys_of_row (behind_none a) = refl
   keys_of_row (under k n a rest) = refl
 
-  keys_of_object : (a : Around) → MadeBy Kind.ObjectExpression (plug a (Some x)) → keys (below_of (plug a (Some x))) ≡ keys (below_of (plug a (Some y)))
+  keys_of_object : (a : Around) → MadeBy Kind.ObjectExpression (plug a (Some x)) → keys (below_of (plug a (Some x))) ≡ keys (below_of (plug a (Some what_comes)))
   keys_of_object (first rest) made = absurd (not_calm x.kind Kind.Properties (object_stands (plug (first rest) (Some x)) made).0.0 refl c.old_calm)
   keys_of_object (behind k n below a) made = refl
   keys_of_object (behind_none a) made = refl
@@ -82,26 +89,26 @@ module _ (place : Around) (x y : Tree) (c : Comes place x y) where
 
   -- below a specifier of an export stands a name
   exported_name : (exported : ModuleName) (a : Around) → MadeBy (Kind.ExportSpecifier exported) (plug a (Some x))
-      → specifier_of (Kind.ExportSpecifier exported) (plug a (Some x)) ≡ specifier_of (Kind.ExportSpecifier exported) (plug a (Some y))
+      → specifier_of (Kind.ExportSpecifier exported) (plug a (Some x)) ≡ specifier_of (Kind.ExportSpecifier exported) (plug a (Some what_comes))
   exported_name exported (first rest) made = absurd (name_not_calm x.kind x.below (export_stands exported (plug (first rest) (Some x)) made).0 c.old_calm)
-  exported_name exported (behind k n below a) made = same_local exported k n below below (plug a (Some x)) (plug a (Some y))
+  exported_name exported (behind k n below a) made = same_local exported k n below below (plug a (Some x)) (plug a (Some what_comes))
   exported_name exported (behind_none a) made = refl
-  exported_name exported (under k n a rest) made = same_local exported k n (plug a (Some x)) (plug a (Some y)) rest rest
+  exported_name exported (under k n a rest) made = same_local exported k n (plug a (Some x)) (plug a (Some what_comes)) rest rest
 
-  reads_same : (k : Kind) (a : Around) → (is_single k ≡ true → MadeBy k (plug a (Some x))) → ReadsSame k (plug a (Some x)) (plug a (Some y))
+  reads_same : (k : Kind) (a : Around) → (is_single k ≡ true → MadeBy k (plug a (Some x))) → ReadsSame k (plug a (Some x)) (plug a (Some what_comes))
   reads_same Kind.ObjectExpression a made = keys_of_object a (made refl)
   reads_same (Kind.ExportSpecifier exported) a made = exported_name exported a (made refl)
   reads_same k a made = tt
 
-  local_as_planned : (us : Purposes) (a : Around) → wanted_in us a ≡ wanted_at place → (plan : Plan) → plan_passes is_sound plan ≡ true → Stand plan (plug a (Some x)) → Local us (plug a (Some x)) (plug a (Some y))
-  local_as_planned us (first rest) e plan h st = at_place (subst (λ u. Stands u x.kind x.below y.kind y.below) (sym e) c.stands) c.plainly
+  local_as_planned : (us : Purposes) (a : Around) → wanted_in us a ≡ wanted_at place → (plan : Plan) → plan_passes is_sound plan ≡ true → Stand plan (plug a (Some x)) → Local us (plug a (Some x)) (plug a (Some what_comes))
+  local_as_planned us (first rest) e plan h st = at_place (subst (λ u. Stands u x.kind x.below what_comes.kind what_comes.below) (sym e) c.stands) c.plainly
   local_as_planned us (behind k n below a) e plan h st = in_rest (local_as_planned (purposes_behind us) a e (shape.behind plan k) (behind_passes is_sound plan k h) st.1)
   local_as_planned us (behind_none a) e plan h st = in_absent (local_as_planned (purposes_behind us) a e (shape.behind plan Kind.Hole) (behind_passes is_sound plan Kind.Hole h) st.1)
   local_as_planned us (under k n a rest) e plan h st =
       let planned = planned_below (plug a (Some x)) (first_place plan) k st.0 in
       in_below (reads_same k a (λ single. made_at (plug a (Some x)) k single (first_place plan) (first_passes is_sound plan refl h) st.0)) (local_as_planned (wanted_below (purpose_here us (is_row rest)) k) a e planned.0 planned.1 planned.2)
 
-pub part_is_local : (a : Around) (x y : Tree) → Comes a x y → Fits root (plug a (Some x)) → Local for_values (plug a (Some x)) (plug a (Some y))
+pub part_is_local : (a : Around) (x y : Tree) (c : Comes a x y) → Fits root (plug a (Some x)) → Local for_values (plug a (Some x)) (plug a (Some (what_comes a x y c)))
 part_is_local a x y c fits = local_as_planned a x y c for_values a refl (these (one root ∷ [])) refl fits
 
 -- ---- modules
@@ -113,11 +120,13 @@ module_in_place n m b fits form core =
     let place = program_in_place source_type.Module n list good.0 good.1 in
     place.0.1.0.1
 
--- a module, of which the items changed
+-- a module, of which the items changed, and then notes
 pub record StillModule (n m : Note) (b u : Forest) : Type 0 where
   pub changed : Forest
   pub is : u ≡ module_of n m changed
-  pub local : Local for_values b changed
+  pub between : Forest
+  pub local : Local for_values b between
+  pub same : bare between ≡ bare changed
 
 not_of_nothing : {us : Purposes} {t u : Forest} → Local us t u → t ≡ nothing → ⊥
 not_of_nothing (at_place c p) e = cc
@@ -125,21 +134,81 @@ not_of_nothing (in_below q s) e = cc
 not_of_nothing (in_rest s) e = cc
 not_of_nothing (in_absent s) e = cc
 
-module_stays : (n m : Note) (b u : Forest) → Local for_values (module_of n m b) u → StillModule n m b u
-module_stays n m b _ (at_place c p) = absurd (true≢false (sym (old_node c)))
-module_stays n m b _ (in_below q (at_place c p)) = absurd (true≢false (sym (old_node c)))
-module_stays n m b _ (in_below q (in_below {b = d} r s)) = record { changed = d; is = refl; local = s }
-module_stays n m b _ (in_below q (in_rest s)) = absurd (not_of_nothing s refl)
-module_stays n m b _ (in_rest s) = absurd (not_of_nothing s refl)
+items_change : (n m : Note) (b c u : Forest) → u ≡ module_of n m c → Local for_values (module_of n m b) u → Local for_values b c
+items_change n m b c _ e (at_place s p) = absurd (true≢false (sym (old_node s)))
+items_change n m b c _ e (in_below q (at_place s p)) = absurd (true≢false (sym (old_node s)))
+items_change n m b c _ e (in_below q (in_below {b = d} r s)) = subst (Local for_values b) (same_items e) s
+  where
+    same_items : {d : Forest} → module_of n m d ≡ module_of n m c → d ≡ c
+    same_items e = cc
+items_change n m b c _ e (in_below q (in_rest s)) = absurd (not_of_nothing s refl)
+items_change n m b c _ e (in_rest s) = absurd (not_of_nothing s refl)
+
+-- where an item of a module, or a part of it, stands
+pub record InModule (n m : Note) (a : Around) : Type 0 where
+  pub inside : Around
+  pub is : (z : Tree) → plug a (Some z) ≡ module_of n m (plug inside (Some z))
+
+plugged : (a : Around) (x : Tree) → plug a (Some x) ≡ nothing → ⊥
+plugged (first rest) x e = cc
+plugged (behind k n below a) x e = cc
+plugged (behind_none a) x e = cc
+plugged (under k n a rest) x e = cc
+
+abbrev begins_calm : Forest → Bool
+begins_calm (node k n a r) = is_calm k
+begins_calm t = false
+
+abbrev behind_it : Forest → Forest
+behind_it (node k n a r) = r
+behind_it t = nothing
+
+list_there : (n : Note) (b : Forest) (a : Around) (x : Tree) → is_calm x.kind ≡ true → plug a (Some x) ≡ node Kind.Statements n b nothing → (inside : Around) × ((z : Tree) → plug a (Some z) ≡ node Kind.Statements n (plug inside (Some z)) nothing)
+list_there n b (first rest) x calm e = absurd (true≢false (sym calm ∙ ap begins_calm e))
+list_there n b (behind k i below a) x calm e = absurd (plugged a x (ap behind_it e))
+list_there n b (behind_none a) x calm e = absurd cc
+list_there n b (under k i a rest) x calm e = (a, λ z. same (plug a (Some z)) e)
+  where
+    same : {c : Forest} (d : Forest) → node k i c rest ≡ node Kind.Statements n b nothing → node k i d rest ≡ node Kind.Statements n d nothing
+    same d e = cc
+
+item_there : (n m : Note) (b : Forest) (a : Around) (x : Tree) → is_calm x.kind ≡ true → plug a (Some x) ≡ module_of n m b → InModule n m a
+item_there n m b (first rest) x calm e = absurd (true≢false (sym calm ∙ ap begins_calm e))
+item_there n m b (behind k i below a) x calm e = absurd (plugged a x (ap behind_it e))
+item_there n m b (behind_none a) x calm e = absurd cc
+item_there n m b (under k i a rest) x calm e =
+    let list = list_there m b a x calm (ap below_of e) in
+    record { inside = list.0; is = λ z. ap (λ t. node k i t rest) (list.1 z) ∙ same (node Kind.Statements m (plug list.0 (Some z)) nothing) e }
+  where
+    same : {c : Forest} (d : Forest) → node k i c rest ≡ module_of n m b → node k i d rest ≡ node (Kind.Program source_type.Module) n d nothing
+    same d e = cc
+
+-- notes below a node
+other_notes : (a : Around) (k : Kind) (n : Note) (b c : Forest) → bare b ≡ bare c → bare (plug a (Some (record { kind = k; note = n; below = b }))) ≡ bare (plug a (Some (record { kind = k; note = n; below = c })))
+other_notes (first rest) k n b c e = ap (λ t. node k nowhere t (bare rest)) e
+other_notes (behind l i below a) k n b c e = ap (λ t. node l nowhere (bare below) t) (other_notes a k n b c e)
+other_notes (behind_none a) k n b c e = ap absent (other_notes a k n b c e)
+other_notes (under l i a rest) k n b c e = ap (λ t. node l nowhere t (bare rest)) (other_notes a k n b c e)
 
 pub parts_stay_modules : (n m : Note) (b : Forest) (a : Around) (x y : Tree) → plug a (Some x) ≡ module_of n m b → Comes a x y → Fits root (module_of n m b) → StillModule n m b (plug a (Some y))
-parts_stay_modules n m b a x y is c fits = module_stays n m b (plug a (Some y)) (subst (λ t. Local for_values t (plug a (Some y))) is (part_is_local a x y c (subst (Fits root) (sym is) fits)))
+parts_stay_modules n m b a x y is c fits =
+    let there = item_there n m b a x c.old_calm is in
+    let z = what_comes a x y c in
+    record {
+      changed = plug there.inside (Some y);
+      is = there.is y;
+      between = plug there.inside (Some z);
+      local = items_change n m b (plug there.inside (Some z)) (plug a (Some z)) (there.is z) (subst (λ t. Local for_values t (plug a (Some z))) is (part_is_local a x y c (subst (Fits root) (sym is) fits)));
+      same = other_notes there.inside y.kind y.note c.inner y.below c.same;
+    }
 
 module_refines : (n m : Note) (b u : Forest) → StillModule n m b u → Fits root u → IsWellFormed u → all_core u ≡ true → Refined (module_of n m b) u
 module_refines n m b u new fits form core =
+    let changed = module_in_place n m new.changed (subst (Fits root) new.is fits) (subst IsWellFormed new.is form) (subst (λ t. all_core t ≡ true) new.is core) in
+    let place = place_alike whole items (same_alike new.changed new.between (sym new.same)) changed in
+    let first = local_change n m b new.between new.local place (entries_stay new.local) (stars_stay new.local) (requests_stay new.local) in
     subst (Refined (module_of n m b)) (sym new.is)
-    (local_change n m b new.changed new.local
-    (module_in_place n m new.changed (subst (Fits root) new.is fits) (subst IsWellFormed new.is form) (subst (λ t. all_core t ≡ true) new.is core)) (entries_stay new.local) (stars_stay new.local) (requests_stay new.local))
+    (refined_joined (module_of n m b) (module_of n m new.between) (module_of n m new.changed) first (alike_refine n m n m (same_alike new.between new.changed new.same) place))
 
 -- the new module is core, since the old one is
 pub comes_refines : (n m : Note) (b : Forest) (a : Around) (x y : Tree) → plug a (Some x) ≡ module_of n m b → Comes a x y

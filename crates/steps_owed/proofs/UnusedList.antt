@@ -153,13 +153,13 @@ left_lower most (several_left k l i j a b r) h = let it = h (λ i. lower express
 
 -- ---- by the table of node types
 
-abbrev Parts : Forest → Type 0
+abbrev pub Parts : Forest → Type 0
 Parts t = Stand (all expression) t
 
 abbrev Elements : Forest → Type 0
 Elements t = Stand (all_or_holes argument) t
 
-parts_are_nodes : (parts : Forest) → Parts parts → AllNodes parts
+pub parts_are_nodes : (parts : Forest) → Parts parts → AllNodes parts
 parts_are_nodes nothing st = tt
 parts_are_nodes (absent r) st = absurd st.0
 parts_are_nodes (node k n a r) st = parts_are_nodes r st.1
@@ -249,7 +249,7 @@ left_core (one_left k i a bare) core = core
 left_core (several_left k l i j a b r) core = both (all_core (node k i a (node l j b r)) && true) true (both (all_core (node k i a (node l j b r))) true core refl) refl
 
 -- nothing is imported
-abbrev ImportsNone : Forest → Type 0
+abbrev pub ImportsNone : Forest → Type 0
 ImportsNone t = (source : Text) → import_decls source t ≡ []
 
 acting_imports : (parts : Forest) → ImportsNone parts → ImportsNone (acting parts)
@@ -298,6 +298,8 @@ module _ (a : Around) (unused : is_unused_at a ≡ true) (p n m i : Note) (parts
         let imports : ImportsNone array.below = no_imports_below q s b a array y is fits form core array_expression refl refl (λ s i. refl) in
         let none : DeclaresNothing array.below = record { bound = nameless_as_planned array.below (these (list_with_holes elements argument ∷ [])) refl (parts_of_array a p array.below there) below; imports = imports } in
         record {
+          inner = y.below;
+          same = refl;
           stands = left_stands (wanted_at a) array_expression array.below left
               (spared (wanted_at a) array_expression p m array.below (acting parts) (unused_for_effect a unused) (left_some left) refl (left_hoists left (elements_stay there) (acting_core parts within))
               (λ st. array_wasted st p i m parts (acting parts) (acting_needed st parts (elements_are_nodes parts (elements_there there)))));
@@ -309,7 +311,7 @@ module _ (a : Around) (unused : is_unused_at a ≡ true) (p n m i : Note) (parts
 
     array_owes : ByParts a array y
     array_owes = record {
-      rebuilt = opened refl (opened refl (left_rebuilt (joined parts nothing) left (acting_rebuilt parts)));
+      rebuilt = λ fits. opened refl (opened refl (left_rebuilt (joined parts nothing) left (acting_rebuilt parts)));
       lighter = lighter;
       no_deeper = let h = left_lower (levels_at (λ i. lower elements i) 0 parts) left (λ g none. acting_lower (λ i. lower elements i) g none parts 0 0) in Prim.omega (arith, h);
       no_call = record { counts = refl; lists = λ i. refl; begins = λ i. refl; calls = refl };
@@ -347,6 +349,8 @@ module _ (a : Around) (unused : is_unused_at a ≡ true) (p n m i : Note) (parts
         let imports : ImportsNone sequence.below = no_imports_below q s b a sequence y is fits form core sequence_expression refl refl (λ s i. refl) in
         let none : DeclaresNothing sequence.below = record { bound = nameless_as_planned sequence.below (these (list expressions expression ∷ [])) refl (parts_of_sequence a p sequence.below there) below; imports = imports } in
         record {
+          inner = y.below;
+          same = refl;
           stands = left_stands (wanted_at a) sequence_expression sequence.below left
               (spared (wanted_at a) sequence_expression p m sequence.below (acting parts) (unused_for_effect a unused) (left_some left) refl (left_hoists left (parts_stay there) (acting_core parts within))
               (λ st. sequence_wasted st p i m parts (acting parts) (some_parts parts nodes (left_some left)) (acting_needed st parts nodes)));
@@ -358,7 +362,7 @@ module _ (a : Around) (unused : is_unused_at a ≡ true) (p n m i : Note) (parts
 
     sequence_owes : ByParts a sequence y
     sequence_owes = record {
-      rebuilt = opened refl (opened refl (left_rebuilt (joined parts nothing) left (acting_rebuilt parts)));
+      rebuilt = λ fits. opened refl (opened refl (left_rebuilt (joined parts nothing) left (acting_rebuilt parts)));
       lighter = lighter;
       no_deeper = let h = left_lower (levels_at (λ i. lower expressions i) 0 parts) left (λ g none. acting_lower (λ i. lower expressions i) g none parts 0 0) in Prim.omega (arith, h);
       no_call = record { counts = refl; lists = λ i. refl; begins = λ i. refl; calls = refl };
@@ -400,7 +404,7 @@ function_weighs function_kind.Declaration pure = Prim.omega arith
 function_weighs function_kind.Expression pure = Prim.omega arith
 function_weighs function_kind.Arrow pure = Prim.omega arith
 
-idle_weighs : (k : Kind) (n : Note) (a : Forest) → acts k n a ≡ false → is_list k ≡ false → 1 ≤ weight k
+pub idle_weighs : (k : Kind) (n : Note) (a : Forest) → acts k n a ≡ false → is_list k ≡ false → 1 ≤ weight k
 idle_weighs (Kind.Literal v) n a idle no_list = value_weighs v
 idle_weighs (Kind.Function how pure) n a idle no_list = function_weighs how pure
 idle_weighs Kind.VariableDeclarator n a idle no_list = absurd cc

@@ -172,6 +172,8 @@ module _ (a : Around) (unused : is_unused_at a ≡ true) (n : Note) where
         let below = core_below (unary_expression o) n operand nothing (core_there a unary (subst (λ t. all_core t ≡ true) (sym is) core)) in
         let none : DeclaresNothing operand = record { bound = nameless_as_planned operand (these (one_place expression ∷ [])) refl one below; imports = no_imports_below p q r a unary (tree k m b) is fits form core (unary_expression o) refl refl (λ s i. refl) } in
         record {
+          inner = b;
+          same = refl;
           stands = wasted a unused (unary_expression o) n operand k m b (operand_of o) refl one.0 below bare
               (λ st. unary_wasted st o k n m n b operand total (subst (λ w. runs.stands_bare w k b ≡ true) (sym (operand_wanted o)) (bare_for_runs (operand_of o) false k m b one.0 below bare)) (needed all_needed));
           old_calm = refl;
@@ -225,6 +227,8 @@ module _ (a : Around) (unused : is_unused_at a ≡ true) (n : Note) where
             let two = sides_there (subst (Fits root) (sym whole.0) whole.1.0) in
             let none = sides_declare_none p q r (tree k m b) whole in
             record {
+              inner = b;
+              same = refl;
               stands = wasted a unused (binary_expression o) n sides k m b as_value refl two.0 (core_alone k m b right (sides_core p q r whole)) bare
                   (λ st. binary_wasted st o k l n m i n b c left comparing (needed (not_needed (silent_anywhere st l i c idle) all_needed)));
               old_calm = refl;
@@ -252,6 +256,8 @@ module _ (a : Around) (unused : is_unused_at a ≡ true) (n : Note) where
             let two = sides_there (subst (Fits root) (sym whole.0) whole.1.0) in
             let none = sides_declare_none p q r (tree l i c) whole in
             record {
+              inner = c;
+              same = refl;
               stands = wasted a unused (binary_expression o) n sides l i c as_value refl two.1.0 (core_behind k m b right (sides_core p q r whole)) bare
                   (λ st. binary_wasted st o k l n m i n b c right comparing (not_needed (silent_anywhere st k m b idle) (needed all_needed)));
               old_calm = refl;
@@ -283,6 +289,8 @@ module _ (a : Around) (unused : is_unused_at a ≡ true) (n : Note) where
           let below = core_below (logical_expression o) n sides nothing (core_there a logical (subst (λ t. all_core t ≡ true) (sym is) core)) in
           let none : DeclaresNothing sides = record { bound = nameless_as_planned sides (these (one_place expression ∷ one_place expression ∷ [])) refl two below; imports = no_imports_below p q r a logical (tree k m b) is fits form core (logical_expression o) refl refl (λ s i. refl) } in
           record {
+            inner = b;
+            same = refl;
             stands = wasted a unused (logical_expression o) n sides k m b as_value refl two.0 (core_alone k m b right below) bare
                 (λ st. logical_wasted st o k l n m i n b c left (silent_anywhere st l i c idle) (needed all_needed));
             old_calm = refl;
@@ -320,6 +328,8 @@ module _ (a : Around) (unused : is_unused_at a ≡ true) (n : Note) where
           let below = core_below conditional_expression n choice nothing (core_there a conditional (subst (λ t. all_core t ≡ true) (sym is) core)) in
           let none : DeclaresNothing choice = record { bound = nameless_as_planned choice (these (one_place expression ∷ one_place expression ∷ one_place expression ∷ [])) refl three below; imports = no_imports_below p q r a conditional (tree k m b) is fits form core conditional_expression refl refl (λ s i. refl) } in
           record {
+            inner = b;
+            same = refl;
             stands = wasted a unused conditional_expression n choice k m b as_value refl three.0 (core_alone k m b branches below) bare
                 (λ st. conditional_wasted st k l z n m i j n b c d left (silent_anywhere st l i c idle) (silent_anywhere st z j d idle_too) (needed all_needed));
             old_calm = refl;

@@ -1,6 +1,6 @@
 -- What a node owes for runs that becomes one that stands for it.
 use Rattle.std.specs.Prelude.{◌≡◌, true}
-use Rattle.js_syntax.specs.Node.{Tree, forest_of}
+use Rattle.js_syntax.specs.Node.{Forest, Tree, bare, forest_of}
 use Rattle.js_meaning_near.specs.Near.{is_calm}
 use Rattle.js_meaning_near.specs.Local.{Stands, Plainly}
 use Rattle.scope_laws.specs.Place.{Around}
@@ -9,10 +9,13 @@ use Rattle.steps_allowed.specs.Wanted.{wanted_at}
 
 -- At a place.
 pub record Comes (a : Around) (x y : Tree) : Type 0 where
+  -- what lies below the new node, but for notes
+  pub inner : Forest
+  pub same : bare inner ≡ bare y.below
   -- for what the node is evaluated there, the new one may stand for it, whatever is known of the names around
-  pub stands : Stands (wanted_at a) x.kind x.below y.kind y.below
+  pub stands : Stands (wanted_at a) x.kind x.below y.kind inner
   -- the old node starts nothing where its scope is entered, and declares no name itself
   pub old_calm : is_calm x.kind ≡ true
   -- they declare the same
-  pub plainly : Plainly x.kind x.below y.kind y.below
+  pub plainly : Plainly x.kind x.below y.kind inner
   pub core : all_core (forest_of x) ≡ true → all_core (forest_of y) ≡ true

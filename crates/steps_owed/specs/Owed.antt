@@ -116,7 +116,7 @@ is_read_name k = false
 
 -- An expression that becomes one that is rebuilt of its parts.
 pub record ByParts (a : Around) (x y : Tree) : Type 0 where
-  pub rebuilt : Rebuilt (forest_of x) (forest_of y)
+  pub rebuilt : Fits root (plug a (Some x)) → Rebuilt (forest_of x) (forest_of y)
   pub lighter : total weight (forest_of y) < total weight (forest_of x)
   pub no_deeper : levels (forest_of y) ≤ levels (forest_of x)
   pub no_call : IsOther x

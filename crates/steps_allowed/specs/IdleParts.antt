@@ -1,0 +1,43 @@
+-- Of a sequence the parts leave that don't act, but for the last, whose value counts (ECMA-262 13.16.1). Where that is left alone it
+-- stands there itself, if that doesn't matter.
+use Rattle.std.specs.Prelude.{◌≡◌, Bool, true, ◌&&◌, ◌||◌, Option, Some, None, if◌then◌else◌}
+use Rattle.js_syntax.specs.declared.node_kind.NodeKind.{NodeKind as Kind}
+use Rattle.js_syntax.specs.declared.node_kind.NodeKind.TheVariants.{SequenceExpression as sequence_expression, Expressions as expressions}
+use Rattle.js_syntax.specs.Node.{Forest, Tree, Note, nothing, node, absent}
+use Rattle.js_tree.specs.Walk.{is_list}
+use Rattle.min_pass.specs.Around.{outermost as asked_of_program}
+use Rattle.scope_laws.specs.Place.{Around}
+use Rattle.steps_allowed.specs.Places.{asked_at}
+use Rattle.steps_allowed.specs.UnusedOperation.{acts}
+use Rattle.steps_allowed.specs.Uses.{Use, use_at, stands_bare}
+
+-- what stays in front of another part
+abbrev pub stays_before : Kind → Note → (below : Forest) → Bool
+stays_before k n below = acts k n below || is_list k
+
+-- what is left of the parts
+abbrev pub counting : (parts : Forest) → Forest
+counting nothing = nothing
+counting (absent rest) = absent (counting rest)
+counting (node k n a nothing) = node k n a nothing
+counting (node k n a rest) = if stays_before k n a then node k n a (counting rest) else counting rest
+
+-- whether all stay
+abbrev pub all_count : (parts : Forest) → Bool
+all_count nothing = true
+all_count (absent rest) = all_count rest
+all_count (node k n a nothing) = true
+all_count (node k n a rest) = stays_before k n a && all_count rest
+
+-- a sequence of them, or the last one, where it is used so
+abbrev pub as_value_of : Use → (in_with : Bool) → (n m : Note) → (parts : Forest) → Option Tree
+as_value_of u in_with n m nothing = None
+as_value_of u in_with n m (node k i a nothing) = if stands_bare u in_with k a then Some (record { kind = k; note = i; below = a }) else None
+as_value_of u in_with n m parts = Some (record { kind = sequence_expression; note = n; below = node expressions m parts nothing })
+
+abbrev pub sequence_becomes : Use → (in_with : Bool) → (n m : Note) → Kind → (below : Forest) → Option Tree
+sequence_becomes u in_with n m sequence_expression (node expressions i parts nothing) = if all_count parts then None else as_value_of u in_with n m (counting parts)
+sequence_becomes u in_with n m k below = None
+
+pub data IdleParts (a : Around) : (x y : Tree) → Type 0 where
+  idle_parts_leave : (n m : Note) (x y : Tree) → sequence_becomes (use_at a) (asked_at (asked_of_program true) a).in_with n m x.kind x.below ≡ Some y → IdleParts a x y
