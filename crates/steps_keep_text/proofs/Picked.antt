@@ -6,7 +6,7 @@ use Rattle.js_syntax.specs.declared.operator.LogicalOperator.{LogicalOperator}
 use Rattle.js_syntax.specs.declared.value.LiteralValue.{LiteralValue}
 use Rattle.js_syntax.specs.declared.value.LiteralValue.TheVariants as value
 use Rattle.js_syntax.specs.Node.{Forest, total}
-use Rattle.steps_marked.proofs.Picked.{SomeOf, none, stays, leaves, absent_leaves, Picks, one_part, several, part_behind_zero}
+use Rattle.steps_marked.proofs.Picked.{SomeOf, none, stays, leaves, absent_leaves, absent_stays, Picks, one_part, several, part_behind_zero, two_parts}
 
 -- counts by which what edits build counts no more than what it is built of
 pub record IsSparing (counts : Kind → ℕ) : Type 0 where
@@ -15,16 +15,18 @@ pub record IsSparing (counts : Kind → ℕ) : Type 0 where
   pub of_elements : counts expressions ≤ counts elements
   pub of_conditional : counts sequence_expression + counts expressions ≤ counts conditional_expression
   pub of_logical : (o : LogicalOperator) → counts sequence_expression + counts expressions ≤ counts (logical_expression o)
+  pub of_choice : (o : LogicalOperator) → counts (logical_expression o) ≤ counts conditional_expression
   pub zero : (v : LiteralValue) → counts (literal (value.Number (pos 0))) ≤ counts (literal v)
 
 -- as they are where none of that is counted
-pub uncounted : (counts : Kind → ℕ) → counts empty_statement ≡ 0 → counts sequence_expression ≡ 0 → counts expressions ≡ 0 → counts (literal (value.Number (pos 0))) ≡ 0 → IsSparing counts
-uncounted counts empty sequence list zero = record {
+pub uncounted : (counts : Kind → ℕ) → counts empty_statement ≡ 0 → counts sequence_expression ≡ 0 → counts expressions ≡ 0 → counts (literal (value.Number (pos 0))) ≡ 0 → ((o : LogicalOperator) → counts (logical_expression o) ≡ 0) → IsSparing counts
+uncounted counts empty sequence list zero logical = record {
   empty = Prim.omega (arith, empty);
   of_array = Prim.omega (arith, sequence);
   of_elements = Prim.omega (arith, list);
   of_conditional = Prim.omega (arith, sequence, list);
   of_logical = λ o. Prim.omega (arith, sequence, list);
+  of_choice = λ o. Prim.omega (arith, logical o);
   zero = λ v. Prim.omega (arith, zero);
 }
 
@@ -34,6 +36,7 @@ module _ (counts : Kind → ℕ) where
   some_counts (stays rest) = Prim.omega (arith, some_counts rest)
   some_counts (leaves rest) = Prim.omega (arith, some_counts rest)
   some_counts (absent_leaves rest) = some_counts rest
+  some_counts (absent_stays rest) = some_counts rest
 
   pub picked_counts : IsSparing counts → {k l : Kind} {a b : Forest} → Picks k a l b → counts l + total counts b ≤ counts k + total counts a
   picked_counts spares (one_part k j l i m parts inner holds some) = Prim.omega (arith, some_counts some)
@@ -43,3 +46,4 @@ module _ (counts : Kind → ℕ) where
   picked_counts spares (part_behind_zero conditional_expression l v o m i p parts inner choice some) = Prim.omega (arith, spares.of_conditional, spares.zero v, some_counts some)
   picked_counts spares (part_behind_zero (logical_expression q) l v o m i p parts inner choice some) = Prim.omega (arith, spares.of_logical q, spares.zero v, some_counts some)
   picked_counts spares (part_behind_zero k l v o m i p parts inner choice some) = absurd cc
+  picked_counts spares (two_parts o parts left some) = Prim.omega (arith, spares.of_choice o, some_counts some)

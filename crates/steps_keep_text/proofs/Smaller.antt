@@ -72,5 +72,6 @@ nodes_shed = counts_shed one_each (record {
   of_elements = Prim.omega arith;
   of_conditional = Prim.omega arith;
   of_logical = λ o. Prim.omega arith;
+  of_choice = λ o. Prim.omega arith;
   zero = λ v. Prim.omega arith;
 })

@@ -29,11 +29,13 @@ use Rattle.steps_owed.proofs.KnownIf.{known_if_owes}
 use Rattle.steps_owed.proofs.UnusedOperation.{unused_operation_owes}
 use Rattle.steps_owed.proofs.UnusedList.{unused_list_owes}
 use Rattle.steps_owed.proofs.IndirectChoice.{indirect_choice_owes}
+use Rattle.steps_owed.proofs.OneSidedChoice.{one_sided_choice_owes}
+use Rattle.steps_owed.proofs.IdleParts.{idle_parts_owes}
 use Rattle.steps_owed.proofs.Owed.{leaving}
 use Rattle.steps_owed.proofs.Places.{place_of, rest_of, placed_is, without_is, listed_is}
 use Rattle.steps_owed.proofs.TableKept as tables
 use Rattle.steps_marked.proofs.Called.{called_at, used_as_callee}
-use Rattle.steps_marked.proofs.Picked.{Picks, unused_list_picks, indirect_choice_picks}
+use Rattle.steps_marked.proofs.Picked.{Picks, unused_list_picks, indirect_choice_picks, one_sided_choice_picks, idle_parts_picks}
 
 -- An expression is rebuilt of its parts. No rule of form asks for what it was or for what it is, which declares nothing, weighs less and
 -- has no more levels.
@@ -92,7 +94,7 @@ by_parts a x y owed picks fits = record {
   new = node y.kind y.note y.below (rest_of a);
   local = rebuilds x.kind y.kind x.note y.note x.below y.below (rest_of a)
       (record {
-        rebuilt = owed.rebuilt;
+        rebuilt = owed.rebuilt fits;
         old_unasked = owed.old_unasked fits;
         unasked = owed.unasked fits;
         declares = expression_declares_nothing (forest_of y) ((owed.takes fits).classes expression (owed.fits_expression fits));
@@ -130,3 +132,5 @@ is_local t u (edits.becomes a x y (edits.known_if c)) fits = by_part a x y (know
 is_local t u (edits.becomes a x y (edits.unused_operation c)) fits = by_part a x y (unused_operation_owes a x y c) fits
 is_local t u (edits.becomes a x y (edits.unused_list c)) fits = by_parts a x y (unused_list_owes a x y c) (unused_list_picks a x y c) fits
 is_local t u (edits.becomes a x y (edits.indirect_choice c)) fits = by_parts a x y (indirect_choice_owes a x y c) (indirect_choice_picks a x y c) fits
+is_local t u (edits.becomes a x y (edits.one_sided_choice c)) fits = by_parts a x y (one_sided_choice_owes a x y c) (one_sided_choice_picks a x y c) fits
+is_local t u (edits.becomes a x y (edits.idle_parts c)) fits = by_parts a x y (idle_parts_owes a x y c) (idle_parts_picks a x y c) fits

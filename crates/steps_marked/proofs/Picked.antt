@@ -1,17 +1,23 @@
--- What an array or a sequence comes to: one of its parts, or several in a sequence; and what a choice does, one of its parts behind
--- a zero.
+-- What an array or a sequence comes to: one of its parts, or several in a sequence; and what a choice does: one of its parts behind
+-- a zero, or two of them as a logical expression.
 use Rattle.std.proofs.Common.{◌≡◌, pos, Bool, true, false, Option, Some, None, if◌then◌else◌, refl, subst}
 use Rattle.js_syntax.specs.declared.node_kind.NodeKind.{NodeKind as Kind}
 use Rattle.js_syntax.specs.declared.node_kind.NodeKind.TheVariants.{ArrayExpression as array_expression, Elements as elements, SequenceExpression as sequence_expression, Expressions as expressions, ConditionalExpression as conditional_expression, LogicalExpression as logical_expression, Literal as literal}
+use Rattle.js_syntax.specs.declared.operator.LogicalOperator.{LogicalOperator}
+use Rattle.js_syntax.specs.declared.operator.LogicalOperator.TheVariants as logical
 use Rattle.js_syntax.specs.declared.value.LiteralValue.{LiteralValue}
 use Rattle.js_syntax.specs.declared.value.LiteralValue.TheVariants as value
 use Rattle.js_syntax.specs.Node.{Forest, Tree, Note, nothing, node, absent, alone}
+use Rattle.min_pass.specs.Around.{outermost as asked_of_program}
 use Rattle.scope_laws.specs.Place.{Around}
 use Rattle.scope_laws.proofs.Bindings.{same_value}
 use Rattle.steps_allowed.specs.IndirectChoice.{IndirectChoice, value_alone_counts}
+use Rattle.steps_allowed.specs.OneSidedChoice.{sides, one_side, one_sided, OneSidedChoice, one_branch_acts}
+use Rattle.steps_allowed.specs.IdleParts.{stays_before, counting, all_count, as_value_of, sequence_becomes, IdleParts, idle_parts_leave}
+use Rattle.steps_allowed.specs.Places.{asked_at}
 use Rattle.steps_allowed.specs.UnusedList.{acting, all_act, has_spread, as_one, list_becomes, UnusedList, acting_parts_stay}
 use Rattle.steps_allowed.specs.UnusedOperation.{acts}
-use Rattle.steps_allowed.specs.Uses.{as_value, stands_bare}
+use Rattle.steps_allowed.specs.Uses.{Use, use_at, as_value, stands_bare}
 use Rattle.steps_owed.proofs.IndirectChoice.{Counts, consequent_counts, alternate_counts, right_side_counts, part_that_counts}
 
 -- some of the nodes of a row, in their order
@@ -20,6 +26,7 @@ pub data SomeOf : (r s : Forest) → Type 0 where
   stays : {k : Kind} {n : Note} {a r s : Forest} → SomeOf r s → SomeOf (node k n a r) (node k n a s)
   leaves : {k : Kind} {n : Note} {a r s : Forest} → SomeOf r s → SomeOf (node k n a r) s
   absent_leaves : {r s : Forest} → SomeOf r s → SomeOf (absent r) s
+  absent_stays : {r s : Forest} → SomeOf r s → SomeOf (absent r) (absent s)
 
 -- an expression, and the list of its parts
 abbrev pub holds_parts : Kind → (list : Kind) → Bool
@@ -36,6 +43,7 @@ pub data Picks : (k : Kind) (below : Forest) (l : Kind) (inner : Forest) → Typ
   one_part : (k j l : Kind) (i m : Note) (parts inner : Forest) → holds_parts k j ≡ true → SomeOf parts (alone l m inner) → Picks k (node j i parts nothing) l inner
   several : (k j : Kind) (i m : Note) (parts left : Forest) → holds_parts k j ≡ true → SomeOf parts left → Picks k (node j i parts nothing) sequence_expression (node expressions m left nothing)
   part_behind_zero : (k l : Kind) (v : LiteralValue) (o m i p : Note) (parts inner : Forest) → is_choice k ≡ true → SomeOf parts (alone l p inner) → Picks k (node (literal v) o nothing parts) sequence_expression (node expressions m (node (literal (value.Number (pos 0))) i nothing (alone l p inner)) nothing)
+  two_parts : (o : LogicalOperator) (parts left : Forest) → SomeOf parts left → Picks conditional_expression parts (logical_expression o) left
 
 -- ---- the parts that act
 
@@ -87,3 +95,51 @@ choice_picks m i {x = x} (right_side_counts q v o p h k b goes) = part_behind_ze
 
 pub indirect_choice_picks : (a : Around) (x y : Tree) → IndirectChoice a x y → Picks x.kind x.below y.kind y.below
 indirect_choice_picks a x _ (value_alone_counts n m i _ z counts matters) = choice_picks m i (part_that_counts x.note x.kind x.below z counts)
+
+-- ---- the branch that acts
+
+side_picks : (n : Note) (parts : Forest) (y : Tree) → one_side n parts ≡ Some y → Picks conditional_expression parts y.kind y.below
+side_picks n (node k i a (node l j b (node z o c nothing))) y is = each (acts l j b) (acts z o c) is
+  where
+    each : (p q : Bool) → (if p then (if q then None else Some (sides n logical.And (record { kind = k; note = i; below = a }) (record { kind = l; note = j; below = b })))
+        else (if q then Some (sides n logical.Or (record { kind = k; note = i; below = a }) (record { kind = z; note = o; below = c })) else None)) ≡ Some y → Picks conditional_expression (node k i a (node l j b (node z o c nothing))) y.kind y.below
+    each true true is = absurd cc
+    each true false is = subst (λ (y : Tree). Picks conditional_expression (node k i a (node l j b (node z o c nothing))) y.kind y.below) (same_value is) (two_parts logical.And _ _ (stays (stays (leaves none))))
+    each false true is = subst (λ (y : Tree). Picks conditional_expression (node k i a (node l j b (node z o c nothing))) y.kind y.below) (same_value is) (two_parts logical.Or _ _ (stays (leaves (stays none))))
+    each false false is = absurd cc
+side_picks n parts y is = absurd cc
+
+one_sided_picks : (n : Note) (k : Kind) (a : Forest) (y : Tree) → one_sided n k a ≡ Some y → Picks k a y.kind y.below
+one_sided_picks n conditional_expression a y is = side_picks n a y is
+one_sided_picks n k a y is = absurd cc
+
+pub one_sided_choice_picks : (a : Around) (x y : Tree) → OneSidedChoice a x y → Picks x.kind x.below y.kind y.below
+one_sided_choice_picks a _ _ (one_branch_acts n x y unused is) = one_sided_picks n x.kind x.below y is
+
+-- ---- the parts that act, and the last one
+
+some_count : (parts : Forest) → SomeOf parts (counting parts)
+some_count nothing = none
+some_count (absent rest) = absent_stays (some_count rest)
+some_count (node k n a nothing) = stays none
+some_count (node k n a (absent rest)) = some_if (stays_before k n a) k n a (absent rest) (counting (absent rest)) (some_count (absent rest))
+some_count (node k n a (node l m b rest)) = some_if (stays_before k n a) k n a (node l m b rest) (counting (node l m b rest)) (some_count (node l m b rest))
+
+module _ (u : Use) (in_with : Bool) (n m i : Note) (parts : Forest) where
+  abbrev LeavesTree : Tree → Type 0
+  LeavesTree y = Picks sequence_expression (node expressions i parts nothing) y.kind y.below
+
+  value_picks : (left : Forest) (y : Tree) → SomeOf parts left → as_value_of u in_with n m left ≡ Some y → LeavesTree y
+  value_picks nothing y some is = absurd cc
+  value_picks (absent rest) y some is = subst LeavesTree (same_value is) (several sequence_expression expressions i m parts (absent rest) refl some)
+  value_picks (node l h a nothing) y some is = subst LeavesTree (given (stands_bare u in_with l a) (record { kind = l; note = h; below = a }) y is) (one_part sequence_expression expressions l i h parts a refl some)
+  value_picks (node l h a (node x o b rest)) y some is = subst LeavesTree (same_value is) (several sequence_expression expressions i m parts (node l h a (node x o b rest)) refl some)
+  value_picks (node l h a (absent rest)) y some is = subst LeavesTree (same_value is) (several sequence_expression expressions i m parts (node l h a (absent rest)) refl some)
+
+sequence_picks : (u : Use) (in_with : Bool) (n m : Note) (k : Kind) (a : Forest) (y : Tree) → sequence_becomes u in_with n m k a ≡ Some y → Picks k a y.kind y.below
+sequence_picks u in_with n m sequence_expression (node expressions i parts nothing) y is =
+    value_picks u in_with n m i parts (counting parts) y (some_count parts) (unless_given (all_count parts) (as_value_of u in_with n m (counting parts)) y is)
+sequence_picks u in_with n m k a y is = absurd cc
+
+pub idle_parts_picks : (a : Around) (x y : Tree) → IdleParts a x y → Picks x.kind x.below y.kind y.below
+idle_parts_picks a _ _ (idle_parts_leave n m x y is) = sequence_picks (use_at a) (asked_at (asked_of_program true) a).in_with n m x.kind x.below y is
