@@ -4,4 +4,6 @@ pub mod Leaving
 pub mod Needed
 pub mod Lists
 pub mod Behind
+pub mod Sided
+pub mod Sequences
 pub mod Pairing

@@ -23,7 +23,7 @@ use Rattle.min_expressions.proofs.Leaving.{Adds, ids_add, evals_add, leaves_more
 
 -- ---- asked of one part after another
 
-or_false : (b : Bool) → b || false ≡ b
+pub or_false : (b : Bool) → b || false ≡ b
 or_false true = refl
 or_false false = refl
 
@@ -172,13 +172,13 @@ is_alone (None ∷ []) d h = refl
 is_alone (Some t ∷ []) d h = refl
 is_alone (x ∷ y ∷ ts) d h = absurd (Prim.omega (arith, h))
 
-no_node : {P : Type 0} {x : Tree} → None ≡ Some x → P
+pub no_node : {P : Type 0} {x : Tree} → None ≡ Some x → P
 no_node e = absurd Prim.cc
 
 abbrev pub made : Note → Note → Forest → Tree
 made n m parts = record { kind = sequence_expression; note = n; below = node expressions m parts nothing }
 
-if_bare : (b : Bool) (x : Tree) → b ≡ true → (if b then Some x else None) ≡ Some x
+pub if_bare : (b : Bool) (x : Tree) → b ≡ true → (if b then Some x else None) ≡ Some x
 if_bare true x e = refl
 if_bare false x e = absurd (true≢false (sym e))
 
@@ -198,16 +198,20 @@ several_are n m (node k i a (node l j b rest)) e f = refl
 
 -- ---- the list of an array or of a sequence
 
-pub record IsListOf (k : Kind) (t : Forest) : Type 0 where
+-- the only child of a node
+pub record HasList (k : Kind) (t : Forest) : Type 0 where
   pub list : Tree
   pub below : t ≡ forest_of list
-  pub becomes : (n m : Note) → list_becomes n m k t ≡ as_one n m (acting list.below)
-  pub is_one : are_one (acting list.below) ≡ true
   -- neither counts itself
   pub no_id : (r : ℕ) (n : Note) (b : Forest) → ids r (alone k n b) ≡ ids r b
   pub list_no_id : (r : ℕ) → ids r (forest_of list) ≡ ids r list.below
   pub no_eval : (n : Note) (b : Forest) → evals (alone k n b) ≡ evals b
   pub list_no_eval : evals (forest_of list) ≡ evals list.below
+
+pub record IsListOf (k : Kind) (t : Forest) : Type 0 where
+  pub has : HasList k t
+  pub becomes : (n m : Note) → list_becomes n m k t ≡ as_one n m (acting has.list.below)
+  pub is_one : are_one (acting has.list.below) ≡ true
 
 -- whether parts are one expression
 one_same : (n m : Note) (parts : Forest) → is_some (as_one n m parts) ≡ are_one parts
@@ -228,42 +232,52 @@ unless : (b : Bool) (o : Option Tree) → is_some (if b then None else o) ≡ tr
 unless true o e = absurd (true≢false (sym e))
 unless false o e = (refl, e)
 
-no_list : {P : Type 0} → false ≡ true → P
+pub no_list : {P : Type 0} → false ≡ true → P
 no_list e = absurd (true≢false (sym e))
+
+abbrev array_list : (i : Note) (parts : Forest) → HasList array_expression (node elements i parts nothing)
+array_list i parts = record {
+  list = record { kind = elements; note = i; below = parts };
+  below = refl;
+  no_id = λ r p b. Prim.omega arith;
+  list_no_id = λ r. Prim.omega arith;
+  no_eval = λ p b. Prim.omega arith;
+  list_no_eval = Prim.omega arith;
+}
+
+abbrev pub sequence_list : (i : Note) (parts : Forest) → HasList sequence_expression (node expressions i parts nothing)
+sequence_list i parts = record {
+  list = record { kind = expressions; note = i; below = parts };
+  below = refl;
+  no_id = λ r p b. Prim.omega arith;
+  list_no_id = λ r. Prim.omega arith;
+  no_eval = λ p b. Prim.omega arith;
+  list_no_eval = Prim.omega arith;
+}
 
 pub list_of : (n m : Note) (k : Kind) (t : Forest) → is_some (list_becomes n m k t) ≡ true → IsListOf k t
 list_of n m array_expression (node elements i parts nothing) e =
     let w = unless (has_spread parts) (as_one n m (acting parts)) e in
     record {
-      list = record { kind = elements; note = i; below = parts };
-      below = refl;
+      has = array_list i parts;
       becomes = λ p q. ap (λ (b : Bool). if b then None else as_one p q (acting parts)) w.0;
       is_one = as_one_is_one n m (acting parts) w.1;
-      no_id = λ r p b. Prim.omega arith;
-      list_no_id = λ r. Prim.omega arith;
-      no_eval = λ p b. Prim.omega arith;
-      list_no_eval = Prim.omega arith;
     }
 list_of n m sequence_expression (node expressions i parts nothing) e =
     let w = unless (all_act parts) (as_one n m (acting parts)) e in
     record {
-      list = record { kind = expressions; note = i; below = parts };
-      below = refl;
+      has = sequence_list i parts;
       becomes = λ p q. ap (λ (b : Bool). if b then None else as_one p q (acting parts)) w.0;
       is_one = as_one_is_one n m (acting parts) w.1;
-      no_id = λ r p b. Prim.omega arith;
-      list_no_id = λ r. Prim.omega arith;
-      no_eval = λ p b. Prim.omega arith;
-      list_no_eval = Prim.omega arith;
     }
 list_of n m k t e = no_list e
 
 -- the row that it stands in alone
-abbrev behind : Forest → Forest
+abbrev pub behind : Forest → Forest
 behind (node k n b rest) = rest
 behind t = nothing
 
-no_items : (ts : List (Option Tree)) → row ts ≡ nothing → length ts ≡ 0
+pub no_items : (ts : List (Option Tree)) → row ts ≡ nothing → length ts ≡ 0
 no_items [] e = refl
 no_items (None ∷ ts) e = absurd Prim.cc
 no_items (Some t ∷ ts) e = absurd Prim.cc
@@ -273,7 +287,7 @@ alone_in [] t e = absurd Prim.cc
 alone_in (None ∷ ts) t e = absurd Prim.cc
 alone_in (Some x ∷ ts) t e = ap suc (no_items ts (ap behind e))
 
-module _ {k : Kind} {t : Forest} (w : IsListOf k t) where
+module _ {k : Kind} {t : Forest} (w : HasList k t) where
   pub its_row : (ts us : List (Option Tree)) → row ts ≡ t → us ≡ ts → length us ≡ 1
   its_row ts us e f = ap length f ∙ alone_in ts w.list (e ∙ w.below)
 
@@ -284,14 +298,14 @@ module _ {k : Kind} {t : Forest} (w : IsListOf k t) where
   pub its_list : {ts us : List (Option Tree)} {o : Option Tree} {x : Tree} → row ts ≡ t → us ≡ ts → o ≡ slice_index_or us 0 None → o ≡ Some x → x ≡ w.list
   its_list {ts = ts} {us = us} {o = o} {x = x} e f taken is = same_some (sym (found 0 {ts = ts} {us = us} {t = t} {o = o} {y = x} e f taken is) ∙ ap (child_at 0) w.below)
 
-record Counts (y : Tree) (parts : Forest) : Type 0 where
-  same_ids : (r : ℕ) → ids r (forest_of y) ≡ ids r parts
-  same_evals : evals (forest_of y) ≡ evals parts
+pub record Counts (y : Tree) (parts : Forest) : Type 0 where
+  pub same_ids : (r : ℕ) → ids r (forest_of y) ≡ ids r parts
+  pub same_evals : evals (forest_of y) ≡ evals parts
 
-made_counts : (n m : Note) (parts : Forest) (y : Tree) → Some (made n m parts) ≡ Some y → Counts y parts
+pub made_counts : (n m : Note) (parts : Forest) (y : Tree) → Some (made n m parts) ≡ Some y → Counts y parts
 made_counts n m parts y e = subst (λ z. Counts z parts) (same_some e) (record { same_ids = λ r. Prim.omega arith; same_evals = Prim.omega arith })
 
-alone_counts : (b : Bool) (k : Kind) (i : Note) (a : Forest) (y : Tree) → (if b then Some (record { kind = k; note = i; below = a }) else None) ≡ Some y → Counts y (alone k i a)
+pub alone_counts : (b : Bool) (k : Kind) (i : Note) (a : Forest) (y : Tree) → (if b then Some (record { kind = k; note = i; below = a }) else None) ≡ Some y → Counts y (alone k i a)
 alone_counts true k i a y e = subst (λ z. Counts z (alone k i a)) (same_some e) (record { same_ids = λ r. refl; same_evals = refl })
 alone_counts false k i a y e = no_node e
 
@@ -302,23 +316,32 @@ counts n m (node k i a nothing) y e = alone_counts (stands_bare as_value false k
 counts n m (node k i a (absent rest)) y e = made_counts n m (node k i a (absent rest)) y e
 counts n m (node k i a (node l j b rest)) y e = made_counts n m (node k i a (node l j b rest)) y e
 
--- what acts of x became y
-pub list_edits : {c d e : Seen} {v y z l : Tree} (x : Tree) (n m : Note) (w : IsListOf x.kind x.below) → l ≡ w.list → as_one n m (acting l.below) ≡ Some z → y ≡ z
-    → v.kind ≡ x.kind → v.note ≡ x.note → v.below ≡ nothing → IdleLeaves c l.below d → DropsNode d v e → Edited c x y true e
-list_edits {c = c} {d = d} {e = e} {v = v} {y = y} {z = z} {l = l} x n m w is left put kind note empty others itself =
-    let s = counts n m (acting l.below) z left in
+-- of the list of x all left but for what y has
+pub parts_edits : {c d e : Seen} {v y l : Tree} {gone : ℕ → ℕ} {calls : ℕ} (x : Tree) (w : HasList x.kind x.below) → l ≡ w.list → ((r : ℕ) → ids r l.below ≡ gone r + ids r (forest_of y)) → evals l.below ≡ calls + evals (forest_of y)
+    → v.kind ≡ x.kind → v.note ≡ x.note → v.below ≡ nothing → Leaves c gone calls d → DropsNode d v e → Edited c x y true e
+parts_edits {c = c} {d = d} {e = e} {v = v} {y = y} x w is ids_left evals_left kind note empty others itself =
     edits_to c d e x y others (subst (λ u. DropsNode d u e) (emptied v x.kind x.note kind note empty) itself)
-    (λ r. Prim.omega (arith, w.no_id r x.note x.below, w.no_id r x.note nothing, ap (ids r) w.below, w.list_no_id r, ap {A = Tree} (λ u. ids r u.below) is, splits (ids r) (ids_add r) l.below, s.same_ids r, ap (λ u. ids r (forest_of u)) put))
-    (Prim.omega (arith, w.no_eval x.note x.below, w.no_eval x.note nothing, ap evals w.below, w.list_no_eval, ap {A = Tree} (λ u. evals u.below) is, splits evals evals_add l.below, s.same_evals, ap (λ u. evals (forest_of u)) put))
+    (λ r. Prim.omega (arith, w.no_id r x.note x.below, w.no_id r x.note nothing, ap (ids r) w.below, w.list_no_id r, ap {A = Tree} (λ u. ids r u.below) is, ids_left r))
+    (Prim.omega (arith, w.no_eval x.note x.below, w.no_eval x.note nothing, ap evals w.below, w.list_no_eval, ap {A = Tree} (λ u. evals u.below) is, evals_left))
 
-pub list_kept : {y z l : Tree} (x : Tree) (w : IsListOf x.kind x.below) → l ≡ w.list → as_one (new_note x.note) (new_note l.note) (acting l.below) ≡ Some z → y ≡ z → list_becomes (new_note x.note) (new_note (list_note x.below)) x.kind x.below ≡ Some y
+-- what acts of x became y
+pub list_edits : {c d e : Seen} {v y z l : Tree} (x : Tree) (n m : Note) (w : HasList x.kind x.below) → l ≡ w.list → as_one n m (acting l.below) ≡ Some z → y ≡ z
+    → v.kind ≡ x.kind → v.note ≡ x.note → v.below ≡ nothing → IdleLeaves c l.below d → DropsNode d v e → Edited c x y true e
+list_edits {z = z} {l = l} x n m w is left put kind note empty others itself =
+    let s = counts n m (acting l.below) z left in
+    parts_edits x w is
+    (λ r. Prim.omega (arith, splits (ids r) (ids_add r) l.below, s.same_ids r, ap (λ u. ids r (forest_of u)) put))
+    (Prim.omega (arith, splits evals evals_add l.below, s.same_evals, ap (λ u. evals (forest_of u)) put))
+    kind note empty others itself
+
+pub list_kept : {y z l : Tree} (x : Tree) (w : IsListOf x.kind x.below) → l ≡ w.has.list → as_one (new_note x.note) (new_note l.note) (acting l.below) ≡ Some z → y ≡ z → list_becomes (new_note x.note) (new_note (list_note x.below)) x.kind x.below ≡ Some y
 list_kept {l = l} x w is left put =
-    w.becomes (new_note x.note) (new_note (list_note x.below)) ∙ ap (λ u. as_one (new_note x.note) (new_note (list_note u)) (acting w.list.below)) w.below
+    w.becomes (new_note x.note) (new_note (list_note x.below)) ∙ ap (λ u. as_one (new_note x.note) (new_note (list_note u)) (acting w.has.list.below)) w.has.below
     ∙ ap {A = Tree} (λ u. as_one (new_note x.note) (new_note u.note) (acting u.below)) (sym is) ∙ left ∙ ap Some (sym put)
 
 -- ---- as the rule says it
 
-unless_same : (b : Bool) (o : Option Tree) (c : Bool) → is_some o ≡ c → is_some (if b then None else o) ≡ not b && c
+pub unless_same : (b : Bool) (o : Option Tree) (c : Bool) → is_some o ≡ c → is_some (if b then None else o) ≡ not b && c
 unless_same true o c e = refl
 unless_same false o c e = e
 

@@ -3,5 +3,7 @@ pub mod Kept
 pub mod Unused
 pub mod Lists
 pub mod Indirect
+pub mod OneSided
+pub mod Sequences
 pub mod MayChange
 pub mod Pair

@@ -5,6 +5,8 @@ ghost use Rattle.rules_expressions.specs.Known.{fold_conditional, fold_logical, 
 ghost use Rattle.rules_expressions.specs.Unused.{fold_unused};
 ghost use Rattle.rules_expressions.specs.Lists.{fold_unused_list};
 ghost use Rattle.rules_expressions.specs.Indirect.{fold_indirect};
+ghost use Rattle.rules_expressions.specs.OneSided.{fold_one_sided};
+ghost use Rattle.rules_expressions.specs.Sequences.{fold_sequence};
 ghost use Rattle.rules_expressions.specs.Uses.{spot_of};
 ghost use Rattle.min_expressions.specs.Kept.{matters_at};
 
@@ -12,6 +14,8 @@ use crate::bare::matters_here;
 use crate::indirect::{goes_behind, keep_behind_zero};
 use crate::kept::{conditional_keeps, keep_child, logical_keeps};
 use crate::list::{keep_list, list_goes};
+use crate::one_sided::{keep_one_side, stays_one_sided};
+use crate::sequence::{keep_sequence, sequence_goes};
 use crate::unused::{keep_needed, unused_keeps};
 use js_tree::Node;
 use min_context::MinifierTraverseCtx;
@@ -32,11 +36,33 @@ fn fold_operation(node: &mut Node, ctx: &mut MinifierTraverseCtx) -> bool
     fold_decided(node, ctx) || PeepholeOptimizations::remove_unused_expression(node, ctx)
 }
 
-// All that takes no memory.
+// What is tried before a zero is made. It takes no memory.
 fn fold_without_memory(node: &mut Node, ctx: &mut MinifierTraverseCtx) -> bool
     ensures { Does (either (either (either fold_conditional fold_logical) fold_unused) fold_unused_list) ctx.old node.old result ctx.new node.new }
 {
     fold_operation(node, ctx) || PeepholeOptimizations::remove_unused_list(node, ctx)
+}
+
+// The same, and what comes to stand behind a zero.
+fn fold_to_parts(node: &mut Node, ctx: &mut MinifierTraverseCtx) -> Result<bool, AllocError>
+    ensures does { IfOk result (λ b. Does (either (either (either (either fold_conditional fold_logical) fold_unused) fold_unused_list) fold_indirect) ctx.old node.old b ctx.new node.new) }
+    ensures refused { IfErr result (λ e. (node.new ≡ node.old) × (ctx.new ≡ ctx.old)) }
+{
+    if fold_without_memory(node, ctx) {
+        return Ok(true);
+    }
+    PeepholeOptimizations::put_behind_zero(node, ctx)
+}
+
+// The same, and what becomes of a conditional of which nobody takes the value.
+fn fold_but_sequences(node: &mut Node, ctx: &mut MinifierTraverseCtx) -> Result<bool, AllocError>
+    ensures does { IfOk result (λ b. Does (either (either (either (either (either fold_conditional fold_logical) fold_unused) fold_unused_list) fold_indirect) fold_one_sided) ctx.old node.old b ctx.new node.new) }
+    ensures refused { IfErr result (λ e. (node.new ≡ node.old) × (ctx.new ≡ ctx.old)) }
+{
+    if fold_to_parts(node, ctx)? {
+        return Ok(true);
+    }
+    Ok(PeepholeOptimizations::fold_one_sided_choice(node, ctx))
 }
 
 /// What a walk does behind a node, to that node alone. Each call answers whether it did anything.
@@ -114,6 +140,33 @@ impl PeepholeOptimizations {
         }
     }
 
+    /// Where nobody takes the value, a conditional of which one branch alone acts becomes `test && consequent` or
+    /// `test || alternate`.
+    pub fn fold_one_sided_choice(node: &mut Node, ctx: &mut MinifierTraverseCtx) -> bool
+        ensures does { Does fold_one_sided ctx.old node.old result ctx.new node.new }
+    {
+        match stays_one_sided(node, ctx) {
+            Some(operator) => {
+                keep_one_side(node, operator, ctx);
+                true
+            }
+            None => false,
+        }
+    }
+
+    /// Of a sequence the parts leave that don't act, but the last. Where that is left alone it takes the place of the whole, unless it
+    /// matters there that this stands there itself.
+    pub fn remove_sequence_expression(node: &mut Node, ctx: &mut MinifierTraverseCtx) -> bool
+        ensures does { Does fold_sequence ctx.old node.old result ctx.new node.new }
+    {
+        if sequence_goes(node, ctx) {
+            keep_sequence(node, ctx);
+            true
+        } else {
+            false
+        }
+    }
+
     /// What becomes of an expression behind which the walk is. It fails only for want of memory; then all is as it was.
     pub fn fold_expression(
         node: &mut Node,
@@ -122,10 +175,10 @@ impl PeepholeOptimizations {
         ensures does { IfOk result (λ b. Does at_expression_end ctx.old node.old b ctx.new node.new) }
         ensures refused { IfErr result (λ e. (node.new ≡ node.old) × (ctx.new ≡ ctx.old)) }
     {
-        if fold_without_memory(node, ctx) {
+        if fold_but_sequences(node, ctx)? {
             return Ok(true);
         }
-        PeepholeOptimizations::put_behind_zero(node, ctx)
+        Ok(PeepholeOptimizations::remove_sequence_expression(node, ctx))
     }
 
     /// Whether it matters that an expression stands itself where the walk is, as what a call calls, or what `typeof` or `delete`

@@ -7,6 +7,8 @@
 //! becomes the operand that acts, if one alone does, and that again (`remove_unused_expression`); an array or a sequence of which
 //! nobody takes the value becomes its parts that act, one alone or several in a sequence (`remove_unused_list`). Where it matters that
 //! the part that a literal chooses doesn't stand there itself, it becomes that part behind a zero, as `(0, o.f)()` (`put_behind_zero`).
+//! A conditional of which nobody takes the value and one branch alone acts becomes `test && consequent` or `test || alternate`
+//! (`fold_one_sided_choice`), and of any sequence the parts leave that don't act, but the last (`remove_sequence_expression`).
 //! What comes out is moved to where the whole stood, a sequence is made of the vectors that are there, and the context is told of all
 //! that leaves, and of nothing else. Only a new zero takes memory, before anything is touched. Three calls answer what rules ask:
 //! whether an expression, or the object of a member that is assigned, may refer to something else when it is evaluated again, and what
@@ -20,8 +22,10 @@ mod kept;
 mod known;
 mod list;
 mod may_change;
+mod one_sided;
 mod pair;
 mod parts;
+mod sequence;
 mod unused;
 mod uses;
 

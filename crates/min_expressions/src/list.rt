@@ -70,7 +70,7 @@ fn is_list(kind: &NodeKind) -> bool
     }
 }
 
-fn acts_or_is_list(node: &Node) -> bool
+pub(crate) fn acts_or_is_list(node: &Node) -> bool
     ensures { result ≡ (tree_acts node.now || is_list node.now.kind) }
 {
     acts(node) || is_list(node.kind())
@@ -87,7 +87,7 @@ fn is_idle(item: &Option<Node>) -> bool
 }
 
 // Whether not all act.
-fn has_idle(parts: &[Option<Node>]) -> bool
+pub(crate) fn has_idle(parts: &[Option<Node>]) -> bool
     ensures { result ≡ not (unused.all_act (row parts.now)) }
 {
     for part in parts {
@@ -156,7 +156,7 @@ fn are_one(parts: &[Option<Node>]) -> bool
     is_enough(found_in(parts))
 }
 
-fn only(children: &[Option<Node>]) -> Option<&Node>
+pub(crate) fn only(children: &[Option<Node>]) -> Option<&Node>
     ensures { option_map (λ v. v.now) result ≡ only (row children.now) }
 {
     match children {
@@ -248,7 +248,7 @@ fn keep_acting(parts: &mut Vec<Option<Node>>)
 }
 
 // Takes out the part that is alone.
-fn take_only(parts: &mut Vec<Option<Node>>) -> Option<Node>
+pub(crate) fn take_only(parts: &mut Vec<Option<Node>>) -> Option<Node>
     ensures taken { result ≡ only (row parts.old.items) }
     ensures others { is_some result ≡ false → row parts.new.items ≡ row parts.old.items }
 {

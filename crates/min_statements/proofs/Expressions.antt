@@ -3,6 +3,7 @@ use Rattle.std.proofs.Common.{◌≡◌, ◌∙◌, ◌≤◌, ◌⊎◌, inl, i
 use Rattle.js_syntax.specs.declared.node_kind.NodeKind.{NodeKind as Kind}
 use Rattle.js_syntax.specs.declared.node_kind.NodeKind.TheVariants.{ArrayExpression as array_expression, Elements as elements, MemberExpression as member_expression, ChainExpression as chain_expression, ParenthesizedExpression as parenthesized_expression, SequenceExpression as sequence_expression, Expressions as expressions, ConditionalExpression as conditional_expression, LogicalExpression as logical_expression, Literal as literal}
 use Rattle.js_syntax.specs.declared.operator.LogicalOperator.{LogicalOperator}
+use Rattle.js_syntax.specs.declared.operator.LogicalOperator.TheVariants as logical
 use Rattle.js_syntax.specs.declared.operator.UnaryOperator.TheVariants as unary
 use Rattle.js_syntax.specs.declared.value.LiteralValue.{LiteralValue}
 use Rattle.js_syntax.specs.Node.{Forest, Note, Tree, nothing, node, absent, forest_of}
@@ -13,7 +14,9 @@ use Rattle.steps_allowed.specs.KnownSide.{KnownSide, right_side_counts, left_sid
 use Rattle.steps_allowed.specs.UnusedOperation.{acts, UnusedOperation, one_operand_acts}
 use Rattle.steps_allowed.specs.UnusedList.{acting, all_act, has_spread, as_one, list_becomes, UnusedList, acting_parts_stay}
 use Rattle.steps_allowed.specs.IndirectChoice.{branch_counts, part_counts, IndirectChoice, value_alone_counts}
-use Rattle.steps_allowed.specs.Uses.{as_value, as_typed, use_at, matters, may_take_name, stands_bare}
+use Rattle.steps_allowed.specs.OneSidedChoice.{sides, one_side, one_sided, OneSidedChoice, one_branch_acts}
+use Rattle.steps_allowed.specs.IdleParts.{stays_before, counting, all_count, as_value_of, sequence_becomes, IdleParts, idle_parts_leave}
+use Rattle.steps_allowed.specs.Uses.{Use, as_value, as_typed, use_at, matters, may_take_name, stands_bare}
 use Rattle.steps_owed.proofs.UnusedPlace.{unused_as_value}
 use Rattle.steps_owed.proofs.UnusedOperation.{Needed, the_operand, first_side, second_side, left_side, the_condition, needed_part}
 use Rattle.min_context.specs.Edited.{evals, Edited}
@@ -27,11 +30,15 @@ use Rattle.rules_expressions.specs.Known.{conditional_becomes, logical_becomes, 
 use Rattle.rules_expressions.specs.Unused.{unused_becomes, UnusedOperations, last, one_more}
 use Rattle.rules_expressions.specs.Lists.{unused_list_becomes}
 use Rattle.rules_expressions.specs.Indirect.{indirect_becomes}
+use Rattle.rules_expressions.specs.OneSided.{one_sided_becomes}
+use Rattle.rules_expressions.specs.Sequences.{sequence_left}
 use Rattle.rules_expressions.proofs.Becoming.{no_answer, same_answer, chosen, chosen_if}
 use Rattle.rules_expressions.proofs.Editing.{conditional_edits_there, logical_edits_there}
 use Rattle.rules_expressions.proofs.Unused.{unused_edits_there}
 use Rattle.rules_expressions.proofs.Lists.{list_edits_there}
 use Rattle.rules_expressions.proofs.Indirect.{indirect_edits_there}
+use Rattle.rules_expressions.proofs.OneSided.{one_sided_edits_there}
+use Rattle.rules_expressions.proofs.Sequences.{sequence_edits_there}
 use Rattle.rules_expressions.proofs.Folding.{expressions_fold}
 use Rattle.min_statements.specs.Own.{AnyEdit, Own, Found}
 use Rattle.min_statements.specs.Walker.{Names}
@@ -101,21 +108,24 @@ acting_calls (node k n b rest) = if_acts (acts k n b) (acting_calls rest)
     if_acts true h = Prim.omega (arith, h)
     if_acts false h = Prim.omega (arith, h)
 
--- what is left of these parts
-record LeavesCalls (parts : Forest) (y : Tree) : Type 0 where
+-- what is left of these parts, where it is used so
+record LeavesCalls (u : Use) (in_with : Bool) (parts : Forest) (y : Tree) : Type 0 where
   fewer : evals (forest_of y) ≤ evals parts
-  bare : stands_bare as_value false y.kind y.below ≡ true
+  bare : stands_bare u in_with y.kind y.below ≡ true
 
-several_call : (n m : Note) (parts : Forest) (y : Tree) → (let made : Tree = record { kind = sequence_expression; note = n; below = node expressions m parts nothing } in Some made ≡ Some y) → LeavesCalls parts y
-several_call n m parts y e = subst (LeavesCalls parts) (same_answer e) (record { fewer = Prim.omega arith; bare = refl })
+several_call : (u : Use) (w : Bool) (n m : Note) (parts : Forest) (y : Tree) → (let made : Tree = record { kind = sequence_expression; note = n; below = node expressions m parts nothing } in Some made ≡ Some y) → LeavesCalls u w parts y
+several_call u w n m parts y e = subst (LeavesCalls u w parts) (same_answer e) (record { fewer = Prim.omega arith; bare = refl })
 
-one_calls : (n m : Note) (parts : Forest) (y : Tree) → as_one n m parts ≡ Some y → LeavesCalls parts y
+alone_calls : (u : Use) (w : Bool) (k : Kind) (i : Note) (b : Forest) (y : Tree) → (let x : Tree = record { kind = k; note = i; below = b } in (if stands_bare u w k b then Some x else None) ≡ Some y) → LeavesCalls u w (node k i b nothing) y
+alone_calls u w k i b y e =
+    elim (chosen_if (stands_bare u w k b) (record { kind = k; note = i; below = b }) y e) [ chosen may is ↦ subst (LeavesCalls u w (node k i b nothing)) is (record { fewer = Prim.omega arith; bare = may }) ]
+
+one_calls : (n m : Note) (parts : Forest) (y : Tree) → as_one n m parts ≡ Some y → LeavesCalls as_value false parts y
 one_calls n m nothing y e = no_answer e
-one_calls n m (absent rest) y e = several_call n m (absent rest) y e
-one_calls n m (node k i b nothing) y e =
-    elim (chosen_if (stands_bare as_value false k b) (record { kind = k; note = i; below = b }) y e) [ chosen may is ↦ subst (LeavesCalls (node k i b nothing)) is (record { fewer = Prim.omega arith; bare = may }) ]
-one_calls n m (node k i b (node l j c rest)) y e = several_call n m (node k i b (node l j c rest)) y e
-one_calls n m (node k i b (absent rest)) y e = several_call n m (node k i b (absent rest)) y e
+one_calls n m (absent rest) y e = several_call as_value false n m (absent rest) y e
+one_calls n m (node k i b nothing) y e = alone_calls as_value false k i b y e
+one_calls n m (node k i b (node l j c rest)) y e = several_call as_value false n m (node k i b (node l j c rest)) y e
+one_calls n m (node k i b (absent rest)) y e = several_call as_value false n m (node k i b (absent rest)) y e
 
 unless : (b : Bool) (o : Option Tree) (y : Tree) → (if b then None else o) ≡ Some y → o ≡ Some y
 unless true o y e = no_answer e
@@ -162,6 +172,63 @@ indirect_calls a _ _ (value_alone_counts n m i x z counts itself) =
     let calls = part_calls x.kind x.below z counts in
     record { fewer = Prim.omega (arith, calls.fewer); old = calls.old; in_with = false; bare = refl }
 
+-- ---- what becomes `&&` or `||`
+
+-- no call of it is a direct one of `eval`, wherever it stands
+record LeavesSides (parts : Forest) (y : Tree) : Type 0 where
+  fewer : evals (forest_of y) ≤ evals parts
+  bare : (u : Use) → stands_bare u false y.kind y.below ≡ true
+
+side_left : (n : Note) (x y z v : Tree) (p q : Bool) → (if p then (if q then None else Some (sides n logical.And x y)) else (if q then Some (sides n logical.Or x z) else None)) ≡ Some v
+    → LeavesSides (node x.kind x.note x.below (node y.kind y.note y.below (node z.kind z.note z.below nothing))) v
+side_left n x y z v true true e = no_answer e
+side_left n x y z v true false e = subst (LeavesSides (node x.kind x.note x.below (node y.kind y.note y.below (node z.kind z.note z.below nothing)))) (same_answer e) (record { fewer = Prim.omega arith; bare = λ u. refl })
+side_left n x y z v false true e = subst (LeavesSides (node x.kind x.note x.below (node y.kind y.note y.below (node z.kind z.note z.below nothing)))) (same_answer e) (record { fewer = Prim.omega arith; bare = λ u. refl })
+side_left n x y z v false false e = no_answer e
+
+sides_left : (n : Note) (parts : Forest) (y : Tree) → one_side n parts ≡ Some y → LeavesSides parts y
+sides_left n (node k i a (node l j b (node h o c nothing))) y e = side_left n (record { kind = k; note = i; below = a }) (record { kind = l; note = j; below = b }) (record { kind = h; note = o; below = c }) y (acts l j b) (acts h o c) e
+sides_left n parts y e = no_answer e
+
+one_sided_call : (a : places.Around) (n i : Note) (k : Kind) (parts : Forest) (y : Tree) → one_sided n k parts ≡ Some y → CallsStay a (record { kind = k; note = i; below = parts }) y
+one_sided_call a n i conditional_expression parts y e = let left = sides_left n parts y e in record { fewer = Prim.omega (arith, left.fewer); old = refl; in_with = false; bare = left.bare (use_at a) }
+one_sided_call a n i k parts y e = no_answer e
+
+one_sided_calls : (a : places.Around) (x y : Tree) → OneSidedChoice a x y → CallsStay a x y
+one_sided_calls a _ _ (one_branch_acts n x y unused becomes) = one_sided_call a n x.note x.kind x.below y becomes
+
+-- ---- what idle parts leave
+
+counting_calls : (parts : Forest) → evals (counting parts) ≤ evals parts
+counting_calls nothing = Prim.omega arith
+counting_calls (absent rest) = counting_calls rest
+counting_calls (node k n b rest) = at rest (counting_calls rest)
+  where
+    if_stays : (stays : Bool) (others left : Forest) → evals left ≤ evals others → evals (if stays then node k n b left else left) ≤ evals (node k n b others)
+    if_stays true others left h = Prim.omega (arith, h)
+    if_stays false others left h = Prim.omega (arith, h)
+
+    at : (others : Forest) → evals (counting others) ≤ evals others → evals (counting (node k n b others)) ≤ evals (node k n b others)
+    at nothing h = Prim.omega arith
+    at (absent others) h = if_stays (stays_before k n b) (absent others) (counting (absent others)) h
+    at (node l m c others) h = if_stays (stays_before k n b) (node l m c others) (counting (node l m c others)) h
+
+value_calls : (u : Use) (w : Bool) (n m : Note) (parts : Forest) (y : Tree) → as_value_of u w n m parts ≡ Some y → LeavesCalls u w parts y
+value_calls u w n m nothing y e = no_answer e
+value_calls u w n m (absent rest) y e = several_call u w n m (absent rest) y e
+value_calls u w n m (node k i b nothing) y e = alone_calls u w k i b y e
+value_calls u w n m (node k i b (node l j c rest)) y e = several_call u w n m (node k i b (node l j c rest)) y e
+value_calls u w n m (node k i b (absent rest)) y e = several_call u w n m (node k i b (absent rest)) y e
+
+sequence_call : (a : places.Around) (w : Bool) (n m i : Note) (k : Kind) (below : Forest) (y : Tree) → sequence_becomes (use_at a) w n m k below ≡ Some y → CallsStay a (record { kind = k; note = i; below = below }) y
+sequence_call a w n m i sequence_expression (node expressions j parts nothing) y e =
+    let left = value_calls (use_at a) w n m (counting parts) y (unless (all_count parts) (as_value_of (use_at a) w n m (counting parts)) y e) in
+    record { fewer = Prim.omega (arith, left.fewer, counting_calls parts); old = refl; in_with = w; bare = left.bare }
+sequence_call a w n m i k below y e = no_answer e
+
+idle_parts_call : (a : places.Around) (x y : Tree) → IdleParts a x y → CallsStay a x y
+idle_parts_call a _ _ (idle_parts_leave n m x y becomes) = sequence_call a _ n m x.note x.kind x.below y becomes
+
 -- ---- what the rules answer
 
 one_of : (o p : Option Tree) (y : Tree) → or_else o p ≡ Some y → (o ≡ Some y) ⊎ (p ≡ Some y)
@@ -169,7 +236,7 @@ one_of None p y e = inr e
 one_of (Some x) p y e = inl e
 
 abbrev answer_at : Spot → Tree → Option Tree
-answer_at s x = or_else (or_else (or_else (or_else (conditional_becomes s x.kind x.below) (logical_becomes s x.kind x.below)) (unused_becomes s x.kind x.below)) (unused_list_becomes s x.note x.kind x.below)) (indirect_becomes s x.note x.kind x.below)
+answer_at s x = or_else (or_else (or_else (or_else (or_else (or_else (conditional_becomes s x.kind x.below) (logical_becomes s x.kind x.below)) (unused_becomes s x.kind x.below)) (unused_list_becomes s x.note x.kind x.below)) (indirect_becomes s x.note x.kind x.below)) (one_sided_becomes s x.note x.kind x.below)) (sequence_left s x.note x.kind x.below)
 
 calls_stay : (c : Seen) (a : Around) (x y : Tree) (r : Forest) → IsHere c a → at_expression_end c x ≡ Some y → CallsStay (before a r) x y
 calls_stay c a x y r here found =
@@ -177,19 +244,27 @@ calls_stay c a x y r here found =
     let known = or_else (conditional_becomes s x.kind x.below) (logical_becomes s x.kind x.below) in
     let none_taken = or_else known (unused_becomes s x.kind x.below) in
     let itself = or_else none_taken (unused_list_becomes s x.note x.kind x.below) in
-    let there : or_else itself (indirect_becomes s x.note x.kind x.below) ≡ Some y = subst (λ q. answer_at (spot_of q) x ≡ Some y) (sym here) found in
-    elim (one_of itself (indirect_becomes s x.note x.kind x.below) y there) [
-      | inl f ↦ elim (one_of none_taken (unused_list_becomes s x.note x.kind x.below) y f) [
-        | inl e ↦ elim (one_of known (unused_becomes s x.kind x.below) y e) [
-          | inl d ↦ elim (one_of (conditional_becomes s x.kind x.below) (logical_becomes s x.kind x.below) y d) [
-            | inl conditional ↦ conditional_calls (before a r) x y (conditional_edits_there a x y r conditional)
-            | inr logical ↦ side_calls (before a r) x y (logical_edits_there a x y r logical)
+    let its_value = or_else itself (indirect_becomes s x.note x.kind x.below) in
+    let but_sequences = or_else its_value (one_sided_becomes s x.note x.kind x.below) in
+    let there : or_else but_sequences (sequence_left s x.note x.kind x.below) ≡ Some y = subst (λ q. answer_at (spot_of q) x ≡ Some y) (sym here) found in
+    elim (one_of but_sequences (sequence_left s x.note x.kind x.below) y there) [
+      | inl h ↦ elim (one_of its_value (one_sided_becomes s x.note x.kind x.below) y h) [
+        | inl g ↦ elim (one_of itself (indirect_becomes s x.note x.kind x.below) y g) [
+          | inl f ↦ elim (one_of none_taken (unused_list_becomes s x.note x.kind x.below) y f) [
+            | inl e ↦ elim (one_of known (unused_becomes s x.kind x.below) y e) [
+              | inl d ↦ elim (one_of (conditional_becomes s x.kind x.below) (logical_becomes s x.kind x.below) y d) [
+                | inl conditional ↦ conditional_calls (before a r) x y (conditional_edits_there a x y r conditional)
+                | inr logical ↦ side_calls (before a r) x y (logical_edits_there a x y r logical)
+              ]
+              | inr operation ↦ operations_call (unused_edits_there a x y r operation)
+            ]
+            | inr parts ↦ list_calls (before a r) x y (list_edits_there a x y r parts)
           ]
-          | inr operation ↦ operations_call (unused_edits_there a x y r operation)
+          | inr indirect ↦ indirect_calls (before a r) x y (indirect_edits_there a x y r indirect)
         ]
-        | inr parts ↦ list_calls (before a r) x y (list_edits_there a x y r parts)
+        | inr one_sided ↦ one_sided_calls (before a r) x y (one_sided_edits_there a x y r one_sided)
       ]
-      | inr indirect ↦ indirect_calls (before a r) x y (indirect_edits_there a x y r indirect)
+      | inr sequence ↦ idle_parts_call (before a r) x y (sequence_edits_there a x y r sequence)
     ]
 
 module _ (stays : Stays AnyEdit) (names : Names) where

@@ -6,12 +6,14 @@ use Rattle.js_syntax.specs.Node.{Forest, Tree, Note, nothing, node}
 use Rattle.min_context.specs.Place.{place_at}
 use Rattle.scope_laws.specs.Place as places
 use Rattle.scope_counts.specs.Edits.{Around, plug}
-use Rattle.steps_allowed.specs.Edits.{Becomes, Edit, becomes, known_conditional, known_side, unused_operation, unused_list, indirect_choice}
+use Rattle.steps_allowed.specs.Edits.{Becomes, Edit, becomes, known_conditional, known_side, unused_operation, unused_list, indirect_choice, one_sided_choice, idle_parts}
 use Rattle.steps_allowed.specs.KnownConditional.{KnownConditional, a_conditional, consequent_is_taken, alternate_is_taken}
 use Rattle.steps_allowed.specs.KnownSide.{KnownSide, a_logical, right_side_counts, left_side_decides}
 use Rattle.steps_allowed.specs.UnusedOperation.{UnusedOperation}
 use Rattle.steps_allowed.specs.UnusedList.{UnusedList}
 use Rattle.steps_allowed.specs.IndirectChoice.{IndirectChoice}
+use Rattle.steps_allowed.specs.OneSidedChoice.{OneSidedChoice}
+use Rattle.steps_allowed.specs.IdleParts.{IdleParts}
 use Rattle.rules_dead_code.specs.Before.{before}
 use Rattle.rules_expressions.specs.Uses.{spot_of}
 use Rattle.rules_expressions.specs.Known.{conditional_becomes, logical_becomes}
@@ -75,3 +77,9 @@ list_edit a x y rest o = edit_there a x y rest (unused_list o)
 
 pub indirect_edit : (a : Around) (x y : Tree) (rest : Forest) → IndirectChoice (before a rest) x y → Edit (plug a (node x.kind x.note x.below rest)) (plug a (node y.kind y.note y.below rest))
 indirect_edit a x y rest o = edit_there a x y rest (indirect_choice o)
+
+pub one_sided_edit : (a : Around) (x y : Tree) (rest : Forest) → OneSidedChoice (before a rest) x y → Edit (plug a (node x.kind x.note x.below rest)) (plug a (node y.kind y.note y.below rest))
+one_sided_edit a x y rest o = edit_there a x y rest (one_sided_choice o)
+
+pub sequence_edit : (a : Around) (x y : Tree) (rest : Forest) → IdleParts (before a rest) x y → Edit (plug a (node x.kind x.note x.below rest)) (plug a (node y.kind y.note y.below rest))
+sequence_edit a x y rest o = edit_there a x y rest (idle_parts o)

@@ -3,6 +3,8 @@ pub mod Becoming
 pub mod Unused
 pub mod Lists
 pub mod Indirect
+pub mod OneSided
+pub mod Sequences
 pub mod Editing
 pub mod Folding
 pub mod Settled

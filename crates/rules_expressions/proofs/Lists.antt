@@ -25,19 +25,19 @@ use Rattle.rules_expressions.proofs.Becoming.{no_answer, same_answer, none_of, c
 -- ---- whether a list becomes anything doesn't depend on notes
 
 -- an answer that is the same but for notes
-record HasAnswer (o : Option Tree) (y : Tree) : Type 0 where
-  left : Tree
-  answers : o ≡ Some left
-  same : bare (forest_of left) ≡ bare (forest_of y)
+pub record HasAnswer (o : Option Tree) (y : Tree) : Type 0 where
+  pub left : Tree
+  pub answers : o ≡ Some left
+  pub same : bare (forest_of left) ≡ bare (forest_of y)
 
-answer : (x y : Tree) → bare (forest_of x) ≡ bare (forest_of y) → HasAnswer (Some x) y
+pub answer : (x y : Tree) → bare (forest_of x) ≡ bare (forest_of y) → HasAnswer (Some x) y
 answer x y e = record { left = x; answers = refl; same = e }
 
-abbrev made : Note → Note → Forest → Tree
+abbrev pub made : Note → Note → Forest → Tree
 made n m parts = record { kind = sequence_expression; note = n; below = node expressions m parts nothing }
 
 -- of several parts
-several_as : (n m i j : Note) (parts : Forest) (y : Tree) → Some (made n m parts) ≡ Some y → HasAnswer (Some (made i j parts)) y
+pub several_as : (n m i j : Note) (parts : Forest) (y : Tree) → Some (made n m parts) ≡ Some y → HasAnswer (Some (made i j parts)) y
 several_as n m i j parts y e = subst (λ z. HasAnswer (Some (made i j parts)) z) (same_answer e) (answer (made i j parts) (made n m parts) refl)
 
 one_as : (n m i j : Note) (parts : Forest) (y : Tree) → as_one n m parts ≡ Some y → HasAnswer (as_one i j parts) y
@@ -47,7 +47,7 @@ one_as n m i j (node k l a nothing) y e = record { left = y; answers = e; same =
 one_as n m i j (node k l a (node h g b rest)) y e = several_as n m i j (node k l a (node h g b rest)) y e
 one_as n m i j (node k l a (absent rest)) y e = several_as n m i j (node k l a (absent rest)) y e
 
-unless_as : (b : Bool) (o p : Option Tree) (y : Tree) → (o ≡ Some y → HasAnswer p y) → (if b then None else o) ≡ Some y → HasAnswer (if b then None else p) y
+pub unless_as : (b : Bool) (o p : Option Tree) (y : Tree) → (o ≡ Some y → HasAnswer p y) → (if b then None else o) ≡ Some y → HasAnswer (if b then None else p) y
 unless_as true o p y h e = no_answer e
 unless_as false o p y h e = h e
 
@@ -63,11 +63,11 @@ none_as n m i j k below none = none_of (list_becomes i j k below) (λ y e. no_an
 
 -- ---- the answer is an edit, and where an edit applies there is an answer
 
-record IsTaken (b : Bool) (o : Option Tree) (y : Tree) : Type 0 where
-  holds : b ≡ true
-  answers : o ≡ Some y
+pub record IsTaken (b : Bool) (o : Option Tree) (y : Tree) : Type 0 where
+  pub holds : b ≡ true
+  pub answers : o ≡ Some y
 
-taken : (b : Bool) (o : Option Tree) (y : Tree) → (if b then o else None) ≡ Some y → IsTaken b o y
+pub taken : (b : Bool) (o : Option Tree) (y : Tree) → (if b then o else None) ≡ Some y → IsTaken b o y
 taken true o y e = record { holds = refl; answers = e }
 taken false o y e = no_answer e
 
@@ -132,7 +132,7 @@ no_list : (b : Bool) → (b || true) ≡ false → ⊥
 no_list true e = absurd Prim.cc
 no_list false e = absurd Prim.cc
 
-idle_weighs : (k : Kind) (n : Note) (below : Forest) → (acts k n below || is_list k) ≡ false → 1 ≤ weight k
+pub idle_weighs : (k : Kind) (n : Note) (below : Forest) → (acts k n below || is_list k) ≡ false → 1 ≤ weight k
 idle_weighs (Kind.Literal v) n below e = value_weighs v
 idle_weighs (Kind.Function how pure) n below e = function_weighs how pure
 idle_weighs (Kind.Class how) n below e = absurd Prim.cc
@@ -166,11 +166,11 @@ lighter_row (node k n a rest) e = if_acts (acts k n a) refl (is_list k) refl (λ
 
 -- ---- what is left is less
 
-record IsLittle (y : Tree) (parts : Forest) : Type 0 where
-  fewer : (r : ℕ) → ids r (forest_of y) ≤ ids r parts
-  lighter : total weight (forest_of y) ≤ total weight parts + 2
+pub record IsLittle (y : Tree) (parts : Forest) : Type 0 where
+  pub fewer : (r : ℕ) → ids r (forest_of y) ≤ ids r parts
+  pub lighter : total weight (forest_of y) ≤ total weight parts + 2
 
-several_little : (n m : Note) (parts : Forest) (y : Tree) → Some (made n m parts) ≡ Some y → IsLittle y parts
+pub several_little : (n m : Note) (parts : Forest) (y : Tree) → Some (made n m parts) ≡ Some y → IsLittle y parts
 several_little n m parts y e = subst (λ z. IsLittle z parts) (same_answer e) (record { fewer = λ r. Prim.omega arith; lighter = Prim.omega arith })
 
 one_little : (n m : Note) (parts : Forest) (y : Tree) → as_one n m parts ≡ Some y → IsLittle y parts
@@ -187,11 +187,11 @@ less_array n l parts y h = record { thins = λ r. Prim.omega (arith, h.fewer r, 
 less_sequence : (n l : Note) (parts : Forest) (y : Tree) → all_act parts ≡ false → IsLittle y (acting parts) → IsLess (record { kind = sequence_expression; note = n; below = node expressions l parts nothing }) y
 less_sequence n l parts y idle h = record { thins = λ r. Prim.omega (arith, h.fewer r, no_more r parts); lighter = Prim.omega (arith, h.lighter, lighter_row parts idle) }
 
-record IsLeft (b : Bool) (o : Option Tree) (y : Tree) : Type 0 where
-  holds_not : b ≡ false
-  answers : o ≡ Some y
+pub record IsLeft (b : Bool) (o : Option Tree) (y : Tree) : Type 0 where
+  pub holds_not : b ≡ false
+  pub answers : o ≡ Some y
 
-unless : (b : Bool) (o : Option Tree) (y : Tree) → (if b then None else o) ≡ Some y → IsLeft b o y
+pub unless : (b : Bool) (o : Option Tree) (y : Tree) → (if b then None else o) ≡ Some y → IsLeft b o y
 unless true o y e = no_answer e
 unless false o y e = record { holds_not = refl; answers = e }
 

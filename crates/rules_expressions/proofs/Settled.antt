@@ -9,6 +9,8 @@ use Rattle.steps_allowed.specs.KnownSide.{KnownSide}
 use Rattle.steps_allowed.specs.UnusedOperation.{UnusedOperation}
 use Rattle.steps_allowed.specs.UnusedList.{UnusedList}
 use Rattle.steps_allowed.specs.IndirectChoice.{IndirectChoice}
+use Rattle.steps_allowed.specs.OneSidedChoice.{OneSidedChoice}
+use Rattle.steps_allowed.specs.IdleParts.{IdleParts}
 use Rattle.steps_owed.proofs.Places.{place_of, rest_of, placed_is}
 use Rattle.rules_dead_code.specs.Before.{before}
 use Rattle.rules_expressions.specs.Uses.{spot_of}
@@ -16,12 +18,16 @@ use Rattle.rules_expressions.specs.Known.{conditional_becomes, logical_becomes}
 use Rattle.rules_expressions.specs.Unused.{unused_becomes}
 use Rattle.rules_expressions.specs.Lists.{unused_list_becomes}
 use Rattle.rules_expressions.specs.Indirect.{indirect_becomes}
+use Rattle.rules_expressions.specs.OneSided.{one_sided_becomes}
+use Rattle.rules_expressions.specs.Sequences.{sequence_left}
 use Rattle.rules_expressions.specs.Settled.{IsSettledAt, IsSettled}
 use Rattle.rules_expressions.proofs.Uses.{spot_at, spot_before, plug_before}
 use Rattle.rules_expressions.proofs.Becoming.{no_answer, none_of}
 use Rattle.rules_expressions.proofs.Unused.{first_of, unused_edits_there, unused_answers}
 use Rattle.rules_expressions.proofs.Lists.{list_edits_there, list_answers}
 use Rattle.rules_expressions.proofs.Indirect.{indirect_edits_there, indirect_answers}
+use Rattle.rules_expressions.proofs.OneSided.{one_sided_edits_there, one_sided_answers}
+use Rattle.rules_expressions.proofs.Sequences.{sequence_edits_there, sequence_answers}
 use Rattle.rules_expressions.proofs.Editing.{conditional_edits_there, logical_edits_there, conditional_answers, logical_answers}
 
 before_place : (a : places.Around) → before (place_of a) (rest_of a) ≡ a
@@ -52,6 +58,12 @@ module _ (t : Forest) (settled : IsSettled t) (a : places.Around) (x y : Tree) (
   pub no_indirect : IndirectChoice a x y → ⊥
   no_indirect o = let w = indirect_answers a x y o in no_answer (sym settled_there.indirect ∙ ap (λ s. indirect_becomes s x.note x.kind x.below) (spot_there a) ∙ w.1)
 
+  pub no_one_sided : OneSidedChoice a x y → ⊥
+  no_one_sided o = let w = one_sided_answers a x y o in no_answer (sym settled_there.one_sided ∙ ap (λ s. one_sided_becomes s x.note x.kind x.below) (spot_there a) ∙ w.1)
+
+  pub no_sequence : IdleParts a x y → ⊥
+  no_sequence o = let w = sequence_answers a x y o in no_answer (sym settled_there.sequence ∙ ap (λ s. sequence_left s x.note x.kind x.below) (spot_there a) ∙ w.1)
+
 pub is_settled :
     (t : Forest)
     → ((a : places.Around) (x y : Tree) → t ≡ places.plug a (Some x) → KnownConditional a x y → ⊥)
@@ -59,13 +71,17 @@ pub is_settled :
     → ((a : places.Around) (x y : Tree) → t ≡ places.plug a (Some x) → UnusedOperation a x y → ⊥)
     → ((a : places.Around) (x y : Tree) → t ≡ places.plug a (Some x) → UnusedList a x y → ⊥)
     → ((a : places.Around) (x y : Tree) → t ≡ places.plug a (Some x) → IndirectChoice a x y → ⊥)
+    → ((a : places.Around) (x y : Tree) → t ≡ places.plug a (Some x) → OneSidedChoice a x y → ⊥)
+    → ((a : places.Around) (x y : Tree) → t ≡ places.plug a (Some x) → IdleParts a x y → ⊥)
     → IsSettled t
-is_settled t never_branch never_side never_unused never_list never_indirect = record {
+is_settled t never_branch never_side never_unused never_list never_indirect never_one_sided never_sequence = record {
   each = λ a x rest is. record {
     conditional = none_of (conditional_becomes (spot_of (place_at a)) x.kind x.below) (λ y e. never_branch (before a rest) x y (is ∙ sym (plug_before a x rest)) (conditional_edits_there a x y rest e));
     logical = none_of (logical_becomes (spot_of (place_at a)) x.kind x.below) (λ y e. never_side (before a rest) x y (is ∙ sym (plug_before a x rest)) (logical_edits_there a x y rest e));
     unused = none_of (unused_becomes (spot_of (place_at a)) x.kind x.below) (λ y e. let o = first_of (unused_edits_there a x y rest e) in never_unused (before a rest) x o.0 (is ∙ sym (plug_before a x rest)) o.1);
     list = none_of (unused_list_becomes (spot_of (place_at a)) x.note x.kind x.below) (λ y e. never_list (before a rest) x y (is ∙ sym (plug_before a x rest)) (list_edits_there a x y rest e));
     indirect = none_of (indirect_becomes (spot_of (place_at a)) x.note x.kind x.below) (λ y e. never_indirect (before a rest) x y (is ∙ sym (plug_before a x rest)) (indirect_edits_there a x y rest e));
+    one_sided = none_of (one_sided_becomes (spot_of (place_at a)) x.note x.kind x.below) (λ y e. never_one_sided (before a rest) x y (is ∙ sym (plug_before a x rest)) (one_sided_edits_there a x y rest e));
+    sequence = none_of (sequence_left (spot_of (place_at a)) x.note x.kind x.below) (λ y e. never_sequence (before a rest) x y (is ∙ sym (plug_before a x rest)) (sequence_edits_there a x y rest e));
   };
 }

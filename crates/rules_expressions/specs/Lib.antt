@@ -2,6 +2,8 @@ pub mod Uses
 pub mod Unused
 pub mod Lists
 pub mod Indirect
+pub mod OneSided
+pub mod Sequences
 pub mod Known
 pub mod Settled
 pub mod Samples

@@ -18,13 +18,15 @@ use Rattle.rules_expressions.specs.Known.{conditional_becomes, logical_becomes}
 use Rattle.rules_expressions.specs.Unused.{unused_becomes}
 use Rattle.rules_expressions.specs.Lists.{unused_list_becomes}
 use Rattle.rules_expressions.specs.Indirect.{indirect_becomes}
+use Rattle.rules_expressions.specs.OneSided.{one_sided_becomes}
+use Rattle.rules_expressions.specs.Sequences.{sequence_left}
 
 -- ---- what a walk leaves that asks all rules behind each node
 
 abbrev pub becomes_at : Place → Tree → Option Tree
 becomes_at p x =
-    or_else (or_else (or_else (or_else (conditional_becomes (spot_of p) x.kind x.below) (logical_becomes (spot_of p) x.kind x.below)) (unused_becomes (spot_of p) x.kind x.below))
-    (unused_list_becomes (spot_of p) x.note x.kind x.below)) (indirect_becomes (spot_of p) x.note x.kind x.below)
+    or_else (or_else (or_else (or_else (or_else (or_else (conditional_becomes (spot_of p) x.kind x.below) (logical_becomes (spot_of p) x.kind x.below)) (unused_becomes (spot_of p) x.kind x.below))
+    (unused_list_becomes (spot_of p) x.note x.kind x.below)) (indirect_becomes (spot_of p) x.note x.kind x.below)) (one_sided_becomes (spot_of p) x.note x.kind x.below)) (sequence_left (spot_of p) x.note x.kind x.below)
 
 abbrev pub folded_at : Place → Tree → Tree
 folded_at p x = or_same x (becomes_at p x)

@@ -8,6 +8,8 @@ use Rattle.rules_expressions.specs.Known.{conditional_becomes, logical_becomes}
 use Rattle.rules_expressions.specs.Unused.{unused_becomes}
 use Rattle.rules_expressions.specs.Lists.{unused_list_becomes}
 use Rattle.rules_expressions.specs.Indirect.{indirect_becomes}
+use Rattle.rules_expressions.specs.OneSided.{one_sided_becomes}
+use Rattle.rules_expressions.specs.Sequences.{sequence_left}
 
 -- at one place
 pub record IsSettledAt (p : Place) (x : Tree) : Type 0 where
@@ -16,6 +18,8 @@ pub record IsSettledAt (p : Place) (x : Tree) : Type 0 where
   pub unused : unused_becomes (spot_of p) x.kind x.below ≡ None
   pub list : unused_list_becomes (spot_of p) x.note x.kind x.below ≡ None
   pub indirect : indirect_becomes (spot_of p) x.note x.kind x.below ≡ None
+  pub one_sided : one_sided_becomes (spot_of p) x.note x.kind x.below ≡ None
+  pub sequence : sequence_left (spot_of p) x.note x.kind x.below ≡ None
 
 pub record IsSettled (t : Forest) : Type 0 where
   pub each : (a : Around) (x : Tree) (rest : Forest) → t ≡ plug a (node x.kind x.note x.below rest) → IsSettledAt (place_at a) x

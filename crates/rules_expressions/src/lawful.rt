@@ -7,6 +7,8 @@ ghost use Rattle.rules_expressions.specs.Known.{fold_conditional, fold_logical, 
 ghost use Rattle.rules_expressions.specs.Unused.{fold_unused};
 ghost use Rattle.rules_expressions.specs.Lists.{fold_unused_list};
 ghost use Rattle.rules_expressions.specs.Indirect.{fold_indirect};
+ghost use Rattle.rules_expressions.specs.OneSided.{fold_one_sided};
+ghost use Rattle.rules_expressions.specs.Sequences.{fold_sequence};
 
 use min_traverse::Traverse;
 
@@ -17,5 +19,7 @@ pub fn rules_are_lawful<T: Traverse>()
     ensures unused { ((o : CompressOptions) (t u : Forest) → Edit t u → T.edit o t u) → Lawful T.edit fold_unused }
     ensures list { ((o : CompressOptions) (t u : Forest) → Edit t u → T.edit o t u) → Lawful T.edit fold_unused_list }
     ensures indirect { ((o : CompressOptions) (t u : Forest) → Edit t u → T.edit o t u) → Lawful T.edit fold_indirect }
+    ensures one_sided { ((o : CompressOptions) (t u : Forest) → Edit t u → T.edit o t u) → Lawful T.edit fold_one_sided }
+    ensures sequence { ((o : CompressOptions) (t u : Forest) → Edit t u → T.edit o t u) → Lawful T.edit fold_sequence }
     ensures all { ((o : CompressOptions) (t u : Forest) → Edit t u → T.edit o t u) → Lawful T.edit at_expression_end }
 {}

@@ -12,6 +12,8 @@ ghost use Rattle.steps_allowed.specs.Unused.{is_unused_at};
 ghost use Rattle.steps_allowed.specs.UnusedOperation.{UnusedOperation};
 ghost use Rattle.steps_allowed.specs.UnusedList.{UnusedList};
 ghost use Rattle.steps_allowed.specs.IndirectChoice.{IndirectChoice};
+ghost use Rattle.steps_allowed.specs.OneSidedChoice.{OneSidedChoice};
+ghost use Rattle.steps_allowed.specs.IdleParts.{IdleParts};
 ghost use Rattle.steps_allowed.specs.Uses.{use_at};
 ghost use Rattle.rules_dead_code.specs.Before.{before};
 ghost use Rattle.rules_expressions.specs.Uses.{spot_of};
@@ -19,6 +21,8 @@ ghost use Rattle.rules_expressions.specs.Known.{conditional_becomes, logical_bec
 ghost use Rattle.rules_expressions.specs.Unused.{unused_becomes, UnusedOperations};
 ghost use Rattle.rules_expressions.specs.Lists.{unused_list_becomes};
 ghost use Rattle.rules_expressions.specs.Indirect.{indirect_becomes};
+ghost use Rattle.rules_expressions.specs.OneSided.{one_sided_becomes};
+ghost use Rattle.rules_expressions.specs.Sequences.{sequence_left};
 ghost use Rattle.rules_expressions.specs.Settled.{IsSettled};
 
 /// Law: the context of a walk tells what an expression is used for, whether a `with` statement is around, and whether nobody takes
@@ -38,16 +42,21 @@ pub fn answers_are_edits()
     ensures none_left { (a : Around) (x y z : Tree) (rest : Forest) → unused_becomes (spot_of (place_at a)) x.kind x.below ≡ Some y → UnusedOperation (before a rest) y z → ⊥ }
     ensures list { (a : Around) (x y : Tree) (rest : Forest) → unused_list_becomes (spot_of (place_at a)) x.note x.kind x.below ≡ Some y → UnusedList (before a rest) x y }
     ensures indirect { (a : Around) (x y : Tree) (rest : Forest) → indirect_becomes (spot_of (place_at a)) x.note x.kind x.below ≡ Some y → IndirectChoice (before a rest) x y }
+    ensures one_sided { (a : Around) (x y : Tree) (rest : Forest) → one_sided_becomes (spot_of (place_at a)) x.note x.kind x.below ≡ Some y → OneSidedChoice (before a rest) x y }
+    ensures sequence { (a : Around) (x y : Tree) (rest : Forest) → sequence_left (spot_of (place_at a)) x.note x.kind x.below ≡ Some y → IdleParts (before a rest) x y }
 {}
 
-/// Law: and where such an edit applies the rule answers what it leaves, or what more of them leave of that. Of a list, and
-/// of what goes behind a zero, it answers what the edit leaves but for the notes of the new nodes.
+/// Law: and where such an edit applies the rule answers what it leaves, or what more of them leave of that. Of a list, of what goes
+/// behind a zero, of a conditional one branch of which acts, and of a sequence it answers what the edit leaves but for the notes of
+/// the new nodes.
 pub fn edits_are_answers()
     ensures conditional { (a : Around) (x y : Tree) (rest : Forest) → KnownConditional (before a rest) x y → conditional_becomes (spot_of (place_at a)) x.kind x.below ≡ Some y }
     ensures logical { (a : Around) (x y : Tree) (rest : Forest) → KnownSide (before a rest) x y → logical_becomes (spot_of (place_at a)) x.kind x.below ≡ Some y }
     ensures unused { (a : Around) (x z : Tree) (rest : Forest) → UnusedOperation (before a rest) x z → (y : Tree) × (unused_becomes (spot_of (place_at a)) x.kind x.below ≡ Some y) × ((y ≡ z) ⊎ UnusedOperations (before a rest) z y) }
     ensures list { (a : Around) (x z : Tree) (rest : Forest) → UnusedList (before a rest) x z → (y : Tree) × (unused_list_becomes (spot_of (place_at a)) x.note x.kind x.below ≡ Some y) × (bare (forest_of y) ≡ bare (forest_of z)) }
     ensures indirect { (a : Around) (x z : Tree) (rest : Forest) → IndirectChoice (before a rest) x z → (y : Tree) × (indirect_becomes (spot_of (place_at a)) x.note x.kind x.below ≡ Some y) × (bare (forest_of y) ≡ bare (forest_of z)) }
+    ensures one_sided { (a : Around) (x z : Tree) (rest : Forest) → OneSidedChoice (before a rest) x z → (y : Tree) × (one_sided_becomes (spot_of (place_at a)) x.note x.kind x.below ≡ Some y) × (bare (forest_of y) ≡ bare (forest_of z)) }
+    ensures sequence { (a : Around) (x z : Tree) (rest : Forest) → IdleParts (before a rest) x z → (y : Tree) × (sequence_left (spot_of (place_at a)) x.note x.kind x.below ≡ Some y) × (bare (forest_of y) ≡ bare (forest_of z)) }
 {}
 
 /// Law: so the rules change nothing of a program exactly where no such edit applies in it.
@@ -57,11 +66,15 @@ pub fn what_is_settled_has_no_edits()
     ensures unused { (t : Forest) → IsSettled t → (a : places.Around) (x y : Tree) → t ≡ places.plug a (Some x) → UnusedOperation a x y → ⊥ }
     ensures list { (t : Forest) → IsSettled t → (a : places.Around) (x y : Tree) → t ≡ places.plug a (Some x) → UnusedList a x y → ⊥ }
     ensures indirect { (t : Forest) → IsSettled t → (a : places.Around) (x y : Tree) → t ≡ places.plug a (Some x) → IndirectChoice a x y → ⊥ }
+    ensures one_sided { (t : Forest) → IsSettled t → (a : places.Around) (x y : Tree) → t ≡ places.plug a (Some x) → OneSidedChoice a x y → ⊥ }
+    ensures sequence { (t : Forest) → IsSettled t → (a : places.Around) (x y : Tree) → t ≡ places.plug a (Some x) → IdleParts a x y → ⊥ }
     ensures settled { (t : Forest)
         → ((a : places.Around) (x y : Tree) → t ≡ places.plug a (Some x) → KnownConditional a x y → ⊥)
         → ((a : places.Around) (x y : Tree) → t ≡ places.plug a (Some x) → KnownSide a x y → ⊥)
         → ((a : places.Around) (x y : Tree) → t ≡ places.plug a (Some x) → UnusedOperation a x y → ⊥)
         → ((a : places.Around) (x y : Tree) → t ≡ places.plug a (Some x) → UnusedList a x y → ⊥)
         → ((a : places.Around) (x y : Tree) → t ≡ places.plug a (Some x) → IndirectChoice a x y → ⊥)
+        → ((a : places.Around) (x y : Tree) → t ≡ places.plug a (Some x) → OneSidedChoice a x y → ⊥)
+        → ((a : places.Around) (x y : Tree) → t ≡ places.plug a (Some x) → IdleParts a x y → ⊥)
         → IsSettled t }
 {}

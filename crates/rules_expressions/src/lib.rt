@@ -5,7 +5,9 @@
 //! `specs/Unused.antt` has the rule of what nobody takes the value of: of an operation the operand is left that acts, and where
 //! that is such an operation again, its operand that acts, and so on. `specs/Lists.antt` has that of arrays and sequences, of which the
 //! parts are left that act. `specs/Indirect.antt` has that of conditionals and logical expressions of which the part that counts
-//! may not stand there itself: it stays behind a zero. `laws` states that what the context of a walk tells of a place
+//! may not stand there itself: it stays behind a zero. `specs/OneSided.antt` has that of conditionals of which nobody takes the value
+//! and one branch alone acts: they become `&&` or `||`. `specs/Sequences.antt` has that of sequences whose value may be taken: the parts
+//! leave that don't act, but the last. `laws` states that what the context of a walk tells of a place
 //! is so, that a rule has an answer exactly where the edit of steps_allowed applies that it makes (of several operations it answers
 //! what the last edit leaves), and that they change nothing of a program exactly where no such edit applies (`specs/Settled.antt`),
 //! which a walk sees node by node (`quiet`). `lawful` states that each is lawful, so that a hook of a walk may apply it. `rows` are

@@ -94,3 +94,22 @@ pub fn lists_that_stay()
     ensures used { left_of (uses (array (calls (reads a) ∷ []))) ≡ doing (uses (array (calls (reads a) ∷ []))) }
     ensures all_act { left_of (sequence (calls (reads a) ∷ calls (reads b) ∷ [])) ≡ doing (sequence (calls (reads a) ∷ calls (reads b) ∷ [])) }
 {}
+
+/// Where nobody takes the value of a conditional, and one branch alone acts, it becomes `&&` or `||`.
+pub fn one_branch_left()
+    ensures consequent { left_of (conditional (reads a) (calls (reads b)) one) ≡ doing (logical logical_operator.And (reads a) (calls (reads b))) }
+    ensures alternate { left_of (conditional (reads a) one (calls (reads b))) ≡ doing (logical logical_operator.Or (reads a) (calls (reads b))) }
+    ensures both { left_of (conditional (reads a) (calls (reads a)) (calls (reads b))) ≡ doing (conditional (reads a) (calls (reads a)) (calls (reads b))) }
+    ensures used { left_of (uses (conditional (reads a) (calls (reads b)) one)) ≡ doing (uses (conditional (reads a) (calls (reads b)) one)) }
+{}
+
+/// Of a sequence whose value is used the parts leave that don't act, but the last, and that stands there itself where it is left alone.
+/// A member that is called stays in the sequence (13.3.6.2), and a function, which might take a name (8.4).
+pub fn sequences_left()
+    ensures last { left_of (uses (sequence (one ∷ reads a ∷ []))) ≡ doing (uses (reads a)) }
+    ensures several { left_of (uses (sequence (calls (reads a) ∷ one ∷ reads a ∷ []))) ≡ doing (uses (sequence (calls (reads a) ∷ reads a ∷ []))) }
+    ensures literal_last { left_of (uses (sequence (calls (reads a) ∷ one ∷ []))) ≡ doing (uses (sequence (calls (reads a) ∷ one ∷ []))) }
+    ensures member { left_of (calls (sequence (one ∷ member ∷ []))) ≡ doing (calls (sequence (one ∷ member ∷ []))) }
+    ensures name { left_of (calls (sequence (one ∷ reads b ∷ []))) ≡ doing (calls (reads b)) }
+    ensures function { left_of (uses (sequence (one ∷ a_function ∷ []))) ≡ doing (uses (sequence (one ∷ a_function ∷ []))) }
+{}

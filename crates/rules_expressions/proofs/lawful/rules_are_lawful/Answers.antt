@@ -1,4 +1,4 @@
-use Rattle.rules_expressions.proofs.Folding.{conditionals_fold, logicals_fold, unused_fold, lists_fold, indirect_fold, expressions_fold}
+use Rattle.rules_expressions.proofs.Folding.{conditionals_fold, logicals_fold, unused_fold, lists_fold, indirect_fold, one_sided_fold, sequences_fold, expressions_fold}
 use Rattle.rules_expressions.proofs.lawful.rules_are_lawful.Goals as goal
 
 pub returns-clause-conditional : goal.returns-clause-conditional
@@ -15,6 +15,12 @@ returns-clause-list g c = lists_fold g.T.Traverse.edit
 
 pub returns-clause-indirect : goal.returns-clause-indirect
 returns-clause-indirect g c = indirect_fold g.T.Traverse.edit
+
+pub returns-clause-one_sided : goal.returns-clause-one_sided
+returns-clause-one_sided g c = one_sided_fold g.T.Traverse.edit
+
+pub returns-clause-sequence : goal.returns-clause-sequence
+returns-clause-sequence g c = sequences_fold g.T.Traverse.edit
 
 pub returns-clause-all : goal.returns-clause-all
 returns-clause-all g c = expressions_fold g.T.Traverse.edit

@@ -2,6 +2,8 @@ use Rattle.rules_expressions.proofs.Editing.{conditional_edits_there, logical_ed
 use Rattle.rules_expressions.proofs.Unused.{unused_edits_there, none_left_there}
 use Rattle.rules_expressions.proofs.Lists.{list_edits_there}
 use Rattle.rules_expressions.proofs.Indirect.{indirect_edits_there}
+use Rattle.rules_expressions.proofs.OneSided.{one_sided_edits_there}
+use Rattle.rules_expressions.proofs.Sequences.{sequence_edits_there}
 use Rattle.rules_expressions.proofs.laws.answers_are_edits.Goals as goal
 
 pub returns-clause-conditional : goal.returns-clause-conditional
@@ -21,3 +23,9 @@ returns-clause-list c = list_edits_there
 
 pub returns-clause-indirect : goal.returns-clause-indirect
 returns-clause-indirect c = indirect_edits_there
+
+pub returns-clause-one_sided : goal.returns-clause-one_sided
+returns-clause-one_sided c = one_sided_edits_there
+
+pub returns-clause-sequence : goal.returns-clause-sequence
+returns-clause-sequence c = sequence_edits_there

@@ -2,6 +2,8 @@ use Rattle.rules_expressions.proofs.Editing.{conditional_answers_there, logical_
 use Rattle.rules_expressions.proofs.Unused.{unused_answers_there}
 use Rattle.rules_expressions.proofs.Lists.{list_answers_there}
 use Rattle.rules_expressions.proofs.Indirect.{indirect_answers_there}
+use Rattle.rules_expressions.proofs.OneSided.{one_sided_answers_there}
+use Rattle.rules_expressions.proofs.Sequences.{sequence_answers_there}
 use Rattle.rules_expressions.proofs.laws.edits_are_answers.Goals as goal
 
 pub returns-clause-conditional : goal.returns-clause-conditional
@@ -18,3 +20,9 @@ returns-clause-list c = list_answers_there
 
 pub returns-clause-indirect : goal.returns-clause-indirect
 returns-clause-indirect c = indirect_answers_there
+
+pub returns-clause-one_sided : goal.returns-clause-one_sided
+returns-clause-one_sided c = one_sided_answers_there
+
+pub returns-clause-sequence : goal.returns-clause-sequence
+returns-clause-sequence c = sequence_answers_there

@@ -1,4 +1,4 @@
-use Rattle.rules_expressions.proofs.Settled.{no_conditional, no_side, no_unused, no_list, no_indirect, is_settled}
+use Rattle.rules_expressions.proofs.Settled.{no_conditional, no_side, no_unused, no_list, no_indirect, no_one_sided, no_sequence, is_settled}
 use Rattle.rules_expressions.proofs.laws.what_is_settled_has_no_edits.Goals as goal
 
 pub returns-clause-conditional : goal.returns-clause-conditional
@@ -15,6 +15,12 @@ returns-clause-list c = no_list
 
 pub returns-clause-indirect : goal.returns-clause-indirect
 returns-clause-indirect c = no_indirect
+
+pub returns-clause-one_sided : goal.returns-clause-one_sided
+returns-clause-one_sided c = no_one_sided
+
+pub returns-clause-sequence : goal.returns-clause-sequence
+returns-clause-sequence c = no_sequence
 
 pub returns-clause-settled : goal.returns-clause-settled
 returns-clause-settled c = is_settled
