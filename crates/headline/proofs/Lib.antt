@@ -6,4 +6,5 @@ pub mod Refining
 pub mod Headline
 mod RenotedUnused
 mod RenotedChoice
+mod RenotedParts
 pub mod Renoted

@@ -35,11 +35,14 @@ use Rattle.steps_allowed.specs.KnownSide.{KnownSide, right_side_counts, left_sid
 use Rattle.steps_allowed.specs.UnusedOperation.{UnusedOperation, one_operand_acts}
 use Rattle.steps_allowed.specs.UnusedList.{UnusedList, acting_parts_stay}
 use Rattle.steps_allowed.specs.IndirectChoice.{IndirectChoice, value_alone_counts}
+use Rattle.steps_allowed.specs.OneSidedChoice.{OneSidedChoice, one_branch_acts}
+use Rattle.steps_allowed.specs.IdleParts.{sequence_becomes, IdleParts, idle_parts_leave}
 use Rattle.steps_owed.proofs.ExposedBare.{bare_inside, bare_below, bare_exposed}
 use Rattle.steps_owed.proofs.Focus.{follows_there}
-use Rattle.headline.specs.Clean.{IsDead, an_empty_statement, a_silent_statement, an_unused_function, an_unused_declarator, a_known_conditional, a_known_side, an_unused_operation, an_unused_list, an_indirect_choice, Clean}
+use Rattle.headline.specs.Clean.{IsDead, an_empty_statement, a_silent_statement, an_unused_function, an_unused_declarator, a_known_conditional, a_known_side, an_unused_operation, an_unused_list, an_indirect_choice, a_one_sided_choice, idle_parts, Clean}
 use Rattle.headline.proofs.RenotedUnused.{stands_as, needed_as, child_as, list_as}
 use Rattle.headline.proofs.RenotedChoice.{counts_as}
+use Rattle.headline.proofs.RenotedParts.{side_as, sequence_as}
 
 -- ---- sites without ids and spans
 
@@ -575,6 +578,21 @@ module _ (t u : Forest) (e : bare t ≡ bare u) (clean : Clean t) where
       let alone_now = ap₂ (λ v (w : Asked). matters v w.in_with p.0.kind p.0.below) (o.used (λ j. Use.as_value) 0) (o.asked (asked_of_program true)) ∙ p.2 in
       clean.nothing_is_dead o.around (Some now) o.is (an_indirect_choice o.around now _ (value_alone_counts n m i now p.0 p.1 alone_now))
 
+  no_one_sided : (a : Around) (x y : Tree) → u ≡ plug a (Some x) → OneSidedChoice a x y → ⊥
+  no_one_sided a _ _ is (one_branch_acts n x y unused acts_alone) =
+      let o = other_place a x.kind x.note x.below is in
+      let now : Tree = record { kind = x.kind; note = o.note; below = o.below } in
+      let z = side_as n x.kind o.below x.below y o.same acts_alone in
+      clean.nothing_is_dead o.around (Some now) o.is (a_one_sided_choice o.around now z.0 (one_branch_acts n now z.0 (o.unused (λ j. false) 0 ∙ unused) z.1))
+
+  no_idle_parts : (a : Around) (x y : Tree) → u ≡ plug a (Some x) → IdleParts a x y → ⊥
+  no_idle_parts a _ _ is (idle_parts_leave n m x y becomes) =
+      let o = other_place a x.kind x.note x.below is in
+      let now : Tree = record { kind = x.kind; note = o.note; below = o.below } in
+      let z = sequence_as (use_at a) (asked_at (asked_of_program true) a).in_with n m x.kind o.below x.below y o.same becomes in
+      let becomes_now = ap₂ (λ v (w : Asked). sequence_becomes v w.in_with n m x.kind o.below) (o.used (λ j. Use.as_value) 0) (o.asked (asked_of_program true)) ∙ z.1 in
+      clean.nothing_is_dead o.around (Some now) o.is (idle_parts o.around now z.0 (idle_parts_leave n m now z.0 becomes_now))
+
   none_dead : (a : Around) (x : Option Tree) → u ≡ plug a x → IsDead u a x → ⊥
   none_dead a x is (an_empty_statement b n item) = no_empty b n is item
   none_dead a x is (a_silent_statement b n below silent) = no_silent b n below is silent
@@ -585,6 +603,8 @@ module _ (t u : Forest) (e : bare t ≡ bare u) (clean : Clean t) where
   none_dead a x is (an_unused_operation b y z unused) = no_operation b y z is unused
   none_dead a x is (an_unused_list b y z unused) = no_list b y z is unused
   none_dead a x is (an_indirect_choice b y z decides) = no_choice b y z is decides
+  none_dead a x is (a_one_sided_choice b y z one_acts) = no_one_sided b y z is one_acts
+  none_dead a x is (idle_parts b y z leave) = no_idle_parts b y z is leave
 
 pub clean_as : (t u : Forest) → bare t ≡ bare u → Clean t → Clean u
 clean_as t u e clean = record { nothing_is_dead = none_dead t u e clean }

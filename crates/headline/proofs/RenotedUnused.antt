@@ -39,7 +39,7 @@ names_taken_bare parenthesized_expression (absent rest) = refl
 names_taken_bare parenthesized_expression nothing = refl
 names_taken_bare k t = refl
 
-stands_bare_bare : (u : Use) (w : Bool) (k : Kind) (t : Forest) → stands_bare u w k (bare t) ≡ stands_bare u w k t
+pub stands_bare_bare : (u : Use) (w : Bool) (k : Kind) (t : Forest) → stands_bare u w k (bare t) ≡ stands_bare u w k t
 stands_bare_bare u w k t = ap₂ (λ m n. not (m || n)) (matters_bare u w k t) (names_taken_bare k t)
 
 pub stands_as : (u : Use) (w : Bool) (k : Kind) (f g : Forest) → bare f ≡ bare g → stands_bare u w k f ≡ stands_bare u w k g
@@ -53,7 +53,7 @@ effects_bare nothing = refl
 effects_bare (absent rest) = effects_bare rest
 effects_bare (node k n below rest) = ap₂ (λ x y. has_effect [] true k n x || y) (effects_bare below) (effects_bare rest)
 
-acts_bare : (k : Kind) (n : Note) (t : Forest) → acts k nowhere (bare t) ≡ acts k n t
+pub acts_bare : (k : Kind) (n : Note) (t : Forest) → acts k nowhere (bare t) ≡ acts k n t
 acts_bare k n t = effects_bare (node k n t nothing)
 
 is_needed_bare : (u : Use) (k : Kind) (n : Note) (t : Forest) → is_needed u k nowhere (bare t) ≡ is_needed u k n t
@@ -115,7 +115,7 @@ child_bare zero (node k n below rest) = refl
 child_bare (suc i) (absent rest) = child_bare i rest
 child_bare (suc i) (node k n below rest) = child_bare i rest
 
-some_tree : (x : Option Tree) → is_some x ≡ true → (y : Tree) × (x ≡ Some y)
+pub some_tree : (x : Option Tree) → is_some x ≡ true → (y : Tree) × (x ≡ Some y)
 some_tree (Some y) h = (y, refl)
 some_tree None h = absurd (true≢false (sym h))
 
@@ -143,7 +143,7 @@ spread_bare nothing = refl
 spread_bare (absent rest) = spread_bare rest
 spread_bare (node k n a rest) = ap (λ x. is_spread k || x) (spread_bare rest)
 
-some_if : (b : Bool) (x : Tree) → is_some (if b then Some x else None) ≡ b
+pub some_if : (b : Bool) (x : Tree) → is_some (if b then Some x else None) ≡ b
 some_if true x = refl
 some_if false x = refl
 

@@ -19,6 +19,10 @@ use Rattle.steps_allowed.specs.UnusedOperation.{UnusedOperation}
 use Rattle.steps_allowed.specs.UnusedList.{UnusedList}
 -- and what decides by a literal, and the part that counts, which may not stand there itself
 use Rattle.steps_allowed.specs.IndirectChoice.{IndirectChoice}
+-- and a conditional that nobody takes the value of, of which one branch acts
+use Rattle.steps_allowed.specs.OneSidedChoice.{OneSidedChoice}
+-- and a sequence, and what counts of it
+use Rattle.steps_allowed.specs.IdleParts.{IdleParts}
 -- whose names only the tree's references may use
 use Rattle.steps_allowed.specs.Exposure.{IsOwnFunction, IsOwnDeclarator}
 
@@ -47,6 +51,11 @@ pub data IsDead (t : Forest) : Around → Option Tree → Type 0 where
   -- a conditional or a logical expression that a literal decides, where the part that counts may stand behind a zero alone: the rest
   -- of it does nothing
   an_indirect_choice : (a : Around) (x y : Tree) → IndirectChoice a x y → IsDead t a (Some x)
+  -- a conditional of which nobody takes the value and one branch alone acts: the other does nothing
+  a_one_sided_choice : (a : Around) (x y : Tree) → OneSidedChoice a x y → IsDead t a (Some x)
+  -- a sequence of which a part before the last doesn't act, unless the last one would be left alone and may not stand there itself: the
+  -- part does nothing
+  idle_parts : (a : Around) (x y : Tree) → IdleParts a x y → IsDead t a (Some x)
 
 -- No part of the program is dead code.
 pub record Clean (t : Forest) : Type 0 where

@@ -22,9 +22,11 @@ use Rattle.rules_expressions.specs.Known.{conditional_becomes, logical_becomes}
 use Rattle.rules_expressions.specs.Unused.{unused_becomes}
 use Rattle.rules_expressions.specs.Lists.{unused_list_becomes}
 use Rattle.rules_expressions.specs.Indirect.{indirect_becomes}
+use Rattle.rules_expressions.specs.OneSided.{one_sided_becomes}
+use Rattle.rules_expressions.specs.Sequences.{sequence_left}
 use Rattle.rules_expressions.specs.Settled.{IsSettledAt}
 use Rattle.rules_expressions.proofs.Walked.{settled_nodes}
-use Rattle.min_peephole.specs.Quiet.{first_facts, is_row, decides_none, wastes_none, stays, all_stay, is_quiet}
+use Rattle.min_peephole.specs.Quiet.{first_facts, is_row, decides_none, wastes_none, keeps_parts, stays, all_stay, is_quiet}
 use Rattle.rules_clean.proofs.Cleaned.{clean}
 
 list_stays : (k : Kind) (dead : Bool) → not (is_row k && dead) ≡ true → k ≡ statements → dead ≡ false
@@ -47,13 +49,16 @@ module _ (f : Facts) (p : Place) (n : Note) (k : Kind) (inner : Forest) (h : sta
   is_silent = is_silent_statement f (where_of p) k inner
 
   abbrev is_settled : Bool
-  is_settled = decides_none p n k inner && wastes_none p n k inner
+  is_settled = decides_none p n k inner && (wastes_none p n k inner && keeps_parts p n k inner)
 
   at_node : (not one_goes ≡ true) × (not is_silent && is_settled ≡ true)
   at_node = and_parts (not one_goes) (not is_silent && is_settled) h
 
-  at_expression : (decides_none p n k inner ≡ true) × (wastes_none p n k inner ≡ true)
-  at_expression = and_parts (decides_none p n k inner) (wastes_none p n k inner) (and_parts (not is_silent) is_settled at_node.1).1
+  at_expression : (decides_none p n k inner ≡ true) × (wastes_none p n k inner && keeps_parts p n k inner ≡ true)
+  at_expression = and_parts (decides_none p n k inner) (wastes_none p n k inner && keeps_parts p n k inner) (and_parts (not is_silent) is_settled at_node.1).1
+
+  at_parts : (wastes_none p n k inner ≡ true) × (keeps_parts p n k inner ≡ true)
+  at_parts = and_parts (wastes_none p n k inner) (keeps_parts p n k inner) at_expression.1
 
   quiet_here : IsQuietAt f p (record { kind = k; note = n; below = inner })
   quiet_here = record { list = list_stays k (has_dead f (where_of p) inner) at_node.0; statement = none_empty is_silent _ (and_parts (not is_silent) is_settled at_node.1).0 }
@@ -64,13 +69,18 @@ module _ (f : Facts) (p : Place) (n : Note) (k : Kind) (inner : Forest) (h : sta
       let behind = not (is_some (indirect_becomes (spot_of p) n k inner)) in
       let decides = and_parts (not (is_some (conditional_becomes (spot_of p) k inner))) (bare && behind) at_expression.0 in
       let others = and_parts bare behind decides.1 in
-      let wastes = and_parts (not (is_some (unused_becomes (spot_of p) k inner))) (not (is_some (unused_list_becomes (spot_of p) n k inner))) at_expression.1 in
+      let lists = not (is_some (unused_list_becomes (spot_of p) n k inner)) in
+      let sides = not (is_some (one_sided_becomes (spot_of p) n k inner)) in
+      let wastes = and_parts (not (is_some (unused_becomes (spot_of p) k inner))) (lists && sides) at_parts.0 in
+      let unused = and_parts lists sides wastes.1 in
       record {
         conditional = none_there (conditional_becomes (spot_of p) k inner) decides.0;
         logical = none_there (logical_becomes (spot_of p) k inner) others.0;
         unused = none_there (unused_becomes (spot_of p) k inner) wastes.0;
-        list = none_there (unused_list_becomes (spot_of p) n k inner) wastes.1;
+        list = none_there (unused_list_becomes (spot_of p) n k inner) unused.0;
         indirect = none_there (indirect_becomes (spot_of p) n k inner) others.1;
+        one_sided = none_there (one_sided_becomes (spot_of p) n k inner) unused.1;
+        sequence = none_there (sequence_left (spot_of p) n k inner) at_parts.1;
       }
 
 each_stays : (Q : Place → Tree → Type 0) (f : Facts) → ((p : Place) (n : Note) (k : Kind) (inner : Forest) → stays f p n k inner ≡ true → Q p (record { kind = k; note = n; below = inner })) → (s : Spot) (t : Forest) → all_stay f s t ≡ true → EachNode Q s t

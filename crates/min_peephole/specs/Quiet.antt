@@ -15,6 +15,8 @@ use Rattle.rules_expressions.specs.Known.{conditional_becomes, logical_becomes}
 use Rattle.rules_expressions.specs.Unused.{unused_becomes}
 use Rattle.rules_expressions.specs.Lists.{unused_list_becomes}
 use Rattle.rules_expressions.specs.Indirect.{indirect_becomes}
+use Rattle.rules_expressions.specs.OneSided.{one_sided_becomes}
+use Rattle.rules_expressions.specs.Sequences.{sequence_left}
 
 -- what the first pass knows
 abbrev pub first_facts : Forest → Facts
@@ -28,13 +30,17 @@ is_row k = false
 abbrev pub decides_none : Place → Note → Kind → (inner : Forest) → Bool
 decides_none p n k inner = not (is_some (conditional_becomes (spot_of p) k inner)) && (not (is_some (logical_becomes (spot_of p) k inner)) && not (is_some (indirect_becomes (spot_of p) n k inner)))
 
--- and, where nobody takes its value, is no operation and no list that comes to what of it acts
+-- and, where nobody takes its value, is no operation, no list and no conditional that comes to what of it acts
 abbrev pub wastes_none : Place → Note → Kind → (inner : Forest) → Bool
-wastes_none p n k inner = not (is_some (unused_becomes (spot_of p) k inner)) && not (is_some (unused_list_becomes (spot_of p) n k inner))
+wastes_none p n k inner = not (is_some (unused_becomes (spot_of p) k inner)) && (not (is_some (unused_list_becomes (spot_of p) n k inner)) && not (is_some (one_sided_becomes (spot_of p) n k inner)))
+
+-- and is no sequence that comes to what counts of it
+abbrev pub keeps_parts : Place → Note → Kind → (inner : Forest) → Bool
+keeps_parts p n k inner = not (is_some (sequence_left (spot_of p) n k inner))
 
 -- a node at a place: no item of a list goes, no statement becomes empty, and no expression comes to its parts
 abbrev pub stays : Facts → Place → Note → Kind → (inner : Forest) → Bool
-stays f p n k inner = not (is_row k && has_dead f (where_of p) inner) && (not (is_silent_statement f (where_of p) k inner) && (decides_none p n k inner && wastes_none p n k inner))
+stays f p n k inner = not (is_row k && has_dead f (where_of p) inner) && (not (is_silent_statement f (where_of p) k inner) && (decides_none p n k inner && (wastes_none p n k inner && keeps_parts p n k inner)))
 
 -- each node of a row, by its place
 abbrev pub all_stay : Facts → Spot → Forest → Bool

@@ -10,7 +10,7 @@ use Rattle.js_syntax.specs.declared.operator.LogicalOperator.TheVariants as logi
 use Rattle.js_syntax.specs.declared.value.Key.TheVariants as key
 use Rattle.js_syntax.specs.declared.value.LiteralValue.{LiteralValue as Literal}
 use Rattle.js_syntax.specs.Node.{Forest, Tree, Note, nothing, node, absent, nowhere, joined, below_of}
-use Rattle.js_syntax.specs.Table.{a_program, an_expression_statement, a_call_expression, a_member_expression, a_reference_name, a_literal, a_binary_expression, a_sequence_expression, a_binding_name, a_function_declaration, a_function_body, an_export_declaration, a_variable_declaration, a_variable_declarator}
+use Rattle.js_syntax.specs.Table.{a_program, an_expression_statement, a_call_expression, a_member_expression, a_reference_name, a_literal, a_binary_expression, a_logical_expression, a_sequence_expression, a_binding_name, a_function_declaration, a_function_body, an_export_declaration, a_variable_declaration, a_variable_declarator}
 use Rattle.form_rules.specs.Samples.{leaf, listed, no, reads, a_module, a_script, a, binds, one, does, declares, let_, function_a, block}
 use Rattle.js_meaning.specs.Samples as sample
 use Rattle.js_meaning.specs.Examples.{g, o}
@@ -21,13 +21,16 @@ use Rattle.scope_rules.specs.Binding.{Binding, named_in, declared_by, binding_of
 use Rattle.scope_laws.specs.Exact.{Among}
 use Rattle.scope_laws.specs.Place.{Around, first, behind, behind_none, under, plug}
 use Rattle.steps_names.specs.Standing.{exported_declarations}
-use Rattle.steps_allowed.specs.Rows.{in_list, in_statement, statement, called, argument, before, call_of_a, call_of_eval, exports_declaration, empty}
+use Rattle.steps_allowed.specs.Rows.{in_list, in_statement, past, statement, called, argument, before, sequence, call_of_a, call_of_eval, exports_declaration, empty}
 use Rattle.steps_allowed.specs.KnownConditional.{consequent_is_taken, alternate_is_taken}
 use Rattle.steps_allowed.specs.KnownSide.{right_side_counts, left_side_decides}
 use Rattle.steps_allowed.specs.UnusedOperation.{needed_at, one_operand_acts}
 use Rattle.steps_allowed.specs.UnusedList.{list_becomes, acting_parts_stay}
 use Rattle.steps_allowed.specs.IndirectChoice.{part_counts, value_alone_counts}
-use Rattle.headline.specs.Clean.{IsDead, an_empty_statement, a_silent_statement, an_unused_function, an_unused_declarator, a_known_conditional, a_known_side, an_unused_operation, an_unused_list, an_indirect_choice, Clean}
+use Rattle.steps_allowed.specs.OneSidedChoice.{one_sided, one_branch_acts}
+use Rattle.steps_allowed.specs.IdleParts.{sequence_becomes, idle_parts_leave}
+use Rattle.steps_allowed.specs.Uses.{Use}
+use Rattle.headline.specs.Clean.{IsDead, an_empty_statement, a_silent_statement, an_unused_function, an_unused_declarator, a_known_conditional, a_known_side, an_unused_operation, an_unused_list, an_indirect_choice, a_one_sided_choice, idle_parts, Clean}
 use Rattle.min_peephole.specs.Quiet.{is_quiet}
 use Rattle.min_peephole.proofs.Quieted.{quiet_clean}
 use Rattle.test_headline.specs.Rows as row
@@ -88,6 +91,18 @@ list_is_dead c = c.nothing_is_dead statement _ refl (an_unused_list statement _ 
 -- (1 ? o.g : null)();
 pub choice_is_dead : Clean row.calls_chosen → ⊥
 choice_is_dead c = c.nothing_is_dead called _ refl (an_indirect_choice called _ _ (value_alone_counts nowhere nowhere nowhere _ _ refl refl))
+
+-- a ? b() : 1;
+pub branch_is_dead : Clean row.chooses_call → ⊥
+branch_is_dead c = c.nothing_is_dead statement _ refl (a_one_sided_choice statement _ _ (one_branch_acts nowhere _ _ refl refl))
+
+-- of use(e), the place of e
+abbrev pub given : Around
+given = in_statement (under (Kind.CallExpression false false) nowhere (past (reads (codes "use")) (under Kind.Arguments nowhere (first nothing) nothing)) nothing)
+
+-- use((1, a));
+pub part_is_dead : Clean row.uses_sequence → ⊥
+part_is_dead c = c.nothing_is_dead given _ refl (idle_parts given _ _ (idle_parts_leave nowhere nowhere _ _ refl))
 
 -- ---- what has none
 
@@ -225,6 +240,35 @@ receiver_fits = (
 pub receiver_is_clean : Clean row.calls_without_receiver
 receiver_is_clean = quiet_clean _ receiver_fits refl
 
+-- (1, o.g)();
+behind_one_stands : Stand (all expression) (joined one row.member_g)
+behind_one_stands = ((a_literal, (Literal.Number (pos 1), tt), refl, tt, refl, tt), behind_zero_stands.1)
+
+behind_one_calls : Stand (these (one_of expression ∷ [])) (sample.call (sequence (one ∷ row.member_g ∷ [])) [])
+behind_one_calls = ((a_call_expression, (false, (false, tt)), refl, tt, refl, ((a_sequence_expression, tt, refl, tt, refl, ((refl, behind_one_stands), tt)), ((refl, tt), tt))), tt)
+
+behind_one_fits : Fits root row.calls_behind_one
+behind_one_fits = (
+  (
+    a_program,
+    (source_type.Module, tt),
+    refl,
+    tt,
+    refl,
+    (
+      (
+        refl,
+        (inr (refl, (an_expression_statement, tt, refl, tt, refl, behind_one_calls)), tt),
+      ),
+      tt,
+    ),
+  ),
+  tt,
+)
+
+pub behind_one_is_clean : Clean row.calls_behind_one
+behind_one_is_clean = quiet_clean _ behind_one_fits refl
+
 -- a === b;
 names_stand : Stand (these (one_of expression ∷ one_of expression ∷ [])) (joined (reads a) (reads (codes "b")))
 names_stand = ((a_reference_name, (a, tt), refl, tt, refl, tt), ((a_reference_name, (codes "b", tt), refl, tt, refl, tt), tt))
@@ -279,6 +323,58 @@ sequence_fits = (
 
 pub sequence_is_clean : Clean row.calls_both
 sequence_is_clean = quiet_clean _ sequence_fits refl
+
+-- a && b();
+guarded_stands : Stand (these (one_of expression ∷ one_of expression ∷ [])) (joined (reads a) row.call_of_b)
+guarded_stands = ((a_reference_name, (a, tt), refl, tt, refl, tt), other_stands)
+
+guarded_fits : Fits root row.calls_behind_a
+guarded_fits = (
+  (
+    a_program,
+    (source_type.Module, tt),
+    refl,
+    tt,
+    refl,
+    (
+      (
+        refl,
+        (inr (refl, (an_expression_statement, tt, refl, tt, refl, ((a_logical_expression, (logical.And, tt), refl, tt, refl, guarded_stands), tt))), tt),
+      ),
+      tt,
+    ),
+  ),
+  tt,
+)
+
+pub guarded_is_clean : Clean row.calls_behind_a
+guarded_is_clean = quiet_clean _ guarded_fits refl
+
+-- use(a);
+use_stands : Stand (these (one_of expression ∷ [])) (sample.call (reads (codes "use")) (reads a ∷ []))
+use_stands = ((a_call_expression, (false, (false, tt)), refl, tt, refl, ((a_reference_name, (codes "use", tt), refl, tt, refl, tt), ((refl, ((a_reference_name, (a, tt), refl, tt, refl, tt), tt)), tt))), tt)
+
+use_fits : Fits root row.uses_a
+use_fits = (
+  (
+    a_program,
+    (source_type.Module, tt),
+    refl,
+    tt,
+    refl,
+    (
+      (
+        refl,
+        (inr (refl, (an_expression_statement, tt, refl, tt, refl, use_stands)), tt),
+      ),
+      tt,
+    ),
+  ),
+  tt,
+)
+
+pub use_is_clean : Clean row.uses_a
+use_is_clean = quiet_clean _ use_fits refl
 
 -- ---- what the rules take
 
@@ -340,6 +436,14 @@ choice_suspect Kind.ConditionalExpression below z h = refl
 choice_suspect (Kind.LogicalExpression o) below z h = refl
 choice_suspect k below z h = absurd Prim.cc
 
+side_suspect : (n : Note) (k : Kind) (below : Forest) (y : Tree) → one_sided n k below ≡ Some y → is_suspect k ≡ true
+side_suspect n Kind.ConditionalExpression below y h = refl
+side_suspect n k below y h = absurd Prim.cc
+
+sequence_suspect : (u : Use) (w : Bool) (n m : Note) (k : Kind) (below : Forest) (y : Tree) → sequence_becomes u w n m k below ≡ Some y → is_suspect k ≡ true
+sequence_suspect u w n m Kind.SequenceExpression below y h = refl
+sequence_suspect u w n m k below y h = absurd Prim.cc
+
 dead_suspect : (t : Forest) (a : Around) (x : Option Tree) → t ≡ plug a x → IsDead t a x → has_suspect t ≡ true
 dead_suspect t a x is (an_empty_statement b n item) = ap has_suspect is ∙ suspect_there b _ refl
 dead_suspect t a x is (a_silent_statement b n below silent) = ap has_suspect is ∙ suspect_there b _ refl
@@ -352,6 +456,8 @@ dead_suspect t a x is (a_known_side b y z (left_side_decides o v n m i k d goes)
 dead_suspect t a x is (an_unused_operation b _ _ (one_operand_acts i y z unused needed child)) = ap has_suspect is ∙ suspect_there b y (needed_suspect y.kind y.below i needed)
 dead_suspect t a x is (an_unused_list b _ _ (acting_parts_stay n m y z unused becomes)) = ap has_suspect is ∙ suspect_there b y (list_suspect n m y.kind y.below z becomes)
 dead_suspect t a x is (an_indirect_choice b _ _ (value_alone_counts n m i y z counts alone)) = ap has_suspect is ∙ suspect_there b y (choice_suspect y.kind y.below z counts)
+dead_suspect t a x is (a_one_sided_choice b _ _ (one_branch_acts n y z unused one_acts)) = ap has_suspect is ∙ suspect_there b y (side_suspect n y.kind y.below z one_acts)
+dead_suspect t a x is (idle_parts b _ _ (idle_parts_leave n m y z leave)) = ap has_suspect is ∙ suspect_there b y (sequence_suspect _ _ n m y.kind y.below z leave)
 
 -- A declaration goes with the last of its declarators, and stays where it has none.
 pub nothing_declared_is_clean : Clean row.declares_nothing

@@ -8,7 +8,7 @@ use Rattle.js_syntax.specs.declared.operator.UnaryOperator.TheVariants as unary
 use Rattle.js_syntax.specs.declared.value.Key.TheVariants as key
 use Rattle.js_syntax.specs.declared.value.LiteralValue.{LiteralValue as Literal}
 use Rattle.js_syntax.specs.Node.{Forest, nothing, nowhere, joined}
-use Rattle.js_syntax.specs.Table.{a_program, an_expression_statement, a_call_expression, a_unary_expression, a_binary_expression, a_conditional_expression, a_member_expression, an_array_expression, a_reference_name, a_literal}
+use Rattle.js_syntax.specs.Table.{a_program, an_expression_statement, a_call_expression, a_unary_expression, a_binary_expression, a_conditional_expression, a_member_expression, an_array_expression, a_sequence_expression, a_reference_name, a_literal}
 use Rattle.form_rules.specs.Form.{IsWellFormed}
 use Rattle.form_rules.specs.Samples as form
 use Rattle.js_meaning.specs.Samples as sample
@@ -21,8 +21,10 @@ use Rattle.steps_allowed.specs.SilentStatement.{silent_statement_empties}
 use Rattle.steps_allowed.specs.UnusedOperation.{one_operand_acts}
 use Rattle.steps_allowed.specs.UnusedList.{acting_parts_stay}
 use Rattle.steps_allowed.specs.IndirectChoice.{value_alone_counts}
-use Rattle.steps_allowed.specs.Edits.{no_tree_edit, one_tree_edit, leaves, becomes, empty_statement, silent_statement, unused_operation, unused_list, indirect_choice}
-use Rattle.steps_allowed.specs.Rows.{in_list, past, statement, called, call_of_a, equals, null}
+use Rattle.steps_allowed.specs.OneSidedChoice.{one_branch_acts}
+use Rattle.steps_allowed.specs.IdleParts.{idle_parts_leave}
+use Rattle.steps_allowed.specs.Edits.{no_tree_edit, one_tree_edit, leaves, becomes, empty_statement, silent_statement, unused_operation, unused_list, indirect_choice, one_sided_choice, idle_parts}
+use Rattle.steps_allowed.specs.Rows.{in_list, past, statement, called, call_of_a, sequence, equals, null}
 use Rattle.steps_allowed.proofs.Composing.{tree_edits_are_edits}
 use Rattle.headline.specs.Clean.{Clean}
 use Rattle.headline.specs.Headline.{Edits, Headline}
@@ -30,7 +32,7 @@ use Rattle.headline.proofs.Headline.{headline_of}
 use Rattle.headline_text.specs.Written.{written}
 use Rattle.min_peephole.proofs.Quieted.{quiet_clean}
 use Rattle.test_headline.specs.Rows as row
-use Rattle.test_headline.proofs.Dead.{name_stands, member_stands, call_is_clean as a_is_clean, sequence_is_clean, receiver_is_clean}
+use Rattle.test_headline.proofs.Dead.{name_stands, member_stands, call_is_clean as a_is_clean, sequence_is_clean, receiver_is_clean, other_stands, given, guarded_is_clean, use_is_clean}
 
 number_stands : Stand (all argument) (sample.number_of 1)
 number_stands = ((a_literal, (Literal.Number (pos 1), tt), refl, tt, refl, tt), tt)
@@ -245,6 +247,90 @@ choice_goes = tree_edits_are_edits (one_tree_edit _ _ _ (becomes called _ _ (ind
 
 pub value_left : Headline row.calls_chosen row.calls_without_receiver
 value_left = headline_of row.calls_chosen row.calls_without_receiver chosen_fits chosen_well_formed choice_goes receiver_is_clean
+
+-- ---- of a conditional the branch that acts is left, behind the condition
+
+test_stands : Stand (these (one expression ∷ one expression ∷ one expression ∷ [])) (joined (form.reads form.a) (joined row.call_of_b form.one))
+test_stands = ((a_reference_name, (form.a, tt), refl, tt, refl, tt), (other_stands.0, ((a_literal, (Literal.Number (pos 1), tt), refl, tt, refl, tt), tt)))
+
+chooses_fits : Fits root row.chooses_call
+chooses_fits = (
+  (
+    a_program,
+    (source_type.Module, tt),
+    refl,
+    tt,
+    refl,
+    (
+      (
+        refl,
+        (inr (refl, (an_expression_statement, tt, refl, tt, refl, ((a_conditional_expression, tt, refl, tt, refl, test_stands), tt))), tt),
+      ),
+      tt,
+    ),
+  ),
+  tt,
+)
+
+chooses_well_formed : IsWellFormed row.chooses_call
+unfolding is_identifier_name
+chooses_well_formed = refl
+
+branch_goes : Edits row.chooses_call row.calls_behind_a
+branch_goes = tree_edits_are_edits (one_tree_edit _ _ _ (becomes statement _ _ (one_sided_choice (one_branch_acts nowhere _ _ refl refl))) (no_tree_edit _))
+
+pub branch_left : Headline row.chooses_call row.calls_behind_a
+branch_left = headline_of row.chooses_call row.calls_behind_a chooses_fits chooses_well_formed branch_goes guarded_is_clean
+
+-- ---- of a sequence that is given to a call the last part is left
+
+parts_stand : Stand (all expression) (joined form.one (form.reads form.a))
+parts_stand = ((a_literal, (Literal.Number (pos 1), tt), refl, tt, refl, tt), ((a_reference_name, (form.a, tt), refl, tt, refl, tt), tt))
+
+given_stands : Stand (these (one expression ∷ [])) (sample.call (form.reads (codes "use")) (sequence (form.one ∷ form.reads form.a ∷ []) ∷ []))
+given_stands = (
+  (
+    a_call_expression,
+    (false, (false, tt)),
+    refl,
+    tt,
+    refl,
+    (
+      (a_reference_name, (codes "use", tt), refl, tt, refl, tt),
+      ((refl, ((a_sequence_expression, tt, refl, tt, refl, ((refl, parts_stand), tt)), tt)), tt),
+    ),
+  ),
+  tt,
+)
+
+uses_fits : Fits root row.uses_sequence
+uses_fits = (
+  (
+    a_program,
+    (source_type.Module, tt),
+    refl,
+    tt,
+    refl,
+    (
+      (
+        refl,
+        (inr (refl, (an_expression_statement, tt, refl, tt, refl, given_stands)), tt),
+      ),
+      tt,
+    ),
+  ),
+  tt,
+)
+
+uses_well_formed : IsWellFormed row.uses_sequence
+unfolding is_identifier_name
+uses_well_formed = refl
+
+first_goes : Edits row.uses_sequence row.uses_a
+first_goes = tree_edits_are_edits (one_tree_edit _ _ _ (becomes given _ _ (idle_parts (idle_parts_leave nowhere nowhere _ _ refl))) (no_tree_edit _))
+
+pub last_left : Headline row.uses_sequence row.uses_a
+last_left = headline_of row.uses_sequence row.uses_a uses_fits uses_well_formed first_goes use_is_clean
 
 pub written_left : written row.less_four ≡ row.with_minus
 written_left = refl

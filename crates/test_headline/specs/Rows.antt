@@ -146,3 +146,23 @@ calls_without_receiver = form.a_module (calls (behind_zero member_g) [] ∷ [])
 -- o.g();
 abbrev pub calls_member : Forest
 calls_member = form.a_module (calls member_g [] ∷ [])
+
+-- a ? b() : 1;
+abbrev pub chooses_call : Forest
+chooses_call = form.a_module (form.does (conditional (form.reads form.a) call_of_b form.one) ∷ [])
+
+-- a && b();
+abbrev pub calls_behind_a : Forest
+calls_behind_a = form.a_module (form.does (either logical.And (form.reads form.a) call_of_b) ∷ [])
+
+-- use((1, a));
+abbrev pub uses_sequence : Forest
+uses_sequence = form.a_module (calls (form.reads (codes "use")) (sequence (form.one ∷ form.reads form.a ∷ []) ∷ []) ∷ [])
+
+-- use(a);
+abbrev pub uses_a : Forest
+uses_a = form.a_module (calls (form.reads (codes "use")) (form.reads form.a ∷ []) ∷ [])
+
+-- (1, o.g)();
+abbrev pub calls_behind_one : Forest
+calls_behind_one = form.a_module (calls (sequence (form.one ∷ member_g ∷ [])) [] ∷ [])

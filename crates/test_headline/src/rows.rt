@@ -56,8 +56,8 @@ pub fn what_others_may_use_stays()
     ensures shared { Headline row.of_two_in_script row.of_one_in_script → ⊥ }
 {}
 
-/// `1;` doesn't stay, nor does the conditional of `a(true ? a : b);` or of `(1 ? o.g : null)();`, what stands right in `null && a();`, or
-/// what of `!(a() === 1);` and of `[a(), 1];` is no call.
+/// `1;` doesn't stay, nor does the conditional of `a(true ? a : b);`, of `(1 ? o.g : null)();` or of `a ? b() : 1;`, what stands right in
+/// `null && a();`, what of `!(a() === 1);` and of `[a(), 1];` is no call, or the `1` of `use((1, a));`.
 pub fn dead_code_goes()
     ensures number { Headline row.dead row.dead → ⊥ }
     ensures conditional { Headline row.takes_branch row.takes_branch → ⊥ }
@@ -65,12 +65,15 @@ pub fn dead_code_goes()
     ensures operation { Headline row.compares_call row.compares_call → ⊥ }
     ensures list { Headline row.lists_call row.lists_call → ⊥ }
     ensures called { Headline row.calls_chosen row.calls_chosen → ⊥ }
+    ensures branch { Headline row.chooses_call row.chooses_call → ⊥ }
+    ensures idle { Headline row.uses_sequence row.uses_sequence → ⊥ }
 {}
 
 /// `1;` is dead code, and so are `{ ; }`'s empty statement, a function that nothing calls, one of two declarators, a conditional on a
 /// literal, a logical expression with a literal on its left, an operation of which nobody takes the value, where one operand alone acts,
-/// an array of which nobody takes the value, and a conditional on a literal that is called so that what it gives has no receiver:
-/// `(1 ? o.g : null)();`.
+/// an array of which nobody takes the value, a conditional on a literal that is called so that what it gives has no receiver:
+/// `(1 ? o.g : null)();`, a conditional of which nobody takes the value and one branch alone acts: `a ? b() : 1;`, and a sequence that is
+/// used for its value, of which a part before the last doesn't act: `use((1, a));`.
 pub fn dead_code_is_told()
     ensures number { Clean (a_module (does one ∷ [])) → ⊥ }
     ensures empty { Clean (a_module (block (empty ∷ []) ∷ [])) → ⊥ }
@@ -81,17 +84,20 @@ pub fn dead_code_is_told()
     ensures operation { Clean row.compares_call → ⊥ }
     ensures list { Clean row.lists_call → ⊥ }
     ensures called { Clean row.calls_chosen → ⊥ }
+    ensures branch { Clean row.chooses_call → ⊥ }
+    ensures idle { Clean row.uses_sequence → ⊥ }
 {}
 
 /// A call is none, nor a function that is exported, a variable beside a direct call of `eval`, a function of a script, a
-/// sequence that is called so that what it gives has no receiver: `(0, o.g)();`, a comparison of which both sides may act, as names
-/// do that nothing declares: `a === b;`, and a sequence of two calls: `a(), b();`.
+/// sequence that is called so that what it gives has no receiver, whatever stands in front: `(0, o.g)();` and `(1, o.g)();`, a comparison
+/// of which both sides may act, as names do that nothing declares: `a === b;`, and a sequence of two calls: `a(), b();`.
 pub fn what_others_may_use_is_no_dead_code()
     ensures call { Clean (a_module (does call_of_a ∷ [])) }
     ensures exported { Clean (a_module (exports_declaration (function_a [] []) ∷ [])) }
     ensures evaluated { Clean (a_module (declares variable.Let (binds a) one ∷ does call_of_eval ∷ [])) }
     ensures global { Clean (a_script (function_a [] [] ∷ [])) }
     ensures receiver { Clean row.calls_without_receiver }
+    ensures behind_one { Clean row.calls_behind_one }
     ensures names { Clean row.compares_names }
     ensures sequence { Clean row.calls_both }
 {}
@@ -107,13 +113,15 @@ pub fn rules_take_dead_code_alone()
 {}
 
 /// `f(1);` may take the place of `f(1); 2;`, `a();` that of `!(a() === 1);` and of `[a(), 1];`, `a(), b();` that of `[a(), 1, b()];`,
-/// and `(0, o.g)();` that of `(1 ? o.g : null)();`.
+/// `(0, o.g)();` that of `(1 ? o.g : null)();`, `a && b();` that of `a ? b() : 1;`, and `use(a);` that of `use((1, a));`.
 pub fn what_is_left()
     ensures statement { Headline row.with_dead row.calls_host }
     ensures operand { Headline row.compares_call row.calls_a }
     ensures part { Headline row.lists_call row.calls_a }
     ensures parts { Headline row.lists_calls row.calls_both }
     ensures value { Headline row.calls_chosen row.calls_without_receiver }
+    ensures branch { Headline row.chooses_call row.calls_behind_a }
+    ensures last { Headline row.uses_sequence row.uses_a }
 {}
 
 /// Edits lead from `f(-4); 2;` with a literal for -4 to `f(-4);`, which is written with unary minus on 4.
