@@ -28,8 +28,10 @@ use Rattle.steps_allowed.specs.UnusedList.{list_becomes, acting_parts_stay}
 use Rattle.steps_allowed.specs.IndirectChoice.{value_alone_counts}
 use Rattle.steps_allowed.specs.OneSidedChoice.{one_branch_acts}
 use Rattle.steps_allowed.specs.IdleParts.{idle_parts_leave}
-use Rattle.steps_allowed.specs.Edits.{Edit, leaves, becomes, empty_statement, silent_statement, unused_function, unused_declaration, known_conditional, known_side, known_if, unused_operation, unused_list, indirect_choice, one_sided_choice, idle_parts}
-use Rattle.steps_allowed.specs.Rows.{in_list, before, call_of_a, null, if_one, if_null, conditional, logical, may_be_named, o_f, parenthesized, in_statement, called, called_in_parentheses, called_in_with, argument, operand, applied, equals, assigned, statement, ComesOut, Stays, StaysUnused, array, spread, hole, sequence, ListStays, ChoiceStays, PartsStay, behind_zero, placed, StaysDirect, with_a, in_with_a, empty, a_is_read, a_is_exported}
+use Rattle.steps_allowed.specs.TwoSides.{both_sides_act}
+use Rattle.steps_allowed.specs.UnusedObject.{acting_values_stay}
+use Rattle.steps_allowed.specs.Edits.{Edit, leaves, becomes, empty_statement, silent_statement, unused_function, unused_declaration, known_conditional, known_side, known_if, unused_operation, unused_list, indirect_choice, one_sided_choice, idle_parts, two_sides, unused_object}
+use Rattle.steps_allowed.specs.Rows.{in_list, before, call_of_a, null, if_one, if_null, conditional, logical, may_be_named, o_f, parenthesized, in_statement, called, called_in_parentheses, called_in_with, argument, operand, applied, equals, assigned, statement, ComesOut, Stays, StaysUnused, array, spread, hole, sequence, ListStays, ChoiceStays, PartsStay, SidesStay, object, a_is, b_is, getter_of_a, ObjectStays, behind_zero, placed, StaysDirect, with_a, in_with_a, empty, a_is_read, a_is_exported}
 
 pub empties_in_list : Edit (a_module (does one ∷ [])) (a_module (empty ∷ []))
 empties_in_list = becomes (before []) _ _ (silent_statement (silent_statement_empties nowhere nowhere nowhere _ nothing (inl refl, tt)))
@@ -323,3 +325,34 @@ called_member_stays_behind y (idle_parts_leave n m _ _ is) = no_list is
 
 pub acting_parts_all_stay : PartsStay argument (sequence (call_of_a ∷ one ∷ []))
 acting_parts_all_stay y (idle_parts_leave n m _ _ is) = no_list is
+
+-- ---- comparisons of which both sides act
+
+pub acting_sides_stay : Edit (a_module (does (equals call_of_a o_f) ∷ [])) (a_module (does (sequence (call_of_a ∷ o_f ∷ [])) ∷ []))
+acting_sides_stay = becomes there _ _ (two_sides (both_sides_act nowhere nowhere _ _ refl refl))
+
+pub one_acting_side_stays : SidesStay statement (equals call_of_a one)
+one_acting_side_stays y (both_sides_act n m _ _ unused is) = no_list is
+
+pub used_comparison_stays : SidesStay argument (equals call_of_a o_f)
+used_comparison_stays y (both_sides_act n m _ _ unused is) = true≢false (sym unused)
+
+-- ---- object literals of which nobody takes the value
+
+pub acting_value_stays : Edit (a_module (does (object (a_is call_of_a ∷ b_is one ∷ [])) ∷ [])) (a_module (does call_of_a ∷ []))
+acting_value_stays = becomes there _ _ (unused_object (acting_values_stay nowhere nowhere _ _ refl refl))
+
+pub acting_values_all_stay : Edit (a_module (does (object (a_is call_of_a ∷ b_is o_f ∷ [])) ∷ [])) (a_module (does (sequence (call_of_a ∷ o_f ∷ [])) ∷ []))
+acting_values_all_stay = becomes there _ _ (unused_object (acting_values_stay nowhere nowhere _ _ refl refl))
+
+pub used_object_stays : ObjectStays argument (object (a_is one ∷ []))
+used_object_stays y (acting_values_stay n m _ _ unused is) = true≢false (sym unused)
+
+pub idle_object_stays : ObjectStays statement (object (a_is one ∷ []))
+idle_object_stays y (acting_values_stay n m _ _ unused is) = no_list is
+
+pub getter_stays : ObjectStays statement (object (getter_of_a ∷ []))
+getter_stays y (acting_values_stay n m _ _ unused is) = no_list is
+
+pub spread_object_stays : ObjectStays statement (object (spread (reads a) ∷ []))
+spread_object_stays y (acting_values_stay n m _ _ unused is) = no_list is

@@ -17,6 +17,8 @@ use Rattle.steps_allowed.specs.UnusedList.{UnusedList}
 use Rattle.steps_allowed.specs.IndirectChoice.{IndirectChoice}
 use Rattle.steps_allowed.specs.OneSidedChoice.{OneSidedChoice}
 use Rattle.steps_allowed.specs.IdleParts.{IdleParts}
+use Rattle.steps_allowed.specs.TwoSides.{TwoSides}
+use Rattle.steps_allowed.specs.UnusedObject.{UnusedObject}
 
 -- which items may leave the list in which they stand
 pub data Leaves (a : Around) (x : Tree) : Type 0 where
@@ -36,6 +38,8 @@ pub data Becomes (a : Around) (x y : Tree) : Type 0 where
   indirect_choice : IndirectChoice a x y → Becomes a x y
   one_sided_choice : OneSidedChoice a x y → Becomes a x y
   idle_parts : IdleParts a x y → Becomes a x y
+  two_sides : TwoSides a x y → Becomes a x y
+  unused_object : UnusedObject a x y → Becomes a x y
 
 pub data Edit : (t u : Forest) → Type 0 where
   leaves : (a : Around) (x : Tree) → Leaves a x → Edit (plug a (Some x)) (without a)

@@ -19,6 +19,8 @@ pub mod UnusedList
 pub mod IndirectChoice
 pub mod OneSidedChoice
 pub mod IdleParts
+pub mod TwoSides
+pub mod UnusedObject
 pub mod KnownIf
 pub mod Edits
 pub mod Arranged

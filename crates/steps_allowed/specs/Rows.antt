@@ -2,6 +2,8 @@
 use Rattle.std.specs.Prelude.{List, [], ◌∷◌, pos, Bool, true, false, None, codes}
 use Rattle.js_syntax.specs.declared.node_kind.NodeKind.{NodeKind as Kind}
 use Rattle.js_syntax.specs.declared.scalar.SourceType.TheVariants as source_type
+use Rattle.js_syntax.specs.declared.kind.FunctionKind.TheVariants as function_kind
+use Rattle.js_syntax.specs.declared.kind.PropertyKind.TheVariants as property
 use Rattle.js_syntax.specs.declared.kind.VariableKind.TheVariants as variable
 use Rattle.js_syntax.specs.declared.operator.AssignmentOperator.TheVariants as assignment
 use Rattle.js_syntax.specs.declared.operator.BinaryOperator.TheVariants as binary
@@ -10,7 +12,7 @@ use Rattle.js_syntax.specs.declared.operator.UnaryOperator.{UnaryOperator}
 use Rattle.js_syntax.specs.declared.value.Key.TheVariants as key
 use Rattle.js_syntax.specs.declared.value.LiteralValue.TheVariants as value
 use Rattle.js_syntax.specs.Node.{Forest, Tree, nothing, node, nowhere, joined}
-use Rattle.form_rules.specs.Samples.{over, leaf, row, listed, no, a_module, a, binds, reads, one, does, declares, let_, var_, a_script, block}
+use Rattle.form_rules.specs.Samples.{over, leaf, row, listed, no, a_module, a, binds, reads, one, does, declares, let_, var_, a_script, block, function_of}
 use Rattle.scope_laws.specs.Place.{Around, first, behind, under, plug}
 use Rattle.steps_allowed.specs.Places.{a_node}
 use Rattle.steps_allowed.specs.KnownConditional.{a_conditional, KnownConditional}
@@ -19,6 +21,8 @@ use Rattle.steps_allowed.specs.UnusedList.{UnusedList}
 use Rattle.steps_allowed.specs.IndirectChoice.{IndirectChoice}
 use Rattle.steps_allowed.specs.OneSidedChoice.{OneSidedChoice}
 use Rattle.steps_allowed.specs.IdleParts.{IdleParts}
+use Rattle.steps_allowed.specs.TwoSides.{TwoSides}
+use Rattle.steps_allowed.specs.UnusedObject.{UnusedObject}
 use Rattle.steps_allowed.specs.Edits.{Edit}
 
 -- a place in a module's list: in front of these statements, and behind these
@@ -77,6 +81,19 @@ spread e = over Kind.SpreadElement e
 
 abbrev pub hole : Forest
 hole = leaf Kind.Hole
+
+-- ({ properties }); a: e and b: e; and get a() {}
+abbrev pub object : (properties : List Forest) → Forest
+object properties = over Kind.ObjectExpression (listed Kind.Properties properties)
+
+abbrev pub a_is : Forest → Forest
+a_is e = over (Kind.Property property.Init false (key.Name a)) (joined no e)
+
+abbrev pub b_is : Forest → Forest
+b_is e = over (Kind.Property property.Init false (key.Name (codes "b"))) (joined no e)
+
+abbrev pub getter_of_a : Forest
+getter_of_a = over (Kind.Property property.Get false (key.Name a)) (joined no (function_of function_kind.Expression no [] []))
 
 -- parts with commas between them
 abbrev pub sequence : (parts : List Forest) → Forest
@@ -164,6 +181,16 @@ ChoiceStays place e = ⊥
 abbrev pub PartsStay : Around → Forest → Type 0
 PartsStay place (node k n below rest) = (y : Tree) → IdleParts place (record { kind = k; note = n; below = below }) y → ⊥
 PartsStay place e = ⊥
+
+-- nor of a comparison, since both sides act
+abbrev pub SidesStay : Around → Forest → Type 0
+SidesStay place (node k n below rest) = (y : Tree) → TwoSides place (record { kind = k; note = n; below = below }) y → ⊥
+SidesStay place e = ⊥
+
+-- nor of an object literal
+abbrev pub ObjectStays : Around → Forest → Type 0
+ObjectStays place (node k n below rest) = (y : Tree) → UnusedObject place (record { kind = k; note = n; below = below }) y → ⊥
+ObjectStays place e = ⊥
 
 -- export d
 abbrev pub exports_declaration : Forest → Forest

@@ -17,7 +17,7 @@ ghost use Rattle.steps_allowed.specs.UnusedDeclaration.{a_declaration, SilentDec
 ghost use Rattle.steps_allowed.specs.KnownConditional.{KnownConditional};
 ghost use Rattle.steps_allowed.specs.KnownIf.{an_if, KnownIf};
 ghost use Rattle.steps_allowed.specs.Edits.{Edit};
-ghost use Rattle.steps_allowed.specs.Rows.{before, call_of_a, null, if_one, if_null, conditional, logical, may_be_named, o_f, parenthesized, called, called_in_parentheses, called_in_with, argument, operand, applied, equals, assigned, statement, ComesOut, Stays, StaysUnused, array, spread, hole, sequence, ListStays, ChoiceStays, PartsStay, behind_zero, placed, StaysDirect, with_a, in_with_a, empty, a_is_read, a_is_exported};
+ghost use Rattle.steps_allowed.specs.Rows.{before, call_of_a, null, if_one, if_null, conditional, logical, may_be_named, o_f, parenthesized, called, called_in_parentheses, called_in_with, argument, operand, applied, equals, assigned, statement, ComesOut, Stays, StaysUnused, array, spread, hole, sequence, ListStays, ChoiceStays, PartsStay, SidesStay, object, a_is, b_is, getter_of_a, ObjectStays, behind_zero, placed, StaysDirect, with_a, in_with_a, empty, a_is_read, a_is_exported};
 
 /// A statement of a literal becomes empty, in a list and alone, and leaves the list then.
 pub fn silent_statements_go()
@@ -181,4 +181,29 @@ pub fn idle_parts_go()
 pub fn needed_parts_stay()
     ensures called_member { PartsStay called (sequence (one ∷ o_f ∷ [])) }
     ensures acting { PartsStay argument (sequence (call_of_a ∷ one ∷ [])) }
+{}
+
+/// Of a comparison of which nobody takes the value, and of which both sides act, a sequence of these is left.
+pub fn two_sides_become_a_sequence()
+    ensures { Edit (a_module (does (equals call_of_a o_f) ∷ [])) (a_module (does (sequence (call_of_a ∷ o_f ∷ [])) ∷ [])) }
+{}
+
+/// It stays where one side doesn't act, and where its value is taken.
+pub fn other_comparisons_stay()
+    ensures one_side { SidesStay statement (equals call_of_a one) }
+    ensures used { SidesStay argument (equals call_of_a o_f) }
+{}
+
+/// Where nobody takes its value, of an object literal the values stay that act: one alone, or several in a sequence.
+pub fn unused_objects_become_values()
+    ensures one_value { Edit (a_module (does (object (a_is call_of_a ∷ b_is one ∷ [])) ∷ [])) (a_module (does call_of_a ∷ [])) }
+    ensures several { Edit (a_module (does (object (a_is call_of_a ∷ b_is o_f ∷ [])) ∷ [])) (a_module (does (sequence (call_of_a ∷ o_f ∷ [])) ∷ [])) }
+{}
+
+/// It stays where its value is taken, where none of its values acts, where it has a getter, and where something is spread in it.
+pub fn other_objects_stay()
+    ensures used { ObjectStays argument (object (a_is one ∷ [])) }
+    ensures idle { ObjectStays statement (object (a_is one ∷ [])) }
+    ensures getter { ObjectStays statement (object (getter_of_a ∷ [])) }
+    ensures spread { ObjectStays statement (object (spread (reads a) ∷ [])) }
 {}

@@ -1,6 +1,6 @@
 -- What lies below a conditional, operators, lists and a call of a tree that fits the table of node types.
 use Rattle.std.proofs.Common.{◌≡◌, [], ◌∷◌, Bool, true, false, Some, refl, sym, ap, ◌∙◌, true≢false}
-use Rattle.js_syntax.specs.Class.{root, expression, callee, argument}
+use Rattle.js_syntax.specs.Class.{root, expression, callee, argument, object_item}
 use Rattle.js_syntax.specs.declared.node_kind.NodeKind.{NodeKind as Kind}
 use Rattle.js_syntax.specs.declared.operator.UnaryOperator.{UnaryOperator}
 use Rattle.js_syntax.specs.declared.operator.BinaryOperator.{BinaryOperator}
@@ -12,7 +12,7 @@ use Rattle.js_meaning_near.specs.Unused.{compares}
 use Rattle.json_shape.specs.Shape.{Values, kind_in, one, list, list_with_holes, places, these, Stand, Fits}
 use Rattle.scope_laws.specs.Place.{Around, plug}
 use Rattle.steps_owed.proofs.FitsTaking.{is_comparison, comparison_parts, array_parts, sequence_parts}
-use Rattle.steps_owed.proofs.Made.{MadeBy, made_there, conditional_stands}
+use Rattle.steps_owed.proofs.Made.{MadeBy, made_there, conditional_stands, object_stands}
 
 abbrev is_logical : Kind → Bool
 is_logical (Kind.LogicalExpression o) = true
@@ -77,6 +77,10 @@ pub parts_of_array : (a : Around) (n : Note) (below : Forest) → Fits root (plu
 parts_of_array a n below fits =
     let made = made_there a (record { kind = Kind.ArrayExpression; note = n; below = below }) (these (one root ∷ [])) refl refl fits in
     array_parts (has is_private below) made.row made.values below made.is made.stands
+
+pub properties_of_object : (a : Around) (n : Note) (below : Forest) → Fits root (plug a (Some (record { kind = Kind.ObjectExpression; note = n; below = below }))) → Stand (these (list Kind.Properties object_item ∷ [])) below
+properties_of_object a n below fits =
+    object_stands below (made_there a (record { kind = Kind.ObjectExpression; note = n; below = below }) (these (one root ∷ [])) refl refl fits)
 
 pub parts_of_sequence : (a : Around) (n : Note) (below : Forest) → Fits root (plug a (Some (record { kind = Kind.SequenceExpression; note = n; below = below }))) → Stand (these (list Kind.Expressions expression ∷ [])) below
 parts_of_sequence a n below fits =

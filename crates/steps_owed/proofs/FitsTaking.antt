@@ -2,14 +2,14 @@
 use Rattle.std.proofs.Common.{◌≡◌, ◌∙◌, [], ◌∷◌, Bool, true, false, Some, refl, sym, ap, true≢false}
 use Rattle.js_syntax.specs.Class.{Class, module_item, statement, expression, arrow_body, for_init, default_export, expression_or_private, callee, argument}
 use Rattle.js_syntax.specs.declared.node_kind.NodeKind.{NodeKind as Kind}
-use Rattle.js_syntax.specs.declared.node_kind.NodeKind.TheVariants.{ConditionalExpression as conditional_expression, UnaryExpression as unary_expression, BinaryExpression as binary_expression, LogicalExpression as logical_expression, IfStatement as if_statement, ArrayExpression as array_expression, Elements as elements, SequenceExpression as sequence_expression, Expressions as expressions}
+use Rattle.js_syntax.specs.declared.node_kind.NodeKind.TheVariants.{ConditionalExpression as conditional_expression, UnaryExpression as unary_expression, BinaryExpression as binary_expression, LogicalExpression as logical_expression, IfStatement as if_statement, ArrayExpression as array_expression, Elements as elements, ObjectExpression as object_expression, SequenceExpression as sequence_expression, Expressions as expressions}
 use Rattle.js_syntax.specs.declared.operator.UnaryOperator.{UnaryOperator}
 use Rattle.js_syntax.specs.declared.operator.BinaryOperator.{BinaryOperator}
 use Rattle.js_syntax.specs.declared.operator.BinaryOperator.TheVariants as binary
 use Rattle.js_syntax.specs.declared.operator.LogicalOperator.{LogicalOperator}
 use Rattle.js_syntax.specs.Hint.{has, is_private}
 use Rattle.js_syntax.specs.Node.{Forest, Note, alone}
-use Rattle.js_syntax.specs.Table.{Row as TableRow, a_conditional_expression, a_unary_expression, a_binary_expression, an_in_expression, a_logical_expression, an_if_statement, an_array_expression, a_sequence_expression, fields_of, type_of, stands}
+use Rattle.js_syntax.specs.Table.{Row as TableRow, a_conditional_expression, a_unary_expression, a_binary_expression, an_in_expression, a_logical_expression, an_if_statement, an_array_expression, an_object_expression, a_sequence_expression, fields_of, type_of, stands}
 use Rattle.js_syntax.specs.declared.node_type.NodeType.{NodeType}
 use Rattle.js_syntax.specs.declared.node_type.NodeType.TheVariants as type
 use Rattle.js_meaning_near.specs.Unused.{compares}
@@ -66,7 +66,7 @@ binary_takes callee h = refl
 binary_takes argument h = refl
 binary_takes c h = absurd cc
 
--- and so do arrays and sequences
+-- and so do arrays, object literals and sequences
 array_takes : (c : Class) → stands c type.ArrayExpression ≡ Some an_array_expression → stands c type.ConditionalExpression ≡ Some a_conditional_expression
 array_takes expression h = refl
 array_takes arrow_body h = refl
@@ -76,6 +76,16 @@ array_takes expression_or_private h = refl
 array_takes callee h = refl
 array_takes argument h = refl
 array_takes c h = absurd cc
+
+object_takes : (c : Class) → stands c type.ObjectExpression ≡ Some an_object_expression → stands c type.ConditionalExpression ≡ Some a_conditional_expression
+object_takes expression h = refl
+object_takes arrow_body h = refl
+object_takes for_init h = refl
+object_takes default_export h = refl
+object_takes expression_or_private h = refl
+object_takes callee h = refl
+object_takes argument h = refl
+object_takes c h = absurd cc
 
 sequence_takes : (c : Class) → stands c type.SequenceExpression ≡ Some a_sequence_expression → stands c type.ConditionalExpression ≡ Some a_conditional_expression
 sequence_takes expression h = refl
@@ -113,6 +123,9 @@ module _ (k : Kind) (below : Forest) where
   pub as_array : (c : Class) → stands c type.ArrayExpression ≡ Some an_array_expression → IsOf k below (λ p. Stand p below) expression → IsOf k below (λ p. Stand p below) c
   as_array c takes of = as_conditional c (array_takes c takes) of
 
+  pub as_object : (c : Class) → stands c type.ObjectExpression ≡ Some an_object_expression → IsOf k below (λ p. Stand p below) expression → IsOf k below (λ p. Stand p below) c
+  as_object c takes of = as_conditional c (object_takes c takes) of
+
   pub as_sequence : (c : Class) → stands c type.SequenceExpression ≡ Some a_sequence_expression → IsOf k below (λ p. Stand p below) expression → IsOf k below (λ p. Stand p below) c
   as_sequence c takes of = as_conditional c (sequence_takes c takes) of
 
@@ -140,6 +153,10 @@ is_comparison k = false
 abbrev is_array : Kind → Bool
 is_array array_expression = true
 is_array k = false
+
+abbrev is_object : Kind → Bool
+is_object object_expression = true
+is_object k = false
 
 abbrev is_sequence : Kind → Bool
 is_sequence sequence_expression = true
@@ -206,6 +223,11 @@ pub array_parts : (private : Bool) (r : TableRow) (vs : Values (fields_of r)) (p
 array_parts private an_array_expression vs parts is stand = stand
 array_parts private r vs parts is stand = absurd (true≢false (ap is_array is))
 
+object_class : (c : Class) (r : TableRow) (vs : Values (fields_of r)) → is_object (kind_in r vs) ≡ true → stands c (type_of r) ≡ Some (first_of r)
+    → stands c type.ObjectExpression ≡ Some an_object_expression
+object_class c an_object_expression vs is stood = stood
+object_class c r vs is stood = absurd (true≢false (sym is))
+
 sequence_class : (c : Class) (r : TableRow) (vs : Values (fields_of r)) → is_sequence (kind_in r vs) ≡ true → stands c (type_of r) ≡ Some (first_of r)
     → stands c type.SequenceExpression ≡ Some a_sequence_expression
 sequence_class c a_sequence_expression vs is stood = stood
@@ -254,6 +276,9 @@ module _ (c : Class) (n : Note) (below : Forest) where
 
   pub array_stood : Fits c (alone array_expression n below) → stands c type.ArrayExpression ≡ Some an_array_expression
   array_stood fits = array_class c fits.0.0 fits.0.1 (ap is_array (sym fits.0.4)) fits.0.2
+
+  pub object_stood : Fits c (alone object_expression n below) → stands c type.ObjectExpression ≡ Some an_object_expression
+  object_stood fits = object_class c fits.0.0 fits.0.1 (ap is_object (sym fits.0.4)) fits.0.2
 
   pub sequence_stood : Fits c (alone sequence_expression n below) → stands c type.SequenceExpression ≡ Some a_sequence_expression
   sequence_stood fits = sequence_class c fits.0.0 fits.0.1 (ap is_sequence (sym fits.0.4)) fits.0.2

@@ -56,6 +56,8 @@ pub mod IndirectChoice
 pub mod OneSidedChoice
 pub mod LastPart
 pub mod IdleParts
+pub mod TwoSides
+pub mod UnusedObject
 pub mod Edited
 pub mod Refused
 pub mod Outlying

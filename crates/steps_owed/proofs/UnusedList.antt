@@ -62,7 +62,7 @@ pub data Left (n m : Note) : (parts : Forest) → Tree → Type 0 where
   one_left : (k : Kind) (i : Note) (a : Forest) → stands_bare as_value false k a ≡ true → Left n m (node k i a nothing) (tree k i a)
   several_left : (k l : Kind) (i j : Note) (a b r : Forest) → Left n m (node k i a (node l j b r)) (tree sequence_expression n (node expressions m (node k i a (node l j b r)) nothing))
 
-is_left : (n m : Note) (parts : Forest) (y : Tree) → AllNodes parts → as_one n m parts ≡ Some y → Left n m parts y
+pub is_left : (n m : Note) (parts : Forest) (y : Tree) → AllNodes parts → as_one n m parts ≡ Some y → Left n m parts y
 is_left n m nothing y nodes e = absurd cc
 is_left n m (absent r) y nodes e = absurd nodes
 is_left n m (node k i a nothing) y nodes e = alone_left (stands_bare as_value false k a) refl e
@@ -118,7 +118,7 @@ acting_rebuilt (node k n a r) = each (acts k n a) (acting_rebuilt r)
     each true later = stays later
     each false later = leaves later
 
-left_rebuilt : {n m : Note} {parts : Forest} {y : Tree} (t : Forest) → Left n m parts y → Rebuilt t (joined parts nothing) → Rebuilt t (forest_of y)
+pub left_rebuilt : {n m : Note} {parts : Forest} {y : Tree} (t : Forest) → Left n m parts y → Rebuilt t (joined parts nothing) → Rebuilt t (forest_of y)
 left_rebuilt t (one_left k i a bare) h = h
 left_rebuilt {n = n} {m = m} t (several_left k l i j a b r) h =
     built (sequence_is_built m k l i j a b r) (built (list_is_built (node k i a (node l j b r))) h)
@@ -134,7 +134,7 @@ acting_less w (node k n a r) = each (acts k n a) (acting_less w r)
     each true later = Prim.omega (arith, later)
     each false later = Prim.omega (arith, later)
 
-left_weighs : {n m : Note} {parts : Forest} {y : Tree} → Left n m parts y → total weight (forest_of y) ≤ total weight parts + 2
+pub left_weighs : {n m : Note} {parts : Forest} {y : Tree} → Left n m parts y → total weight (forest_of y) ≤ total weight parts + 2
 left_weighs (one_left k i a bare) = Prim.omega arith
 left_weighs (several_left k l i j a b r) = Prim.omega arith
 
@@ -147,7 +147,7 @@ acting_lower f g none (node k n a r) i j = each (acts k n a) (λ q. acting_lower
     each true later = let h = later (suc j) in Prim.omega (arith, h, none j)
     each false later = let h = later j in Prim.omega (arith, h)
 
-left_lower : {n m : Note} {parts : Forest} {y : Tree} (most : ℕ) → Left n m parts y → ((g : ℕ → ℕ) → ((i : ℕ) → g i ≡ 0) → levels_at g 0 parts ≤ most) → levels (forest_of y) ≤ most + 1
+pub left_lower : {n m : Note} {parts : Forest} {y : Tree} (most : ℕ) → Left n m parts y → ((g : ℕ → ℕ) → ((i : ℕ) → g i ≡ 0) → levels_at g 0 parts ≤ most) → levels (forest_of y) ≤ most + 1
 left_lower most (one_left k i a bare) h = let it = h (λ i. 0) (λ i. refl) in Prim.omega (arith, it)
 left_lower most (several_left k l i j a b r) h = let it = h (λ i. lower expressions i) (λ i. refl) in Prim.omega (arith, it)
 
@@ -199,11 +199,11 @@ acting_elements (node k n a r) single st = each (acts k n a) refl (acting_elemen
     each true is later = elim st.0 [ inl at ↦ absurd (hole_is_idle k n a at.0 is) | inr of ↦ (argument_is k a (first_of_neither (is_spread k) (has_spread r) single) of, later) ]
     each false is later = later
 
-left_fits : {n m : Note} {parts : Forest} {y : Tree} → Left n m parts y → Parts parts → IsExpression y.kind y.below
+pub left_fits : {n m : Note} {parts : Forest} {y : Tree} → Left n m parts y → Parts parts → IsExpression y.kind y.below
 left_fits (one_left k i a bare) st = st.0
 left_fits (several_left k l i j a b r) st = (a_sequence_expression, tt, refl, tt, refl, ((refl, st), tt))
 
-left_unasked : {n m : Note} {parts : Forest} {y : Tree} → Left n m parts y → Parts parts → is_asked_for y.kind ≡ false
+pub left_unasked : {n m : Note} {parts : Forest} {y : Tree} → Left n m parts y → Parts parts → is_asked_for y.kind ≡ false
 left_unasked (one_left k i a bare) st = bare_unasked k a st.0 as_value false bare
 left_unasked (several_left k l i j a b r) st = refl
 
@@ -218,7 +218,7 @@ acting_needed st (node k n a r) nodes = each (acts k n a) refl (acting_needed st
     each true is later = needed later
     each false is later = not_needed (silent_anywhere st k n a is) later
 
-left_some : {n m : Note} {parts : Forest} {y : Tree} → Left n m parts y → IsSome parts
+pub left_some : {n m : Note} {parts : Forest} {y : Tree} → Left n m parts y → IsSome parts
 left_some (one_left k i a bare) = tt
 left_some (several_left k l i j a b r) = tt
 
@@ -227,11 +227,11 @@ some_parts nothing nodes some = some
 some_parts (absent r) nodes some = absurd nodes
 some_parts (node k n a r) nodes some = tt
 
-left_stands : {n m : Note} {parts : Forest} {y : Tree} (u : Purpose) (k : Kind) (below : Forest) → Left n m parts y → Stands u k below (expression_kind parts) (expression_below m parts) → Stands u k below y.kind y.below
+pub left_stands : {n m : Note} {parts : Forest} {y : Tree} (u : Purpose) (k : Kind) (below : Forest) → Left n m parts y → Stands u k below (expression_kind parts) (expression_below m parts) → Stands u k below y.kind y.below
 left_stands u k below (one_left l i a bare) h = h
 left_stands u k below (several_left l z i j a b r) h = h
 
-left_hoists : {n m : Note} {parts : Forest} {y : Tree} → Left n m parts y → Parts parts → all_core parts ≡ true → hoists_nothing (expression_kind parts) ≡ true
+pub left_hoists : {n m : Note} {parts : Forest} {y : Tree} → Left n m parts y → Parts parts → all_core parts ≡ true → hoists_nothing (expression_kind parts) ≡ true
 left_hoists (one_left k i a bare) st core = bare_hoists (wanted_for as_value) k a (bare_for_runs as_value false k i a st.0 core bare)
 left_hoists (several_left k l i j a b r) st core = refl
 
@@ -244,7 +244,7 @@ acting_core (node k n a r) core = each (acts k n a) (acting_core r (core_behind 
     each true later = both (is_core k) (all_core a && all_core (acting r)) (core_here k n a r core) (both (all_core a) (all_core (acting r)) (core_below k n a r core) later)
     each false later = later
 
-left_core : {n m : Note} {parts : Forest} {y : Tree} → Left n m parts y → all_core parts ≡ true → all_core (forest_of y) ≡ true
+pub left_core : {n m : Note} {parts : Forest} {y : Tree} → Left n m parts y → all_core parts ≡ true → all_core (forest_of y) ≡ true
 left_core (one_left k i a bare) core = core
 left_core (several_left k l i j a b r) core = both (all_core (node k i a (node l j b r)) && true) true (both (all_core (node k i a (node l j b r))) true core refl) refl
 
@@ -261,18 +261,17 @@ acting_imports (node k n a r) none = each (acts k n a) (acting_imports r (λ sou
     each true later = λ source. both_empty (specifier_decls source k a (import_decls source a)) (import_decls source (acting r)) (first_empty (specifier_decls source k a (import_decls source a)) (import_decls source r) (none source)) (later source)
     each false later = later
 
-left_imports : {n m : Note} {parts : Forest} {y : Tree} → Left n m parts y → ImportsNone parts → ImportsNone (forest_of y)
+pub left_imports : {n m : Note} {parts : Forest} {y : Tree} → Left n m parts y → ImportsNone parts → ImportsNone (forest_of y)
 left_imports (one_left k i a bare) none = none
 left_imports (several_left k l i j a b r) none =
     let parts = node k i a (node l j b r) in
     λ source. both_empty (import_decls source parts ++ []) [] (both_empty (import_decls source parts) [] (none source) refl) refl
 
-module _ (n m : Note) (parts : Forest) (y : Tree) (left : Left n m (acting parts) y) (st : Parts (acting parts)) (core : all_core parts ≡ true) (none : ImportsNone parts) where
-  left_declares : DeclaresNothing (forest_of y)
-  left_declares = record {
-    bound = nameless_as_planned (forest_of y) (these (one_place expression ∷ [])) refl (left_fits left st, tt) (left_core left (acting_core parts core));
-    imports = left_imports left (acting_imports parts none);
-  }
+pub left_declares : {n m : Note} {parts : Forest} {y : Tree} → Left n m parts y → Parts parts → all_core parts ≡ true → ImportsNone parts → DeclaresNothing (forest_of y)
+left_declares {y = y} left st core none = record {
+  bound = nameless_as_planned (forest_of y) (these (one_place expression ∷ [])) refl (left_fits left st, tt) (left_core left core);
+  imports = left_imports left none;
+}
 
 -- ---- each list
 
@@ -305,7 +304,7 @@ module _ (a : Around) (unused : is_unused_at a ≡ true) (p n m i : Note) (parts
               (λ st. array_wasted st p i m parts (acting parts) (acting_needed st parts (elements_are_nodes parts (elements_there there)))));
           old_calm = refl;
           plainly = both_plainly array_expression array.below y.kind y.note y.below nothing refl none
-              (left_declares n m parts y left (elements_stay there) within (λ source. first_empty (import_decls source parts) [] (imports source)));
+              (left_declares left (elements_stay there) (acting_core parts within) (acting_imports parts (λ source. first_empty (import_decls source parts) [] (imports source))));
           core = λ c. left_core left (acting_core parts (core_below elements i parts nothing (core_below array_expression p array.below nothing c)));
         }
 
@@ -356,7 +355,7 @@ module _ (a : Around) (unused : is_unused_at a ≡ true) (p n m i : Note) (parts
               (λ st. sequence_wasted st p i m parts (acting parts) (some_parts parts nodes (left_some left)) (acting_needed st parts nodes)));
           old_calm = refl;
           plainly = both_plainly sequence_expression sequence.below y.kind y.note y.below nothing refl none
-              (left_declares n m parts y left (parts_stay there) within (λ source. first_empty (import_decls source parts) [] (imports source)));
+              (left_declares left (parts_stay there) (acting_core parts within) (acting_imports parts (λ source. first_empty (import_decls source parts) [] (imports source))));
           core = λ c. left_core left (acting_core parts (core_below expressions i parts nothing (core_below sequence_expression p sequence.below nothing c)));
         }
 
