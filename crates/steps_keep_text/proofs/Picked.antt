@@ -1,18 +1,22 @@
--- What comes of an array, a sequence or a choice counts no more.
+-- What comes of an array, an object literal, a sequence, a choice or a comparison counts no more.
 use Rattle.std.proofs.Common.{◌≡◌, ◌≤◌, ◌+◌, ℕ, pos, arith}
 use Rattle.js_syntax.specs.declared.node_kind.NodeKind.{NodeKind as Kind}
-use Rattle.js_syntax.specs.declared.node_kind.NodeKind.TheVariants.{EmptyStatement as empty_statement, ExpressionStatement as expression_statement, ArrayExpression as array_expression, Elements as elements, SequenceExpression as sequence_expression, Expressions as expressions, ConditionalExpression as conditional_expression, LogicalExpression as logical_expression, Literal as literal}
+use Rattle.js_syntax.specs.declared.node_kind.NodeKind.TheVariants.{EmptyStatement as empty_statement, ExpressionStatement as expression_statement, ArrayExpression as array_expression, Elements as elements, ObjectExpression as object_expression, Properties as properties, BinaryExpression as binary_expression, SequenceExpression as sequence_expression, Expressions as expressions, ConditionalExpression as conditional_expression, LogicalExpression as logical_expression, Literal as literal}
+use Rattle.js_syntax.specs.declared.operator.BinaryOperator.{BinaryOperator}
 use Rattle.js_syntax.specs.declared.operator.LogicalOperator.{LogicalOperator}
 use Rattle.js_syntax.specs.declared.value.LiteralValue.{LiteralValue}
 use Rattle.js_syntax.specs.declared.value.LiteralValue.TheVariants as value
 use Rattle.js_syntax.specs.Node.{Forest, total}
-use Rattle.steps_marked.proofs.Picked.{SomeOf, none, stays, leaves, absent_leaves, absent_stays, Picks, one_part, several, part_behind_zero, two_parts}
+use Rattle.steps_marked.proofs.Picked.{SomeOf, none, stays, leaves, opens, absent_leaves, absent_stays, Picks, one_part, several, part_behind_zero, two_parts, in_turn}
 
 -- counts by which what edits build counts no more than what it is built of
 pub record IsSparing (counts : Kind → ℕ) : Type 0 where
   pub empty : counts empty_statement ≤ counts expression_statement
   pub of_array : counts sequence_expression ≤ counts array_expression
   pub of_elements : counts expressions ≤ counts elements
+  pub of_object : counts sequence_expression ≤ counts object_expression
+  pub of_properties : counts expressions ≤ counts properties
+  pub of_comparison : (o : BinaryOperator) → counts sequence_expression + counts expressions ≤ counts (binary_expression o)
   pub of_conditional : counts sequence_expression + counts expressions ≤ counts conditional_expression
   pub of_logical : (o : LogicalOperator) → counts sequence_expression + counts expressions ≤ counts (logical_expression o)
   pub of_choice : (o : LogicalOperator) → counts (logical_expression o) ≤ counts conditional_expression
@@ -24,6 +28,9 @@ uncounted counts empty sequence list zero logical = record {
   empty = Prim.omega (arith, empty);
   of_array = Prim.omega (arith, sequence);
   of_elements = Prim.omega (arith, list);
+  of_object = Prim.omega (arith, sequence);
+  of_properties = Prim.omega (arith, list);
+  of_comparison = λ o. Prim.omega (arith, sequence, list);
   of_conditional = Prim.omega (arith, sequence, list);
   of_logical = λ o. Prim.omega (arith, sequence, list);
   of_choice = λ o. Prim.omega (arith, logical o);
@@ -35,15 +42,18 @@ module _ (counts : Kind → ℕ) where
   some_counts none = Prim.omega arith
   some_counts (stays rest) = Prim.omega (arith, some_counts rest)
   some_counts (leaves rest) = Prim.omega (arith, some_counts rest)
+  some_counts (opens rest) = Prim.omega (arith, some_counts rest)
   some_counts (absent_leaves rest) = some_counts rest
   some_counts (absent_stays rest) = some_counts rest
 
   pub picked_counts : IsSparing counts → {k l : Kind} {a b : Forest} → Picks k a l b → counts l + total counts b ≤ counts k + total counts a
   picked_counts spares (one_part k j l i m parts inner holds some) = Prim.omega (arith, some_counts some)
   picked_counts spares (several array_expression elements i m parts left holds some) = Prim.omega (arith, spares.of_array, spares.of_elements, some_counts some)
+  picked_counts spares (several object_expression properties i m parts left holds some) = Prim.omega (arith, spares.of_object, spares.of_properties, some_counts some)
   picked_counts spares (several sequence_expression expressions i m parts left holds some) = Prim.omega (arith, some_counts some)
   picked_counts spares (several k j i m parts left holds some) = absurd cc
   picked_counts spares (part_behind_zero conditional_expression l v o m i p parts inner choice some) = Prim.omega (arith, spares.of_conditional, spares.zero v, some_counts some)
   picked_counts spares (part_behind_zero (logical_expression q) l v o m i p parts inner choice some) = Prim.omega (arith, spares.of_logical q, spares.zero v, some_counts some)
   picked_counts spares (part_behind_zero k l v o m i p parts inner choice some) = absurd cc
   picked_counts spares (two_parts o parts left some) = Prim.omega (arith, spares.of_choice o, some_counts some)
+  picked_counts spares (in_turn o m sides) = Prim.omega (arith, spares.of_comparison o)

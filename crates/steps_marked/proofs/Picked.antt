@@ -1,8 +1,9 @@
--- What an array or a sequence comes to: one of its parts, or several in a sequence; and what a choice does: one of its parts behind
--- a zero, or two of them as a logical expression.
+-- What an array, an object literal or a sequence comes to: one of its parts, or several in a sequence; what a choice does: one of its
+-- parts behind a zero, or two of them as a logical expression; and what a comparison does: its sides in a sequence.
 use Rattle.std.proofs.Common.{◌≡◌, pos, Bool, true, false, Option, Some, None, if◌then◌else◌, refl, subst}
 use Rattle.js_syntax.specs.declared.node_kind.NodeKind.{NodeKind as Kind}
-use Rattle.js_syntax.specs.declared.node_kind.NodeKind.TheVariants.{ArrayExpression as array_expression, Elements as elements, SequenceExpression as sequence_expression, Expressions as expressions, ConditionalExpression as conditional_expression, LogicalExpression as logical_expression, Literal as literal}
+use Rattle.js_syntax.specs.declared.node_kind.NodeKind.TheVariants.{ArrayExpression as array_expression, Elements as elements, ObjectExpression as object_expression, Properties as properties, BinaryExpression as binary_expression, SequenceExpression as sequence_expression, Expressions as expressions, ConditionalExpression as conditional_expression, LogicalExpression as logical_expression, Literal as literal}
+use Rattle.js_syntax.specs.declared.operator.BinaryOperator.{BinaryOperator}
 use Rattle.js_syntax.specs.declared.operator.LogicalOperator.{LogicalOperator}
 use Rattle.js_syntax.specs.declared.operator.LogicalOperator.TheVariants as logical
 use Rattle.js_syntax.specs.declared.value.LiteralValue.{LiteralValue}
@@ -14,23 +15,28 @@ use Rattle.scope_laws.proofs.Bindings.{same_value}
 use Rattle.steps_allowed.specs.IndirectChoice.{IndirectChoice, value_alone_counts}
 use Rattle.steps_allowed.specs.OneSidedChoice.{sides, one_side, one_sided, OneSidedChoice, one_branch_acts}
 use Rattle.steps_allowed.specs.IdleParts.{stays_before, counting, all_count, as_value_of, sequence_becomes, IdleParts, idle_parts_leave}
+use Rattle.steps_allowed.specs.TwoSides.{two_sides, TwoSides, both_sides_act}
+use Rattle.steps_allowed.specs.UnusedObject.{are_plain, acting_values, object_becomes, UnusedObject, acting_values_stay}
 use Rattle.steps_allowed.specs.Places.{asked_at}
 use Rattle.steps_allowed.specs.UnusedList.{acting, all_act, has_spread, as_one, list_becomes, UnusedList, acting_parts_stay}
 use Rattle.steps_allowed.specs.UnusedOperation.{acts}
 use Rattle.steps_allowed.specs.Uses.{Use, use_at, as_value, stands_bare}
 use Rattle.steps_owed.proofs.IndirectChoice.{Counts, consequent_counts, alternate_counts, right_side_counts, part_that_counts}
+use Rattle.steps_owed.proofs.UnusedObject.{Plain, none_left, value_stays, value_leaves, plain_properties}
 
--- some of the nodes of a row, in their order
+-- some of the nodes of a row, in their order, or of a property its value
 pub data SomeOf : (r s : Forest) → Type 0 where
   none : SomeOf nothing nothing
   stays : {k : Kind} {n : Note} {a r s : Forest} → SomeOf r s → SomeOf (node k n a r) (node k n a s)
   leaves : {k : Kind} {n : Note} {a r s : Forest} → SomeOf r s → SomeOf (node k n a r) s
+  opens : {j k : Kind} {n m : Note} {a r s : Forest} → SomeOf r s → SomeOf (node j n (absent (node k m a nothing)) r) (node k m a s)
   absent_leaves : {r s : Forest} → SomeOf r s → SomeOf (absent r) s
   absent_stays : {r s : Forest} → SomeOf r s → SomeOf (absent r) (absent s)
 
 -- an expression, and the list of its parts
 abbrev pub holds_parts : Kind → (list : Kind) → Bool
 holds_parts array_expression elements = true
+holds_parts object_expression properties = true
 holds_parts sequence_expression expressions = true
 holds_parts k l = false
 
@@ -44,6 +50,7 @@ pub data Picks : (k : Kind) (below : Forest) (l : Kind) (inner : Forest) → Typ
   several : (k j : Kind) (i m : Note) (parts left : Forest) → holds_parts k j ≡ true → SomeOf parts left → Picks k (node j i parts nothing) sequence_expression (node expressions m left nothing)
   part_behind_zero : (k l : Kind) (v : LiteralValue) (o m i p : Note) (parts inner : Forest) → is_choice k ≡ true → SomeOf parts (alone l p inner) → Picks k (node (literal v) o nothing parts) sequence_expression (node expressions m (node (literal (value.Number (pos 0))) i nothing (alone l p inner)) nothing)
   two_parts : (o : LogicalOperator) (parts left : Forest) → SomeOf parts left → Picks conditional_expression parts (logical_expression o) left
+  in_turn : (o : BinaryOperator) (m : Note) (sides : Forest) → Picks (binary_expression o) sides sequence_expression (node expressions m sides nothing)
 
 -- ---- the parts that act
 
@@ -143,3 +150,32 @@ sequence_picks u in_with n m k a y is = absurd cc
 
 pub idle_parts_picks : (a : Around) (x y : Tree) → IdleParts a x y → Picks x.kind x.below y.kind y.below
 idle_parts_picks a _ _ (idle_parts_leave n m x y is) = sequence_picks (use_at a) (asked_at (asked_of_program true) a).in_with n m x.kind x.below y is
+
+-- ---- the sides of a comparison
+
+sides_picks : (n m : Note) (k : Kind) (a : Forest) (y : Tree) → two_sides n m k a ≡ Some y → Picks k a y.kind y.below
+sides_picks n m (binary_expression o) (node k i a (node l j b nothing)) y is =
+    let sides = node k i a (node l j b nothing) in
+    subst (λ (y : Tree). Picks (binary_expression o) sides y.kind y.below) (given _ (record { kind = sequence_expression; note = n; below = node expressions m sides nothing }) y is) (in_turn o m sides)
+sides_picks n m k a y is = absurd cc
+
+pub two_sides_picks : (a : Around) (x y : Tree) → TwoSides a x y → Picks x.kind x.below y.kind y.below
+two_sides_picks a _ _ (both_sides_act n m x y unused is) = sides_picks n m x.kind x.below y is
+
+-- ---- the values of an object literal that act
+
+some_values : {es left : Forest} → Plain es left → SomeOf es left
+some_values none_left = none
+some_values (value_stays plain rest) = opens (some_values rest)
+some_values (value_leaves plain idle rest) = leaves (some_values rest)
+
+object_picks : (n m : Note) (k : Kind) (a : Forest) (y : Tree) → object_becomes n m k a ≡ Some y → Picks k a y.kind y.below
+object_picks n m object_expression (node properties i es nothing) y is = each (are_plain es) refl is
+  where
+    each : (b : Bool) → are_plain es ≡ b → (if b then as_one n m (acting_values es) else None) ≡ Some y → Picks object_expression (node properties i es nothing) y.kind y.below
+    each true plain is = picks_one object_expression properties i es refl n m (acting_values es) y (some_values (plain_properties es plain)) is
+    each false plain is = absurd cc
+object_picks n m k a y is = absurd cc
+
+pub unused_object_picks : (a : Around) (x y : Tree) → UnusedObject a x y → Picks x.kind x.below y.kind y.below
+unused_object_picks a _ _ (acting_values_stay n m x y unused is) = object_picks n m x.kind x.below y is
