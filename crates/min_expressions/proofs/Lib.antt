@@ -6,4 +6,6 @@ pub mod Lists
 pub mod Behind
 pub mod Sided
 pub mod Sequences
+pub mod TwoSides
+pub mod Objects
 pub mod Pairing

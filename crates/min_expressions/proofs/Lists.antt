@@ -214,7 +214,7 @@ pub record IsListOf (k : Kind) (t : Forest) : Type 0 where
   pub is_one : are_one (acting has.list.below) ≡ true
 
 -- whether parts are one expression
-one_same : (n m : Note) (parts : Forest) → is_some (as_one n m parts) ≡ are_one parts
+pub one_same : (n m : Note) (parts : Forest) → is_some (as_one n m parts) ≡ are_one parts
 one_same n m nothing = refl
 one_same n m (absent rest) = refl
 one_same n m (node k i a nothing) = if_stands (stands_bare as_value false k a)
@@ -309,7 +309,7 @@ pub alone_counts : (b : Bool) (k : Kind) (i : Note) (a : Forest) (y : Tree) → 
 alone_counts true k i a y e = subst (λ z. Counts z (alone k i a)) (same_some e) (record { same_ids = λ r. refl; same_evals = refl })
 alone_counts false k i a y e = no_node e
 
-counts : (n m : Note) (parts : Forest) (y : Tree) → as_one n m parts ≡ Some y → Counts y parts
+pub counts : (n m : Note) (parts : Forest) (y : Tree) → as_one n m parts ≡ Some y → Counts y parts
 counts n m nothing y e = no_node e
 counts n m (absent rest) y e = made_counts n m (absent rest) y e
 counts n m (node k i a nothing) y e = alone_counts (stands_bare as_value false k a) k i a y e
@@ -365,7 +365,7 @@ sequence_same n m (node k i parts nothing) = refl
 sequence_same n m (node k i parts (absent rest)) = refl
 sequence_same n m (node k i parts (node l j b rest)) = refl
 
-if_unused : (b : Bool) (o : Option Tree) (c : Bool) → is_some o ≡ c → is_some (if b then o else None) ≡ b && c
+pub if_unused : (b : Bool) (o : Option Tree) (c : Bool) → is_some o ≡ c → is_some (if b then o else None) ≡ b && c
 if_unused true o c e = e
 if_unused false o c e = refl
 

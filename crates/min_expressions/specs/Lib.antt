@@ -5,5 +5,7 @@ pub mod Lists
 pub mod Indirect
 pub mod OneSided
 pub mod Sequences
+pub mod TwoSides
+pub mod Objects
 pub mod MayChange
 pub mod Pair

@@ -7,6 +7,8 @@ ghost use Rattle.rules_expressions.specs.Lists.{fold_unused_list};
 ghost use Rattle.rules_expressions.specs.Indirect.{fold_indirect};
 ghost use Rattle.rules_expressions.specs.OneSided.{fold_one_sided};
 ghost use Rattle.rules_expressions.specs.Sequences.{fold_sequence};
+ghost use Rattle.rules_expressions.specs.TwoSides.{fold_two_sides};
+ghost use Rattle.rules_expressions.specs.Objects.{fold_object};
 ghost use Rattle.rules_expressions.specs.Uses.{spot_of};
 ghost use Rattle.min_expressions.specs.Kept.{matters_at};
 
@@ -14,8 +16,10 @@ use crate::bare::matters_here;
 use crate::indirect::{goes_behind, keep_behind_zero};
 use crate::kept::{conditional_keeps, keep_child, logical_keeps};
 use crate::list::{keep_list, list_goes};
+use crate::object::{keep_object, object_goes};
 use crate::one_sided::{keep_one_side, stays_one_sided};
 use crate::sequence::{keep_sequence, sequence_goes};
+use crate::two_sides::{keep_two_sides, sides_go};
 use crate::unused::{keep_needed, unused_keeps};
 use js_tree::Node;
 use min_context::MinifierTraverseCtx;
@@ -63,6 +67,28 @@ fn fold_but_sequences(node: &mut Node, ctx: &mut MinifierTraverseCtx) -> Result<
         return Ok(true);
     }
     Ok(PeepholeOptimizations::fold_one_sided_choice(node, ctx))
+}
+
+// The same, and what becomes of a sequence.
+fn fold_to_sequences(node: &mut Node, ctx: &mut MinifierTraverseCtx) -> Result<bool, AllocError>
+    ensures does { IfOk result (λ b. Does (either (either (either (either (either (either fold_conditional fold_logical) fold_unused) fold_unused_list) fold_indirect) fold_one_sided) fold_sequence) ctx.old node.old b ctx.new node.new) }
+    ensures refused { IfErr result (λ e. (node.new ≡ node.old) × (ctx.new ≡ ctx.old)) }
+{
+    if fold_but_sequences(node, ctx)? {
+        return Ok(true);
+    }
+    Ok(PeepholeOptimizations::remove_sequence_expression(node, ctx))
+}
+
+// The same, and what becomes of a comparison of which nobody takes the value.
+fn fold_but_objects(node: &mut Node, ctx: &mut MinifierTraverseCtx) -> Result<bool, AllocError>
+    ensures does { IfOk result (λ b. Does (either (either (either (either (either (either (either fold_conditional fold_logical) fold_unused) fold_unused_list) fold_indirect) fold_one_sided) fold_sequence) fold_two_sides) ctx.old node.old b ctx.new node.new) }
+    ensures refused { IfErr result (λ e. (node.new ≡ node.old) × (ctx.new ≡ ctx.old)) }
+{
+    if fold_to_sequences(node, ctx)? {
+        return Ok(true);
+    }
+    PeepholeOptimizations::fold_two_sides(node, ctx)
 }
 
 /// What a walk does behind a node, to that node alone. Each call answers whether it did anything.
@@ -167,6 +193,35 @@ impl PeepholeOptimizations {
         }
     }
 
+    /// Where nobody takes the value, a comparison of which both sides act becomes a sequence of these, as `f(), g()`. It fails only
+    /// for want of memory; then all is as it was.
+    pub fn fold_two_sides(
+        node: &mut Node,
+        ctx: &mut MinifierTraverseCtx,
+    ) -> Result<bool, AllocError>
+        ensures does { IfOk result (λ b. Does fold_two_sides ctx.old node.old b ctx.new node.new) }
+        ensures refused { IfErr result (λ e. (node.new ≡ node.old) × (ctx.new ≡ ctx.old)) }
+    {
+        if sides_go(node, ctx) {
+            keep_two_sides(node, ctx)?;
+            return Ok(true);
+        }
+        Ok(false)
+    }
+
+    /// Where nobody takes the value, an object literal with plain keys becomes the values of its properties that act: one that may
+    /// stand there itself, or a sequence of them.
+    pub fn remove_unused_object(node: &mut Node, ctx: &mut MinifierTraverseCtx) -> bool
+        ensures does { Does fold_object ctx.old node.old result ctx.new node.new }
+    {
+        if object_goes(node, ctx) {
+            keep_object(node, ctx);
+            true
+        } else {
+            false
+        }
+    }
+
     /// What becomes of an expression behind which the walk is. It fails only for want of memory; then all is as it was.
     pub fn fold_expression(
         node: &mut Node,
@@ -175,10 +230,10 @@ impl PeepholeOptimizations {
         ensures does { IfOk result (λ b. Does at_expression_end ctx.old node.old b ctx.new node.new) }
         ensures refused { IfErr result (λ e. (node.new ≡ node.old) × (ctx.new ≡ ctx.old)) }
     {
-        if fold_but_sequences(node, ctx)? {
+        if fold_but_objects(node, ctx)? {
             return Ok(true);
         }
-        Ok(PeepholeOptimizations::remove_sequence_expression(node, ctx))
+        Ok(PeepholeOptimizations::remove_unused_object(node, ctx))
     }
 
     /// Whether it matters that an expression stands itself where the walk is, as what a call calls, or what `typeof` or `delete`

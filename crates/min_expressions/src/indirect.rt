@@ -111,7 +111,7 @@ pub(crate) fn goes_behind(node: &Node, ctx: &MinifierTraverseCtx) -> Option<usiz
 // ---- and the change
 
 // The row of a node's one field, with nothing in it yet.
-fn one_field(alloc: Global) -> Result<Vec<Option<Node>>, AllocError>
+pub(crate) fn one_field(alloc: Global) -> Result<Vec<Option<Node>>, AllocError>
     ensures { IfOk result (λ field. length field.items ≡ 1) }
 {
     let mut field = Vec::new(alloc);

@@ -9,10 +9,12 @@
 //! the part that a literal chooses doesn't stand there itself, it becomes that part behind a zero, as `(0, o.f)()` (`put_behind_zero`).
 //! A conditional of which nobody takes the value and one branch alone acts becomes `test && consequent` or `test || alternate`
 //! (`fold_one_sided_choice`), and of any sequence the parts leave that don't act, but the last (`remove_sequence_expression`).
+//! A comparison of which nobody takes the value and both sides act becomes a sequence of these (`fold_two_sides`), and of an object
+//! literal of which nobody takes the value the values stay that act (`remove_unused_object`).
 //! What comes out is moved to where the whole stood, a sequence is made of the vectors that are there, and the context is told of all
-//! that leaves, and of nothing else. Only a new zero takes memory, before anything is touched. Three calls answer what rules ask:
-//! whether an expression, or the object of a member that is assigned, may refer to something else when it is evaluated again, and what
-//! two checks make of a pair, either way round.
+//! that leaves, and of nothing else. Only a new zero and the row of a new list take memory, before anything is touched. Three calls
+//! answer what rules ask: whether an expression, or the object of a member that is assigned, may refer to something else when it is
+//! evaluated again, and what two checks make of a pair, either way round.
 #![tactic(auto)]
 
 mod bare;
@@ -22,10 +24,12 @@ mod kept;
 mod known;
 mod list;
 mod may_change;
+mod object;
 mod one_sided;
 mod pair;
 mod parts;
 mod sequence;
+mod two_sides;
 mod unused;
 mod uses;
 

@@ -106,7 +106,7 @@ pub(crate) enum Found {
     Several,
 }
 
-fn found_also(found: Found, node: &Node) -> Found
+pub(crate) fn found_also(found: Found, node: &Node) -> Found
     ensures { told_found result ≡ found_with (told_found found) (Some node.now) }
 {
     if !acts(node) {
@@ -138,7 +138,7 @@ fn found_in(parts: &[Option<Node>]) -> Found
     found
 }
 
-fn is_enough(found: Found) -> bool
+pub(crate) fn is_enough(found: Found) -> bool
     ensures { result ≡ is_enough (told_found found) }
 {
     match found {
@@ -275,7 +275,7 @@ pub(crate) fn sequence(
 }
 
 // What is left of a list.
-fn left_of(
+pub(crate) fn left_of(
     span: Span,
     children: Vec<Option<Node>>,
     list: Node,

@@ -28,7 +28,7 @@ fn is_total(operator: UnaryOperator) -> bool
     )
 }
 
-fn compares(operator: BinaryOperator) -> bool
+pub(crate) fn compares(operator: BinaryOperator) -> bool
     ensures { result ≡ near.compares operator }
 {
     matches!(

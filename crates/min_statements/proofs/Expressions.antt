@@ -1,7 +1,8 @@
 -- What the hook of expressions does, and that it may.
 use Rattle.std.proofs.Common.{◌≡◌, ◌∙◌, ◌≤◌, ◌⊎◌, inl, inr, Bool, true, false, not, ◌||◌, Option, Some, None, is_some, if◌then◌else◌, refl, sym, ap, ap₂, subst, arith, true≢false}
 use Rattle.js_syntax.specs.declared.node_kind.NodeKind.{NodeKind as Kind}
-use Rattle.js_syntax.specs.declared.node_kind.NodeKind.TheVariants.{ArrayExpression as array_expression, Elements as elements, MemberExpression as member_expression, ChainExpression as chain_expression, ParenthesizedExpression as parenthesized_expression, SequenceExpression as sequence_expression, Expressions as expressions, ConditionalExpression as conditional_expression, LogicalExpression as logical_expression, Literal as literal}
+use Rattle.js_syntax.specs.declared.node_kind.NodeKind.TheVariants.{ArrayExpression as array_expression, Elements as elements, MemberExpression as member_expression, ChainExpression as chain_expression, ParenthesizedExpression as parenthesized_expression, SequenceExpression as sequence_expression, Expressions as expressions, ObjectExpression as object_expression, Properties as properties, Property as property, BinaryExpression as binary_expression, ConditionalExpression as conditional_expression, LogicalExpression as logical_expression, Literal as literal}
+use Rattle.js_syntax.specs.declared.operator.BinaryOperator.{BinaryOperator}
 use Rattle.js_syntax.specs.declared.operator.LogicalOperator.{LogicalOperator}
 use Rattle.js_syntax.specs.declared.operator.LogicalOperator.TheVariants as logical
 use Rattle.js_syntax.specs.declared.operator.UnaryOperator.TheVariants as unary
@@ -16,6 +17,8 @@ use Rattle.steps_allowed.specs.UnusedList.{acting, all_act, has_spread, as_one, 
 use Rattle.steps_allowed.specs.IndirectChoice.{branch_counts, part_counts, IndirectChoice, value_alone_counts}
 use Rattle.steps_allowed.specs.OneSidedChoice.{sides, one_side, one_sided, OneSidedChoice, one_branch_acts}
 use Rattle.steps_allowed.specs.IdleParts.{stays_before, counting, all_count, as_value_of, sequence_becomes, IdleParts, idle_parts_leave}
+use Rattle.steps_allowed.specs.TwoSides.{two_sides, TwoSides, both_sides_act}
+use Rattle.steps_allowed.specs.UnusedObject.{are_plain, acting_values, object_becomes, UnusedObject, acting_values_stay}
 use Rattle.steps_allowed.specs.Uses.{Use, as_value, as_typed, use_at, matters, may_take_name, stands_bare}
 use Rattle.steps_owed.proofs.UnusedPlace.{unused_as_value}
 use Rattle.steps_owed.proofs.UnusedOperation.{Needed, the_operand, first_side, second_side, left_side, the_condition, needed_part}
@@ -32,6 +35,8 @@ use Rattle.rules_expressions.specs.Lists.{unused_list_becomes}
 use Rattle.rules_expressions.specs.Indirect.{indirect_becomes}
 use Rattle.rules_expressions.specs.OneSided.{one_sided_becomes}
 use Rattle.rules_expressions.specs.Sequences.{sequence_left}
+use Rattle.rules_expressions.specs.TwoSides.{two_sides_become}
+use Rattle.rules_expressions.specs.Objects.{object_left}
 use Rattle.rules_expressions.proofs.Becoming.{no_answer, same_answer, chosen, chosen_if}
 use Rattle.rules_expressions.proofs.Editing.{conditional_edits_there, logical_edits_there}
 use Rattle.rules_expressions.proofs.Unused.{unused_edits_there}
@@ -39,6 +44,8 @@ use Rattle.rules_expressions.proofs.Lists.{list_edits_there}
 use Rattle.rules_expressions.proofs.Indirect.{indirect_edits_there}
 use Rattle.rules_expressions.proofs.OneSided.{one_sided_edits_there}
 use Rattle.rules_expressions.proofs.Sequences.{sequence_edits_there}
+use Rattle.rules_expressions.proofs.TwoSides.{two_sides_edits_there}
+use Rattle.rules_expressions.proofs.Objects.{object_edits_there}
 use Rattle.rules_expressions.proofs.Folding.{expressions_fold}
 use Rattle.min_statements.specs.Own.{AnyEdit, Own, Found}
 use Rattle.min_statements.specs.Walker.{Names}
@@ -229,6 +236,46 @@ sequence_call a w n m i k below y e = no_answer e
 idle_parts_call : (a : places.Around) (x y : Tree) → IdleParts a x y → CallsStay a x y
 idle_parts_call a _ _ (idle_parts_leave n m x y becomes) = sequence_call a _ n m x.note x.kind x.below y becomes
 
+-- ---- what becomes a sequence of its sides
+
+sides_made : (a : places.Around) (o : BinaryOperator) (n m i : Note) (both : Bool) (parts : Forest) (y : Tree) → (let made : Tree = record { kind = sequence_expression; note = n; below = node expressions m parts nothing } in (if both then Some made else None) ≡ Some y)
+    → CallsStay a (record { kind = binary_expression o; note = i; below = parts }) y
+sides_made a o n m i true parts y e = subst (CallsStay a (record { kind = binary_expression o; note = i; below = parts })) (same_answer e) (record { fewer = Prim.omega arith; old = refl; in_with = false; bare = refl })
+sides_made a o n m i false parts y e = no_answer e
+
+two_sides_call : (a : places.Around) (n m i : Note) (k : Kind) (parts : Forest) (y : Tree) → two_sides n m k parts ≡ Some y → CallsStay a (record { kind = k; note = i; below = parts }) y
+two_sides_call a n m i (binary_expression o) (node k j b (node l h c nothing)) y e = sides_made a o n m i _ (node k j b (node l h c nothing)) y e
+two_sides_call a n m i k parts y e = no_answer e
+
+two_sides_calls : (a : places.Around) (x y : Tree) → TwoSides a x y → CallsStay a x y
+two_sides_calls a _ _ (both_sides_act n m x y unused becomes) = two_sides_call a n m x.note x.kind x.below y becomes
+
+-- ---- what becomes its values that act
+
+values_call : (es : Forest) → evals (acting_values es) ≤ evals es
+values_call nothing = Prim.omega arith
+values_call (absent rest) = values_call rest
+values_call (node (property how is_method key) n (absent (node k m b nothing)) rest) = if_acts (acts k m b) (values_call rest)
+  where
+    if_acts : (does : Bool) → evals (acting_values rest) ≤ evals rest → evals (if does then node k m b (acting_values rest) else acting_values rest) ≤ evals (node (property how is_method key) n (absent (node k m b nothing)) rest)
+    if_acts true h = Prim.omega (arith, h)
+    if_acts false h = Prim.omega (arith, h)
+values_call (node k n b rest) = Prim.omega (arith, values_call rest)
+
+where_so : (b : Bool) (o : Option Tree) (y : Tree) → (if b then o else None) ≡ Some y → o ≡ Some y
+where_so true o y e = e
+where_so false o y e = no_answer e
+
+module _ (a : places.Around) (i : Note) (used : use_at a ≡ as_value) where
+  object_call : (n m : Note) (k : Kind) (below : Forest) (y : Tree) → object_becomes n m k below ≡ Some y → CallsStay a (record { kind = k; note = i; below = below }) y
+  object_call n m object_expression (node properties j es nothing) y e =
+      let left = one_calls n m (acting_values es) y (where_so (are_plain es) (as_one n m (acting_values es)) y e) in
+      record { fewer = Prim.omega (arith, left.fewer, values_call es); old = refl; in_with = false; bare = stands_there a i used y.kind y.below left.bare }
+  object_call n m k below y e = no_answer e
+
+object_calls : (a : places.Around) (x y : Tree) → UnusedObject a x y → CallsStay a x y
+object_calls a _ _ (acting_values_stay n m x y unused becomes) = object_call a x.note (unused_as_value a unused) n m x.kind x.below y becomes
+
 -- ---- what the rules answer
 
 one_of : (o p : Option Tree) (y : Tree) → or_else o p ≡ Some y → (o ≡ Some y) ⊎ (p ≡ Some y)
@@ -236,7 +283,7 @@ one_of None p y e = inr e
 one_of (Some x) p y e = inl e
 
 abbrev answer_at : Spot → Tree → Option Tree
-answer_at s x = or_else (or_else (or_else (or_else (or_else (or_else (conditional_becomes s x.kind x.below) (logical_becomes s x.kind x.below)) (unused_becomes s x.kind x.below)) (unused_list_becomes s x.note x.kind x.below)) (indirect_becomes s x.note x.kind x.below)) (one_sided_becomes s x.note x.kind x.below)) (sequence_left s x.note x.kind x.below)
+answer_at s x = or_else (or_else (or_else (or_else (or_else (or_else (or_else (or_else (conditional_becomes s x.kind x.below) (logical_becomes s x.kind x.below)) (unused_becomes s x.kind x.below)) (unused_list_becomes s x.note x.kind x.below)) (indirect_becomes s x.note x.kind x.below)) (one_sided_becomes s x.note x.kind x.below)) (sequence_left s x.note x.kind x.below)) (two_sides_become s x.note x.kind x.below)) (object_left s x.note x.kind x.below)
 
 calls_stay : (c : Seen) (a : Around) (x y : Tree) (r : Forest) → IsHere c a → at_expression_end c x ≡ Some y → CallsStay (before a r) x y
 calls_stay c a x y r here found =
@@ -246,25 +293,33 @@ calls_stay c a x y r here found =
     let itself = or_else none_taken (unused_list_becomes s x.note x.kind x.below) in
     let its_value = or_else itself (indirect_becomes s x.note x.kind x.below) in
     let but_sequences = or_else its_value (one_sided_becomes s x.note x.kind x.below) in
-    let there : or_else but_sequences (sequence_left s x.note x.kind x.below) ≡ Some y = subst (λ q. answer_at (spot_of q) x ≡ Some y) (sym here) found in
-    elim (one_of but_sequences (sequence_left s x.note x.kind x.below) y there) [
-      | inl h ↦ elim (one_of its_value (one_sided_becomes s x.note x.kind x.below) y h) [
-        | inl g ↦ elim (one_of itself (indirect_becomes s x.note x.kind x.below) y g) [
-          | inl f ↦ elim (one_of none_taken (unused_list_becomes s x.note x.kind x.below) y f) [
-            | inl e ↦ elim (one_of known (unused_becomes s x.kind x.below) y e) [
-              | inl d ↦ elim (one_of (conditional_becomes s x.kind x.below) (logical_becomes s x.kind x.below) y d) [
-                | inl conditional ↦ conditional_calls (before a r) x y (conditional_edits_there a x y r conditional)
-                | inr logical ↦ side_calls (before a r) x y (logical_edits_there a x y r logical)
+    let to_sequences = or_else but_sequences (sequence_left s x.note x.kind x.below) in
+    let but_objects = or_else to_sequences (two_sides_become s x.note x.kind x.below) in
+    let there : or_else but_objects (object_left s x.note x.kind x.below) ≡ Some y = subst (λ q. answer_at (spot_of q) x ≡ Some y) (sym here) found in
+    elim (one_of but_objects (object_left s x.note x.kind x.below) y there) [
+      | inl w ↦ elim (one_of to_sequences (two_sides_become s x.note x.kind x.below) y w) [
+        | inl v ↦ elim (one_of but_sequences (sequence_left s x.note x.kind x.below) y v) [
+          | inl h ↦ elim (one_of its_value (one_sided_becomes s x.note x.kind x.below) y h) [
+            | inl g ↦ elim (one_of itself (indirect_becomes s x.note x.kind x.below) y g) [
+              | inl f ↦ elim (one_of none_taken (unused_list_becomes s x.note x.kind x.below) y f) [
+                | inl e ↦ elim (one_of known (unused_becomes s x.kind x.below) y e) [
+                  | inl d ↦ elim (one_of (conditional_becomes s x.kind x.below) (logical_becomes s x.kind x.below) y d) [
+                    | inl conditional ↦ conditional_calls (before a r) x y (conditional_edits_there a x y r conditional)
+                    | inr logical ↦ side_calls (before a r) x y (logical_edits_there a x y r logical)
+                  ]
+                  | inr operation ↦ operations_call (unused_edits_there a x y r operation)
+                ]
+                | inr parts ↦ list_calls (before a r) x y (list_edits_there a x y r parts)
               ]
-              | inr operation ↦ operations_call (unused_edits_there a x y r operation)
+              | inr indirect ↦ indirect_calls (before a r) x y (indirect_edits_there a x y r indirect)
             ]
-            | inr parts ↦ list_calls (before a r) x y (list_edits_there a x y r parts)
+            | inr one_sided ↦ one_sided_calls (before a r) x y (one_sided_edits_there a x y r one_sided)
           ]
-          | inr indirect ↦ indirect_calls (before a r) x y (indirect_edits_there a x y r indirect)
+          | inr sequence ↦ idle_parts_call (before a r) x y (sequence_edits_there a x y r sequence)
         ]
-        | inr one_sided ↦ one_sided_calls (before a r) x y (one_sided_edits_there a x y r one_sided)
+        | inr sides ↦ two_sides_calls (before a r) x y (two_sides_edits_there a x y r sides)
       ]
-      | inr sequence ↦ idle_parts_call (before a r) x y (sequence_edits_there a x y r sequence)
+      | inr values ↦ object_calls (before a r) x y (object_edits_there a x y r values)
     ]
 
 module _ (stays : Stays AnyEdit) (names : Names) where

@@ -6,7 +6,7 @@ use Rattle.js_syntax.specs.Node.{Forest, Tree, Note, nothing, node}
 use Rattle.min_context.specs.Place.{place_at}
 use Rattle.scope_laws.specs.Place as places
 use Rattle.scope_counts.specs.Edits.{Around, plug}
-use Rattle.steps_allowed.specs.Edits.{Becomes, Edit, becomes, known_conditional, known_side, unused_operation, unused_list, indirect_choice, one_sided_choice, idle_parts}
+use Rattle.steps_allowed.specs.Edits.{Becomes, Edit, becomes, known_conditional, known_side, unused_operation, unused_list, indirect_choice, one_sided_choice, idle_parts, two_sides, unused_object}
 use Rattle.steps_allowed.specs.KnownConditional.{KnownConditional, a_conditional, consequent_is_taken, alternate_is_taken}
 use Rattle.steps_allowed.specs.KnownSide.{KnownSide, a_logical, right_side_counts, left_side_decides}
 use Rattle.steps_allowed.specs.UnusedOperation.{UnusedOperation}
@@ -14,6 +14,8 @@ use Rattle.steps_allowed.specs.UnusedList.{UnusedList}
 use Rattle.steps_allowed.specs.IndirectChoice.{IndirectChoice}
 use Rattle.steps_allowed.specs.OneSidedChoice.{OneSidedChoice}
 use Rattle.steps_allowed.specs.IdleParts.{IdleParts}
+use Rattle.steps_allowed.specs.TwoSides.{TwoSides}
+use Rattle.steps_allowed.specs.UnusedObject.{UnusedObject}
 use Rattle.rules_dead_code.specs.Before.{before}
 use Rattle.rules_expressions.specs.Uses.{spot_of}
 use Rattle.rules_expressions.specs.Known.{conditional_becomes, logical_becomes}
@@ -83,3 +85,9 @@ one_sided_edit a x y rest o = edit_there a x y rest (one_sided_choice o)
 
 pub sequence_edit : (a : Around) (x y : Tree) (rest : Forest) → IdleParts (before a rest) x y → Edit (plug a (node x.kind x.note x.below rest)) (plug a (node y.kind y.note y.below rest))
 sequence_edit a x y rest o = edit_there a x y rest (idle_parts o)
+
+pub two_sides_edit : (a : Around) (x y : Tree) (rest : Forest) → TwoSides (before a rest) x y → Edit (plug a (node x.kind x.note x.below rest)) (plug a (node y.kind y.note y.below rest))
+two_sides_edit a x y rest o = edit_there a x y rest (two_sides o)
+
+pub object_edit : (a : Around) (x y : Tree) (rest : Forest) → UnusedObject (before a rest) x y → Edit (plug a (node x.kind x.note x.below rest)) (plug a (node y.kind y.note y.below rest))
+object_edit a x y rest o = edit_there a x y rest (unused_object o)

@@ -16,13 +16,17 @@ use Rattle.rules_expressions.specs.Lists.{unused_list_becomes, fold_unused_list}
 use Rattle.rules_expressions.specs.Indirect.{indirect_becomes, fold_indirect}
 use Rattle.rules_expressions.specs.OneSided.{one_sided_becomes, fold_one_sided}
 use Rattle.rules_expressions.specs.Sequences.{sequence_left, fold_sequence}
+use Rattle.rules_expressions.specs.TwoSides.{two_sides_become, fold_two_sides}
+use Rattle.rules_expressions.specs.Objects.{object_left, fold_object}
 use Rattle.rules_expressions.proofs.Becoming.{branch, branch_is_less, side, side_is_less}
 use Rattle.rules_expressions.proofs.Unused.{left_part, left_is_less, unused_edits_there}
 use Rattle.rules_expressions.proofs.Lists.{list_is_less, list_edits_there}
 use Rattle.rules_expressions.proofs.Indirect.{indirect_is_less, indirect_edits_there}
 use Rattle.rules_expressions.proofs.OneSided.{one_sided_is_less, one_sided_edits_there}
 use Rattle.rules_expressions.proofs.Sequences.{sequence_is_less, sequence_edits_there}
-use Rattle.rules_expressions.proofs.Editing.{conditional_edit, logical_edit, unused_edit, list_edit, indirect_edit, one_sided_edit, sequence_edit}
+use Rattle.rules_expressions.proofs.TwoSides.{two_sides_is_less, two_sides_edits_there}
+use Rattle.rules_expressions.proofs.Objects.{object_is_less, object_edits_there}
+use Rattle.rules_expressions.proofs.Editing.{conditional_edit, logical_edit, unused_edit, list_edit, indirect_edit, one_sided_edit, sequence_edit, two_sides_edit, object_edit}
 
 module _ (E : CompressOptions → Forest → Forest → Type 0) (makes : (o : CompressOptions) (t u : Forest) → Edit t u → E o t u) where
   pub conditionals_fold : Lawful E fold_conditional
@@ -79,5 +83,19 @@ module _ (E : CompressOptions → Forest → Forest → Type 0) (makes : (o : Co
     lighter = λ c x y e. (sequence_is_less (spot_of c.place) x.note x.kind x.below y e).lighter;
   }
 
+  pub two_sides_fold : Lawful E fold_two_sides
+  two_sides_fold = record {
+    edits = λ c a x y r h at e. one_edit (makes c.options (plug a (before x r)) (plug a (before y r)) (two_sides_edit a x y r (two_sides_edits_there a x y r (ap (λ p. two_sides_become (spot_of p) x.note x.kind x.below) at ∙ e)))) no_edit;
+    thins = λ c x y e. (two_sides_is_less (spot_of c.place) x.note x.kind x.below y e).thins;
+    lighter = λ c x y e. (two_sides_is_less (spot_of c.place) x.note x.kind x.below y e).lighter;
+  }
+
+  pub objects_fold : Lawful E fold_object
+  objects_fold = record {
+    edits = λ c a x y r h at e. one_edit (makes c.options (plug a (before x r)) (plug a (before y r)) (object_edit a x y r (object_edits_there a x y r (ap (λ p. object_left (spot_of p) x.note x.kind x.below) at ∙ e)))) no_edit;
+    thins = λ c x y e. (object_is_less (spot_of c.place) x.note x.kind x.below y e).thins;
+    lighter = λ c x y e. (object_is_less (spot_of c.place) x.note x.kind x.below y e).lighter;
+  }
+
   pub expressions_fold : Lawful E at_expression_end
-  expressions_fold = either_lawful (either_lawful (either_lawful (either_lawful (either_lawful (either_lawful conditionals_fold logicals_fold) unused_fold) lists_fold) indirect_fold) one_sided_fold) sequences_fold
+  expressions_fold = either_lawful (either_lawful (either_lawful (either_lawful (either_lawful (either_lawful (either_lawful (either_lawful conditionals_fold logicals_fold) unused_fold) lists_fold) indirect_fold) one_sided_fold) sequences_fold) two_sides_fold) objects_fold

@@ -5,6 +5,8 @@ pub mod Lists
 pub mod Indirect
 pub mod OneSided
 pub mod Sequences
+pub mod TwoSides
+pub mod Objects
 pub mod Editing
 pub mod Folding
 pub mod Settled

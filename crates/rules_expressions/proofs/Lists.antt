@@ -40,7 +40,7 @@ made n m parts = record { kind = sequence_expression; note = n; below = node exp
 pub several_as : (n m i j : Note) (parts : Forest) (y : Tree) → Some (made n m parts) ≡ Some y → HasAnswer (Some (made i j parts)) y
 several_as n m i j parts y e = subst (λ z. HasAnswer (Some (made i j parts)) z) (same_answer e) (answer (made i j parts) (made n m parts) refl)
 
-one_as : (n m i j : Note) (parts : Forest) (y : Tree) → as_one n m parts ≡ Some y → HasAnswer (as_one i j parts) y
+pub one_as : (n m i j : Note) (parts : Forest) (y : Tree) → as_one n m parts ≡ Some y → HasAnswer (as_one i j parts) y
 one_as n m i j nothing y e = no_answer e
 one_as n m i j (absent rest) y e = several_as n m i j (absent rest) y e
 one_as n m i j (node k l a nothing) y e = record { left = y; answers = e; same = refl }
@@ -50,6 +50,10 @@ one_as n m i j (node k l a (absent rest)) y e = several_as n m i j (node k l a (
 pub unless_as : (b : Bool) (o p : Option Tree) (y : Tree) → (o ≡ Some y → HasAnswer p y) → (if b then None else o) ≡ Some y → HasAnswer (if b then None else p) y
 unless_as true o p y h e = no_answer e
 unless_as false o p y h e = h e
+
+pub when_as : (b : Bool) (o p : Option Tree) (y : Tree) → (o ≡ Some y → HasAnswer p y) → (if b then o else None) ≡ Some y → HasAnswer (if b then p else None) y
+when_as true o p y h e = h e
+when_as false o p y h e = no_answer e
 
 list_as : (n m i j : Note) (k : Kind) (below : Forest) (y : Tree) → list_becomes n m k below ≡ Some y → HasAnswer (list_becomes i j k below) y
 list_as n m i j array_expression (node elements l parts nothing) y e =
@@ -173,7 +177,7 @@ pub record IsLittle (y : Tree) (parts : Forest) : Type 0 where
 pub several_little : (n m : Note) (parts : Forest) (y : Tree) → Some (made n m parts) ≡ Some y → IsLittle y parts
 several_little n m parts y e = subst (λ z. IsLittle z parts) (same_answer e) (record { fewer = λ r. Prim.omega arith; lighter = Prim.omega arith })
 
-one_little : (n m : Note) (parts : Forest) (y : Tree) → as_one n m parts ≡ Some y → IsLittle y parts
+pub one_little : (n m : Note) (parts : Forest) (y : Tree) → as_one n m parts ≡ Some y → IsLittle y parts
 one_little n m nothing y e = no_answer e
 one_little n m (absent rest) y e = several_little n m (absent rest) y e
 one_little n m (node k l a nothing) y e =

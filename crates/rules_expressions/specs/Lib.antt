@@ -4,6 +4,8 @@ pub mod Lists
 pub mod Indirect
 pub mod OneSided
 pub mod Sequences
+pub mod TwoSides
+pub mod Objects
 pub mod Known
 pub mod Settled
 pub mod Samples

@@ -1,12 +1,13 @@
 -- The rules, tried on small programs.
-use Rattle.std.specs.Prelude.{pos, List, [], ◌∷◌, true, false, Option, codes}
+use Rattle.std.specs.Prelude.{ℕ, pos, List, [], ◌∷◌, true, false, Option, codes}
 use Rattle.js_syntax.specs.declared.node_kind.NodeKind.{NodeKind as Kind}
 use Rattle.js_syntax.specs.declared.operator.BinaryOperator.{BinaryOperator}
 use Rattle.js_syntax.specs.declared.operator.LogicalOperator.{LogicalOperator}
 use Rattle.js_syntax.specs.declared.operator.UnaryOperator.{UnaryOperator}
-use Rattle.js_syntax.specs.declared.value.Key.TheVariants.{Name as key_name}
+use Rattle.js_syntax.specs.declared.value.Key.TheVariants.{Name as key_name, Below as key_below}
 use Rattle.js_syntax.specs.declared.value.LiteralValue.TheVariants as value
 use Rattle.js_syntax.specs.declared.kind.FunctionKind.TheVariants as function_kind
+use Rattle.js_syntax.specs.declared.kind.PropertyKind.TheVariants as property_kind
 use Rattle.js_syntax.specs.Node.{Forest, Tree, nothing, node, absent, joined}
 use Rattle.form_rules.specs.Samples.{over, leaf, listed, no, a_module, a, reads, does, function_of}
 use Rattle.min_context.specs.Above.{above_of}
@@ -20,13 +21,16 @@ use Rattle.rules_expressions.specs.Lists.{unused_list_becomes}
 use Rattle.rules_expressions.specs.Indirect.{indirect_becomes}
 use Rattle.rules_expressions.specs.OneSided.{one_sided_becomes}
 use Rattle.rules_expressions.specs.Sequences.{sequence_left}
+use Rattle.rules_expressions.specs.TwoSides.{two_sides_become}
+use Rattle.rules_expressions.specs.Objects.{object_left}
 
 -- ---- what a walk leaves that asks all rules behind each node
 
 abbrev pub becomes_at : Place → Tree → Option Tree
 becomes_at p x =
-    or_else (or_else (or_else (or_else (or_else (or_else (conditional_becomes (spot_of p) x.kind x.below) (logical_becomes (spot_of p) x.kind x.below)) (unused_becomes (spot_of p) x.kind x.below))
-    (unused_list_becomes (spot_of p) x.note x.kind x.below)) (indirect_becomes (spot_of p) x.note x.kind x.below)) (one_sided_becomes (spot_of p) x.note x.kind x.below)) (sequence_left (spot_of p) x.note x.kind x.below)
+    or_else (or_else (or_else (or_else (or_else (or_else (or_else (or_else (conditional_becomes (spot_of p) x.kind x.below) (logical_becomes (spot_of p) x.kind x.below)) (unused_becomes (spot_of p) x.kind x.below))
+    (unused_list_becomes (spot_of p) x.note x.kind x.below)) (indirect_becomes (spot_of p) x.note x.kind x.below)) (one_sided_becomes (spot_of p) x.note x.kind x.below)) (sequence_left (spot_of p) x.note x.kind x.below))
+    (two_sides_become (spot_of p) x.note x.kind x.below)) (object_left (spot_of p) x.note x.kind x.below)
 
 abbrev pub folded_at : Place → Tree → Tree
 folded_at p x = or_same x (becomes_at p x)
@@ -76,6 +80,17 @@ spread e = over Kind.SpreadElement e
 
 abbrev pub sequence : List Forest → Forest
 sequence parts = over Kind.SequenceExpression (listed Kind.Expressions parts)
+
+abbrev pub object : List Forest → Forest
+object entries = over Kind.ObjectExpression (listed Kind.Properties entries)
+
+-- x: e
+abbrev pub keyed : List ℕ → Forest → Forest
+keyed x e = over (Kind.Property property_kind.Init false (key_name x)) (joined no e)
+
+-- [e]: v
+abbrev pub computed : (e v : Forest) → Forest
+computed e v = over (Kind.Property property_kind.Init false key_below) (joined e v)
 
 -- (0, e)
 abbrev pub indirect : Forest → Forest

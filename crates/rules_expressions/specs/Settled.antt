@@ -10,6 +10,8 @@ use Rattle.rules_expressions.specs.Lists.{unused_list_becomes}
 use Rattle.rules_expressions.specs.Indirect.{indirect_becomes}
 use Rattle.rules_expressions.specs.OneSided.{one_sided_becomes}
 use Rattle.rules_expressions.specs.Sequences.{sequence_left}
+use Rattle.rules_expressions.specs.TwoSides.{two_sides_become}
+use Rattle.rules_expressions.specs.Objects.{object_left}
 
 -- at one place
 pub record IsSettledAt (p : Place) (x : Tree) : Type 0 where
@@ -20,6 +22,8 @@ pub record IsSettledAt (p : Place) (x : Tree) : Type 0 where
   pub indirect : indirect_becomes (spot_of p) x.note x.kind x.below ≡ None
   pub one_sided : one_sided_becomes (spot_of p) x.note x.kind x.below ≡ None
   pub sequence : sequence_left (spot_of p) x.note x.kind x.below ≡ None
+  pub two_sides : two_sides_become (spot_of p) x.note x.kind x.below ≡ None
+  pub object : object_left (spot_of p) x.note x.kind x.below ≡ None
 
 pub record IsSettled (t : Forest) : Type 0 where
   pub each : (a : Around) (x : Tree) (rest : Forest) → t ≡ plug a (node x.kind x.note x.below rest) → IsSettledAt (place_at a) x

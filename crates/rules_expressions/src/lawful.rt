@@ -9,6 +9,8 @@ ghost use Rattle.rules_expressions.specs.Lists.{fold_unused_list};
 ghost use Rattle.rules_expressions.specs.Indirect.{fold_indirect};
 ghost use Rattle.rules_expressions.specs.OneSided.{fold_one_sided};
 ghost use Rattle.rules_expressions.specs.Sequences.{fold_sequence};
+ghost use Rattle.rules_expressions.specs.TwoSides.{fold_two_sides};
+ghost use Rattle.rules_expressions.specs.Objects.{fold_object};
 
 use min_traverse::Traverse;
 
@@ -21,5 +23,7 @@ pub fn rules_are_lawful<T: Traverse>()
     ensures indirect { ((o : CompressOptions) (t u : Forest) → Edit t u → T.edit o t u) → Lawful T.edit fold_indirect }
     ensures one_sided { ((o : CompressOptions) (t u : Forest) → Edit t u → T.edit o t u) → Lawful T.edit fold_one_sided }
     ensures sequence { ((o : CompressOptions) (t u : Forest) → Edit t u → T.edit o t u) → Lawful T.edit fold_sequence }
+    ensures two_sides { ((o : CompressOptions) (t u : Forest) → Edit t u → T.edit o t u) → Lawful T.edit fold_two_sides }
+    ensures object { ((o : CompressOptions) (t u : Forest) → Edit t u → T.edit o t u) → Lawful T.edit fold_object }
     ensures all { ((o : CompressOptions) (t u : Forest) → Edit t u → T.edit o t u) → Lawful T.edit at_expression_end }
 {}

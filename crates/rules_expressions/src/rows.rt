@@ -6,7 +6,7 @@ ghost use Rattle.js_syntax.specs.declared.operator.UnaryOperator.TheVariants as 
 ghost use Rattle.form_rules.specs.Samples.{a, reads, one, does, calls};
 ghost use Rattle.scope_rules.specs.Samples.{b};
 ghost use Rattle.steps_allowed.specs.Rows.{null, conditional, with_a};
-ghost use Rattle.rules_expressions.specs.Samples.{left, left_of, doing, uses, member, logical, binary, unary, parenthesized, array, spread, sequence, indirect, empty_text, a_function};
+ghost use Rattle.rules_expressions.specs.Samples.{left, left_of, doing, uses, member, logical, binary, unary, parenthesized, array, spread, sequence, indirect, empty_text, a_function, object, keyed, computed};
 
 /// A conditional on a literal becomes the branch that is taken, at any depth.
 pub fn branches_left()
@@ -70,11 +70,11 @@ pub fn operations_left()
     ensures in_branch { left_of (logical logical_operator.And (reads a) (unary unary_operator.LogicalNot (calls (reads b)))) ≡ doing (logical logical_operator.And (reads a) (calls (reads b))) }
 {}
 
-/// It stays where its value is used, where both sides may act (no name is known), and where a name is the operand of `typeof`, which
-/// takes one that nothing declares (13.5.3).
+/// It stays where its value is used, where it may act itself, and where a name is the operand of `typeof`, which takes one that nothing
+/// declares (13.5.3).
 pub fn operations_that_stay()
     ensures used { left_of (uses (unary unary_operator.LogicalNot (calls (reads a)))) ≡ doing (uses (unary unary_operator.LogicalNot (calls (reads a)))) }
-    ensures both { left_of (binary binary_operator.StrictEquality (reads a) (reads b)) ≡ doing (binary binary_operator.StrictEquality (reads a) (reads b)) }
+    ensures sum { left_of (binary binary_operator.Addition (calls (reads a)) one) ≡ doing (binary binary_operator.Addition (calls (reads a)) one) }
     ensures name { left_of (unary unary_operator.Typeof (reads a)) ≡ doing (unary unary_operator.Typeof (reads a)) }
 {}
 
@@ -112,4 +112,29 @@ pub fn sequences_left()
     ensures member { left_of (calls (sequence (one ∷ member ∷ []))) ≡ doing (calls (sequence (one ∷ member ∷ []))) }
     ensures name { left_of (calls (sequence (one ∷ reads b ∷ []))) ≡ doing (calls (reads b)) }
     ensures function { left_of (uses (sequence (one ∷ a_function ∷ []))) ≡ doing (uses (sequence (one ∷ a_function ∷ []))) }
+{}
+
+/// Where nobody takes the value of a comparison, and both sides act, it becomes a sequence of these. No name is known.
+pub fn both_sides_left()
+    ensures calls { left_of (binary binary_operator.StrictEquality (calls (reads a)) (calls (reads b))) ≡ doing (sequence (calls (reads a) ∷ calls (reads b) ∷ [])) }
+    ensures names { left_of (binary binary_operator.LessThan (reads a) (reads b)) ≡ doing (sequence (reads a ∷ reads b ∷ [])) }
+    ensures in_branch { left_of (logical logical_operator.And (reads a) (binary binary_operator.Inequality (calls (reads a)) (calls (reads b)))) ≡ doing (logical logical_operator.And (reads a) (sequence (calls (reads a) ∷ calls (reads b) ∷ []))) }
+    ensures sum { left_of (binary binary_operator.Addition (calls (reads a)) (calls (reads b))) ≡ doing (binary binary_operator.Addition (calls (reads a)) (calls (reads b))) }
+    ensures used { left_of (uses (binary binary_operator.StrictEquality (calls (reads a)) (calls (reads b)))) ≡ doing (uses (binary binary_operator.StrictEquality (calls (reads a)) (calls (reads b)))) }
+{}
+
+/// Where nobody takes the value of an object literal the values are left that act, and one of them alone. A function doesn't act.
+pub fn values_left()
+    ensures several { left_of (object (keyed a (calls (reads a)) ∷ keyed b (calls (reads b)) ∷ [])) ≡ doing (sequence (calls (reads a) ∷ calls (reads b) ∷ [])) }
+    ensures one_value { left_of (object (keyed a (calls (reads a)) ∷ keyed b one ∷ [])) ≡ doing (calls (reads a)) }
+    ensures function { left_of (object (keyed a a_function ∷ keyed b (calls (reads b)) ∷ [])) ≡ doing (calls (reads b)) }
+    ensures in_branch { left_of (logical logical_operator.And (reads a) (object (keyed a (calls (reads b)) ∷ []))) ≡ doing (logical logical_operator.And (reads a) (calls (reads b))) }
+{}
+
+/// It stays where its value is used, and where a key is computed, a property is spread, or one sets the prototype (13.2.5.5, B.3.1).
+pub fn objects_that_stay()
+    ensures used { left_of (uses (object (keyed a (calls (reads a)) ∷ []))) ≡ doing (uses (object (keyed a (calls (reads a)) ∷ []))) }
+    ensures computed { left_of (object (computed (reads a) (calls (reads a)) ∷ [])) ≡ doing (object (computed (reads a) (calls (reads a)) ∷ [])) }
+    ensures spread { left_of (object (spread (reads a) ∷ keyed a (calls (reads a)) ∷ [])) ≡ doing (object (spread (reads a) ∷ keyed a (calls (reads a)) ∷ [])) }
+    ensures prototype { left_of (object (keyed (codes "__proto__") (calls (reads a)) ∷ [])) ≡ doing (object (keyed (codes "__proto__") (calls (reads a)) ∷ [])) }
 {}

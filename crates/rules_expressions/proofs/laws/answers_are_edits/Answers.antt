@@ -4,6 +4,8 @@ use Rattle.rules_expressions.proofs.Lists.{list_edits_there}
 use Rattle.rules_expressions.proofs.Indirect.{indirect_edits_there}
 use Rattle.rules_expressions.proofs.OneSided.{one_sided_edits_there}
 use Rattle.rules_expressions.proofs.Sequences.{sequence_edits_there}
+use Rattle.rules_expressions.proofs.TwoSides.{two_sides_edits_there}
+use Rattle.rules_expressions.proofs.Objects.{object_edits_there}
 use Rattle.rules_expressions.proofs.laws.answers_are_edits.Goals as goal
 
 pub returns-clause-conditional : goal.returns-clause-conditional
@@ -29,3 +31,9 @@ returns-clause-one_sided c = one_sided_edits_there
 
 pub returns-clause-sequence : goal.returns-clause-sequence
 returns-clause-sequence c = sequence_edits_there
+
+pub returns-clause-two_sides : goal.returns-clause-two_sides
+returns-clause-two_sides c = two_sides_edits_there
+
+pub returns-clause-object : goal.returns-clause-object
+returns-clause-object c = object_edits_there

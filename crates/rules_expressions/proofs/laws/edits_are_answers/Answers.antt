@@ -4,6 +4,8 @@ use Rattle.rules_expressions.proofs.Lists.{list_answers_there}
 use Rattle.rules_expressions.proofs.Indirect.{indirect_answers_there}
 use Rattle.rules_expressions.proofs.OneSided.{one_sided_answers_there}
 use Rattle.rules_expressions.proofs.Sequences.{sequence_answers_there}
+use Rattle.rules_expressions.proofs.TwoSides.{two_sides_answers_there}
+use Rattle.rules_expressions.proofs.Objects.{object_answers_there}
 use Rattle.rules_expressions.proofs.laws.edits_are_answers.Goals as goal
 
 pub returns-clause-conditional : goal.returns-clause-conditional
@@ -26,3 +28,9 @@ returns-clause-one_sided c = one_sided_answers_there
 
 pub returns-clause-sequence : goal.returns-clause-sequence
 returns-clause-sequence c = sequence_answers_there
+
+pub returns-clause-two_sides : goal.returns-clause-two_sides
+returns-clause-two_sides c = two_sides_answers_there
+
+pub returns-clause-object : goal.returns-clause-object
+returns-clause-object c = object_answers_there

@@ -1,0 +1,23 @@
+use Rattle.std.proofs.Common.{◌∙◌, sym}
+use Rattle.min_traverse.proofs.Joining.{does_none, does_some}
+use Rattle.rules_expressions.specs.Lists.{new_note, list_note}
+use Rattle.rules_expressions.specs.Objects.{fold_object}
+use Rattle.rules_expressions.specs.Uses.{spot_of}
+use Rattle.min_expressions.proofs.Objects.{values_there, object_left_so, object_stays}
+use Rattle.min_expressions.proofs.fold.PeepholeOptimizations.remove_unused_object.Goals as goal
+
+pub keep_object-requires : goal.keep_object-requires
+keep_object-requires c = record { goes = values_there (spot_of c.args.ctx.now.place) (new_note c.args.node.now.note) (new_note (list_note c.args.node.now.below)) c.args.node.now.kind c.args.node.now.below (sym c.object_goes.ensures ∙ c.if-object_goes.true) }
+
+pub returns-then-object_goes : goal.returns-then-object_goes
+returns-then-object_goes c = record {
+  does = does_some fold_object c.args.ctx.now c.args.node.now c.keep_object.new.node
+      (object_left_so (spot_of c.args.ctx.now.place) (new_note c.args.node.now.note) (new_note (list_note c.args.node.now.below)) c.args.node.now.kind c.args.node.now.below c.keep_object.new.node (sym c.object_goes.ensures ∙ c.if-object_goes.true) c.keep_object.ensures.kept)
+      c.keep_object.ensures.edited;
+}
+
+pub returns-else-object_goes : goal.returns-else-object_goes
+returns-else-object_goes c = record {
+  does = does_none fold_object c.args.ctx.now c.args.node.now
+      (object_stays (spot_of c.args.ctx.now.place) (new_note c.args.node.now.note) (new_note (list_note c.args.node.now.below)) c.args.node.now.kind c.args.node.now.below (sym c.object_goes.ensures ∙ c.if-object_goes.false));
+}

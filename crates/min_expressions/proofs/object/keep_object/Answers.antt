@@ -1,0 +1,36 @@
+use Rattle.std.proofs.Common.{◌∙◌, length, drop, None, sym, ap, arith}
+use Rattle.js_syntax.specs.Node.{row}
+use Rattle.steps_allowed.specs.UnusedList.{acting, as_one}
+use Rattle.rules_expressions.specs.Lists.{new_note}
+use Rattle.min_expressions.proofs.Lists.{its_row, left_row, its_list}
+use Rattle.min_expressions.proofs.Objects.{is_object, values_one, object_kept, object_edits}
+use Rattle.min_expressions.proofs.object.keep_object.Goals as goal
+
+pub take_at-requires : goal.take_at-requires
+take_at-requires c =
+    let w = is_object c.args.node.now.kind c.args.node.now.below c.requires.goes in
+    omega (arith, its_row w.has _ _ c.replace_children-children.ensures.taken c.as_mut_slice.ensures.value)
+
+pub left_of-left-requires-clause-field : goal.left_of-left-requires-clause-field
+left_of-left-requires-clause-field c =
+    let w = is_object c.args.node.now.kind c.args.node.now.below c.requires.goes in
+    left_row w.has c.replace_children-children.result.len c.replace_children-children.result.items c.as_mut_slice.result.now c.take_at.new.children (drop (length c.take_at.new.children) c.replace_children-children.result.items)
+    c.replace_children-children.ensures.taken c.as_mut_slice.ensures.value (omega (arith, c.as_mut_slice.ensures.len, ap length c.as_mut_slice.ensures.value)) c.take_at.auto.children
+
+pub left_of-left-requires-clause-one : goal.left_of-left-requires-clause-one
+left_of-left-requires-clause-one c =
+    let w = is_object c.args.node.now.kind c.args.node.now.below c.requires.goes in
+    values_one c.with_values-values.result w (its_list w.has c.replace_children-children.ensures.taken c.as_mut_slice.ensures.value c.take_at.ensures.taken c.in-Some.is) c.with_values-values.ensures.below
+
+pub returns-in-Some-clause-kept : goal.returns-in-Some-clause-kept
+returns-in-Some-clause-kept c =
+    let w = is_object c.args.node.now.kind c.args.node.now.below c.requires.goes in
+    object_kept c.args.node.now c.with_values-values.result w (its_list w.has c.replace_children-children.ensures.taken c.as_mut_slice.ensures.value c.take_at.ensures.taken c.in-Some.is)
+    c.with_values-values.ensures.note c.with_values-values.ensures.below
+    (ap (λ p. as_one (record { span = p; id = None }) (new_note c.with_values-values.result.note) (acting c.with_values-values.result.below)) (sym c.span-span.ensures) ∙ c.left_of-left.ensures.kept) c.replace_expression.ensures.put
+
+pub returns-in-Some-clause-edited : goal.returns-in-Some-clause-edited
+returns-in-Some-clause-edited c =
+    let w = is_object c.args.node.now.kind c.args.node.now.below c.requires.goes in
+    object_edits c.args.node.now c.with_values-values.result _ _ w (its_list w.has c.replace_children-children.ensures.taken c.as_mut_slice.ensures.value c.take_at.ensures.taken c.in-Some.is) c.with_values-values.ensures.below c.left_of-left.ensures.kept c.replace_expression.ensures.put
+    c.replace_children-children.ensures.kind c.replace_children-children.ensures.note (c.replace_children-children.ensures.below ∙ ap row c.new.ensures.items) c.left_of-left.ensures.left c.replace_expression.ensures.dropped
