@@ -7,4 +7,5 @@ pub mod Headline
 mod RenotedUnused
 mod RenotedChoice
 mod RenotedParts
+mod RenotedSides
 pub mod Renoted

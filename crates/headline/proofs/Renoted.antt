@@ -37,12 +37,15 @@ use Rattle.steps_allowed.specs.UnusedList.{UnusedList, acting_parts_stay}
 use Rattle.steps_allowed.specs.IndirectChoice.{IndirectChoice, value_alone_counts}
 use Rattle.steps_allowed.specs.OneSidedChoice.{OneSidedChoice, one_branch_acts}
 use Rattle.steps_allowed.specs.IdleParts.{sequence_becomes, IdleParts, idle_parts_leave}
+use Rattle.steps_allowed.specs.TwoSides.{TwoSides, both_sides_act}
+use Rattle.steps_allowed.specs.UnusedObject.{UnusedObject, acting_values_stay}
 use Rattle.steps_owed.proofs.ExposedBare.{bare_inside, bare_below, bare_exposed}
 use Rattle.steps_owed.proofs.Focus.{follows_there}
-use Rattle.headline.specs.Clean.{IsDead, an_empty_statement, a_silent_statement, an_unused_function, an_unused_declarator, a_known_conditional, a_known_side, an_unused_operation, an_unused_list, an_indirect_choice, a_one_sided_choice, idle_parts, Clean}
+use Rattle.headline.specs.Clean.{IsDead, an_empty_statement, a_silent_statement, an_unused_function, an_unused_declarator, a_known_conditional, a_known_side, an_unused_operation, an_unused_list, an_indirect_choice, a_one_sided_choice, idle_parts, two_sides, an_unused_object, Clean}
 use Rattle.headline.proofs.RenotedUnused.{stands_as, needed_as, child_as, list_as}
 use Rattle.headline.proofs.RenotedChoice.{counts_as}
 use Rattle.headline.proofs.RenotedParts.{side_as, sequence_as}
+use Rattle.headline.proofs.RenotedSides.{two_sides_as, object_as}
 
 -- ---- sites without ids and spans
 
@@ -593,6 +596,20 @@ module _ (t u : Forest) (e : bare t ≡ bare u) (clean : Clean t) where
       let becomes_now = ap₂ (λ v (w : Asked). sequence_becomes v w.in_with n m x.kind o.below) (o.used (λ j. Use.as_value) 0) (o.asked (asked_of_program true)) ∙ z.1 in
       clean.nothing_is_dead o.around (Some now) o.is (idle_parts o.around now z.0 (idle_parts_leave n m now z.0 becomes_now))
 
+  no_two_sides : (a : Around) (x y : Tree) → u ≡ plug a (Some x) → TwoSides a x y → ⊥
+  no_two_sides a _ _ is (both_sides_act n m x y unused act) =
+      let o = other_place a x.kind x.note x.below is in
+      let now : Tree = record { kind = x.kind; note = o.note; below = o.below } in
+      let z = two_sides_as n m x.kind o.below x.below y o.same act in
+      clean.nothing_is_dead o.around (Some now) o.is (two_sides o.around now z.0 (both_sides_act n m now z.0 (o.unused (λ j. false) 0 ∙ unused) z.1))
+
+  no_object : (a : Around) (x y : Tree) → u ≡ plug a (Some x) → UnusedObject a x y → ⊥
+  no_object a _ _ is (acting_values_stay n m x y unused becomes) =
+      let o = other_place a x.kind x.note x.below is in
+      let now : Tree = record { kind = x.kind; note = o.note; below = o.below } in
+      let z = object_as n m x.kind o.below x.below y o.same becomes in
+      clean.nothing_is_dead o.around (Some now) o.is (an_unused_object o.around now z.0 (acting_values_stay n m now z.0 (o.unused (λ j. false) 0 ∙ unused) z.1))
+
   none_dead : (a : Around) (x : Option Tree) → u ≡ plug a x → IsDead u a x → ⊥
   none_dead a x is (an_empty_statement b n item) = no_empty b n is item
   none_dead a x is (a_silent_statement b n below silent) = no_silent b n below is silent
@@ -605,6 +622,8 @@ module _ (t u : Forest) (e : bare t ≡ bare u) (clean : Clean t) where
   none_dead a x is (an_indirect_choice b y z decides) = no_choice b y z is decides
   none_dead a x is (a_one_sided_choice b y z one_acts) = no_one_sided b y z is one_acts
   none_dead a x is (idle_parts b y z leave) = no_idle_parts b y z is leave
+  none_dead a x is (two_sides b y z act) = no_two_sides b y z is act
+  none_dead a x is (an_unused_object b y z unused) = no_object b y z is unused
 
 pub clean_as : (t u : Forest) → bare t ≡ bare u → Clean t → Clean u
 clean_as t u e clean = record { nothing_is_dead = none_dead t u e clean }

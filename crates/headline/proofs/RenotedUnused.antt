@@ -147,7 +147,7 @@ pub some_if : (b : Bool) (x : Tree) → is_some (if b then Some x else None) ≡
 some_if true x = refl
 some_if false x = refl
 
-as_one_bare : (n m : Note) (t : Forest) → is_some (as_one n m (bare t)) ≡ is_some (as_one n m t)
+pub as_one_bare : (n m : Note) (t : Forest) → is_some (as_one n m (bare t)) ≡ is_some (as_one n m t)
 as_one_bare n m nothing = refl
 as_one_bare n m (absent rest) = refl
 as_one_bare n m (node k i a nothing) =

@@ -23,6 +23,10 @@ use Rattle.steps_allowed.specs.IndirectChoice.{IndirectChoice}
 use Rattle.steps_allowed.specs.OneSidedChoice.{OneSidedChoice}
 -- and a sequence, and what counts of it
 use Rattle.steps_allowed.specs.IdleParts.{IdleParts}
+-- and a comparison that nobody takes the value of, of which both sides act
+use Rattle.steps_allowed.specs.TwoSides.{TwoSides}
+-- and an object literal that nobody takes the value of, and its values that act
+use Rattle.steps_allowed.specs.UnusedObject.{UnusedObject}
 -- whose names only the tree's references may use
 use Rattle.steps_allowed.specs.Exposure.{IsOwnFunction, IsOwnDeclarator}
 
@@ -56,6 +60,11 @@ pub data IsDead (t : Forest) : Around → Option Tree → Type 0 where
   -- a sequence of which a part before the last doesn't act, unless the last one would be left alone and may not stand there itself: the
   -- part does nothing
   idle_parts : (a : Around) (x y : Tree) → IdleParts a x y → IsDead t a (Some x)
+  -- a comparison of which nobody takes the value and both sides act: it does nothing itself
+  two_sides : (a : Around) (x y : Tree) → TwoSides a x y → IsDead t a (Some x)
+  -- an object literal of which nobody takes the value, with plain keys, of which a value acts, and each that does may come out of it: it
+  -- does nothing itself, nor do the values that don't act
+  an_unused_object : (a : Around) (x y : Tree) → UnusedObject a x y → IsDead t a (Some x)
 
 -- No part of the program is dead code.
 pub record Clean (t : Forest) : Type 0 where

@@ -24,6 +24,8 @@ use Rattle.rules_expressions.specs.Lists.{unused_list_becomes}
 use Rattle.rules_expressions.specs.Indirect.{indirect_becomes}
 use Rattle.rules_expressions.specs.OneSided.{one_sided_becomes}
 use Rattle.rules_expressions.specs.Sequences.{sequence_left}
+use Rattle.rules_expressions.specs.TwoSides.{two_sides_become}
+use Rattle.rules_expressions.specs.Objects.{object_left}
 use Rattle.rules_expressions.specs.Settled.{IsSettledAt}
 use Rattle.rules_expressions.proofs.Walked.{settled_nodes}
 use Rattle.min_peephole.specs.Quiet.{first_facts, is_row, decides_none, wastes_none, keeps_parts, stays, all_stay, is_quiet}
@@ -73,6 +75,10 @@ module _ (f : Facts) (p : Place) (n : Note) (k : Kind) (inner : Forest) (h : sta
       let sides = not (is_some (one_sided_becomes (spot_of p) n k inner)) in
       let wastes = and_parts (not (is_some (unused_becomes (spot_of p) k inner))) (lists && sides) at_parts.0 in
       let unused = and_parts lists sides wastes.1 in
+      let both = not (is_some (two_sides_become (spot_of p) n k inner)) in
+      let values = not (is_some (object_left (spot_of p) n k inner)) in
+      let keeps = and_parts (not (is_some (sequence_left (spot_of p) n k inner))) (both && values) at_parts.1 in
+      let parts = and_parts both values keeps.1 in
       record {
         conditional = none_there (conditional_becomes (spot_of p) k inner) decides.0;
         logical = none_there (logical_becomes (spot_of p) k inner) others.0;
@@ -80,7 +86,9 @@ module _ (f : Facts) (p : Place) (n : Note) (k : Kind) (inner : Forest) (h : sta
         list = none_there (unused_list_becomes (spot_of p) n k inner) unused.0;
         indirect = none_there (indirect_becomes (spot_of p) n k inner) others.1;
         one_sided = none_there (one_sided_becomes (spot_of p) n k inner) unused.1;
-        sequence = none_there (sequence_left (spot_of p) n k inner) at_parts.1;
+        sequence = none_there (sequence_left (spot_of p) n k inner) keeps.0;
+        two_sides = none_there (two_sides_become (spot_of p) n k inner) parts.0;
+        object = none_there (object_left (spot_of p) n k inner) parts.1;
       }
 
 each_stays : (Q : Place → Tree → Type 0) (f : Facts) → ((p : Place) (n : Note) (k : Kind) (inner : Forest) → stays f p n k inner ≡ true → Q p (record { kind = k; note = n; below = inner })) → (s : Spot) (t : Forest) → all_stay f s t ≡ true → EachNode Q s t

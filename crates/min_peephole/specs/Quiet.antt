@@ -17,6 +17,8 @@ use Rattle.rules_expressions.specs.Lists.{unused_list_becomes}
 use Rattle.rules_expressions.specs.Indirect.{indirect_becomes}
 use Rattle.rules_expressions.specs.OneSided.{one_sided_becomes}
 use Rattle.rules_expressions.specs.Sequences.{sequence_left}
+use Rattle.rules_expressions.specs.TwoSides.{two_sides_become}
+use Rattle.rules_expressions.specs.Objects.{object_left}
 
 -- what the first pass knows
 abbrev pub first_facts : Forest → Facts
@@ -34,9 +36,10 @@ decides_none p n k inner = not (is_some (conditional_becomes (spot_of p) k inner
 abbrev pub wastes_none : Place → Note → Kind → (inner : Forest) → Bool
 wastes_none p n k inner = not (is_some (unused_becomes (spot_of p) k inner)) && (not (is_some (unused_list_becomes (spot_of p) n k inner)) && not (is_some (one_sided_becomes (spot_of p) n k inner)))
 
--- and is no sequence that comes to what counts of it
+-- and is no sequence that comes to what counts of it, nor, where nobody takes its value, a comparison or an object literal that comes
+-- to its sides or its values
 abbrev pub keeps_parts : Place → Note → Kind → (inner : Forest) → Bool
-keeps_parts p n k inner = not (is_some (sequence_left (spot_of p) n k inner))
+keeps_parts p n k inner = not (is_some (sequence_left (spot_of p) n k inner)) && (not (is_some (two_sides_become (spot_of p) n k inner)) && not (is_some (object_left (spot_of p) n k inner)))
 
 -- a node at a place: no item of a list goes, no statement becomes empty, and no expression comes to its parts
 abbrev pub stays : Facts → Place → Note → Kind → (inner : Forest) → Bool

@@ -1,16 +1,17 @@
 -- Which small programs have dead code.
 use Rattle.std.proofs.Common.{◌≡◌, ◌∙◌, inl, inr, ℕ, [], ◌∷◌, pos, Bool, true, false, ◌||◌, true≢false, Option, Some, None, bytes_eq, codes, refl, sym, ap, arith}
 use Rattle.std.proofs.lemmas.Bool.{or_left, or_right}
-use Rattle.js_syntax.specs.Class.{root, expression, callee, declared_name, binding_element, function_block}
+use Rattle.js_syntax.specs.Class.{root, expression, object_item, callee, declared_name, binding_element, function_block}
 use Rattle.js_syntax.specs.declared.node_kind.NodeKind.{NodeKind as Kind}
 use Rattle.js_syntax.specs.declared.scalar.SourceType.TheVariants as source_type
 use Rattle.js_syntax.specs.declared.kind.VariableKind.TheVariants as variable
+use Rattle.js_syntax.specs.declared.kind.PropertyKind.TheVariants as property
 use Rattle.js_syntax.specs.declared.operator.BinaryOperator.TheVariants as binary
 use Rattle.js_syntax.specs.declared.operator.LogicalOperator.TheVariants as logical
 use Rattle.js_syntax.specs.declared.value.Key.TheVariants as key
 use Rattle.js_syntax.specs.declared.value.LiteralValue.{LiteralValue as Literal}
 use Rattle.js_syntax.specs.Node.{Forest, Tree, Note, nothing, node, absent, nowhere, joined, below_of}
-use Rattle.js_syntax.specs.Table.{a_program, an_expression_statement, a_call_expression, a_member_expression, a_reference_name, a_literal, a_binary_expression, a_logical_expression, a_sequence_expression, a_binding_name, a_function_declaration, a_function_body, an_export_declaration, a_variable_declaration, a_variable_declarator}
+use Rattle.js_syntax.specs.Table.{a_program, an_expression_statement, a_call_expression, a_member_expression, a_reference_name, a_literal, a_binary_expression, a_logical_expression, a_sequence_expression, an_object_expression, a_property, a_binding_name, a_function_declaration, a_function_body, an_export_declaration, a_variable_declaration, a_variable_declarator}
 use Rattle.form_rules.specs.Samples.{leaf, listed, no, reads, a_module, a_script, a, binds, one, does, declares, let_, function_a, block}
 use Rattle.js_meaning.specs.Samples as sample
 use Rattle.js_meaning.specs.Examples.{g, o}
@@ -29,8 +30,10 @@ use Rattle.steps_allowed.specs.UnusedList.{list_becomes, acting_parts_stay}
 use Rattle.steps_allowed.specs.IndirectChoice.{part_counts, value_alone_counts}
 use Rattle.steps_allowed.specs.OneSidedChoice.{one_sided, one_branch_acts}
 use Rattle.steps_allowed.specs.IdleParts.{sequence_becomes, idle_parts_leave}
+use Rattle.steps_allowed.specs.TwoSides.{two_sides as two_sides_at, both_sides_act}
+use Rattle.steps_allowed.specs.UnusedObject.{object_becomes, acting_values_stay}
 use Rattle.steps_allowed.specs.Uses.{Use}
-use Rattle.headline.specs.Clean.{IsDead, an_empty_statement, a_silent_statement, an_unused_function, an_unused_declarator, a_known_conditional, a_known_side, an_unused_operation, an_unused_list, an_indirect_choice, a_one_sided_choice, idle_parts, Clean}
+use Rattle.headline.specs.Clean.{IsDead, an_empty_statement, a_silent_statement, an_unused_function, an_unused_declarator, a_known_conditional, a_known_side, an_unused_operation, an_unused_list, an_indirect_choice, a_one_sided_choice, idle_parts, two_sides, an_unused_object, Clean}
 use Rattle.min_peephole.specs.Quiet.{is_quiet}
 use Rattle.min_peephole.proofs.Quieted.{quiet_clean}
 use Rattle.test_headline.specs.Rows as row
@@ -103,6 +106,14 @@ given = in_statement (under (Kind.CallExpression false false) nowhere (past (rea
 -- use((1, a));
 pub part_is_dead : Clean row.uses_sequence → ⊥
 part_is_dead c = c.nothing_is_dead given _ refl (idle_parts given _ _ (idle_parts_leave nowhere nowhere _ _ refl))
+
+-- a() === b();
+pub sides_are_dead : Clean row.compares_calls → ⊥
+sides_are_dead c = c.nothing_is_dead statement _ refl (two_sides statement _ _ (both_sides_act nowhere nowhere _ _ refl refl))
+
+-- ({ a: a() });
+pub object_is_dead : Clean row.holds_call → ⊥
+object_is_dead c = c.nothing_is_dead statement _ refl (an_unused_object statement _ _ (acting_values_stay nowhere nowhere _ _ refl refl))
 
 -- ---- what has none
 
@@ -269,11 +280,11 @@ behind_one_fits = (
 pub behind_one_is_clean : Clean row.calls_behind_one
 behind_one_is_clean = quiet_clean _ behind_one_fits refl
 
--- a === b;
+-- a + b;
 names_stand : Stand (these (one_of expression ∷ one_of expression ∷ [])) (joined (reads a) (reads (codes "b")))
 names_stand = ((a_reference_name, (a, tt), refl, tt, refl, tt), ((a_reference_name, (codes "b", tt), refl, tt, refl, tt), tt))
 
-names_fit : Fits root row.compares_names
+names_fit : Fits root row.adds_names
 names_fit = (
   (
     a_program,
@@ -284,7 +295,7 @@ names_fit = (
     (
       (
         refl,
-        (inr (refl, (an_expression_statement, tt, refl, tt, refl, ((a_binary_expression, (binary.StrictEquality, tt), refl, refl, refl, names_stand), tt))), tt),
+        (inr (refl, (an_expression_statement, tt, refl, tt, refl, ((a_binary_expression, (binary.Addition, tt), refl, refl, refl, names_stand), tt))), tt),
       ),
       tt,
     ),
@@ -292,7 +303,7 @@ names_fit = (
   tt,
 )
 
-pub names_are_clean : Clean row.compares_names
+pub names_are_clean : Clean row.adds_names
 names_are_clean = quiet_clean _ names_fit refl
 
 -- a(), b();
@@ -376,6 +387,32 @@ use_fits = (
 pub use_is_clean : Clean row.uses_a
 use_is_clean = quiet_clean _ use_fits refl
 
+-- ({ __proto__: a() });
+prototype_stands : Stand (all object_item) (below_of (below_of (row.object_of (codes "__proto__") call_of_a)))
+prototype_stands = ((a_property, (property.Init, (false, (key.Name (codes "__proto__"), tt))), refl, refl, refl, (refl, name_stands)), tt)
+
+prototype_fits : Fits root row.sets_prototype
+prototype_fits = (
+  (
+    a_program,
+    (source_type.Module, tt),
+    refl,
+    tt,
+    refl,
+    (
+      (
+        refl,
+        (inr (refl, (an_expression_statement, tt, refl, tt, refl, ((an_object_expression, tt, refl, tt, refl, ((refl, prototype_stands), tt)), tt))), tt),
+      ),
+      tt,
+    ),
+  ),
+  tt,
+)
+
+pub prototype_is_clean : Clean row.sets_prototype
+prototype_is_clean = quiet_clean _ prototype_fits refl
+
 -- ---- what the rules take
 
 -- behind the export
@@ -406,6 +443,7 @@ is_suspect (Kind.UnaryExpression o) = true
 is_suspect (Kind.BinaryExpression o) = true
 is_suspect Kind.ArrayExpression = true
 is_suspect Kind.SequenceExpression = true
+is_suspect Kind.ObjectExpression = true
 is_suspect k = false
 
 abbrev has_suspect : Forest → Bool
@@ -444,6 +482,14 @@ sequence_suspect : (u : Use) (w : Bool) (n m : Note) (k : Kind) (below : Forest)
 sequence_suspect u w n m Kind.SequenceExpression below y h = refl
 sequence_suspect u w n m k below y h = absurd Prim.cc
 
+both_suspect : (n m : Note) (k : Kind) (below : Forest) (y : Tree) → two_sides_at n m k below ≡ Some y → is_suspect k ≡ true
+both_suspect n m (Kind.BinaryExpression o) below y h = refl
+both_suspect n m k below y h = absurd Prim.cc
+
+object_suspect : (n m : Note) (k : Kind) (below : Forest) (y : Tree) → object_becomes n m k below ≡ Some y → is_suspect k ≡ true
+object_suspect n m Kind.ObjectExpression below y h = refl
+object_suspect n m k below y h = absurd Prim.cc
+
 dead_suspect : (t : Forest) (a : Around) (x : Option Tree) → t ≡ plug a x → IsDead t a x → has_suspect t ≡ true
 dead_suspect t a x is (an_empty_statement b n item) = ap has_suspect is ∙ suspect_there b _ refl
 dead_suspect t a x is (a_silent_statement b n below silent) = ap has_suspect is ∙ suspect_there b _ refl
@@ -458,6 +504,8 @@ dead_suspect t a x is (an_unused_list b _ _ (acting_parts_stay n m y z unused be
 dead_suspect t a x is (an_indirect_choice b _ _ (value_alone_counts n m i y z counts alone)) = ap has_suspect is ∙ suspect_there b y (choice_suspect y.kind y.below z counts)
 dead_suspect t a x is (a_one_sided_choice b _ _ (one_branch_acts n y z unused one_acts)) = ap has_suspect is ∙ suspect_there b y (side_suspect n y.kind y.below z one_acts)
 dead_suspect t a x is (idle_parts b _ _ (idle_parts_leave n m y z leave)) = ap has_suspect is ∙ suspect_there b y (sequence_suspect _ _ n m y.kind y.below z leave)
+dead_suspect t a x is (two_sides b _ _ (both_sides_act n m y z unused act)) = ap has_suspect is ∙ suspect_there b y (both_suspect n m y.kind y.below z act)
+dead_suspect t a x is (an_unused_object b _ _ (acting_values_stay n m y z unused becomes)) = ap has_suspect is ∙ suspect_there b y (object_suspect n m y.kind y.below z becomes)
 
 -- A declaration goes with the last of its declarators, and stays where it has none.
 pub nothing_declared_is_clean : Clean row.declares_nothing

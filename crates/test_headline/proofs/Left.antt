@@ -1,14 +1,15 @@
 -- What shaking may leave of a small module.
 use Rattle.std.proofs.Common.{◌≡◌, inl, inr, [], ◌∷◌, pos, false, codes, refl}
-use Rattle.js_syntax.specs.Class.{root, module_item, expression, argument}
+use Rattle.js_syntax.specs.Class.{root, module_item, expression, argument, object_item}
 use Rattle.js_syntax.specs.declared.node_kind.NodeKind.{NodeKind as Kind}
 use Rattle.js_syntax.specs.declared.scalar.SourceType.TheVariants as source_type
+use Rattle.js_syntax.specs.declared.kind.PropertyKind.TheVariants as property
 use Rattle.js_syntax.specs.declared.operator.BinaryOperator.TheVariants as binary
 use Rattle.js_syntax.specs.declared.operator.UnaryOperator.TheVariants as unary
 use Rattle.js_syntax.specs.declared.value.Key.TheVariants as key
 use Rattle.js_syntax.specs.declared.value.LiteralValue.{LiteralValue as Literal}
-use Rattle.js_syntax.specs.Node.{Forest, nothing, nowhere, joined}
-use Rattle.js_syntax.specs.Table.{a_program, an_expression_statement, a_call_expression, a_unary_expression, a_binary_expression, a_conditional_expression, a_member_expression, an_array_expression, a_sequence_expression, a_reference_name, a_literal}
+use Rattle.js_syntax.specs.Node.{Forest, nothing, nowhere, joined, below_of}
+use Rattle.js_syntax.specs.Table.{a_program, an_expression_statement, a_call_expression, a_unary_expression, a_binary_expression, a_conditional_expression, a_member_expression, an_array_expression, a_sequence_expression, an_object_expression, a_property, a_reference_name, a_literal}
 use Rattle.form_rules.specs.Form.{IsWellFormed}
 use Rattle.form_rules.specs.Samples as form
 use Rattle.js_meaning.specs.Samples as sample
@@ -23,7 +24,9 @@ use Rattle.steps_allowed.specs.UnusedList.{acting_parts_stay}
 use Rattle.steps_allowed.specs.IndirectChoice.{value_alone_counts}
 use Rattle.steps_allowed.specs.OneSidedChoice.{one_branch_acts}
 use Rattle.steps_allowed.specs.IdleParts.{idle_parts_leave}
-use Rattle.steps_allowed.specs.Edits.{no_tree_edit, one_tree_edit, leaves, becomes, empty_statement, silent_statement, unused_operation, unused_list, indirect_choice, one_sided_choice, idle_parts}
+use Rattle.steps_allowed.specs.TwoSides.{both_sides_act}
+use Rattle.steps_allowed.specs.UnusedObject.{acting_values_stay}
+use Rattle.steps_allowed.specs.Edits.{no_tree_edit, one_tree_edit, leaves, becomes, empty_statement, silent_statement, unused_operation, unused_list, indirect_choice, one_sided_choice, idle_parts, two_sides, unused_object}
 use Rattle.steps_allowed.specs.Rows.{in_list, past, statement, called, call_of_a, sequence, equals, null}
 use Rattle.steps_allowed.proofs.Composing.{tree_edits_are_edits}
 use Rattle.headline.specs.Clean.{Clean}
@@ -331,6 +334,72 @@ first_goes = tree_edits_are_edits (one_tree_edit _ _ _ (becomes given _ _ (idle_
 
 pub last_left : Headline row.uses_sequence row.uses_a
 last_left = headline_of row.uses_sequence row.uses_a uses_fits uses_well_formed first_goes use_is_clean
+
+-- ---- of a comparison of two calls these are left, and of an object literal the call that it holds
+
+sides_stand : Stand (these (one expression ∷ one expression ∷ [])) (joined call_of_a row.call_of_b)
+sides_stand = (name_stands.0, other_stands)
+
+sides_fit : Fits root row.compares_calls
+sides_fit = (
+  (
+    a_program,
+    (source_type.Module, tt),
+    refl,
+    tt,
+    refl,
+    (
+      (
+        refl,
+        (inr (refl, (an_expression_statement, tt, refl, tt, refl, ((a_binary_expression, (binary.StrictEquality, tt), refl, refl, refl, sides_stand), tt))), tt),
+      ),
+      tt,
+    ),
+  ),
+  tt,
+)
+
+sides_well_formed : IsWellFormed row.compares_calls
+unfolding is_identifier_name
+sides_well_formed = refl
+
+sides_stay : Edits row.compares_calls row.calls_both
+sides_stay = tree_edits_are_edits (one_tree_edit _ _ _ (becomes statement _ _ (two_sides (both_sides_act nowhere nowhere _ _ refl refl))) (no_tree_edit _))
+
+pub sides_left : Headline row.compares_calls row.calls_both
+sides_left = headline_of row.compares_calls row.calls_both sides_fit sides_well_formed sides_stay sequence_is_clean
+
+property_stands : Stand (all object_item) (below_of (below_of (row.object_of form.a call_of_a)))
+property_stands = ((a_property, (property.Init, (false, (key.Name form.a, tt))), refl, refl, refl, (refl, name_stands)), tt)
+
+object_fits : Fits root row.holds_call
+object_fits = (
+  (
+    a_program,
+    (source_type.Module, tt),
+    refl,
+    tt,
+    refl,
+    (
+      (
+        refl,
+        (inr (refl, (an_expression_statement, tt, refl, tt, refl, ((an_object_expression, tt, refl, tt, refl, ((refl, property_stands), tt)), tt))), tt),
+      ),
+      tt,
+    ),
+  ),
+  tt,
+)
+
+object_well_formed : IsWellFormed row.holds_call
+unfolding is_identifier_name
+object_well_formed = refl
+
+object_goes : Edits row.holds_call row.calls_a
+object_goes = tree_edits_are_edits (one_tree_edit _ _ _ (becomes statement _ _ (unused_object (acting_values_stay nowhere nowhere _ _ refl refl))) (no_tree_edit _))
+
+pub held_left : Headline row.holds_call row.calls_a
+held_left = headline_of row.holds_call row.calls_a object_fits object_well_formed object_goes a_is_clean
 
 pub written_left : written row.less_four ≡ row.with_minus
 written_left = refl

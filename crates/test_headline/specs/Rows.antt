@@ -1,9 +1,12 @@
 -- Small modules.
-use Rattle.std.specs.Prelude.{negsuc, List, [], ◌∷◌, true, false, None, codes}
+use Rattle.std.specs.Prelude.{negsuc, ℕ, List, [], ◌∷◌, true, false, None, codes}
 use Rattle.js_syntax.specs.declared.node_kind.NodeKind.{NodeKind as Kind}
 use Rattle.js_syntax.specs.declared.kind.VariableKind.TheVariants as variable
+use Rattle.js_syntax.specs.declared.kind.PropertyKind.TheVariants as property
+use Rattle.js_syntax.specs.declared.operator.BinaryOperator.TheVariants as binary
 use Rattle.js_syntax.specs.declared.operator.LogicalOperator.TheVariants as logical
 use Rattle.js_syntax.specs.declared.operator.UnaryOperator.TheVariants as unary
+use Rattle.js_syntax.specs.declared.value.Key.TheVariants as key
 use Rattle.js_syntax.specs.declared.value.LiteralValue.{LiteralValue as Literal}
 use Rattle.js_syntax.specs.Node.{Forest, joined}
 use Rattle.form_rules.specs.Samples as form
@@ -127,9 +130,9 @@ lists_calls = form.a_module (form.does (array (call_of_a ∷ form.one ∷ call_o
 abbrev pub calls_both : Forest
 calls_both = form.a_module (form.does (sequence (call_of_a ∷ call_of_b ∷ [])) ∷ [])
 
--- a === b;
-abbrev pub compares_names : Forest
-compares_names = form.a_module (form.does (equals (form.reads form.a) (form.reads (codes "b"))) ∷ [])
+-- a + b;
+abbrev pub adds_names : Forest
+adds_names = form.a_module (form.does (form.over (Kind.BinaryExpression binary.Addition) (joined (form.reads form.a) (form.reads (codes "b")))) ∷ [])
 
 -- o.g
 abbrev pub member_g : Forest
@@ -166,3 +169,19 @@ uses_a = form.a_module (calls (form.reads (codes "use")) (form.reads form.a ∷ 
 -- (1, o.g)();
 abbrev pub calls_behind_one : Forest
 calls_behind_one = form.a_module (calls (sequence (form.one ∷ member_g ∷ [])) [] ∷ [])
+
+-- a() === b();
+abbrev pub compares_calls : Forest
+compares_calls = form.a_module (form.does (equals call_of_a call_of_b) ∷ [])
+
+-- { x: value }
+abbrev pub object_of : (x : List ℕ) → (value : Forest) → Forest
+object_of x value = form.over Kind.ObjectExpression (form.listed Kind.Properties (form.over (Kind.Property property.Init false (key.Name x)) (joined form.no value) ∷ []))
+
+-- ({ a: a() });
+abbrev pub holds_call : Forest
+holds_call = form.a_module (form.does (object_of form.a call_of_a) ∷ [])
+
+-- ({ __proto__: a() });
+abbrev pub sets_prototype : Forest
+sets_prototype = form.a_module (form.does (object_of (codes "__proto__") call_of_a) ∷ [])

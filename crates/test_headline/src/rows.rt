@@ -57,7 +57,8 @@ pub fn what_others_may_use_stays()
 {}
 
 /// `1;` doesn't stay, nor does the conditional of `a(true ? a : b);`, of `(1 ? o.g : null)();` or of `a ? b() : 1;`, what stands right in
-/// `null && a();`, what of `!(a() === 1);` and of `[a(), 1];` is no call, or the `1` of `use((1, a));`.
+/// `null && a();`, what of `!(a() === 1);`, of `[a(), 1];` and of `({ a: a() });` is no call, the `1` of `use((1, a));`, or the comparison
+/// of `a() === b();`.
 pub fn dead_code_goes()
     ensures number { Headline row.dead row.dead → ⊥ }
     ensures conditional { Headline row.takes_branch row.takes_branch → ⊥ }
@@ -67,13 +68,16 @@ pub fn dead_code_goes()
     ensures called { Headline row.calls_chosen row.calls_chosen → ⊥ }
     ensures branch { Headline row.chooses_call row.chooses_call → ⊥ }
     ensures idle { Headline row.uses_sequence row.uses_sequence → ⊥ }
+    ensures sides { Headline row.compares_calls row.compares_calls → ⊥ }
+    ensures object { Headline row.holds_call row.holds_call → ⊥ }
 {}
 
 /// `1;` is dead code, and so are `{ ; }`'s empty statement, a function that nothing calls, one of two declarators, a conditional on a
 /// literal, a logical expression with a literal on its left, an operation of which nobody takes the value, where one operand alone acts,
 /// an array of which nobody takes the value, a conditional on a literal that is called so that what it gives has no receiver:
-/// `(1 ? o.g : null)();`, a conditional of which nobody takes the value and one branch alone acts: `a ? b() : 1;`, and a sequence that is
-/// used for its value, of which a part before the last doesn't act: `use((1, a));`.
+/// `(1 ? o.g : null)();`, a conditional of which nobody takes the value and one branch alone acts: `a ? b() : 1;`, a sequence that is
+/// used for its value, of which a part before the last doesn't act: `use((1, a));`, a comparison of which nobody takes the value, though
+/// both sides act: `a() === b();`, and an object literal of which nobody takes the value, that holds a call: `({ a: a() });`.
 pub fn dead_code_is_told()
     ensures number { Clean (a_module (does one ∷ [])) → ⊥ }
     ensures empty { Clean (a_module (block (empty ∷ []) ∷ [])) → ⊥ }
@@ -86,11 +90,14 @@ pub fn dead_code_is_told()
     ensures called { Clean row.calls_chosen → ⊥ }
     ensures branch { Clean row.chooses_call → ⊥ }
     ensures idle { Clean row.uses_sequence → ⊥ }
+    ensures sides { Clean row.compares_calls → ⊥ }
+    ensures object { Clean row.holds_call → ⊥ }
 {}
 
 /// A call is none, nor a function that is exported, a variable beside a direct call of `eval`, a function of a script, a
-/// sequence that is called so that what it gives has no receiver, whatever stands in front: `(0, o.g)();` and `(1, o.g)();`, a comparison
-/// of which both sides may act, as names do that nothing declares: `a === b;`, and a sequence of two calls: `a(), b();`.
+/// sequence that is called so that what it gives has no receiver, whatever stands in front: `(0, o.g)();` and `(1, o.g)();`, a sum of
+/// which both sides may act, as names do that nothing declares: `a + b;`, a sequence of two calls: `a(), b();`, and an object literal of
+/// which a call gives the prototype: `({ __proto__: a() });`.
 pub fn what_others_may_use_is_no_dead_code()
     ensures call { Clean (a_module (does call_of_a ∷ [])) }
     ensures exported { Clean (a_module (exports_declaration (function_a [] []) ∷ [])) }
@@ -98,8 +105,9 @@ pub fn what_others_may_use_is_no_dead_code()
     ensures global { Clean (a_script (function_a [] [] ∷ [])) }
     ensures receiver { Clean row.calls_without_receiver }
     ensures behind_one { Clean row.calls_behind_one }
-    ensures names { Clean row.compares_names }
+    ensures names { Clean row.adds_names }
     ensures sequence { Clean row.calls_both }
+    ensures prototype { Clean row.sets_prototype }
 {}
 
 /// By an export in a block, which no program of the table has, a function of the block's that nothing refers to is dead code
@@ -112,8 +120,9 @@ pub fn rules_take_dead_code_alone()
     ensures stays { is_quiet row.declares_nothing ≡ true }
 {}
 
-/// `f(1);` may take the place of `f(1); 2;`, `a();` that of `!(a() === 1);` and of `[a(), 1];`, `a(), b();` that of `[a(), 1, b()];`,
-/// `(0, o.g)();` that of `(1 ? o.g : null)();`, `a && b();` that of `a ? b() : 1;`, and `use(a);` that of `use((1, a));`.
+/// `f(1);` may take the place of `f(1); 2;`, `a();` that of `!(a() === 1);`, of `[a(), 1];` and of `({ a: a() });`, `a(), b();` that of
+/// `[a(), 1, b()];` and of `a() === b();`, `(0, o.g)();` that of `(1 ? o.g : null)();`, `a && b();` that of `a ? b() : 1;`, and `use(a);`
+/// that of `use((1, a));`.
 pub fn what_is_left()
     ensures statement { Headline row.with_dead row.calls_host }
     ensures operand { Headline row.compares_call row.calls_a }
@@ -122,6 +131,8 @@ pub fn what_is_left()
     ensures value { Headline row.calls_chosen row.calls_without_receiver }
     ensures branch { Headline row.chooses_call row.calls_behind_a }
     ensures last { Headline row.uses_sequence row.uses_a }
+    ensures sides { Headline row.compares_calls row.calls_both }
+    ensures held { Headline row.holds_call row.calls_a }
 {}
 
 /// Edits lead from `f(-4); 2;` with a literal for -4 to `f(-4);`, which is written with unary minus on 4.
