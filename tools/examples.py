@@ -108,8 +108,8 @@ F('f29',[N('ImportDeclaration',specifiers=[],source=L(3))],bf('ImportDeclaration
 F('f30',[ES(mem(a,L('k')))],bf('MemberExpression','property'))
 others=[('o1',prog([ES(asg('=',N('ParenthesizedExpression',expression=N('ParenthesizedExpression',expression=a)),b))]),prog([ES(asg('=',a,b))])),
  ('o2',prog([N('ThrowStatement',argument=L(-4))]),prog([N('ThrowStatement',argument=un('-',L(4)))])),
- ('o3',prog([ES(N('ObjectExpression',properties=[prop(I('a b'),a)]))]),prog([ES(N('ObjectExpression',properties=[prop(L('a b'),a)]))])),
- ('o4',prog([ES(N('ObjectExpression',properties=[dict(N('Property',kind='init',key=a,value=a))]))]),prog([ES(N('ObjectExpression',properties=[prop(a,a,shorthand=True)]))])),
+ ('o3',prog([N('ThrowStatement',argument=N('ObjectExpression',properties=[prop(I('a b'),a)]))]),prog([N('ThrowStatement',argument=N('ObjectExpression',properties=[prop(L('a b'),a)]))])),
+ ('o4',prog([N('ThrowStatement',argument=N('ObjectExpression',properties=[dict(N('Property',kind='init',key=a,value=a))]))]),prog([N('ThrowStatement',argument=N('ObjectExpression',properties=[prop(a,a,shorthand=True)]))])),
  ('o5',prog([ES(dict(call(a),pure='x',foo=[1],optional=False))]),prog([ES(call(a))])),
  ('o6',prog([dict(ES(mem(a,b)),start=1,end=4)]),prog([ES(mem(a,b))])),
 ]
@@ -271,7 +271,7 @@ S('typeof f(); void f(); typeof o.f;',[ES(un('typeof',call(f))),ES(un('void',cal
 S('typeof g; which throws nothing where no g is declared',[ES(un('typeof',g))],None,0,0)
 S('f() && 1; f() || (() => a); f() ?? [];',[ES(AND(call(f),L(1))),ES(OR(call(f),fn('ArrowFunctionExpression',None,[],a,True))),ES(ELSE(call(f),N('ArrayExpression',elements=[])))],[do('f'),do('f'),do('f')],1,0)
 S('f() ? 1 : null;',[ES(COND(call(f),L(1),L(None)))],[do('f')],1,0)
-S('a === f(); a && f(); f() ? a : g(); whose sides may both act',[ES(SAME(a,call(f))),ES(AND(a,call(f))),ES(COND(call(f),a,call(g)))],None,0,0)
+S('a && f(); f() ? a : g(); whose sides may both act',[ES(AND(a,call(f))),ES(COND(call(f),a,call(g)))],None,0,0)
 S('+f(); -f(); f() + 1; f() in 1; which may act themselves',[ES(un('+',call(f))),ES(un('-',call(f))),ES(SAME(call(f),L(1),'+')),ES(SAME(call(f),L(1),'in'))],None,0,0)
 S('use(!f()); use(f() === 1); whose values are taken',[use(NOT(call(f))),use(SAME(call(f),L(1)))],None,0,0)
 S('a && !f(); a ? !f() : f() === 1; a, !f();',[ES(AND(a,NOT(call(f)))),ES(COND(a,NOT(call(f)),SAME(call(f),L(1)))),ES(SEQ(a,NOT(call(f))))],[ES(AND(a,call(f))),ES(COND(a,call(f),call(f))),ES(SEQ(a,call(f)))],1,0)
@@ -304,6 +304,13 @@ S('use((1, f())); use((1, 2, f()));',[use(SEQ(L(1),call(f))),use(SEQ(L(1),L(2),c
 S('use((f(), 1, a)); use((1, f(), 2));',[use(SEQ(call(f),L(1),a)),use(SEQ(L(1),call(f),L(2)))],[use(SEQ(call(f),a)),use(SEQ(call(f),L(2)))],1,0)
 S('(1, g)(); (1, 2, o.f)(); typeof (1, g);',[ES(call(SEQ(L(1),g))),ES(call(SEQ(L(1),L(2),mem(o,f)))),use(un('typeof',SEQ(L(1),g)))],[do('g'),ES(call(SEQ(L(1),L(2),mem(o,f)))),use(un('typeof',SEQ(L(1),g)))],1,0)
 S('use((1, function () {})); which might take a name',[use(SEQ(L(1),fn('FunctionExpression',None,[],B())))],None,0,0)
+
+OBJ=lambda *es: N('ObjectExpression',properties=list(es))
+S('f() === g(); a < b; which compare what they evaluate',[ES(SAME(call(f),call(g))),ES(SAME(a,b,'<'))],[ES(SEQ(call(f),call(g))),ES(SEQ(a,b))],1,0)
+S('use(f() === g()); f() + g();',[use(SAME(call(f),call(g))),ES(SAME(call(f),call(g),'+'))],None,0,0)
+S('({ a: f(), b: 1 }); ({ a: f(), b: g() });',[ES(OBJ(prop(a,call(f)),prop(b,L(1)))),ES(OBJ(prop(a,call(f)),prop(b,call(g))))],[do('f'),ES(SEQ(call(f),call(g)))],1,0)
+S('({ ...f() }); ({ [a]: f() }); ({ __proto__: f() }); use({ a: f() });',[ES(OBJ(N('SpreadElement',argument=call(f)))),ES(OBJ(prop(a,call(f),computed=True))),ES(OBJ(prop(I('__proto__'),call(f)))),use(OBJ(prop(a,call(f))))],None,0,0)
+S('({ a: class extends f() {} }); which takes its name from there',[ES(OBJ(prop(a,N('ClassExpression',id=None,superClass=call(f),body=N('ClassBody',body=[])))))],None,0,0)
 
 
 def text(tree): return json.dumps(tree, sort_keys=True, separators=(',', ':'))
