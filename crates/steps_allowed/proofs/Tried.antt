@@ -6,6 +6,7 @@ use Rattle.js_syntax.specs.declared.operator.BinaryOperator.TheVariants as binar
 use Rattle.js_syntax.specs.declared.operator.LogicalOperator.TheVariants as operator
 use Rattle.js_syntax.specs.declared.operator.UnaryOperator.TheVariants as unary
 use Rattle.js_syntax.specs.declared.value.Key.TheVariants as key
+use Rattle.js_syntax.specs.declared.value.LiteralValue.{LiteralValue}
 use Rattle.js_syntax.specs.declared.value.LiteralValue.TheVariants as value
 use Rattle.js_syntax.specs.Node.{Forest, Tree, Note, nothing, node, absent, nowhere, joined}
 use Rattle.form_rules.specs.Samples.{a_module, a, binds, reads, one, does, declares, let_, function_a, block}
@@ -30,8 +31,9 @@ use Rattle.steps_allowed.specs.OneSidedChoice.{one_branch_acts}
 use Rattle.steps_allowed.specs.IdleParts.{idle_parts_leave}
 use Rattle.steps_allowed.specs.TwoSides.{both_sides_act}
 use Rattle.steps_allowed.specs.UnusedObject.{acting_values_stay}
-use Rattle.steps_allowed.specs.Edits.{Edit, leaves, becomes, empty_statement, silent_statement, unused_function, unused_declaration, known_conditional, known_side, known_if, unused_operation, unused_list, indirect_choice, one_sided_choice, idle_parts, two_sides, unused_object}
-use Rattle.steps_allowed.specs.Rows.{in_list, before, call_of_a, null, if_one, if_null, conditional, logical, may_be_named, o_f, parenthesized, in_statement, called, called_in_parentheses, called_in_with, argument, operand, applied, equals, assigned, statement, ComesOut, Stays, StaysUnused, array, spread, hole, sequence, ListStays, ChoiceStays, PartsStay, SidesStay, object, a_is, b_is, getter_of_a, ObjectStays, behind_zero, placed, StaysDirect, with_a, in_with_a, empty, a_is_read, a_is_exported}
+use Rattle.steps_allowed.specs.KnownOperation.{known_literal, value_is_known}
+use Rattle.steps_allowed.specs.Edits.{Edit, leaves, becomes, empty_statement, silent_statement, unused_function, unused_declaration, known_conditional, known_side, known_if, unused_operation, unused_list, indirect_choice, one_sided_choice, idle_parts, two_sides, unused_object, known_operation}
+use Rattle.steps_allowed.specs.Rows.{in_list, before, call_of_a, null, if_one, if_null, conditional, logical, may_be_named, o_f, parenthesized, in_statement, called, called_in_parentheses, called_in_with, argument, operand, applied, equals, assigned, statement, ComesOut, Stays, StaysUnused, array, spread, hole, sequence, ListStays, ChoiceStays, PartsStay, SidesStay, object, a_is, b_is, getter_of_a, ObjectStays, literal, operation, OperationStays, behind_zero, placed, StaysDirect, with_a, in_with_a, empty, a_is_read, a_is_exported}
 
 pub empties_in_list : Edit (a_module (does one ∷ [])) (a_module (empty ∷ []))
 empties_in_list = becomes (before []) _ _ (silent_statement (silent_statement_empties nowhere nowhere nowhere _ nothing (inl refl, tt)))
@@ -356,3 +358,35 @@ getter_stays y (acting_values_stay n m _ _ unused is) = no_list is
 
 pub spread_object_stays : ObjectStays statement (object (spread (reads a) ∷ []))
 spread_object_stays y (acting_values_stay n m _ _ unused is) = no_list is
+
+-- ---- operations on literals
+
+becomes_literal : (k : Kind) (below : Forest) (v : LiteralValue) → known_literal k nowhere below ≡ Some v → Edit (placed argument (node k nowhere below nothing)) (placed argument (literal v))
+becomes_literal k below v h = becomes argument _ _ (known_operation (value_is_known nowhere v (record { kind = k; note = nowhere; below = below }) h))
+
+pub negation_is_known : Edit (placed argument (applied unary.LogicalNot (literal (value.Number (pos 0))))) (placed argument (literal (value.Boolean true)))
+negation_is_known = becomes_literal (Kind.UnaryExpression unary.LogicalNot) _ _ refl
+
+pub type_is_known : Edit (placed argument (applied unary.Typeof one)) (placed argument (literal (value.Text (codes "number"))))
+type_is_known = becomes_literal (Kind.UnaryExpression unary.Typeof) _ _ refl
+
+pub sum_is_known : Edit (placed argument (operation binary.Addition (value.Number (pos 1)) (value.Number (pos 2)))) (placed argument (literal (value.Number (pos 3))))
+sum_is_known = becomes_literal (Kind.BinaryExpression binary.Addition) _ _ refl
+
+pub comparison_is_known : Edit (placed argument (operation binary.LessThan (value.Number (pos 1)) (value.Number (pos 2)))) (placed argument (literal (value.Boolean true)))
+comparison_is_known = becomes_literal (Kind.BinaryExpression binary.LessThan) _ _ refl
+
+no_literal : {v : LiteralValue} → None ≡ Some v → ⊥
+no_literal e = cc
+
+pub negative_stays : OperationStays argument (applied unary.UnaryNegation one)
+negative_stays _ (value_is_known i v _ is) = no_literal is
+
+pub fraction_stays : OperationStays argument (operation binary.Division (value.Number (pos 1)) (value.Number (pos 2)))
+fraction_stays _ (value_is_known i v _ is) = no_literal is
+
+pub texts_stay : OperationStays argument (operation binary.Addition (value.Text (codes "a")) (value.Text (codes "b")))
+texts_stay _ (value_is_known i v _ is) = no_literal is
+
+pub type_of_name_stays : OperationStays argument (applied unary.Typeof (reads a))
+type_of_name_stays _ (value_is_known i v _ is) = no_literal is

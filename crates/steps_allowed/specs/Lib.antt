@@ -21,6 +21,7 @@ pub mod OneSidedChoice
 pub mod IdleParts
 pub mod TwoSides
 pub mod UnusedObject
+pub mod KnownOperation
 pub mod KnownIf
 pub mod Edits
 pub mod Arranged

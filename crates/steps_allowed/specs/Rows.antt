@@ -6,10 +6,12 @@ use Rattle.js_syntax.specs.declared.kind.FunctionKind.TheVariants as function_ki
 use Rattle.js_syntax.specs.declared.kind.PropertyKind.TheVariants as property
 use Rattle.js_syntax.specs.declared.kind.VariableKind.TheVariants as variable
 use Rattle.js_syntax.specs.declared.operator.AssignmentOperator.TheVariants as assignment
+use Rattle.js_syntax.specs.declared.operator.BinaryOperator.{BinaryOperator}
 use Rattle.js_syntax.specs.declared.operator.BinaryOperator.TheVariants as binary
 use Rattle.js_syntax.specs.declared.operator.LogicalOperator.{LogicalOperator}
 use Rattle.js_syntax.specs.declared.operator.UnaryOperator.{UnaryOperator}
 use Rattle.js_syntax.specs.declared.value.Key.TheVariants as key
+use Rattle.js_syntax.specs.declared.value.LiteralValue.{LiteralValue}
 use Rattle.js_syntax.specs.declared.value.LiteralValue.TheVariants as value
 use Rattle.js_syntax.specs.Node.{Forest, Tree, nothing, node, nowhere, joined}
 use Rattle.form_rules.specs.Samples.{over, leaf, row, listed, no, a_module, a, binds, reads, one, does, declares, let_, var_, a_script, block, function_of}
@@ -23,6 +25,7 @@ use Rattle.steps_allowed.specs.OneSidedChoice.{OneSidedChoice}
 use Rattle.steps_allowed.specs.IdleParts.{IdleParts}
 use Rattle.steps_allowed.specs.TwoSides.{TwoSides}
 use Rattle.steps_allowed.specs.UnusedObject.{UnusedObject}
+use Rattle.steps_allowed.specs.KnownOperation.{KnownOperation}
 use Rattle.steps_allowed.specs.Edits.{Edit}
 
 -- a place in a module's list: in front of these statements, and behind these
@@ -67,6 +70,13 @@ logical o left right = over (Kind.LogicalExpression o) (joined left right)
 -- !e, and the others
 abbrev pub applied : UnaryOperator → (operand : Forest) → Forest
 applied o e = over (Kind.UnaryExpression o) e
+
+-- a literal, and operations on two
+abbrev pub literal : LiteralValue → Forest
+literal v = leaf (Kind.Literal v)
+
+abbrev pub operation : BinaryOperator → (left right : LiteralValue) → Forest
+operation o left right = over (Kind.BinaryExpression o) (joined (literal left) (literal right))
 
 -- left === right
 abbrev pub equals : (left right : Forest) → Forest
@@ -191,6 +201,11 @@ SidesStay place e = ⊥
 abbrev pub ObjectStays : Around → Forest → Type 0
 ObjectStays place (node k n below rest) = (y : Tree) → UnusedObject place (record { kind = k; note = n; below = below }) y → ⊥
 ObjectStays place e = ⊥
+
+-- nor of an operation, since its value isn't known or is no literal
+abbrev pub OperationStays : Around → Forest → Type 0
+OperationStays place (node k n below rest) = (y : Tree) → KnownOperation place (record { kind = k; note = n; below = below }) y → ⊥
+OperationStays place e = ⊥
 
 -- export d
 abbrev pub exports_declaration : Forest → Forest

@@ -1,7 +1,8 @@
 // Small programs that the definitions are tried on.
-ghost use Rattle.std.specs.Prelude.{pos, [], ◌∷◌, false, ◌≡◌, codes};
+ghost use Rattle.std.specs.Prelude.{pos, [], ◌∷◌, true, false, ◌≡◌, codes};
 ghost use Rattle.js_syntax.specs.declared.kind.VariableKind.TheVariants as variable;
 ghost use Rattle.js_syntax.specs.declared.node_kind.NodeKind.{NodeKind as Kind};
+ghost use Rattle.js_syntax.specs.declared.operator.BinaryOperator.TheVariants as binary;
 ghost use Rattle.js_syntax.specs.declared.operator.LogicalOperator.TheVariants as operator;
 ghost use Rattle.js_syntax.specs.declared.operator.UnaryOperator.TheVariants as unary;
 ghost use Rattle.js_syntax.specs.declared.value.LiteralValue.TheVariants as value;
@@ -17,7 +18,7 @@ ghost use Rattle.steps_allowed.specs.UnusedDeclaration.{a_declaration, SilentDec
 ghost use Rattle.steps_allowed.specs.KnownConditional.{KnownConditional};
 ghost use Rattle.steps_allowed.specs.KnownIf.{an_if, KnownIf};
 ghost use Rattle.steps_allowed.specs.Edits.{Edit};
-ghost use Rattle.steps_allowed.specs.Rows.{before, call_of_a, null, if_one, if_null, conditional, logical, may_be_named, o_f, parenthesized, called, called_in_parentheses, called_in_with, argument, operand, applied, equals, assigned, statement, ComesOut, Stays, StaysUnused, array, spread, hole, sequence, ListStays, ChoiceStays, PartsStay, SidesStay, object, a_is, b_is, getter_of_a, ObjectStays, behind_zero, placed, StaysDirect, with_a, in_with_a, empty, a_is_read, a_is_exported};
+ghost use Rattle.steps_allowed.specs.Rows.{before, call_of_a, null, if_one, if_null, conditional, logical, may_be_named, o_f, parenthesized, called, called_in_parentheses, called_in_with, argument, operand, applied, equals, assigned, statement, ComesOut, Stays, StaysUnused, array, spread, hole, sequence, ListStays, ChoiceStays, PartsStay, SidesStay, object, a_is, b_is, getter_of_a, ObjectStays, literal, operation, OperationStays, behind_zero, placed, StaysDirect, with_a, in_with_a, empty, a_is_read, a_is_exported};
 
 /// A statement of a literal becomes empty, in a list and alone, and leaves the list then.
 pub fn silent_statements_go()
@@ -206,4 +207,20 @@ pub fn other_objects_stay()
     ensures idle { ObjectStays statement (object (a_is one ∷ [])) }
     ensures getter { ObjectStays statement (object (getter_of_a ∷ [])) }
     ensures spread { ObjectStays statement (object (spread (reads a) ∷ [])) }
+{}
+
+/// An operation on literals of which the value is known becomes a literal of it.
+pub fn known_operations_become_literals()
+    ensures negation { Edit (placed argument (applied unary.LogicalNot (literal (value.Number (pos 0))))) (placed argument (literal (value.Boolean true))) }
+    ensures type_name { Edit (placed argument (applied unary.Typeof one)) (placed argument (literal (value.Text (codes "number")))) }
+    ensures sum { Edit (placed argument (operation binary.Addition (value.Number (pos 1)) (value.Number (pos 2)))) (placed argument (literal (value.Number (pos 3)))) }
+    ensures comparison { Edit (placed argument (operation binary.LessThan (value.Number (pos 1)) (value.Number (pos 2)))) (placed argument (literal (value.Boolean true))) }
+{}
+
+/// It stays where that is a negative number, where it is no whole number, where texts are joined, and where an operand is no literal.
+pub fn other_operations_stay()
+    ensures negative { OperationStays argument (applied unary.UnaryNegation one) }
+    ensures fraction { OperationStays argument (operation binary.Division (value.Number (pos 1)) (value.Number (pos 2))) }
+    ensures texts { OperationStays argument (operation binary.Addition (value.Text (codes "a")) (value.Text (codes "b"))) }
+    ensures name { OperationStays argument (applied unary.Typeof (reads a)) }
 {}

@@ -1,5 +1,5 @@
 -- What lies below a conditional, operators, lists and a call of a tree that fits the table of node types.
-use Rattle.std.proofs.Common.{◌≡◌, [], ◌∷◌, Bool, true, false, Some, refl, sym, ap, ◌∙◌, true≢false}
+use Rattle.std.proofs.Common.{◌≡◌, [], ◌∷◌, Bool, true, false, not, Some, refl, sym, ap, ◌∙◌, true≢false}
 use Rattle.js_syntax.specs.Class.{root, expression, callee, argument, object_item}
 use Rattle.js_syntax.specs.declared.node_kind.NodeKind.{NodeKind as Kind}
 use Rattle.js_syntax.specs.declared.operator.UnaryOperator.{UnaryOperator}
@@ -9,9 +9,9 @@ use Rattle.js_syntax.specs.Hint.{has, is_private}
 use Rattle.js_syntax.specs.Node.{Forest, Note}
 use Rattle.js_syntax.specs.Table.{Row, a_unary_expression, a_logical_expression, a_call_expression, fields_of}
 use Rattle.js_meaning_near.specs.Unused.{compares}
-use Rattle.json_shape.specs.Shape.{Values, kind_in, one, list, list_with_holes, places, these, Stand, Fits}
+use Rattle.json_shape.specs.Shape.{Values, kind_in, is_in, one, list, list_with_holes, places, these, Stand, Fits}
 use Rattle.scope_laws.specs.Place.{Around, plug}
-use Rattle.steps_owed.proofs.FitsTaking.{is_comparison, comparison_parts, array_parts, sequence_parts}
+use Rattle.steps_owed.proofs.FitsTaking.{is_comparison, comparison_parts, is_but_in, binary_parts, array_parts, sequence_parts}
 use Rattle.steps_owed.proofs.Made.{MadeBy, made_there, conditional_stands, object_stands}
 
 abbrev is_logical : Kind → Bool
@@ -72,6 +72,11 @@ pub sides_of_comparison : (a : Around) (o : BinaryOperator) → compares o ≡ t
 sides_of_comparison a o h n below fits =
     let made = made_there a (record { kind = Kind.BinaryExpression o; note = n; below = below }) (these (one root ∷ [])) refl refl fits in
     comparison_parts (has is_private below) made.row made.values below made.chosen (ap is_comparison (sym made.is) ∙ h) made.stands
+
+pub sides_of_binary : (a : Around) (o : BinaryOperator) → is_in o ≡ false → (n : Note) (below : Forest) → Fits root (plug a (Some (record { kind = Kind.BinaryExpression o; note = n; below = below }))) → Two below
+sides_of_binary a o h n below fits =
+    let made = made_there a (record { kind = Kind.BinaryExpression o; note = n; below = below }) (these (one root ∷ [])) refl refl fits in
+    binary_parts (has is_private below) made.row made.values below made.chosen (ap is_but_in (sym made.is) ∙ ap not h) made.stands
 
 pub parts_of_array : (a : Around) (n : Note) (below : Forest) → Fits root (plug a (Some (record { kind = Kind.ArrayExpression; note = n; below = below }))) → Stand (these (list_with_holes Kind.Elements argument ∷ [])) below
 parts_of_array a n below fits =

@@ -1,5 +1,5 @@
 -- Which nodes may take the place of others: a part of a choice or of a logical expression that of the whole, an empty statement that of one of an expression.
-use Rattle.std.proofs.Common.{◌≡◌, ◌∙◌, [], ◌∷◌, Bool, true, false, Some, refl, sym, ap, true≢false}
+use Rattle.std.proofs.Common.{◌≡◌, ◌∙◌, [], ◌∷◌, Bool, true, false, not, Some, refl, sym, ap, true≢false}
 use Rattle.js_syntax.specs.Class.{Class, module_item, statement, expression, arrow_body, for_init, default_export, expression_or_private, callee, argument}
 use Rattle.js_syntax.specs.declared.node_kind.NodeKind.{NodeKind as Kind}
 use Rattle.js_syntax.specs.declared.node_kind.NodeKind.TheVariants.{ConditionalExpression as conditional_expression, UnaryExpression as unary_expression, BinaryExpression as binary_expression, LogicalExpression as logical_expression, IfStatement as if_statement, ArrayExpression as array_expression, Elements as elements, ObjectExpression as object_expression, SequenceExpression as sequence_expression, Expressions as expressions}
@@ -150,6 +150,15 @@ abbrev pub is_comparison : Kind → Bool
 is_comparison (binary_expression operator) = compares operator
 is_comparison k = false
 
+abbrev is_binary : Kind → Bool
+is_binary (binary_expression operator) = true
+is_binary k = false
+
+-- `in` is of a row of its own
+abbrev pub is_but_in : Kind → Bool
+is_but_in (binary_expression operator) = not (is_in operator)
+is_but_in k = false
+
 abbrev is_array : Kind → Bool
 is_array array_expression = true
 is_array k = false
@@ -213,6 +222,18 @@ comparison_parts private a_binary_expression vs parts chosen is stand = stand
 comparison_parts private an_in_expression vs parts chosen is stand = absurd (in_compares_not vs.0 chosen is)
 comparison_parts private r vs parts chosen is stand = absurd (true≢false (sym is))
 
+binary_class : (c : Class) (r : TableRow) (vs : Values (fields_of r)) → is_binary (kind_in r vs) ≡ true → stands c (type_of r) ≡ Some (first_of r)
+    → stands c type.BinaryExpression ≡ Some a_binary_expression
+binary_class c a_binary_expression vs is stood = stood
+binary_class c an_in_expression vs is stood = stood
+binary_class c r vs is stood = absurd (true≢false (sym is))
+
+pub binary_parts : (private : Bool) (r : TableRow) (vs : Values (fields_of r)) (parts : Forest) → IsChosen r vs → is_but_in (kind_in r vs) ≡ true → Stand (these (places private (fields_of r) vs)) parts
+    → Stand (these (one expression ∷ one expression ∷ [])) parts
+binary_parts private a_binary_expression vs parts chosen is stand = stand
+binary_parts private an_in_expression vs parts chosen is stand = absurd (true≢false (sym is ∙ ap not chosen))
+binary_parts private r vs parts chosen is stand = absurd (true≢false (sym is))
+
 array_class : (c : Class) (r : TableRow) (vs : Values (fields_of r)) → is_array (kind_in r vs) ≡ true → stands c (type_of r) ≡ Some (first_of r)
     → stands c type.ArrayExpression ≡ Some an_array_expression
 array_class c an_array_expression vs is stood = stood
@@ -273,6 +294,9 @@ module _ (c : Class) (n : Note) (below : Forest) where
 
   pub comparison_below : (o : BinaryOperator) → compares o ≡ true → Fits c (alone (binary_expression o) n below) → Stand (these (one expression ∷ one expression ∷ [])) below
   comparison_below o h fits = comparison_parts (has is_private below) fits.0.0 fits.0.1 below fits.0.3 (ap is_comparison (sym fits.0.4) ∙ h) fits.0.5
+
+  pub binary_stood : (o : BinaryOperator) → Fits c (alone (binary_expression o) n below) → stands c type.BinaryExpression ≡ Some a_binary_expression
+  binary_stood o fits = binary_class c fits.0.0 fits.0.1 (ap is_binary (sym fits.0.4)) fits.0.2
 
   pub array_stood : Fits c (alone array_expression n below) → stands c type.ArrayExpression ≡ Some an_array_expression
   array_stood fits = array_class c fits.0.0 fits.0.1 (ap is_array (sym fits.0.4)) fits.0.2

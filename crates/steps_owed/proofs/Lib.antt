@@ -58,6 +58,9 @@ pub mod LastPart
 pub mod IdleParts
 pub mod TwoSides
 pub mod UnusedObject
+pub mod KnownValues
+pub mod KnownSizes
+pub mod KnownOperation
 pub mod Edited
 pub mod Refused
 pub mod Outlying

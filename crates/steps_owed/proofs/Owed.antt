@@ -1,7 +1,7 @@
 -- Every case owes: a line each.
 use Rattle.js_syntax.specs.Node.{Tree}
 use Rattle.scope_laws.specs.Place.{Around}
-use Rattle.steps_allowed.specs.Edits.{Leaves, empty_statement, unused_function, unused_declarator, unused_declaration, Becomes, silent_statement, known_conditional, known_side, known_if, unused_operation, unused_list, indirect_choice, one_sided_choice, idle_parts, two_sides, unused_object}
+use Rattle.steps_allowed.specs.Edits.{Leaves, empty_statement, unused_function, unused_declarator, unused_declaration, Becomes, silent_statement, known_conditional, known_side, known_if, unused_operation, unused_list, indirect_choice, one_sided_choice, idle_parts, two_sides, unused_object, known_operation}
 use Rattle.steps_owed.specs.Owed.{Leaving, Becoming}
 use Rattle.steps_owed.proofs.ByPart.{by_part}
 use Rattle.steps_owed.proofs.ByParts.{by_parts}
@@ -20,6 +20,7 @@ use Rattle.steps_owed.proofs.OneSidedChoice.{one_sided_choice_owes}
 use Rattle.steps_owed.proofs.IdleParts.{idle_parts_owes}
 use Rattle.steps_owed.proofs.TwoSides.{two_sides_owes}
 use Rattle.steps_owed.proofs.UnusedObject.{unused_object_owes}
+use Rattle.steps_owed.proofs.KnownOperation.{known_operation_owes}
 
 pub leaving : (a : Around) (x : Tree) → Leaves a x → Leaving a x
 leaving a x (empty_statement c) = empty_statement_owes a x c
@@ -39,3 +40,4 @@ becoming a x y (one_sided_choice c) = by_parts a x y (one_sided_choice_owes a x 
 becoming a x y (idle_parts c) = by_parts a x y (idle_parts_owes a x y c)
 becoming a x y (two_sides c) = by_parts a x y (two_sides_owes a x y c)
 becoming a x y (unused_object c) = by_parts a x y (unused_object_owes a x y c)
+becoming a x y (known_operation c) = by_parts a x y (known_operation_owes a x y c)
