@@ -24,7 +24,7 @@ use Rattle.steps_allowed.specs.UnusedFunction.{unused_function_leaves}
 use Rattle.steps_allowed.specs.UnusedDeclarator.{SilentDeclarator, unused_declarator_leaves}
 use Rattle.steps_allowed.specs.UnusedDeclaration.{SilentDeclaration, one_declarator, unused_declaration_leaves}
 use Rattle.steps_allowed.specs.SilentStatement.{SilentStatement, silent_statement_empties}
-use Rattle.steps_allowed.specs.Edits.{Leaves, empty_statement, unused_function, unused_declarator, unused_declaration, Becomes, silent_statement, known_conditional, known_side, known_if, unused_operation, unused_list, indirect_choice, one_sided_choice, idle_parts, two_sides, unused_object, Edit, leaves, becomes, TreeEdits, no_tree_edit, one_tree_edit}
+use Rattle.steps_allowed.specs.Edits.{Leaves, empty_statement, unused_function, unused_declarator, unused_declaration, Becomes, silent_statement, known_conditional, known_side, known_if, unused_operation, unused_list, indirect_choice, one_sided_choice, idle_parts, two_sides, unused_object, known_operation, Edit, leaves, becomes, TreeEdits, no_tree_edit, one_tree_edit}
 use Rattle.steps_owed.specs.Kept.{is_program}
 use Rattle.steps_owed.specs.Owed.{ByPart, ByParts}
 use Rattle.steps_owed.proofs.Expressions.{expression_declares_nothing}
@@ -40,6 +40,7 @@ use Rattle.steps_owed.proofs.OneSidedChoice.{one_sided_choice_owes}
 use Rattle.steps_owed.proofs.IdleParts.{idle_parts_owes}
 use Rattle.steps_owed.proofs.TwoSides.{two_sides_owes}
 use Rattle.steps_owed.proofs.UnusedObject.{unused_object_owes}
+use Rattle.steps_owed.proofs.KnownOperation.{known_operation_owes}
 use Rattle.steps_owed.proofs.Owed.{leaving}
 use Rattle.steps_owed.proofs.TableKept as tables
 use Rattle.steps_owed.proofs.Unseen.{both_at, enclosed_there}
@@ -142,6 +143,7 @@ module _ (e : BindingSite) (top : e.layer.scope ≡ 0) where
   changed a x y (idle_parts c) fits h = parts_settled a x y (idle_parts_owes a x y c) fits h
   changed a x y (two_sides c) fits h = parts_settled a x y (two_sides_owes a x y c) fits h
   changed a x y (unused_object c) fits h = parts_settled a x y (unused_object_owes a x y c) fits h
+  changed a x y (known_operation c) fits h = parts_settled a x y (known_operation_owes a x y c) fits h
 
   edited : (t u : Forest) → Edit t u → Fits root t → Among e (exported_declarations t) → ExportedBy u
   edited _ _ (leaves a x c) fits h = subst ExportedBy (made_without a) (left a x c (λ f. tables.in_list a (leaving a x c).listed) fits h)

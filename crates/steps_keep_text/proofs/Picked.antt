@@ -1,13 +1,15 @@
--- What comes of an array, an object literal, a sequence, a choice or a comparison counts no more.
-use Rattle.std.proofs.Common.{◌≡◌, ◌≤◌, ◌+◌, ℕ, pos, arith}
+-- What comes of an array, an object literal, a sequence, a choice, a comparison or an operation on literals counts no more.
+use Rattle.std.proofs.Common.{◌≡◌, ◌≤◌, ◌+◌, ℕ, pos, arith, refl}
 use Rattle.js_syntax.specs.declared.node_kind.NodeKind.{NodeKind as Kind}
-use Rattle.js_syntax.specs.declared.node_kind.NodeKind.TheVariants.{EmptyStatement as empty_statement, ExpressionStatement as expression_statement, ArrayExpression as array_expression, Elements as elements, ObjectExpression as object_expression, Properties as properties, BinaryExpression as binary_expression, SequenceExpression as sequence_expression, Expressions as expressions, ConditionalExpression as conditional_expression, LogicalExpression as logical_expression, Literal as literal}
+use Rattle.js_syntax.specs.declared.node_kind.NodeKind.TheVariants.{EmptyStatement as empty_statement, ExpressionStatement as expression_statement, ArrayExpression as array_expression, Elements as elements, ObjectExpression as object_expression, Properties as properties, BinaryExpression as binary_expression, SequenceExpression as sequence_expression, Expressions as expressions, ConditionalExpression as conditional_expression, LogicalExpression as logical_expression, UnaryExpression as unary_expression, Literal as literal}
 use Rattle.js_syntax.specs.declared.operator.BinaryOperator.{BinaryOperator}
+use Rattle.js_syntax.specs.declared.operator.UnaryOperator.{UnaryOperator}
 use Rattle.js_syntax.specs.declared.operator.LogicalOperator.{LogicalOperator}
 use Rattle.js_syntax.specs.declared.value.LiteralValue.{LiteralValue}
 use Rattle.js_syntax.specs.declared.value.LiteralValue.TheVariants as value
 use Rattle.js_syntax.specs.Node.{Forest, total}
-use Rattle.steps_marked.proofs.Picked.{SomeOf, none, stays, leaves, opens, absent_leaves, absent_stays, Picks, one_part, several, part_behind_zero, two_parts, in_turn}
+use Rattle.steps_owed.proofs.KnownSizes.{IsSmall}
+use Rattle.steps_marked.proofs.Picked.{SomeOf, none, stays, leaves, opens, absent_leaves, absent_stays, Picks, one_part, several, part_behind_zero, two_parts, known, in_turn}
 
 -- counts by which what edits build counts no more than what it is built of
 pub record IsSparing (counts : Kind → ℕ) : Type 0 where
@@ -21,10 +23,12 @@ pub record IsSparing (counts : Kind → ℕ) : Type 0 where
   pub of_logical : (o : LogicalOperator) → counts sequence_expression + counts expressions ≤ counts (logical_expression o)
   pub of_choice : (o : LogicalOperator) → counts (logical_expression o) ≤ counts conditional_expression
   pub zero : (v : LiteralValue) → counts (literal (value.Number (pos 0))) ≤ counts (literal v)
+  pub of_one : (o : UnaryOperator) (w : LiteralValue) → IsSmall w → counts (literal w) ≤ counts (unary_expression o)
+  pub of_two : (o : BinaryOperator) (w : LiteralValue) → IsSmall w → counts (literal w) ≤ counts (binary_expression o)
 
 -- as they are where none of that is counted
-pub uncounted : (counts : Kind → ℕ) → counts empty_statement ≡ 0 → counts sequence_expression ≡ 0 → counts expressions ≡ 0 → counts (literal (value.Number (pos 0))) ≡ 0 → ((o : LogicalOperator) → counts (logical_expression o) ≡ 0) → IsSparing counts
-uncounted counts empty sequence list zero logical = record {
+pub uncounted : (counts : Kind → ℕ) → counts empty_statement ≡ 0 → counts sequence_expression ≡ 0 → counts expressions ≡ 0 → ((w : LiteralValue) → IsSmall w → counts (literal w) ≡ 0) → ((o : LogicalOperator) → counts (logical_expression o) ≡ 0) → IsSparing counts
+uncounted counts empty sequence list small logical = record {
   empty = Prim.omega (arith, empty);
   of_array = Prim.omega (arith, sequence);
   of_elements = Prim.omega (arith, list);
@@ -34,7 +38,9 @@ uncounted counts empty sequence list zero logical = record {
   of_conditional = Prim.omega (arith, sequence, list);
   of_logical = λ o. Prim.omega (arith, sequence, list);
   of_choice = λ o. Prim.omega (arith, logical o);
-  zero = λ v. Prim.omega (arith, zero);
+  zero = λ v. Prim.omega (arith, small (value.Number (pos 0)) refl);
+  of_one = λ o w h. Prim.omega (arith, small w h);
+  of_two = λ o w h. Prim.omega (arith, small w h);
 }
 
 module _ (counts : Kind → ℕ) where
@@ -57,3 +63,6 @@ module _ (counts : Kind → ℕ) where
   picked_counts spares (part_behind_zero k l v o m i p parts inner choice some) = absurd cc
   picked_counts spares (two_parts o parts left some) = Prim.omega (arith, spares.of_choice o, some_counts some)
   picked_counts spares (in_turn o m sides) = Prim.omega (arith, spares.of_comparison o)
+  picked_counts spares (known (unary_expression o) below w operator small) = Prim.omega (arith, spares.of_one o w small)
+  picked_counts spares (known (binary_expression o) below w operator small) = Prim.omega (arith, spares.of_two o w small)
+  picked_counts spares (known k below w operator small) = absurd cc

@@ -77,4 +77,6 @@ nodes_shed = counts_shed one_each (record {
   of_logical = λ o. Prim.omega arith;
   of_choice = λ o. Prim.omega arith;
   zero = λ v. Prim.omega arith;
+  of_one = λ o w h. Prim.omega arith;
+  of_two = λ o w h. Prim.omega arith;
 })

@@ -1,36 +1,66 @@
 -- What edits leave of a program has exact values where the program has: so it is readable, or signable, where its text keeps JSON's limit of nesting.
-use Rattle.std.proofs.Common.{◌≡◌, ◌≤◌, refl, arith}
+use Rattle.std.proofs.Common.{◌≡◌, ◌≤◌, ◌+◌, pos, negsuc, Bool, true, false, not, if◌then◌else◌, refl, arith}
 use Rattle.serde_json.specs.Data.{depth}
 use Rattle.serde_json.specs.Read.{max_depth}
 use Rattle.js_syntax.specs.Class.{root}
+use Rattle.js_syntax.specs.declared.node_kind.NodeKind.TheVariants.{Literal as literal}
+use Rattle.js_syntax.specs.declared.value.LiteralValue.{LiteralValue}
+use Rattle.js_syntax.specs.declared.value.LiteralValue.TheVariants as value
 use Rattle.js_syntax.specs.Node.{Forest, total}
 use Rattle.json_text.specs.Text.{data_of}
 use Rattle.json_shape.specs.Shape.{Fits}
-use Rattle.json_shape.specs.Exact.{inexact, IsExact}
+use Rattle.json_shape.specs.Exact.{is_exact_number, inexact, IsExact}
 use Rattle.json_shape.specs.Readable.{IsReadable}
 use Rattle.json_kept.specs.Respelled.{negative, misnamed, IsWrittenAsItIs}
 use Rattle.json_kept.specs.Signs.{inexact_size, IsSignable}
 use Rattle.steps_allowed.specs.Edits.{Edits}
 use Rattle.steps_owed.proofs.FitsEdits.{edits_fit}
+use Rattle.steps_owed.proofs.KnownSizes.{IsSmall}
 use Rattle.steps_keep_text.proofs.Along.{edits_shed}
 use Rattle.steps_keep_text.proofs.Picked.{uncounted}
 use Rattle.steps_keep_text.proofs.Smaller.{counts_shed}
 
+-- no literal is counted that an operation becomes
+small_misnamed : (w : LiteralValue) → IsSmall w → misnamed (literal w) ≡ 0
+small_misnamed w small = refl
+
+small_negative : (w : LiteralValue) → IsSmall w → negative (literal w) ≡ 0
+small_negative (value.Number (negsuc n)) small = absurd small
+small_negative w small = refl
+
+none_if : (b : Bool) → b ≡ true → (if b then 0 else 1) + 0 ≡ 0
+none_if true h = refl
+none_if false h = absurd cc
+
+small_inexact : (w : LiteralValue) → IsSmall w → inexact (literal w) ≡ 0
+small_inexact (value.Number (pos n)) small = none_if (is_exact_number n) small
+small_inexact (value.Number (negsuc n)) small = absurd small
+small_inexact w small = refl
+
+none_if_not : (b : Bool) → b ≡ true → (if not b then 1 else 0) + 0 ≡ 0
+none_if_not true h = refl
+none_if_not false h = absurd cc
+
+small_inexact_size : (w : LiteralValue) → IsSmall w → inexact_size (literal w) ≡ 0
+small_inexact_size (value.Number (pos n)) small = none_if_not (is_exact_number n) small
+small_inexact_size (value.Number (negsuc n)) small = absurd small
+small_inexact_size w small = refl
+
 module _ (t u : Forest) (edits : Edits t u) (fits : Fits root t) where
   pub fewer_misnamed : total misnamed u ≤ total misnamed t
-  fewer_misnamed = edits_shed (total misnamed) (counts_shed misnamed (uncounted misnamed refl refl refl refl (λ o. refl))) t u edits fits
+  fewer_misnamed = edits_shed (total misnamed) (counts_shed misnamed (uncounted misnamed refl refl refl small_misnamed (λ o. refl))) t u edits fits
 
   pub fewer_negative : total negative u ≤ total negative t
-  fewer_negative = edits_shed (total negative) (counts_shed negative (uncounted negative refl refl refl refl (λ o. refl))) t u edits fits
+  fewer_negative = edits_shed (total negative) (counts_shed negative (uncounted negative refl refl refl small_negative (λ o. refl))) t u edits fits
 
   pub left_as_it_is : IsWrittenAsItIs t → IsWrittenAsItIs u
   left_as_it_is so = record { numbers = Prim.omega (arith, fewer_negative, so.numbers); names = Prim.omega (arith, fewer_misnamed, so.names) }
 
   pub left_exact : IsExact t → IsExact u
-  left_exact exact = Prim.omega (arith, edits_shed (total inexact) (counts_shed inexact (uncounted inexact refl refl refl refl (λ o. refl))) t u edits fits, exact)
+  left_exact exact = Prim.omega (arith, edits_shed (total inexact) (counts_shed inexact (uncounted inexact refl refl refl small_inexact (λ o. refl))) t u edits fits, exact)
 
   pub left_exact_sizes : total inexact_size t ≡ 0 → total inexact_size u ≡ 0
-  left_exact_sizes exact = Prim.omega (arith, edits_shed (total inexact_size) (counts_shed inexact_size (uncounted inexact_size refl refl refl refl (λ o. refl))) t u edits fits, exact)
+  left_exact_sizes exact = Prim.omega (arith, edits_shed (total inexact_size) (counts_shed inexact_size (uncounted inexact_size refl refl refl small_inexact_size (λ o. refl))) t u edits fits, exact)
 
   pub left_readable : IsExact t → depth (data_of u) ≤ max_depth → IsReadable u
   left_readable exact shallow = record { shape = edits_fit t u edits fits; values = left_exact exact; nesting = shallow }

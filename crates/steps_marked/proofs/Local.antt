@@ -33,11 +33,12 @@ use Rattle.steps_owed.proofs.OneSidedChoice.{one_sided_choice_owes}
 use Rattle.steps_owed.proofs.IdleParts.{idle_parts_owes}
 use Rattle.steps_owed.proofs.TwoSides.{two_sides_owes}
 use Rattle.steps_owed.proofs.UnusedObject.{unused_object_owes}
+use Rattle.steps_owed.proofs.KnownOperation.{known_operation_owes}
 use Rattle.steps_owed.proofs.Owed.{leaving}
 use Rattle.steps_owed.proofs.Places.{place_of, rest_of, placed_is, without_is, listed_is}
 use Rattle.steps_owed.proofs.TableKept as tables
 use Rattle.steps_marked.proofs.Called.{called_at, used_as_callee}
-use Rattle.steps_marked.proofs.Picked.{Picks, unused_list_picks, indirect_choice_picks, one_sided_choice_picks, idle_parts_picks, two_sides_picks, unused_object_picks}
+use Rattle.steps_marked.proofs.Picked.{Picks, unused_list_picks, indirect_choice_picks, one_sided_choice_picks, idle_parts_picks, two_sides_picks, unused_object_picks, known_operation_picks}
 
 -- An expression is rebuilt of its parts. No rule of form asks for what it was or for what it is, which declares nothing, weighs less and
 -- has no more levels.
@@ -138,3 +139,4 @@ is_local t u (edits.becomes a x y (edits.one_sided_choice c)) fits = by_parts a 
 is_local t u (edits.becomes a x y (edits.idle_parts c)) fits = by_parts a x y (idle_parts_owes a x y c) (idle_parts_picks a x y c) fits
 is_local t u (edits.becomes a x y (edits.two_sides c)) fits = by_parts a x y (two_sides_owes a x y c) (two_sides_picks a x y c) fits
 is_local t u (edits.becomes a x y (edits.unused_object c)) fits = by_parts a x y (unused_object_owes a x y c) (unused_object_picks a x y c) fits
+is_local t u (edits.becomes a x y (edits.known_operation c)) fits = by_parts a x y (known_operation_owes a x y c) (known_operation_picks a x y c) fits

@@ -2,7 +2,7 @@
 -- parts behind a zero, or two of them as a logical expression; and what a comparison does: its sides in a sequence.
 use Rattle.std.proofs.Common.{◌≡◌, pos, Bool, true, false, Option, Some, None, if◌then◌else◌, refl, subst}
 use Rattle.js_syntax.specs.declared.node_kind.NodeKind.{NodeKind as Kind}
-use Rattle.js_syntax.specs.declared.node_kind.NodeKind.TheVariants.{ArrayExpression as array_expression, Elements as elements, ObjectExpression as object_expression, Properties as properties, BinaryExpression as binary_expression, SequenceExpression as sequence_expression, Expressions as expressions, ConditionalExpression as conditional_expression, LogicalExpression as logical_expression, Literal as literal}
+use Rattle.js_syntax.specs.declared.node_kind.NodeKind.TheVariants.{ArrayExpression as array_expression, Elements as elements, ObjectExpression as object_expression, Properties as properties, BinaryExpression as binary_expression, SequenceExpression as sequence_expression, Expressions as expressions, ConditionalExpression as conditional_expression, LogicalExpression as logical_expression, UnaryExpression as unary_expression, Literal as literal}
 use Rattle.js_syntax.specs.declared.operator.BinaryOperator.{BinaryOperator}
 use Rattle.js_syntax.specs.declared.operator.LogicalOperator.{LogicalOperator}
 use Rattle.js_syntax.specs.declared.operator.LogicalOperator.TheVariants as logical
@@ -17,11 +17,14 @@ use Rattle.steps_allowed.specs.OneSidedChoice.{sides, one_side, one_sided, OneSi
 use Rattle.steps_allowed.specs.IdleParts.{stays_before, counting, all_count, as_value_of, sequence_becomes, IdleParts, idle_parts_leave}
 use Rattle.steps_allowed.specs.TwoSides.{two_sides, TwoSides, both_sides_act}
 use Rattle.steps_allowed.specs.UnusedObject.{are_plain, acting_values, object_becomes, UnusedObject, acting_values_stay}
+use Rattle.steps_allowed.specs.KnownOperation.{KnownOperation, value_is_known}
 use Rattle.steps_allowed.specs.Places.{asked_at}
 use Rattle.steps_allowed.specs.UnusedList.{acting, all_act, has_spread, as_one, list_becomes, UnusedList, acting_parts_stay}
 use Rattle.steps_allowed.specs.UnusedOperation.{acts}
 use Rattle.steps_allowed.specs.Uses.{Use, use_at, as_value, stands_bare}
 use Rattle.steps_owed.proofs.IndirectChoice.{Counts, consequent_counts, alternate_counts, right_side_counts, part_that_counts}
+use Rattle.steps_owed.proofs.KnownOperation.{Operation, on_one, on_two, is_operation_known, value_small}
+use Rattle.steps_owed.proofs.KnownSizes.{IsSmall}
 use Rattle.steps_owed.proofs.UnusedObject.{Plain, none_left, value_stays, value_leaves, plain_properties}
 
 -- some of the nodes of a row, in their order, or of a property its value
@@ -45,11 +48,18 @@ is_choice conditional_expression = true
 is_choice (logical_expression operator) = true
 is_choice k = false
 
+-- an expression of an operator
+abbrev pub is_operator : Kind → Bool
+is_operator (unary_expression operator) = true
+is_operator (binary_expression operator) = true
+is_operator k = false
+
 pub data Picks : (k : Kind) (below : Forest) (l : Kind) (inner : Forest) → Type 0 where
   one_part : (k j l : Kind) (i m : Note) (parts inner : Forest) → holds_parts k j ≡ true → SomeOf parts (alone l m inner) → Picks k (node j i parts nothing) l inner
   several : (k j : Kind) (i m : Note) (parts left : Forest) → holds_parts k j ≡ true → SomeOf parts left → Picks k (node j i parts nothing) sequence_expression (node expressions m left nothing)
   part_behind_zero : (k l : Kind) (v : LiteralValue) (o m i p : Note) (parts inner : Forest) → is_choice k ≡ true → SomeOf parts (alone l p inner) → Picks k (node (literal v) o nothing parts) sequence_expression (node expressions m (node (literal (value.Number (pos 0))) i nothing (alone l p inner)) nothing)
   two_parts : (o : LogicalOperator) (parts left : Forest) → SomeOf parts left → Picks conditional_expression parts (logical_expression o) left
+  known : (k : Kind) (below : Forest) (w : LiteralValue) → is_operator k ≡ true → IsSmall w → Picks k below (literal w) nothing
   in_turn : (o : BinaryOperator) (m : Note) (sides : Forest) → Picks (binary_expression o) sides sequence_expression (node expressions m sides nothing)
 
 -- ---- the parts that act
@@ -179,3 +189,12 @@ object_picks n m k a y is = absurd cc
 
 pub unused_object_picks : (a : Around) (x y : Tree) → UnusedObject a x y → Picks x.kind x.below y.kind y.below
 unused_object_picks a _ _ (acting_values_stay n m x y unused is) = object_picks n m x.kind x.below y is
+
+-- ---- the value of an operation on literals
+
+known_picks : {k : Kind} {below : Forest} {w : LiteralValue} → Operation k below w → IsSmall w → Picks k below (literal w) nothing
+known_picks (on_one o v p rest w is) small = known (unary_expression o) (node (literal v) p nothing rest) w refl small
+known_picks (on_two o n below w are is) small = known (binary_expression o) below w refl small
+
+pub known_operation_picks : (a : Around) (x y : Tree) → KnownOperation a x y → Picks x.kind x.below y.kind y.below
+known_operation_picks a x _ (value_is_known i w _ is) = let operation = is_operation_known x.kind x.note x.below w is in known_picks operation (value_small operation)
