@@ -9,6 +9,7 @@ ghost use Rattle.rules_expressions.specs.OneSided.{fold_one_sided};
 ghost use Rattle.rules_expressions.specs.Sequences.{fold_sequence};
 ghost use Rattle.rules_expressions.specs.TwoSides.{fold_two_sides};
 ghost use Rattle.rules_expressions.specs.Objects.{fold_object};
+ghost use Rattle.rules_expressions.specs.Operations.{fold_known};
 ghost use Rattle.rules_expressions.specs.Uses.{spot_of};
 ghost use Rattle.min_expressions.specs.Kept.{matters_at};
 
@@ -18,6 +19,7 @@ use crate::kept::{conditional_keeps, keep_child, logical_keeps};
 use crate::list::{keep_list, list_goes};
 use crate::object::{keep_object, object_goes};
 use crate::one_sided::{keep_one_side, stays_one_sided};
+use crate::operation::{known_literal, put_literal};
 use crate::sequence::{keep_sequence, sequence_goes};
 use crate::two_sides::{keep_two_sides, sides_go};
 use crate::unused::{keep_needed, unused_keeps};
@@ -89,6 +91,17 @@ fn fold_but_objects(node: &mut Node, ctx: &mut MinifierTraverseCtx) -> Result<bo
         return Ok(true);
     }
     PeepholeOptimizations::fold_two_sides(node, ctx)
+}
+
+// The same, and what becomes of an object literal of which nobody takes the value.
+fn fold_but_operations(node: &mut Node, ctx: &mut MinifierTraverseCtx) -> Result<bool, AllocError>
+    ensures does { IfOk result (λ b. Does (either (either (either (either (either (either (either (either fold_conditional fold_logical) fold_unused) fold_unused_list) fold_indirect) fold_one_sided) fold_sequence) fold_two_sides) fold_object) ctx.old node.old b ctx.new node.new) }
+    ensures refused { IfErr result (λ e. (node.new ≡ node.old) × (ctx.new ≡ ctx.old)) }
+{
+    if fold_but_objects(node, ctx)? {
+        return Ok(true);
+    }
+    Ok(PeepholeOptimizations::remove_unused_object(node, ctx))
 }
 
 /// What a walk does behind a node, to that node alone. Each call answers whether it did anything.
@@ -222,6 +235,24 @@ impl PeepholeOptimizations {
         }
     }
 
+    /// An operation on literals becomes a literal of its value, as `1 + 2` becomes `3`, as far as that is known. It fails only for want
+    /// of memory; then all is as it was.
+    pub fn fold_known_operation(
+        node: &mut Node,
+        ctx: &mut MinifierTraverseCtx,
+    ) -> Result<bool, AllocError>
+        ensures does { IfOk result (λ b. Does fold_known ctx.old node.old b ctx.new node.new) }
+        ensures refused { IfErr result (λ e. (node.new ≡ node.old) × (ctx.new ≡ ctx.old)) }
+    {
+        match known_literal(node, ctx.alloc())? {
+            Some(value) => {
+                put_literal(node, value, ctx);
+                Ok(true)
+            }
+            None => Ok(false),
+        }
+    }
+
     /// What becomes of an expression behind which the walk is. It fails only for want of memory; then all is as it was.
     pub fn fold_expression(
         node: &mut Node,
@@ -230,10 +261,10 @@ impl PeepholeOptimizations {
         ensures does { IfOk result (λ b. Does at_expression_end ctx.old node.old b ctx.new node.new) }
         ensures refused { IfErr result (λ e. (node.new ≡ node.old) × (ctx.new ≡ ctx.old)) }
     {
-        if fold_but_objects(node, ctx)? {
+        if fold_but_operations(node, ctx)? {
             return Ok(true);
         }
-        Ok(PeepholeOptimizations::remove_unused_object(node, ctx))
+        PeepholeOptimizations::fold_known_operation(node, ctx)
     }
 
     /// Whether it matters that an expression stands itself where the walk is, as what a call calls, or what `typeof` or `delete`

@@ -1,7 +1,7 @@
 -- What the hook of expressions does, and that it may.
 use Rattle.std.proofs.Common.{◌≡◌, ◌∙◌, ◌≤◌, ◌⊎◌, inl, inr, Bool, true, false, not, ◌||◌, Option, Some, None, is_some, if◌then◌else◌, refl, sym, ap, ap₂, subst, arith, true≢false}
 use Rattle.js_syntax.specs.declared.node_kind.NodeKind.{NodeKind as Kind}
-use Rattle.js_syntax.specs.declared.node_kind.NodeKind.TheVariants.{ArrayExpression as array_expression, Elements as elements, MemberExpression as member_expression, ChainExpression as chain_expression, ParenthesizedExpression as parenthesized_expression, SequenceExpression as sequence_expression, Expressions as expressions, ObjectExpression as object_expression, Properties as properties, Property as property, BinaryExpression as binary_expression, ConditionalExpression as conditional_expression, LogicalExpression as logical_expression, Literal as literal}
+use Rattle.js_syntax.specs.declared.node_kind.NodeKind.TheVariants.{ArrayExpression as array_expression, Elements as elements, MemberExpression as member_expression, ChainExpression as chain_expression, ParenthesizedExpression as parenthesized_expression, SequenceExpression as sequence_expression, Expressions as expressions, ObjectExpression as object_expression, Properties as properties, Property as property, UnaryExpression as unary_expression, BinaryExpression as binary_expression, ConditionalExpression as conditional_expression, LogicalExpression as logical_expression, Literal as literal}
 use Rattle.js_syntax.specs.declared.operator.BinaryOperator.{BinaryOperator}
 use Rattle.js_syntax.specs.declared.operator.LogicalOperator.{LogicalOperator}
 use Rattle.js_syntax.specs.declared.operator.LogicalOperator.TheVariants as logical
@@ -19,6 +19,7 @@ use Rattle.steps_allowed.specs.OneSidedChoice.{sides, one_side, one_sided, OneSi
 use Rattle.steps_allowed.specs.IdleParts.{stays_before, counting, all_count, as_value_of, sequence_becomes, IdleParts, idle_parts_leave}
 use Rattle.steps_allowed.specs.TwoSides.{two_sides, TwoSides, both_sides_act}
 use Rattle.steps_allowed.specs.UnusedObject.{are_plain, acting_values, object_becomes, UnusedObject, acting_values_stay}
+use Rattle.steps_allowed.specs.KnownOperation.{known_literal, KnownOperation, value_is_known}
 use Rattle.steps_allowed.specs.Uses.{Use, as_value, as_typed, use_at, matters, may_take_name, stands_bare}
 use Rattle.steps_owed.proofs.UnusedPlace.{unused_as_value}
 use Rattle.steps_owed.proofs.UnusedOperation.{Needed, the_operand, first_side, second_side, left_side, the_condition, needed_part}
@@ -37,6 +38,7 @@ use Rattle.rules_expressions.specs.OneSided.{one_sided_becomes}
 use Rattle.rules_expressions.specs.Sequences.{sequence_left}
 use Rattle.rules_expressions.specs.TwoSides.{two_sides_become}
 use Rattle.rules_expressions.specs.Objects.{object_left}
+use Rattle.rules_expressions.specs.Operations.{known_becomes}
 use Rattle.rules_expressions.proofs.Becoming.{no_answer, same_answer, chosen, chosen_if}
 use Rattle.rules_expressions.proofs.Editing.{conditional_edits_there, logical_edits_there}
 use Rattle.rules_expressions.proofs.Unused.{unused_edits_there}
@@ -46,6 +48,7 @@ use Rattle.rules_expressions.proofs.OneSided.{one_sided_edits_there}
 use Rattle.rules_expressions.proofs.Sequences.{sequence_edits_there}
 use Rattle.rules_expressions.proofs.TwoSides.{two_sides_edits_there}
 use Rattle.rules_expressions.proofs.Objects.{object_edits_there}
+use Rattle.rules_expressions.proofs.Operations.{known_edits}
 use Rattle.rules_expressions.proofs.Folding.{expressions_fold}
 use Rattle.min_statements.specs.Own.{AnyEdit, Own, Found}
 use Rattle.min_statements.specs.Walker.{Names}
@@ -276,6 +279,19 @@ module _ (a : places.Around) (i : Note) (used : use_at a ≡ as_value) where
 object_calls : (a : places.Around) (x y : Tree) → UnusedObject a x y → CallsStay a x y
 object_calls a _ _ (acting_values_stay n m x y unused becomes) = object_call a x.note (unused_as_value a unused) n m x.kind x.below y becomes
 
+-- ---- what becomes a literal
+
+no_literal : {P : Type 0} {v : LiteralValue} → None ≡ Some v → P
+no_literal e = absurd Prim.cc
+
+known_is_no_name : (k : Kind) (n : Note) (below : Forest) (v : LiteralValue) → known_literal k n below ≡ Some v → is_no_name k ≡ true
+known_is_no_name (unary_expression o) n below v e = refl
+known_is_no_name (binary_expression o) n below v e = refl
+known_is_no_name k n below v e = no_literal e
+
+known_calls : (a : places.Around) (x y : Tree) → KnownOperation a x y → CallsStay a x y
+known_calls a _ _ (value_is_known i v x known) = record { fewer = Prim.omega arith; old = known_is_no_name x.kind x.note x.below v known; in_with = false; bare = refl }
+
 -- ---- what the rules answer
 
 one_of : (o p : Option Tree) (y : Tree) → or_else o p ≡ Some y → (o ≡ Some y) ⊎ (p ≡ Some y)
@@ -283,7 +299,7 @@ one_of None p y e = inr e
 one_of (Some x) p y e = inl e
 
 abbrev answer_at : Spot → Tree → Option Tree
-answer_at s x = or_else (or_else (or_else (or_else (or_else (or_else (or_else (or_else (conditional_becomes s x.kind x.below) (logical_becomes s x.kind x.below)) (unused_becomes s x.kind x.below)) (unused_list_becomes s x.note x.kind x.below)) (indirect_becomes s x.note x.kind x.below)) (one_sided_becomes s x.note x.kind x.below)) (sequence_left s x.note x.kind x.below)) (two_sides_become s x.note x.kind x.below)) (object_left s x.note x.kind x.below)
+answer_at s x = or_else (or_else (or_else (or_else (or_else (or_else (or_else (or_else (or_else (conditional_becomes s x.kind x.below) (logical_becomes s x.kind x.below)) (unused_becomes s x.kind x.below)) (unused_list_becomes s x.note x.kind x.below)) (indirect_becomes s x.note x.kind x.below)) (one_sided_becomes s x.note x.kind x.below)) (sequence_left s x.note x.kind x.below)) (two_sides_become s x.note x.kind x.below)) (object_left s x.note x.kind x.below)) (known_becomes x.note x.kind x.below)
 
 calls_stay : (c : Seen) (a : Around) (x y : Tree) (r : Forest) → IsHere c a → at_expression_end c x ≡ Some y → CallsStay (before a r) x y
 calls_stay c a x y r here found =
@@ -295,31 +311,35 @@ calls_stay c a x y r here found =
     let but_sequences = or_else its_value (one_sided_becomes s x.note x.kind x.below) in
     let to_sequences = or_else but_sequences (sequence_left s x.note x.kind x.below) in
     let but_objects = or_else to_sequences (two_sides_become s x.note x.kind x.below) in
-    let there : or_else but_objects (object_left s x.note x.kind x.below) ≡ Some y = subst (λ q. answer_at (spot_of q) x ≡ Some y) (sym here) found in
-    elim (one_of but_objects (object_left s x.note x.kind x.below) y there) [
-      | inl w ↦ elim (one_of to_sequences (two_sides_become s x.note x.kind x.below) y w) [
-        | inl v ↦ elim (one_of but_sequences (sequence_left s x.note x.kind x.below) y v) [
-          | inl h ↦ elim (one_of its_value (one_sided_becomes s x.note x.kind x.below) y h) [
-            | inl g ↦ elim (one_of itself (indirect_becomes s x.note x.kind x.below) y g) [
-              | inl f ↦ elim (one_of none_taken (unused_list_becomes s x.note x.kind x.below) y f) [
-                | inl e ↦ elim (one_of known (unused_becomes s x.kind x.below) y e) [
-                  | inl d ↦ elim (one_of (conditional_becomes s x.kind x.below) (logical_becomes s x.kind x.below) y d) [
-                    | inl conditional ↦ conditional_calls (before a r) x y (conditional_edits_there a x y r conditional)
-                    | inr logical ↦ side_calls (before a r) x y (logical_edits_there a x y r logical)
+    let but_operations = or_else but_objects (object_left s x.note x.kind x.below) in
+    let there : or_else but_operations (known_becomes x.note x.kind x.below) ≡ Some y = subst (λ q. answer_at (spot_of q) x ≡ Some y) (sym here) found in
+    elim (one_of but_operations (known_becomes x.note x.kind x.below) y there) [
+      | inl z ↦ elim (one_of but_objects (object_left s x.note x.kind x.below) y z) [
+        | inl w ↦ elim (one_of to_sequences (two_sides_become s x.note x.kind x.below) y w) [
+          | inl v ↦ elim (one_of but_sequences (sequence_left s x.note x.kind x.below) y v) [
+            | inl h ↦ elim (one_of its_value (one_sided_becomes s x.note x.kind x.below) y h) [
+              | inl g ↦ elim (one_of itself (indirect_becomes s x.note x.kind x.below) y g) [
+                | inl f ↦ elim (one_of none_taken (unused_list_becomes s x.note x.kind x.below) y f) [
+                  | inl e ↦ elim (one_of known (unused_becomes s x.kind x.below) y e) [
+                    | inl d ↦ elim (one_of (conditional_becomes s x.kind x.below) (logical_becomes s x.kind x.below) y d) [
+                      | inl conditional ↦ conditional_calls (before a r) x y (conditional_edits_there a x y r conditional)
+                      | inr logical ↦ side_calls (before a r) x y (logical_edits_there a x y r logical)
+                    ]
+                    | inr operation ↦ operations_call (unused_edits_there a x y r operation)
                   ]
-                  | inr operation ↦ operations_call (unused_edits_there a x y r operation)
+                  | inr parts ↦ list_calls (before a r) x y (list_edits_there a x y r parts)
                 ]
-                | inr parts ↦ list_calls (before a r) x y (list_edits_there a x y r parts)
+                | inr indirect ↦ indirect_calls (before a r) x y (indirect_edits_there a x y r indirect)
               ]
-              | inr indirect ↦ indirect_calls (before a r) x y (indirect_edits_there a x y r indirect)
+              | inr one_sided ↦ one_sided_calls (before a r) x y (one_sided_edits_there a x y r one_sided)
             ]
-            | inr one_sided ↦ one_sided_calls (before a r) x y (one_sided_edits_there a x y r one_sided)
+            | inr sequence ↦ idle_parts_call (before a r) x y (sequence_edits_there a x y r sequence)
           ]
-          | inr sequence ↦ idle_parts_call (before a r) x y (sequence_edits_there a x y r sequence)
+          | inr sides ↦ two_sides_calls (before a r) x y (two_sides_edits_there a x y r sides)
         ]
-        | inr sides ↦ two_sides_calls (before a r) x y (two_sides_edits_there a x y r sides)
+        | inr values ↦ object_calls (before a r) x y (object_edits_there a x y r values)
       ]
-      | inr values ↦ object_calls (before a r) x y (object_edits_there a x y r values)
+      | inr value ↦ known_calls (before a r) x y (known_edits (before a r) x y value)
     ]
 
 module _ (stays : Stays AnyEdit) (names : Names) where

@@ -1,4 +1,4 @@
--- A walk that asked for no other pass saw each node, and nothing of it goes or comes to its parts.
+-- A walk that asked for no other pass saw each node, and nothing of it goes or comes to its parts or its value.
 use Rattle.std.proofs.Common.{◌≡◌, ◌∙◌, Bool, false, true, if◌then◌else◌, Option, Some, None, is_some, refl, sym, ap, subst, true≢false}
 use Rattle.js_syntax.specs.Class.{root}
 use Rattle.js_syntax.specs.declared.node_kind.NodeKind.{NodeKind as Kind}
@@ -31,6 +31,7 @@ use Rattle.rules_expressions.specs.OneSided.{one_sided_becomes}
 use Rattle.rules_expressions.specs.Sequences.{sequence_left}
 use Rattle.rules_expressions.specs.TwoSides.{two_sides_become}
 use Rattle.rules_expressions.specs.Objects.{object_left}
+use Rattle.rules_expressions.specs.Operations.{known_becomes}
 use Rattle.rules_expressions.specs.Settled.{IsSettledAt, IsSettled}
 use Rattle.rules_expressions.proofs.Walked.{settled_nodes}
 use Rattle.slots_fit.specs.Had.{is_always_expression, HasSlots}
@@ -40,7 +41,7 @@ use Rattle.min_statements.proofs.Acting.{none_left}
 
 -- what becomes of an expression, by what is asked of its place
 abbrev becomes_so : Asked → Note → Kind → (parts : Forest) → Option Tree
-becomes_so s n k b = or_else (or_else (or_else (or_else (or_else (or_else (or_else (or_else (conditional_becomes s k b) (logical_becomes s k b)) (unused_becomes s k b)) (unused_list_becomes s n k b)) (indirect_becomes s n k b)) (one_sided_becomes s n k b)) (sequence_left s n k b)) (two_sides_become s n k b)) (object_left s n k b)
+becomes_so s n k b = or_else (or_else (or_else (or_else (or_else (or_else (or_else (or_else (or_else (conditional_becomes s k b) (logical_becomes s k b)) (unused_becomes s k b)) (unused_list_becomes s n k b)) (indirect_becomes s n k b)) (one_sided_becomes s n k b)) (sequence_left s n k b)) (two_sides_become s n k b)) (object_left s n k b)) (known_becomes n k b)
 
 -- and at a place
 abbrev becomes : Place → Tree → Option Tree
@@ -214,69 +215,75 @@ last_none v o q e =
     let f = ap is_some (first_none (or_else v o) q e) in
     (ap is_some (first_none v o f), second_none v o f, second_none (or_else v o) q e)
 
+-- the last three
+last_three : (v o q p : Option Tree) → is_some (or_else (or_else (or_else v o) q) p) ≡ false → (is_some v ≡ false) × (o ≡ None) × (q ≡ None) × (p ≡ None)
+last_three v o q p e =
+    let w = last_none v o q (ap is_some (first_none (or_else (or_else v o) q) p e)) in
+    (w.0, w.1, w.2, second_none (or_else (or_else v o) q) p e)
+
 -- which rules speak of which kinds of nodes
 settled_kind : (s : Asked) (n : Note) (k : Kind) (b : Forest) → (is_always_expression k ≡ true → is_some (becomes_so s n k b) ≡ false)
-    → (conditional_becomes s k b ≡ None) × (logical_becomes s k b ≡ None) × (unused_becomes s k b ≡ None) × (unused_list_becomes s n k b ≡ None) × (indirect_becomes s n k b ≡ None) × (one_sided_becomes s n k b ≡ None) × (sequence_left s n k b ≡ None) × (two_sides_become s n k b ≡ None) × (object_left s n k b ≡ None)
+    → (conditional_becomes s k b ≡ None) × (logical_becomes s k b ≡ None) × (unused_becomes s k b ≡ None) × (unused_list_becomes s n k b ≡ None) × (indirect_becomes s n k b ≡ None) × (one_sided_becomes s n k b ≡ None) × (sequence_left s n k b ≡ None) × (two_sides_become s n k b ≡ None) × (object_left s n k b ≡ None) × (known_becomes n k b ≡ None)
 settled_kind s n conditional_expression b h =
     let c = conditional_becomes s conditional_expression b in
     let u = unused_becomes s conditional_expression b in
     let l = unused_list_becomes s n conditional_expression b in
     let i = indirect_becomes s n conditional_expression b in
     let o = one_sided_becomes s n conditional_expression b in
-    let v = last_none (or_else (or_else (or_else (or_else (or_else (or_else c None) u) l) i) o) None) (two_sides_become s n conditional_expression b) (object_left s n conditional_expression b) (h refl) in
+    let v = last_three (or_else (or_else (or_else (or_else (or_else (or_else c None) u) l) i) o) None) (two_sides_become s n conditional_expression b) (object_left s n conditional_expression b) (known_becomes n conditional_expression b) (h refl) in
     let w = last_none (or_else (or_else (or_else (or_else c None) u) l) i) o None v.0 in
     let d = ap is_some (first_none (or_else (or_else (or_else c None) u) l) i w.0) in
     let e = ap is_some (first_none (or_else (or_else c None) u) l d) in
-    (first_none c None (ap is_some (first_none (or_else c None) u e)), refl, second_none (or_else c None) u e, none_either_way s.is_unused, second_none (or_else (or_else (or_else c None) u) l) i w.0, w.1, refl, none_either_way s.is_unused, none_either_way s.is_unused)
+    (first_none c None (ap is_some (first_none (or_else c None) u e)), refl, second_none (or_else c None) u e, none_either_way s.is_unused, second_none (or_else (or_else (or_else c None) u) l) i w.0, w.1, refl, none_either_way s.is_unused, none_either_way s.is_unused, refl)
 settled_kind s n (logical_expression p) b h =
     let c = logical_becomes s (logical_expression p) b in
     let u = unused_becomes s (logical_expression p) b in
     let l = unused_list_becomes s n (logical_expression p) b in
     let i = indirect_becomes s n (logical_expression p) b in
     let o = one_sided_becomes s n (logical_expression p) b in
-    let v = last_none (or_else (or_else (or_else (or_else (or_else c u) l) i) o) None) (two_sides_become s n (logical_expression p) b) (object_left s n (logical_expression p) b) (h refl) in
+    let v = last_three (or_else (or_else (or_else (or_else (or_else c u) l) i) o) None) (two_sides_become s n (logical_expression p) b) (object_left s n (logical_expression p) b) (known_becomes n (logical_expression p) b) (h refl) in
     let w = last_none (or_else (or_else (or_else c u) l) i) o None v.0 in
     let d = ap is_some (first_none (or_else (or_else c u) l) i w.0) in
     let e = ap is_some (first_none (or_else c u) l d) in
-    (refl, first_none c u e, second_none c u e, none_either_way s.is_unused, second_none (or_else (or_else c u) l) i w.0, none_either_way s.is_unused, refl, none_either_way s.is_unused, none_either_way s.is_unused)
+    (refl, first_none c u e, second_none c u e, none_either_way s.is_unused, second_none (or_else (or_else c u) l) i w.0, none_either_way s.is_unused, refl, none_either_way s.is_unused, none_either_way s.is_unused, refl)
 settled_kind s n (unary_expression p) b h =
     let u = unused_becomes s (unary_expression p) b in
     let l = unused_list_becomes s n (unary_expression p) b in
-    let v = last_none (or_else (or_else (or_else (or_else u l) None) (one_sided_becomes s n (unary_expression p) b)) None) (two_sides_become s n (unary_expression p) b) (object_left s n (unary_expression p) b) (h refl) in
+    let v = last_three (or_else (or_else (or_else (or_else u l) None) (one_sided_becomes s n (unary_expression p) b)) None) (two_sides_become s n (unary_expression p) b) (object_left s n (unary_expression p) b) (known_becomes n (unary_expression p) b) (h refl) in
     let w = last_none (or_else (or_else u l) None) (one_sided_becomes s n (unary_expression p) b) None v.0 in
-    (refl, refl, first_none u l (ap is_some (first_none (or_else u l) None w.0)), none_either_way s.is_unused, refl, none_either_way s.is_unused, refl, none_either_way s.is_unused, none_either_way s.is_unused)
+    (refl, refl, first_none u l (ap is_some (first_none (or_else u l) None w.0)), none_either_way s.is_unused, refl, none_either_way s.is_unused, refl, none_either_way s.is_unused, none_either_way s.is_unused, v.3)
 settled_kind s n (binary_expression p) b h =
     let u = unused_becomes s (binary_expression p) b in
     let l = unused_list_becomes s n (binary_expression p) b in
-    let v = last_none (or_else (or_else (or_else (or_else u l) None) (one_sided_becomes s n (binary_expression p) b)) None) (two_sides_become s n (binary_expression p) b) (object_left s n (binary_expression p) b) (h refl) in
+    let v = last_three (or_else (or_else (or_else (or_else u l) None) (one_sided_becomes s n (binary_expression p) b)) None) (two_sides_become s n (binary_expression p) b) (object_left s n (binary_expression p) b) (known_becomes n (binary_expression p) b) (h refl) in
     let w = last_none (or_else (or_else u l) None) (one_sided_becomes s n (binary_expression p) b) None v.0 in
-    (refl, refl, first_none u l (ap is_some (first_none (or_else u l) None w.0)), none_either_way s.is_unused, refl, none_either_way s.is_unused, refl, v.1, none_either_way s.is_unused)
+    (refl, refl, first_none u l (ap is_some (first_none (or_else u l) None w.0)), none_either_way s.is_unused, refl, none_either_way s.is_unused, refl, v.1, none_either_way s.is_unused, v.3)
 settled_kind s n array_expression b h =
     let u = unused_becomes s array_expression b in
     let l = unused_list_becomes s n array_expression b in
-    let v = last_none (or_else (or_else (or_else (or_else u l) None) (one_sided_becomes s n array_expression b)) None) (two_sides_become s n array_expression b) (object_left s n array_expression b) (h refl) in
+    let v = last_three (or_else (or_else (or_else (or_else u l) None) (one_sided_becomes s n array_expression b)) None) (two_sides_become s n array_expression b) (object_left s n array_expression b) (known_becomes n array_expression b) (h refl) in
     let w = last_none (or_else (or_else u l) None) (one_sided_becomes s n array_expression b) None v.0 in
-    (refl, refl, none_either_way s.is_unused, second_none u l (ap is_some (first_none (or_else u l) None w.0)), refl, none_either_way s.is_unused, refl, none_either_way s.is_unused, none_either_way s.is_unused)
+    (refl, refl, none_either_way s.is_unused, second_none u l (ap is_some (first_none (or_else u l) None w.0)), refl, none_either_way s.is_unused, refl, none_either_way s.is_unused, none_either_way s.is_unused, refl)
 settled_kind s n sequence_expression b h =
     let u = unused_becomes s sequence_expression b in
     let l = unused_list_becomes s n sequence_expression b in
-    let v = last_none (or_else (or_else (or_else (or_else u l) None) (one_sided_becomes s n sequence_expression b)) (sequence_left s n sequence_expression b)) (two_sides_become s n sequence_expression b) (object_left s n sequence_expression b) (h refl) in
+    let v = last_three (or_else (or_else (or_else (or_else u l) None) (one_sided_becomes s n sequence_expression b)) (sequence_left s n sequence_expression b)) (two_sides_become s n sequence_expression b) (object_left s n sequence_expression b) (known_becomes n sequence_expression b) (h refl) in
     let w = last_none (or_else (or_else u l) None) (one_sided_becomes s n sequence_expression b) (sequence_left s n sequence_expression b) v.0 in
-    (refl, refl, none_either_way s.is_unused, second_none u l (ap is_some (first_none (or_else u l) None w.0)), refl, none_either_way s.is_unused, w.2, none_either_way s.is_unused, none_either_way s.is_unused)
+    (refl, refl, none_either_way s.is_unused, second_none u l (ap is_some (first_none (or_else u l) None w.0)), refl, none_either_way s.is_unused, w.2, none_either_way s.is_unused, none_either_way s.is_unused, refl)
 settled_kind s n object_expression b h =
     let u = unused_becomes s object_expression b in
     let l = unused_list_becomes s n object_expression b in
     let o = one_sided_becomes s n object_expression b in
-    let d = two_sides_become s n object_expression b in
-    (refl, refl, none_either_way s.is_unused, none_either_way s.is_unused, refl, none_either_way s.is_unused, refl, none_either_way s.is_unused, second_none (or_else (or_else (or_else (or_else (or_else u l) None) o) None) d) (object_left s n object_expression b) (h refl))
-settled_kind s n k b h = (refl, refl, none_either_way s.is_unused, none_either_way s.is_unused, refl, none_either_way s.is_unused, refl, none_either_way s.is_unused, none_either_way s.is_unused)
+    let v = last_three (or_else (or_else (or_else (or_else u l) None) o) None) (two_sides_become s n object_expression b) (object_left s n object_expression b) (known_becomes n object_expression b) (h refl) in
+    (refl, refl, none_either_way s.is_unused, none_either_way s.is_unused, refl, none_either_way s.is_unused, refl, none_either_way s.is_unused, v.2, refl)
+settled_kind s n k b h = (refl, refl, none_either_way s.is_unused, none_either_way s.is_unused, refl, none_either_way s.is_unused, refl, none_either_way s.is_unused, none_either_way s.is_unused, refl)
 
 settled_at : (f : Facts) (p : Place) (x : Tree) → IsAlive f p x → HasSlots p x → IsSettledAt p x
 settled_at f p x h slots =
     let e = settled_kind (spot_of p) x.note x.kind x.below (λ e. h.expression (slots.expression e)) in
-    record { conditional = e.0; logical = e.1; unused = e.2; list = e.3; indirect = e.4; one_sided = e.5; sequence = e.6; two_sides = e.7; object = e.8 }
+    record { conditional = e.0; logical = e.1; unused = e.2; list = e.3; indirect = e.4; one_sided = e.5; sequence = e.6; two_sides = e.7; object = e.8; known = e.9 }
 
--- Nothing of a program goes by what is known that a walk found as it is, and no expression of it comes to its parts.
+-- Nothing of a program goes by what is known that a walk found as it is, and no expression of it comes to its parts or its value.
 pub none_goes : (s s' : Names) (k k' : Seen) (x y : Tree) → k.place ≡ outside → y ≡ x → Fits root (forest_of y) → Visits Visited is_written top (forest_of x) s k s' k' → IsQuiet (facts_of s' k') (forest_of y)
 none_goes s s' k k' x y at same fits v = quiet_nodes (facts_of s' k') (forest_of y) (each_both (quiet_at (facts_of s' k')) top (forest_of y) (alive s s' k k' x y at same v) (slots_had (forest_of y) fits))
 

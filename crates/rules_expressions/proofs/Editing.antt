@@ -6,7 +6,7 @@ use Rattle.js_syntax.specs.Node.{Forest, Tree, Note, nothing, node}
 use Rattle.min_context.specs.Place.{place_at}
 use Rattle.scope_laws.specs.Place as places
 use Rattle.scope_counts.specs.Edits.{Around, plug}
-use Rattle.steps_allowed.specs.Edits.{Becomes, Edit, becomes, known_conditional, known_side, unused_operation, unused_list, indirect_choice, one_sided_choice, idle_parts, two_sides, unused_object}
+use Rattle.steps_allowed.specs.Edits.{Becomes, Edit, becomes, known_conditional, known_side, unused_operation, unused_list, indirect_choice, one_sided_choice, idle_parts, two_sides, unused_object, known_operation}
 use Rattle.steps_allowed.specs.KnownConditional.{KnownConditional, a_conditional, consequent_is_taken, alternate_is_taken}
 use Rattle.steps_allowed.specs.KnownSide.{KnownSide, a_logical, right_side_counts, left_side_decides}
 use Rattle.steps_allowed.specs.UnusedOperation.{UnusedOperation}
@@ -16,6 +16,7 @@ use Rattle.steps_allowed.specs.OneSidedChoice.{OneSidedChoice}
 use Rattle.steps_allowed.specs.IdleParts.{IdleParts}
 use Rattle.steps_allowed.specs.TwoSides.{TwoSides}
 use Rattle.steps_allowed.specs.UnusedObject.{UnusedObject}
+use Rattle.steps_allowed.specs.KnownOperation.{KnownOperation}
 use Rattle.rules_dead_code.specs.Before.{before}
 use Rattle.rules_expressions.specs.Uses.{spot_of}
 use Rattle.rules_expressions.specs.Known.{conditional_becomes, logical_becomes}
@@ -91,3 +92,6 @@ two_sides_edit a x y rest o = edit_there a x y rest (two_sides o)
 
 pub object_edit : (a : Around) (x y : Tree) (rest : Forest) → UnusedObject (before a rest) x y → Edit (plug a (node x.kind x.note x.below rest)) (plug a (node y.kind y.note y.below rest))
 object_edit a x y rest o = edit_there a x y rest (unused_object o)
+
+pub known_edit : (a : Around) (x y : Tree) (rest : Forest) → KnownOperation (before a rest) x y → Edit (plug a (node x.kind x.note x.below rest)) (plug a (node y.kind y.note y.below rest))
+known_edit a x y rest o = edit_there a x y rest (known_operation o)

@@ -18,6 +18,7 @@ use Rattle.rules_expressions.specs.OneSided.{one_sided_becomes, fold_one_sided}
 use Rattle.rules_expressions.specs.Sequences.{sequence_left, fold_sequence}
 use Rattle.rules_expressions.specs.TwoSides.{two_sides_become, fold_two_sides}
 use Rattle.rules_expressions.specs.Objects.{object_left, fold_object}
+use Rattle.rules_expressions.specs.Operations.{fold_known}
 use Rattle.rules_expressions.proofs.Becoming.{branch, branch_is_less, side, side_is_less}
 use Rattle.rules_expressions.proofs.Unused.{left_part, left_is_less, unused_edits_there}
 use Rattle.rules_expressions.proofs.Lists.{list_is_less, list_edits_there}
@@ -26,7 +27,8 @@ use Rattle.rules_expressions.proofs.OneSided.{one_sided_is_less, one_sided_edits
 use Rattle.rules_expressions.proofs.Sequences.{sequence_is_less, sequence_edits_there}
 use Rattle.rules_expressions.proofs.TwoSides.{two_sides_is_less, two_sides_edits_there}
 use Rattle.rules_expressions.proofs.Objects.{object_is_less, object_edits_there}
-use Rattle.rules_expressions.proofs.Editing.{conditional_edit, logical_edit, unused_edit, list_edit, indirect_edit, one_sided_edit, sequence_edit, two_sides_edit, object_edit}
+use Rattle.rules_expressions.proofs.Operations.{known_is_less, known_edits}
+use Rattle.rules_expressions.proofs.Editing.{conditional_edit, logical_edit, unused_edit, list_edit, indirect_edit, one_sided_edit, sequence_edit, two_sides_edit, object_edit, known_edit}
 
 module _ (E : CompressOptions → Forest → Forest → Type 0) (makes : (o : CompressOptions) (t u : Forest) → Edit t u → E o t u) where
   pub conditionals_fold : Lawful E fold_conditional
@@ -97,5 +99,12 @@ module _ (E : CompressOptions → Forest → Forest → Type 0) (makes : (o : Co
     lighter = λ c x y e. (object_is_less (spot_of c.place) x.note x.kind x.below y e).lighter;
   }
 
+  pub known_fold : Lawful E fold_known
+  known_fold = record {
+    edits = λ c a x y r h at e. one_edit (makes c.options (plug a (before x r)) (plug a (before y r)) (known_edit a x y r (known_edits (place a r) x y e))) no_edit;
+    thins = λ c x y e. (known_is_less x.note x.kind x.below y e).thins;
+    lighter = λ c x y e. (known_is_less x.note x.kind x.below y e).lighter;
+  }
+
   pub expressions_fold : Lawful E at_expression_end
-  expressions_fold = either_lawful (either_lawful (either_lawful (either_lawful (either_lawful (either_lawful (either_lawful (either_lawful conditionals_fold logicals_fold) unused_fold) lists_fold) indirect_fold) one_sided_fold) sequences_fold) two_sides_fold) objects_fold
+  expressions_fold = either_lawful (either_lawful (either_lawful (either_lawful (either_lawful (either_lawful (either_lawful (either_lawful (either_lawful conditionals_fold logicals_fold) unused_fold) lists_fold) indirect_fold) one_sided_fold) sequences_fold) two_sides_fold) objects_fold) known_fold

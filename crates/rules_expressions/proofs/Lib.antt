@@ -7,6 +7,7 @@ pub mod OneSided
 pub mod Sequences
 pub mod TwoSides
 pub mod Objects
+pub mod Operations
 pub mod Editing
 pub mod Folding
 pub mod Settled

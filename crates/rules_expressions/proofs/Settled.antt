@@ -13,6 +13,7 @@ use Rattle.steps_allowed.specs.OneSidedChoice.{OneSidedChoice}
 use Rattle.steps_allowed.specs.IdleParts.{IdleParts}
 use Rattle.steps_allowed.specs.TwoSides.{TwoSides}
 use Rattle.steps_allowed.specs.UnusedObject.{UnusedObject}
+use Rattle.steps_allowed.specs.KnownOperation.{KnownOperation}
 use Rattle.steps_owed.proofs.Places.{place_of, rest_of, placed_is}
 use Rattle.rules_dead_code.specs.Before.{before}
 use Rattle.rules_expressions.specs.Uses.{spot_of}
@@ -24,6 +25,7 @@ use Rattle.rules_expressions.specs.OneSided.{one_sided_becomes}
 use Rattle.rules_expressions.specs.Sequences.{sequence_left}
 use Rattle.rules_expressions.specs.TwoSides.{two_sides_become}
 use Rattle.rules_expressions.specs.Objects.{object_left}
+use Rattle.rules_expressions.specs.Operations.{known_becomes}
 use Rattle.rules_expressions.specs.Settled.{IsSettledAt, IsSettled}
 use Rattle.rules_expressions.proofs.Uses.{spot_at, spot_before, plug_before}
 use Rattle.rules_expressions.proofs.Becoming.{no_answer, none_of}
@@ -34,6 +36,7 @@ use Rattle.rules_expressions.proofs.OneSided.{one_sided_edits_there, one_sided_a
 use Rattle.rules_expressions.proofs.Sequences.{sequence_edits_there, sequence_answers}
 use Rattle.rules_expressions.proofs.TwoSides.{two_sides_edits_there, two_sides_answers}
 use Rattle.rules_expressions.proofs.Objects.{object_edits_there, object_answers}
+use Rattle.rules_expressions.proofs.Operations.{known_edits, known_answers}
 use Rattle.rules_expressions.proofs.Editing.{conditional_edits_there, logical_edits_there, conditional_answers, logical_answers}
 
 before_place : (a : places.Around) → before (place_of a) (rest_of a) ≡ a
@@ -76,6 +79,9 @@ module _ (t : Forest) (settled : IsSettled t) (a : places.Around) (x y : Tree) (
   pub no_object : UnusedObject a x y → ⊥
   no_object o = let w = object_answers a x y o in no_answer (sym settled_there.object ∙ ap (λ s. object_left s x.note x.kind x.below) (spot_there a) ∙ w.1)
 
+  pub no_known : KnownOperation a x y → ⊥
+  no_known o = let w = known_answers a x y o in no_answer (sym settled_there.known ∙ w.1)
+
 pub is_settled :
     (t : Forest)
     → ((a : places.Around) (x y : Tree) → t ≡ places.plug a (Some x) → KnownConditional a x y → ⊥)
@@ -87,8 +93,9 @@ pub is_settled :
     → ((a : places.Around) (x y : Tree) → t ≡ places.plug a (Some x) → IdleParts a x y → ⊥)
     → ((a : places.Around) (x y : Tree) → t ≡ places.plug a (Some x) → TwoSides a x y → ⊥)
     → ((a : places.Around) (x y : Tree) → t ≡ places.plug a (Some x) → UnusedObject a x y → ⊥)
+    → ((a : places.Around) (x y : Tree) → t ≡ places.plug a (Some x) → KnownOperation a x y → ⊥)
     → IsSettled t
-is_settled t never_branch never_side never_unused never_list never_indirect never_one_sided never_sequence never_two_sides never_object = record {
+is_settled t never_branch never_side never_unused never_list never_indirect never_one_sided never_sequence never_two_sides never_object never_known = record {
   each = λ a x rest is. record {
     conditional = none_of (conditional_becomes (spot_of (place_at a)) x.kind x.below) (λ y e. never_branch (before a rest) x y (is ∙ sym (plug_before a x rest)) (conditional_edits_there a x y rest e));
     logical = none_of (logical_becomes (spot_of (place_at a)) x.kind x.below) (λ y e. never_side (before a rest) x y (is ∙ sym (plug_before a x rest)) (logical_edits_there a x y rest e));
@@ -99,5 +106,6 @@ is_settled t never_branch never_side never_unused never_list never_indirect neve
     sequence = none_of (sequence_left (spot_of (place_at a)) x.note x.kind x.below) (λ y e. never_sequence (before a rest) x y (is ∙ sym (plug_before a x rest)) (sequence_edits_there a x y rest e));
     two_sides = none_of (two_sides_become (spot_of (place_at a)) x.note x.kind x.below) (λ y e. never_two_sides (before a rest) x y (is ∙ sym (plug_before a x rest)) (two_sides_edits_there a x y rest e));
     object = none_of (object_left (spot_of (place_at a)) x.note x.kind x.below) (λ y e. never_object (before a rest) x y (is ∙ sym (plug_before a x rest)) (object_edits_there a x y rest e));
+    known = none_of (known_becomes x.note x.kind x.below) (λ y e. never_known (before a rest) x y (is ∙ sym (plug_before a x rest)) (known_edits (before a rest) x y e));
   };
 }

@@ -16,6 +16,7 @@ use Rattle.rules_expressions.specs.OneSided.{fold_one_sided}
 use Rattle.rules_expressions.specs.Sequences.{fold_sequence}
 use Rattle.rules_expressions.specs.TwoSides.{fold_two_sides}
 use Rattle.rules_expressions.specs.Objects.{fold_object}
+use Rattle.rules_expressions.specs.Operations.{fold_known}
 
 -- of both branches the one that is taken
 abbrev pub branch_taken : Spot → (truth : Bool) → (branches : Forest) → Option Tree
@@ -58,4 +59,4 @@ fold_logical c x = logical_becomes (spot_of c.place) x.kind x.below
 
 -- what becomes of an expression at its end
 abbrev pub at_expression_end : Rule
-at_expression_end = either (either (either (either (either (either (either (either fold_conditional fold_logical) fold_unused) fold_unused_list) fold_indirect) fold_one_sided) fold_sequence) fold_two_sides) fold_object
+at_expression_end = either (either (either (either (either (either (either (either (either fold_conditional fold_logical) fold_unused) fold_unused_list) fold_indirect) fold_one_sided) fold_sequence) fold_two_sides) fold_object) fold_known

@@ -6,6 +6,7 @@ pub mod OneSided
 pub mod Sequences
 pub mod TwoSides
 pub mod Objects
+pub mod Operations
 pub mod Known
 pub mod Settled
 pub mod Samples

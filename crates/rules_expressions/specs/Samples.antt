@@ -1,5 +1,5 @@
 -- The rules, tried on small programs.
-use Rattle.std.specs.Prelude.{ℕ, pos, List, [], ◌∷◌, true, false, Option, codes}
+use Rattle.std.specs.Prelude.{ℕ, pos, List, [], ◌∷◌, Bool, true, false, Option, codes}
 use Rattle.js_syntax.specs.declared.node_kind.NodeKind.{NodeKind as Kind}
 use Rattle.js_syntax.specs.declared.operator.BinaryOperator.{BinaryOperator}
 use Rattle.js_syntax.specs.declared.operator.LogicalOperator.{LogicalOperator}
@@ -23,14 +23,15 @@ use Rattle.rules_expressions.specs.OneSided.{one_sided_becomes}
 use Rattle.rules_expressions.specs.Sequences.{sequence_left}
 use Rattle.rules_expressions.specs.TwoSides.{two_sides_become}
 use Rattle.rules_expressions.specs.Objects.{object_left}
+use Rattle.rules_expressions.specs.Operations.{known_becomes}
 
 -- ---- what a walk leaves that asks all rules behind each node
 
 abbrev pub becomes_at : Place → Tree → Option Tree
 becomes_at p x =
-    or_else (or_else (or_else (or_else (or_else (or_else (or_else (or_else (conditional_becomes (spot_of p) x.kind x.below) (logical_becomes (spot_of p) x.kind x.below)) (unused_becomes (spot_of p) x.kind x.below))
+    or_else (or_else (or_else (or_else (or_else (or_else (or_else (or_else (or_else (conditional_becomes (spot_of p) x.kind x.below) (logical_becomes (spot_of p) x.kind x.below)) (unused_becomes (spot_of p) x.kind x.below))
     (unused_list_becomes (spot_of p) x.note x.kind x.below)) (indirect_becomes (spot_of p) x.note x.kind x.below)) (one_sided_becomes (spot_of p) x.note x.kind x.below)) (sequence_left (spot_of p) x.note x.kind x.below))
-    (two_sides_become (spot_of p) x.note x.kind x.below)) (object_left (spot_of p) x.note x.kind x.below)
+    (two_sides_become (spot_of p) x.note x.kind x.below)) (object_left (spot_of p) x.note x.kind x.below)) (known_becomes x.note x.kind x.below)
 
 abbrev pub folded_at : Place → Tree → Tree
 folded_at p x = or_same x (becomes_at p x)
@@ -98,6 +99,15 @@ indirect e = sequence (leaf (Kind.Literal (value.Number (pos 0))) ∷ e ∷ [])
 
 abbrev pub empty_text : Forest
 empty_text = leaf (Kind.Literal (value.Text []))
+
+abbrev pub number : ℕ → Forest
+number n = leaf (Kind.Literal (value.Number (pos n)))
+
+abbrev pub word : List ℕ → Forest
+word s = leaf (Kind.Literal (value.Text s))
+
+abbrev pub truth : Bool → Forest
+truth b = leaf (Kind.Literal (value.Boolean b))
 
 -- function () {}
 abbrev pub a_function : Forest

@@ -12,6 +12,7 @@ use Rattle.rules_expressions.specs.OneSided.{one_sided_becomes}
 use Rattle.rules_expressions.specs.Sequences.{sequence_left}
 use Rattle.rules_expressions.specs.TwoSides.{two_sides_become}
 use Rattle.rules_expressions.specs.Objects.{object_left}
+use Rattle.rules_expressions.specs.Operations.{known_becomes}
 
 -- at one place
 pub record IsSettledAt (p : Place) (x : Tree) : Type 0 where
@@ -24,6 +25,7 @@ pub record IsSettledAt (p : Place) (x : Tree) : Type 0 where
   pub sequence : sequence_left (spot_of p) x.note x.kind x.below ≡ None
   pub two_sides : two_sides_become (spot_of p) x.note x.kind x.below ≡ None
   pub object : object_left (spot_of p) x.note x.kind x.below ≡ None
+  pub known : known_becomes x.note x.kind x.below ≡ None
 
 pub record IsSettled (t : Forest) : Type 0 where
   pub each : (a : Around) (x : Tree) (rest : Forest) → t ≡ plug a (node x.kind x.note x.below rest) → IsSettledAt (place_at a) x

@@ -11,6 +11,7 @@ ghost use Rattle.rules_expressions.specs.OneSided.{fold_one_sided};
 ghost use Rattle.rules_expressions.specs.Sequences.{fold_sequence};
 ghost use Rattle.rules_expressions.specs.TwoSides.{fold_two_sides};
 ghost use Rattle.rules_expressions.specs.Objects.{fold_object};
+ghost use Rattle.rules_expressions.specs.Operations.{fold_known};
 
 use min_traverse::Traverse;
 
@@ -25,5 +26,6 @@ pub fn rules_are_lawful<T: Traverse>()
     ensures sequence { ((o : CompressOptions) (t u : Forest) → Edit t u → T.edit o t u) → Lawful T.edit fold_sequence }
     ensures two_sides { ((o : CompressOptions) (t u : Forest) → Edit t u → T.edit o t u) → Lawful T.edit fold_two_sides }
     ensures object { ((o : CompressOptions) (t u : Forest) → Edit t u → T.edit o t u) → Lawful T.edit fold_object }
+    ensures known { ((o : CompressOptions) (t u : Forest) → Edit t u → T.edit o t u) → Lawful T.edit fold_known }
     ensures all { ((o : CompressOptions) (t u : Forest) → Edit t u → T.edit o t u) → Lawful T.edit at_expression_end }
 {}

@@ -16,6 +16,7 @@ ghost use Rattle.steps_allowed.specs.OneSidedChoice.{OneSidedChoice};
 ghost use Rattle.steps_allowed.specs.IdleParts.{IdleParts};
 ghost use Rattle.steps_allowed.specs.TwoSides.{TwoSides};
 ghost use Rattle.steps_allowed.specs.UnusedObject.{UnusedObject};
+ghost use Rattle.steps_allowed.specs.KnownOperation.{KnownOperation};
 ghost use Rattle.steps_allowed.specs.Uses.{use_at};
 ghost use Rattle.rules_dead_code.specs.Before.{before};
 ghost use Rattle.rules_expressions.specs.Uses.{spot_of};
@@ -27,6 +28,7 @@ ghost use Rattle.rules_expressions.specs.OneSided.{one_sided_becomes};
 ghost use Rattle.rules_expressions.specs.Sequences.{sequence_left};
 ghost use Rattle.rules_expressions.specs.TwoSides.{two_sides_become};
 ghost use Rattle.rules_expressions.specs.Objects.{object_left};
+ghost use Rattle.rules_expressions.specs.Operations.{known_becomes};
 ghost use Rattle.rules_expressions.specs.Settled.{IsSettled};
 
 /// Law: the context of a walk tells what an expression is used for, whether a `with` statement is around, and whether nobody takes
@@ -50,11 +52,12 @@ pub fn answers_are_edits()
     ensures sequence { (a : Around) (x y : Tree) (rest : Forest) → sequence_left (spot_of (place_at a)) x.note x.kind x.below ≡ Some y → IdleParts (before a rest) x y }
     ensures two_sides { (a : Around) (x y : Tree) (rest : Forest) → two_sides_become (spot_of (place_at a)) x.note x.kind x.below ≡ Some y → TwoSides (before a rest) x y }
     ensures object { (a : Around) (x y : Tree) (rest : Forest) → object_left (spot_of (place_at a)) x.note x.kind x.below ≡ Some y → UnusedObject (before a rest) x y }
+    ensures known { (a : Around) (x y : Tree) (rest : Forest) → known_becomes x.note x.kind x.below ≡ Some y → KnownOperation (before a rest) x y }
 {}
 
 /// Law: and where such an edit applies the rule answers what it leaves, or what more of them leave of that. Of a list, of what goes
-/// behind a zero, of a conditional one branch of which acts, of a sequence, of a comparison both sides of which act, and of an object
-/// it answers what the edit leaves but for the notes of the new nodes.
+/// behind a zero, of a conditional one branch of which acts, of a sequence, of a comparison both sides of which act, of an object, and
+/// of an operation on literals it answers what the edit leaves but for the notes of the new nodes.
 pub fn edits_are_answers()
     ensures conditional { (a : Around) (x y : Tree) (rest : Forest) → KnownConditional (before a rest) x y → conditional_becomes (spot_of (place_at a)) x.kind x.below ≡ Some y }
     ensures logical { (a : Around) (x y : Tree) (rest : Forest) → KnownSide (before a rest) x y → logical_becomes (spot_of (place_at a)) x.kind x.below ≡ Some y }
@@ -65,6 +68,7 @@ pub fn edits_are_answers()
     ensures sequence { (a : Around) (x z : Tree) (rest : Forest) → IdleParts (before a rest) x z → (y : Tree) × (sequence_left (spot_of (place_at a)) x.note x.kind x.below ≡ Some y) × (bare (forest_of y) ≡ bare (forest_of z)) }
     ensures two_sides { (a : Around) (x z : Tree) (rest : Forest) → TwoSides (before a rest) x z → (y : Tree) × (two_sides_become (spot_of (place_at a)) x.note x.kind x.below ≡ Some y) × (bare (forest_of y) ≡ bare (forest_of z)) }
     ensures object { (a : Around) (x z : Tree) (rest : Forest) → UnusedObject (before a rest) x z → (y : Tree) × (object_left (spot_of (place_at a)) x.note x.kind x.below ≡ Some y) × (bare (forest_of y) ≡ bare (forest_of z)) }
+    ensures known { (a : Around) (x z : Tree) (rest : Forest) → KnownOperation (before a rest) x z → (y : Tree) × (known_becomes x.note x.kind x.below ≡ Some y) × (bare (forest_of y) ≡ bare (forest_of z)) }
 {}
 
 /// Law: so the rules change nothing of a program exactly where no such edit applies in it.
@@ -78,6 +82,7 @@ pub fn what_is_settled_has_no_edits()
     ensures sequence { (t : Forest) → IsSettled t → (a : places.Around) (x y : Tree) → t ≡ places.plug a (Some x) → IdleParts a x y → ⊥ }
     ensures two_sides { (t : Forest) → IsSettled t → (a : places.Around) (x y : Tree) → t ≡ places.plug a (Some x) → TwoSides a x y → ⊥ }
     ensures object { (t : Forest) → IsSettled t → (a : places.Around) (x y : Tree) → t ≡ places.plug a (Some x) → UnusedObject a x y → ⊥ }
+    ensures known { (t : Forest) → IsSettled t → (a : places.Around) (x y : Tree) → t ≡ places.plug a (Some x) → KnownOperation a x y → ⊥ }
     ensures settled { (t : Forest)
         → ((a : places.Around) (x y : Tree) → t ≡ places.plug a (Some x) → KnownConditional a x y → ⊥)
         → ((a : places.Around) (x y : Tree) → t ≡ places.plug a (Some x) → KnownSide a x y → ⊥)
@@ -88,5 +93,6 @@ pub fn what_is_settled_has_no_edits()
         → ((a : places.Around) (x y : Tree) → t ≡ places.plug a (Some x) → IdleParts a x y → ⊥)
         → ((a : places.Around) (x y : Tree) → t ≡ places.plug a (Some x) → TwoSides a x y → ⊥)
         → ((a : places.Around) (x y : Tree) → t ≡ places.plug a (Some x) → UnusedObject a x y → ⊥)
+        → ((a : places.Around) (x y : Tree) → t ≡ places.plug a (Some x) → KnownOperation a x y → ⊥)
         → IsSettled t }
 {}

@@ -1,12 +1,12 @@
 // Small programs, by computing.
-ghost use Rattle.std.specs.Prelude.{◌≡◌, codes, [], ◌∷◌};
+ghost use Rattle.std.specs.Prelude.{◌≡◌, codes, [], ◌∷◌, true};
 ghost use Rattle.js_syntax.specs.declared.operator.BinaryOperator.TheVariants as binary_operator;
 ghost use Rattle.js_syntax.specs.declared.operator.LogicalOperator.TheVariants as logical_operator;
 ghost use Rattle.js_syntax.specs.declared.operator.UnaryOperator.TheVariants as unary_operator;
 ghost use Rattle.form_rules.specs.Samples.{a, reads, one, does, calls};
 ghost use Rattle.scope_rules.specs.Samples.{b};
 ghost use Rattle.steps_allowed.specs.Rows.{null, conditional, with_a};
-ghost use Rattle.rules_expressions.specs.Samples.{left, left_of, doing, uses, member, logical, binary, unary, parenthesized, array, spread, sequence, indirect, empty_text, a_function, object, keyed, computed};
+ghost use Rattle.rules_expressions.specs.Samples.{left, left_of, doing, uses, member, logical, binary, unary, parenthesized, array, spread, sequence, indirect, empty_text, a_function, object, keyed, computed, number, word, truth};
 
 /// A conditional on a literal becomes the branch that is taken, at any depth.
 pub fn branches_left()
@@ -137,4 +137,23 @@ pub fn objects_that_stay()
     ensures computed { left_of (object (computed (reads a) (calls (reads a)) ∷ [])) ≡ doing (object (computed (reads a) (calls (reads a)) ∷ [])) }
     ensures spread { left_of (object (spread (reads a) ∷ keyed a (calls (reads a)) ∷ [])) ≡ doing (object (spread (reads a) ∷ keyed a (calls (reads a)) ∷ [])) }
     ensures prototype { left_of (object (keyed (codes "__proto__") (calls (reads a)) ∷ [])) ≡ doing (object (keyed (codes "__proto__") (calls (reads a)) ∷ [])) }
+{}
+
+/// An operation on literals becomes a literal of its value, and what it stands in becomes what it does on that literal, by one walk.
+pub fn known_values_left()
+    ensures negated { left_of (uses (unary unary_operator.LogicalNot (number 0))) ≡ doing (uses (truth true)) }
+    ensures type_name { left_of (uses (unary unary_operator.Typeof (number 1))) ≡ doing (uses (word (codes "number"))) }
+    ensures sum { left_of (uses (binary binary_operator.Addition (number 1) (number 2))) ≡ doing (uses (number 3)) }
+    ensures less { left_of (uses (binary binary_operator.LessThan (number 1) (number 2))) ≡ doing (uses (truth true)) }
+    ensures in_operation { left_of (uses (unary unary_operator.LogicalNot (binary binary_operator.StrictEquality (number 1) (number 2)))) ≡ doing (uses (truth true)) }
+    ensures in_condition { left_of (uses (conditional (binary binary_operator.StrictEquality (word a) (word b)) (reads a) (reads b))) ≡ doing (uses (reads b)) }
+{}
+
+/// It stays where no literal has its value: a negative number is written with an operator again, and `undefined` is a name. It stays
+/// where the value isn't known, as a fraction, and where it joins two texts.
+pub fn operations_on_literals_that_stay()
+    ensures negative { left_of (uses (unary unary_operator.UnaryNegation (number 1))) ≡ doing (uses (unary unary_operator.UnaryNegation (number 1))) }
+    ensures texts { left_of (uses (binary binary_operator.Addition (word a) (word b))) ≡ doing (uses (binary binary_operator.Addition (word a) (word b))) }
+    ensures fraction { left_of (uses (binary binary_operator.Division (number 1) (number 2))) ≡ doing (uses (binary binary_operator.Division (number 1) (number 2))) }
+    ensures undefined { left_of (uses (unary unary_operator.Void (number 0))) ≡ doing (uses (unary unary_operator.Void (number 0))) }
 {}

@@ -1,3 +1,4 @@
+use Rattle.rules_dead_code.specs.Before.{before}
 use Rattle.rules_expressions.proofs.Editing.{conditional_edits_there, logical_edits_there}
 use Rattle.rules_expressions.proofs.Unused.{unused_edits_there, none_left_there}
 use Rattle.rules_expressions.proofs.Lists.{list_edits_there}
@@ -6,6 +7,7 @@ use Rattle.rules_expressions.proofs.OneSided.{one_sided_edits_there}
 use Rattle.rules_expressions.proofs.Sequences.{sequence_edits_there}
 use Rattle.rules_expressions.proofs.TwoSides.{two_sides_edits_there}
 use Rattle.rules_expressions.proofs.Objects.{object_edits_there}
+use Rattle.rules_expressions.proofs.Operations.{known_edits}
 use Rattle.rules_expressions.proofs.laws.answers_are_edits.Goals as goal
 
 pub returns-clause-conditional : goal.returns-clause-conditional
@@ -37,3 +39,6 @@ returns-clause-two_sides c = two_sides_edits_there
 
 pub returns-clause-object : goal.returns-clause-object
 returns-clause-object c = object_edits_there
+
+pub returns-clause-known : goal.returns-clause-known
+returns-clause-known c a x y rest = known_edits (before a rest) x y

@@ -1,3 +1,4 @@
+use Rattle.rules_dead_code.specs.Before.{before}
 use Rattle.rules_expressions.proofs.Editing.{conditional_answers_there, logical_answers_there}
 use Rattle.rules_expressions.proofs.Unused.{unused_answers_there}
 use Rattle.rules_expressions.proofs.Lists.{list_answers_there}
@@ -6,6 +7,7 @@ use Rattle.rules_expressions.proofs.OneSided.{one_sided_answers_there}
 use Rattle.rules_expressions.proofs.Sequences.{sequence_answers_there}
 use Rattle.rules_expressions.proofs.TwoSides.{two_sides_answers_there}
 use Rattle.rules_expressions.proofs.Objects.{object_answers_there}
+use Rattle.rules_expressions.proofs.Operations.{known_answers}
 use Rattle.rules_expressions.proofs.laws.edits_are_answers.Goals as goal
 
 pub returns-clause-conditional : goal.returns-clause-conditional
@@ -34,3 +36,6 @@ returns-clause-two_sides c = two_sides_answers_there
 
 pub returns-clause-object : goal.returns-clause-object
 returns-clause-object c = object_answers_there
+
+pub returns-clause-known : goal.returns-clause-known
+returns-clause-known c a x z rest = known_answers (before a rest) x z

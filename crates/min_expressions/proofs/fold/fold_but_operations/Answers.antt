@@ -1,0 +1,26 @@
+use Rattle.std.proofs.Common.{subst}
+use Rattle.min_traverse.specs.Lawful.{Rule, Does, either}
+use Rattle.min_traverse.proofs.Joining.{first_does, then_does}
+use Rattle.rules_expressions.specs.Known.{fold_conditional, fold_logical}
+use Rattle.rules_expressions.specs.Unused.{fold_unused}
+use Rattle.rules_expressions.specs.Lists.{fold_unused_list}
+use Rattle.rules_expressions.specs.Indirect.{fold_indirect}
+use Rattle.rules_expressions.specs.OneSided.{fold_one_sided}
+use Rattle.rules_expressions.specs.Sequences.{fold_sequence}
+use Rattle.rules_expressions.specs.TwoSides.{fold_two_sides}
+use Rattle.rules_expressions.specs.Objects.{fold_object}
+use Rattle.min_expressions.proofs.fold.fold_but_operations.Goals as goal
+
+-- the rules that are tried before
+abbrev others : Rule
+others = either (either (either (either (either (either (either fold_conditional fold_logical) fold_unused) fold_unused_list) fold_indirect) fold_one_sided) fold_sequence) fold_two_sides
+
+pub returns-then-branch-clause-does : goal.returns-then-branch-clause-does
+returns-then-branch-clause-does c =
+    let at = c.fold_but_objects in
+    first_does others fold_object (subst (λ b. Does others c.args.ctx.now c.args.node.now b at.new.ctx at.new.node) c.if-branch.true c.in_ok-fold_but_objects.ensures.does)
+
+pub returns-clause-does : goal.returns-clause-does
+returns-clause-does c =
+    let at = c.fold_but_objects in
+    then_does others fold_object (subst (λ b. Does others c.args.ctx.now c.args.node.now b at.new.ctx at.new.node) c.if-branch.false c.in_ok-fold_but_objects.ensures.does) c.remove_unused_object.ensures.does

@@ -1,0 +1,140 @@
+// An operation on literals of which the value is known.
+ghost use Rattle.std.specs.Prelude.{◌≡◌, [], ◌∷◌, not, Some, true, IfOk};
+ghost use Rattle.js_syntax.specs.declared.node_kind.NodeKind.TheVariants.{Literal as literal};
+ghost use Rattle.js_syntax.specs.Node.{row, nothing, forest_of};
+ghost use Rattle.js_effects.specs.declared.value.ConstantValue.TheVariants.{Number};
+ghost use Rattle.js_effects.specs.Answers.{bare_answers};
+ghost use Rattle.js_effects.specs.Values.{value_of};
+ghost use Rattle.min_context.specs.Edited.{Edited};
+ghost use Rattle.steps_allowed.specs.KnownOperation as known;
+ghost use Rattle.rules_expressions.specs.Lists.{new_note};
+
+use crate::known::literal_in;
+use js_effects::{BareContext, ConstantValue, evaluate_value};
+use js_syntax::{LiteralValue, NodeKind};
+use js_tree::Node;
+use min_context::MinifierTraverseCtx;
+use std::alloc::{AllocError, Global};
+
+// ---- whether all operands are literals
+
+#[tactic(auto, using(crate::proofs::Operations::literal_there))]
+fn is_literal(node: &Node) -> bool
+    ensures { result ≡ known.is_literal node.now.kind node.now.below }
+{
+    literal_in(node).is_some()
+}
+
+#[tactic(auto, using(crate::proofs::Operations::other_is))]
+fn is_other(item: &Option<Node>) -> bool
+    ensures { result ≡ not (known.are_literals (row (item.now ∷ []))) }
+{
+    match item {
+        Some(node) => !is_literal(node),
+        None => true,
+    }
+}
+
+fn are_literals(operands: &[Option<Node>]) -> bool
+    ensures { result ≡ known.are_literals (row operands.now) }
+{
+    for operand in operands {
+        if is_other(operand) {
+            return false;
+        }
+    }
+    true
+}
+
+// ---- the literal of a value
+
+fn number_literal(number: i64) -> Option<LiteralValue>
+    ensures { result ≡ known.as_literal (Some (Number number)) }
+{
+    if number < 0 {
+        None
+    } else {
+        Some(LiteralValue::Number(number))
+    }
+}
+
+fn literal_of(value: &ConstantValue) -> Option<LiteralValue>
+    ensures { result ≡ known.as_literal (Some value.now) }
+{
+    match value {
+        ConstantValue::Number(number) => number_literal(*number),
+        ConstantValue::Text(_) => None,
+        ConstantValue::Boolean(truth) => Some(LiteralValue::Boolean(*truth)),
+        ConstantValue::Null => Some(LiteralValue::Null),
+        ConstantValue::Undefined => None,
+    }
+}
+
+fn word_of(value: &ConstantValue, alloc: Global) -> Result<Option<LiteralValue>, AllocError>
+    ensures { IfOk result (λ v. v ≡ known.as_word (Some value.now)) }
+{
+    match value {
+        ConstantValue::Text(text) => Ok(Some(LiteralValue::Text(text.try_clone(alloc)?))),
+        _ => Ok(literal_of(value)),
+    }
+}
+
+// ---- the literal that an operation becomes
+
+fn value_of(node: &Node, alloc: Global) -> Result<Option<ConstantValue>, AllocError>
+    ensures { IfOk result (λ v. v ≡ value_of bare_answers (forest_of node.now)) }
+{
+    evaluate_value(node, &BareContext::new(alloc))
+}
+
+fn known_word(node: &Node, alloc: Global) -> Result<Option<LiteralValue>, AllocError>
+    ensures { IfOk result (λ v. v ≡ known.as_word (value_of bare_answers (forest_of node.now))) }
+{
+    match value_of(node, alloc)? {
+        Some(value) => word_of(&value, alloc),
+        None => Ok(None),
+    }
+}
+
+fn known_value(node: &Node, alloc: Global) -> Result<Option<LiteralValue>, AllocError>
+    ensures { IfOk result (λ v. v ≡ known.as_literal (value_of bare_answers (forest_of node.now))) }
+{
+    match value_of(node, alloc)? {
+        Some(value) => Ok(literal_of(&value)),
+        None => Ok(None),
+    }
+}
+
+// The operator is asked first, then the operands, so that a value is asked of small trees alone.
+pub(crate) fn known_literal(node: &Node, alloc: Global) -> Result<Option<LiteralValue>, AllocError>
+    ensures { IfOk result (λ v. v ≡ known.known_literal node.now.kind node.now.note node.now.below) }
+{
+    match node.kind() {
+        NodeKind::UnaryExpression(_) => {
+            if are_literals(node.children()) {
+                known_word(node, alloc)
+            } else {
+                Ok(None)
+            }
+        }
+        NodeKind::BinaryExpression(_) => {
+            if are_literals(node.children()) {
+                known_value(node, alloc)
+            } else {
+                Ok(None)
+            }
+        }
+        _ => Ok(None),
+    }
+}
+
+// ---- and the change
+
+// A literal takes the place of the whole. The context is told of all that stood there.
+pub(crate) fn put_literal(node: &mut Node, value: LiteralValue, ctx: &mut MinifierTraverseCtx)
+    ensures put { node.new ≡ record { kind = literal value; note = new_note node.old.note; below = nothing } }
+    ensures edited { Edited ctx.old node.old node.new true ctx.new }
+{
+    let written = Node::new(NodeKind::Literal(value), node.span(), Vec::new(ctx.alloc()));
+    ctx.replace_expression(node, written);
+}
