@@ -8,4 +8,5 @@ mod RenotedUnused
 mod RenotedChoice
 mod RenotedParts
 mod RenotedSides
+mod RenotedKnown
 pub mod Renoted

@@ -39,13 +39,15 @@ use Rattle.steps_allowed.specs.OneSidedChoice.{OneSidedChoice, one_branch_acts}
 use Rattle.steps_allowed.specs.IdleParts.{sequence_becomes, IdleParts, idle_parts_leave}
 use Rattle.steps_allowed.specs.TwoSides.{TwoSides, both_sides_act}
 use Rattle.steps_allowed.specs.UnusedObject.{UnusedObject, acting_values_stay}
+use Rattle.steps_allowed.specs.KnownOperation.{KnownOperation, value_is_known}
 use Rattle.steps_owed.proofs.ExposedBare.{bare_inside, bare_below, bare_exposed}
 use Rattle.steps_owed.proofs.Focus.{follows_there}
-use Rattle.headline.specs.Clean.{IsDead, an_empty_statement, a_silent_statement, an_unused_function, an_unused_declarator, a_known_conditional, a_known_side, an_unused_operation, an_unused_list, an_indirect_choice, a_one_sided_choice, idle_parts, two_sides, an_unused_object, Clean}
+use Rattle.headline.specs.Clean.{IsDead, an_empty_statement, a_silent_statement, an_unused_function, an_unused_declarator, a_known_conditional, a_known_side, an_unused_operation, an_unused_list, an_indirect_choice, a_one_sided_choice, idle_parts, two_sides, an_unused_object, a_known_operation, Clean}
 use Rattle.headline.proofs.RenotedUnused.{stands_as, needed_as, child_as, list_as}
 use Rattle.headline.proofs.RenotedChoice.{counts_as}
 use Rattle.headline.proofs.RenotedParts.{side_as, sequence_as}
 use Rattle.headline.proofs.RenotedSides.{two_sides_as, object_as}
+use Rattle.headline.proofs.RenotedKnown.{known_as}
 
 -- ---- sites without ids and spans
 
@@ -610,6 +612,12 @@ module _ (t u : Forest) (e : bare t ≡ bare u) (clean : Clean t) where
       let z = object_as n m x.kind o.below x.below y o.same becomes in
       clean.nothing_is_dead o.around (Some now) o.is (an_unused_object o.around now z.0 (acting_values_stay n m now z.0 (o.unused (λ j. false) 0 ∙ unused) z.1))
 
+  no_known : (a : Around) (x y : Tree) → u ≡ plug a (Some x) → KnownOperation a x y → ⊥
+  no_known a _ _ is (value_is_known i v x known) =
+      let o = other_place a x.kind x.note x.below is in
+      let now : Tree = record { kind = x.kind; note = o.note; below = o.below } in
+      clean.nothing_is_dead o.around (Some now) o.is (a_known_operation o.around now _ (value_is_known i v now (known_as x.kind o.note x.note o.below x.below v o.same known)))
+
   none_dead : (a : Around) (x : Option Tree) → u ≡ plug a x → IsDead u a x → ⊥
   none_dead a x is (an_empty_statement b n item) = no_empty b n is item
   none_dead a x is (a_silent_statement b n below silent) = no_silent b n below is silent
@@ -624,6 +632,7 @@ module _ (t u : Forest) (e : bare t ≡ bare u) (clean : Clean t) where
   none_dead a x is (idle_parts b y z leave) = no_idle_parts b y z is leave
   none_dead a x is (two_sides b y z act) = no_two_sides b y z is act
   none_dead a x is (an_unused_object b y z unused) = no_object b y z is unused
+  none_dead a x is (a_known_operation b y z known) = no_known b y z is known
 
 pub clean_as : (t u : Forest) → bare t ≡ bare u → Clean t → Clean u
 clean_as t u e clean = record { nothing_is_dead = none_dead t u e clean }

@@ -27,6 +27,8 @@ use Rattle.steps_allowed.specs.IdleParts.{IdleParts}
 use Rattle.steps_allowed.specs.TwoSides.{TwoSides}
 -- and an object literal that nobody takes the value of, and its values that act
 use Rattle.steps_allowed.specs.UnusedObject.{UnusedObject}
+-- and an operation on literals, and its value
+use Rattle.steps_allowed.specs.KnownOperation.{KnownOperation}
 -- whose names only the tree's references may use
 use Rattle.steps_allowed.specs.Exposure.{IsOwnFunction, IsOwnDeclarator}
 
@@ -65,6 +67,8 @@ pub data IsDead (t : Forest) : Around → Option Tree → Type 0 where
   -- an object literal of which nobody takes the value, with plain keys, of which a value acts, and each that does may come out of it: it
   -- does nothing itself, nor do the values that don't act
   an_unused_object : (a : Around) (x y : Tree) → UnusedObject a x y → IsDead t a (Some x)
+  -- an operation on literals of which the value is known and has a literal: the operation does nothing that the literal doesn't
+  a_known_operation : (a : Around) (x y : Tree) → KnownOperation a x y → IsDead t a (Some x)
 
 -- No part of the program is dead code.
 pub record Clean (t : Forest) : Type 0 where

@@ -26,9 +26,10 @@ use Rattle.rules_expressions.specs.OneSided.{one_sided_becomes}
 use Rattle.rules_expressions.specs.Sequences.{sequence_left}
 use Rattle.rules_expressions.specs.TwoSides.{two_sides_become}
 use Rattle.rules_expressions.specs.Objects.{object_left}
+use Rattle.rules_expressions.specs.Operations.{known_becomes}
 use Rattle.rules_expressions.specs.Settled.{IsSettledAt}
 use Rattle.rules_expressions.proofs.Walked.{settled_nodes}
-use Rattle.min_peephole.specs.Quiet.{first_facts, is_row, decides_none, wastes_none, keeps_parts, stays, all_stay, is_quiet}
+use Rattle.min_peephole.specs.Quiet.{first_facts, is_row, decides_none, wastes_none, keeps_parts, computes_none, stays, all_stay, is_quiet}
 use Rattle.rules_clean.proofs.Cleaned.{clean}
 
 list_stays : (k : Kind) (dead : Bool) → not (is_row k && dead) ≡ true → k ≡ statements → dead ≡ false
@@ -51,16 +52,22 @@ module _ (f : Facts) (p : Place) (n : Note) (k : Kind) (inner : Forest) (h : sta
   is_silent = is_silent_statement f (where_of p) k inner
 
   abbrev is_settled : Bool
-  is_settled = decides_none p n k inner && (wastes_none p n k inner && keeps_parts p n k inner)
+  is_settled = decides_none p n k inner && (wastes_none p n k inner && (keeps_parts p n k inner && computes_none n k inner))
 
   at_node : (not one_goes ≡ true) × (not is_silent && is_settled ≡ true)
   at_node = and_parts (not one_goes) (not is_silent && is_settled) h
 
-  at_expression : (decides_none p n k inner ≡ true) × (wastes_none p n k inner && keeps_parts p n k inner ≡ true)
-  at_expression = and_parts (decides_none p n k inner) (wastes_none p n k inner && keeps_parts p n k inner) (and_parts (not is_silent) is_settled at_node.1).1
+  abbrev keeps_all : Bool
+  keeps_all = keeps_parts p n k inner && computes_none n k inner
 
-  at_parts : (wastes_none p n k inner ≡ true) × (keeps_parts p n k inner ≡ true)
-  at_parts = and_parts (wastes_none p n k inner) (keeps_parts p n k inner) at_expression.1
+  at_expression : (decides_none p n k inner ≡ true) × (wastes_none p n k inner && keeps_all ≡ true)
+  at_expression = and_parts (decides_none p n k inner) (wastes_none p n k inner && keeps_all) (and_parts (not is_silent) is_settled at_node.1).1
+
+  at_parts : (wastes_none p n k inner ≡ true) × (keeps_all ≡ true)
+  at_parts = and_parts (wastes_none p n k inner) keeps_all at_expression.1
+
+  at_values : (keeps_parts p n k inner ≡ true) × (computes_none n k inner ≡ true)
+  at_values = and_parts (keeps_parts p n k inner) (computes_none n k inner) at_parts.1
 
   quiet_here : IsQuietAt f p (record { kind = k; note = n; below = inner })
   quiet_here = record { list = list_stays k (has_dead f (where_of p) inner) at_node.0; statement = none_empty is_silent _ (and_parts (not is_silent) is_settled at_node.1).0 }
@@ -77,7 +84,7 @@ module _ (f : Facts) (p : Place) (n : Note) (k : Kind) (inner : Forest) (h : sta
       let unused = and_parts lists sides wastes.1 in
       let both = not (is_some (two_sides_become (spot_of p) n k inner)) in
       let values = not (is_some (object_left (spot_of p) n k inner)) in
-      let keeps = and_parts (not (is_some (sequence_left (spot_of p) n k inner))) (both && values) at_parts.1 in
+      let keeps = and_parts (not (is_some (sequence_left (spot_of p) n k inner))) (both && values) at_values.0 in
       let parts = and_parts both values keeps.1 in
       record {
         conditional = none_there (conditional_becomes (spot_of p) k inner) decides.0;
@@ -89,6 +96,7 @@ module _ (f : Facts) (p : Place) (n : Note) (k : Kind) (inner : Forest) (h : sta
         sequence = none_there (sequence_left (spot_of p) n k inner) keeps.0;
         two_sides = none_there (two_sides_become (spot_of p) n k inner) parts.0;
         object = none_there (object_left (spot_of p) n k inner) parts.1;
+        known = none_there (known_becomes n k inner) at_values.1;
       }
 
 each_stays : (Q : Place → Tree → Type 0) (f : Facts) → ((p : Place) (n : Note) (k : Kind) (inner : Forest) → stays f p n k inner ≡ true → Q p (record { kind = k; note = n; below = inner })) → (s : Spot) (t : Forest) → all_stay f s t ≡ true → EachNode Q s t

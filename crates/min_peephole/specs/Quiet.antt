@@ -19,6 +19,7 @@ use Rattle.rules_expressions.specs.OneSided.{one_sided_becomes}
 use Rattle.rules_expressions.specs.Sequences.{sequence_left}
 use Rattle.rules_expressions.specs.TwoSides.{two_sides_become}
 use Rattle.rules_expressions.specs.Objects.{object_left}
+use Rattle.rules_expressions.specs.Operations.{known_becomes}
 
 -- what the first pass knows
 abbrev pub first_facts : Forest → Facts
@@ -41,9 +42,13 @@ wastes_none p n k inner = not (is_some (unused_becomes (spot_of p) k inner)) && 
 abbrev pub keeps_parts : Place → Note → Kind → (inner : Forest) → Bool
 keeps_parts p n k inner = not (is_some (sequence_left (spot_of p) n k inner)) && (not (is_some (two_sides_become (spot_of p) n k inner)) && not (is_some (object_left (spot_of p) n k inner)))
 
--- a node at a place: no item of a list goes, no statement becomes empty, and no expression comes to its parts
+-- and is no operation on literals that comes to its value
+abbrev pub computes_none : Note → Kind → (inner : Forest) → Bool
+computes_none n k inner = not (is_some (known_becomes n k inner))
+
+-- a node at a place: no item of a list goes, no statement becomes empty, and no expression comes to its parts or its value
 abbrev pub stays : Facts → Place → Note → Kind → (inner : Forest) → Bool
-stays f p n k inner = not (is_row k && has_dead f (where_of p) inner) && (not (is_silent_statement f (where_of p) k inner) && (decides_none p n k inner && (wastes_none p n k inner && keeps_parts p n k inner)))
+stays f p n k inner = not (is_row k && has_dead f (where_of p) inner) && (not (is_silent_statement f (where_of p) k inner) && (decides_none p n k inner && (wastes_none p n k inner && (keeps_parts p n k inner && computes_none n k inner))))
 
 -- each node of a row, by its place
 abbrev pub all_stay : Facts → Spot → Forest → Bool

@@ -8,10 +8,11 @@ use Rattle.js_syntax.specs.declared.kind.VariableKind.TheVariants as variable
 use Rattle.js_syntax.specs.declared.kind.PropertyKind.TheVariants as property
 use Rattle.js_syntax.specs.declared.operator.BinaryOperator.TheVariants as binary
 use Rattle.js_syntax.specs.declared.operator.LogicalOperator.TheVariants as logical
+use Rattle.js_syntax.specs.declared.operator.UnaryOperator.TheVariants as unary
 use Rattle.js_syntax.specs.declared.value.Key.TheVariants as key
 use Rattle.js_syntax.specs.declared.value.LiteralValue.{LiteralValue as Literal}
 use Rattle.js_syntax.specs.Node.{Forest, Tree, Note, nothing, node, absent, nowhere, joined, below_of}
-use Rattle.js_syntax.specs.Table.{a_program, an_expression_statement, a_call_expression, a_member_expression, a_reference_name, a_literal, a_binary_expression, a_logical_expression, a_sequence_expression, an_object_expression, a_property, a_binding_name, a_function_declaration, a_function_body, an_export_declaration, a_variable_declaration, a_variable_declarator}
+use Rattle.js_syntax.specs.Table.{a_program, an_expression_statement, a_call_expression, a_member_expression, a_reference_name, a_literal, a_unary_expression, a_binary_expression, a_logical_expression, a_sequence_expression, an_object_expression, a_property, a_binding_name, a_function_declaration, a_function_body, an_export_declaration, a_variable_declaration, a_variable_declarator}
 use Rattle.form_rules.specs.Samples.{leaf, listed, no, reads, a_module, a_script, a, binds, one, does, declares, let_, function_a, block}
 use Rattle.js_meaning.specs.Samples as sample
 use Rattle.js_meaning.specs.Examples.{g, o}
@@ -22,7 +23,7 @@ use Rattle.scope_rules.specs.Binding.{Binding, named_in, declared_by, binding_of
 use Rattle.scope_laws.specs.Exact.{Among}
 use Rattle.scope_laws.specs.Place.{Around, first, behind, behind_none, under, plug}
 use Rattle.steps_names.specs.Standing.{exported_declarations}
-use Rattle.steps_allowed.specs.Rows.{in_list, in_statement, past, statement, called, argument, before, sequence, call_of_a, call_of_eval, exports_declaration, empty}
+use Rattle.steps_allowed.specs.Rows.{in_list, in_statement, past, statement, called, argument, before, sequence, applied, call_of_a, call_of_eval, exports_declaration, empty}
 use Rattle.steps_allowed.specs.KnownConditional.{consequent_is_taken, alternate_is_taken}
 use Rattle.steps_allowed.specs.KnownSide.{right_side_counts, left_side_decides}
 use Rattle.steps_allowed.specs.UnusedOperation.{needed_at, one_operand_acts}
@@ -32,8 +33,9 @@ use Rattle.steps_allowed.specs.OneSidedChoice.{one_sided, one_branch_acts}
 use Rattle.steps_allowed.specs.IdleParts.{sequence_becomes, idle_parts_leave}
 use Rattle.steps_allowed.specs.TwoSides.{two_sides as two_sides_at, both_sides_act}
 use Rattle.steps_allowed.specs.UnusedObject.{object_becomes, acting_values_stay}
+use Rattle.steps_allowed.specs.KnownOperation.{known_literal, value_is_known}
 use Rattle.steps_allowed.specs.Uses.{Use}
-use Rattle.headline.specs.Clean.{IsDead, an_empty_statement, a_silent_statement, an_unused_function, an_unused_declarator, a_known_conditional, a_known_side, an_unused_operation, an_unused_list, an_indirect_choice, a_one_sided_choice, idle_parts, two_sides, an_unused_object, Clean}
+use Rattle.headline.specs.Clean.{IsDead, an_empty_statement, a_silent_statement, an_unused_function, an_unused_declarator, a_known_conditional, a_known_side, an_unused_operation, an_unused_list, an_indirect_choice, a_one_sided_choice, idle_parts, two_sides, an_unused_object, a_known_operation, Clean}
 use Rattle.min_peephole.specs.Quiet.{is_quiet}
 use Rattle.min_peephole.proofs.Quieted.{quiet_clean}
 use Rattle.test_headline.specs.Rows as row
@@ -114,6 +116,10 @@ sides_are_dead c = c.nothing_is_dead statement _ refl (two_sides statement _ _ (
 -- ({ a: a() });
 pub object_is_dead : Clean row.holds_call → ⊥
 object_is_dead c = c.nothing_is_dead statement _ refl (an_unused_object statement _ _ (acting_values_stay nowhere nowhere _ _ refl refl))
+
+-- use(!0);
+pub known_is_dead : Clean row.uses_negation → ⊥
+known_is_dead c = c.nothing_is_dead given _ refl (a_known_operation given _ _ (value_is_known nowhere (Literal.Boolean true) _ refl))
 
 -- ---- what has none
 
@@ -387,6 +393,58 @@ use_fits = (
 pub use_is_clean : Clean row.uses_a
 use_is_clean = quiet_clean _ use_fits refl
 
+-- use(true);
+true_stands : Stand (these (one_of expression ∷ [])) (sample.call (reads (codes "use")) (leaf (Kind.Literal (Literal.Boolean true)) ∷ []))
+true_stands = ((a_call_expression, (false, (false, tt)), refl, tt, refl, ((a_reference_name, (codes "use", tt), refl, tt, refl, tt), ((refl, ((a_literal, (Literal.Boolean true, tt), refl, tt, refl, tt), tt)), tt))), tt)
+
+true_fits : Fits root row.uses_true
+true_fits = (
+  (
+    a_program,
+    (source_type.Module, tt),
+    refl,
+    tt,
+    refl,
+    (
+      (
+        refl,
+        (inr (refl, (an_expression_statement, tt, refl, tt, refl, true_stands)), tt),
+      ),
+      tt,
+    ),
+  ),
+  tt,
+)
+
+pub true_is_clean : Clean row.uses_true
+true_is_clean = quiet_clean _ true_fits refl
+
+-- use(-1);
+minus_stands : Stand (these (one_of expression ∷ [])) (sample.call (reads (codes "use")) (applied unary.UnaryNegation one ∷ []))
+minus_stands = ((a_call_expression, (false, (false, tt)), refl, tt, refl, ((a_reference_name, (codes "use", tt), refl, tt, refl, tt), ((refl, ((a_unary_expression, (unary.UnaryNegation, tt), refl, tt, refl, ((a_literal, (Literal.Number (pos 1), tt), refl, tt, refl, tt), tt)), tt)), tt))), tt)
+
+minus_fits : Fits root row.uses_minus_one
+minus_fits = (
+  (
+    a_program,
+    (source_type.Module, tt),
+    refl,
+    tt,
+    refl,
+    (
+      (
+        refl,
+        (inr (refl, (an_expression_statement, tt, refl, tt, refl, minus_stands)), tt),
+      ),
+      tt,
+    ),
+  ),
+  tt,
+)
+
+pub minus_is_clean : Clean row.uses_minus_one
+minus_is_clean = quiet_clean _ minus_fits refl
+
 -- ({ __proto__: a() });
 prototype_stands : Stand (all object_item) (below_of (below_of (row.object_of (codes "__proto__") call_of_a)))
 prototype_stands = ((a_property, (property.Init, (false, (key.Name (codes "__proto__"), tt))), refl, refl, refl, (refl, name_stands)), tt)
@@ -490,6 +548,11 @@ object_suspect : (n m : Note) (k : Kind) (below : Forest) (y : Tree) → object_
 object_suspect n m Kind.ObjectExpression below y h = refl
 object_suspect n m k below y h = absurd Prim.cc
 
+known_suspect : (k : Kind) (n : Note) (below : Forest) (v : Literal) → known_literal k n below ≡ Some v → is_suspect k ≡ true
+known_suspect (Kind.UnaryExpression o) n below v h = refl
+known_suspect (Kind.BinaryExpression o) n below v h = refl
+known_suspect k n below v h = absurd Prim.cc
+
 dead_suspect : (t : Forest) (a : Around) (x : Option Tree) → t ≡ plug a x → IsDead t a x → has_suspect t ≡ true
 dead_suspect t a x is (an_empty_statement b n item) = ap has_suspect is ∙ suspect_there b _ refl
 dead_suspect t a x is (a_silent_statement b n below silent) = ap has_suspect is ∙ suspect_there b _ refl
@@ -506,6 +569,7 @@ dead_suspect t a x is (a_one_sided_choice b _ _ (one_branch_acts n y z unused on
 dead_suspect t a x is (idle_parts b _ _ (idle_parts_leave n m y z leave)) = ap has_suspect is ∙ suspect_there b y (sequence_suspect _ _ n m y.kind y.below z leave)
 dead_suspect t a x is (two_sides b _ _ (both_sides_act n m y z unused act)) = ap has_suspect is ∙ suspect_there b y (both_suspect n m y.kind y.below z act)
 dead_suspect t a x is (an_unused_object b _ _ (acting_values_stay n m y z unused becomes)) = ap has_suspect is ∙ suspect_there b y (object_suspect n m y.kind y.below z becomes)
+dead_suspect t a x is (a_known_operation b _ _ (value_is_known i v y known)) = ap has_suspect is ∙ suspect_there b y (known_suspect y.kind y.note y.below v known)
 
 -- A declaration goes with the last of its declarators, and stays where it has none.
 pub nothing_declared_is_clean : Clean row.declares_nothing

@@ -1,5 +1,5 @@
 -- What shaking may leave of a small module.
-use Rattle.std.proofs.Common.{◌≡◌, inl, inr, [], ◌∷◌, pos, false, codes, refl}
+use Rattle.std.proofs.Common.{◌≡◌, inl, inr, [], ◌∷◌, pos, true, false, codes, refl}
 use Rattle.js_syntax.specs.Class.{root, module_item, expression, argument, object_item}
 use Rattle.js_syntax.specs.declared.node_kind.NodeKind.{NodeKind as Kind}
 use Rattle.js_syntax.specs.declared.scalar.SourceType.TheVariants as source_type
@@ -26,8 +26,9 @@ use Rattle.steps_allowed.specs.OneSidedChoice.{one_branch_acts}
 use Rattle.steps_allowed.specs.IdleParts.{idle_parts_leave}
 use Rattle.steps_allowed.specs.TwoSides.{both_sides_act}
 use Rattle.steps_allowed.specs.UnusedObject.{acting_values_stay}
-use Rattle.steps_allowed.specs.Edits.{no_tree_edit, one_tree_edit, leaves, becomes, empty_statement, silent_statement, unused_operation, unused_list, indirect_choice, one_sided_choice, idle_parts, two_sides, unused_object}
-use Rattle.steps_allowed.specs.Rows.{in_list, past, statement, called, call_of_a, sequence, equals, null}
+use Rattle.steps_allowed.specs.KnownOperation.{value_is_known}
+use Rattle.steps_allowed.specs.Edits.{no_tree_edit, one_tree_edit, leaves, becomes, empty_statement, silent_statement, unused_operation, unused_list, indirect_choice, one_sided_choice, idle_parts, two_sides, unused_object, known_operation}
+use Rattle.steps_allowed.specs.Rows.{in_list, past, statement, called, call_of_a, sequence, applied, equals, null}
 use Rattle.steps_allowed.proofs.Composing.{tree_edits_are_edits}
 use Rattle.headline.specs.Clean.{Clean}
 use Rattle.headline.specs.Headline.{Edits, Headline}
@@ -35,7 +36,7 @@ use Rattle.headline.proofs.Headline.{headline_of}
 use Rattle.headline_text.specs.Written.{written}
 use Rattle.min_peephole.proofs.Quieted.{quiet_clean}
 use Rattle.test_headline.specs.Rows as row
-use Rattle.test_headline.proofs.Dead.{name_stands, member_stands, call_is_clean as a_is_clean, sequence_is_clean, receiver_is_clean, other_stands, given, guarded_is_clean, use_is_clean}
+use Rattle.test_headline.proofs.Dead.{name_stands, member_stands, call_is_clean as a_is_clean, sequence_is_clean, receiver_is_clean, other_stands, given, guarded_is_clean, use_is_clean, true_is_clean}
 
 number_stands : Stand (all argument) (sample.number_of 1)
 number_stands = ((a_literal, (Literal.Number (pos 1), tt), refl, tt, refl, tt), tt)
@@ -400,6 +401,40 @@ object_goes = tree_edits_are_edits (one_tree_edit _ _ _ (becomes statement _ _ (
 
 pub held_left : Headline row.holds_call row.calls_a
 held_left = headline_of row.holds_call row.calls_a object_fits object_well_formed object_goes a_is_clean
+
+-- ---- of a negated number its truth value is left
+
+negation_stands : Stand (these (one expression ∷ [])) (sample.call (form.reads (codes "use")) (applied unary.LogicalNot (sample.number_of 0) ∷ []))
+negation_stands = ((a_call_expression, (false, (false, tt)), refl, tt, refl, ((a_reference_name, (codes "use", tt), refl, tt, refl, tt), ((refl, ((a_unary_expression, (unary.LogicalNot, tt), refl, tt, refl, ((a_literal, (Literal.Number (pos 0), tt), refl, tt, refl, tt), tt)), tt)), tt))), tt)
+
+negation_fits : Fits root row.uses_negation
+negation_fits = (
+  (
+    a_program,
+    (source_type.Module, tt),
+    refl,
+    tt,
+    refl,
+    (
+      (
+        refl,
+        (inr (refl, (an_expression_statement, tt, refl, tt, refl, negation_stands)), tt),
+      ),
+      tt,
+    ),
+  ),
+  tt,
+)
+
+negation_well_formed : IsWellFormed row.uses_negation
+unfolding is_identifier_name
+negation_well_formed = refl
+
+negation_goes : Edits row.uses_negation row.uses_true
+negation_goes = tree_edits_are_edits (one_tree_edit _ _ _ (becomes given _ _ (known_operation (value_is_known nowhere (Literal.Boolean true) _ refl))) (no_tree_edit _))
+
+pub known_left : Headline row.uses_negation row.uses_true
+known_left = headline_of row.uses_negation row.uses_true negation_fits negation_well_formed negation_goes true_is_clean
 
 pub written_left : written row.less_four ≡ row.with_minus
 written_left = refl

@@ -185,3 +185,15 @@ holds_call = form.a_module (form.does (object_of form.a call_of_a) ∷ [])
 -- ({ __proto__: a() });
 abbrev pub sets_prototype : Forest
 sets_prototype = form.a_module (form.does (object_of (codes "__proto__") call_of_a) ∷ [])
+
+-- use(!0);
+abbrev pub uses_negation : Forest
+uses_negation = form.a_module (calls (form.reads (codes "use")) (applied unary.LogicalNot (sample.number_of 0) ∷ []) ∷ [])
+
+-- use(true);
+abbrev pub uses_true : Forest
+uses_true = form.a_module (calls (form.reads (codes "use")) (form.leaf (Kind.Literal (Literal.Boolean true)) ∷ []) ∷ [])
+
+-- use(-1);
+abbrev pub uses_minus_one : Forest
+uses_minus_one = form.a_module (calls (form.reads (codes "use")) (applied unary.UnaryNegation form.one ∷ []) ∷ [])

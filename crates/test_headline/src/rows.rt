@@ -57,8 +57,8 @@ pub fn what_others_may_use_stays()
 {}
 
 /// `1;` doesn't stay, nor does the conditional of `a(true ? a : b);`, of `(1 ? o.g : null)();` or of `a ? b() : 1;`, what stands right in
-/// `null && a();`, what of `!(a() === 1);`, of `[a(), 1];` and of `({ a: a() });` is no call, the `1` of `use((1, a));`, or the comparison
-/// of `a() === b();`.
+/// `null && a();`, what of `!(a() === 1);`, of `[a(), 1];` and of `({ a: a() });` is no call, the `1` of `use((1, a));`, the comparison
+/// of `a() === b();`, or the negation of `use(!0);`.
 pub fn dead_code_goes()
     ensures number { Headline row.dead row.dead → ⊥ }
     ensures conditional { Headline row.takes_branch row.takes_branch → ⊥ }
@@ -70,6 +70,7 @@ pub fn dead_code_goes()
     ensures idle { Headline row.uses_sequence row.uses_sequence → ⊥ }
     ensures sides { Headline row.compares_calls row.compares_calls → ⊥ }
     ensures object { Headline row.holds_call row.holds_call → ⊥ }
+    ensures known { Headline row.uses_negation row.uses_negation → ⊥ }
 {}
 
 /// `1;` is dead code, and so are `{ ; }`'s empty statement, a function that nothing calls, one of two declarators, a conditional on a
@@ -77,7 +78,8 @@ pub fn dead_code_goes()
 /// an array of which nobody takes the value, a conditional on a literal that is called so that what it gives has no receiver:
 /// `(1 ? o.g : null)();`, a conditional of which nobody takes the value and one branch alone acts: `a ? b() : 1;`, a sequence that is
 /// used for its value, of which a part before the last doesn't act: `use((1, a));`, a comparison of which nobody takes the value, though
-/// both sides act: `a() === b();`, and an object literal of which nobody takes the value, that holds a call: `({ a: a() });`.
+/// both sides act: `a() === b();`, an object literal of which nobody takes the value, that holds a call: `({ a: a() });`, and an operation
+/// on a literal, of which the value is known: `use(!0);`.
 pub fn dead_code_is_told()
     ensures number { Clean (a_module (does one ∷ [])) → ⊥ }
     ensures empty { Clean (a_module (block (empty ∷ []) ∷ [])) → ⊥ }
@@ -92,12 +94,13 @@ pub fn dead_code_is_told()
     ensures idle { Clean row.uses_sequence → ⊥ }
     ensures sides { Clean row.compares_calls → ⊥ }
     ensures object { Clean row.holds_call → ⊥ }
+    ensures known { Clean row.uses_negation → ⊥ }
 {}
 
 /// A call is none, nor a function that is exported, a variable beside a direct call of `eval`, a function of a script, a
 /// sequence that is called so that what it gives has no receiver, whatever stands in front: `(0, o.g)();` and `(1, o.g)();`, a sum of
-/// which both sides may act, as names do that nothing declares: `a + b;`, a sequence of two calls: `a(), b();`, and an object literal of
-/// which a call gives the prototype: `({ __proto__: a() });`.
+/// which both sides may act, as names do that nothing declares: `a + b;`, a sequence of two calls: `a(), b();`, an object literal of
+/// which a call gives the prototype: `({ __proto__: a() });`, and the minus by which a negative number is written: `use(-1);`.
 pub fn what_others_may_use_is_no_dead_code()
     ensures call { Clean (a_module (does call_of_a ∷ [])) }
     ensures exported { Clean (a_module (exports_declaration (function_a [] []) ∷ [])) }
@@ -108,6 +111,7 @@ pub fn what_others_may_use_is_no_dead_code()
     ensures names { Clean row.adds_names }
     ensures sequence { Clean row.calls_both }
     ensures prototype { Clean row.sets_prototype }
+    ensures minus { Clean row.uses_minus_one }
 {}
 
 /// By an export in a block, which no program of the table has, a function of the block's that nothing refers to is dead code
@@ -121,8 +125,8 @@ pub fn rules_take_dead_code_alone()
 {}
 
 /// `f(1);` may take the place of `f(1); 2;`, `a();` that of `!(a() === 1);`, of `[a(), 1];` and of `({ a: a() });`, `a(), b();` that of
-/// `[a(), 1, b()];` and of `a() === b();`, `(0, o.g)();` that of `(1 ? o.g : null)();`, `a && b();` that of `a ? b() : 1;`, and `use(a);`
-/// that of `use((1, a));`.
+/// `[a(), 1, b()];` and of `a() === b();`, `(0, o.g)();` that of `(1 ? o.g : null)();`, `a && b();` that of `a ? b() : 1;`, `use(a);`
+/// that of `use((1, a));`, and `use(true);` that of `use(!0);`.
 pub fn what_is_left()
     ensures statement { Headline row.with_dead row.calls_host }
     ensures operand { Headline row.compares_call row.calls_a }
@@ -133,6 +137,7 @@ pub fn what_is_left()
     ensures last { Headline row.uses_sequence row.uses_a }
     ensures sides { Headline row.compares_calls row.calls_both }
     ensures held { Headline row.holds_call row.calls_a }
+    ensures known { Headline row.uses_negation row.uses_true }
 {}
 
 /// Edits lead from `f(-4); 2;` with a literal for -4 to `f(-4);`, which is written with unary minus on 4.
