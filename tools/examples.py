@@ -312,6 +312,12 @@ S('({ a: f(), b: 1 }); ({ a: f(), b: g() });',[ES(OBJ(prop(a,call(f)),prop(b,L(1
 S('({ ...f() }); ({ [a]: f() }); ({ __proto__: f() }); use({ a: f() });',[ES(OBJ(N('SpreadElement',argument=call(f)))),ES(OBJ(prop(a,call(f),computed=True))),ES(OBJ(prop(I('__proto__'),call(f)))),use(OBJ(prop(a,call(f))))],None,0,0)
 S('({ a: class extends f() {} }); which takes its name from there',[ES(OBJ(prop(a,N('ClassExpression',id=None,superClass=call(f),body=N('ClassBody',body=[])))))],None,0,0)
 
+S("use(!0); use(typeof 1); use(typeof 'a'); use(+1);",[use(NOT(L(0))),use(un('typeof',L(1))),use(un('typeof',L('a'))),use(un('+',L(1)))],[use(L(True)),use(L('number')),use(L('string')),use(L(1))],1,0)
+S('use(1 + 2); use(3 * 4); use(6 / 2); use(7 % 4); use(1 < 2); use(1 === 2); use(1 == 1);',[use(SAME(L(1),L(2),'+')),use(SAME(L(3),L(4),'*')),use(SAME(L(6),L(2),'/')),use(SAME(L(7),L(4),'%')),use(SAME(L(1),L(2),'<')),use(SAME(L(1),L(2))),use(SAME(L(1),L(1),'=='))],[use(L(3)),use(L(12)),use(L(3)),use(L(3)),use(L(True)),use(L(False)),use(L(True))],1,0)
+S('use(!(1 === 2)); use(1 + 2 + 3);',[use(NOT(SAME(L(1),L(2)))),use(SAME(SAME(L(1),L(2),'+'),L(3),'+'))],[use(L(True)),use(L(6))],1,0)
+S("use(-1); use(0 * -1); use(1 / 2); use(1 / 0); use(9007199254740991 + 1); use('a' + 'b'); use(void 0);",[use(un('-',L(1))),use(SAME(L(0),un('-',L(1)),'*')),use(SAME(L(1),L(2),'/')),use(SAME(L(1),L(0),'/')),use(SAME(L(9007199254740991),L(1),'+')),use(SAME(L('a'),L('b'),'+')),use(un('void',L(0)))],None,0,0)
+S('(1 < 2 ? a : b)(); use(!1 || a);',[ES(call(COND(SAME(L(1),L(2),'<'),a,b))),use(OR(NOT(L(1)),a))],[do('a'),use(a)],1,0)
+
 
 def text(tree): return json.dumps(tree, sort_keys=True, separators=(',', ':'))
 
