@@ -4,11 +4,14 @@ use Rattle.std.proofs.lemmas.List.{map-append}
 use Rattle.std.specs.Str.{bytes_eq}
 use mathlib.Core.Path.{fun_ext}
 use Rattle.js_syntax.specs.declared.node_kind.NodeKind.{NodeKind as Kind}
-use Rattle.js_syntax.specs.declared.node_kind.NodeKind.TheVariants.{Function as function, BindingName as binding_name, ReferenceName as reference_name, TargetName as target_name, EmptyStatement as empty_statement, ExpressionStatement as expression_statement, VariableDeclarator as variable_declarator, ConditionalExpression as conditional_expression, LogicalExpression as logical_expression, Literal as literal}
+use Rattle.js_syntax.specs.declared.node_kind.NodeKind.TheVariants.{Function as function, UnaryExpression as unary_expression, BindingName as binding_name, ReferenceName as reference_name, TargetName as target_name, EmptyStatement as empty_statement, ExpressionStatement as expression_statement, VariableDeclarator as variable_declarator, ConditionalExpression as conditional_expression, LogicalExpression as logical_expression, Literal as literal}
 use Rattle.js_syntax.specs.declared.kind.FunctionKind.TheVariants as function_kind
 use Rattle.js_syntax.specs.declared.kind.VariableKind.TheVariants as variable
+use Rattle.js_syntax.specs.declared.operator.UnaryOperator.TheVariants as unary
 use Rattle.js_syntax.specs.declared.value.LiteralValue.{LiteralValue}
 use Rattle.js_syntax.specs.Node.{Forest, Tree, Note, nothing, node, absent, nowhere, bare}
+use Rattle.js_effects.specs.Silence.{is_one_name, runs_its_parts}
+use Rattle.js_effects.proofs.Bare.{runs_bare, one_name_bare}
 use Rattle.min_pass.specs.declared.around.Around.{Around as Asked}
 use Rattle.min_pass.specs.Around.{is_with, entered as asked_below, outermost as asked_of_program}
 use Rattle.min_pass.specs.Pass.{is_given}
@@ -224,16 +227,17 @@ place_as next k n m f g e = ap (λ (i : ℕ). next + i) (unseen scope_count scop
 
 -- ---- what is silent
 
-found_as : (bs ds : List BindingSite) → ((r : ReferenceSite) → binding_of bs r ≡ binding_of ds r) → (c : Context) (k : Kind) (n m : Note) → IsFound bs c k n → IsFound ds c k m
-found_as bs ds same c (reference_name x) n m (inl h) = inl (ap is_some (sym (same (read_in c m x))) ∙ h)
-found_as bs ds same c (reference_name x) n m (inr h) = inr h
-found_as bs ds same c k n m h = absurd h
+found_as : (bs ds : List BindingSite) → ((r : ReferenceSite) → binding_of bs r ≡ binding_of ds r) → (c : Context) (k : Kind) (n m : Note) (f g : Forest) → bare f ≡ bare g → IsFound bs c k n f → IsFound ds c k m g
+found_as bs ds same c (reference_name x) n m f g e (inl h) = inl (ap is_some (sym (same (read_in c m x))) ∙ h)
+found_as bs ds same c (reference_name x) n m f g e (inr h) = inr h
+found_as bs ds same c (unary_expression unary.Typeof) n m f g e h = sym (one_name_bare g) ∙ ap is_one_name (sym e) ∙ one_name_bare f ∙ h
+found_as bs ds same c k n m f g e h = absurd h
 
-silent_node : (bs ds : List BindingSite) → ((r : ReferenceSite) → binding_of bs r ≡ binding_of ds r) → (w : Bool) (c : Context) (k : Kind) (n m : Note) (parts now : Type 0) → (parts → now)
-    → IsSilentNode bs w c k n parts → IsSilentNode ds w c k m now
-silent_node bs ds same w c k n m parts now f (inl h) = inl h
-silent_node bs ds same w c k n m parts now f (inr (inl h)) = inr (inl (h.0, found_as bs ds same c k n m h.1))
-silent_node bs ds same w c k n m parts now f (inr (inr h)) = inr (inr (h.0, f h.1))
+silent_node : (bs ds : List BindingSite) → ((r : ReferenceSite) → binding_of bs r ≡ binding_of ds r) → (w : Bool) (c : Context) (k : Kind) (n m : Note) (f g : Forest) → bare f ≡ bare g → (parts now : Type 0) → (parts → now)
+    → IsSilentNode bs w c k n f parts → IsSilentNode ds w c k m g now
+silent_node bs ds same w c k n m f g e parts now then_ (inl h) = inl h
+silent_node bs ds same w c k n m f g e parts now then_ (inr (inl h)) = inr (inl (h.0, found_as bs ds same c k n m f g e h.1))
+silent_node bs ds same w c k n m f g e parts now then_ (inr (inr h)) = inr (inr (sym (runs_bare k g) ∙ ap (runs_its_parts k) (sym e) ∙ runs_bare k f ∙ h.0, then_ h.1))
 
 silent_as : (bs ds : List BindingSite) → ((r : ReferenceSite) → binding_of bs r ≡ binding_of ds r) → (w : Bool) (cs : ℕ → Context) (at next : ℕ) (f g : Forest) → bare f ≡ bare g
     → IsSilent bs w cs at next f → IsSilent ds w cs at next g
@@ -252,7 +256,7 @@ silent_as bs ds same w cs at next (node k n b f) (node l m c g) e h =
     subst (λ (i : ℕ). IsSilent ds w (inside (cs at) next k c) 0 (next + i) c) (opens_same k b c inner)
     (subst (λ (es : ℕ → Context). IsSilent ds w es 0 (next + opens_one k b) c) (inside_same (cs at) next k b c inner) (silent_as bs ds same w (inside (cs at) next k b) 0 (next + opens_one k b) b c inner p)) in
     let here : IsSilent ds w cs at next (node k m c g) = (
-      silent_node bs ds same w (cs at) k n m (IsSilent bs w (inside (cs at) next k b) 0 (next + opens_one k b) b) (IsSilent ds w (inside (cs at) next k c) 0 (next + opens_one k c) c) parts h.0,
+      silent_node bs ds same w (cs at) k n m b c inner (IsSilent bs w (inside (cs at) next k b) 0 (next + opens_one k b) b) (IsSilent ds w (inside (cs at) next k c) 0 (next + opens_one k c) c) parts h.0,
       subst (λ (i : ℕ). IsSilent ds w cs (suc at) i g) (place_as next k n m b c inner) (silent_as bs ds same w cs (suc at) after f g (same_rest e) h.1),
     ) in
     subst (λ j. IsSilent ds w cs at next (node j m c g)) (same_kind e) here

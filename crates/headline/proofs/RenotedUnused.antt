@@ -5,7 +5,9 @@ use Rattle.js_syntax.specs.declared.node_kind.NodeKind.TheVariants.{Function as 
 use Rattle.js_syntax.specs.declared.operator.UnaryOperator.{UnaryOperator}
 use Rattle.js_syntax.specs.declared.operator.BinaryOperator.{BinaryOperator}
 use Rattle.js_syntax.specs.Node.{Forest, Tree, Note, nothing, node, absent, nowhere, bare}
-use Rattle.js_effects.specs.Silence.{has_effect, may_have_effects}
+use Rattle.js_effects.specs.Still.{is_value}
+use Rattle.js_effects.specs.Silence.{may_have_effects}
+use Rattle.js_effects.proofs.Bare.{runs_bare}
 use Rattle.js_meaning_near.specs.Unused.{is_total, compares}
 use Rattle.scope_laws.specs.Lists.{is_list}
 use Rattle.scope_laws.proofs.Notes.{unseen}
@@ -51,7 +53,8 @@ stands_as u w k f g e = unseen (stands_bare u w k) (stands_bare_bare u w k) f g 
 effects_bare : (t : Forest) → may_have_effects [] true (bare t) ≡ may_have_effects [] true t
 effects_bare nothing = refl
 effects_bare (absent rest) = effects_bare rest
-effects_bare (node k n below rest) = ap₂ (λ x y. has_effect [] true k n x || y) (effects_bare below) (effects_bare rest)
+effects_bare (node k n below rest) =
+    ap₂ (λ x y. x || y) (ap₂ (λ (r b : Bool). if is_value k || false then false else not r || b) (runs_bare k below) (effects_bare below)) (effects_bare rest)
 
 pub acts_bare : (k : Kind) (n : Note) (t : Forest) → acts k nowhere (bare t) ≡ acts k n t
 acts_bare k n t = effects_bare (node k n t nothing)

@@ -1,5 +1,5 @@
 -- What is asked of the nodes of a row one by one.
-use Rattle.std.proofs.Common.{◌≡◌, Bool, true, false, not, ◌&&◌, ◌||◌, List, [], ◌∷◌, Option, Some, None, refl, sym, ap}
+use Rattle.std.proofs.Common.{◌≡◌, Bool, true, false, ◌&&◌, ◌||◌, List, [], ◌∷◌, Option, Some, None, refl, sym, ap}
 use Rattle.js_syntax.specs.Node.{Tree, forest_of, row}
 use Rattle.js_syntax.proofs.Truth.{or_false}
 use Rattle.js_tree.proofs.Search.{AsksEach}
@@ -10,7 +10,7 @@ use Rattle.js_effects.specs.Effects.{has_spread, acts, any_acts}
 
 pub effects_each : (bound : List Bool) (in_with : Bool) → AsksEach (may_have_effects bound in_with)
 effects_each bound in_with None ts = refl
-effects_each bound in_with (Some t) ts = ap (λ (b : Bool). b || may_have_effects bound in_with (row ts)) (sym (or_false (has_effect bound in_with t.kind t.note (may_have_effects bound in_with t.below))))
+effects_each bound in_with (Some t) ts = ap (λ (b : Bool). b || may_have_effects bound in_with (row ts)) (sym (or_false (has_effect bound in_with t.kind t.note t.below (may_have_effects bound in_with t.below))))
 
 pub acts_one : (A : Answers) (t : Tree) → any_acts A (row (Some t ∷ [])) ≡ acts A (forest_of t)
 acts_one A t = or_false (acts A (forest_of t))

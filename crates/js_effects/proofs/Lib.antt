@@ -4,3 +4,6 @@ pub mod Texts
 pub mod Digits
 pub mod Quotients
 pub mod Unary
+pub mod Alike
+pub mod OneName
+pub mod Bare

@@ -1,8 +1,8 @@
 -- What unary operators convert.
-use Rattle.std.proofs.Common.{◌≡◌, Bool, true, false, refl}
+use Rattle.std.proofs.Common.{◌≡◌, Bool, false, refl}
 use Rattle.js_syntax.specs.declared.operator.UnaryOperator.{UnaryOperator}
 use Rattle.js_syntax.specs.declared.operator.UnaryOperator.TheVariants as unary
-use Rattle.js_effects.specs.Silence.{converts_nothing}
+use Rattle.js_effects.specs.Still.{converts_nothing}
 use Rattle.js_effects.specs.Effects.{is_silent_unary}
 
 -- what converts its operand is silent where that is primitive

@@ -1,5 +1,5 @@
 -- What expressions are read by beside their form: what a context answers of names, and what it takes for an effect.
-use Rattle.std.specs.Prelude.{ℕ, Bool, true, false, Option, Some, None}
+use Rattle.std.specs.Prelude.{ℕ, Bool, true, false, Option, None}
 use Rattle.js_syntax.specs.declared.node_kind.NodeKind.{NodeKind as Kind}
 use Rattle.js_syntax.specs.Node.{Forest, Note}
 use Rattle.min_options.specs.declared.options.PropertyReadSideEffects.{PropertyReadSideEffects}

@@ -1,6 +1,6 @@
 -- Which expressions are silent: to run one has no effect that anybody could see, but that a name may be touched before it
 -- is initialised. The others act.
-use Rattle.std.specs.Prelude.{ℕ, List, [], ◌∷◌, Bool, true, false, not, ◌&&◌, ◌||◌, Option, Some, None, codes, get_or, is_some, ◌==◌, if◌then◌else◌}
+use Rattle.std.specs.Prelude.{ℕ, List, Bool, true, false, not, ◌&&◌, ◌||◌, Option, Some, None, codes, get_or, is_some, ◌==◌, if◌then◌else◌}
 use Rattle.std.specs.List.{list_any}
 use Rattle.std.specs.Str.{bytes_eq}
 use Rattle.js_syntax.specs.declared.node_kind.NodeKind.{NodeKind as Kind}
@@ -21,7 +21,7 @@ use Rattle.js_effects.specs.declared.parts.Parts.TheVariants as parts
 use Rattle.js_effects.specs.Answers.{Answers}
 use Rattle.js_effects.specs.Each.{of_each, of_first, last, width, child_of, inner_at}
 use Rattle.js_effects.specs.Kinds.{is_primitive, all_primitive, compares, asks_an_object, is_named_undefined, types, type_at}
-use Rattle.js_effects.specs.Silence.{is_value, converts_nothing}
+use Rattle.js_effects.specs.Still.{is_value, converts_nothing}
 
 -- ---- names
 
@@ -61,15 +61,13 @@ abbrev pub is_bare : Option Tree → Bool
 is_bare (Some t) = width t.below == 0
 is_bare None = true
 
--- `new.target` (13.3.12), `this` (13.2.1), a static block without statements (15.7.11), and what is no expression: a
--- class's name, a private name as a key, the texts of a template
+-- `this` (13.2.1), a static block without statements (15.7.11), and what is no expression: a class's name, a private name as
+-- a key
 abbrev pub is_still : Answers → Kind → (below : Forest) → Bool
-is_still A kind.NewTarget a = true
 is_still A kind.ThisExpression a = A.effects.this_is_initialised
 is_still A kind.StaticBlock a = is_bare (child_of a 0)
 is_still A (kind.BindingName x) a = true
 is_still A (kind.PrivateName x) a = true
-is_still A (kind.TemplateElement value tail) a = true
 is_still A k a = false
 
 abbrev pub does_nothing : Answers → Kind → Note → (below : Forest) → Bool

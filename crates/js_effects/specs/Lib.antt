@@ -1,4 +1,4 @@
-pub mod Silence
+pub mod Still
 pub mod Answers
 pub mod Each
 pub mod Forms
@@ -7,3 +7,4 @@ pub mod Values
 pub mod Effects
 pub mod KnownValue
 pub mod Number
+pub mod Silence

@@ -1,78 +1,61 @@
--- Which expressions are silent: to run one has no effect that anybody could see, but that a name may be touched before
--- it is initialised.
+-- Which expressions are silent as far as their form tells and whether names have bindings: to run one has no effect that
+-- anybody could see, but that a name may be touched before it is initialised. These are the silent forms of `Effects` where no
+-- name has a known type or value, `this` may not be read yet, and classes act.
 use Rattle.std.specs.Prelude.{ℕ, List, Bool, true, false, not, ◌&&◌, ◌||◌, Option, Some, None, codes, slice_index_or, if◌then◌else◌}
 use Rattle.std.specs.Str.{bytes_eq}
 use Rattle.js_syntax.specs.declared.node_kind.NodeKind.{NodeKind as Kind}
-use Rattle.js_syntax.specs.declared.node_kind.NodeKind.TheVariants.{Literal as literal, RegExp as reg_exp, Function as function, Hole as hole, ReferenceName as reference_name, UnaryExpression as unary_expression, ParenthesizedExpression as parenthesized_expression, LogicalExpression as logical_expression, ConditionalExpression as conditional_expression, SequenceExpression as sequence_expression, ArrayExpression as array_expression, ObjectExpression as object_expression, Property as property, Elements as elements, Properties as properties, Expressions as expressions}
-use Rattle.js_syntax.specs.declared.operator.UnaryOperator.{UnaryOperator}
+use Rattle.js_syntax.specs.declared.node_kind.NodeKind.TheVariants as kind
 use Rattle.js_syntax.specs.declared.operator.UnaryOperator.TheVariants as unary
-use Rattle.js_syntax.specs.declared.kind.FunctionKind.{FunctionKind}
-use Rattle.js_syntax.specs.declared.kind.FunctionKind.TheVariants as function_kind
-use Rattle.js_syntax.specs.declared.kind.PropertyKind.{PropertyKind}
-use Rattle.js_syntax.specs.declared.kind.PropertyKind.TheVariants as property_kind
-use Rattle.js_syntax.specs.declared.value.Key.{Key}
-use Rattle.js_syntax.specs.declared.value.Key.TheVariants.{Below as key_below}
 use Rattle.js_syntax.specs.Node.{Forest, nothing, node, absent, Note}
+use Rattle.js_effects.specs.Answers.{bare_answers}
+use Rattle.js_effects.specs.Each.{inner_at, is_parenthesized}
+use Rattle.js_effects.specs.Effects.{is_reference, only_runs_parts, converts_primitives, is_silent_key, is_array, has_spread}
+use Rattle.js_effects.specs.Still.{is_value}
 
-abbrev pub is_expression : FunctionKind → Bool
-is_expression function_kind.Declaration = false
-is_expression how = true
+-- A property whose key is static, or is converted without an effect; in an array the elements of an array literal; the
+-- properties of an object where none is spread (ECMA-262 13.2.4, 13.2.5).
+abbrev pub runs_entries : Kind → (below : Forest) → Bool
+runs_entries (kind.Property how is_method key) a = is_silent_key bare_answers key a
+runs_entries kind.SpreadElement a = is_array (inner_at 0 a)
+runs_entries kind.Properties a = not (has_spread a)
+runs_entries k a = false
 
--- Literals, functions and arrows, whatever lies below them (ECMA-262 13.2.3, 13.2.7, 15.2.5, 15.3.4), and the holes of
--- arrays.
-abbrev pub is_value : Kind → Bool
-is_value (literal v) = true
-is_value (reg_exp x) = true
-is_value (function how pure) = is_expression how
-is_value hole = true
-is_value k = false
-
--- `!`, `void` and `typeof` convert nothing (13.5)
-abbrev pub converts_nothing : UnaryOperator → Bool
-converts_nothing unary.LogicalNot = true
-converts_nothing unary.Void = true
-converts_nothing unary.Typeof = true
-converts_nothing operator = false
-
-abbrev pub is_initial : PropertyKind → Bool
-is_initial property_kind.Init = true
-is_initial how = false
-
-abbrev pub is_static_key : Key → Bool
-is_static_key key_below = false
-is_static_key key = true
-
--- What runs its parts, or some of them, and does nothing else (13.2.4, 13.2.5, 13.2.9, 13.5, 13.13, 13.14, 13.16).
-abbrev pub runs_its_parts : Kind → Bool
-runs_its_parts (unary_expression operator) = converts_nothing operator
-runs_its_parts parenthesized_expression = true
-runs_its_parts (logical_expression operator) = true
-runs_its_parts conditional_expression = true
-runs_its_parts sequence_expression = true
-runs_its_parts expressions = true
-runs_its_parts array_expression = true
-runs_its_parts elements = true
-runs_its_parts object_expression = true
-runs_its_parts properties = true
-runs_its_parts (property how is_method key) = is_initial how && is_static_key key
-runs_its_parts k = false
+-- What runs its parts, or some of them, and does nothing else (13.2.4, 13.2.5, 13.2.8, 13.2.9, 13.4 to 13.14, 13.16).
+abbrev pub runs_its_parts : Kind → (below : Forest) → Bool
+runs_its_parts k a = only_runs_parts k || (converts_primitives bare_answers k a || runs_entries k a)
 
 -- A number's entry in a table of truth values; past its end, false.
 abbrev pub is_marked : List Bool → Option ℕ → Bool
 is_marked marks None = false
 is_marked marks (Some n) = slice_index_or marks n false
 
--- A name that has a binding, as `bound` says of each reference by its number, and the global `undefined`.
-abbrev pub is_known : (bound : List Bool) → Kind → Note → Bool
-is_known bound (reference_name x) n = is_marked bound n.id || bytes_eq x (codes "undefined")
-is_known bound k n = false
+-- a name alone, parentheses aside
+abbrev pub is_nothing : Forest → Bool
+is_nothing nothing = true
+is_nothing t = false
+
+abbrev pub is_one_name : Forest → Bool
+is_one_name nothing = false
+is_one_name (absent r) = false
+is_one_name (node k n a r) = is_nothing r && (is_reference k || (is_parenthesized k && is_one_name a))
+
+-- given its kind and what lies below it
+abbrev pub names_one : Kind → (below : Forest) → Bool
+names_one k a = is_reference k || (is_parenthesized k && is_one_name a)
+
+-- A name that has a binding, as `bound` says of each reference by its number, and the global `undefined`; `typeof` of any
+-- name, as one without a binding doesn't throw there (13.5.3).
+abbrev pub is_known : (bound : List Bool) → Kind → Note → (below : Forest) → Bool
+is_known bound (kind.ReferenceName x) n a = is_marked bound n.id || bytes_eq x (codes "undefined")
+is_known bound (kind.UnaryExpression unary.Typeof) n a = is_one_name a
+is_known bound k n a = false
 
 -- A name inside of a `with` statement may be a property of its object, so nothing is known of it there (9.1.1.2).
-abbrev pub has_effect : (bound : List Bool) → (in_with : Bool) → Kind → Note → (below : Bool) → Bool
-has_effect bound in_with k n below = if is_value k || (not in_with && is_known bound k n) then false else not (runs_its_parts k) || below
+abbrev pub has_effect : (bound : List Bool) → (in_with : Bool) → Kind → Note → (below : Forest) → (parts : Bool) → Bool
+has_effect bound in_with k n a parts = if is_value k || (not in_with && is_known bound k n a) then false else not (runs_its_parts k a) || parts
 
 -- Whether one of a row's nodes may have an effect.
 abbrev pub may_have_effects : (bound : List Bool) → (in_with : Bool) → Forest → Bool
 may_have_effects bound in_with nothing = false
 may_have_effects bound in_with (absent rest) = may_have_effects bound in_with rest
-may_have_effects bound in_with (node k n below rest) = has_effect bound in_with k n (may_have_effects bound in_with below) || may_have_effects bound in_with rest
+may_have_effects bound in_with (node k n below rest) = has_effect bound in_with k n below (may_have_effects bound in_with below) || may_have_effects bound in_with rest

@@ -22,7 +22,7 @@ use Rattle.js_effects.specs.declared.form.Form.TheVariants as form
 use Rattle.js_effects.specs.Answers.{Answers}
 use Rattle.js_effects.specs.Forms.{form_of}
 use Rattle.js_effects.specs.Each.{of_each, of_first, last, inner_at}
-use Rattle.js_effects.specs.Kinds.{is_global_undefined, types, type_at, type_of_constant}
+use Rattle.js_effects.specs.Kinds.{is_global_undefined, types, type_at}
 
 -- What is known: the value, or only whether it is true, or nothing.
 pub data Known : Type 0 where

@@ -73,6 +73,61 @@ pub trait ConstantEvaluationCtx: MayHaveSideEffectsContext {
 /// Knows nothing of names: none is global or stands inside of a `with` statement, and none has a value. `this` may be
 /// read, and the options are the default ones, without annotations.
 #[derive(Clone, Copy)]
+pub(crate) struct FormsAlone;
+
+impl GlobalContext for FormsAlone {
+    ghost names = { λ c. bare_names };
+
+    fn is_global_reference(&self, _reference: &Node) -> bool {
+        false
+    }
+
+    fn get_constant_value_for_reference_id(
+        &self,
+        _reference_id: ReferenceId,
+    ) -> Option<&ConstantValue> {
+        None
+    }
+
+    fn value_type_for_reference_id(&self, _reference_id: ReferenceId) -> Option<ValueType> {
+        None
+    }
+}
+
+impl MayHaveSideEffectsContext for FormsAlone {
+    ghost effects = { λ c. bare_effects };
+
+    fn annotations(&self) -> bool {
+        false
+    }
+
+    fn manual_pure_functions(&self, _callee: &Node) -> bool {
+        false
+    }
+
+    fn property_read_side_effects(&self) -> PropertyReadSideEffects {
+        PropertyReadSideEffects::All
+    }
+
+    fn property_write_side_effects(&self) -> bool {
+        true
+    }
+
+    fn unknown_global_side_effects(&self) -> bool {
+        true
+    }
+
+    fn this_is_initialised(&self) -> bool {
+        true
+    }
+
+    fn inside_with(&self) -> bool {
+        false
+    }
+}
+
+/// Knows as little of names, and where memory for values comes from.
+#[derive(Clone, Copy)]
 pub struct BareContext {
     alloc: Global,
 }

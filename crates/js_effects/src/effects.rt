@@ -93,10 +93,7 @@ fn is_still<C: MayHaveSideEffectsContext>(node: &Node, ctx: &C) -> bool
     ensures { result ≡ effects.is_still (answers (C.names ctx.now) (C.effects ctx.now)) node.now.kind node.now.below }
 {
     match node.kind() {
-        NodeKind::NewTarget
-        | NodeKind::BindingName(_)
-        | NodeKind::PrivateName(_)
-        | NodeKind::TemplateElement { .. } => true,
+        NodeKind::BindingName(_) | NodeKind::PrivateName(_) => true,
         NodeKind::ThisExpression => ctx.this_is_initialised(),
         NodeKind::StaticBlock => is_bare(child(node, 0)),
         _ => false,
@@ -112,7 +109,7 @@ fn does_nothing<C: MayHaveSideEffectsContext>(node: &Node, ctx: &C) -> bool
         || is_still(node, ctx)
 }
 
-fn only_runs_parts(kind: &NodeKind) -> bool
+pub(crate) fn only_runs_parts(kind: &NodeKind) -> bool
     ensures { result ≡ effects.only_runs_parts kind.now }
 {
     match kind {
@@ -156,7 +153,7 @@ fn substitutes_primitives<C: MayHaveSideEffectsContext>(node: &Node, ctx: &C) ->
     }
 }
 
-fn converts_primitives<C: MayHaveSideEffectsContext>(node: &Node, ctx: &C) -> bool
+pub(crate) fn converts_primitives<C: MayHaveSideEffectsContext>(node: &Node, ctx: &C) -> bool
     ensures { result ≡ effects.converts_primitives (answers (C.names ctx.now) (C.effects ctx.now)) node.now.kind node.now.below }
 {
     match node.kind() {
@@ -190,7 +187,7 @@ fn is_static(key: &Key) -> bool
     !matches!(key, Key::Below)
 }
 
-fn is_silent_key<C: MayHaveSideEffectsContext>(node: &Node, key: &Key, ctx: &C) -> bool
+pub(crate) fn is_silent_key<C: MayHaveSideEffectsContext>(node: &Node, key: &Key, ctx: &C) -> bool
     ensures { result ≡ effects.is_silent_key (answers (C.names ctx.now) (C.effects ctx.now)) key.now node.now.below }
 {
     is_static(key) || is_private(child(node, 0)) || is_primitive(part_type(node, 0, ctx))
@@ -235,7 +232,7 @@ fn is_spread_kind(kind: &NodeKind) -> bool
     matches!(kind, NodeKind::SpreadElement)
 }
 
-fn has_spread(children: &[Option<Node>]) -> bool
+pub(crate) fn has_spread(children: &[Option<Node>]) -> bool
     ensures { result ≡ effects.has_spread (row children.now) }
 {
     for child in children {
@@ -252,7 +249,7 @@ fn is_array_literal(kind: &NodeKind) -> bool
     matches!(kind, NodeKind::ArrayExpression)
 }
 
-fn is_array(node: Option<&Node>) -> bool
+pub(crate) fn is_array(node: Option<&Node>) -> bool
     ensures { result ≡ effects.is_array (option_map (λ n. n.now) node.entry) }
 {
     match node {

@@ -1,6 +1,6 @@
 //! Which expressions are silent: to run one has no effect that anybody could see. Which value has one, and of which type?
 //!
-//! `specs/Silence.antt` lists the silent forms that names alone are asked for, and `may_have_side_effects` answers by
+//! `specs/Silence.antt` lists the forms that are silent by the bindings of names alone, and `may_have_side_effects` answers by
 //! exactly that definition. Over what a context answers of names and options (`specs/Answers.antt`) `has_side_effects`
 //! tells effects, `value_type` types, `evaluate_value` values and `evaluate_value_to_boolean` truth in tests, exactly as
 //! `specs/Effects.antt`, `specs/Kinds.antt` and `specs/Values.antt` define them, one line a form.

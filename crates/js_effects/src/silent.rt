@@ -1,30 +1,39 @@
 // Which expressions are silent.
-ghost use Rattle.std.specs.Prelude.{◌≡◌, Bool, not};
+ghost use Rattle.std.specs.Prelude.{◌≡◌, ◌==◌, Bool, not};
 ghost use Rattle.js_syntax.specs.Node.{forest_of, row};
+ghost use Rattle.js_effects.specs.Each.{width};
+ghost use Rattle.js_effects.specs.Still as still;
 ghost use Rattle.js_effects.specs.Silence as silence;
 ghost use Rattle.js_effects.specs.Silence.{may_have_effects};
 
-use js_syntax::{FunctionKind, Key, NodeKind, PropertyKind, UnaryOperator};
+use crate::child::{child, inner_child};
+use crate::context::FormsAlone;
+use crate::effects::{converts_primitives, has_spread, is_array, is_silent_key, only_runs_parts};
+use js_syntax::{FunctionKind, NodeKind, UnaryOperator};
 use js_tree::Node;
 
 fn is_expression(kind: FunctionKind) -> bool
-    ensures { result ≡ silence.is_expression kind }
+    ensures { result ≡ still.is_expression kind }
 {
     !matches!(kind, FunctionKind::Declaration)
 }
 
 pub(crate) fn is_value(kind: &NodeKind) -> bool
-    ensures { result ≡ silence.is_value kind.now }
+    ensures { result ≡ still.is_value kind.now }
 {
     match kind {
-        NodeKind::Literal(_) | NodeKind::RegExp(_) | NodeKind::Hole => true,
+        NodeKind::Literal(_)
+        | NodeKind::RegExp(_)
+        | NodeKind::NewTarget
+        | NodeKind::Hole
+        | NodeKind::TemplateElement { .. } => true,
         NodeKind::Function { kind, .. } => is_expression(*kind),
         _ => false,
     }
 }
 
 pub(crate) fn converts_nothing(operator: UnaryOperator) -> bool
-    ensures { result ≡ silence.converts_nothing operator }
+    ensures { result ≡ still.converts_nothing operator }
 {
     matches!(
         operator,
@@ -32,35 +41,21 @@ pub(crate) fn converts_nothing(operator: UnaryOperator) -> bool
     )
 }
 
-fn is_initial(kind: PropertyKind) -> bool
-    ensures { result ≡ silence.is_initial kind }
+fn runs_entries(node: &Node) -> bool
+    ensures { result ≡ silence.runs_entries node.now.kind node.now.below }
 {
-    matches!(kind, PropertyKind::Init)
-}
-
-fn is_static_key(key: &Key) -> bool
-    ensures { result ≡ silence.is_static_key key.now }
-{
-    !matches!(key, Key::Below)
-}
-
-fn runs_its_parts(kind: &NodeKind) -> bool
-    ensures { result ≡ silence.runs_its_parts kind.now }
-{
-    match kind {
-        NodeKind::UnaryExpression(operator) => converts_nothing(*operator),
-        NodeKind::ParenthesizedExpression
-        | NodeKind::LogicalExpression(_)
-        | NodeKind::ConditionalExpression
-        | NodeKind::SequenceExpression
-        | NodeKind::Expressions
-        | NodeKind::ArrayExpression
-        | NodeKind::Elements
-        | NodeKind::ObjectExpression
-        | NodeKind::Properties => true,
-        NodeKind::Property { kind, key, .. } => is_initial(*kind) && is_static_key(key),
+    match node.kind() {
+        NodeKind::Property { key, .. } => is_silent_key(node, key, &FormsAlone),
+        NodeKind::SpreadElement => is_array(inner_child(node, 0)),
+        NodeKind::Properties => !has_spread(node.children()),
         _ => false,
     }
+}
+
+fn runs_its_parts(node: &Node) -> bool
+    ensures { result ≡ silence.runs_its_parts node.now.kind node.now.below }
+{
+    only_runs_parts(node.kind()) || converts_primitives(node, &FormsAlone) || runs_entries(node)
 }
 
 /// A number's entry in a table of truth values; past its end, false.
@@ -76,13 +71,43 @@ pub fn is_marked(marks: &[bool], number: Option<u32>) -> bool
     }
 }
 
+#[tactic(auto, using(crate::proofs::Children::row_width))]
+fn has_one_part(node: &Node) -> bool
+    ensures { result ≡ (width node.now.below == 1) }
+{
+    node.children().len() == 1
+}
+
+// A name, parentheses aside.
+#[cycle(one_name)]
+fn names_one(node: &Node) -> bool
+    ensures { result ≡ silence.names_one node.now.kind node.now.below }
+{
+    match node.kind() {
+        NodeKind::ReferenceName(_) => true,
+        NodeKind::ParenthesizedExpression => has_one_name(node),
+        _ => false,
+    }
+}
+
+#[cycle(one_name)]
+fn has_one_name(node: &Node) -> bool
+    ensures { result ≡ silence.is_one_name node.now.below }
+{
+    match child(node, 0) {
+        Some(part) => has_one_part(node) && names_one(part),
+        None => false,
+    }
+}
+
 fn is_known(node: &Node, bound: &[bool]) -> bool
-    ensures { result ≡ silence.is_known bound.now node.now.kind node.now.note }
+    ensures { result ≡ silence.is_known bound.now node.now.kind node.now.note node.now.below }
 {
     match node.kind() {
         NodeKind::ReferenceName(name) => {
             is_marked(bound, node.id()) || name.as_str() == "undefined"
         }
+        NodeKind::UnaryExpression(UnaryOperator::Typeof) => has_one_name(node),
         _ => false,
     }
 }
@@ -95,7 +120,7 @@ pub fn may_have_side_effects(node: &Node, bound: &[bool], in_with: bool) -> bool
     ensures answer { result ≡ may_have_effects bound.now in_with (forest_of node.now) }
 {
     let is_silent = is_value(node.kind()) || (!in_with && is_known(node, bound));
-    !is_silent && (!runs_its_parts(node.kind()) || any_has_effects(node.children(), bound, in_with))
+    !is_silent && (!runs_its_parts(node) || any_has_effects(node.children(), bound, in_with))
 }
 
 #[cycle(silent)]

@@ -2,4 +2,5 @@ pub mod Quiet
 pub mod Silent
 pub mod Marks
 pub mod Operators
-pub mod Forms
+pub mod Acts
+pub mod Taken

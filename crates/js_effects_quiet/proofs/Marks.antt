@@ -2,7 +2,9 @@
 use Rattle.std.proofs.Common.{◌≡◌, ◌⊎◌, inl, inr, List, Bool, true, false, not, ◌&&◌, ◌||◌, if◌then◌else◌, bytes_eq, codes, refl, sym, true≢false}
 use Rattle.js_syntax.specs.declared.node_kind.NodeKind.{NodeKind as Kind}
 use Rattle.js_syntax.specs.Node.{Forest, nothing, node, absent, Note}
-use Rattle.js_effects.specs.Silence.{is_value, runs_its_parts, is_marked, is_known, has_effect, may_have_effects}
+use Rattle.js_syntax.specs.declared.operator.UnaryOperator.TheVariants as unary
+use Rattle.js_effects.specs.Still.{is_value}
+use Rattle.js_effects.specs.Silence.{runs_its_parts, is_marked, is_known, has_effect, may_have_effects}
 use Rattle.js_meaning.specs.Value.{Text, Env}
 use Rattle.js_effects_quiet.specs.Silent.{HasBinding, IsFound, IsSilent, SilentRow, HoldsAt, HoldsOfBound, Known}
 use Rattle.js_syntax.proofs.Truth.{first_of_neither, second_of_neither}
@@ -20,25 +22,26 @@ pub found : (env : Env) (x : Text) (b c : Bool) → (b || c) ≡ true → (b ≡
 found env x true c e h = inl (h refl)
 found env x false c e h = inr e
 
-pub known_found : (bound : List Bool) (env : Env) (k : Kind) (n : Note) (below : Type 0) → is_known bound k n ≡ true → HoldsAt (HasBinding env) bound k n below → IsFound env k
-known_found bound env (Kind.ReferenceName x) n below e h = found env x (is_marked bound n.id) (bytes_eq x (codes "undefined")) e h
-known_found bound env k n below e h = absurd (true≢false (sym e))
+known_found : (bound : List Bool) (env : Env) (k : Kind) (n : Note) (a : Forest) (below : Type 0) → is_known bound k n a ≡ true → HoldsAt (HasBinding env) bound k n below → IsFound env k a
+known_found bound env (Kind.ReferenceName x) n a below e h = found env x (is_marked bound n.id) (bytes_eq x (codes "undefined")) e h
+known_found bound env (Kind.UnaryExpression unary.Typeof) n a below e h = e
+known_found bound env k n a below e h = absurd (true≢false (sym e))
 
 -- what runs its parts asks for the names below it
-pub holds_below : (Holds : Text → Type 0) (bound : List Bool) (k : Kind) (n : Note) (below : Type 0) → runs_its_parts k ≡ true → HoldsAt Holds bound k n below → below
-holds_below Holds bound (Kind.ReferenceName x) n below e h = absurd (true≢false (sym e))
-holds_below Holds bound (Kind.Function f pure) n below e h = absurd (true≢false (sym e))
-holds_below Holds bound k n below e h = h
+pub holds_below : (Holds : Text → Type 0) (bound : List Bool) (k : Kind) (n : Note) (a : Forest) (below : Type 0) → runs_its_parts k a ≡ true → HoldsAt Holds bound k n below → below
+holds_below Holds bound (Kind.ReferenceName x) n a below e h = absurd (true≢false (sym e))
+holds_below Holds bound (Kind.Function f pure) n a below e h = absurd (true≢false (sym e))
+holds_below Holds bound k n a below e h = h
 
 silent_node : (bound : List Bool) (in_with : Bool) (env : Env) (k : Kind) (n : Note) (a : Forest)
-    → has_effect bound in_with k n (may_have_effects bound in_with a) ≡ false → (in_with ≡ false → HoldsAt (HasBinding env) bound k n (Known bound env a))
-    → (may_have_effects bound in_with a ≡ false → (in_with ≡ false → Known bound env a) → SilentRow env a) → IsSilent env k (SilentRow env a)
-silent_node bound in_with env k n a e h below = by (by_sort (is_value k) in_with (is_known bound k n) (runs_its_parts k) (may_have_effects bound in_with a) e)
+    → has_effect bound in_with k n a (may_have_effects bound in_with a) ≡ false → (in_with ≡ false → HoldsAt (HasBinding env) bound k n (Known bound env a))
+    → (may_have_effects bound in_with a ≡ false → (in_with ≡ false → Known bound env a) → SilentRow env a) → IsSilent env k a (SilentRow env a)
+silent_node bound in_with env k n a e h below = by (by_sort (is_value k) in_with (is_known bound k n a) (runs_its_parts k a) (may_have_effects bound in_with a) e)
   where
-    by : ((is_value k ≡ true) ⊎ (((in_with ≡ false) × (is_known bound k n ≡ true)) ⊎ ((runs_its_parts k ≡ true) × (may_have_effects bound in_with a ≡ false)))) → IsSilent env k (SilentRow env a)
+    by : ((is_value k ≡ true) ⊎ (((in_with ≡ false) × (is_known bound k n a ≡ true)) ⊎ ((runs_its_parts k a ≡ true) × (may_have_effects bound in_with a ≡ false)))) → IsSilent env k a (SilentRow env a)
     by (inl v) = inl v
-    by (inr (inl v)) = inr (inl (known_found bound env k n (Known bound env a) v.1 (h v.0)))
-    by (inr (inr v)) = inr (inr (v.0, below v.1 (λ w. holds_below (HasBinding env) bound k n (Known bound env a) v.0 (h w))))
+    by (inr (inl v)) = inr (inl (known_found bound env k n a (Known bound env a) v.1 (h v.0)))
+    by (inr (inr v)) = inr (inr (v.0, below v.1 (λ w. holds_below (HasBinding env) bound k n a (Known bound env a) v.0 (h w))))
 
 -- inside of `with` no name is known, so nothing is asked of names there
 pub silent_row : (bound : List Bool) (in_with : Bool) (env : Env) (t : Forest) → may_have_effects bound in_with t ≡ false → (in_with ≡ false → Known bound env t) → SilentRow env t
@@ -46,7 +49,7 @@ silent_row bound in_with env nothing e h = tt
 silent_row bound in_with env (absent r) e h = silent_row bound in_with env r e h
 silent_row bound in_with env (node k n a r) e h = (
   silent_node bound in_with env k n a (first_of_neither _ _ e) (λ w. (h w).0) (silent_row bound in_with env a),
-  silent_row bound in_with env r (second_of_neither (has_effect bound in_with k n (may_have_effects bound in_with a)) _ e) (λ w. (h w).1),
+  silent_row bound in_with env r (second_of_neither (has_effect bound in_with k n a (may_have_effects bound in_with a)) _ e) (λ w. (h w).1),
 )
 
 -- names

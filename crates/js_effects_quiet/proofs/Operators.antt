@@ -12,7 +12,7 @@ use Rattle.js_meaning.specs.Host.{Enter}
 use Rattle.js_meaning.specs.Reference.{Global, the_undefined, no_whole_number, usual, global_value, or_undefined}
 use Rattle.js_meaning.specs.Expression.{binary_value}
 use Rattle.js_effects_quiet.specs.Quiet.{Quietly, Quiet}
-use Rattle.js_effects_quiet.specs.Forms.{asks_the_host}
+use Rattle.js_effects.specs.Kinds.{asks_an_object}
 use Rattle.js_effects_quiet.proofs.Quiet.{quiet_unknown, quiet_choose, quiet_give}
 
 -- numbers
@@ -92,7 +92,7 @@ quiet_known o v u = quiet_unknown
 quiet_binary_of : (o : BinaryOperator) (v u : Value) → Quiet (binary_of o v u)
 quiet_binary_of o v u = quiet_choose _ quiet_unknown (quiet_known o v u)
 
-pub quiet_binary_value : (E : Enter) (o : BinaryOperator) (v u : Value) → asks_the_host o ≡ false → Quiet (binary_value E o v u)
+pub quiet_binary_value : (E : Enter) (o : BinaryOperator) (v u : Value) → asks_an_object o ≡ false → Quiet (binary_value E o v u)
 quiet_binary_value E binary.In v u e = absurd (true≢false e)
 quiet_binary_value E binary.Instanceof v u e = absurd (true≢false e)
 quiet_binary_value E o v u e = quiet_binary_of o v u

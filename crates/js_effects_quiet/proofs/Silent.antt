@@ -1,5 +1,5 @@
 -- What the silent forms do is quiet, whatever they are asked.
-use Rattle.std.proofs.Common.{◌≡◌, ◌⊎◌, inl, inr, ℕ, List, [], ◌∷◌, Bool, true, false, Option, Some, None, is_some, if◌then◌else◌, bytes_eq, codes, refl, subst, sym, true≢false}
+use Rattle.std.proofs.Common.{◌≡◌, ◌⊎◌, inl, inr, ℕ, List, [], ◌∷◌, Bool, true, false, ◌||◌, Option, Some, None, is_some, if◌then◌else◌, bytes_eq, codes, refl, subst, sym, true≢false}
 use Rattle.std.proofs.lemmas.Slice.Eq.{bytes_eq-Decides}
 use Rattle.js_syntax.specs.declared.node_kind.NodeKind.{NodeKind as Kind}
 use Rattle.js_syntax.specs.Node.{Forest, nothing, node, absent, Note, alone}
@@ -8,18 +8,29 @@ use Rattle.js_syntax.specs.declared.kind.FunctionKind.{FunctionKind}
 use Rattle.js_syntax.specs.declared.kind.FunctionKind.TheVariants as function_kind
 use Rattle.js_syntax.specs.declared.operator.UnaryOperator.{UnaryOperator}
 use Rattle.js_syntax.specs.declared.operator.UnaryOperator.TheVariants as unary
-use Rattle.js_effects.specs.Silence.{is_value, converts_nothing, runs_its_parts}
+use Rattle.js_syntax.specs.declared.operator.BinaryOperator.{BinaryOperator}
+use Rattle.js_syntax.specs.declared.operator.BinaryOperator.TheVariants as binary
+use Rattle.js_syntax.specs.declared.value.Key.{Key}
+use Rattle.js_syntax.proofs.Truth.{second_of_both}
+use Rattle.js_effects.specs.Answers.{Answers, bare_answers}
+use Rattle.js_effects.specs.Each.{inner_at}
+use Rattle.js_effects.specs.Kinds.{asks_an_object, types, all_primitive}
+use Rattle.js_effects.specs.Still.{is_value}
+use Rattle.js_effects.specs.Effects.{is_name, only_runs_parts, is_silent_binary, converts_primitives}
+use Rattle.js_effects.specs.Silence.{is_nothing, is_one_name, runs_entries, runs_its_parts}
 use Rattle.js_meaning.specs.Value.{Text, Slot, local, imported, arguments_object, bound as is_at, Env, Value, closure, undef}
 use Rattle.js_meaning.specs.State.{Cell, cell, Completion, normal, gives, gives_all, M, give, alloc, identity}
-use Rattle.js_meaning.specs.Operator.{unary_of, truthy, goes_right}
+use Rattle.js_meaning.specs.Operator.{truthy, goes_right}
 use Rattle.js_meaning.specs.Scope.{waiting, named_so, own_name, look, declare, initialised, fill}
 use Rattle.js_meaning.specs.Host.{Enter}
-use Rattle.js_meaning.specs.Reference.{Global, the_undefined, global_named, if_set, cell_value, slot_value, if_there, global_value, name_value, or_undefined, typeof_name}
+use Rattle.js_meaning.specs.Reference.{Global, the_undefined, global_named, if_set, cell_value, slot_value, if_there, global_value, name_value, typeof_name}
 use Rattle.js_meaning.specs.Node.{for_typeof, Ask, run, value, place, collect, entry, now, Meaning, Parts, need, may, values, all_values}
 use Rattle.js_meaning.specs.Expression.{wanted_by, fill_own, function_value, in_turn}
 use Rattle.js_meaning.specs.Meaning.{does, if_core, eval}
 use Rattle.js_effects_quiet.specs.Quiet.{Quietly, IsList, IsNormal, Quiet}
-use Rattle.js_effects_quiet.specs.Silent.{IsFound, IsSilent, SilentRow, QuietNode, QuietRow, meaning}
+use Rattle.js_effects_quiet.specs.Silent.{HasBinding, IsFound, IsSilent, SilentRow, QuietNode, QuietRow, meaning}
+use Rattle.js_syntax.specs.declared.kind.PropertyKind.{PropertyKind}
+use Rattle.js_effects_quiet.proofs.Operators.{quiet_unary_of, quiet_binary_value, quiet_typeof_global}
 use Rattle.js_effects_quiet.proofs.Quiet.{quiet_done, quiet_unknown, quiet_choose, quiet_read, quiet_import, quiet_identity, quiet_value, quiet_all, quiet_give, quiet_fresh}
 
 -- the fields of a row
@@ -77,10 +88,9 @@ quiet_name (Some slot) x h = quiet_slot slot
 quiet_name None x (inl e) = absurd (true≢false (sym e))
 quiet_name None x (inr e) = quiet_undefined if_there x e
 
-quiet_typeof_name : (o : Option Slot) (x : Text) → (is_some o ≡ true) ⊎ (bytes_eq x (codes "undefined") ≡ true) → Quiet (typeof_name o x)
-quiet_typeof_name (Some slot) x h = quiet_slot slot
-quiet_typeof_name None x (inl e) = absurd (true≢false (sym e))
-quiet_typeof_name None x (inr e) = quiet_undefined or_undefined x e
+quiet_typeof_name : (o : Option Slot) (x : Text) → Quiet (typeof_name o x)
+quiet_typeof_name (Some slot) x = quiet_slot slot
+quiet_typeof_name None x = quiet_typeof_global (global_named x) x
 
 -- functions: an expression's own name is a new cell
 
@@ -115,49 +125,110 @@ quiet_kind E env a ms (Kind.Function function_kind.Expression pure) e (value w) 
 quiet_kind E env a ms (Kind.Function function_kind.Expression pure) e q = quiet_unknown
 quiet_kind E env a ms (Kind.Function function_kind.Arrow pure) e (value w) = quiet_function function_kind.Arrow a env
 quiet_kind E env a ms (Kind.Function function_kind.Arrow pure) e q = quiet_unknown
+quiet_kind E env a ms Kind.NewTarget e q = quiet_unknown
 quiet_kind E env a ms Kind.Hole e q = quiet_unknown
+quiet_kind E env a ms (Kind.TemplateElement written tail) e q = quiet_unknown
 quiet_kind E env a ms k e q = absurd (true≢false (sym e))
 
-quiet_reference : (E : Enter) (env : Env) (a : Forest) (ms : Parts) (x : Text) → IsFound env (Kind.ReferenceName x) → QuietNode env (does E (Kind.ReferenceName x) a ms)
-quiet_reference E env a ms x h (value for_typeof) = quiet_typeof_name (look env x) x h
+pub quiet_reference : (E : Enter) (env : Env) (a : Forest) (ms : Parts) (x : Text) → HasBinding env x ⊎ (bytes_eq x (codes "undefined") ≡ true) → QuietNode env (does E (Kind.ReferenceName x) a ms)
+quiet_reference E env a ms x h (value for_typeof) = quiet_typeof_name (look env x) x
 quiet_reference E env a ms x h (value w) = quiet_name (look env x) x h
 quiet_reference E env a ms x h q = quiet_unknown
 
-pub quiet_found : (E : Enter) (env : Env) (a : Forest) (ms : Parts) (k : Kind) → IsFound env k → QuietNode env (does E k a ms)
-quiet_found E env a ms (Kind.ReferenceName x) h = quiet_reference E env a ms x h
-quiet_found E env a ms k h = absurd h
+-- `typeof` of a name, parentheses aside
+asked_for_its_type : {W : Completion → Type 0} {k : Meaning → Parts → M} (E : Enter) (env : Env) (a : Forest) → is_name (inner_at 0 a) ≡ true
+    → ((m : Meaning) (r : Parts) → Quiet (m (value for_typeof) env) → Quietly W (k m r)) → Quietly W (need (eval E a) k)
+unfolding eval need
+asked_for_its_type E env (node (Kind.ReferenceName x) n a r) e h = h _ _ (quiet_typeof_name (look env x) x)
+asked_for_its_type E env (node Kind.ParenthesizedExpression n a r) e h = h _ _ (asked_for_its_type E env a e (λ m ms q. q))
+asked_for_its_type E env t e h = absurd (true≢false (sym e))
 
-quiet_unary : (o : UnaryOperator) (v : Value) → converts_nothing o ≡ true → Quiet (unary_of o v)
-quiet_unary unary.LogicalNot v e = quiet_give _
-quiet_unary unary.Void v e = quiet_give undef
-quiet_unary unary.Typeof v e = quiet_give _
-quiet_unary o v e = absurd (true≢false (sym e))
+pub quiet_typeof : (E : Enter) (env : Env) (a : Forest) → is_name (inner_at 0 a) ≡ true → QuietNode env (does E (Kind.UnaryExpression unary.Typeof) a (eval E a))
+quiet_typeof E env a named (value w) = asked_for_its_type E env a named (λ m r q. quiet_value q (quiet_unary_of unary.Typeof))
+quiet_typeof E env a named q = quiet_unknown
 
-pub quiet_parts : (E : Enter) (env : Env) (a : Forest) (ms : Parts) (k : Kind) → runs_its_parts k ≡ true → QuietRow env ms → QuietNode env (does E k a ms)
-quiet_parts E env a ms (Kind.UnaryExpression o) e rows (value w) = quiet_need env ms rows (λ m r h hs. quiet_value (h (value (wanted_by o))) (λ v. quiet_unary o v e))
-quiet_parts E env a ms Kind.ParenthesizedExpression e rows (value w) = quiet_need env ms rows (λ m r h hs. h (value w))
-quiet_parts E env a ms Kind.ParenthesizedExpression e rows place = quiet_need env ms rows (λ m r h hs. h place)
-quiet_parts E env a ms (Kind.LogicalExpression o) e rows (value w) = quiet_need env ms rows (λ l r h hs. quiet_need env r hs (λ m r g gs. quiet_value (h now) (λ v. quiet_choose (goes_right o v) (g now) (quiet_give v))))
-quiet_parts E env a ms Kind.ConditionalExpression e rows (value w) = quiet_need env ms rows (λ t r h hs. quiet_need env r hs (λ c r g gs. quiet_need env r gs (λ d r f fs. quiet_value (h now) (λ v. quiet_choose (truthy v) (g now) (f now)))))
-quiet_parts E env a ms Kind.SequenceExpression e rows (value w) = quiet_need env ms rows (λ m r h hs. h now)
-quiet_parts E env a ms Kind.Expressions e rows (value w) = quiet_in_turn env ms rows
-quiet_parts E env a ms Kind.ArrayExpression e rows (value w) = quiet_need env ms rows (λ m r h hs. quiet_all (h collect) (λ vs. quiet_identity (λ i. quiet_give _)))
-quiet_parts E env a ms Kind.Elements e rows collect = quiet_list env now ms (λ m h. h now) rows
-quiet_parts E env a ms Kind.ObjectExpression e rows (value w) = quiet_need env ms rows (λ m r h hs. quiet_all (h collect) (λ vs. quiet_identity (λ i. quiet_give _)))
-quiet_parts E env a ms Kind.Properties e rows collect = quiet_list env entry ms (λ m h. h entry) rows
-quiet_parts E env a ms (Kind.Property how method key) e rows entry = quiet_may env ms rows (λ o r hs. quiet_need env r hs (λ m r h hs. h now))
-quiet_parts E env a ms (Kind.UnaryExpression o) e rows q = quiet_unknown
-quiet_parts E env a ms Kind.ParenthesizedExpression e rows q = quiet_unknown
-quiet_parts E env a ms (Kind.LogicalExpression o) e rows q = quiet_unknown
-quiet_parts E env a ms Kind.ConditionalExpression e rows q = quiet_unknown
-quiet_parts E env a ms Kind.SequenceExpression e rows q = quiet_unknown
-quiet_parts E env a ms Kind.Expressions e rows q = quiet_unknown
-quiet_parts E env a ms Kind.ArrayExpression e rows q = quiet_unknown
-quiet_parts E env a ms Kind.Elements e rows q = quiet_unknown
-quiet_parts E env a ms Kind.ObjectExpression e rows q = quiet_unknown
-quiet_parts E env a ms Kind.Properties e rows q = quiet_unknown
-quiet_parts E env a ms (Kind.Property how method key) e rows q = quiet_unknown
-quiet_parts E env a ms k e rows q = absurd (true≢false (sym e))
+pub one_name : (a : Forest) → is_one_name a ≡ true → is_name (inner_at 0 a) ≡ true
+one_name (node (Kind.ReferenceName x) n a r) e = refl
+one_name (node Kind.ParenthesizedExpression n a r) e = one_name a (second_of_both (is_nothing r) _ e)
+one_name (node k n a r) e = absurd (true≢false (sym (second_of_both (is_nothing r) _ e)))
+one_name nothing e = absurd (true≢false (sym e))
+one_name (absent r) e = absurd (true≢false (sym e))
+
+pub quiet_found : (E : Enter) (env : Env) (a : Forest) (k : Kind) → IsFound env k a → QuietNode env (does E k a (eval E a))
+quiet_found E env a (Kind.ReferenceName x) h = quiet_reference E env a (eval E a) x h
+quiet_found E env a (Kind.UnaryExpression unary.Typeof) h = quiet_typeof E env a (one_name a h)
+quiet_found E env a k h = absurd h
+
+-- ---- what runs its parts
+
+quiet_unary : (E : Enter) (env : Env) (a : Forest) (ms : Parts) (o : UnaryOperator) → QuietRow env ms → QuietNode env (does E (Kind.UnaryExpression o) a ms)
+quiet_unary E env a ms o rows (value w) = quiet_need env ms rows (λ m r h hs. quiet_value (h (value (wanted_by o))) (quiet_unary_of o))
+quiet_unary E env a ms o rows q = quiet_unknown
+
+quiet_binary : (E : Enter) (env : Env) (a : Forest) (ms : Parts) (o : BinaryOperator) → asks_an_object o ≡ false → QuietRow env ms → QuietNode env (does E (Kind.BinaryExpression o) a ms)
+quiet_binary E env a ms o e rows (value w) =
+    quiet_need env ms rows (λ l r h hs. quiet_need env r hs (λ m r g gs. quiet_value (h now) (λ v. quiet_value (g now) (λ u. quiet_binary_value E o v u e))))
+quiet_binary E env a ms o e rows q = quiet_unknown
+
+no_object : (o : BinaryOperator) (b : Bool) → is_silent_binary o b ≡ true → asks_an_object o ≡ false
+no_object binary.In b e = absurd (true≢false (sym e))
+no_object binary.Instanceof b e = absurd (true≢false (sym e))
+no_object o b e = refl
+
+pub quiet_only : (E : Enter) (env : Env) (a : Forest) (ms : Parts) (k : Kind) → only_runs_parts k ≡ true → QuietRow env ms → QuietNode env (does E k a ms)
+quiet_only E env a ms Kind.ParenthesizedExpression e rows (value w) = quiet_need env ms rows (λ m r h hs. h (value w))
+quiet_only E env a ms Kind.ParenthesizedExpression e rows place = quiet_need env ms rows (λ m r h hs. h place)
+quiet_only E env a ms (Kind.LogicalExpression o) e rows (value w) = quiet_need env ms rows (λ l r h hs. quiet_need env r hs (λ m r g gs. quiet_value (h now) (λ v. quiet_choose (goes_right o v) (g now) (quiet_give v))))
+quiet_only E env a ms Kind.ConditionalExpression e rows (value w) = quiet_need env ms rows (λ t r h hs. quiet_need env r hs (λ c r g gs. quiet_need env r gs (λ d r f fs. quiet_value (h now) (λ v. quiet_choose (truthy v) (g now) (f now)))))
+quiet_only E env a ms Kind.SequenceExpression e rows (value w) = quiet_need env ms rows (λ m r h hs. h now)
+quiet_only E env a ms Kind.Expressions e rows (value w) = quiet_in_turn env ms rows
+quiet_only E env a ms Kind.ArrayExpression e rows (value w) = quiet_need env ms rows (λ m r h hs. quiet_all (h collect) (λ vs. quiet_identity (λ i. quiet_give _)))
+quiet_only E env a ms Kind.Elements e rows collect = quiet_list env now ms (λ m h. h now) rows
+quiet_only E env a ms Kind.ObjectExpression e rows (value w) = quiet_need env ms rows (λ m r h hs. quiet_all (h collect) (λ vs. quiet_identity (λ i. quiet_give _)))
+quiet_only E env a ms Kind.ParenthesizedExpression e rows q = quiet_unknown
+quiet_only E env a ms (Kind.LogicalExpression o) e rows q = quiet_unknown
+quiet_only E env a ms Kind.ConditionalExpression e rows q = quiet_unknown
+quiet_only E env a ms Kind.SequenceExpression e rows q = quiet_unknown
+quiet_only E env a ms Kind.Expressions e rows q = quiet_unknown
+quiet_only E env a ms Kind.ArrayExpression e rows q = quiet_unknown
+quiet_only E env a ms Kind.Elements e rows q = quiet_unknown
+quiet_only E env a ms Kind.ObjectExpression e rows q = quiet_unknown
+quiet_only E env a ms Kind.Quasis e rows q = quiet_unknown
+quiet_only E env a ms Kind.ClassBody e rows q = quiet_unknown
+quiet_only E env a ms Kind.Members e rows q = quiet_unknown
+quiet_only E env a ms k e rows q = absurd (true≢false (sym e))
+
+pub quiet_converts : (A : Answers) (E : Enter) (env : Env) (a : Forest) (ms : Parts) (k : Kind) → converts_primitives A k a ≡ true → QuietRow env ms → QuietNode env (does E k a ms)
+quiet_converts A E env a ms (Kind.UnaryExpression o) e rows = quiet_unary E env a ms o rows
+quiet_converts A E env a ms (Kind.BinaryExpression o) e rows = quiet_binary E env a ms o (no_object o (all_primitive (types A a)) e) rows
+quiet_converts A E env a ms Kind.TemplateLiteral e rows = λ q. quiet_unknown
+quiet_converts A E env a ms k e rows = absurd (true≢false (sym e))
+
+pub quiet_property : (E : Enter) (env : Env) (a : Forest) (ms : Parts) (how : PropertyKind) (is_method : Bool) (key : Key) → QuietRow env ms → QuietNode env (does E (Kind.Property how is_method key) a ms)
+quiet_property E env a ms how is_method key rows entry = quiet_may env ms rows (λ o r hs. quiet_need env r hs (λ m r h hs. h now))
+quiet_property E env a ms how is_method key rows q = quiet_unknown
+
+pub quiet_properties : (E : Enter) (env : Env) (a : Forest) (ms : Parts) → QuietRow env ms → QuietNode env (does E Kind.Properties a ms)
+quiet_properties E env a ms rows collect = quiet_list env entry ms (λ m h. h entry) rows
+quiet_properties E env a ms rows q = quiet_unknown
+
+quiet_entries : (E : Enter) (env : Env) (a : Forest) (ms : Parts) (k : Kind) → runs_entries k a ≡ true → QuietRow env ms → QuietNode env (does E k a ms)
+quiet_entries E env a ms (Kind.Property how is_method key) e rows = quiet_property E env a ms how is_method key rows
+quiet_entries E env a ms Kind.SpreadElement e rows = λ q. quiet_unknown
+quiet_entries E env a ms Kind.Properties e rows = quiet_properties E env a ms rows
+quiet_entries E env a ms k e rows = absurd (true≢false (sym e))
+
+pub one_of_three : (a b c : Bool) → (a || (b || c)) ≡ true → (a ≡ true) ⊎ ((b ≡ true) ⊎ (c ≡ true))
+one_of_three true b c e = inl refl
+one_of_three false true c e = inr (inl refl)
+one_of_three false false c e = inr (inr e)
+
+pub quiet_parts : (E : Enter) (env : Env) (a : Forest) (ms : Parts) (k : Kind) → runs_its_parts k a ≡ true → QuietRow env ms → QuietNode env (does E k a ms)
+quiet_parts E env a ms k e rows = elim (one_of_three (only_runs_parts k) (converts_primitives bare_answers k a) (runs_entries k a) e) [
+  | inl h ↦ quiet_only E env a ms k h rows
+  | inr (inl h) ↦ quiet_converts bare_answers E env a ms k h rows
+  | inr (inr h) ↦ quiet_entries E env a ms k h rows
+]
 
 -- rows
 
@@ -165,20 +236,20 @@ pub quiet_core : (env : Env) (b : Bool) (m : Meaning) → QuietNode env m → Qu
 quiet_core env true m h q = h q
 quiet_core env false m h q = quiet_unknown
 
-quiet_silent : (E : Enter) (env : Env) (a : Forest) (ms : Parts) (k : Kind) (below : Type 0) → (below → QuietRow env ms) → IsSilent env k below → QuietNode env (does E k a ms)
-quiet_silent E env a ms k below rows (inl v) = quiet_kind E env a ms k v
-quiet_silent E env a ms k below rows (inr (inl f)) = quiet_found E env a ms k f
-quiet_silent E env a ms k below rows (inr (inr r)) = quiet_parts E env a ms k r.0 (rows r.1)
+quiet_silent : (E : Enter) (env : Env) (a : Forest) (k : Kind) (below : Type 0) → (below → QuietRow env (eval E a)) → IsSilent env k a below → QuietNode env (does E k a (eval E a))
+quiet_silent E env a k below rows (inl v) = quiet_kind E env a (eval E a) k v
+quiet_silent E env a k below rows (inr (inl f)) = quiet_found E env a k f
+quiet_silent E env a k below rows (inr (inr r)) = quiet_parts E env a (eval E a) k r.0 (rows r.1)
 
 pub quiet_row : (env : Env) (E : Enter) (t : Forest) → SilentRow env t → QuietRow env (eval E t)
 unfolding eval
 quiet_row env E nothing h = tt
 quiet_row env E (absent r) h = (tt, quiet_row env E r h)
 quiet_row env E (node k n a r) h =
-    (quiet_core env (is_core k) (does E k a (eval E a)) (quiet_silent E env a (eval E a) k (SilentRow env a) (quiet_row env E a) h.0), quiet_row env E r h.1)
+    (quiet_core env (is_core k) (does E k a (eval E a)) (quiet_silent E env a k (SilentRow env a) (quiet_row env E a) h.0), quiet_row env E r h.1)
 
 pub quiet_node : (env : Env) (E : Enter) (k : Kind) (n : Note) (a : Forest) → SilentRow env (alone k n a) → QuietNode env (meaning E k a)
-quiet_node env E k n a h = quiet_core env (is_core k) (does E k a (eval E a)) (quiet_silent E env a (eval E a) k (SilentRow env a) (quiet_row env E a) h.0)
+quiet_node env E k n a h = quiet_core env (is_core k) (does E k a (eval E a)) (quiet_silent E env a k (SilentRow env a) (quiet_row env E a) h.0)
 
 -- a statement of a silent expression goes on, and shows nothing
 pub quiet_statement : (env : Env) (E : Enter) (a : Forest) (ls : List Text) → SilentRow env a → Quietly IsNormal (meaning E Kind.ExpressionStatement a (run ls) env)

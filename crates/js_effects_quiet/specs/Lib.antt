@@ -1,4 +1,4 @@
 pub mod Quiet
 pub mod Silent
-pub mod Forms
+pub mod Acts
 pub mod Rows

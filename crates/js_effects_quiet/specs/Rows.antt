@@ -6,11 +6,17 @@ use Rattle.js_syntax.specs.declared.operator.UnaryOperator.TheVariants as unary
 use Rattle.js_syntax.specs.declared.operator.BinaryOperator.TheVariants as binary
 use Rattle.js_syntax.specs.Node.{Forest}
 use Rattle.js_meaning.specs.Samples as sample
-use Rattle.js_effects_quiet.specs.Forms.{acts}
+use Rattle.js_effects.specs.Answers.{Answers, answers, bare_effects}
+use Rattle.js_effects.specs.Effects.{any_acts}
+use Rattle.js_effects_quiet.specs.Acts.{marked_names}
+
+-- no name has a binding, and `this` may be read
+abbrev pub unbound : Answers
+unbound = answers (marked_names []) bare_effects
 
 abbrev pub Are : Bool → List Forest → Type 0
 Are b [] = Unit {0}
-Are b (t ∷ ts) = (acts [] t ≡ b) × Are b ts
+Are b (t ∷ ts) = (any_acts unbound t ≡ b) × Are b ts
 
 abbrev pub unary_of : UnaryOperator → Forest → Forest
 unary_of o e = sample.over (Kind.UnaryExpression o) e

@@ -4,7 +4,9 @@ use Rattle.std.specs.Str.{bytes_eq}
 use Rattle.js_syntax.specs.declared.node_kind.NodeKind.{NodeKind as Kind}
 use Rattle.js_syntax.specs.Node.{Forest, nothing, node, absent, Note}
 use Rattle.js_syntax.specs.Facts.{is_core}
-use Rattle.js_effects.specs.Silence.{is_value, runs_its_parts, is_marked}
+use Rattle.js_syntax.specs.declared.operator.UnaryOperator.TheVariants as unary
+use Rattle.js_effects.specs.Still.{is_value}
+use Rattle.js_effects.specs.Silence.{runs_its_parts, is_marked, is_one_name}
 use Rattle.js_meaning.specs.Value.{Text, Env}
 use Rattle.js_meaning.specs.State.{Completion}
 use Rattle.js_meaning.specs.Scope.{look}
@@ -16,19 +18,20 @@ use Rattle.js_effects_quiet.specs.Quiet.{Quietly, IsValue, IsList}
 abbrev pub HasBinding : Env → Text → Type 0
 HasBinding env x = is_some (look env x) ≡ true
 
--- What is silent in an environment: a value; a name that has a binding there, or is `undefined`; what runs its parts, where
--- these are silent.
-abbrev pub IsFound : Env → Kind → Type 0
-IsFound env (Kind.ReferenceName x) = HasBinding env x ⊎ (bytes_eq x (codes "undefined") ≡ true)
-IsFound env k = ⊥
+-- What is silent in an environment: a value; a name that has a binding there, or is `undefined`; `typeof` of any name; what
+-- runs its parts, where these are silent.
+abbrev pub IsFound : Env → Kind → (below : Forest) → Type 0
+IsFound env (Kind.ReferenceName x) a = HasBinding env x ⊎ (bytes_eq x (codes "undefined") ≡ true)
+IsFound env (Kind.UnaryExpression unary.Typeof) a = is_one_name a ≡ true
+IsFound env k a = ⊥
 
-abbrev pub IsSilent : Env → Kind → (below : Type 0) → Type 0
-IsSilent env k below = (is_value k ≡ true) ⊎ (IsFound env k ⊎ ((runs_its_parts k ≡ true) × below))
+abbrev pub IsSilent : Env → Kind → (below : Forest) → (parts : Type 0) → Type 0
+IsSilent env k a parts = (is_value k ≡ true) ⊎ (IsFound env k a ⊎ ((runs_its_parts k a ≡ true) × parts))
 
 abbrev pub SilentRow : Env → Forest → Type 0
 SilentRow env nothing = Unit {0}
 SilentRow env (absent rest) = SilentRow env rest
-SilentRow env (node k n below rest) = IsSilent env k (SilentRow env below) × SilentRow env rest
+SilentRow env (node k n below rest) = IsSilent env k below (SilentRow env below) × SilentRow env rest
 
 -- Something holds of the name of each reference that is marked as bound. What lies inside of a function isn't asked: to
 -- make a function runs nothing of it.

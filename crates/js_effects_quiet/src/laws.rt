@@ -2,15 +2,17 @@
 ghost use Rattle.std.specs.Prelude.{◌≡◌, ◌⊎◌, List, [], Bool, true, false};
 ghost use Rattle.js_syntax.specs.declared.node_kind.NodeKind.{NodeKind as Kind};
 ghost use Rattle.js_syntax.specs.Node.{Forest, Note, alone};
+ghost use Rattle.js_effects.specs.Answers.{Answers};
+ghost use Rattle.js_effects.specs.Effects.{any_acts};
 ghost use Rattle.js_effects.specs.Silence.{may_have_effects};
-ghost use Rattle.js_meaning.specs.Value.{Text, Env, this_name, Value};
+ghost use Rattle.js_meaning.specs.Value.{Text, Env, Value};
 ghost use Rattle.js_meaning.specs.Trace.{Ending};
 ghost use Rattle.js_meaning.specs.State.{State, gives, goes, stops, M};
 ghost use Rattle.js_meaning.specs.Host.{Enter};
 ghost use Rattle.js_meaning.specs.Node.{run};
 ghost use Rattle.js_meaning.specs.Meaning.{eval};
 ghost use Rattle.js_effects_quiet.specs.Quiet.{OnlyAllocates, Quietly, IsNormal, Quiet};
-ghost use Rattle.js_effects_quiet.specs.Forms.{acts};
+ghost use Rattle.js_effects_quiet.specs.Acts.{AreTold, AreTrue, marked_answers};
 ghost use Rattle.js_effects_quiet.specs.Silent.{HasBinding, SilentRow, HoldsOfBound, Known, QuietNode, QuietRow, meaning};
 
 /// What is silent in an environment is quiet there, whatever it is asked.
@@ -41,17 +43,19 @@ pub fn a_silent_statement_is_quiet()
         may_have_effects bound false a ≡ false → Known bound env a → Quietly IsNormal (meaning E Kind.ExpressionStatement a (run ls) env) }
 {}
 
-/// All silent forms of core nodes are quiet, whatever they are asked, where the names that are marked as
-/// bound have bindings, and `this` has one.
-pub fn silent_forms_are_quiet()
-    ensures row { (bound : List Bool) (env : Env) (E : Enter) → HasBinding env this_name → (t : Forest) → acts bound t ≡ false → Known bound env t → QuietRow env (eval E t) }
-    ensures statement { (bound : List Bool) (env : Env) (E : Enter) → HasBinding env this_name → (a : Forest) (ls : List Text) →
-        acts bound a ≡ false → Known bound env a → Quietly IsNormal (meaning E Kind.ExpressionStatement a (run ls) env) }
+/// What has no effects by the answers of a context, names, `this` and options included, is quiet, whatever
+/// it is asked, where these answers are true; a statement of it completes normally. Nothing is asked of
+/// the types and values that the context tells.
+pub fn what_does_not_act_is_quiet()
+    ensures row { (A : Answers) (env : Env) (E : Enter) → AreTrue A env → (t : Forest) → any_acts A t ≡ false → AreTold A env t → QuietRow env (eval E t) }
+    ensures statement { (A : Answers) (env : Env) (E : Enter) → AreTrue A env → (a : Forest) (ls : List Text) →
+        any_acts A a ≡ false → AreTold A env a → Quietly IsNormal (meaning E Kind.ExpressionStatement a (run ls) env) }
 {}
 
-/// What the remover takes out as silent is one of these forms.
-pub fn what_is_taken_is_a_silent_form()
-    ensures { (bound : List Bool) (t : Forest) → may_have_effects bound false t ≡ false → acts bound t ≡ false }
+/// What the remover takes out as silent has no effects by the answers of a context that knows of names
+/// whether they have bindings, and of neither types nor `this`.
+pub fn what_is_taken_does_not_act()
+    ensures { (bound : List Bool) (in_with : Bool) (t : Forest) → may_have_effects bound in_with t ≡ false → any_acts (marked_answers bound in_with) t ≡ false }
 {}
 
 /// What quiet says: from every state the computation gives a value without an event, by allocation

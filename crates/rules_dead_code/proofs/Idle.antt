@@ -5,7 +5,9 @@ use Rattle.std.proofs.lemmas.Option.{get_or_from_slice_get}
 use Rattle.js_syntax.specs.declared.node_kind.NodeKind.{NodeKind as Kind}
 use Rattle.js_syntax.specs.declared.node_kind.NodeKind.TheVariants.{ReferenceName as reference_name}
 use Rattle.js_syntax.specs.Node.{Forest, Tree, Note, nothing, node, absent}
-use Rattle.js_effects.specs.Silence.{is_value, runs_its_parts, is_marked, is_known, has_effect, may_have_effects}
+use Rattle.js_syntax.specs.declared.operator.UnaryOperator.TheVariants as unary
+use Rattle.js_effects.specs.Still.{is_value}
+use Rattle.js_effects.specs.Silence.{runs_its_parts, is_marked, is_known, has_effect, may_have_effects}
 use Rattle.min_pass.specs.declared.around.Around.{Around as Asked}
 use Rattle.min_pass.specs.Around.{entered as asked_below, outermost as asked_of_program}
 use Rattle.scope_rules.specs.Context.{Context, inside, outermost}
@@ -111,16 +113,17 @@ module _ (f : Facts) (t : Forest) (h : Knows f unmarked t) where
       ap (λ (x : Reference). is_some x.symbol) (get_or_from_slice_get f.scoping.references entered.id entered.entry no_reference entered.stands) ∙ ap is_some symbol in
       ap (is_marked f.bound) entered.has_id ∙ h.bound entered.id ∙ answer
 
-  known : (cs : ℕ → Context) (at next : ℕ) (k : Kind) (n : Note) (below rest : Forest) → AllOf (references_among (sites_of t)) (sites cs at next (node k n below rest)) → IsFound (bindings_among (sites_of t)) (cs at) k n → is_known f.bound k n ≡ true
+  known : (cs : ℕ → Context) (at next : ℕ) (k : Kind) (n : Note) (below rest : Forest) → AllOf (references_among (sites_of t)) (sites cs at next (node k n below rest)) → IsFound (bindings_among (sites_of t)) (cs at) k n below → is_known f.bound k n below ≡ true
   known cs at next (reference_name x) n below rest m (inl e) = or_left (is_marked f.bound n.id) (bytes_eq x (codes "undefined")) (bound_marked (read_in (cs at) n x) (m (read_in (cs at) n x) (inl refl)) e)
   known cs at next (reference_name x) n below rest m (inr e) = or_right (is_marked f.bound n.id) (bytes_eq x (codes "undefined")) e
+  known cs at next (Kind.UnaryExpression unary.Typeof) n below rest m e = e
   known cs at next k n below rest m e = absurd e
 
   idle_node : (w : Bool) (cs : ℕ → Context) (at next : ℕ) (k : Kind) (n : Note) (below rest : Forest) (parts : Type 0) → AllOf (references_among (sites_of t)) (sites cs at next (node k n below rest)) → (parts → may_have_effects f.bound w below ≡ false)
-      → IsSilentNode (bindings_among (sites_of t)) w (cs at) k n parts → has_effect f.bound w k n (may_have_effects f.bound w below) ≡ false
-  idle_node w cs at next k n below rest parts m g (inl e) = idle_value (is_value k) w (is_known f.bound k n) (runs_its_parts k) (may_have_effects f.bound w below) e
-  idle_node w cs at next k n below rest parts m g (inr (inl e)) = idle_name (is_value k) w (is_known f.bound k n) (runs_its_parts k) (may_have_effects f.bound w below) e.0 (known cs at next k n below rest m e.1)
-  idle_node w cs at next k n below rest parts m g (inr (inr e)) = idle_parts (is_value k) w (is_known f.bound k n) (runs_its_parts k) (may_have_effects f.bound w below) e.0 (g e.1)
+      → IsSilentNode (bindings_among (sites_of t)) w (cs at) k n below parts → has_effect f.bound w k n below (may_have_effects f.bound w below) ≡ false
+  idle_node w cs at next k n below rest parts m g (inl e) = idle_value (is_value k) w (is_known f.bound k n below) (runs_its_parts k below) (may_have_effects f.bound w below) e
+  idle_node w cs at next k n below rest parts m g (inr (inl e)) = idle_name (is_value k) w (is_known f.bound k n below) (runs_its_parts k below) (may_have_effects f.bound w below) e.0 (known cs at next k n below rest m e.1)
+  idle_node w cs at next k n below rest parts m g (inr (inr e)) = idle_parts (is_value k) w (is_known f.bound k n below) (runs_its_parts k below) (may_have_effects f.bound w below) e.0 (g e.1)
 
   pub idle_row : (w : Bool) (cs : ℕ → Context) (at next : ℕ) (row : Forest) → AllOf (references_among (sites_of t)) (sites cs at next row) → IsSilent (bindings_among (sites_of t)) w cs at next row → may_have_effects f.bound w row ≡ false
   idle_row w cs at next nothing m e = refl
@@ -130,7 +133,7 @@ module _ (f : Facts) (t : Forest) (h : Knows f unmarked t) where
       let inner = sites (inside (cs at) next k below) 0 (next + opens_one k below) below in
       let outer = sites cs (suc at) (next + scope_count (node k n below nothing)) rest in
       let all = references_among (sites_of t) in
-      neither (has_effect f.bound w k n (may_have_effects f.bound w below)) (may_have_effects f.bound w rest)
+      neither (has_effect f.bound w k n below (may_have_effects f.bound w below)) (may_have_effects f.bound w rest)
       (idle_node w cs at next k n below rest (IsSilent (bindings_among (sites_of t)) w (inside (cs at) next k below) 0 (next + opens_one k below) below) m
       (idle_row w (inside (cs at) next k below) 0 (next + opens_one k below) below (of_right all own inner (of_left all (own ++ inner) outer m))) e.0)
       (idle_row w cs (suc at) (next + scope_count (node k n below nothing)) rest (of_right all (own ++ inner) outer m) e.1)

@@ -5,7 +5,9 @@ use Rattle.std.proofs.lemmas.Option.{get_or_from_slice_get}
 use Rattle.js_syntax.specs.declared.node_kind.NodeKind.{NodeKind as Kind}
 use Rattle.js_syntax.specs.declared.node_kind.NodeKind.TheVariants.{ReferenceName as reference_name}
 use Rattle.js_syntax.specs.Node.{Forest, Tree, Note, nothing, node, absent}
-use Rattle.js_effects.specs.Silence.{is_value, runs_its_parts, is_marked, is_known, has_effect, may_have_effects}
+use Rattle.js_syntax.specs.declared.operator.UnaryOperator.TheVariants as unary
+use Rattle.js_effects.specs.Still.{is_value}
+use Rattle.js_effects.specs.Silence.{runs_its_parts, is_marked, is_known, has_effect, may_have_effects}
 use Rattle.min_pass.specs.declared.around.Around.{Around as Asked}
 use Rattle.min_pass.specs.Around.{is_with, entered as asked_below, outermost as asked_of_program}
 use Rattle.scope_rules.specs.Context.{Context, inside, outermost}
@@ -81,15 +83,16 @@ idle false true k true b e = inr (inr (refl, e))
 idle false true k false b e = absurd (true≢false e)
 
 module _ (bound : List Bool) (v : Forest) (binds : Binds bound v) where
-  found : (cs : ℕ → Context) (at next : ℕ) (k : Kind) (n : Note) (below rest : Forest) → AllOf (references_among (sites_of v)) (sites cs at next (node k n below rest)) → is_known bound k n ≡ true → IsFound (bindings_among (sites_of v)) (cs at) k n
+  found : (cs : ℕ → Context) (at next : ℕ) (k : Kind) (n : Note) (below rest : Forest) → AllOf (references_among (sites_of v)) (sites cs at next (node k n below rest)) → is_known bound k n below ≡ true → IsFound (bindings_among (sites_of v)) (cs at) k n below
   found cs at next (reference_name x) n below rest m e = elim (or_cases (is_marked bound n.id) (bytes_eq x (codes "undefined")) e) [
     | inl h ↦ inl (binds (read_in (cs at) n x) (m (read_in (cs at) n x) (inl refl)) h)
     | inr h ↦ inr h
   ]
+  found cs at next (Kind.UnaryExpression unary.Typeof) n below rest m e = e
   found cs at next k n below rest m e = absurd (true≢false (sym e))
 
   silent_node : (w : Bool) (cs : ℕ → Context) (at next : ℕ) (k : Kind) (n : Note) (below rest : Forest) (parts : Type 0) → AllOf (references_among (sites_of v)) (sites cs at next (node k n below rest)) → (may_have_effects bound w below ≡ false → parts)
-      → IsIdle (is_value k) w (is_known bound k n) (runs_its_parts k) (may_have_effects bound w below) → IsSilentNode (bindings_among (sites_of v)) w (cs at) k n parts
+      → IsIdle (is_value k) w (is_known bound k n below) (runs_its_parts k below) (may_have_effects bound w below) → IsSilentNode (bindings_among (sites_of v)) w (cs at) k n below parts
   silent_node w cs at next k n below rest parts m then_ (inl e) = inl e
   silent_node w cs at next k n below rest parts m then_ (inr (inl e)) = inr (inl (e.0, found cs at next k n below rest m e.1))
   silent_node w cs at next k n below rest parts m then_ (inr (inr e)) = inr (inr (e.0, then_ e.1))
@@ -102,10 +105,10 @@ module _ (bound : List Bool) (v : Forest) (binds : Binds bound v) where
       let inner = sites (inside (cs at) next k below) 0 (next + opens_one k below) below in
       let outer = sites cs (suc at) (next + scope_count (node k n below nothing)) rest in
       let all = references_among (sites_of v) in
-      let effect = has_effect bound w k n (may_have_effects bound w below) in (
+      let effect = has_effect bound w k n below (may_have_effects bound w below) in (
         silent_node w cs at next k n below rest (IsSilent (bindings_among (sites_of v)) w (inside (cs at) next k below) 0 (next + opens_one k below) below) m
             (silent_row w (inside (cs at) next k below) 0 (next + opens_one k below) below (of_right all own inner (of_left all (own ++ inner) outer m)))
-            (idle (is_value k) w (is_known bound k n) (runs_its_parts k) (may_have_effects bound w below) (first_of_neither effect (may_have_effects bound w rest) e)),
+            (idle (is_value k) w (is_known bound k n below) (runs_its_parts k below) (may_have_effects bound w below) (first_of_neither effect (may_have_effects bound w rest) e)),
         silent_row w cs (suc at) (next + scope_count (node k n below nothing)) rest (of_right all (own ++ inner) outer m) (second_of_neither effect (may_have_effects bound w rest) e),
       )
 

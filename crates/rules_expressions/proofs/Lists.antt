@@ -1,11 +1,12 @@
 -- What is left of arrays and sequences of which nobody takes the value.
-use Rattle.std.proofs.Common.{◌≡◌, ◌∙◌, ◌+◌, ◌≤◌, ℕ, zero, suc, pos, negsuc, [], ◌∷◌, Bool, true, false, ◌||◌, ◌&&◌, Option, Some, None, if◌then◌else◌, refl, sym, ap, subst, arith}
+use Rattle.std.proofs.Common.{◌≡◌, ◌∙◌, ◌+◌, ◌≤◌, ℕ, zero, suc, pos, negsuc, List, [], ◌∷◌, Bool, true, false, ◌||◌, ◌&&◌, Option, Some, None, if◌then◌else◌, refl, sym, ap, subst, arith}
 use Rattle.js_syntax.specs.declared.node_kind.NodeKind.{NodeKind as Kind}
 use Rattle.js_syntax.specs.declared.node_kind.NodeKind.TheVariants.{ArrayExpression as array_expression, Elements as elements, SequenceExpression as sequence_expression, Expressions as expressions}
 use Rattle.js_syntax.specs.declared.value.LiteralValue.{LiteralValue}
 use Rattle.js_syntax.specs.declared.value.LiteralValue.TheVariants as value
 use Rattle.js_syntax.specs.declared.kind.FunctionKind.{FunctionKind}
 use Rattle.js_syntax.specs.declared.kind.FunctionKind.TheVariants as function_kind
+use Rattle.js_syntax.specs.Core.{text_weight}
 use Rattle.js_syntax.specs.Facts.{weight}
 use Rattle.js_syntax.specs.Node.{Forest, Tree, Note, nothing, node, absent, bare, forest_of, total}
 use Rattle.scope_counts.specs.Counts.{ids}
@@ -136,23 +137,27 @@ no_list : (b : Bool) → (b || true) ≡ false → ⊥
 no_list true e = absurd Prim.cc
 no_list false e = absurd Prim.cc
 
+text_weighs : (raw : List ℕ) → 1 ≤ text_weight raw
+text_weighs [] = Prim.omega arith
+text_weighs (c ∷ cs) = Prim.omega arith
+
 pub idle_weighs : (k : Kind) (n : Note) (below : Forest) → (acts k n below || is_list k) ≡ false → 1 ≤ weight k
 idle_weighs (Kind.Literal v) n below e = value_weighs v
 idle_weighs (Kind.Function how pure) n below e = function_weighs how pure
 idle_weighs (Kind.Class how) n below e = absurd Prim.cc
 idle_weighs (Kind.ExportNamedDeclaration source) n below e = absurd Prim.cc
-idle_weighs (Kind.TemplateElement text tail) n below e = absurd Prim.cc
+idle_weighs (Kind.TemplateElement written tail) n below e = text_weighs written.raw
 idle_weighs Kind.VariableDeclarator n below e = absurd Prim.cc
 idle_weighs Kind.Statements n below e = absurd Prim.cc
 idle_weighs Kind.Cases n below e = absurd Prim.cc
 idle_weighs Kind.Declarators n below e = absurd Prim.cc
 idle_weighs Kind.Parameters n below e = absurd Prim.cc
-idle_weighs Kind.Members n below e = absurd Prim.cc
+idle_weighs Kind.Members n below e = absurd (no_list (acts Kind.Members n below) e)
 idle_weighs Kind.Elements n below e = absurd (no_list (acts Kind.Elements n below) e)
 idle_weighs Kind.Properties n below e = absurd (no_list (acts Kind.Properties n below) e)
 idle_weighs Kind.Expressions n below e = absurd (no_list (acts Kind.Expressions n below) e)
 idle_weighs Kind.Arguments n below e = absurd Prim.cc
-idle_weighs Kind.Quasis n below e = absurd Prim.cc
+idle_weighs Kind.Quasis n below e = absurd (no_list (acts Kind.Quasis n below) e)
 idle_weighs Kind.Specifiers n below e = absurd Prim.cc
 idle_weighs k n below e = Prim.omega arith
 

@@ -2,7 +2,9 @@
 use Rattle.std.proofs.Common.{◌≡◌, ◌⊎◌, inl, inr, List, Bool, true, false, not, ◌||◌, if◌then◌else◌, bytes_eq, codes, refl, sym, true≢false}
 use Rattle.js_syntax.specs.declared.node_kind.NodeKind.{NodeKind as Kind}
 use Rattle.js_syntax.specs.Node.{Forest, nothing, node, absent, Note}
-use Rattle.js_effects.specs.Silence.{is_value, runs_its_parts, is_marked, is_known, has_effect, may_have_effects}
+use Rattle.js_syntax.specs.declared.operator.UnaryOperator.TheVariants as unary
+use Rattle.js_effects.specs.Still.{is_value}
+use Rattle.js_effects.specs.Silence.{runs_its_parts, is_marked, is_known, has_effect, may_have_effects}
 use Rattle.js_meaning.specs.Value.{Text, Env}
 use Rattle.js_effects_quiet.specs.Silent.{HasBinding, IsFound, IsSilent, SilentRow, HoldsAt, HoldsOfBound}
 use Rattle.js_effects_quiet.proofs.Marks.{by_sort, holds_below, found}
@@ -34,21 +36,22 @@ idle_back false false false b (inl h) = absurd (true≢false (sym h))
 abbrev Binds : List Text → Env → Type 0
 Binds names env = (x : Text) → is_among names x ≡ true → HasBinding env x
 
-named_found : (names : List Text) (env : Env) (k : Kind) → Binds names env → is_named names k ≡ true → IsFound env k
-named_found names env (Kind.ReferenceName x) h e = found env x (is_among names x) (bytes_eq x (codes "undefined")) e (h x)
-named_found names env k h e = absurd (true≢false (sym e))
+named_found : (names : List Text) (env : Env) (k : Kind) (a : Forest) → Binds names env → is_named names k a ≡ true → IsFound env k a
+named_found names env (Kind.ReferenceName x) a h e = found env x (is_among names x) (bytes_eq x (codes "undefined")) e (h x)
+named_found names env (Kind.UnaryExpression unary.Typeof) a h e = e
+named_found names env k a h e = absurd (true≢false (sym e))
 
-silent_node : (names : List Text) (env : Env) (k : Kind) (a : Forest) → Binds names env → (may_act names a ≡ false → SilentRow env a) → IsIdle (is_value k) (is_named names k) (runs_its_parts k) (may_act names a) → IsSilent env k (SilentRow env a)
+silent_node : (names : List Text) (env : Env) (k : Kind) (a : Forest) → Binds names env → (may_act names a ≡ false → SilentRow env a) → IsIdle (is_value k) (is_named names k a) (runs_its_parts k a) (may_act names a) → IsSilent env k a (SilentRow env a)
 silent_node names env k a h below (inl v) = inl v
-silent_node names env k a h below (inr (inl v)) = inr (inl (named_found names env k h v))
+silent_node names env k a h below (inr (inl v)) = inr (inl (named_found names env k a h v))
 silent_node names env k a h below (inr (inr v)) = inr (inr (v.0, below v.1))
 
 pub silent_row : (names : List Text) (env : Env) (t : Forest) → Binds names env → may_act names t ≡ false → SilentRow env t
 silent_row names env nothing h e = tt
 silent_row names env (absent r) h e = silent_row names env r h e
 silent_row names env (node k n a r) h e = (
-  silent_node names env k a h (silent_row names env a h) (idle (is_value k) (is_named names k) (runs_its_parts k) (may_act names a) (first_of_neither _ _ e)),
-  silent_row names env r h (second_of_neither (acts_at names k (may_act names a)) _ e),
+  silent_node names env k a h (silent_row names env a h) (idle (is_value k) (is_named names k a) (runs_its_parts k a) (may_act names a) (first_of_neither _ _ e)),
+  silent_row names env r h (second_of_neither (acts_at names k a (may_act names a)) _ e),
 )
 
 -- by marks
@@ -62,23 +65,24 @@ named true c false e h = absurd (true≢false (sym (h refl)))
 named false c true e h = refl
 named false c false e h = e
 
-known_named : (names : List Text) (bound : List Bool) (k : Kind) (n : Note) (below : Type 0) → is_known bound k n ≡ true → HoldsAt (Among names) bound k n below → is_named names k ≡ true
-known_named names bound (Kind.ReferenceName x) n below e h = named (is_marked bound n.id) (bytes_eq x (codes "undefined")) (is_among names x) e h
-known_named names bound k n below e h = absurd (true≢false (sym e))
+known_named : (names : List Text) (bound : List Bool) (k : Kind) (n : Note) (a : Forest) (below : Type 0) → is_known bound k n a ≡ true → HoldsAt (Among names) bound k n below → is_named names k a ≡ true
+known_named names bound (Kind.ReferenceName x) n a below e h = named (is_marked bound n.id) (bytes_eq x (codes "undefined")) (is_among names x) e h
+known_named names bound (Kind.UnaryExpression unary.Typeof) n a below e h = e
+known_named names bound k n a below e h = absurd (true≢false (sym e))
 
 idle_node : (names : List Text) (bound : List Bool) (in_with : Bool) (k : Kind) (n : Note) (a : Forest) → HoldsAt (Among names) bound k n (HoldsOfBound (Among names) bound a)
-    → (HoldsOfBound (Among names) bound a → may_have_effects bound in_with a ≡ false → may_act names a ≡ false) → has_effect bound in_with k n (may_have_effects bound in_with a) ≡ false → IsIdle (is_value k) (is_named names k) (runs_its_parts k) (may_act names a)
-idle_node names bound in_with k n a h below e = by (by_sort (is_value k) in_with (is_known bound k n) (runs_its_parts k) (may_have_effects bound in_with a) e)
+    → (HoldsOfBound (Among names) bound a → may_have_effects bound in_with a ≡ false → may_act names a ≡ false) → has_effect bound in_with k n a (may_have_effects bound in_with a) ≡ false → IsIdle (is_value k) (is_named names k a) (runs_its_parts k a) (may_act names a)
+idle_node names bound in_with k n a h below e = by (by_sort (is_value k) in_with (is_known bound k n a) (runs_its_parts k a) (may_have_effects bound in_with a) e)
   where
-    by : ((is_value k ≡ true) ⊎ (((in_with ≡ false) × (is_known bound k n ≡ true)) ⊎ ((runs_its_parts k ≡ true) × (may_have_effects bound in_with a ≡ false)))) → IsIdle (is_value k) (is_named names k) (runs_its_parts k) (may_act names a)
+    by : ((is_value k ≡ true) ⊎ (((in_with ≡ false) × (is_known bound k n a ≡ true)) ⊎ ((runs_its_parts k a ≡ true) × (may_have_effects bound in_with a ≡ false)))) → IsIdle (is_value k) (is_named names k a) (runs_its_parts k a) (may_act names a)
     by (inl v) = inl v
-    by (inr (inl v)) = inr (inl (known_named names bound k n (HoldsOfBound (Among names) bound a) v.1 h))
-    by (inr (inr v)) = inr (inr (v.0, below (holds_below (Among names) bound k n (HoldsOfBound (Among names) bound a) v.0 h) v.1))
+    by (inr (inl v)) = inr (inl (known_named names bound k n a (HoldsOfBound (Among names) bound a) v.1 h))
+    by (inr (inr v)) = inr (inr (v.0, below (holds_below (Among names) bound k n a (HoldsOfBound (Among names) bound a) v.0 h) v.1))
 
 pub marked_idle : (names : List Text) (bound : List Bool) (in_with : Bool) (t : Forest) → HoldsOfBound (Among names) bound t → may_have_effects bound in_with t ≡ false → may_act names t ≡ false
 marked_idle names bound in_with nothing h e = refl
 marked_idle names bound in_with (absent r) h e = marked_idle names bound in_with r h e
 marked_idle names bound in_with (node k n a r) h e =
-    neither (acts_at names k (may_act names a)) _
-    (idle_back (is_value k) (is_named names k) (runs_its_parts k) (may_act names a) (idle_node names bound in_with k n a h.0 (marked_idle names bound in_with a) (first_of_neither _ _ e)))
-    (marked_idle names bound in_with r h.1 (second_of_neither (has_effect bound in_with k n (may_have_effects bound in_with a)) _ e))
+    neither (acts_at names k a (may_act names a)) _
+    (idle_back (is_value k) (is_named names k a) (runs_its_parts k a) (may_act names a) (idle_node names bound in_with k n a h.0 (marked_idle names bound in_with a) (first_of_neither _ _ e)))
+    (marked_idle names bound in_with r h.1 (second_of_neither (has_effect bound in_with k n a (may_have_effects bound in_with a)) _ e))

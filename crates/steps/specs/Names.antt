@@ -4,7 +4,9 @@ use Rattle.std.specs.Prelude.{List, [], ◌∷◌, ◌++◌, Bool, true, false, 
 use Rattle.std.specs.Str.{bytes_eq}
 use Rattle.js_syntax.specs.declared.node_kind.NodeKind.{NodeKind as Kind}
 use Rattle.js_syntax.specs.Node.{Forest, nothing, node, absent}
-use Rattle.js_effects.specs.Silence.{is_value, runs_its_parts}
+use Rattle.js_syntax.specs.declared.operator.UnaryOperator.TheVariants as unary
+use Rattle.js_effects.specs.Still.{is_value}
+use Rattle.js_effects.specs.Silence.{is_one_name, runs_its_parts}
 use Rattle.js_meaning.specs.Value.{Text}
 use Rattle.js_meaning.specs.Scope.{waiting, named_so, first_of, bound_names, var_names, lexical, own_name, function_decls, module_decls}
 use Rattle.js_meaning.specs.Module.{names_in}
@@ -42,15 +44,16 @@ refers x (absent r) = refers x r
 refers x (node k n a r) = refers_at x k a (refers x a) || refers x r
 
 -- Whether an expression may do something where these names are declared: the forms are those of silence, and of names
--- those are silent that are declared, and `undefined`.
-abbrev pub is_named : List Text → Kind → Bool
-is_named names (Kind.ReferenceName x) = is_among names x || bytes_eq x (codes "undefined")
-is_named names k = false
+-- those are silent that are declared, and `undefined`; `typeof` of any name is.
+abbrev pub is_named : List Text → Kind → (below : Forest) → Bool
+is_named names (Kind.ReferenceName x) a = is_among names x || bytes_eq x (codes "undefined")
+is_named names (Kind.UnaryExpression unary.Typeof) a = is_one_name a
+is_named names k a = false
 
-abbrev pub acts_at : List Text → Kind → (below : Bool) → Bool
-acts_at names k below = if is_value k || is_named names k then false else not (runs_its_parts k) || below
+abbrev pub acts_at : List Text → Kind → (below : Forest) → (parts : Bool) → Bool
+acts_at names k a parts = if is_value k || is_named names k a then false else not (runs_its_parts k a) || parts
 
 abbrev pub may_act : List Text → Forest → Bool
 may_act names nothing = false
 may_act names (absent r) = may_act names r
-may_act names (node k n a r) = acts_at names k (may_act names a) || may_act names r
+may_act names (node k n a r) = acts_at names k a (may_act names a) || may_act names r

@@ -1,5 +1,5 @@
 -- Small trees that the definitions of names are tried on.
-use Rattle.std.specs.Prelude.{◌≡◌, List, [], ◌∷◌, true, false, codes}
+use Rattle.std.specs.Prelude.{◌≡◌, [], ◌∷◌, true, false, codes}
 use Rattle.js_syntax.specs.declared.node_kind.NodeKind.{NodeKind as Kind}
 use Rattle.js_syntax.specs.declared.kind.FunctionKind.TheVariants as function_kind
 use Rattle.js_syntax.specs.declared.value.LiteralValue.{LiteralValue as Literal}

@@ -3,9 +3,11 @@
 use Rattle.std.specs.Prelude.{◌≡◌, ◌⊎◌, ℕ, suc, ◌+◌, List, Bool, true, false, ◌&&◌, ◌||◌, is_some, codes, Option}
 use Rattle.std.specs.Str.{bytes_eq}
 use Rattle.js_syntax.specs.declared.node_kind.NodeKind.{NodeKind as Kind}
-use Rattle.js_syntax.specs.declared.node_kind.NodeKind.TheVariants.{ReferenceName as reference_name, VariableDeclarator as variable_declarator}
+use Rattle.js_syntax.specs.declared.node_kind.NodeKind.TheVariants.{ReferenceName as reference_name, UnaryExpression as unary_expression, VariableDeclarator as variable_declarator}
 use Rattle.js_syntax.specs.Node.{Forest, Tree, Note, nothing, node, absent}
-use Rattle.js_effects.specs.Silence.{is_value, runs_its_parts}
+use Rattle.js_syntax.specs.declared.operator.UnaryOperator.TheVariants as unary
+use Rattle.js_effects.specs.Still.{is_value}
+use Rattle.js_effects.specs.Silence.{is_one_name, runs_its_parts}
 use Rattle.min_pass.specs.Around.{is_with}
 use Rattle.min_pass.specs.Pass.{is_given}
 use Rattle.scope_rules.specs.Context.{Context, inside}
@@ -17,20 +19,22 @@ use Rattle.scope_laws.specs.Place.{Around, first, behind, behind_none, under, pl
 abbrev pub read_in : Context → Note → List ℕ → ReferenceSite
 read_in c n x = record { id = n.id; name = x; scope = number_or_first c.scope; layers = c.layers; flags = read_bits c.role }
 
-abbrev pub IsFound : List BindingSite → Context → Kind → Note → Type 0
-IsFound bs c (reference_name x) n = (is_some (binding_of bs (read_in c n x)) ≡ true) ⊎ (bytes_eq x (codes "undefined") ≡ true)
-IsFound bs c k n = ⊥
+-- `typeof` of any name is silent, as one without a binding doesn't throw there (ECMA-262 13.5.3)
+abbrev pub IsFound : List BindingSite → Context → Kind → Note → (below : Forest) → Type 0
+IsFound bs c (reference_name x) n a = (is_some (binding_of bs (read_in c n x)) ≡ true) ⊎ (bytes_eq x (codes "undefined") ≡ true)
+IsFound bs c (unary_expression unary.Typeof) n a = is_one_name a ≡ true
+IsFound bs c k n a = ⊥
 
--- Inside of a `with` statement no name is known (ECMA-262 9.1.1.2).
-abbrev pub IsSilentNode : List BindingSite → (in_with : Bool) → Context → Kind → Note → (parts : Type 0) → Type 0
-IsSilentNode bs in_with c k n parts = (is_value k ≡ true) ⊎ (((in_with ≡ false) × IsFound bs c k n) ⊎ ((runs_its_parts k ≡ true) × parts))
+-- Inside of a `with` statement no name is known (9.1.1.2).
+abbrev pub IsSilentNode : List BindingSite → (in_with : Bool) → Context → Kind → Note → (below : Forest) → (parts : Type 0) → Type 0
+IsSilentNode bs in_with c k n a parts = (is_value k ≡ true) ⊎ (((in_with ≡ false) × IsFound bs c k n a) ⊎ ((runs_its_parts k a ≡ true) × parts))
 
 -- each node of a row
 abbrev pub IsSilent : List BindingSite → (in_with : Bool) → (contexts : ℕ → Context) → (at next : ℕ) → Forest → Type 0
 IsSilent bs in_with contexts at next nothing = Unit {0}
 IsSilent bs in_with contexts at next (absent rest) = IsSilent bs in_with contexts (suc at) next rest
 IsSilent bs in_with contexts at next (node k n below rest) =
-    IsSilentNode bs in_with (contexts at) k n (IsSilent bs in_with (inside (contexts at) next k below) 0 (next + opens_one k below) below)
+    IsSilentNode bs in_with (contexts at) k n below (IsSilent bs in_with (inside (contexts at) next k below) 0 (next + opens_one k below) below)
     × IsSilent bs in_with contexts (suc at) (next + scope_count (node k n below nothing)) rest
 
 -- what lies below a node, which stands in this context

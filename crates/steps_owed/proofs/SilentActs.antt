@@ -13,7 +13,9 @@ use Rattle.scope_rules.specs.declared.layer.Layer.{Layer}
 use Rattle.scope_rules.specs.Context.{Context, inside}
 use Rattle.scope_rules.specs.Site.{BindingSite, opens_one, scope_count}
 use Rattle.scope_rules.specs.Binding.{named_in, binding_layer}
-use Rattle.js_effects.specs.Silence.{is_value, runs_its_parts}
+use Rattle.js_syntax.specs.declared.operator.UnaryOperator.TheVariants as unary
+use Rattle.js_effects.specs.Still.{is_value}
+use Rattle.js_effects.specs.Silence.{runs_its_parts}
 use Rattle.steps_names.specs.Placed.{is_none}
 use Rattle.steps_names.proofs.Taking.{keeps, kept}
 use Rattle.steps_owed.proofs.KnownNames.{Known}
@@ -37,22 +39,22 @@ idle_parts false false true b e f = f
 idle_parts false false false b e f = absurd (true≢false (sym e))
 
 -- what runs its parts makes no scope and declares nothing
-parts_keep : (k : Kind) → runs_its_parts k ≡ true → keeps k ≡ true
-parts_keep (Kind.Program source) e = absurd (true≢false (sym e))
-parts_keep (Kind.Function f pure) e = absurd (true≢false (sym e))
-parts_keep (Kind.Class how) e = absurd (true≢false (sym e))
-parts_keep Kind.StaticBlock e = absurd (true≢false (sym e))
-parts_keep (Kind.PropertyDefinition is_static key) e = absurd (true≢false (sym e))
-parts_keep Kind.BlockStatement e = absurd (true≢false (sym e))
-parts_keep Kind.SwitchStatement e = absurd (true≢false (sym e))
-parts_keep Kind.WithStatement e = absurd (true≢false (sym e))
-parts_keep Kind.CatchClause e = absurd (true≢false (sym e))
-parts_keep Kind.ForStatement e = absurd (true≢false (sym e))
-parts_keep Kind.ForInStatement e = absurd (true≢false (sym e))
-parts_keep Kind.ForOfStatement e = absurd (true≢false (sym e))
-parts_keep (Kind.VariableDeclaration how) e = absurd (true≢false (sym e))
-parts_keep (Kind.ImportDeclaration source) e = absurd (true≢false (sym e))
-parts_keep k e = refl
+parts_keep : (k : Kind) (a : Forest) → runs_its_parts k a ≡ true → keeps k ≡ true
+parts_keep (Kind.Program source) a e = absurd (true≢false (sym e))
+parts_keep (Kind.Function f pure) a e = absurd (true≢false (sym e))
+parts_keep (Kind.Class how) a e = absurd (true≢false (sym e))
+parts_keep Kind.StaticBlock a e = absurd (true≢false (sym e))
+parts_keep (Kind.PropertyDefinition is_static key) a e = absurd (true≢false (sym e))
+parts_keep Kind.BlockStatement a e = absurd (true≢false (sym e))
+parts_keep Kind.SwitchStatement a e = absurd (true≢false (sym e))
+parts_keep Kind.WithStatement a e = absurd (true≢false (sym e))
+parts_keep Kind.CatchClause a e = absurd (true≢false (sym e))
+parts_keep Kind.ForStatement a e = absurd (true≢false (sym e))
+parts_keep Kind.ForInStatement a e = absurd (true≢false (sym e))
+parts_keep Kind.ForOfStatement a e = absurd (true≢false (sym e))
+parts_keep (Kind.VariableDeclaration how) a e = absurd (true≢false (sym e))
+parts_keep (Kind.ImportDeclaration source) a e = absurd (true≢false (sym e))
+parts_keep k a e = refl
 
 -- ---- names
 
@@ -65,23 +67,24 @@ was_some x None e = absurd (true≢false (sym e))
 was_some x (Some l) e = refl
 
 module _ (bs : List BindingSite) (names : List Text) where
-  found_named : (c : Context) (k : Kind) (n : Note) → Known bs names c.layers → IsFound bs c k n → is_named names k ≡ true
-  found_named c (Kind.ReferenceName x) n h (inl e) = or_left (is_among names x) (bytes_eq x (codes "undefined")) (h x (was_some x (binding_layer bs c.layers x) e))
-  found_named c (Kind.ReferenceName x) n h (inr e) = or_right (is_among names x) (bytes_eq x (codes "undefined")) e
-  found_named c k n h e = absurd e
+  found_named : (c : Context) (k : Kind) (n : Note) (a : Forest) → Known bs names c.layers → IsFound bs c k n a → is_named names k a ≡ true
+  found_named c (Kind.ReferenceName x) n a h (inl e) = or_left (is_among names x) (bytes_eq x (codes "undefined")) (h x (was_some x (binding_layer bs c.layers x) e))
+  found_named c (Kind.ReferenceName x) n a h (inr e) = or_right (is_among names x) (bytes_eq x (codes "undefined")) e
+  found_named c (Kind.UnaryExpression unary.Typeof) n a h e = e
+  found_named c k n a h e = absurd e
 
-  silent_node : (w : Bool) (c : Context) (k : Kind) (n : Note) (a : Forest) (parts : Type 0) → Known bs names c.layers → (runs_its_parts k ≡ true → parts → may_act names a ≡ false) → IsSilentNode bs w c k n parts → acts_at names k (may_act names a) ≡ false
-  silent_node w c k n a parts h below (inl e) = idle_value (is_value k) (is_named names k) (runs_its_parts k) (may_act names a) e
-  silent_node w c k n a parts h below (inr (inl e)) = idle_name (is_value k) (is_named names k) (runs_its_parts k) (may_act names a) (found_named c k n h e.1)
-  silent_node w c k n a parts h below (inr (inr e)) = idle_parts (is_value k) (is_named names k) (runs_its_parts k) (may_act names a) e.0 (below e.0 e.1)
+  silent_node : (w : Bool) (c : Context) (k : Kind) (n : Note) (a : Forest) (parts : Type 0) → Known bs names c.layers → (runs_its_parts k a ≡ true → parts → may_act names a ≡ false) → IsSilentNode bs w c k n a parts → acts_at names k a (may_act names a) ≡ false
+  silent_node w c k n a parts h below (inl e) = idle_value (is_value k) (is_named names k a) (runs_its_parts k a) (may_act names a) e
+  silent_node w c k n a parts h below (inr (inl e)) = idle_name (is_value k) (is_named names k a) (runs_its_parts k a) (may_act names a) (found_named c k n a h e.1)
+  silent_node w c k n a parts h below (inr (inr e)) = idle_parts (is_value k) (is_named names k a) (runs_its_parts k a) (may_act names a) e.0 (below e.0 e.1)
 
   pub silent_row : (w : Bool) (cs : ℕ → Context) (at next : ℕ) (row : Forest) → ((i : ℕ) → Known bs names (cs i).layers) → IsSilent bs w cs at next row → may_act names row ≡ false
   silent_row w cs at next nothing h s = refl
   silent_row w cs at next (absent r) h s = silent_row w cs (suc at) next r h s
   silent_row w cs at next (node k n a r) h s =
-      neither (acts_at names k (may_act names a)) (may_act names r)
+      neither (acts_at names k a (may_act names a)) (may_act names r)
       (silent_node w (cs at) k n a (IsSilent bs w (inside (cs at) next k a) 0 (next + opens_one k a) a) (h at)
-      (λ e parts. silent_row w (inside (cs at) next k a) 0 (next + opens_one k a) a (λ i. subst (λ ls. Known bs names ls) (sym (kept (cs at) next k a i (parts_keep k e)).layers) (h at)) parts)
+      (λ e parts. silent_row w (inside (cs at) next k a) 0 (next + opens_one k a) a (λ i. subst (λ ls. Known bs names ls) (sym (kept (cs at) next k a i (parts_keep k a e)).layers) (h at)) parts)
       s.0)
       (silent_row w cs (suc at) (next + scope_count (node k n a nothing)) r h s.1)
 

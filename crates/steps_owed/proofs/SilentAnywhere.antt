@@ -3,7 +3,8 @@ use Rattle.std.proofs.Common.{◌≡◌, Bool, true, false, not, ◌||◌, if◌
 use Rattle.js_syntax.specs.declared.node_kind.NodeKind.{NodeKind as Kind}
 use Rattle.js_syntax.specs.Node.{Forest, nothing, node, absent, Note, alone}
 use Rattle.js_syntax.proofs.Truth.{first_of_neither, second_of_neither, neither}
-use Rattle.js_effects.specs.Silence.{is_value, runs_its_parts, has_effect, may_have_effects}
+use Rattle.js_effects.specs.Still.{is_value}
+use Rattle.js_effects.specs.Silence.{runs_its_parts, has_effect, may_have_effects}
 use Rattle.js_meaning_near.specs.Names.{Names}
 use Rattle.js_meaning_near.specs.Near.{Silent}
 use Rattle.steps.specs.Names.{is_named, acts_at, may_act}
@@ -20,9 +21,9 @@ row_is_idle : (t : Forest) → may_have_effects [] true t ≡ false → may_act 
 row_is_idle nothing e = refl
 row_is_idle (absent rest) e = row_is_idle rest e
 row_is_idle (node k n below rest) e =
-    let here = has_effect [] true k n (may_have_effects [] true below) in
-    neither (acts_at [] k (may_act [] below)) (may_act [] rest)
-    (idle (is_value k) (is_named [] k) (runs_its_parts k) (may_have_effects [] true below) (may_act [] below) (first_of_neither here (may_have_effects [] true rest) e) (row_is_idle below))
+    let here = has_effect [] true k n below (may_have_effects [] true below) in
+    neither (acts_at [] k below (may_act [] below)) (may_act [] rest)
+    (idle (is_value k) (is_named [] k below) (runs_its_parts k below) (may_have_effects [] true below) (may_act [] below) (first_of_neither here (may_have_effects [] true rest) e) (row_is_idle below))
     (row_is_idle rest (second_of_neither here (may_have_effects [] true rest) e))
 
 pub silent_anywhere : (st : Names) (k : Kind) (n : Note) (below : Forest) → acts k n below ≡ false → Silent st k below

@@ -6,7 +6,9 @@ use Rattle.js_syntax.specs.declared.kind.FunctionKind.TheVariants as function_ki
 use Rattle.js_syntax.specs.declared.kind.VariableKind.{VariableKind}
 use Rattle.js_syntax.specs.declared.kind.VariableKind.TheVariants as variable
 use Rattle.js_syntax.specs.Node.{Forest, Tree, Note, nothing, node, absent, alone}
-use Rattle.js_effects.specs.Silence.{is_value}
+use Rattle.js_syntax.specs.declared.operator.UnaryOperator.TheVariants as unary
+use Rattle.js_effects.specs.Still.{is_value}
+use Rattle.js_effects.specs.Silence.{is_one_name}
 use Rattle.min_pass.specs.Around.{is_with}
 use Rattle.scope_rules.specs.declared.layer.Layer.{Layer}
 use Rattle.scope_rules.specs.Context.{Context, inside, outermost, in_variables}
@@ -71,11 +73,11 @@ enclosed_there (under j m a rest) k n below h = enclosed_there a k n below (encl
 
 -- ---- silent rows declare in functions alone
 
-silent_kind : (bs : List BindingSite) (w : Bool) (c : Context) (k : Kind) (n : Note) (parts : Type 0) → IsSilentNode bs w c k n parts → is_binding k ≡ true → ⊥
-silent_kind bs w c (Kind.BindingName x) n parts (inl e) g = true≢false (sym e)
-silent_kind bs w c (Kind.BindingName x) n parts (inr (inl e)) g = e.1
-silent_kind bs w c (Kind.BindingName x) n parts (inr (inr e)) g = true≢false (sym e.0)
-silent_kind bs w c k n parts s g = true≢false (sym g)
+silent_kind : (bs : List BindingSite) (w : Bool) (c : Context) (k : Kind) (n : Note) (a : Forest) (parts : Type 0) → IsSilentNode bs w c k n a parts → is_binding k ≡ true → ⊥
+silent_kind bs w c (Kind.BindingName x) n a parts (inl e) g = true≢false (sym e)
+silent_kind bs w c (Kind.BindingName x) n a parts (inr (inl e)) g = e.1
+silent_kind bs w c (Kind.BindingName x) n a parts (inr (inr e)) g = true≢false (sym e.0)
+silent_kind bs w c k n a parts s g = true≢false (sym g)
 
 -- what lies below a node declares in scopes that are made there
 abbrev Below : Context → ℕ → Kind → Forest → BindingSite → Type 0
@@ -89,21 +91,45 @@ of_expression c next how pure below b e (further i) = i
 value_below : (c : Context) (next : ℕ) (k : Kind) (below : Forest) (b : BindingSite) → is_value k ≡ true → is_enclosed_at k below ≡ true → Below c next k below b
 value_below c next (Kind.Literal v) below b e w h = absurd (nothing_there (inside c next (Kind.Literal v) below) 0 (next + 0) below w b h)
 value_below c next (Kind.RegExp x) below b e w h = absurd (nothing_there (inside c next (Kind.RegExp x) below) 0 (next + 0) below w b h)
+value_below c next Kind.NewTarget below b e w h = absurd (nothing_there (inside c next Kind.NewTarget below) 0 (next + 0) below w b h)
+value_below c next (Kind.TemplateElement written tail) below b e w h = absurd (nothing_there (inside c next (Kind.TemplateElement written tail) below) 0 (next + 0) below w b h)
 value_below c next Kind.Hole below b e w h = absurd (nothing_there (inside c next Kind.Hole below) 0 (next + 0) below w b h)
 value_below c next (Kind.Function function_kind.Expression pure) below b e w h = of_expression c next function_kind.Expression pure below b refl (function_parts c next function_kind.Expression pure below w b h)
 value_below c next (Kind.Function function_kind.Arrow pure) below b e w h = of_expression c next function_kind.Arrow pure below b refl (function_parts c next function_kind.Arrow pure below w b h)
 value_below c next (Kind.Function function_kind.Declaration pure) below b e w h = absurd (true≢false (sym e))
 value_below c next k below b e w h = absurd (true≢false (sym e))
 
-found_below : (bs : List BindingSite) (c : Context) (next : ℕ) (k : Kind) (n : Note) (below : Forest) (b : BindingSite) → IsFound bs c k n → is_enclosed_at k below ≡ true → Below c next k below b
-found_below bs c next (Kind.ReferenceName x) n below b f w h = absurd (nothing_there (inside c next (Kind.ReferenceName x) below) 0 (next + 0) below w b h)
-found_below bs c next k n below b f w h = absurd f
+-- a name alone declares nothing
+in_second_alone : (b : BindingSite) (inner : List BindingSite) → InThree b [] inner [] → (Among b inner → ⊥) → ⊥
+in_second_alone b inner (in_first g) none = g
+in_second_alone b inner (in_second g) none = none g
+in_second_alone b inner (in_third g) none = g
 
-silent_below : (bs : List BindingSite) (w : Bool) (c : Context) (next : ℕ) (k : Kind) (n : Note) (below : Forest) (b : BindingSite) (parts : Type 0) → is_enclosed_at k below ≡ true → IsSilentNode bs w c k n parts
+one_name_there : (cs : ℕ → Context) (at next : ℕ) (t : Forest) → is_one_name t ≡ true → is_enclosed t ≡ true → (b : BindingSite) → Among b (bindings_among (sites cs at next t)) → ⊥
+one_name_there cs at next (node (Kind.ReferenceName x) n below nothing) e w b h =
+    let inner = sites (inside (cs at) next (Kind.ReferenceName x) below) 0 (next + 0) below in
+    in_second_alone b (bindings_among inner) (binding_in b (own_sites (cs at) n (Kind.ReferenceName x) below) inner [] h)
+    (λ g. nothing_there (inside (cs at) next (Kind.ReferenceName x) below) 0 (next + 0) below (enclosed_here (Kind.ReferenceName x) n below nothing w) b g)
+one_name_there cs at next (node Kind.ParenthesizedExpression n below nothing) e w b h =
+    let inner = sites (inside (cs at) next Kind.ParenthesizedExpression below) 0 (next + 0) below in
+    in_second_alone b (bindings_among inner) (binding_in b (own_sites (cs at) n Kind.ParenthesizedExpression below) inner [] h)
+    (λ g. one_name_there (inside (cs at) next Kind.ParenthesizedExpression below) 0 (next + 0) below e (enclosed_below Kind.ParenthesizedExpression n below nothing w) b g)
+one_name_there cs at next (node k n below nothing) e w b h = true≢false (sym e)
+one_name_there cs at next (node k n below (absent rest)) e w b h = true≢false (sym e)
+one_name_there cs at next (node k n below (node j m inner rest)) e w b h = true≢false (sym e)
+one_name_there cs at next (absent rest) e w b h = true≢false (sym e)
+one_name_there cs at next nothing e w b h = true≢false (sym e)
+
+found_below : (bs : List BindingSite) (c : Context) (next : ℕ) (k : Kind) (n : Note) (below : Forest) (b : BindingSite) → IsFound bs c k n below → is_enclosed_at k below ≡ true → is_enclosed below ≡ true → Below c next k below b
+found_below bs c next (Kind.ReferenceName x) n below b f w v h = absurd (nothing_there (inside c next (Kind.ReferenceName x) below) 0 (next + 0) below w b h)
+found_below bs c next (Kind.UnaryExpression unary.Typeof) n below b f w v h = absurd (one_name_there (inside c next (Kind.UnaryExpression unary.Typeof) below) 0 (next + 0) below f v b h)
+found_below bs c next k n below b f w v h = absurd f
+
+silent_below : (bs : List BindingSite) (w : Bool) (c : Context) (next : ℕ) (k : Kind) (n : Note) (below : Forest) (b : BindingSite) (parts : Type 0) → is_enclosed_at k below ≡ true → is_enclosed below ≡ true → IsSilentNode bs w c k n below parts
     → (parts → Among b (bindings_among (sites (inside c next k below) 0 (next + opens_one k below) below)) → In (next + opens_one k below) ((next + opens_one k below) + scope_count below) b.layer) → Below c next k below b
-silent_below bs w c next k n below b parts e (inl v) inner h = value_below c next k below b v e h
-silent_below bs w c next k n below b parts e (inr (inl f)) inner h = found_below bs c next k n below b f.1 e h
-silent_below bs w c next k n below b parts e (inr (inr r)) inner h = let i = inner r.1 h in record { from = Prim.omega (arith, i.from); to = Prim.omega (arith, i.to) }
+silent_below bs w c next k n below b parts e v (inl u) inner h = value_below c next k below b u e h
+silent_below bs w c next k n below b parts e v (inr (inl f)) inner h = found_below bs c next k n below b f.1 e v h
+silent_below bs w c next k n below b parts e v (inr (inr r)) inner h = let i = inner r.1 h in record { from = Prim.omega (arith, i.from); to = Prim.omega (arith, i.to) }
 
 pub silent_inside : (bs : List BindingSite) (w : Bool) (cs : ℕ → Context) (at next : ℕ) (t : Forest) → is_enclosed t ≡ true → IsSilent bs w cs at next t → (b : BindingSite) → Among b (bindings_among (sites cs at next t)) → In next (next + scope_count t) b.layer
 silent_inside bs w cs at next nothing e s b h = absurd h
@@ -120,9 +146,9 @@ silent_inside bs w cs at next (node k n below rest) e s b h =
         → (IsSilent bs w (inside (cs at) next k below) 0 (next + opens_one k below) below → Among b (bindings_among (sites (inside (cs at) next k below) 0 (next + opens_one k below) below)) → In (next + opens_one k below) ((next + opens_one k below) + scope_count below) b.layer)
         → (Among b (bindings_among (sites cs (suc at) (next + scope_count (node k n below nothing)) rest)) → In (next + scope_count (node k n below nothing)) ((next + scope_count (node k n below nothing)) + scope_count rest) b.layer)
         → In next (next + scope_count (node k n below rest)) b.layer
-    by (in_first g) inner later = absurd (silent_kind bs w (cs at) k n (IsSilent bs w (inside (cs at) next k below) 0 (next + opens_one k below) below) s.0 (named (cs at) n k below b g).is_name)
+    by (in_first g) inner later = absurd (silent_kind bs w (cs at) k n below (IsSilent bs w (inside (cs at) next k below) 0 (next + opens_one k below) below) s.0 (named (cs at) n k below b g).is_name)
     by (in_second g) inner later =
-        let i = silent_below bs w (cs at) next k n below b (IsSilent bs w (inside (cs at) next k below) 0 (next + opens_one k below) below) (enclosed_here k n below rest e) s.0 inner g in
+        let i = silent_below bs w (cs at) next k n below b (IsSilent bs w (inside (cs at) next k below) 0 (next + opens_one k below) below) (enclosed_here k n below rest e) (enclosed_below k n below rest e) s.0 inner g in
         record { from = i.from; to = Prim.omega (arith, i.to) }
     by (in_third g) inner later = let i = later g in record { from = Prim.omega (arith, i.from); to = Prim.omega (arith, i.to) }
 

@@ -1,5 +1,5 @@
 -- What an array or a sequence owes of which nobody takes the value, and of which the parts stay that act.
-use Rattle.std.proofs.Common.{◌≡◌, inl, inr, ◌≤◌, ◌<◌, ◌+◌, ℕ, suc, pos, zero, [], ◌∷◌, ◌++◌, Bool, true, false, ◌&&◌, ◌||◌, Some, None, arith, refl, sym, ap, ◌∙◌, subst, true≢false}
+use Rattle.std.proofs.Common.{◌≡◌, inl, inr, ◌≤◌, ◌<◌, ◌+◌, ℕ, suc, pos, zero, List, [], ◌∷◌, ◌++◌, Bool, true, false, ◌&&◌, ◌||◌, Some, None, arith, refl, sym, ap, ◌∙◌, subst, true≢false}
 use Rattle.std.proofs.lemmas.Bool.{lt-ltb}
 use Rattle.std.specs.Prelude.{if◌then◌else◌}
 use Rattle.js_syntax.specs.Class.{Class, root, expression, argument}
@@ -9,7 +9,7 @@ use Rattle.js_syntax.specs.declared.kind.FunctionKind.{FunctionKind}
 use Rattle.js_syntax.specs.declared.kind.FunctionKind.TheVariants as function_kind
 use Rattle.js_syntax.specs.declared.value.LiteralValue.{LiteralValue}
 use Rattle.js_syntax.specs.declared.value.LiteralValue.TheVariants as value
-use Rattle.js_syntax.specs.Core.{value_weight}
+use Rattle.js_syntax.specs.Core.{value_weight, text_weight}
 use Rattle.js_syntax.specs.Facts.{weight, is_core}
 use Rattle.js_syntax.specs.Node.{Note, Forest, Tree, nothing, node, absent, forest_of, joined, total}
 use Rattle.js_syntax.specs.Table.{Row, an_array_expression, a_sequence_expression, a_spread_element, fields_of, type_of, stands}
@@ -403,13 +403,17 @@ function_weighs function_kind.Declaration pure = Prim.omega arith
 function_weighs function_kind.Expression pure = Prim.omega arith
 function_weighs function_kind.Arrow pure = Prim.omega arith
 
+text_weighs : (raw : List ℕ) → 1 ≤ text_weight raw
+text_weighs [] = Prim.omega arith
+text_weighs (c ∷ cs) = Prim.omega arith
+
 pub idle_weighs : (k : Kind) (n : Note) (a : Forest) → acts k n a ≡ false → is_list k ≡ false → 1 ≤ weight k
 idle_weighs (Kind.Literal v) n a idle no_list = value_weighs v
 idle_weighs (Kind.Function how pure) n a idle no_list = function_weighs how pure
 idle_weighs Kind.VariableDeclarator n a idle no_list = absurd cc
 idle_weighs (Kind.Class how) n a idle no_list = absurd cc
 idle_weighs (Kind.ExportNamedDeclaration source) n a idle no_list = absurd cc
-idle_weighs (Kind.TemplateElement v tail) n a idle no_list = absurd cc
+idle_weighs (Kind.TemplateElement v tail) n a idle no_list = text_weighs v.raw
 idle_weighs Kind.Statements n a idle no_list = absurd cc
 idle_weighs Kind.Cases n a idle no_list = absurd cc
 idle_weighs Kind.Declarators n a idle no_list = absurd cc

@@ -1,5 +1,4 @@
-use Rattle.std.proofs.Common.{◌≡◌, ◌∙◌, Option, Some, None, refl, sym, ap, arith}
-use Rattle.js_tree.specs.Weight.{size_of, tree_size}
+use Rattle.std.proofs.Common.{◌≡◌, ◌∙◌, Some, None, sym, ap, arith}
 use Rattle.js_effects.specs.Each.{child_of, inner_from}
 use Rattle.js_effects.proofs.Children.{child_size, told_of, told_at}
 use Rattle.js_effects.proofs.child.+inner.Goals as goal

@@ -1,5 +1,4 @@
-use Rattle.std.proofs.Common.{◌≡◌, ◌∙◌, Option, Some, None, false, refl, sym, ap, arith}
-use Rattle.js_tree.specs.Weight.{size_of, tree_size}
+use Rattle.std.proofs.Common.{◌≡◌, ◌∙◌, Some, None, false, sym, ap, arith}
 use Rattle.js_effects.specs.Each.{child_of}
 use Rattle.js_effects.specs.Effects.{arrow_from, arrow_at}
 use Rattle.js_effects.proofs.Children.{child_size, told_of, told_at, told_last}

@@ -1,4 +1,4 @@
-use Rattle.std.proofs.Common.{◌≡◌, ◌∙◌, sym}
+use Rattle.std.proofs.Common.{◌∙◌, sym}
 use Rattle.js_effects.proofs.Texts.{whole_in_two}
 use Rattle.js_effects.proofs.text.is_in_two.Goals as goal
 

@@ -1,4 +1,4 @@
-use Rattle.std.proofs.Common.{◌≡◌, ◌∙◌, sym}
+use Rattle.std.proofs.Common.{◌∙◌, sym}
 use Rattle.js_effects.proofs.Texts.{both_in_two}
 use Rattle.js_effects.proofs.text.same_from_shorter.Goals as goal
 

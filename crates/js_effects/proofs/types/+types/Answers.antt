@@ -1,5 +1,4 @@
-use Rattle.std.proofs.Common.{◌≡◌, ◌∙◌, Option, Some, None, refl, sym, ap, arith}
-use Rattle.js_tree.specs.Weight.{size_of, tree_size}
+use Rattle.std.proofs.Common.{◌≡◌, ◌∙◌, Some, None, sym, ap, arith}
 use Rattle.js_effects.specs.declared.value.ValueType.TheVariants.{Undetermined}
 use Rattle.js_effects.specs.Answers.{answers}
 use Rattle.js_effects.specs.Each.{child_of}
