@@ -11,7 +11,7 @@ use Rattle.js_effects.specs.Answers.{bare_answers}
 use Rattle.js_effects.specs.Each.{inner_at}
 use Rattle.js_effects.specs.Kinds.{types, type_at, literal_type}
 use Rattle.js_effects.specs.Values.{Known, exactly, value, value_of, knowns, known_at, literal_constant, text_of, unary_known, binary_known}
-use Rattle.steps_allowed.specs.KnownOperation.{is_literal, are_literals, as_literal, as_word, known_literal}
+use Rattle.steps_allowed.specs.KnownOperation.{is_literal, are_literals, as_literal, known_literal}
 
 -- ---- whether all are literals
 
@@ -63,7 +63,7 @@ where_all false x y same = refl
 
 known_bare : (k : Kind) (n : Note) (t : Forest) → known_literal k nowhere (bare t) ≡ known_literal k n t
 known_bare (unary_expression o) n t =
-    ap (λ b. if b then as_word (value_of bare_answers (alone (unary_expression o) nowhere (bare t))) else None) (literals_bare t) ∙ where_all (are_literals t) _ _ (λ h. ap as_word (of_unary o n t h))
+    ap (λ b. if b then as_literal (value_of bare_answers (alone (unary_expression o) nowhere (bare t))) else None) (literals_bare t) ∙ where_all (are_literals t) _ _ (λ h. ap as_literal (of_unary o n t h))
 known_bare (binary_expression o) n t =
     ap (λ b. if b then as_literal (value_of bare_answers (alone (binary_expression o) nowhere (bare t))) else None) (literals_bare t) ∙ where_all (are_literals t) _ _ (λ h. ap as_literal (of_binary o n t h))
 known_bare k n t = refl

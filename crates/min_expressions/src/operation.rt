@@ -58,24 +58,15 @@ fn number_literal(number: i64) -> Option<LiteralValue>
     }
 }
 
-fn literal_of(value: &ConstantValue) -> Option<LiteralValue>
-    ensures { result ≡ known.as_literal (Some value.now) }
+fn literal_of(value: &ConstantValue, alloc: Global) -> Result<Option<LiteralValue>, AllocError>
+    ensures { IfOk result (λ v. v ≡ known.as_literal (Some value.now)) }
 {
     match value {
-        ConstantValue::Number(number) => number_literal(*number),
-        ConstantValue::Text(_) => None,
-        ConstantValue::Boolean(truth) => Some(LiteralValue::Boolean(*truth)),
-        ConstantValue::Null => Some(LiteralValue::Null),
-        ConstantValue::Undefined => None,
-    }
-}
-
-fn word_of(value: &ConstantValue, alloc: Global) -> Result<Option<LiteralValue>, AllocError>
-    ensures { IfOk result (λ v. v ≡ known.as_word (Some value.now)) }
-{
-    match value {
+        ConstantValue::Number(number) => Ok(number_literal(*number)),
         ConstantValue::Text(text) => Ok(Some(LiteralValue::Text(text.try_clone(alloc)?))),
-        _ => Ok(literal_of(value)),
+        ConstantValue::Boolean(truth) => Ok(Some(LiteralValue::Boolean(*truth))),
+        ConstantValue::Null => Ok(Some(LiteralValue::Null)),
+        ConstantValue::Undefined => Ok(None),
     }
 }
 
@@ -87,20 +78,11 @@ fn value_of(node: &Node, alloc: Global) -> Result<Option<ConstantValue>, AllocEr
     evaluate_value(node, &BareContext::new(alloc))
 }
 
-fn known_word(node: &Node, alloc: Global) -> Result<Option<LiteralValue>, AllocError>
-    ensures { IfOk result (λ v. v ≡ known.as_word (value_of bare_answers (forest_of node.now))) }
-{
-    match value_of(node, alloc)? {
-        Some(value) => word_of(&value, alloc),
-        None => Ok(None),
-    }
-}
-
 fn known_value(node: &Node, alloc: Global) -> Result<Option<LiteralValue>, AllocError>
     ensures { IfOk result (λ v. v ≡ known.as_literal (value_of bare_answers (forest_of node.now))) }
 {
     match value_of(node, alloc)? {
-        Some(value) => Ok(literal_of(&value)),
+        Some(value) => literal_of(&value, alloc),
         None => Ok(None),
     }
 }
@@ -112,7 +94,7 @@ pub(crate) fn known_literal(node: &Node, alloc: Global) -> Result<Option<Literal
     match node.kind() {
         NodeKind::UnaryExpression(_) => {
             if are_literals(node.children()) {
-                known_word(node, alloc)
+                known_value(node, alloc)
             } else {
                 Ok(None)
             }

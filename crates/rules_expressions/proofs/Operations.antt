@@ -11,7 +11,7 @@ use Rattle.js_syntax.specs.Node.{Forest, Tree, Note, nothing, node, absent, alon
 use Rattle.js_effects.specs.Answers.{bare_answers}
 use Rattle.js_effects.specs.Values.{value_of}
 use Rattle.scope_laws.specs.Place as places
-use Rattle.steps_allowed.specs.KnownOperation.{are_literals, as_word, known_literal, KnownOperation, value_is_known}
+use Rattle.steps_allowed.specs.KnownOperation.{are_literals, as_literal, known_literal, KnownOperation, value_is_known}
 use Rattle.rules_expressions.specs.Lists.{new_note}
 use Rattle.rules_expressions.specs.Operations.{literal_there, known_becomes}
 use Rattle.rules_expressions.proofs.Becoming.{no_answer, same_answer, IsLess}
@@ -62,7 +62,7 @@ few (value.Text []) = record { least = Prim.omega arith; most = Prim.omega arith
 few (value.Text (c ∷ cs)) = record { least = Prim.omega arith; most = Prim.omega arith }
 
 -- without an operand there is no value
-of_nothing : (o : UnaryOperator) (n : Note) (v : LiteralValue) → as_word (value_of bare_answers (alone (unary_expression o) n nothing)) ≡ Some v → 1 ≤ 0
+of_nothing : (o : UnaryOperator) (n : Note) (v : LiteralValue) → as_literal (value_of bare_answers (alone (unary_expression o) n nothing)) ≡ Some v → 1 ≤ 0
 of_nothing unary.LogicalNot n v e = no_literal e
 of_nothing unary.UnaryNegation n v e = no_literal e
 of_nothing unary.UnaryPlus n v e = no_literal e
@@ -71,7 +71,7 @@ of_nothing unary.Typeof n v e = no_literal e
 of_nothing unary.Void n v e = no_literal e
 of_nothing unary.Delete n v e = no_literal e
 
-of_absent : (o : UnaryOperator) (n : Note) (rest : Forest) (v : LiteralValue) → as_word (value_of bare_answers (alone (unary_expression o) n (absent rest))) ≡ Some v → 1 ≤ total weight rest
+of_absent : (o : UnaryOperator) (n : Note) (rest : Forest) (v : LiteralValue) → as_literal (value_of bare_answers (alone (unary_expression o) n (absent rest))) ≡ Some v → 1 ≤ total weight rest
 of_absent unary.LogicalNot n rest v e = no_literal e
 of_absent unary.UnaryNegation n rest v e = no_literal e
 of_absent unary.UnaryPlus n rest v e = no_literal e
@@ -80,7 +80,7 @@ of_absent unary.Typeof n rest v e = no_literal e
 of_absent unary.Void n rest v e = no_literal e
 of_absent unary.Delete n rest v e = no_literal e
 
-operand_weighs : (o : UnaryOperator) (n : Note) (operand : Forest) (v : LiteralValue) → are_literals operand ≡ true → as_word (value_of bare_answers (alone (unary_expression o) n operand)) ≡ Some v → 1 ≤ total weight operand
+operand_weighs : (o : UnaryOperator) (n : Note) (operand : Forest) (v : LiteralValue) → are_literals operand ≡ true → as_literal (value_of bare_answers (alone (unary_expression o) n operand)) ≡ Some v → 1 ≤ total weight operand
 operand_weighs o n nothing v all e = of_nothing o n v e
 operand_weighs o n (absent rest) v all e = of_absent o n rest v e
 operand_weighs o n (node (literal w) m nothing rest) v all e = Prim.omega (arith, (few w).least)
@@ -96,7 +96,7 @@ allowed false o v e = no_literal e
 
 operation_weighs : (k : Kind) (n : Note) (parts : Forest) (v : LiteralValue) → known_literal k n parts ≡ Some v → 5 ≤ weight k + total weight parts
 operation_weighs (unary_expression o) n parts v e =
-    let h = allowed (are_literals parts) (as_word (value_of bare_answers (alone (unary_expression o) n parts))) v e in
+    let h = allowed (are_literals parts) (as_literal (value_of bare_answers (alone (unary_expression o) n parts))) v e in
     Prim.omega (arith, operand_weighs o n parts v h.holds h.answers)
 operation_weighs (binary_expression o) n parts v e = Prim.omega arith
 operation_weighs k n parts v e = no_literal e

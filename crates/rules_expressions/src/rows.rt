@@ -144,16 +144,17 @@ pub fn known_values_left()
     ensures negated { left_of (uses (unary unary_operator.LogicalNot (number 0))) ≡ doing (uses (truth true)) }
     ensures type_name { left_of (uses (unary unary_operator.Typeof (number 1))) ≡ doing (uses (word (codes "number"))) }
     ensures sum { left_of (uses (binary binary_operator.Addition (number 1) (number 2))) ≡ doing (uses (number 3)) }
+    ensures texts { left_of (uses (binary binary_operator.Addition (word (codes "x")) (word (codes "y")))) ≡ doing (uses (word (codes "xy"))) }
     ensures less { left_of (uses (binary binary_operator.LessThan (number 1) (number 2))) ≡ doing (uses (truth true)) }
     ensures in_operation { left_of (uses (unary unary_operator.LogicalNot (binary binary_operator.StrictEquality (number 1) (number 2)))) ≡ doing (uses (truth true)) }
     ensures in_condition { left_of (uses (conditional (binary binary_operator.StrictEquality (word a) (word b)) (reads a) (reads b))) ≡ doing (uses (reads b)) }
 {}
 
 /// It stays where no literal has its value: a negative number is written with an operator again, and `undefined` is a name. It stays
-/// where the value isn't known, as a fraction, and where it joins two texts.
+/// where the value isn't known, as a fraction, and where a number is joined to a text.
 pub fn operations_on_literals_that_stay()
     ensures negative { left_of (uses (unary unary_operator.UnaryNegation (number 1))) ≡ doing (uses (unary unary_operator.UnaryNegation (number 1))) }
-    ensures texts { left_of (uses (binary binary_operator.Addition (word a) (word b))) ≡ doing (uses (binary binary_operator.Addition (word a) (word b))) }
+    ensures mixed { left_of (uses (binary binary_operator.Addition (word a) (number 1))) ≡ doing (uses (binary binary_operator.Addition (word a) (number 1))) }
     ensures fraction { left_of (uses (binary binary_operator.Division (number 1) (number 2))) ≡ doing (uses (binary binary_operator.Division (number 1) (number 2))) }
     ensures undefined { left_of (uses (unary unary_operator.Void (number 0))) ≡ doing (uses (unary unary_operator.Void (number 0))) }
 {}

@@ -376,6 +376,9 @@ sum_is_known = becomes_literal (Kind.BinaryExpression binary.Addition) _ _ refl
 pub comparison_is_known : Edit (placed argument (operation binary.LessThan (value.Number (pos 1)) (value.Number (pos 2)))) (placed argument (literal (value.Boolean true)))
 comparison_is_known = becomes_literal (Kind.BinaryExpression binary.LessThan) _ _ refl
 
+pub texts_are_joined : Edit (placed argument (operation binary.Addition (value.Text (codes "a")) (value.Text (codes "b")))) (placed argument (literal (value.Text (codes "ab"))))
+texts_are_joined = becomes_literal (Kind.BinaryExpression binary.Addition) _ _ refl
+
 no_literal : {v : LiteralValue} → None ≡ Some v → ⊥
 no_literal e = cc
 
@@ -385,8 +388,8 @@ negative_stays _ (value_is_known i v _ is) = no_literal is
 pub fraction_stays : OperationStays argument (operation binary.Division (value.Number (pos 1)) (value.Number (pos 2)))
 fraction_stays _ (value_is_known i v _ is) = no_literal is
 
-pub texts_stay : OperationStays argument (operation binary.Addition (value.Text (codes "a")) (value.Text (codes "b")))
-texts_stay _ (value_is_known i v _ is) = no_literal is
+pub text_and_number_stay : OperationStays argument (operation binary.Addition (value.Text (codes "a")) (value.Number (pos 1)))
+text_and_number_stay _ (value_is_known i v _ is) = no_literal is
 
 pub type_of_name_stays : OperationStays argument (applied unary.Typeof (reads a))
 type_of_name_stays _ (value_is_known i v _ is) = no_literal is

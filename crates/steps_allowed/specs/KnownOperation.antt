@@ -21,24 +21,18 @@ are_literals nothing = true
 are_literals (absent rest) = false
 are_literals (node k n below rest) = is_literal k below && are_literals rest
 
--- a number that isn't negative, and what isn't a number or a text, as a literal: a negative number is written with an operator again
+-- as a literal: a negative number would be written with an operator again, and undefined has no literal
 abbrev pub as_literal : Option ConstantValue → Option LiteralValue
 as_literal (Some (Number (pos n))) = Some (value.Number (pos n))
 as_literal (Some (Number (negsuc n))) = None
-as_literal (Some (Text s)) = None
+as_literal (Some (Text s)) = Some (value.Text s)
 as_literal (Some (Boolean b)) = Some (value.Boolean b)
 as_literal (Some Null) = Some value.Null
 as_literal (Some Undefined) = None
 as_literal None = None
 
--- and a text that names a type
-abbrev pub as_word : Option ConstantValue → Option LiteralValue
-as_word (Some (Text s)) = Some (value.Text s)
-as_word c = as_literal c
-
--- Of two texts nothing is joined.
 abbrev pub known_literal : Kind → Note → (below : Forest) → Option LiteralValue
-known_literal (unary_expression o) n below = if are_literals below then as_word (value_of bare_answers (alone (unary_expression o) n below)) else None
+known_literal (unary_expression o) n below = if are_literals below then as_literal (value_of bare_answers (alone (unary_expression o) n below)) else None
 known_literal (binary_expression o) n below = if are_literals below then as_literal (value_of bare_answers (alone (binary_expression o) n below)) else None
 known_literal k n below = None
 

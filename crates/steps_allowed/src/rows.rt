@@ -214,13 +214,15 @@ pub fn known_operations_become_literals()
     ensures negation { Edit (placed argument (applied unary.LogicalNot (literal (value.Number (pos 0))))) (placed argument (literal (value.Boolean true))) }
     ensures type_name { Edit (placed argument (applied unary.Typeof one)) (placed argument (literal (value.Text (codes "number")))) }
     ensures sum { Edit (placed argument (operation binary.Addition (value.Number (pos 1)) (value.Number (pos 2)))) (placed argument (literal (value.Number (pos 3)))) }
+    ensures texts { Edit (placed argument (operation binary.Addition (value.Text (codes "a")) (value.Text (codes "b")))) (placed argument (literal (value.Text (codes "ab")))) }
     ensures comparison { Edit (placed argument (operation binary.LessThan (value.Number (pos 1)) (value.Number (pos 2)))) (placed argument (literal (value.Boolean true))) }
 {}
 
-/// It stays where that is a negative number, where it is no whole number, where texts are joined, and where an operand is no literal.
+/// It stays where that is a negative number, where it is no whole number, where a number is joined to a text, and where an operand is no
+/// literal.
 pub fn other_operations_stay()
     ensures negative { OperationStays argument (applied unary.UnaryNegation one) }
     ensures fraction { OperationStays argument (operation binary.Division (value.Number (pos 1)) (value.Number (pos 2))) }
-    ensures texts { OperationStays argument (operation binary.Addition (value.Text (codes "a")) (value.Text (codes "b"))) }
+    ensures mixed { OperationStays argument (operation binary.Addition (value.Text (codes "a")) (value.Number (pos 1))) }
     ensures name { OperationStays argument (applied unary.Typeof (reads a)) }
 {}

@@ -39,7 +39,7 @@ use Rattle.form_rules.specs.Break.{unless}
 use Rattle.scope_laws.specs.Place.{Around, plug}
 use Rattle.scope_laws.proofs.Bindings.{same_value}
 use Rattle.steps.specs.Steps.{all_core}
-use Rattle.steps_allowed.specs.KnownOperation.{is_literal, are_literals, as_literal, as_word, known_literal, KnownOperation, value_is_known}
+use Rattle.steps_allowed.specs.KnownOperation.{is_literal, are_literals, as_literal, known_literal, KnownOperation, value_is_known}
 use Rattle.steps_allowed.specs.Wanted.{wanted_at}
 use Rattle.steps_fit.proofs.CoreCalm.{nameless_as_planned}
 use Rattle.steps_fit.proofs.Held.{core_below}
@@ -59,19 +59,19 @@ tree k n below = record { kind = k; note = n; below = below }
 -- ---- an operation on literals, and the value that is known of it
 
 pub data Operation : Kind → (below : Forest) → LiteralValue → Type 0 where
-  on_one : (o : UnaryOperator) (v : LiteralValue) (p : Note) (rest : Forest) (w : LiteralValue) → as_word (value_known (unary_known o (literal_type v) (exactly (literal_constant v)))) ≡ Some w → Operation (unary_expression o) (node (literal v) p nothing rest) w
+  on_one : (o : UnaryOperator) (v : LiteralValue) (p : Note) (rest : Forest) (w : LiteralValue) → as_literal (value_known (unary_known o (literal_type v) (exactly (literal_constant v)))) ≡ Some w → Operation (unary_expression o) (node (literal v) p nothing rest) w
   on_two : (o : BinaryOperator) (n : Note) (below : Forest) (w : LiteralValue) → are_literals below ≡ true → as_literal (value_of bare_answers (alone (binary_expression o) n below)) ≡ Some w → Operation (binary_expression o) below w
 
 -- of no operand no value is known
-no_operand : (o : UnaryOperator) (w : LiteralValue) → as_word (value_known (unary_known o type.Undetermined not_known)) ≡ Some w → ⊥
+no_operand : (o : UnaryOperator) (w : LiteralValue) → as_literal (value_known (unary_known o type.Undetermined not_known)) ≡ Some w → ⊥
 no_operand unary.Void w e = cc
 no_operand o w e = cc
 
 of_literals : (k : Kind) (n : Note) (below : Forest) (w : LiteralValue) (b : Bool) → are_literals below ≡ b → known_literal k n below ≡ Some w → Operation k below w
 of_literals (unary_expression o) n nothing w b e is = absurd (no_operand o w is)
-of_literals (unary_expression o) n (node (literal v) p nothing rest) w b e is = each b e (subst (λ d. (if d then as_word (value_known (unary_known o (literal_type v) (exactly (literal_constant v)))) else None) ≡ Some w) e is)
+of_literals (unary_expression o) n (node (literal v) p nothing rest) w b e is = each b e (subst (λ d. (if d then as_literal (value_known (unary_known o (literal_type v) (exactly (literal_constant v)))) else None) ≡ Some w) e is)
   where
-    each : (b : Bool) → are_literals rest ≡ b → (if b then as_word (value_known (unary_known o (literal_type v) (exactly (literal_constant v)))) else None) ≡ Some w → Operation (unary_expression o) (node (literal v) p nothing rest) w
+    each : (b : Bool) → are_literals rest ≡ b → (if b then as_literal (value_known (unary_known o (literal_type v) (exactly (literal_constant v)))) else None) ≡ Some w → Operation (unary_expression o) (node (literal v) p nothing rest) w
     each true e is = on_one o v p rest w is
     each false e is = absurd cc
 of_literals (binary_expression o) n below w b e is = each b e (subst (λ d. (if d then as_literal (value_of bare_answers (alone (binary_expression o) n below)) else None) ≡ Some w) e is)
@@ -138,26 +138,20 @@ core_leads true m q env n h = h
 core_leads false m q env n h = unknown_leads n
 
 -- what is given where a value is known
-given_word : (k : Known) (m : M) (w : LiteralValue) → Gives k m → as_word (value_known k) ≡ Some w → m ≡ give (literal_value w)
-given_word (exactly (constant.Number (pos i))) m w h is = subst (λ w. m ≡ give (literal_value w)) (same_value is) h
-given_word (exactly (constant.Text s)) m w h is = subst (λ w. m ≡ give (literal_value w)) (same_value is) h
-given_word (exactly (constant.Boolean b)) m w h is = subst (λ w. m ≡ give (literal_value w)) (same_value is) h
-given_word (exactly constant.Null) m w h is = subst (λ w. m ≡ give (literal_value w)) (same_value is) h
-given_word k m w h is = absurd cc
-
 given_literal : (k : Known) (m : M) (w : LiteralValue) → Gives k m → as_literal (value_known k) ≡ Some w → m ≡ give (literal_value w)
 given_literal (exactly (constant.Number (pos i))) m w h is = subst (λ w. m ≡ give (literal_value w)) (same_value is) h
+given_literal (exactly (constant.Text s)) m w h is = subst (λ w. m ≡ give (literal_value w)) (same_value is) h
 given_literal (exactly (constant.Boolean b)) m w h is = subst (λ w. m ≡ give (literal_value w)) (same_value is) h
 given_literal (exactly constant.Null) m w h is = subst (λ w. m ≡ give (literal_value w)) (same_value is) h
 given_literal k m w h is = absurd cc
 
-one_leads : (E : Enter) (env : Env) (o : UnaryOperator) (v : LiteralValue) (p : Note) (rest : Forest) (w : LiteralValue) → as_word (value_known (unary_known o (literal_type v) (exactly (literal_constant v)))) ≡ Some w → (q : Ask)
+one_leads : (E : Enter) (env : Env) (o : UnaryOperator) (v : LiteralValue) (p : Note) (rest : Forest) (w : LiteralValue) → as_literal (value_known (unary_known o (literal_type v) (exactly (literal_constant v)))) ≡ Some w → (q : Ask)
     → Leads (meaning E (unary_expression o) (node (literal v) p nothing rest) q env) (meaning E (literal w) nothing q env)
 unfolding need eval
 one_leads E env o v p rest w is (asks_value u) =
     let below = node (literal v) p nothing rest in
     core_leads (is_core_unary o) (does E (unary_expression o) below (eval E below)) (asks_value u) env (give (literal_value w))
-    (leads_there _ (give (literal_value w)) (given_is (literal_value v) (unary_of o) ∙ given_word (unary_known o (literal_type v) (exactly (literal_constant v))) (unary_of o (literal_value v)) w (unary_gives o v) is))
+    (leads_there _ (give (literal_value w)) (given_is (literal_value v) (unary_of o) ∙ given_literal (unary_known o (literal_type v) (exactly (literal_constant v))) (unary_of o (literal_value v)) w (unary_gives o v) is))
 one_leads E env o v p rest w is q =
     let below = node (literal v) p nothing rest in
     core_leads (is_core_unary o) (does E (unary_expression o) below (eval E below)) q env (meaning E (literal w) nothing q env) (unknown_leads _)
@@ -234,7 +228,7 @@ module _ (a : Around) (n i : Note) (w : LiteralValue) where
   literal_declares : DeclaresNothing (alone (literal w) i nothing)
   literal_declares = record { bound = refl; imports = λ source. refl }
 
-  module _ (o : UnaryOperator) (v : LiteralValue) (p : Note) (rest : Forest) (is : as_word (value_known (unary_known o (literal_type v) (exactly (literal_constant v)))) ≡ Some w) where
+  module _ (o : UnaryOperator) (v : LiteralValue) (p : Note) (rest : Forest) (is : as_literal (value_known (unary_known o (literal_type v) (exactly (literal_constant v)))) ≡ Some w) where
     abbrev operand : Forest
     operand = node (literal v) p nothing rest
 

@@ -14,7 +14,7 @@ use Rattle.js_effects.specs.declared.value.ValueType.TheVariants as type
 use Rattle.js_effects.specs.Values as known
 use Rattle.js_effects.specs.Values.{Known, exactly, unknown, truth, value, largest, tested, negated, joined, is_exact, is_addition, on_numbers, on_known_numbers, on_values, binary_known, typeof_known, minus_known, plus_known, unary_known}
 use Rattle.scope_laws.proofs.Bindings.{same_value}
-use Rattle.steps_allowed.specs.KnownOperation.{as_literal, as_word}
+use Rattle.steps_allowed.specs.KnownOperation.{as_literal}
 
 -- a literal that is no negative number, and no larger one
 abbrev pub IsSmall : LiteralValue → Type 0
@@ -113,21 +113,15 @@ below_bound n h =
     let most = leb-true n 9007199254740991 h in
     lt-ltb n 9007199254740992 (Prim.omega (arith, most))
 
-word_small : (k : Known) (w : LiteralValue) → IsWithin k → as_word (value k) ≡ Some w → IsSmall w
-word_small (exactly (constant.Number (pos i))) w h is = subst IsSmall (same_value is) (below_bound i h)
-word_small (exactly (constant.Text s)) w h is = subst IsSmall (same_value is) tt
-word_small (exactly (constant.Boolean b)) w h is = subst IsSmall (same_value is) tt
-word_small (exactly constant.Null) w h is = subst IsSmall (same_value is) tt
-word_small k w h is = absurd cc
-
-pub unary_small : (o : UnaryOperator) (t : ValueType) (k : Known) (w : LiteralValue) → as_word (value (unary_known o t k)) ≡ Some w → IsSmall w
-unary_small o t k w is = word_small (unary_known o t k) w (unary_within o t k) is
-
 literal_small : (k : Known) (w : LiteralValue) → IsWithin k → as_literal (value k) ≡ Some w → IsSmall w
 literal_small (exactly (constant.Number (pos i))) w h is = subst IsSmall (same_value is) (below_bound i h)
+literal_small (exactly (constant.Text s)) w h is = subst IsSmall (same_value is) tt
 literal_small (exactly (constant.Boolean b)) w h is = subst IsSmall (same_value is) tt
 literal_small (exactly constant.Null) w h is = subst IsSmall (same_value is) tt
 literal_small k w h is = absurd cc
+
+pub unary_small : (o : UnaryOperator) (t : ValueType) (k : Known) (w : LiteralValue) → as_literal (value (unary_known o t k)) ≡ Some w → IsSmall w
+unary_small o t k w is = literal_small (unary_known o t k) w (unary_within o t k) is
 
 pub binary_small : (o : BinaryOperator) (s t : Option (List ℕ)) (a b : Known) (w : LiteralValue) → as_literal (value (binary_known o s t a b)) ≡ Some w → IsSmall w
 binary_small o s t a b w is = literal_small (binary_known o s t a b) w (binary_within o s t a b) is
