@@ -40,7 +40,7 @@ cases['statements']=[
  N('ForInStatement',left=var('const',(a,None)),right=b,body=B()), N('ForOfStatement',left=mem(a,b),right=b,body=B(),**{'await':False}),
  prog([fn('FunctionDeclaration',f,[a,N('AssignmentPattern',left=b,right=L(1)),N('RestElement',argument=N('ArrayPattern',elements=[None,c]))],B(N('ExpressionStatement',expression=L('d'),directive='d'),N('ReturnStatement',argument=a),N('ReturnStatement',argument=None)))],'script'),
 ]
-SILENT=('Literal','ArrowFunctionExpression','FunctionExpression')
+SILENT=('Literal','ArrowFunctionExpression','FunctionExpression','UnaryExpression')
 cases['expressions']=[N('ThrowStatement',argument=e) if e['type'] in SILENT else ES(e) for e in [
  L(None),L(True),L(7),N('Literal',value={},regex=dict(pattern='a',flags='g')),N('ThisExpression'),
  N('ArrayExpression',elements=[a,None,N('SpreadElement',argument=b)]),
@@ -53,7 +53,7 @@ cases['expressions']=[N('ThrowStatement',argument=e) if e['type'] in SILENT else
  call(a,b,N('SpreadElement',argument=c),pure=True),dict(N('NewExpression',callee=a,arguments=[b]),pure=True),
  N('ChainExpression',expression=mem(call(mem(a,b,opt=True),optional=True),c)),N('ParenthesizedExpression',expression=a),N('SequenceExpression',expressions=[a,b]),
  tmpl(['a','b'],[c]),N('TaggedTemplateExpression',tag=a,quasi=tmpl(['z'],[])),
- call(I('use'),N('Literal',value={},regex=dict(pattern='a',flags='g'))),fn('FunctionExpression',None,[],B(ES(N('MetaProperty',meta=I('new'),property=I('target'))))),N('MetaProperty',meta=I('import'),property=I('meta')),N('ImportExpression',source=a),
+ call(I('use'),N('Literal',value={},regex=dict(pattern='a',flags='g'))),fn('FunctionExpression',None,[],B(N('ReturnStatement',argument=N('MetaProperty',meta=I('new'),property=I('target'))))),N('MetaProperty',meta=I('import'),property=I('meta')),N('ImportExpression',source=a),
 ]]
 cases['classes']=[
  N('ClassDeclaration',id=a,superClass=b,body=N('ClassBody',body=[
@@ -205,7 +205,8 @@ S('if (a) while (b) 1; else if (c) 1; else { 1; }',[IF(N('WhileStatement',test=b
 S('let x; if (a) x; b();',[x_is(None),IF(ES(x)),do('b')],[IF(EMPTY),do('b')],2,0)
 S('if (a) (() => { if (b) 1; }); use(() => { if (b) 1; });',[IF(ES(ARROW(N('IfStatement',test=b,consequent=ES(L(1)),alternate=None)))),use(ARROW(N('IfStatement',test=b,consequent=ES(L(1)),alternate=None)))],[IF(EMPTY),use(ARROW(N('IfStatement',test=b,consequent=EMPTY,alternate=None)))],1,0)
 S("'use strict'; if (a) 'use strict';",[STRICT,IF(ES(L('use strict')))],[STRICT,IF(EMPTY)],1,0)
-S('if (a) b; else -1; while (a) this;',[IF(ES(b),ES(un('-',L(1)))),N('WhileStatement',test=a,body=ES(N('ThisExpression')))],None,0,0)
+S('if (a) b; else -1; while (a) this;',[IF(ES(b),ES(un('-',L(1)))),N('WhileStatement',test=a,body=ES(N('ThisExpression')))],[IF(ES(b),EMPTY),N('WhileStatement',test=a,body=ES(N('ThisExpression')))],1,0)
+S('if (a) b; else -c;',[IF(ES(b),ES(un('-',c)))],None,0,0)
 S('undefined; undefine;',[ES(I('undefined')),ES(I('undefine'))],[ES(I('undefine'))],1,0)
 S('function a() { b(); } function b() {}',[F_('a',[],do('b')),F_('b',[])],[],2,0)
 S('function f() { f(); }',[F_('f',[],do('f'))],None,0,1)
@@ -219,7 +220,13 @@ S('var x = 1; in a CommonJS module',[x_is(L(1),'var')],[],1,0,'commonjs')
 S('export let x = 1; export function f() { let y; }',[export(x_is(L(1))),export(F_('f',[],var('let',(I('y'),None))))],[export(x_is(L(1))),export(F_('f',[]))],1,0)
 S('let x; [x, , !x]; ({ a: x, m() {} }); x ? void x : typeof x;',[x_is(None),ES(N('ArrayExpression',elements=[x,None,un('!',x)])),ES(N('ObjectExpression',properties=[prop(a,x),prop(I('m'),fn('FunctionExpression',None,[],B()),method=True)])),ES(N('ConditionalExpression',test=x,consequent=un('void',x),alternate=un('typeof',x)))],[],2,0)
 S('let x; x && (x, x); (x ?? (() => x)) || (function () {});',[x_is(None),ES(N('LogicalExpression',operator='&&',left=x,right=N('SequenceExpression',expressions=[x,x]))),ES(N('LogicalExpression',operator='||',left=N('ParenthesizedExpression',expression=N('LogicalExpression',operator='??',left=x,right=fn('ArrowFunctionExpression',None,[],x,True))),right=fn('FunctionExpression',None,[],B())))],[],2,0)
-S('let x; [...x]; ({ [x]: 1 }); ({ get a() {} }); -x; f(x), 2;',[x_is(None),ES(N('ArrayExpression',elements=[N('SpreadElement',argument=x)])),ES(N('ObjectExpression',properties=[prop(x,L(1),computed=True)])),ES(N('ObjectExpression',properties=[prop(a,fn('FunctionExpression',None,[],B()),kind='get')])),ES(un('-',x)),ES(N('SequenceExpression',expressions=[call(f,x),L(2)]))],[x_is(None),ES(N('ArrayExpression',elements=[N('SpreadElement',argument=x)])),ES(N('ObjectExpression',properties=[prop(x,L(1),computed=True)])),ES(N('ObjectExpression',properties=[prop(a,fn('FunctionExpression',None,[],B()),kind='get')])),ES(un('-',x)),do('f',x)],1,4)
+S('let x; [...x]; ({ [x]: 1 }); ({ get a() {} }); -x; f(x), 2;',[x_is(None),ES(N('ArrayExpression',elements=[N('SpreadElement',argument=x)])),ES(N('ObjectExpression',properties=[prop(x,L(1),computed=True)])),ES(N('ObjectExpression',properties=[prop(a,fn('FunctionExpression',None,[],B()),kind='get')])),ES(un('-',x)),ES(N('SequenceExpression',expressions=[call(f,x),L(2)]))],[x_is(None),ES(N('ArrayExpression',elements=[N('SpreadElement',argument=x)])),ES(N('ObjectExpression',properties=[prop(x,L(1),computed=True)])),ES(un('-',x)),do('f',x)],1,4)
+S("let x = typeof a !== 'undefined', y = 1 << 4, z = -1; which read nothing that is declared",[var('let',(x,bi('!==',un('typeof',a),L('undefined'))),(I('y'),bi('<<',L(1),L(4))),(I('z'),un('-',L(1))))],[],1,0)
+S("typeof a === 'b'; null < -1; `c${-1}`; ({ [-1]: 2, get a() {} }); [...[-1]]; '1' - !true;",[ES(bi('===',un('typeof',a),L('b'))),ES(bi('<',L(None),un('-',L(1)))),ES(tmpl(['c',''],[un('-',L(1))])),ES(N('ObjectExpression',properties=[prop(un('-',L(1)),L(2),computed=True),prop(a,fn('FunctionExpression',None,[],B()),kind='get')])),ES(N('ArrayExpression',elements=[N('SpreadElement',argument=N('ArrayExpression',elements=[un('-',L(1))]))])),ES(bi('-',L('1'),un('!',L(True))))],[],1,0)
+S('let x; x === 1; x < x; !x != x; x ? -!x : typeof x;',[x_is(None),ES(bi('===',x,L(1))),ES(bi('<',x,x)),ES(bi('!=',un('!',x),x)),ES(N('ConditionalExpression',test=x,consequent=un('-',un('!',x)),alternate=un('typeof',x)))],[],2,0)
+S('let x; x - 1; x + x; x in x; `${x}`; ({ [x]: x }); ~x; which convert what x is',[x_is(None),ES(bi('-',x,L(1))),ES(bi('+',x,x)),ES(bi('in',x,x)),ES(tmpl(['',''],[x])),ES(N('ObjectExpression',properties=[prop(x,x,computed=True)])),ES(un('~',x))],None,0,9)
+S('-undefined; delete 1; this; (class {});',[ES(un('-',I('undefined'))),ES(un('delete',L(1))),ES(N('ThisExpression')),ES(N('ClassExpression',id=None,superClass=None,body=N('ClassBody',body=[])))],None,0,0)
+S('with (o) { typeof x; typeof -1; } in a script',[N('WithStatement',object=I('o'),body=B(ES(un('typeof',x)),ES(un('typeof',un('-',L(1))))))],[N('WithStatement',object=I('o'),body=B(ES(un('typeof',x))))],1,0,'script')
 S('(function f(f, b = c) { var c; f; b; c; });',[ES(fn('FunctionExpression',f,[f,N('AssignmentPattern',left=b,right=c)],B(var('var',(c,None)),ES(f),ES(b),ES(c))))],[],1,0)
 S('let x;',[var('let',(x,None))],[],1,0)
 S('let x; in a script',[var('let',(x,None))],None,0,0,'script')
@@ -268,7 +275,7 @@ S('!(f() === 2); whose parentheses the parser left out',[ES(NOT(SAME(call(f),L(2
 S('120 operators ! before f()',[ES(nots(120,call(f)))],[do('f')],1,0)
 S('f() == 2; null !== f(); f() < 1; 1 >= f();',[ES(SAME(call(f),L(2),'==')),ES(SAME(L(None),call(f),'!==')),ES(SAME(call(f),L(1),'<')),ES(SAME(L(1),call(f),'>='))],[do('f'),do('f'),do('f'),do('f')],1,0)
 S('typeof f(); void f(); typeof o.f;',[ES(un('typeof',call(f))),ES(un('void',call(f))),ES(un('typeof',mem(o,f)))],[do('f'),do('f'),ES(mem(o,f))],1,0)
-S('typeof g; which throws nothing where no g is declared',[ES(un('typeof',g))],None,0,0)
+S('typeof g; which throws nothing where no g is declared',[ES(un('typeof',g))],[],1,0)
 S('f() && 1; f() || (() => a); f() ?? [];',[ES(AND(call(f),L(1))),ES(OR(call(f),fn('ArrowFunctionExpression',None,[],a,True))),ES(ELSE(call(f),N('ArrayExpression',elements=[])))],[do('f'),do('f'),do('f')],1,0)
 S('f() ? 1 : null;',[ES(COND(call(f),L(1),L(None)))],[do('f')],1,0)
 S('a && f(); f() ? a : g(); whose sides may both act',[ES(AND(a,call(f))),ES(COND(call(f),a,call(g)))],None,0,0)
@@ -315,7 +322,9 @@ S('({ a: class extends f() {} }); which takes its name from there',[ES(OBJ(prop(
 S("use(!0); use(typeof 1); use(typeof 'a'); use(+1);",[use(NOT(L(0))),use(un('typeof',L(1))),use(un('typeof',L('a'))),use(un('+',L(1)))],[use(L(True)),use(L('number')),use(L('string')),use(L(1))],1,0)
 S('use(1 + 2); use(3 * 4); use(6 / 2); use(7 % 4); use(1 < 2); use(1 === 2); use(1 == 1);',[use(SAME(L(1),L(2),'+')),use(SAME(L(3),L(4),'*')),use(SAME(L(6),L(2),'/')),use(SAME(L(7),L(4),'%')),use(SAME(L(1),L(2),'<')),use(SAME(L(1),L(2))),use(SAME(L(1),L(1),'=='))],[use(L(3)),use(L(12)),use(L(3)),use(L(3)),use(L(True)),use(L(False)),use(L(True))],1,0)
 S('use(!(1 === 2)); use(1 + 2 + 3);',[use(NOT(SAME(L(1),L(2)))),use(SAME(SAME(L(1),L(2),'+'),L(3),'+'))],[use(L(True)),use(L(6))],1,0)
-S("use(-1); use(0 * -1); use(1 / 2); use(1 / 0); use(9007199254740991 + 1); use('a' + 'b'); use(void 0);",[use(un('-',L(1))),use(SAME(L(0),un('-',L(1)),'*')),use(SAME(L(1),L(2),'/')),use(SAME(L(1),L(0),'/')),use(SAME(L(9007199254740991),L(1),'+')),use(SAME(L('a'),L('b'),'+')),use(un('void',L(0)))],None,0,0)
+S("use('a' + 'b'); use('a' + 'b' + 'c' === 'abc'); use(typeof ('' + ''));",[use(SAME(L('a'),L('b'),'+')),use(SAME(SAME(SAME(L('a'),L('b'),'+'),L('c'),'+'),L('abc'))),use(un('typeof',PAREN(SAME(L(''),L(''),'+'))))],[use(L('ab')),use(L(True)),use(un('typeof',PAREN(L(''))))],1,0)
+S('(p?.()); (1, p)?.(); of a chain what is called',[ES(PAREN(N('ChainExpression',expression=call(I('p'),optional=True)))),ES(N('ChainExpression',expression=call(SEQ(L(1),I('p')),optional=True)))],[ES(PAREN(N('ChainExpression',expression=call(I('p'),optional=True)))),ES(N('ChainExpression',expression=call(I('p'),optional=True)))],1,0)
+S("use(-1); use(0 * -1); use(1 / 2); use(1 / 0); use(9007199254740991 + 1); use('a' + 1); use(void 0);",[use(un('-',L(1))),use(SAME(L(0),un('-',L(1)),'*')),use(SAME(L(1),L(2),'/')),use(SAME(L(1),L(0),'/')),use(SAME(L(9007199254740991),L(1),'+')),use(SAME(L('a'),L(1),'+')),use(un('void',L(0)))],None,0,0)
 S('(1 < 2 ? a : b)(); use(!1 || a);',[ES(call(COND(SAME(L(1),L(2),'<'),a,b))),use(OR(NOT(L(1)),a))],[do('a'),use(a)],1,0)
 
 

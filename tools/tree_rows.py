@@ -5,6 +5,7 @@ crates/test_tree/src/question.rt. A tree is an ESTree program, or a number of op
 program has three levels and nodes more than operators, and its text 67 bytes for each and 119 around them. Or it is a word
 for a tree that no text gives.
 """
+from effects_rows import an_object, binary, spread, template
 from examples import B, ES, I, L, N, call, mem, prog, prop, text, un, var
 
 EMPTY = N('EmptyStatement')
@@ -78,8 +79,30 @@ GROUPS = [
   ('debugger;', 'silent', module(N('DebuggerStatement')), '', 'not silent'),
   ('undefined;', 'silent', module(ES(I('undefined'))), '', 'silent'),
   ('undefine;', 'silent', module(ES(I('undefine'))), '', 'not silent'),
-  ('-1;', 'silent', module(ES(un('-', L(1)))), '', 'not silent'),
+  ('-1;', 'silent', module(ES(un('-', L(1)))), '', 'silent'),
   ('!1;', 'silent', module(ES(un('!', L(1)))), '', 'silent'),
+  ('-a;', 'silent', module(ES(un('-', I('a')))), '', 'not silent'),
+  ('-undefined;', 'silent', module(ES(un('-', I('undefined')))), '', 'not silent'),
+  ('-[];', 'silent', module(ES(un('-', array()))), '', 'not silent'),
+  ('- (-1 + "a");', 'silent', module(ES(un('-', parenthesized(binary('+', un('-', L(1)), L('a')))))), '', 'silent'),
+  ('delete 1;', 'silent', module(ES(un('delete', L(1)))), '', 'not silent'),
+  ('typeof a;', 'silent', module(ES(un('typeof', I('a')))), '', 'silent'),
+  ('typeof ((a));', 'silent', module(ES(un('typeof', parenthesized(parenthesized(I('a')))))), '', 'silent'),
+  ('typeof a.b;', 'silent', module(ES(un('typeof', mem(I('a'), I('b'))))), '', 'not silent'),
+  ('typeof a === "b";', 'silent', module(ES(binary('===', un('typeof', I('a')), L('b')))), '', 'silent'),
+  ('[] < 1;', 'silent', module(ES(binary('<', array(), L(1)))), '', 'silent'),
+  ('a == 1;', 'silent', module(ES(binary('==', I('a'), L(1)))), '', 'not silent'),
+  ('1 in [];', 'silent', module(ES(binary('in', L(1), array()))), '', 'not silent'),
+  ('1 + [];', 'silent', module(ES(binary('+', L(1), array()))), '', 'not silent'),
+  ('`${1}`;', 'silent', module(ES(template(L(1)))), '', 'silent'),
+  ('`${[]}`;', 'silent', module(ES(template(array()))), '', 'not silent'),
+  ('[...[1]];', 'silent', module(ES(array(spread(array(L(1)))))), '', 'silent'),
+  ('[..."a"];', 'silent', module(ES(array(spread(L('a'))))), '', 'not silent'),
+  ('({ ...[1] });', 'silent', module(ES(an_object(spread(array(L(1)))))), '', 'not silent'),
+  ('({ [1]: 2 });', 'silent', module(ES(an_object(prop(L(1), L(2), computed=True)))), '', 'silent'),
+  ('({ [[]]: 2 });', 'silent', module(ES(an_object(prop(array(), L(2), computed=True)))), '', 'not silent'),
+  ('this;', 'silent', module(ES(THIS)), '', 'not silent'),
+  ('(class {});', 'silent', module(ES(N('ClassExpression', id=None, superClass=None, body=N('ClassBody', body=[])))), '', 'not silent'),
  ]),
  ('what a walk visits: none below a block', [
   ('switch (this) { default: { ; } } debugger;', 'visits', script(SWITCH, N('DebuggerStatement')), '', 'visits 6'),
