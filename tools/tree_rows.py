@@ -6,7 +6,7 @@ program has three levels and nodes more than operators, and its text 67 bytes fo
 for a tree that no text gives.
 """
 from effects_rows import an_object, binary, spread, template
-from examples import B, ES, I, L, N, call, mem, prog, prop, text, un, var
+from examples import B, ES, I, L, N, call, fn, mem, prog, prop, text, un, var
 
 EMPTY = N('EmptyStatement')
 THIS = N('ThisExpression')
@@ -21,6 +21,7 @@ def array(*elements): return N('ArrayExpression', elements=list(elements))
 def pattern(*elements): return N('ArrayPattern', elements=list(elements))
 def default(left, right): return N('AssignmentPattern', left=left, right=right)
 def rest(argument): return N('RestElement', argument=argument)
+def declares(*names): return text(module(var('var', *[(I(name), None) for name in names])))
 def label(name, body): return N('LabeledStatement', label=I(name), body=body)
 def let(declared, value): return var('let', (declared, value))
 def eval_of(callee, optional=False): return call(callee, optional=optional)
@@ -73,6 +74,16 @@ GROUPS = [
   ('let [...[a = b]] = c;', 'names', module(let(pattern(rest(pattern(default(I('a'), I('b'))))), I('c'))), '', 'names a'),
   ('let { a, [b]: c = d, ...e } = f;', 'names', module(let(N('ObjectPattern', properties=[prop(I('a'), I('a'), shorthand=True), prop(I('b'), default(I('c'), I('d')), computed=True), rest(I('e'))]), I('f'))), '', 'names a c e'),
   ('let [] = a;', 'names', module(let(pattern(), I('a'))), '', 'names'),
+ ]),
+ ('which names stay of statements that go', [
+  ('{ var a = 1; for (var b in o) { var a; } (function () { var c; })(); }', 'kept', module(B(var('var', (I('a'), L(1))), N('ForInStatement', left=var('var', (I('b'), None)), right=I('o'), body=B(var('var', (I('a'), None)))), ES(call(fn('FunctionExpression', None, [], B(var('var', (I('c'), None)))))))), '', declares('a', 'b', 'a')),
+  ('f();', 'kept', module(ES(call(I('f')))), '', 'none'),
+  ('var { a, [b]: c = d, ...e } = f, [g] = h;', 'kept', module(var('var', (N('ObjectPattern', properties=[prop(I('a'), I('a'), shorthand=True), prop(I('b'), default(I('c'), I('d')), computed=True), rest(I('e'))]), I('f')), (pattern(I('g')), I('h')))), '', declares('a', 'c', 'e', 'g')),
+  ('l: if (a) var b; else while (c) { let d; var e; }', 'kept', module(label('l', N('IfStatement', test=I('a'), consequent=var('var', (I('b'), None)), alternate=N('WhileStatement', test=I('c'), body=B(let(I('d'), None), var('var', (I('e'), None))))))), '', declares('b', 'e')),
+  ('switch (a) { case 1: var b; default: { var c; } } try { var d; } catch (e) { var f; } finally { var g; }', 'kept', module(N('SwitchStatement', discriminant=I('a'), cases=[N('SwitchCase', test=L(1), consequent=[var('var', (I('b'), None))]), N('SwitchCase', test=None, consequent=[B(var('var', (I('c'), None)))])]), N('TryStatement', block=B(var('var', (I('d'), None))), handler=N('CatchClause', param=I('e'), body=B(var('var', (I('f'), None)))), finalizer=B(var('var', (I('g'), None))))), '', declares('b', 'c', 'd', 'f', 'g')),
+  ('for (var a = () => { var b; }; ;) do var c; while (d); for (var e of f) var g;', 'kept', module(N('ForStatement', init=var('var', (I('a'), fn('ArrowFunctionExpression', None, [], B(var('var', (I('b'), None)))))), test=None, update=None, body=N('DoWhileStatement', test=I('d'), body=var('var', (I('c'), None)))), N('ForOfStatement', left=var('var', (I('e'), None)), right=I('f'), body=var('var', (I('g'), None)), **{'await': False})), '', declares('a', 'c', 'e', 'g')),
+  ('with (a) var b; in a script', 'kept', script(N('WithStatement', object=I('a'), body=var('var', (I('b'), None)))), '', declares('b')),
+  ('function a() { var b; } class C { static { var d; } } let e = 1; const f = 2;', 'kept', module(fn('FunctionDeclaration', I('a'), [], B(var('var', (I('b'), None)))), N('ClassDeclaration', id=I('C'), superClass=None, body=N('ClassBody', body=[N('StaticBlock', body=[var('var', (I('d'), None))])])), let(I('e'), L(1)), var('const', (I('f'), L(2)))), '', 'none'),
  ]),
  ('what is silent', [
   ('null;', 'silent', module(ES(NULL)), '', 'silent'),

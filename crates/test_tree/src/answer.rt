@@ -1,6 +1,7 @@
 // The answers.
 use crate::copied::copied;
 use crate::expression::{bound, cloned, evaluates, is_silent};
+use crate::kept::kept;
 use crate::left::cleared;
 use crate::question::{Question, question_named};
 use crate::tree::tree_of;
@@ -60,6 +61,7 @@ fn answer_of(
         Question::Cleared => cleared(alloc, program),
         Question::DirectEval => evaluates(alloc, program),
         Question::BoundNames => bound(alloc, program),
+        Question::KeptNames => kept(alloc, program),
         Question::Silent => is_silent(alloc, program),
         Question::Visited => visited(alloc, program),
         Question::Written => shown(alloc, program),

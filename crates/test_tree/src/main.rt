@@ -11,6 +11,7 @@
 mod answer;
 mod copied;
 mod expression;
+mod kept;
 mod left;
 mod question;
 mod tree;

@@ -17,6 +17,8 @@ pub(crate) enum Question {
     DirectEval,
     /// The names that its first declarator declares.
     BoundNames,
+    /// A declaration of the names that `var` declares in its statements.
+    KeptNames,
     /// Whether its first expression, or the first statement where that has none, is silent, of names that have no
     /// binding.
     Silent,
@@ -28,7 +30,7 @@ pub(crate) enum Question {
     Fits,
 }
 
-const QUESTIONS: [(&str, Question); 11] = [
+const QUESTIONS: [(&str, Question); 12] = [
     ("size", Question::Size),
     ("copy", Question::Copied),
     ("clone", Question::Cloned),
@@ -36,6 +38,7 @@ const QUESTIONS: [(&str, Question); 11] = [
     ("clear", Question::Cleared),
     ("eval", Question::DirectEval),
     ("names", Question::BoundNames),
+    ("kept", Question::KeptNames),
     ("silent", Question::Silent),
     ("visits", Question::Visited),
     ("text", Question::Written),
