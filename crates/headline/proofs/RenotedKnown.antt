@@ -1,71 +1,85 @@
--- The value of an operation on literals doesn't see notes: names alone have any that count.
-use Rattle.std.proofs.Common.{◌≡◌, ◌∙◌, ℕ, zero, suc, List, ◌∷◌, Bool, true, false, ◌&&◌, Option, Some, None, if◌then◌else◌, refl, sym, ap, ap₂, true≢false}
+-- The value of an operation doesn't see notes: names alone have any that count, and nothing is known of names.
+use Rattle.std.proofs.Common.{◌≡◌, ◌∙◌, ℕ, zero, suc, List, ◌∷◌, Bool, true, false, not, ◌&&◌, ◌||◌, Option, Some, None, get_or, if◌then◌else◌, refl, sym, ap, ap₂}
 use Rattle.js_syntax.specs.declared.node_kind.NodeKind.{NodeKind as Kind}
-use Rattle.js_syntax.specs.declared.node_kind.NodeKind.TheVariants.{Literal as literal, UnaryExpression as unary_expression, BinaryExpression as binary_expression}
-use Rattle.js_syntax.specs.declared.operator.UnaryOperator.{UnaryOperator}
-use Rattle.js_syntax.specs.declared.operator.BinaryOperator.{BinaryOperator}
+use Rattle.js_syntax.specs.declared.node_kind.NodeKind.TheVariants.{UnaryExpression as unary_expression, BinaryExpression as binary_expression}
+use Rattle.js_syntax.specs.declared.operator.AssignmentOperator.TheVariants as assignment
 use Rattle.js_syntax.specs.declared.value.LiteralValue.{LiteralValue}
 use Rattle.js_syntax.specs.Node.{Forest, Note, nothing, node, absent, alone, nowhere, bare}
 use Rattle.js_effects.specs.declared.value.ValueType.{ValueType}
+use Rattle.js_effects.specs.declared.value.ValueType.TheVariants.{Undefined, Undetermined}
+use Rattle.js_effects.specs.declared.value.ConstantValue.TheVariants as constant
 use Rattle.js_effects.specs.Answers.{bare_answers}
-use Rattle.js_effects.specs.Each.{inner_at}
-use Rattle.js_effects.specs.Kinds.{types, type_at, literal_type}
-use Rattle.js_effects.specs.Values.{Known, exactly, value, value_of, knowns, known_at, literal_constant, text_of, unary_known, binary_known}
-use Rattle.steps_allowed.specs.KnownOperation.{is_literal, are_literals, as_literal, known_literal}
+use Rattle.js_effects.specs.Each.{of_each, is_parenthesized, inner_from, inner_at}
+use Rattle.js_effects.specs.Kinds.{is_named_undefined, type_by_number, type_from, types, type_at}
+use Rattle.js_effects.specs.Values.{Known, exactly, unknown, value, value_of, known_by_number, known_from, knowns, known_at, text_of, unary_known, binary_known}
+use Rattle.steps_allowed.specs.KnownOperation.{has_operand, as_literal, known_literal}
+use Rattle.headline.proofs.RenotedUnused.{acts_bare}
 
--- ---- whether all are literals
+-- ---- types
 
-is_literal_bare : (k : Kind) (t : Forest) → is_literal k (bare t) ≡ is_literal k t
-is_literal_bare k nothing = refl
-is_literal_bare (literal v) (absent rest) = refl
-is_literal_bare (literal v) (node k n below rest) = refl
-is_literal_bare k t = refl
+no_type : (o : Option ℕ) → type_by_number (λ i. None) o ≡ Undetermined
+no_type (Some i) = refl
+no_type None = refl
 
-literals_bare : (t : Forest) → are_literals (bare t) ≡ are_literals t
-literals_bare nothing = refl
-literals_bare (absent rest) = refl
-literals_bare (node k n below rest) = ap₂ (λ x y. x && y) (is_literal_bare k below) (literals_bare rest)
+same_type : (k : Kind) (n m : Note) (a b : Forest) (ts : List ValueType) → type_from bare_answers k n a ts ≡ type_from bare_answers k m b ts
+same_type (Kind.ReferenceName x) n m a b ts = ap (λ (t : ValueType). if is_named_undefined (Kind.ReferenceName x) && false then Undefined else t) (no_type n.id ∙ sym (no_type m.id))
+same_type (Kind.AssignmentExpression assignment.Assign) n m a b ts = refl
+same_type (Kind.AssignmentExpression o) n m a b ts = refl
+same_type k n m a b ts = refl
 
--- ---- what is told of literals
+types_bare : (t : Forest) → types bare_answers (bare t) ≡ types bare_answers t
+types_bare nothing = refl
+types_bare (absent r) = ap (λ (ts : List ValueType). Undetermined ∷ ts) (types_bare r)
+types_bare (node k n a r) =
+    ap₂ (λ (t : ValueType) (ts : List ValueType). t ∷ ts) (ap (type_from bare_answers k nowhere (bare a)) (types_bare a) ∙ same_type k nowhere n (bare a) a (types bare_answers a)) (types_bare r)
 
-types_bare : (t : Forest) → are_literals t ≡ true → types bare_answers (bare t) ≡ types bare_answers t
-types_bare nothing h = refl
-types_bare (node (literal v) n nothing rest) h = ap (λ (ts : List ValueType). literal_type v ∷ ts) (types_bare rest h)
-types_bare t h = absurd (true≢false (sym h))
+-- ---- values
 
-knowns_bare : (t : Forest) → are_literals t ≡ true → knowns bare_answers (bare t) ≡ knowns bare_answers t
-knowns_bare nothing h = refl
-knowns_bare (node (literal v) n nothing rest) h = ap (λ (ks : List Known). exactly (literal_constant v) ∷ ks) (knowns_bare rest h)
-knowns_bare t h = absurd (true≢false (sym h))
+text_by : (p : Bool) (k : Kind) (n : Note) (a : Forest) → text_of (inner_at 0 (bare a)) ≡ text_of (inner_at 0 a)
+    → text_of (if p then get_or (of_each inner_from None (bare a)) 0 None else Some (record { kind = k; note = nowhere; below = bare a }))
+    ≡ text_of (if p then get_or (of_each inner_from None a) 0 None else Some (record { kind = k; note = n; below = a }))
+text_by true k n a same = same
+text_by false k n a same = refl
 
-text_bare : (i : ℕ) (t : Forest) → are_literals t ≡ true → text_of (inner_at i (bare t)) ≡ text_of (inner_at i t)
-text_bare i nothing h = refl
-text_bare zero (node (literal v) n nothing rest) h = refl
-text_bare (suc i) (node (literal v) n nothing rest) h = text_bare i rest h
-text_bare i t h = absurd (true≢false (sym h))
+text_bare : (i : ℕ) (t : Forest) → text_of (inner_at i (bare t)) ≡ text_of (inner_at i t)
+text_bare i nothing = refl
+text_bare zero (absent r) = refl
+text_bare (suc i) (absent r) = text_bare i r
+text_bare (suc i) (node k n a r) = text_bare i r
+text_bare zero (node k n a r) = text_by (is_parenthesized k) k n a (text_bare 0 a)
 
--- ---- the value
+no_known : (o : Option ℕ) → known_by_number (λ i. None) o ≡ unknown
+no_known (Some i) = refl
+no_known None = refl
 
-of_unary : (o : UnaryOperator) (n : Note) (t : Forest) → are_literals t ≡ true
-    → value_of bare_answers (alone (unary_expression o) nowhere (bare t)) ≡ value_of bare_answers (alone (unary_expression o) n t)
-of_unary o n t h = ap₂ (λ ts ks. value (unary_known o (type_at 0 ts) (known_at 0 ks))) (types_bare t h) (knowns_bare t h)
+same_known : (k : Kind) (n m : Note) (a : Forest) (ks : List Known) → known_from bare_answers k n (bare a) ks ≡ known_from bare_answers k m a ks
+same_known (Kind.ReferenceName x) n m a ks = ap (λ (t : Known). if is_named_undefined (Kind.ReferenceName x) && false then exactly constant.Undefined else t) (no_known n.id ∙ sym (no_known m.id))
+same_known (Kind.UnaryExpression o) n m a ks = ap (λ ts. unary_known o (type_at 0 ts) (known_at 0 ks)) (types_bare a)
+same_known (Kind.BinaryExpression o) n m a ks = ap₂ (λ x y. binary_known o x y (known_at 0 ks) (known_at 1 ks)) (text_bare 0 a) (text_bare 1 a)
+same_known (Kind.AssignmentExpression assignment.Assign) n m a ks = refl
+same_known (Kind.AssignmentExpression o) n m a ks = refl
+same_known k n m a ks = refl
 
-of_binary : (o : BinaryOperator) (n : Note) (t : Forest) → are_literals t ≡ true
-    → value_of bare_answers (alone (binary_expression o) nowhere (bare t)) ≡ value_of bare_answers (alone (binary_expression o) n t)
-of_binary o n t h =
-    let ks = knowns bare_answers (bare t) in
-    ap₂ (λ x y. value (binary_known o x y (known_at 0 ks) (known_at 1 ks))) (text_bare 0 t h) (text_bare 1 t h)
-    ∙ ap (λ js. value (binary_known o (text_of (inner_at 0 t)) (text_of (inner_at 1 t)) (known_at 0 js) (known_at 1 js))) (knowns_bare t h)
+knowns_bare : (t : Forest) → knowns bare_answers (bare t) ≡ knowns bare_answers t
+knowns_bare nothing = refl
+knowns_bare (absent r) = ap (λ (ks : List Known). unknown ∷ ks) (knowns_bare r)
+knowns_bare (node k n a r) =
+    ap₂ (λ (j : Known) (ks : List Known). j ∷ ks) (ap (known_from bare_answers k nowhere (bare a)) (knowns_bare a) ∙ same_known k nowhere n a (knowns bare_answers a)) (knowns_bare r)
 
-where_all : (b : Bool) (x y : Option LiteralValue) → (b ≡ true → x ≡ y) → (if b then x else None) ≡ (if b then y else None)
-where_all true x y same = same refl
-where_all false x y same = refl
+value_bare : (k : Kind) (n : Note) (t : Forest) → value_of bare_answers (alone k nowhere (bare t)) ≡ value_of bare_answers (alone k n t)
+value_bare k n t = ap value (ap (known_from bare_answers k nowhere (bare t)) (knowns_bare t) ∙ same_known k nowhere n t (knowns bare_answers t))
+
+-- ---- the literal
+
+operand_bare : (t : Forest) → has_operand (bare t) ≡ has_operand t
+operand_bare nothing = refl
+operand_bare (absent r) = refl
+operand_bare (node k n a r) = refl
 
 known_bare : (k : Kind) (n : Note) (t : Forest) → known_literal k nowhere (bare t) ≡ known_literal k n t
 known_bare (unary_expression o) n t =
-    ap (λ b. if b then as_literal (value_of bare_answers (alone (unary_expression o) nowhere (bare t))) else None) (literals_bare t) ∙ where_all (are_literals t) _ _ (λ h. ap as_literal (of_unary o n t h))
-known_bare (binary_expression o) n t =
-    ap (λ b. if b then as_literal (value_of bare_answers (alone (binary_expression o) nowhere (bare t))) else None) (literals_bare t) ∙ where_all (are_literals t) _ _ (λ h. ap as_literal (of_binary o n t h))
+    ap₂ (λ (b : Bool) v. if b then None else as_literal v) (ap₂ (λ (b c : Bool). b || not c) (acts_bare (unary_expression o) n t) (operand_bare t)) (value_bare (unary_expression o) n t)
+known_bare (binary_expression o) n t = ap₂ (λ (b : Bool) v. if b then None else as_literal v) (acts_bare (binary_expression o) n t) (value_bare (binary_expression o) n t)
 known_bare k n t = refl
 
 pub known_as : (k : Kind) (n m : Note) (f g : Forest) (v : LiteralValue) → bare f ≡ bare g → known_literal k m g ≡ Some v → known_literal k n f ≡ Some v

@@ -57,6 +57,20 @@ gives_with {P} {Q} {m} {k} h g = ends_bind h after
     after (continues o) w = ends_unknown
     after (returns v) w = ends_unknown
 
+-- whatever value it is
+pub ends_with : {W : Completion → Type 0} (m : M) (k : Value → M) → ((v : Value) → Ends W (k v)) → ((v : Value) → W (throws v)) → Ends W (with_value m k)
+ends_with {W} m k h thrown = ends_bind (ends_any m) after
+  where
+    after : (c : Completion) → Unit {0} → Ends W (if_gives (λ v r. k v) c)
+    after (gives v r) w = h v
+    after (throws v) w = ends_done (throws v) (thrown v)
+    after normal w = ends_unknown
+    after (gives_all vs) w = ends_unknown
+    after (refers p) w = ends_unknown
+    after (breaks o) w = ends_unknown
+    after (continues o) w = ends_unknown
+    after (returns v) w = ends_unknown
+
 so_some : (o : Out) → IsSo (OfValue (λ v. Unit {0})) o
 so_some (goes es s (gives v r)) = tt
 so_some (goes es s normal) = tt

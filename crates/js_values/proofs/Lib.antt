@@ -4,3 +4,4 @@ pub mod Operators
 pub mod Binary
 pub mod Told
 pub mod Values
+pub mod Plain

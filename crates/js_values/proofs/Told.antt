@@ -188,7 +188,7 @@ object_true (object i c) e = refl
 object_true (array i c) e = refl
 object_true (error i e) x = refl
 
-need_any : {W : Completion → Type 0} {k : Meaning → Parts → M} (ms : Parts) → ((m : Meaning) (r : Parts) → Ends W (k m r)) → Ends W (need ms k)
+pub need_any : {W : Completion → Type 0} {k : Meaning → Parts → M} (ms : Parts) → ((m : Meaning) (r : Parts) → Ends W (k m r)) → Ends W (need ms k)
 unfolding need
 need_any [] h = ends_unknown
 need_any (None ∷ ms) h = ends_unknown

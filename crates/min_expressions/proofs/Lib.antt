@@ -8,5 +8,4 @@ pub mod Sided
 pub mod Sequences
 pub mod TwoSides
 pub mod Objects
-pub mod Operations
 pub mod Pairing

@@ -235,8 +235,8 @@ impl PeepholeOptimizations {
         }
     }
 
-    /// An operation on literals becomes a literal of its value, as `1 + 2` becomes `3`, as far as that is known. It fails only for want
-    /// of memory; then all is as it was.
+    /// An operation that doesn't act becomes a literal of its value, as `1 + 2` becomes `3`, as far as that is known. It fails only for
+    /// want of memory; then all is as it was.
     pub fn fold_known_operation(
         node: &mut Node,
         ctx: &mut MinifierTraverseCtx,

@@ -10,8 +10,8 @@
 //! A conditional of which nobody takes the value and one branch alone acts becomes `test && consequent` or `test || alternate`
 //! (`fold_one_sided_choice`), and of any sequence the parts leave that don't act, but the last (`remove_sequence_expression`).
 //! A comparison of which nobody takes the value and both sides act becomes a sequence of these (`fold_two_sides`), and of an object
-//! literal of which nobody takes the value the values stay that act (`remove_unused_object`). An operation on literals becomes a
-//! literal of its value, as far as that is known (`fold_known_operation`).
+//! literal of which nobody takes the value the values stay that act (`remove_unused_object`). An operation that doesn't
+//! act becomes a literal of its value, as far as that is known (`fold_known_operation`).
 //! What comes out is moved to where the whole stood, a sequence is made of the vectors that are there, and the context is told of all
 //! that leaves, and of nothing else. Only a new zero, the row of a new list and a value that is worked out take memory, before anything
 //! is touched. Three calls answer what rules ask: whether an expression, or the object of a member that is assigned, may refer to

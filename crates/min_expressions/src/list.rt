@@ -51,7 +51,7 @@ fn has_spread(parts: &[Option<Node>]) -> bool
     false
 }
 
-fn is_list(kind: &NodeKind) -> bool
+pub(crate) fn is_list(kind: &NodeKind) -> bool
     ensures { result ≡ is_list kind.now }
 {
     match kind {

@@ -1,5 +1,5 @@
-// An operation on literals of which the value is known.
-ghost use Rattle.std.specs.Prelude.{◌≡◌, [], ◌∷◌, not, Some, true, IfOk};
+// An operation of which the value is known.
+ghost use Rattle.std.specs.Prelude.{◌≡◌, Some, true, IfOk};
 ghost use Rattle.js_syntax.specs.declared.node_kind.NodeKind.TheVariants.{Literal as literal};
 ghost use Rattle.js_syntax.specs.Node.{row, nothing, forest_of};
 ghost use Rattle.js_effects.specs.declared.value.ConstantValue.TheVariants.{Number};
@@ -9,41 +9,21 @@ ghost use Rattle.min_context.specs.Edited.{Edited};
 ghost use Rattle.steps_allowed.specs.KnownOperation as known;
 ghost use Rattle.rules_expressions.specs.Lists.{new_note};
 
-use crate::known::literal_in;
+use crate::list::is_list;
+use crate::unused::acts;
 use js_effects::{BareContext, ConstantValue, evaluate_value};
 use js_syntax::{LiteralValue, NodeKind};
 use js_tree::Node;
 use min_context::MinifierTraverseCtx;
 use std::alloc::{AllocError, Global};
 
-// ---- whether all operands are literals
-
-#[tactic(auto, using(crate::proofs::Operations::literal_there))]
-fn is_literal(node: &Node) -> bool
-    ensures { result ≡ known.is_literal node.now.kind node.now.below }
+fn has_operand(operands: &[Option<Node>]) -> bool
+    ensures { result ≡ known.has_operand (row operands.now) }
 {
-    literal_in(node).is_some()
-}
-
-#[tactic(auto, using(crate::proofs::Operations::other_is))]
-fn is_other(item: &Option<Node>) -> bool
-    ensures { result ≡ not (known.are_literals (row (item.now ∷ []))) }
-{
-    match item {
-        Some(node) => !is_literal(node),
-        None => true,
+    match operands.first() {
+        Some(Some(operand)) => !is_list(operand.kind()),
+        _ => false,
     }
-}
-
-fn are_literals(operands: &[Option<Node>]) -> bool
-    ensures { result ≡ known.are_literals (row operands.now) }
-{
-    for operand in operands {
-        if is_other(operand) {
-            return false;
-        }
-    }
-    true
 }
 
 // ---- the literal of a value
@@ -87,23 +67,23 @@ fn known_value(node: &Node, alloc: Global) -> Result<Option<LiteralValue>, Alloc
     }
 }
 
-// The operator is asked first, then the operands, so that a value is asked of small trees alone.
+// The operator is asked first, then whether the operation acts, so that values are asked of what does nothing else.
 pub(crate) fn known_literal(node: &Node, alloc: Global) -> Result<Option<LiteralValue>, AllocError>
     ensures { IfOk result (λ v. v ≡ known.known_literal node.now.kind node.now.note node.now.below) }
 {
     match node.kind() {
         NodeKind::UnaryExpression(_) => {
-            if are_literals(node.children()) {
-                known_value(node, alloc)
-            } else {
+            if acts(node) || !has_operand(node.children()) {
                 Ok(None)
+            } else {
+                known_value(node, alloc)
             }
         }
         NodeKind::BinaryExpression(_) => {
-            if are_literals(node.children()) {
-                known_value(node, alloc)
-            } else {
+            if acts(node) {
                 Ok(None)
+            } else {
+                known_value(node, alloc)
             }
         }
         _ => Ok(None),

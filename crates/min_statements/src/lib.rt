@@ -3,7 +3,7 @@
 //! `Statements` is the walker (min_traverse): behind a list it takes out what rules_dead_code says goes of it (`trim_statements`),
 //! behind a silent statement elsewhere it leaves an empty one (`empty_statement`), behind an expression that decides by a literal
 //! the part that counts, alone or behind a zero, behind an operation of which nobody takes the value the operands that act, behind such
-//! an array, object or sequence its parts that act, and behind an operation on literals its value (min_expressions). Each call does
+//! an array, object or sequence its parts that act, and behind an operation that doesn't act its value (min_expressions). Each call does
 //! exactly what its rule says, marks what left before it is let go, and touches nothing where nothing goes. `walk_statements` is one
 //! pass over a program: what is left comes by edits that a dead code remover may make (steps_allowed), what was known of the program
 //! (`Knows`) is known of what is left, and where no other pass is asked for, nothing of it goes (`IsQuiet` of rules_dead_code) or comes

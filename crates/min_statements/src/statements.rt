@@ -18,7 +18,7 @@ use std::marker::Model;
 
 /// Takes dead code out of lists of statements, empties silent statements elsewhere, and lets expressions that decide by a literal
 /// come to the part that counts, alone or behind a zero, operations, arrays, objects and sequences of which nobody takes the value to
-/// what of them acts, and operations on literals to their values.
+/// what of them acts, and operations that don't act to their values.
 pub struct Statements {
     // Of each reference by its id, whether it has a symbol: this stays through a run.
     bound: Vec<bool>,

@@ -1,19 +1,23 @@
--- What becomes of operations on literals of which the value is known.
-use Rattle.std.proofs.Common.{◌≡◌, ◌+◌, ◌≤◌, zero, suc, pos, negsuc, [], ◌∷◌, Bool, true, false, Option, Some, None, if◌then◌else◌, refl, ap, subst, arith}
+-- What becomes of operations of which the value is known.
+use Rattle.std.proofs.Common.{◌≡◌, ◌+◌, ◌≤◌, zero, suc, pos, negsuc, [], ◌∷◌, Bool, true, false, not, ◌||◌, Option, Some, None, if◌then◌else◌, refl, sym, ap, subst, arith, true≢false}
 use Rattle.js_syntax.specs.declared.node_kind.NodeKind.{NodeKind as Kind}
 use Rattle.js_syntax.specs.declared.node_kind.NodeKind.TheVariants.{Literal as literal, UnaryExpression as unary_expression, BinaryExpression as binary_expression}
 use Rattle.js_syntax.specs.declared.operator.UnaryOperator.{UnaryOperator}
-use Rattle.js_syntax.specs.declared.operator.UnaryOperator.TheVariants as unary
 use Rattle.js_syntax.specs.declared.value.LiteralValue.{LiteralValue}
 use Rattle.js_syntax.specs.declared.value.LiteralValue.TheVariants as value
 use Rattle.js_syntax.specs.Facts.{weight}
 use Rattle.js_syntax.specs.Node.{Forest, Tree, Note, nothing, node, absent, alone, bare, forest_of, total}
+use Rattle.js_syntax.proofs.Truth.{first_of_neither}
+use Rattle.js_tree.specs.Walk.{is_list}
 use Rattle.js_effects.specs.Answers.{bare_answers}
+use Rattle.js_effects.specs.Silence.{runs_its_parts, has_effect, may_have_effects}
 use Rattle.js_effects.specs.Values.{value_of}
 use Rattle.scope_laws.specs.Place as places
-use Rattle.steps_allowed.specs.KnownOperation.{are_literals, as_literal, known_literal, KnownOperation, value_is_known}
+use Rattle.steps_allowed.specs.KnownOperation.{has_operand, as_literal, known_literal, KnownOperation, value_is_known}
+use Rattle.steps_allowed.specs.UnusedOperation.{acts}
 use Rattle.rules_expressions.specs.Lists.{new_note}
 use Rattle.rules_expressions.specs.Operations.{literal_there, known_becomes}
+use Rattle.rules_expressions.proofs.Lists.{idle_weighs}
 use Rattle.rules_expressions.proofs.Becoming.{no_answer, same_answer, IsLess}
 
 -- ---- an answer is a literal of the value
@@ -44,9 +48,6 @@ known_answers a _ _ (value_is_known i v x known) =
 no_literal : {P : Type 0} {v : LiteralValue} → None ≡ Some v → P
 no_literal e = absurd Prim.cc
 
-not_literals : {P : Type 0} → false ≡ true → P
-not_literals e = absurd Prim.cc
-
 record IsFew (v : LiteralValue) : Type 0 where
   least : 1 ≤ weight (literal v)
   most : weight (literal v) ≤ 4
@@ -61,43 +62,43 @@ few (value.Number (negsuc n)) = record { least = Prim.omega arith; most = Prim.o
 few (value.Text []) = record { least = Prim.omega arith; most = Prim.omega arith }
 few (value.Text (c ∷ cs)) = record { least = Prim.omega arith; most = Prim.omega arith }
 
--- without an operand there is no value
-of_nothing : (o : UnaryOperator) (n : Note) (v : LiteralValue) → as_literal (value_of bare_answers (alone (unary_expression o) n nothing)) ≡ Some v → 1 ≤ 0
-of_nothing unary.LogicalNot n v e = no_literal e
-of_nothing unary.UnaryNegation n v e = no_literal e
-of_nothing unary.UnaryPlus n v e = no_literal e
-of_nothing unary.BitwiseNot n v e = no_literal e
-of_nothing unary.Typeof n v e = no_literal e
-of_nothing unary.Void n v e = no_literal e
-of_nothing unary.Delete n v e = no_literal e
+-- what doesn't act itself weighs something, if it is no list
+idle_parts : (r b : Bool) → (not r || b) ≡ false → b ≡ false
+idle_parts true b e = e
+idle_parts false b e = absurd (true≢false e)
 
-of_absent : (o : UnaryOperator) (n : Note) (rest : Forest) (v : LiteralValue) → as_literal (value_of bare_answers (alone (unary_expression o) n (absent rest))) ≡ Some v → 1 ≤ total weight rest
-of_absent unary.LogicalNot n rest v e = no_literal e
-of_absent unary.UnaryNegation n rest v e = no_literal e
-of_absent unary.UnaryPlus n rest v e = no_literal e
-of_absent unary.BitwiseNot n rest v e = no_literal e
-of_absent unary.Typeof n rest v e = no_literal e
-of_absent unary.Void n rest v e = no_literal e
-of_absent unary.Delete n rest v e = no_literal e
-
-operand_weighs : (o : UnaryOperator) (n : Note) (operand : Forest) (v : LiteralValue) → are_literals operand ≡ true → as_literal (value_of bare_answers (alone (unary_expression o) n operand)) ≡ Some v → 1 ≤ total weight operand
-operand_weighs o n nothing v all e = of_nothing o n v e
-operand_weighs o n (absent rest) v all e = of_absent o n rest v e
-operand_weighs o n (node (literal w) m nothing rest) v all e = Prim.omega (arith, (few w).least)
-operand_weighs o n (node k m below rest) v all e = not_literals all
+operand_weighs : (o : UnaryOperator) (n : Note) (operand : Forest) → acts (unary_expression o) n operand ≡ false → has_operand operand ≡ true → 1 ≤ total weight operand
+operand_weighs o n (node k m a rest) idle some =
+    let whole = first_of_neither (has_effect [] true (unary_expression o) n (node k m a rest) (may_have_effects [] true (node k m a rest))) false idle in
+    let parts = idle_parts (runs_its_parts (unary_expression o) (node k m a rest)) (may_have_effects [] true (node k m a rest)) whole in
+    let first = first_of_neither (has_effect [] true k m a (may_have_effects [] true a)) (may_have_effects [] true rest) parts in
+    Prim.omega (arith, idle_weighs k m a (neither_so (has_effect [] true k m a (may_have_effects [] true a)) (is_list k) first some))
+  where
+    neither_so : (b c : Bool) → b ≡ false → not c ≡ true → ((b || false) || c) ≡ false
+    neither_so true c e f = absurd (true≢false e)
+    neither_so false true e f = absurd (true≢false (sym f))
+    neither_so false false e f = refl
+operand_weighs o n nothing idle some = absurd (true≢false (sym some))
+operand_weighs o n (absent rest) idle some = absurd (true≢false (sym some))
 
 record IsAllowed (b : Bool) (o : Option LiteralValue) (v : LiteralValue) : Type 0 where
-  holds : b ≡ true
+  holds : b ≡ false
   answers : o ≡ Some v
 
-allowed : (b : Bool) (o : Option LiteralValue) (v : LiteralValue) → (if b then o else None) ≡ Some v → IsAllowed b o v
-allowed true o v e = record { holds = refl; answers = e }
-allowed false o v e = no_literal e
+allowed : (b : Bool) (o : Option LiteralValue) (v : LiteralValue) → (if b then None else o) ≡ Some v → IsAllowed b o v
+allowed true o v e = no_literal e
+allowed false o v e = record { holds = refl; answers = e }
+
+both_so : (a b : Bool) → (a || not b) ≡ false → (a ≡ false) × (b ≡ true)
+both_so true b e = absurd (true≢false e)
+both_so false true e = (refl, refl)
+both_so false false e = absurd (true≢false e)
 
 operation_weighs : (k : Kind) (n : Note) (parts : Forest) (v : LiteralValue) → known_literal k n parts ≡ Some v → 5 ≤ weight k + total weight parts
 operation_weighs (unary_expression o) n parts v e =
-    let h = allowed (are_literals parts) (as_literal (value_of bare_answers (alone (unary_expression o) n parts))) v e in
-    Prim.omega (arith, operand_weighs o n parts v h.holds h.answers)
+    let h = allowed (acts (unary_expression o) n parts || not (has_operand parts)) (as_literal (value_of bare_answers (alone (unary_expression o) n parts))) v e in
+    let g = both_so (acts (unary_expression o) n parts) (has_operand parts) h.holds in
+    Prim.omega (arith, operand_weighs o n parts g.0 g.1)
 operation_weighs (binary_expression o) n parts v e = Prim.omega arith
 operation_weighs k n parts v e = no_literal e
 

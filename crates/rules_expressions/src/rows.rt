@@ -139,7 +139,7 @@ pub fn objects_that_stay()
     ensures prototype { left_of (object (keyed (codes "__proto__") (calls (reads a)) ∷ [])) ≡ doing (object (keyed (codes "__proto__") (calls (reads a)) ∷ [])) }
 {}
 
-/// An operation on literals becomes a literal of its value, and what it stands in becomes what it does on that literal, by one walk.
+/// An operation becomes a literal of its value, and what it stands in becomes what it does on that literal, by one walk.
 pub fn known_values_left()
     ensures negated { left_of (uses (unary unary_operator.LogicalNot (number 0))) ≡ doing (uses (truth true)) }
     ensures type_name { left_of (uses (unary unary_operator.Typeof (number 1))) ≡ doing (uses (word (codes "number"))) }
@@ -152,7 +152,7 @@ pub fn known_values_left()
 
 /// It stays where no literal has its value: a negative number is written with an operator again, and `undefined` is a name. It stays
 /// where the value isn't known, as a fraction, and where a number is joined to a text.
-pub fn operations_on_literals_that_stay()
+pub fn operations_without_a_literal()
     ensures negative { left_of (uses (unary unary_operator.UnaryNegation (number 1))) ≡ doing (uses (unary unary_operator.UnaryNegation (number 1))) }
     ensures mixed { left_of (uses (binary binary_operator.Addition (word a) (number 1))) ≡ doing (uses (binary binary_operator.Addition (word a) (number 1))) }
     ensures fraction { left_of (uses (binary binary_operator.Division (number 1) (number 2))) ≡ doing (uses (binary binary_operator.Division (number 1) (number 2))) }

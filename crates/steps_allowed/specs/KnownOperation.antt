@@ -1,5 +1,5 @@
--- An operation on literals of which the value is known becomes a literal of it (ECMA-262 13.5 to 13.11).
-use Rattle.std.specs.Prelude.{◌≡◌, pos, negsuc, Bool, true, false, ◌&&◌, Option, Some, None, if◌then◌else◌}
+-- An operation of which the value is known, and which does nothing but give it, becomes a literal of it (ECMA-262 13.5 to 13.11).
+use Rattle.std.specs.Prelude.{◌≡◌, pos, negsuc, Bool, true, false, not, ◌||◌, Option, Some, None, if◌then◌else◌}
 use Rattle.js_syntax.specs.declared.node_kind.NodeKind.{NodeKind as Kind}
 use Rattle.js_syntax.specs.declared.node_kind.NodeKind.TheVariants.{Literal as literal, UnaryExpression as unary_expression, BinaryExpression as binary_expression}
 use Rattle.js_syntax.specs.declared.value.LiteralValue.{LiteralValue}
@@ -10,16 +10,9 @@ use Rattle.js_effects.specs.declared.value.ConstantValue.TheVariants.{Number, Te
 -- the value of an expression, as far as its form tells
 use Rattle.js_effects.specs.Answers.{bare_answers}
 use Rattle.js_effects.specs.Values.{value_of}
+use Rattle.js_tree.specs.Walk.{is_list}
 use Rattle.scope_laws.specs.Place.{Around}
-
-abbrev pub is_literal : Kind → (below : Forest) → Bool
-is_literal (literal v) nothing = true
-is_literal k below = false
-
-abbrev pub are_literals : (operands : Forest) → Bool
-are_literals nothing = true
-are_literals (absent rest) = false
-are_literals (node k n below rest) = is_literal k below && are_literals rest
+use Rattle.steps_allowed.specs.UnusedOperation.{acts}
 
 -- as a literal: a negative number would be written with an operator again, and undefined has no literal
 abbrev pub as_literal : Option ConstantValue → Option LiteralValue
@@ -31,9 +24,15 @@ as_literal (Some Null) = Some value.Null
 as_literal (Some Undefined) = None
 as_literal None = None
 
+-- an operand weighs something, if it is no list
+abbrev pub has_operand : (below : Forest) → Bool
+has_operand (node k n a rest) = not (is_list k)
+has_operand below = false
+
+-- of an operation that doesn't act, wherever it stands: nothing is known of names there
 abbrev pub known_literal : Kind → Note → (below : Forest) → Option LiteralValue
-known_literal (unary_expression o) n below = if are_literals below then as_literal (value_of bare_answers (alone (unary_expression o) n below)) else None
-known_literal (binary_expression o) n below = if are_literals below then as_literal (value_of bare_answers (alone (binary_expression o) n below)) else None
+known_literal (unary_expression o) n below = if acts (unary_expression o) n below || not (has_operand below) then None else as_literal (value_of bare_answers (alone (unary_expression o) n below))
+known_literal (binary_expression o) n below = if acts (binary_expression o) n below then None else as_literal (value_of bare_answers (alone (binary_expression o) n below))
 known_literal k n below = None
 
 pub data KnownOperation (a : Around) : (x y : Tree) → Type 0 where

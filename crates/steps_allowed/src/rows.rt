@@ -209,7 +209,7 @@ pub fn other_objects_stay()
     ensures spread { ObjectStays statement (object (spread (reads a) ∷ [])) }
 {}
 
-/// An operation on literals of which the value is known becomes a literal of it.
+/// An operation of which the value is known becomes a literal of it.
 pub fn known_operations_become_literals()
     ensures negation { Edit (placed argument (applied unary.LogicalNot (literal (value.Number (pos 0))))) (placed argument (literal (value.Boolean true))) }
     ensures type_name { Edit (placed argument (applied unary.Typeof one)) (placed argument (literal (value.Text (codes "number")))) }
@@ -218,8 +218,8 @@ pub fn known_operations_become_literals()
     ensures comparison { Edit (placed argument (operation binary.LessThan (value.Number (pos 1)) (value.Number (pos 2)))) (placed argument (literal (value.Boolean true))) }
 {}
 
-/// It stays where that is a negative number, where it is no whole number, where a number is joined to a text, and where an operand is no
-/// literal.
+/// It stays where that is a negative number, where it is no whole number, where a number is joined to a text, and where the operand is a
+/// name.
 pub fn other_operations_stay()
     ensures negative { OperationStays argument (applied unary.UnaryNegation one) }
     ensures fraction { OperationStays argument (operation binary.Division (value.Number (pos 1)) (value.Number (pos 2))) }

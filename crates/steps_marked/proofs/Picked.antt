@@ -190,11 +190,11 @@ object_picks n m k a y is = absurd cc
 pub unused_object_picks : (a : Around) (x y : Tree) → UnusedObject a x y → Picks x.kind x.below y.kind y.below
 unused_object_picks a _ _ (acting_values_stay n m x y unused is) = object_picks n m x.kind x.below y is
 
--- ---- the value of an operation on literals
+-- ---- the value of an operation
 
-known_picks : {k : Kind} {below : Forest} {w : LiteralValue} → Operation k below w → IsSmall w → Picks k below (literal w) nothing
-known_picks (on_one o v p rest w is) small = known (unary_expression o) (node (literal v) p nothing rest) w refl small
-known_picks (on_two o n below w are is) small = known (binary_expression o) below w refl small
+known_picks : {k : Kind} {n : Note} {below : Forest} {w : LiteralValue} → Operation k n below w → IsSmall w → Picks k below (literal w) nothing
+known_picks (on_one o n below w idle some is) small = known (unary_expression o) below w refl small
+known_picks (on_two o n below w idle is) small = known (binary_expression o) below w refl small
 
 pub known_operation_picks : (a : Around) (x y : Tree) → KnownOperation a x y → Picks x.kind x.below y.kind y.below
 known_operation_picks a x _ (value_is_known i w _ is) = let operation = is_operation_known x.kind x.note x.below w is in known_picks operation (value_small operation)

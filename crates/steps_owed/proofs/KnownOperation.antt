@@ -1,45 +1,56 @@
--- What an operation on literals owes of which the value is known, and which becomes a literal of it.
+-- What an operation owes of which the value is known and which doesn't act, and which becomes a literal of it.
 use Rattle.std.specs.Prelude.{◌^◌, nat_lt}
-use Rattle.std.proofs.Common.{◌≡◌, ◌∙◌, ◌≤◌, ℕ, zero, suc, pos, negsuc, [], ◌∷◌, Bool, true, false, ◌&&◌, Some, None, if◌then◌else◌, arith, refl, sym, subst}
+use Rattle.std.proofs.Common.{◌≡◌, ◌≤◌, ℕ, zero, suc, pos, negsuc, [], ◌∷◌, Bool, true, false, not, ◌||◌, Option, Some, None, if◌then◌else◌, arith, refl, sym, ap, subst, true≢false}
 use Rattle.js_syntax.specs.Class.{Class, root, expression}
 use Rattle.js_syntax.specs.Core.{value_weight, is_core_unary, is_core_binary}
+use Rattle.js_syntax.specs.Facts.{weight}
 use Rattle.js_syntax.specs.declared.node_kind.NodeKind.{NodeKind as Kind}
 use Rattle.js_syntax.specs.declared.node_kind.NodeKind.TheVariants.{Literal as literal, UnaryExpression as unary_expression, BinaryExpression as binary_expression}
 use Rattle.js_syntax.specs.declared.operator.UnaryOperator.{UnaryOperator}
-use Rattle.js_syntax.specs.declared.operator.UnaryOperator.TheVariants as unary
 use Rattle.js_syntax.specs.declared.operator.BinaryOperator.{BinaryOperator}
 use Rattle.js_syntax.specs.declared.operator.BinaryOperator.TheVariants as binary
 use Rattle.js_syntax.specs.declared.value.LiteralValue.{LiteralValue}
 use Rattle.js_syntax.specs.declared.value.LiteralValue.TheVariants as value
-use Rattle.js_syntax.specs.Node.{Note, Forest, Tree, nothing, node, absent, alone}
+use Rattle.js_syntax.specs.Node.{Note, Forest, Tree, nothing, node, absent, alone, total}
 use Rattle.js_syntax.specs.Table.{a_literal, a_unary_expression, a_binary_expression}
-use Rattle.js_syntax.proofs.Truth.{first_of_both, second_of_both}
+use Rattle.js_syntax.proofs.Truth.{first_of_neither}
+use Rattle.js_tree.specs.Walk.{is_list}
 use Rattle.js_effects.specs.declared.value.ConstantValue.TheVariants as constant
-use Rattle.js_effects.specs.declared.value.ValueType.TheVariants as type
+use Rattle.js_effects.specs.declared.value.ValueType.{ValueType}
 use Rattle.js_effects.specs.Answers.{bare_answers}
-use Rattle.js_effects.specs.Kinds.{literal_type}
-use Rattle.js_effects.specs.Values.{Known, exactly, unknown as not_known, value as value_known, value_of, literal_constant, unary_known, on_known_numbers}
+use Rattle.js_effects.specs.Silence.{runs_its_parts, has_effect, may_have_effects}
+use Rattle.js_effects.specs.Values.{Known, exactly, unknown as not_known, value as value_known, value_of, on_known_numbers}
+use Rattle.js_effects_quiet.specs.Quiet as quiet
+use Rattle.js_effects_quiet.specs.Silent.{QuietNode}
+use Rattle.js_effects_quiet.proofs.Silent.{quiet_node}
+use Rattle.js_values.specs.Gives.{OfValue, IsSo, Ends, Gives}
+use Rattle.js_values.specs.Told.{Is, IsTold}
+use Rattle.js_values.proofs.Gives.{ends_unknown, ends_with}
+use Rattle.js_values.proofs.Plain.{plain_unary, plain_binary}
+use Rattle.js_values.proofs.Told.{need_any}
+use Rattle.js_values.proofs.Values.{told_by_form}
 use Rattle.js_rebuilt.specs.Rebuilt.{MayBeBuilt, ends, leaves, built}
-use Rattle.js_meaning.specs.Value.{Env, literal_value}
-use Rattle.js_meaning.specs.State.{M, State, stop, give, unknown}
+use Rattle.js_meaning.specs.Value.{Env, Value, undef, literal_value}
+use Rattle.js_meaning.specs.State.{M, State, Completion, normal, gives, gives_all, refers, breaks, continues, returns, throws, Out, goes, stop, done, give, unknown}
 use Rattle.js_meaning.specs.Host.{Enter}
-use Rattle.js_meaning.specs.Node.{Ask, value as asks_value, Meaning, need}
+use Rattle.js_meaning.specs.Node.{Wanted, Ask, value as asks_value, now, Meaning}
 use Rattle.js_meaning.specs.Operator.{unary_of}
-use Rattle.js_meaning.specs.Expression.{binary_value}
+use Rattle.js_meaning.specs.Expression.{wanted_by, binary_value}
 use Rattle.js_meaning.specs.Meaning.{if_core, does, eval}
 use Rattle.js_meaning_near.specs.Names.{Names}
 use Rattle.js_meaning_near.specs.Near.{meaning, module_of, ComesTo}
 use Rattle.js_meaning_near.specs.Local.{for_part}
 use Rattle.js_meaning_near.specs.Purpose.{Purpose}
-use Rattle.js_meaning_near.specs.Quiet.{OnlyAllocates, goes_on_as, stops_before, Leads}
-use Rattle.js_meaning_near.proofs.Branches.{given_is}
+use Rattle.js_meaning_near.specs.Quiet.{OnlyAllocates, LeadsFrom, goes_on_as, stops_before, Leads}
 use Rattle.json_shape.specs.Shape.{is_in, one as one_place, these, Fits}
 use Rattle.form_rules.specs.Form.{IsWellFormed}
 use Rattle.form_rules.specs.Break.{unless}
 use Rattle.scope_laws.specs.Place.{Around, plug}
 use Rattle.scope_laws.proofs.Bindings.{same_value}
 use Rattle.steps.specs.Steps.{all_core}
-use Rattle.steps_allowed.specs.KnownOperation.{is_literal, are_literals, as_literal, known_literal, KnownOperation, value_is_known}
+use Rattle.steps.proofs.Silent.{silent_row}
+use Rattle.steps_allowed.specs.KnownOperation.{as_literal, has_operand, known_literal, KnownOperation, value_is_known}
+use Rattle.steps_allowed.specs.UnusedOperation.{acts}
 use Rattle.steps_allowed.specs.Wanted.{wanted_at}
 use Rattle.steps_fit.proofs.CoreCalm.{nameless_as_planned}
 use Rattle.steps_fit.proofs.Held.{core_below}
@@ -50,39 +61,38 @@ use Rattle.steps_owed.proofs.ChoiceParts.{Two, operand_of_unary, sides_of_binary
 use Rattle.steps_owed.proofs.ChoiceRuns.{core_there, no_imports_below}
 use Rattle.steps_owed.proofs.FitsTaking.{as_unary, unary_stood, as_binary, binary_stood}
 use Rattle.steps_owed.proofs.KnownSizes.{IsSmall, unary_small, binary_small}
-use Rattle.steps_owed.proofs.KnownValues.{Gives, unary_gives, of_both, binary_gives}
+use Rattle.steps_owed.proofs.SilentAnywhere.{row_is_idle}
 use Rattle.steps_owed.proofs.Undeclared.{DeclaresNothing, both_plainly}
+use Rattle.steps_owed.proofs.UnusedList.{idle_weighs}
 
 abbrev tree : Kind → Note → (below : Forest) → Tree
 tree k n below = record { kind = k; note = n; below = below }
 
--- ---- an operation on literals, and the value that is known of it
+-- ---- an operation that doesn't act, and the value that is known of it
 
-pub data Operation : Kind → (below : Forest) → LiteralValue → Type 0 where
-  on_one : (o : UnaryOperator) (v : LiteralValue) (p : Note) (rest : Forest) (w : LiteralValue) → as_literal (value_known (unary_known o (literal_type v) (exactly (literal_constant v)))) ≡ Some w → Operation (unary_expression o) (node (literal v) p nothing rest) w
-  on_two : (o : BinaryOperator) (n : Note) (below : Forest) (w : LiteralValue) → are_literals below ≡ true → as_literal (value_of bare_answers (alone (binary_expression o) n below)) ≡ Some w → Operation (binary_expression o) below w
+pub data Operation : Kind → Note → (below : Forest) → LiteralValue → Type 0 where
+  on_one : (o : UnaryOperator) (n : Note) (below : Forest) (w : LiteralValue) → acts (unary_expression o) n below ≡ false → has_operand below ≡ true → as_literal (value_of bare_answers (alone (unary_expression o) n below)) ≡ Some w → Operation (unary_expression o) n below w
+  on_two : (o : BinaryOperator) (n : Note) (below : Forest) (w : LiteralValue) → acts (binary_expression o) n below ≡ false → as_literal (value_of bare_answers (alone (binary_expression o) n below)) ≡ Some w → Operation (binary_expression o) n below w
 
--- of no operand no value is known
-no_operand : (o : UnaryOperator) (w : LiteralValue) → as_literal (value_known (unary_known o type.Undetermined not_known)) ≡ Some w → ⊥
-no_operand unary.Void w e = cc
-no_operand o w e = cc
+-- where something is known it isn't said that nothing is
+unless_some : (b : Bool) (o : Option LiteralValue) (w : LiteralValue) → (if b then None else o) ≡ Some w → (b ≡ false) × (o ≡ Some w)
+unless_some true o w e = absurd cc
+unless_some false o w e = (refl, e)
 
-of_literals : (k : Kind) (n : Note) (below : Forest) (w : LiteralValue) (b : Bool) → are_literals below ≡ b → known_literal k n below ≡ Some w → Operation k below w
-of_literals (unary_expression o) n nothing w b e is = absurd (no_operand o w is)
-of_literals (unary_expression o) n (node (literal v) p nothing rest) w b e is = each b e (subst (λ d. (if d then as_literal (value_known (unary_known o (literal_type v) (exactly (literal_constant v)))) else None) ≡ Some w) e is)
-  where
-    each : (b : Bool) → are_literals rest ≡ b → (if b then as_literal (value_known (unary_known o (literal_type v) (exactly (literal_constant v)))) else None) ≡ Some w → Operation (unary_expression o) (node (literal v) p nothing rest) w
-    each true e is = on_one o v p rest w is
-    each false e is = absurd cc
-of_literals (binary_expression o) n below w b e is = each b e (subst (λ d. (if d then as_literal (value_of bare_answers (alone (binary_expression o) n below)) else None) ≡ Some w) e is)
-  where
-    each : (b : Bool) → are_literals below ≡ b → (if b then as_literal (value_of bare_answers (alone (binary_expression o) n below)) else None) ≡ Some w → Operation (binary_expression o) below w
-    each true e is = on_two o n below w e is
-    each false e is = absurd cc
-of_literals k n below w b e is = absurd cc
+neither : (a b : Bool) → (a || not b) ≡ false → (a ≡ false) × (b ≡ true)
+neither true b e = absurd (true≢false e)
+neither false true e = (refl, refl)
+neither false false e = absurd (true≢false e)
 
-pub is_operation_known : (k : Kind) (n : Note) (below : Forest) (w : LiteralValue) → known_literal k n below ≡ Some w → Operation k below w
-is_operation_known k n below w is = of_literals k n below w (are_literals below) refl is
+pub is_operation_known : (k : Kind) (n : Note) (below : Forest) (w : LiteralValue) → known_literal k n below ≡ Some w → Operation k n below w
+is_operation_known (unary_expression o) n below w is =
+    let h = unless_some (acts (unary_expression o) n below || not (has_operand below)) (as_literal (value_of bare_answers (alone (unary_expression o) n below))) w is in
+    let g = neither (acts (unary_expression o) n below) (has_operand below) h.0 in
+    on_one o n below w g.0 g.1 h.1
+is_operation_known (binary_expression o) n below w is =
+    let h = unless_some (acts (binary_expression o) n below) (as_literal (value_of bare_answers (alone (binary_expression o) n below))) w is in
+    on_two o n below w h.0 h.1
+is_operation_known k n below w is = absurd cc
 
 -- of `in` no value is known
 in_is_not : (a b : Known) → on_known_numbers binary.In a b ≡ not_known
@@ -99,6 +109,24 @@ not_in binary.In n below w is = absurd (none (on_known_numbers binary.In _ _) (i
         no_value e = cc
 not_in o n below w is = refl
 
+abbrev is_instance : BinaryOperator → Bool
+is_instance binary.Instanceof = true
+is_instance o = false
+
+instance_is_not : (a b : Known) → on_known_numbers binary.Instanceof a b ≡ not_known
+instance_is_not (exactly (constant.Number a)) (exactly (constant.Number b)) = refl
+instance_is_not a b = refl
+
+not_instance : (o : BinaryOperator) (n : Note) (below : Forest) (w : LiteralValue) → as_literal (value_of bare_answers (alone (binary_expression o) n below)) ≡ Some w → is_instance o ≡ false
+not_instance binary.Instanceof n below w is = absurd (none (on_known_numbers binary.Instanceof _ _) (instance_is_not _ _) is)
+  where
+    none : (k : Known) → k ≡ not_known → as_literal (value_known k) ≡ Some w → ⊥
+    none k e is = no_value (subst (λ k. as_literal (value_known k) ≡ Some w) e is)
+      where
+        no_value : None ≡ Some w → ⊥
+        no_value e = cc
+not_instance o n below w is = refl
+
 -- ---- what it weighs
 
 at_most : (w : LiteralValue) → value_weight w ≤ 4
@@ -111,23 +139,35 @@ at_most (value.Text (c ∷ cs)) = Prim.omega arith
 at_most value.Null = Prim.omega arith
 at_most (value.Boolean b) = Prim.omega arith
 
-at_least : (w : LiteralValue) → 1 ≤ value_weight w
-at_least (value.Number (pos zero)) = Prim.omega arith
-at_least (value.Number (pos (suc zero))) = Prim.omega arith
-at_least (value.Number (pos (suc (suc n)))) = Prim.omega arith
-at_least (value.Number (negsuc n)) = Prim.omega arith
-at_least (value.Text []) = Prim.omega arith
-at_least (value.Text (c ∷ cs)) = Prim.omega arith
-at_least value.Null = Prim.omega arith
-at_least (value.Boolean b) = Prim.omega arith
+-- what doesn't act itself weighs something, if it is no list
+operand_idle : (o : UnaryOperator) (n : Note) (k : Kind) (i : Note) (a rest : Forest) → acts (unary_expression o) n (node k i a rest) ≡ false → acts k i a ≡ false
+operand_idle o n k i a rest e =
+    let below = node k i a rest in
+    let whole = first_of_neither (has_effect [] true (unary_expression o) n below (may_have_effects [] true below)) false e in
+    let parts = idle_below (runs_its_parts (unary_expression o) below) (may_have_effects [] true below) whole in
+    or_nothing (has_effect [] true k i a (may_have_effects [] true a)) (first_of_neither (has_effect [] true k i a (may_have_effects [] true a)) (may_have_effects [] true rest) parts)
+  where
+    idle_below : (r b : Bool) → (not r || b) ≡ false → b ≡ false
+    idle_below true b e = e
+    idle_below false b e = absurd (true≢false e)
+
+    or_nothing : (b : Bool) → b ≡ false → (b || false) ≡ false
+    or_nothing true e = e
+    or_nothing false e = refl
+
+operand_weighs : (o : UnaryOperator) (n : Note) (below : Forest) → acts (unary_expression o) n below ≡ false → has_operand below ≡ true → 1 ≤ total weight below
+operand_weighs o n (node k i a rest) idle is = let here = idle_weighs k i a (operand_idle o n k i a rest idle) (not_so (is_list k) is) in Prim.omega (arith, here)
+  where
+    not_so : (b : Bool) → not b ≡ true → b ≡ false
+    not_so true e = absurd (true≢false (sym e))
+    not_so false e = refl
+operand_weighs o n nothing idle is = absurd (true≢false (sym is))
+operand_weighs o n (absent rest) idle is = absurd (true≢false (sym is))
 
 -- ---- runs
 
 itself : (s : State) → OnlyAllocates s s
 itself s = record { budget = refl; fresh = Prim.omega arith; store = λ i h. refl; globals = λ x. refl; imports = λ x y. refl; shown = refl; moves = refl; exports = refl; stars = refl }
-
-leads_there : (m n : M) → m ≡ n → Leads m n
-leads_there m n e = subst (λ f. Leads f n) (sym e) (record { leads = λ s. goes_on_as (itself s) })
 
 unknown_leads : (m : M) → Leads unknown m
 unfolding stop
@@ -138,66 +178,84 @@ core_leads true m q env n h = h
 core_leads false m q env n h = unknown_leads n
 
 -- what is given where a value is known
-given_literal : (k : Known) (m : M) (w : LiteralValue) → Gives k m → as_literal (value_known k) ≡ Some w → m ≡ give (literal_value w)
-given_literal (exactly (constant.Number (pos i))) m w h is = subst (λ w. m ≡ give (literal_value w)) (same_value is) h
-given_literal (exactly (constant.Text s)) m w h is = subst (λ w. m ≡ give (literal_value w)) (same_value is) h
-given_literal (exactly (constant.Boolean b)) m w h is = subst (λ w. m ≡ give (literal_value w)) (same_value is) h
-given_literal (exactly constant.Null) m w h is = subst (λ w. m ≡ give (literal_value w)) (same_value is) h
-given_literal k m w h is = absurd cc
+known_value : (k : Known) (v : Value) (w : LiteralValue) → Is k v → as_literal (value_known k) ≡ Some w → v ≡ literal_value w
+known_value (exactly (constant.Number (pos i))) v w h is = subst (λ w. v ≡ literal_value w) (same_value is) h
+known_value (exactly (constant.Text s)) v w h is = subst (λ w. v ≡ literal_value w) (same_value is) h
+known_value (exactly (constant.Boolean b)) v w h is = subst (λ w. v ≡ literal_value w) (same_value is) h
+known_value (exactly constant.Null) v w h is = subst (λ w. v ≡ literal_value w) (same_value is) h
+known_value k v w h is = absurd cc
 
-one_leads : (E : Enter) (env : Env) (o : UnaryOperator) (v : LiteralValue) (p : Note) (rest : Forest) (w : LiteralValue) → as_literal (value_known (unary_known o (literal_type v) (exactly (literal_constant v)))) ≡ Some w → (q : Ask)
-    → Leads (meaning E (unary_expression o) (node (literal v) p nothing rest) q env) (meaning E (literal w) nothing q env)
-unfolding need eval
-one_leads E env o v p rest w is (asks_value u) =
-    let below = node (literal v) p nothing rest in
-    core_leads (is_core_unary o) (does E (unary_expression o) below (eval E below)) (asks_value u) env (give (literal_value w))
-    (leads_there _ (give (literal_value w)) (given_is (literal_value v) (unary_of o) ∙ given_literal (unary_known o (literal_type v) (exactly (literal_constant v))) (unary_of o (literal_value v)) w (unary_gives o v) is))
-one_leads E env o v p rest w is q =
-    let below = node (literal v) p nothing rest in
-    core_leads (is_core_unary o) (does E (unary_expression o) below (eval E below)) q env (meaning E (literal w) nothing q env) (unknown_leads _)
+same_allocation : {s z : State} → quiet.OnlyAllocates s z → OnlyAllocates s z
+same_allocation a = record { budget = a.budget; fresh = a.fresh; store = a.store; globals = λ x. ap (λ f. f x) a.globals; imports = λ source x. ap (λ f. f source x) a.imports; shown = a.shown; moves = a.moves; exports = a.exports; stars = a.stars }
 
--- the form of a literal
-pub data OfLiteral : Kind → (below : Forest) → Type 0 where
-  a_value : (v : LiteralValue) → OfLiteral (literal v) nothing
+-- without a receiver
+abbrev Alone : Completion → Type 0
+Alone (gives v r) = r ≡ undef
+Alone c = Unit {0}
 
-of_literal : (k : Kind) (below : Forest) → is_literal k below ≡ true → OfLiteral k below
-of_literal (literal v) nothing h = a_value v
-of_literal k below h = absurd cc
+module _ (w : LiteralValue) where
+  -- what only allocates and gives the value comes to the literal
+  gives_it : {s z : State} (k : Known) (v r : Value) → OnlyAllocates s z → Is k v → r ≡ undef → as_literal (value_known k) ≡ Some w → LeadsFrom s (give (literal_value w)) (goes [] z (gives v r))
+  unfolding done
+  gives_it {s} {z} k v r a h alone is =
+      subst (λ x. LeadsFrom s (give (literal_value w)) (goes [] z (gives x r))) (sym (known_value k v w h is))
+      (subst (λ x. LeadsFrom s (give (literal_value w)) (goes [] z (gives (literal_value w) x))) (sym alone) (goes_on_as a))
 
-module _ (E : Enter) (env : Env) (o : BinaryOperator) (n : Note) (w : LiteralValue) where
-  abbrev Leading : Forest → Ask → Type 0
-  Leading below q = Leads (meaning E (binary_expression o) below q env) (meaning E (literal w) nothing q env)
+  ended : {s z : State} (t : ValueType) (k : Known) (c : Completion) → quiet.OnlyAllocates s z → quiet.IsValue c → OfValue (IsTold t k) c → Alone c → as_literal (value_known k) ≡ Some w → LeadsFrom s (give (literal_value w)) (goes [] z c)
+  ended t k (gives v r) a i told alone is = gives_it k v r (same_allocation a) told.known alone is
+  ended t k normal a i told alone is = absurd i
+  ended t k (gives_all vs) a i told alone is = absurd i
+  ended t k (refers p) a i told alone is = absurd i
+  ended t k (breaks o) a i told alone is = absurd i
+  ended t k (continues o) a i told alone is = absurd i
+  ended t k (returns v) a i told alone is = absurd i
+  ended t k (throws v) a i told alone is = absurd i
 
-  abbrev Is : Forest → Type 0
-  Is below = as_literal (value_of bare_answers (alone (binary_expression o) n below)) ≡ Some w
+  from_state : (s : State) (t : ValueType) (k : Known) (o : Out) → quiet.Silently quiet.IsValue s o → IsSo (OfValue (IsTold t k)) o → IsSo Alone o → as_literal (value_known k) ≡ Some w → LeadsFrom s (give (literal_value w)) o
+  from_state s t k _ (quiet.goes_on {c = c} a i) told alone is = ended t k c a i told alone is
+  from_state s t k _ quiet.is_uncovered told alone is = stops_before
 
-  pair_leads : (k l : Kind) (i j : Note) (b c rest : Forest) (u : Ask) → OfLiteral k b → OfLiteral l c → Is (node k i b (node l j c rest)) → Leading (node k i b (node l j c rest)) u
-  unfolding need eval
-  pair_leads _ _ i j _ _ rest (asks_value u) (a_value v) (a_value x) is =
-      let below = node (literal v) i nothing (node (literal x) j nothing rest) in
-      core_leads (is_core_binary o) (does E (binary_expression o) below (eval E below)) (asks_value u) env (give (literal_value w))
-      (leads_there _ (give (literal_value w)) (given_is (literal_value v) _ ∙ (given_is (literal_value x) (binary_value E o (literal_value v)) ∙ given_literal (of_both o v x) (binary_value E o (literal_value v) (literal_value x)) w (binary_gives E o v x) is)))
-  pair_leads k l i j b c rest q first second is =
-      let below = node k i b (node l j c rest) in
-      core_leads (is_core_binary o) (does E (binary_expression o) below (eval E below)) q env (meaning E (literal w) nothing q env) (unknown_leads _)
+  value_leads : (t : ValueType) (k : Known) (m : M) → quiet.Quietly quiet.IsValue m → Gives (IsTold t k) m → Ends Alone m → as_literal (value_known k) ≡ Some w → Leads m (give (literal_value w))
+  value_leads t k m silent told alone is = record { leads = λ s. from_state s t k (m s) (silent.at s) (told.at s) (alone.at s) is }
 
-  fewer_lead : (below : Forest) (q : Ask) → does E (binary_expression o) below (eval E below) q env ≡ unknown → Leading below q
-  fewer_lead below q e = core_leads (is_core_binary o) (does E (binary_expression o) below (eval E below)) q env (meaning E (literal w) nothing q env) (subst (λ m. Leads m (meaning E (literal w) nothing q env)) (sym e) (unknown_leads _))
+-- what isn't known to act is quiet
+quiet_anywhere : (E : Enter) (env : Env) (k : Kind) (n : Note) (below : Forest) → acts k n below ≡ false → QuietNode env (meaning E k below)
+quiet_anywhere E env k n below e = quiet_node env E k n below (silent_row [] env (alone k n below) (λ x h. absurd (true≢false (sym h))) (row_is_idle (alone k n below) e))
 
-  two_lead : (below : Forest) → are_literals below ≡ true → Is below → (q : Ask) → Leading below q
-  unfolding need eval
-  two_lead (node k i b (node l j c rest)) are is q =
-      let further = second_of_both (is_literal k b) (is_literal l c && are_literals rest) are in
-      pair_leads k l i j b c rest q (of_literal k b (first_of_both (is_literal k b) (is_literal l c && are_literals rest) are)) (of_literal l c (first_of_both (is_literal l c) (are_literals rest) further)) is
-  two_lead nothing are is (asks_value u) = fewer_lead nothing (asks_value u) refl
-  two_lead (node k i b nothing) are is (asks_value u) = fewer_lead (node k i b nothing) (asks_value u) refl
-  two_lead (node k i b (absent r)) are is (asks_value u) = fewer_lead (node k i b (absent r)) (asks_value u) refl
-  two_lead (absent r) are is (asks_value u) = fewer_lead (absent r) (asks_value u) refl
-  two_lead below are is q = fewer_lead below q refl
+core_alone : (core : Bool) (m : Meaning) (q : Ask) (env : Env) → Ends Alone (m q env) → Ends Alone (if_core core m q env)
+core_alone true m q env h = h
+core_alone false m q env h = ends_unknown
 
-comes_to_value : (u : Purpose) (st : Names) (k : Kind) (below : Forest) (w : LiteralValue) → Operation k below w → ComesTo u st k below (literal w) nothing
-comes_to_value u st _ _ _ (on_one o v p rest w is) = record { old_hoists = refl; new_hoists = refl; comes = λ E env binds q permits. one_leads E env o v p rest w is q }
-comes_to_value u st _ _ _ (on_two o n below w are is) = record { old_hoists = refl; new_hoists = refl; comes = λ E env binds q permits. two_lead E env o n w below are is q }
+unary_alone : (E : Enter) (env : Env) (o : UnaryOperator) (below : Forest) (u : Wanted) → Ends Alone (meaning E (unary_expression o) below (asks_value u) env)
+unary_alone E env o below u =
+    core_alone (is_core_unary o) (does E (unary_expression o) below (eval E below)) (asks_value u) env
+    (need_any (eval E below) (λ m r. ends_with (m (asks_value (wanted_by o)) env) (unary_of o) (λ v. plain_unary (λ v. refl) o v) (λ v. tt)))
+
+binary_alone : (E : Enter) (env : Env) (o : BinaryOperator) → is_in o ≡ false → is_instance o ≡ false → (below : Forest) (u : Wanted) → Ends Alone (meaning E (binary_expression o) below (asks_value u) env)
+binary_alone E env o no_in no_instance below u =
+    core_alone (is_core_binary o) (does E (binary_expression o) below (eval E below)) (asks_value u) env
+    (need_any (eval E below) (λ l r. need_any r (λ m r. ends_with (l now env) _ (λ v. ends_with (m now env) _ (λ x. each o no_in no_instance v x) (λ x. tt)) (λ v. tt))))
+  where
+    each : (o : BinaryOperator) → is_in o ≡ false → is_instance o ≡ false → (v x : Value) → Ends Alone (binary_value E o v x)
+    each binary.In e f v x = absurd (true≢false e)
+    each binary.Instanceof e f v x = absurd (true≢false f)
+    each o e f v x = plain_binary (λ v. refl) o v x
+
+module _ (E : Enter) (env : Env) (n : Note) (below : Forest) (w : LiteralValue) where
+  one_leads : (o : UnaryOperator) → acts (unary_expression o) n below ≡ false → as_literal (value_of bare_answers (alone (unary_expression o) n below)) ≡ Some w → (q : Ask) → Leads (meaning E (unary_expression o) below q env) (meaning E (literal w) nothing q env)
+  one_leads o idle is (asks_value u) =
+      value_leads w _ _ (meaning E (unary_expression o) below (asks_value u) env) (quiet_anywhere E env (unary_expression o) n below idle (asks_value u)) ((told_by_form env E (alone (unary_expression o) n below)).0 u) (unary_alone E env o below u) is
+  one_leads o idle is q = core_leads (is_core_unary o) (does E (unary_expression o) below (eval E below)) q env (meaning E (literal w) nothing q env) (unknown_leads _)
+
+  two_lead : (o : BinaryOperator) → acts (binary_expression o) n below ≡ false → as_literal (value_of bare_answers (alone (binary_expression o) n below)) ≡ Some w → (q : Ask) → Leads (meaning E (binary_expression o) below q env) (meaning E (literal w) nothing q env)
+  two_lead o idle is (asks_value u) =
+      value_leads w _ _ (meaning E (binary_expression o) below (asks_value u) env) (quiet_anywhere E env (binary_expression o) n below idle (asks_value u)) ((told_by_form env E (alone (binary_expression o) n below)).0 u)
+      (binary_alone E env o (not_in o n below w is) (not_instance o n below w is) below u) is
+  two_lead o idle is q = core_leads (is_core_binary o) (does E (binary_expression o) below (eval E below)) q env (meaning E (literal w) nothing q env) (unknown_leads _)
+
+comes_to_value : (u : Purpose) (st : Names) (k : Kind) (n : Note) (below : Forest) (w : LiteralValue) → Operation k n below w → ComesTo u st k below (literal w) nothing
+comes_to_value u st _ n below w (on_one o _ _ _ idle some is) = record { old_hoists = refl; new_hoists = refl; comes = λ E env binds q permits. one_leads E env n below w o idle is q }
+comes_to_value u st _ n below w (on_two o _ _ _ idle is) = record { old_hoists = refl; new_hoists = refl; comes = λ E env binds q permits. two_lead E env n below w o idle is q }
 
 -- ---- by the table of node types, and by the rules of form
 
@@ -215,9 +273,9 @@ literal_is_built value.Null small = record { operation = refl; calls_none = refl
 literal_is_built (value.Boolean b) small = record { operation = refl; calls_none = refl; breaks_none = λ c place. refl }
 literal_is_built (value.Text s) small = record { operation = refl; calls_none = refl; breaks_none = λ c place. refl }
 
-pub value_small : {k : Kind} {below : Forest} {w : LiteralValue} → Operation k below w → IsSmall w
-value_small (on_one o v p rest w is) = unary_small o (literal_type v) (exactly (literal_constant v)) w is
-value_small (on_two o n below w are is) = binary_small o _ _ _ _ w is
+pub value_small : {k : Kind} {n : Note} {below : Forest} {w : LiteralValue} → Operation k n below w → IsSmall w
+value_small (on_one o n below w idle some is) = unary_small o _ _ w is
+value_small (on_two o n below w idle is) = binary_small o _ _ _ _ w is
 
 -- ---- all of it
 
@@ -228,10 +286,7 @@ module _ (a : Around) (n i : Note) (w : LiteralValue) where
   literal_declares : DeclaresNothing (alone (literal w) i nothing)
   literal_declares = record { bound = refl; imports = λ source. refl }
 
-  module _ (o : UnaryOperator) (v : LiteralValue) (p : Note) (rest : Forest) (is : as_literal (value_known (unary_known o (literal_type v) (exactly (literal_constant v)))) ≡ Some w) where
-    abbrev operand : Forest
-    operand = node (literal v) p nothing rest
-
+  module _ (o : UnaryOperator) (m : Note) (operand : Forest) (idle : acts (unary_expression o) m operand ≡ false) (some : has_operand operand ≡ true) (is : as_literal (value_of bare_answers (alone (unary_expression o) m operand)) ≡ Some w) where
     abbrev one : Tree
     one = tree (unary_expression o) n operand
 
@@ -243,7 +298,7 @@ module _ (a : Around) (n i : Note) (w : LiteralValue) where
         record {
           inner = nothing;
           same = refl;
-          stands = for_part (λ st. comes_to_value (wanted_at a) st (unary_expression o) operand w (on_one o v p rest w is));
+          stands = for_part (λ st. comes_to_value (wanted_at a) st (unary_expression o) m operand w (on_one o m operand w idle some is));
           old_calm = refl;
           plainly = both_plainly (unary_expression o) operand (literal w) i nothing nothing refl none literal_declares;
           core = λ c. refl;
@@ -251,8 +306,8 @@ module _ (a : Around) (n i : Note) (w : LiteralValue) where
 
     one_owes : ByParts a one y
     one_owes = record {
-      rebuilt = λ fits. leaves (built (literal_is_built w (value_small (on_one o v p rest w is))) ends);
-      lighter = Prim.omega (arith, at_most w, at_least v);
+      rebuilt = λ fits. leaves (built (literal_is_built w (value_small (on_one o m operand w idle some is))) ends);
+      lighter = Prim.omega (arith, at_most w, operand_weighs o m operand idle some);
       no_deeper = Prim.omega arith;
       no_call = record { counts = refl; lists = λ i. refl; begins = λ i. refl; calls = refl };
       may_change = refl;
@@ -265,7 +320,7 @@ module _ (a : Around) (n i : Note) (w : LiteralValue) where
       runs = by_coming one_comes;
     }
 
-  module _ (o : BinaryOperator) (m : Note) (sides : Forest) (are : are_literals sides ≡ true) (is : as_literal (value_of bare_answers (alone (binary_expression o) m sides)) ≡ Some w) where
+  module _ (o : BinaryOperator) (m : Note) (sides : Forest) (idle : acts (binary_expression o) m sides ≡ false) (is : as_literal (value_of bare_answers (alone (binary_expression o) m sides)) ≡ Some w) where
     abbrev two : Tree
     two = tree (binary_expression o) n sides
 
@@ -280,7 +335,7 @@ module _ (a : Around) (n i : Note) (w : LiteralValue) where
         record {
           inner = nothing;
           same = refl;
-          stands = for_part (λ st. comes_to_value (wanted_at a) st (binary_expression o) sides w (on_two o m sides w are is));
+          stands = for_part (λ st. comes_to_value (wanted_at a) st (binary_expression o) m sides w (on_two o m sides w idle is));
           old_calm = refl;
           plainly = both_plainly (binary_expression o) sides (literal w) i nothing nothing refl none literal_declares;
           core = λ c. refl;
@@ -288,7 +343,7 @@ module _ (a : Around) (n i : Note) (w : LiteralValue) where
 
     two_owe : ByParts a two y
     two_owe = record {
-      rebuilt = λ fits. leaves (built (literal_is_built w (value_small (on_two o m sides w are is))) ends);
+      rebuilt = λ fits. leaves (built (literal_is_built w (value_small (on_two o m sides w idle is))) ends);
       lighter = Prim.omega (arith, at_most w);
       no_deeper = Prim.omega arith;
       no_call = record { counts = refl; lists = λ i. refl; begins = λ i. refl; calls = refl };
@@ -302,9 +357,9 @@ module _ (a : Around) (n i : Note) (w : LiteralValue) where
       runs = by_coming two_comes;
     }
 
-each_owes : (a : Around) (n i : Note) (k : Kind) (below : Forest) (w : LiteralValue) → Operation k below w → ByParts a (tree k n below) (tree (literal w) i nothing)
-each_owes a n i _ _ _ (on_one o v p rest w is) = one_owes a n i w o v p rest is
-each_owes a n i _ _ _ (on_two o m below w are is) = two_owe a n i w o m below are is
+each_owes : (a : Around) (n i m : Note) (k : Kind) (below : Forest) (w : LiteralValue) → Operation k m below w → ByParts a (tree k n below) (tree (literal w) i nothing)
+each_owes a n i _ _ _ _ (on_one o m operand w idle some is) = one_owes a n i w o m operand idle some is
+each_owes a n i _ _ _ _ (on_two o m below w idle is) = two_owe a n i w o m below idle is
 
 pub known_operation_owes : (a : Around) (x y : Tree) → KnownOperation a x y → ByParts a x y
-known_operation_owes a x _ (value_is_known i w _ is) = each_owes a x.note i x.kind x.below w (is_operation_known x.kind x.note x.below w is)
+known_operation_owes a x _ (value_is_known i w _ is) = each_owes a x.note i x.note x.kind x.below w (is_operation_known x.kind x.note x.below w is)

@@ -58,7 +58,6 @@ pub mod LastPart
 pub mod IdleParts
 pub mod TwoSides
 pub mod UnusedObject
-pub mod KnownValues
 pub mod KnownSizes
 pub mod KnownOperation
 pub mod Edited

@@ -17,7 +17,7 @@ idle false true r b c e f = refl
 idle false false true b c e f = f e
 idle false false false b c e f = absurd (true≢false e)
 
-row_is_idle : (t : Forest) → may_have_effects [] true t ≡ false → may_act [] t ≡ false
+pub row_is_idle : (t : Forest) → may_have_effects [] true t ≡ false → may_act [] t ≡ false
 row_is_idle nothing e = refl
 row_is_idle (absent rest) e = row_is_idle rest e
 row_is_idle (node k n below rest) e =
