@@ -1,0 +1,5 @@
+use Rattle.kept_laws.proofs.Again.{declared_again}
+use Rattle.kept_laws.proofs.laws.a_declaration_of_them_declares_the_same.Goals as goal
+
+pub returns : goal.returns
+returns c = declared_again
