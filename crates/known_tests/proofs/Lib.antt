@@ -1,0 +1,4 @@
+pub mod Told
+pub mod Taken
+pub mod ByForm
+pub mod Alone

@@ -1,0 +1,123 @@
+-- Conditionals, logical expressions and statements `if` come to the part that is taken, where it is known which.
+use Rattle.std.proofs.Common.{◌≡◌, ◌∙◌, true, false, Bool, refl, sym, subst, true≢false}
+use Rattle.js_syntax.specs.declared.node_kind.NodeKind.{NodeKind as Kind}
+use Rattle.js_syntax.specs.declared.operator.LogicalOperator.{LogicalOperator}
+use Rattle.js_syntax.specs.Node.{Note, Forest, nothing, node, absent}
+use Rattle.js_meaning.specs.Value.{Env}
+use Rattle.js_meaning.specs.Operator.{truthy, goes_right}
+use Rattle.js_meaning.specs.State.{M, choose, unknown, stop, give}
+use Rattle.js_meaning.specs.Host.{Enter}
+use Rattle.js_meaning.specs.Node.{Wanted, Ask, value, run, now, need, may}
+use Rattle.js_meaning.specs.Meaning.{eval}
+use Rattle.js_meaning_near.specs.Quiet.{Leads, stops_before}
+use Rattle.js_meaning_near.specs.Names.{Names}
+use Rattle.js_meaning_near.specs.Near.{meaning, is_calm, hoists_nothing, Permits, ComesTo}
+use Rattle.js_meaning_near.specs.Local.{IsField}
+use Rattle.js_meaning_near.specs.Purpose.{Purpose, asked}
+use Rattle.js_meaning_near.specs.Bare.{stands_bare}
+use Rattle.js_meaning_near.proofs.Branches.{bare_asks, bare_hoists}
+use Rattle.known_tests.specs.Tells.{Tells, GivesAlone}
+use Rattle.known_tests.proofs.Told.{told_leads, value_leads}
+
+unknown_leads : (m : M) → Leads unknown m
+unfolding stop
+unknown_leads m = record { leads = λ s. stops_before }
+
+chosen : (b : Bool) (m n : M) → b ≡ true → choose b m n ≡ m
+unfolding choose
+chosen true m n e = refl
+chosen false m n e = absurd (true≢false (sym e))
+
+not_chosen : (b : Bool) (m n : M) → b ≡ false → choose b m n ≡ n
+unfolding choose
+not_chosen true m n e = absurd (true≢false e)
+not_chosen false m n e = refl
+
+calm_hoists : (k : Kind) → is_calm k ≡ true → hoists_nothing k ≡ true
+calm_hoists (Kind.ReferenceName x) h = refl
+calm_hoists (Kind.MemberExpression key optional) h = refl
+calm_hoists Kind.ParenthesizedExpression h = refl
+calm_hoists (Kind.Function f pure) h = absurd (true≢false (sym h))
+calm_hoists k h = h
+
+module _ (t : Kind) (n i : Note) (a : Forest) (k : Kind) (b : Forest) where
+  module _ (j : Note) (l : Kind) (c : Forest) where
+    abbrev branches : Forest
+    branches = node t n a (node k i b (node l j c nothing))
+
+    first : (E : Enter) (w : Wanted) (env : Env) (q : Ask) → Tells (λ v. truthy v ≡ true) t a → Permits w q → stands_bare w k b ≡ true → Leads (meaning E Kind.ConditionalExpression branches q env) (meaning E k b q env)
+    unfolding need eval
+    first E w env (value u) tells p bare =
+        told_leads (λ v. truthy v ≡ true) (meaning E t a now env) _ (meaning E k b (value u) env)
+        (λ v h. chosen (truthy v) (meaning E k b now env) _ h ∙ sym (bare_asks E u k b env (subst (λ u. stands_bare u k b ≡ true) (sym p) bare)))
+        (tells.quiet E env) (tells.told E env)
+    first E w env q tells p bare = unknown_leads _
+
+    second : (E : Enter) (w : Wanted) (env : Env) (q : Ask) → Tells (λ v. truthy v ≡ false) t a → Permits w q → stands_bare w l c ≡ true → Leads (meaning E Kind.ConditionalExpression branches q env) (meaning E l c q env)
+    unfolding need eval
+    second E w env (value u) tells p bare =
+        told_leads (λ v. truthy v ≡ false) (meaning E t a now env) _ (meaning E l c (value u) env)
+        (λ v h. not_chosen (truthy v) _ (meaning E l c now env) h ∙ sym (bare_asks E u l c env (subst (λ u. stands_bare u l c ≡ true) (sym p) bare)))
+        (tells.quiet E env) (tells.told E env)
+    second E w env q tells p bare = unknown_leads _
+
+    second_statement : (E : Enter) (env : Env) (q : Ask) → Tells (λ v. truthy v ≡ false) t a → Leads (meaning E Kind.IfStatement branches q env) (meaning E l c q env)
+    unfolding need may eval
+    second_statement E env (run ls) tells =
+        told_leads (λ v. truthy v ≡ false) (meaning E t a now env) _ (meaning E l c (run ls) env)
+        (λ v h. not_chosen (truthy v) _ (meaning E l c (run ls) env) h)
+        (tells.quiet E env) (tells.told E env)
+    second_statement E env q tells = unknown_leads _
+
+  module _ (o : LogicalOperator) where
+    abbrev sides : Forest
+    sides = node t n a (node k i b nothing)
+
+    right : (E : Enter) (w : Wanted) (env : Env) (q : Ask) → Tells (λ v. goes_right o v ≡ true) t a → Permits w q → stands_bare w k b ≡ true → Leads (meaning E (Kind.LogicalExpression o) sides q env) (meaning E k b q env)
+    unfolding need eval
+    right E w env (value u) tells p bare =
+        told_leads (λ v. goes_right o v ≡ true) (meaning E t a now env) _ (meaning E k b (value u) env)
+        (λ v h. chosen (goes_right o v) (meaning E k b now env) _ h ∙ sym (bare_asks E u k b env (subst (λ u. stands_bare u k b ≡ true) (sym p) bare)))
+        (tells.quiet E env) (tells.told E env)
+    right E w env q tells p bare = unknown_leads _
+
+    left : (E : Enter) (w : Wanted) (env : Env) (q : Ask) → Tells (λ v. goes_right o v ≡ false) t a → GivesAlone t a → Permits w q → stands_bare w t a ≡ true → Leads (meaning E (Kind.LogicalExpression o) sides q env) (meaning E t a q env)
+    unfolding need eval
+    left E w env (value u) tells alone p bare =
+        subst (λ m. Leads (meaning E (Kind.LogicalExpression o) sides (value u) env) m) (sym (bare_asks E u t a env (subst (λ u. stands_bare u t a ≡ true) (sym p) bare)))
+        (value_leads (λ v. goes_right o v ≡ false) (meaning E t a now env) _
+        (λ v h. not_chosen (goes_right o v) (meaning E k b now env) (give v) h)
+        (tells.quiet E env) (tells.told E env) (alone E env))
+    left E w env q tells alone p bare = unknown_leads _
+
+  first_statement : (E : Enter) (env : Env) (q : Ask) (r : Forest) → Tells (λ v. truthy v ≡ true) t a → IsField r → Leads (meaning E Kind.IfStatement (node t n a (node k i b r)) q env) (meaning E k b q env)
+  unfolding need may eval
+  first_statement E env (run ls) (absent nothing) tells f =
+      told_leads (λ v. truthy v ≡ true) (meaning E t a now env) _ (meaning E k b (run ls) env) (λ v h. chosen (truthy v) (meaning E k b (run ls) env) _ h) (tells.quiet E env) (tells.told E env)
+  first_statement E env (run ls) (node l j c nothing) tells f =
+      told_leads (λ v. truthy v ≡ true) (meaning E t a now env) _ (meaning E k b (run ls) env) (λ v h. chosen (truthy v) (meaning E k b (run ls) env) _ h) (tells.quiet E env) (tells.told E env)
+  first_statement E env q (absent nothing) tells f = unknown_leads _
+  first_statement E env q (node l j c nothing) tells f = unknown_leads _
+  first_statement E env q nothing tells f = absurd f
+  first_statement E env q (absent (node l j c r)) tells f = absurd f
+  first_statement E env q (absent (absent r)) tells f = absurd f
+  first_statement E env q (node l j c (node z y d r)) tells f = absurd f
+  first_statement E env q (node l j c (absent r)) tells f = absurd f
+
+pub condition_holds : (u : Purpose) (st : Names) (t : Kind) (n i j : Note) (a : Forest) (k l : Kind) (b c : Forest) → Tells (λ v. truthy v ≡ true) t a → stands_bare (asked u) k b ≡ true → ComesTo u st Kind.ConditionalExpression (node t n a (node k i b (node l j c nothing))) k b
+condition_holds u st t n i j a k l b c tells bare = record { old_hoists = refl; new_hoists = bare_hoists (asked u) k b bare; comes = λ E env binds q p. first t n i a k b j l c E (asked u) env q tells p bare }
+
+pub condition_fails : (u : Purpose) (st : Names) (t : Kind) (n i j : Note) (a : Forest) (k l : Kind) (b c : Forest) → Tells (λ v. truthy v ≡ false) t a → stands_bare (asked u) l c ≡ true → ComesTo u st Kind.ConditionalExpression (node t n a (node k i b (node l j c nothing))) l c
+condition_fails u st t n i j a k l b c tells bare = record { old_hoists = refl; new_hoists = bare_hoists (asked u) l c bare; comes = λ E env binds q p. second t n i a k b j l c E (asked u) env q tells p bare }
+
+pub right_counts : (u : Purpose) (st : Names) (o : LogicalOperator) (t : Kind) (n i : Note) (a : Forest) (k : Kind) (b : Forest) → Tells (λ v. goes_right o v ≡ true) t a → stands_bare (asked u) k b ≡ true → ComesTo u st (Kind.LogicalExpression o) (node t n a (node k i b nothing)) k b
+right_counts u st o t n i a k b tells bare = record { old_hoists = refl; new_hoists = bare_hoists (asked u) k b bare; comes = λ E env binds q p. right t n i a k b o E (asked u) env q tells p bare }
+
+pub left_decides : (u : Purpose) (st : Names) (o : LogicalOperator) (t : Kind) (n i : Note) (a : Forest) (k : Kind) (b : Forest) → Tells (λ v. goes_right o v ≡ false) t a → GivesAlone t a → stands_bare (asked u) t a ≡ true → ComesTo u st (Kind.LogicalExpression o) (node t n a (node k i b nothing)) t a
+left_decides u st o t n i a k b tells alone bare = record { old_hoists = refl; new_hoists = bare_hoists (asked u) t a bare; comes = λ E env binds q p. left t n i a k b o E (asked u) env q tells alone p bare }
+
+pub statement_holds : (u : Purpose) (st : Names) (t : Kind) (n i : Note) (a : Forest) (k : Kind) (b r : Forest) → Tells (λ v. truthy v ≡ true) t a → is_calm k ≡ true → IsField r → ComesTo u st Kind.IfStatement (node t n a (node k i b r)) k b
+statement_holds u st t n i a k b r tells calm f = record { old_hoists = refl; new_hoists = calm_hoists k calm; comes = λ E env binds q p. first_statement t n i a k b E env q r tells f }
+
+pub statement_fails : (u : Purpose) (st : Names) (t : Kind) (n i j : Note) (a : Forest) (k l : Kind) (b c : Forest) → Tells (λ v. truthy v ≡ false) t a → is_calm l ≡ true → ComesTo u st Kind.IfStatement (node t n a (node k i b (node l j c nothing))) l c
+statement_fails u st t n i j a k l b c tells calm = record { old_hoists = refl; new_hoists = calm_hoists l calm; comes = λ E env binds q p. second_statement t n i a k b j l c E env q tells }
