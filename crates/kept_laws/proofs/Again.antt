@@ -52,7 +52,8 @@ shown =
       given_behind = λ k n a r h. refl;
       rows = λ r vs private n a rest g chosen st. bare_rows r vs private a st;
       lists = bare_lists;
-      holes = λ a st. refl }
+      holes = λ a st. refl;
+    }
 
 -- ---- and so not below those that are kept
 

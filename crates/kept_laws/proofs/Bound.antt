@@ -24,7 +24,6 @@ use Rattle.kept_laws.specs.Texts.{names}
 use Rattle.kept_laws.proofs.Sets.{in_expression, of_free}
 use Rattle.kept_laws.proofs.Free.{is_name, node_declares_none}
 
-
 pub names_joined : (xs ys : List Declared) → names (xs ++ ys) ≡ names xs ++ names ys
 names_joined [] ys = refl
 names_joined (x ∷ xs) ys = ap (λ z. x.name ∷ z) (names_joined xs ys)
@@ -95,7 +94,7 @@ module _ (s : Sort) where
         let kind = kind_in r vs in
         let plain = if_so (in_expression r) (not (is_name kind) && is_none (bound_below s kind)) (plain_rows r vs) h in
         ap₂ (λ x y. names x ++ y) (nothing_here kind p (first_of_both (not (is_name kind)) (is_none (bound_below s kind)) plain))
-          (when_none (bound_below s kind) (p + one_each kind) a (second_of_both (not (is_name kind)) (is_none (bound_below s kind)) plain))
+        (when_none (bound_below s kind) (p + one_each kind) a (second_of_both (not (is_name kind)) (is_none (bound_below s kind)) plain))
         ∙ sym (node_declares_none r vs a h st)
 
     with_key : (private : Bool) (x : Key) → plan_held is_bound_list of_free (these (key_place property_key private x ∷ one binding_value ∷ [])) ≡ true
@@ -143,5 +142,5 @@ module _ (s : Sort) where
   bound_as_planned (node k n a r) plan h st p =
       names_thrice (declared_here (bound s) p k) (declared (bound_below s k) (p + one_each k) a) (declared (bound s) (p + node_count (alone k n a)) r)
       ∙ ap₂ (λ x y. x ++ y)
-        (by_place a (bound_as_planned a) (first_place plan) k (first_held is_bound_list of_free plan h) st.0 p)
-        (bound_as_planned r (behind plan k) (behind_held is_bound_list of_free plan k h) st.1 (p + node_count (alone k n a)))
+      (by_place a (bound_as_planned a) (first_place plan) k (first_held is_bound_list of_free plan h) st.0 p)
+      (bound_as_planned r (behind plan k) (behind_held is_bound_list of_free plan k h) st.1 (p + node_count (alone k n a)))

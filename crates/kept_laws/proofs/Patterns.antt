@@ -128,7 +128,8 @@ pattern_row (absent r) =
     record {
       all = λ plan h st. (pattern_row r).all (behind plan hole) (behind_held is_list of_pattern plan hole h) st.1;
       first = λ p ps h st. refl;
-      later = λ p ps h st. (pattern_row r).all (these ps) h st.1 }
+      later = λ p ps h st. (pattern_row r).all (these ps) h st.1;
+    }
 pattern_row (node k n a r) =
     let here = by_place n a (pattern_row a) in
     let names = tree.names_of (record { kind = k; note = n; below = a }) (looked a) in
@@ -136,4 +137,5 @@ pattern_row (node k n a r) =
       all = λ plan h st. texts_joined names (looked r).all
           ∙ ap₂ (λ x y. x ++ y) (here (first_place plan) k (first_held is_list of_pattern plan h) st.0) ((pattern_row r).all (behind plan k) (behind_held is_list of_pattern plan k h) st.1);
       first = λ p ps h st. here p k h st.0 ∙ sym (append-nil (names_of k (bound_names a)));
-      later = λ p ps h st. (pattern_row r).all (these ps) h st.1 }
+      later = λ p ps h st. (pattern_row r).all (these ps) h st.1;
+    }

@@ -90,8 +90,8 @@ found_as_planned (absent r) plan h st p = found_as_planned r (behind plan hole) 
 found_as_planned (node k n a r) plan h st p =
     names_joined (declared (variables_below k) (p + one_each k) a) (declared variables (p + node_count (alone k n a)) r)
     ∙ ap₂ (λ x y. x ++ y)
-      (by_place a (found_as_planned a) (first_place plan) k (first_held is_list of_statement plan h) st.0 (p + one_each k))
-      (found_as_planned r (behind plan k) (behind_held is_list of_statement plan k h) st.1 (p + node_count (alone k n a)))
+    (by_place a (found_as_planned a) (first_place plan) k (first_held is_list of_statement plan h) st.0 (p + one_each k))
+    (found_as_planned r (behind plan k) (behind_held is_list of_statement plan k h) st.1 (p + node_count (alone k n a)))
     ∙ sym (texts_joined (kept_of k a (kept a)) (kept r))
 
 pub found_law : (p : ℕ) (t : Forest) → Fits statement t → names (declared variables p t) ≡ texts (kept t)

@@ -56,8 +56,8 @@ declarators_law (node k n a r) st =
     let of = st.0 in
     texts_joined (declared_of k a (declared a)) (declared r)
     ∙ ap₂ (λ x y. x ++ y)
-      (subst (λ x. Declared x a) (sym of.4) (declarator_row a of.0 of.1 (rows_of of_declarator in_declarator declarator_closed declarator_others declarator_item of.0 refl of.2) of.5))
-      (declarators_law r st.1)
+    (subst (λ x. Declared x a) (sym of.4) (declarator_row a of.0 of.1 (rows_of of_declarator in_declarator declarator_closed declarator_others declarator_item of.0 refl of.2) of.5))
+    (declarators_law r st.1)
 
 pub declaration_law : (a : Forest) → Stand (these (list declarators declarator_item ∷ [])) a → texts (declared a) ≡ bound_names a
 declaration_law nothing st = absurd st
@@ -146,8 +146,8 @@ as_planned (absent r) plan h st = as_planned r (behind plan hole) (behind_held i
 as_planned (node k n a r) plan h st =
     texts_joined (kept_of k a (kept a)) (kept r)
     ∙ ap₂ (λ x y. x ++ y)
-      (by_place a (as_planned a) (first_place plan) k (first_held is_list of_statement plan h) st.0)
-      (as_planned r (behind plan k) (behind_held is_list of_statement plan k h) st.1)
+    (by_place a (as_planned a) (first_place plan) k (first_held is_list of_statement plan h) st.0)
+    (as_planned r (behind plan k) (behind_held is_list of_statement plan k h) st.1)
 
 pub statement_law : (t : Forest) → Fits statement t → texts (kept t) ≡ var_names t
 statement_law t fits = as_planned t (these (one statement ∷ [])) refl fits

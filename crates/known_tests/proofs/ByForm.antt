@@ -36,6 +36,7 @@ gives_less {P} {Q} {m} f h = record { at = λ s. out (m s) (h.at s) }
     of (continues o) p = tt
     of (returns v) p = tt
     of (throws v) p = tt
+
     out : (o : Out) → IsSo (OfValue P) o → IsSo (OfValue Q) o
     out (goes es s c) p = of c p
     out (stops es e) p = tt
