@@ -51,6 +51,14 @@ GROUPS = [
   ('let o; o.p = 1; o = 1; (o).p = 1;', 'target', module(let('o'), assigned(member(o)), assigned(o), assigned(member(parenthesized(o)))), 'true false true'),
   ('var n; n.p = 1; { let o; o.p = 1; } in a script', 'target', script(var('var', (n, None)), assigned(member(n)), B(let('o'), assigned(member(o)))), 'true false'),
  ]),
+ ('what stands behind a zero, and what is left where that does not matter', [
+  ('o.p; a;', 'zero', module(ES(member(o)), ES(a)), ' '.join(text(module(ES(e))) for e in (N('SequenceExpression', expressions=[L(0), member(o)]), member(o), N('SequenceExpression', expressions=[L(0), a]), a))),
+ ]),
+ ('what is left of arguments of which nobody takes the values', [
+  ("f(a, 1, 't', b); f(); f('t'); f(n(), !1, function () {});", 'needed', module(*each(call(I('f'), a, L(1), T, b), call(I('f')), call(I('f'), T), call(I('f'), call(n), N('UnaryExpression', operator='!', prefix=True, argument=L(1)), fn('FunctionExpression', None, [], B())))), 'a b;;; ?;'),
+  ('const n = 1; f(n); nothing is known of names there', 'needed', module(const('n'), ES(call(I('f'), n))), 'no call; n;'),
+  ('f(...a); f(1, ...a);', 'needed', module(*each(call(I('f'), N('SpreadElement', argument=a)), call(I('f'), L(1), N('SpreadElement', argument=a)))), 'spread; spread;'),
+ ]),
  ('texts and names either way round', [
   ("'t' + a; a + 't';", 'pair', sums((T, a), (a, T)), 't a t a'),
   ("'t' + 'u'; 't' + 1; the second check refuses", 'pair', sums((T, U), (T, L(1))), 'none none'),

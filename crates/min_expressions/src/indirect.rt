@@ -127,7 +127,7 @@ fn put_two(places: &mut [Option<Node>], first: Node, second: Node)
     put_child(&mut places[1], second);
 }
 
-fn zero(alloc: Global, span: Span) -> Node
+pub(crate) fn zero(alloc: Global, span: Span) -> Node
     ensures { result ≡ record { kind = literal (value.Number (pos 0)); note = record { span = span; id = None }; below = nothing } }
 {
     Node::new(
@@ -138,7 +138,7 @@ fn zero(alloc: Global, span: Span) -> Node
 }
 
 // A sequence of a zero and this part, in the row of one field and in one of two places or more that are given.
-fn behind_zero(
+pub(crate) fn behind_zero(
     alloc: Global,
     span: Span,
     field: Vec<Option<Node>>,

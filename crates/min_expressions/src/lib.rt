@@ -14,7 +14,8 @@
 //! act becomes a literal of its value, as far as that is known (`fold_known_operation`).
 //! What comes out is moved to where the whole stood, a sequence is made of the vectors that are there, and the context is told of all
 //! that leaves, and of nothing else. Only a new zero, the row of a new list and a value that is worked out take memory, before anything
-//! is touched. Three calls answer what rules ask: whether an expression, or the object of a member that is assigned, may refer to
+//! is touched. `preserve_indirect_access` puts an expression behind a zero, and
+//! `fold_arguments_into_needed_expressions` leaves of arguments those that act. Three calls answer what rules ask: whether an expression, or the object of a member that is assigned, may refer to
 //! something else when it is evaluated again, and what two checks make of a pair, either way round.
 #![tactic(auto)]
 
@@ -30,10 +31,12 @@ mod one_sided;
 mod operation;
 mod pair;
 mod parts;
+mod preserve;
 mod sequence;
 mod two_sides;
 mod unused;
 mod uses;
 
 pub use fold::PeepholeOptimizations;
+pub use list::has_spread;
 pub use uses::has_with;

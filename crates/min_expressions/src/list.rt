@@ -40,8 +40,9 @@ fn is_spread(item: &Option<Node>) -> bool
     }
 }
 
-fn has_spread(parts: &[Option<Node>]) -> bool
-    ensures { result ≡ unused.has_spread (row parts.now) }
+/// Whether one of some parts is spread.
+pub fn has_spread(parts: &[Option<Node>]) -> bool
+    ensures spread { result ≡ unused.has_spread (row parts.now) }
 {
     for part in parts {
         if is_spread(part) {
@@ -231,7 +232,7 @@ fn mark_idle(item: &Option<Node>, ctx: &mut MinifierTraverseCtx)
     }
 }
 
-fn mark_all_idle(parts: &[Option<Node>], ctx: &mut MinifierTraverseCtx)
+pub(crate) fn mark_all_idle(parts: &[Option<Node>], ctx: &mut MinifierTraverseCtx)
     ensures left { Leaves ctx.old (λ r. ids r (idle (row parts.now))) (evals (idle (row parts.now))) ctx.new }
 {
     for part in parts {
@@ -241,7 +242,7 @@ fn mark_all_idle(parts: &[Option<Node>], ctx: &mut MinifierTraverseCtx)
 
 // ---- and then it is let go. The vectors that are there are used again.
 
-fn keep_acting(parts: &mut Vec<Option<Node>>)
+pub(crate) fn keep_acting(parts: &mut Vec<Option<Node>>)
     ensures { row parts.new.items ≡ unused.acting (row parts.old.items) }
 {
     parts.retain(|part| item_acts(part));

@@ -1,5 +1,6 @@
 // The answers to rows.
 use crate::question::append_about;
+use crate::rebuilt::append_needed;
 use js_scoping::build;
 use js_syntax::{NodeKind, SourceType};
 use js_tree::{Node, Program, count_nodes};
@@ -115,8 +116,12 @@ fn append_of(
     }
     let scoping = build(alloc, program)?;
     let root = program.root();
-    let ctx = context_of(alloc, source_type_of(root), scoping)?;
-    append_program(question, root, ctx.get(), printed)
+    let mut ctx = context_of(alloc, source_type_of(root), scoping)?;
+    if question == "needed" {
+        append_needed(root, ctx.get_mut(), printed)
+    } else {
+        append_program(question, root, ctx.get(), printed)
+    }
 }
 
 /// What is printed for a row.

@@ -8,6 +8,8 @@
 //! - `target`: the same of the object of what an assignment assigns
 //! - `pair`: what two checks make of the sides of a binary expression, of which the first takes texts and the second names
 //! - `word`: the same of a check that takes texts and names, and one that takes texts
+//! - `zero`: the text of the expression behind a zero, and of what it is where it is left if that doesn't matter
+//! - `needed`: the names, texts and other parts of what is left of a call's arguments
 //!
 //! The rows, with what must be printed for them, are written by `tools/expression_rows.py` into `stdin` and `stdout`, which the
 //! gate compares.
@@ -15,6 +17,7 @@
 
 mod answer;
 mod question;
+mod rebuilt;
 
 use answer::append_answer;
 use shake_streams::{StdSink, StdSource, read_all, write_all};

@@ -1,4 +1,5 @@
 // What is asked of one expression.
+use crate::rebuilt::append_zero;
 use js_syntax::{LiteralValue, NodeKind};
 use js_tree::Node;
 use min_context::MinifierTraverseCtx;
@@ -19,7 +20,7 @@ fn name_of(node: &Node) -> Option<&str> {
     }
 }
 
-fn word_of(node: &Node) -> Option<&str> {
+pub(crate) fn word_of(node: &Node) -> Option<&str> {
     match text_of(node) {
         Some(text) => Some(text),
         None => name_of(node),
@@ -90,6 +91,7 @@ pub(crate) fn append_about(
         "target" => append_target(node, ctx, printed),
         "pair" => append_binary(false, node, printed),
         "word" => append_binary(true, node, printed),
+        "zero" => append_zero(node, ctx, printed),
         _ => write!(printed, " no question"),
     }
 }

@@ -5,10 +5,10 @@ use Rattle.min_expressions.proofs.Lists.{spread_each}
 use Rattle.min_expressions.proofs.list.has_spread.Goals as goal
 
 pub returns-then-is_spread : goal.returns-then-is_spread
-returns-then-is_spread c = sym (found_at has_spread spread_each c.args.parts.now c.loop-part.part-index c.part-item.result c.loop-part-test.true c.part-item.is (sym c.is_spread.ensures ∙ c.if-is_spread.true))
+returns-then-is_spread c = record { spread = sym (found_at has_spread spread_each c.args.parts.now c.loop-part.part-index c.part-item.result c.loop-part-test.true c.part-item.is (sym c.is_spread.ensures ∙ c.if-is_spread.true)) }
 
 pub loop-part-preserved : goal.loop-part-preserved
 loop-part-preserved c = rest_of has_spread spread_each c.args.parts.now c.loop-part.part-index c.part-item.result c.loop-part-test.true c.part-item.is (sym c.is_spread.ensures ∙ c.if-is_spread.false) c.loop-part.invariant
 
 pub returns : goal.returns
-returns c = sym (none_found has_spread c.args.parts.now c.loop-part.part-index refl (omega (arith, c.loop-part-test.false)) c.loop-part.invariant)
+returns c = record { spread = sym (none_found has_spread c.args.parts.now c.loop-part.part-index refl (omega (arith, c.loop-part-test.false)) c.loop-part.invariant) }
