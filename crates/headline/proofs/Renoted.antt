@@ -4,11 +4,10 @@ use Rattle.std.proofs.lemmas.List.{map-append}
 use Rattle.std.specs.Str.{bytes_eq}
 use mathlib.Core.Path.{fun_ext}
 use Rattle.js_syntax.specs.declared.node_kind.NodeKind.{NodeKind as Kind}
-use Rattle.js_syntax.specs.declared.node_kind.NodeKind.TheVariants.{Function as function, UnaryExpression as unary_expression, BindingName as binding_name, ReferenceName as reference_name, TargetName as target_name, EmptyStatement as empty_statement, ExpressionStatement as expression_statement, VariableDeclarator as variable_declarator, ConditionalExpression as conditional_expression, LogicalExpression as logical_expression, Literal as literal}
+use Rattle.js_syntax.specs.declared.node_kind.NodeKind.TheVariants.{Function as function, UnaryExpression as unary_expression, BindingName as binding_name, ReferenceName as reference_name, TargetName as target_name, EmptyStatement as empty_statement, ExpressionStatement as expression_statement, VariableDeclarator as variable_declarator, ConditionalExpression as conditional_expression, LogicalExpression as logical_expression}
 use Rattle.js_syntax.specs.declared.kind.FunctionKind.TheVariants as function_kind
 use Rattle.js_syntax.specs.declared.kind.VariableKind.TheVariants as variable
 use Rattle.js_syntax.specs.declared.operator.UnaryOperator.TheVariants as unary
-use Rattle.js_syntax.specs.declared.value.LiteralValue.{LiteralValue}
 use Rattle.js_syntax.specs.Node.{Forest, Tree, Note, nothing, node, absent, nowhere, bare}
 use Rattle.js_effects.specs.Silence.{is_one_name, runs_its_parts}
 use Rattle.js_effects.proofs.Bare.{runs_bare, one_name_bare}
@@ -50,7 +49,7 @@ use Rattle.headline.proofs.RenotedUnused.{stands_as, needed_as, child_as, list_a
 use Rattle.headline.proofs.RenotedChoice.{counts_as}
 use Rattle.headline.proofs.RenotedParts.{side_as, sequence_as}
 use Rattle.headline.proofs.RenotedSides.{two_sides_as, object_as}
-use Rattle.headline.proofs.RenotedKnown.{known_as}
+use Rattle.headline.proofs.RenotedKnown.{known_as, truth_as, side_as as known_side_as}
 
 -- ---- sites without ids and spans
 
@@ -415,48 +414,56 @@ opened nothing k n b r e = absurd (nothing_node e)
 opened (absent s) k n b r e = absurd (absent_node e)
 opened (node l m c s) k n b r e = record { note = m; below_now = c; rest_now = s; is = ap (λ j. node j m c s) (same_kind e); same_below = same_below e; same_rest = same_rest e }
 
--- a literal before one node, or before two
-record BeforeOne (f : Forest) (v : LiteralValue) (k : Kind) (b : Forest) : Type 0 where
+-- a node before one, or before two
+record BeforeOne (f : Forest) (t : Kind) (d : Forest) (k : Kind) (b : Forest) : Type 0 where
   note : Note
+  below : Forest
   first_note : Note
   first_below : Forest
-  is : f ≡ node (literal v) note nothing (node k first_note first_below nothing)
+  is : f ≡ node t note below (node k first_note first_below nothing)
+  same_below : bare below ≡ bare d
   same : bare first_below ≡ bare b
 
-before_one : (f : Forest) (v : LiteralValue) (m i : Note) (k : Kind) (b : Forest) → bare f ≡ bare (node (literal v) m nothing (node k i b nothing)) → BeforeOne f v k b
-before_one f v m i k b e =
-    let o = opened f (literal v) m nothing (node k i b nothing) e in
+before_one : (f : Forest) (t : Kind) (m i : Note) (d : Forest) (k : Kind) (b : Forest) → bare f ≡ bare (node t m d (node k i b nothing)) → BeforeOne f t d k b
+before_one f t m i d k b e =
+    let o = opened f t m d (node k i b nothing) e in
     let p = opened o.rest_now k i b nothing o.same_rest in
     record {
       note = o.note;
+      below = o.below_now;
       first_note = p.note;
       first_below = p.below_now;
-      is = o.is ∙ ap₂ (λ x y. node (literal v) o.note x y) (nothing_bare o.below_now o.same_below) (p.is ∙ ap (λ x. node k p.note p.below_now x) (nothing_bare p.rest_now p.same_rest));
+      is = o.is ∙ ap (λ y. node t o.note o.below_now y) (p.is ∙ ap (λ x. node k p.note p.below_now x) (nothing_bare p.rest_now p.same_rest));
+      same_below = o.same_below;
       same = p.same_below;
     }
 
-record BeforeTwo (f : Forest) (v : LiteralValue) (k : Kind) (b : Forest) (l : Kind) (c : Forest) : Type 0 where
+record BeforeTwo (f : Forest) (t : Kind) (d : Forest) (k : Kind) (b : Forest) (l : Kind) (c : Forest) : Type 0 where
   note : Note
+  below : Forest
   first_note : Note
   first_below : Forest
   second_note : Note
   second_below : Forest
-  is : f ≡ node (literal v) note nothing (node k first_note first_below (node l second_note second_below nothing))
+  is : f ≡ node t note below (node k first_note first_below (node l second_note second_below nothing))
+  same_below : bare below ≡ bare d
   same_first : bare first_below ≡ bare b
   same_second : bare second_below ≡ bare c
 
-before_two : (f : Forest) (v : LiteralValue) (m i j : Note) (k : Kind) (b : Forest) (l : Kind) (c : Forest) → bare f ≡ bare (node (literal v) m nothing (node k i b (node l j c nothing))) → BeforeTwo f v k b l c
-before_two f v m i j k b l c e =
-    let o = opened f (literal v) m nothing (node k i b (node l j c nothing)) e in
+before_two : (f : Forest) (t : Kind) (m i j : Note) (d : Forest) (k : Kind) (b : Forest) (l : Kind) (c : Forest) → bare f ≡ bare (node t m d (node k i b (node l j c nothing))) → BeforeTwo f t d k b l c
+before_two f t m i j d k b l c e =
+    let o = opened f t m d (node k i b (node l j c nothing)) e in
     let p = opened o.rest_now k i b (node l j c nothing) o.same_rest in
     let q = opened p.rest_now l j c nothing p.same_rest in
     record {
       note = o.note;
+      below = o.below_now;
       first_note = p.note;
       first_below = p.below_now;
       second_note = q.note;
       second_below = q.below_now;
-      is = o.is ∙ ap₂ (λ x y. node (literal v) o.note x y) (nothing_bare o.below_now o.same_below) (p.is ∙ ap (λ x. node k p.note p.below_now x) (q.is ∙ ap (λ x. node l q.note q.below_now x) (nothing_bare q.rest_now q.same_rest)));
+      is = o.is ∙ ap (λ y. node t o.note o.below_now y) (p.is ∙ ap (λ x. node k p.note p.below_now x) (q.is ∙ ap (λ x. node l q.note q.below_now x) (nothing_bare q.rest_now q.same_rest)));
+      same_below = o.same_below;
       same_first = p.same_below;
       same_second = q.same_below;
     }
@@ -541,28 +548,28 @@ module _ (t u : Forest) (e : bare t ≡ bare u) (clean : Clean t) where
       ∙ ap₂ (λ v (w : Asked). stands_bare v w.in_with j d) (o.used (λ i. Use.as_value) 0) (o.asked (asked_of_program true)) ∙ may
 
   no_conditional : (a : Around) (x y : Tree) → u ≡ plug a (Some x) → KnownConditional a x y → ⊥
-  no_conditional a x y is (consequent_is_taken v n m i j k l b c truth may) =
-      let o = other_place a conditional_expression n (node (literal v) m nothing (node k i b (node l j c nothing))) is in
-      let f = before_two o.below v m i j k b l c o.same in
+  no_conditional a x y is (consequent_is_taken n m i j t k l d b c truth may) =
+      let o = other_place a conditional_expression n (node t m d (node k i b (node l j c nothing))) is in
+      let f = before_two o.below t m i j d k b l c o.same in
       clean.nothing_is_dead o.around _ (o.is ∙ ap (λ d. plug o.around (a_node conditional_expression o.note d)) f.is)
-      (a_known_conditional o.around _ _ (consequent_is_taken v o.note f.note f.first_note f.second_note k l f.first_below f.second_below truth (bare_as a o k f.first_below b f.same_first may)))
-  no_conditional a x y is (alternate_is_taken v n m i j k l b c truth may) =
-      let o = other_place a conditional_expression n (node (literal v) m nothing (node k i b (node l j c nothing))) is in
-      let f = before_two o.below v m i j k b l c o.same in
+      (a_known_conditional o.around _ _ (consequent_is_taken o.note f.note f.first_note f.second_note t k l f.below f.first_below f.second_below (truth_as t f.note m f.below d true f.same_below truth) (bare_as a o k f.first_below b f.same_first may)))
+  no_conditional a x y is (alternate_is_taken n m i j t k l d b c truth may) =
+      let o = other_place a conditional_expression n (node t m d (node k i b (node l j c nothing))) is in
+      let f = before_two o.below t m i j d k b l c o.same in
       clean.nothing_is_dead o.around _ (o.is ∙ ap (λ d. plug o.around (a_node conditional_expression o.note d)) f.is)
-      (a_known_conditional o.around _ _ (alternate_is_taken v o.note f.note f.first_note f.second_note k l f.first_below f.second_below truth (bare_as a o l f.second_below c f.same_second may)))
+      (a_known_conditional o.around _ _ (alternate_is_taken o.note f.note f.first_note f.second_note t k l f.below f.first_below f.second_below (truth_as t f.note m f.below d false f.same_below truth) (bare_as a o l f.second_below c f.same_second may)))
 
   no_side : (a : Around) (x y : Tree) → u ≡ plug a (Some x) → KnownSide a x y → ⊥
-  no_side a x y is (right_side_counts operator v n m i k b goes may) =
-      let o = other_place a (logical_expression operator) n (node (literal v) m nothing (node k i b nothing)) is in
-      let f = before_one o.below v m i k b o.same in
+  no_side a x y is (right_side_counts operator n m i t k d b goes may) =
+      let o = other_place a (logical_expression operator) n (node t m d (node k i b nothing)) is in
+      let f = before_one o.below t m i d k b o.same in
       clean.nothing_is_dead o.around _ (o.is ∙ ap (λ d. plug o.around (a_node (logical_expression operator) o.note d)) f.is)
-      (a_known_side o.around _ _ (right_side_counts operator v o.note f.note f.first_note k f.first_below goes (bare_as a o k f.first_below b f.same may)))
-  no_side a x y is (left_side_decides operator v n m i k b goes) =
-      let o = other_place a (logical_expression operator) n (node (literal v) m nothing (node k i b nothing)) is in
-      let f = before_one o.below v m i k b o.same in
+      (a_known_side o.around _ _ (right_side_counts operator o.note f.note f.first_note t k f.below f.first_below (known_side_as operator t f.note m f.below d true f.same_below goes) (bare_as a o k f.first_below b f.same may)))
+  no_side a x y is (left_side_decides operator n m i t k d b stays may) =
+      let o = other_place a (logical_expression operator) n (node t m d (node k i b nothing)) is in
+      let f = before_one o.below t m i d k b o.same in
       clean.nothing_is_dead o.around _ (o.is ∙ ap (λ d. plug o.around (a_node (logical_expression operator) o.note d)) f.is)
-      (a_known_side o.around _ _ (left_side_decides operator v o.note f.note f.first_note k f.first_below goes))
+      (a_known_side o.around _ _ (left_side_decides operator o.note f.note f.first_note t k f.below f.first_below (known_side_as operator t f.note m f.below d false f.same_below stays) (bare_as a o t f.below d f.same_below may)))
 
   no_operation : (a : Around) (x y : Tree) → u ≡ plug a (Some x) → UnusedOperation a x y → ⊥
   no_operation a _ _ is (one_operand_acts i x y unused needed there) =

@@ -11,7 +11,13 @@ use Rattle.js_effects.specs.declared.value.ConstantValue.TheVariants as constant
 use Rattle.js_effects.specs.Answers.{bare_answers}
 use Rattle.js_effects.specs.Each.{of_each, is_parenthesized, inner_from, inner_at}
 use Rattle.js_effects.specs.Kinds.{is_named_undefined, type_by_number, type_from, types, type_at}
-use Rattle.js_effects.specs.Values.{Known, exactly, unknown, value, value_of, known_by_number, known_from, knowns, known_at, text_of, unary_known, binary_known}
+use Rattle.js_effects.specs.Values.{Known, exactly, unknown, truth, value, value_of, known_by_number, known_from, knowns, known_at, text_of, unary_known, binary_known}
+use Rattle.js_syntax.specs.declared.operator.LogicalOperator.{LogicalOperator}
+use Rattle.js_syntax.specs.declared.operator.LogicalOperator.TheVariants.{And, Or, Coalesce}
+use Rattle.js_tree.specs.Walk.{is_list}
+use Rattle.known_tests.specs.Tells.{nullish_type, opposite, way_known}
+use Rattle.steps_allowed.specs.KnownConditional.{truth_known}
+use Rattle.steps_allowed.specs.KnownSide.{side_known}
 use Rattle.steps_allowed.specs.KnownOperation.{has_operand, as_literal, known_literal}
 use Rattle.headline.proofs.RenotedUnused.{acts_bare}
 
@@ -84,3 +90,23 @@ known_bare k n t = refl
 
 pub known_as : (k : Kind) (n m : Note) (f g : Forest) (v : LiteralValue) → bare f ≡ bare g → known_literal k m g ≡ Some v → known_literal k n f ≡ Some v
 known_as k n m f g v e h = sym (known_bare k n f) ∙ ap (known_literal k nowhere) e ∙ known_bare k m g ∙ h
+
+-- ---- tests, and left sides
+
+pub truth_bare : (k : Kind) (n : Note) (t : Forest) → truth_known k nowhere (bare t) ≡ truth_known k n t
+truth_bare k n t =
+    ap₂ (λ (b : Bool) (j : Known). if b || is_list k then None else truth j) (acts_bare k n t) (ap (known_from bare_answers k nowhere (bare t)) (knowns_bare t) ∙ same_known k nowhere n t (knowns bare_answers t))
+
+pub truth_as : (k : Kind) (n m : Note) (f g : Forest) (b : Bool) → bare f ≡ bare g → truth_known k m g ≡ Some b → truth_known k n f ≡ Some b
+truth_as k n m f g b e h = sym (truth_bare k n f) ∙ ap (truth_known k nowhere) e ∙ truth_bare k m g ∙ h
+
+way_bare : (o : LogicalOperator) (k : Kind) (n : Note) (t : Forest) → way_known o (alone k nowhere (bare t)) ≡ way_known o (alone k n t)
+way_bare And k n t = ap truth (ap (known_from bare_answers k nowhere (bare t)) (knowns_bare t) ∙ same_known k nowhere n t (knowns bare_answers t))
+way_bare Or k n t = ap (λ j. opposite (truth j)) (ap (known_from bare_answers k nowhere (bare t)) (knowns_bare t) ∙ same_known k nowhere n t (knowns bare_answers t))
+way_bare Coalesce k n t = ap nullish_type (ap (type_from bare_answers k nowhere (bare t)) (types_bare t) ∙ same_type k nowhere n (bare t) t (types bare_answers t))
+
+pub side_bare : (o : LogicalOperator) (k : Kind) (n : Note) (t : Forest) → side_known o k nowhere (bare t) ≡ side_known o k n t
+side_bare o k n t = ap₂ (λ (b : Bool) (w : Option Bool). if b || is_list k then None else w) (acts_bare k n t) (way_bare o k n t)
+
+pub side_as : (o : LogicalOperator) (k : Kind) (n m : Note) (f g : Forest) (b : Bool) → bare f ≡ bare g → side_known o k m g ≡ Some b → side_known o k n f ≡ Some b
+side_as o k n m f g b e h = sym (side_bare o k n f) ∙ ap (side_known o k nowhere) e ∙ side_bare o k m g ∙ h

@@ -10,14 +10,14 @@ use Rattle.steps_allowed.specs.Free.{Free, FreeDeclarator}
 use Rattle.steps_allowed.specs.SilentStatement.{SilentStatement}
 use Rattle.steps_allowed.specs.UnusedFunction.{a_function}
 use Rattle.steps_allowed.specs.UnusedDeclarator.{a_declarator, SilentDeclarator}
--- what decides by a literal, and the part that counts, which may stand in its place
+-- what is decided by what is known, and the part that counts, which may stand in its place
 use Rattle.steps_allowed.specs.KnownConditional.{KnownConditional}
 use Rattle.steps_allowed.specs.KnownSide.{KnownSide}
 -- what nobody takes the value of, and the operand that acts
 use Rattle.steps_allowed.specs.UnusedOperation.{UnusedOperation}
 -- and an array or a sequence, and its parts that act
 use Rattle.steps_allowed.specs.UnusedList.{UnusedList}
--- and what decides by a literal, and the part that counts, which may not stand there itself
+-- and what is decided by what is known, and the part that counts, which may not stand there itself
 use Rattle.steps_allowed.specs.IndirectChoice.{IndirectChoice}
 -- and a conditional that nobody takes the value of, of which one branch acts
 use Rattle.steps_allowed.specs.OneSidedChoice.{OneSidedChoice}
@@ -27,7 +27,7 @@ use Rattle.steps_allowed.specs.IdleParts.{IdleParts}
 use Rattle.steps_allowed.specs.TwoSides.{TwoSides}
 -- and an object literal that nobody takes the value of, and its values that act
 use Rattle.steps_allowed.specs.UnusedObject.{UnusedObject}
--- and an operation on literals, and its value
+-- and an operation, and its value
 use Rattle.steps_allowed.specs.KnownOperation.{KnownOperation}
 -- whose names only the tree's references may use
 use Rattle.steps_allowed.specs.Exposure.{IsOwnFunction, IsOwnDeclarator}
@@ -45,17 +45,19 @@ pub data IsDead (t : Forest) : Around → Option Tree → Type 0 where
   -- or none
   an_unused_declarator : (a : Around) (n m : Note) (x : List ℕ) (value : Forest) → IsDeclarator a → IsOwnDeclarator a (a_declarator n m x value)
       → At a (a_declarator n m x value) (SilentDeclarator t (node (binding_name x) m nothing value)) → At a (a_declarator n m x value) (FreeDeclarator t x) → IsDead t a (a_declarator n m x value)
-  -- a conditional whose condition is a literal, if the branch that is taken may stand in its place: the other is never evaluated
+  -- a conditional whose condition does nothing but give a value, of which its form tells whether it is true, if the branch that is
+  -- taken may stand in its place: the other is never evaluated
   a_known_conditional : (a : Around) (x y : Tree) → KnownConditional a x y → IsDead t a (Some x)
-  -- a logical expression whose left side is a literal, if the side that counts may stand in its place: the other does nothing
+  -- a logical expression whose left side does nothing but give a value, of which its form tells whether the right one is evaluated, if
+  -- the side that counts may stand in its place: the other does nothing
   a_known_side : (a : Around) (x y : Tree) → KnownSide a x y → IsDead t a (Some x)
   -- an operation of which nobody takes the value, where one operand alone acts: the rest of it does nothing
   an_unused_operation : (a : Around) (x y : Tree) → UnusedOperation a x y → IsDead t a (Some x)
   -- an array of which nobody takes the value and in which nothing is spread, or such a sequence of which not all parts act: what
   -- doesn't act of it does nothing
   an_unused_list : (a : Around) (x y : Tree) → UnusedList a x y → IsDead t a (Some x)
-  -- a conditional or a logical expression that a literal decides, where the part that counts may stand behind a zero alone: the rest
-  -- of it does nothing
+  -- a conditional or a logical expression that is so decided, where the part that counts may stand behind a zero alone: the rest of it
+  -- does nothing
   an_indirect_choice : (a : Around) (x y : Tree) → IndirectChoice a x y → IsDead t a (Some x)
   -- a conditional of which nobody takes the value and one branch alone acts: the other does nothing
   a_one_sided_choice : (a : Around) (x y : Tree) → OneSidedChoice a x y → IsDead t a (Some x)
@@ -67,7 +69,7 @@ pub data IsDead (t : Forest) : Around → Option Tree → Type 0 where
   -- an object literal of which nobody takes the value, with plain keys, of which a value acts, and each that does may come out of it: it
   -- does nothing itself, nor do the values that don't act
   an_unused_object : (a : Around) (x y : Tree) → UnusedObject a x y → IsDead t a (Some x)
-  -- an operation on literals of which the value is known and has a literal: the operation does nothing that the literal doesn't
+  -- an operation that doesn't act, of which the value is known and has a literal: the operation does nothing that the literal doesn't
   a_known_operation : (a : Around) (x y : Tree) → KnownOperation a x y → IsDead t a (Some x)
 
 -- No part of the program is dead code.

@@ -19,16 +19,16 @@ use Rattle.js_meaning_near.proofs.Branches.{bare_asks, bare_hoists}
 use Rattle.known_tests.specs.Tells.{Tells, GivesAlone}
 use Rattle.known_tests.proofs.Told.{told_leads, value_leads}
 
-unknown_leads : (m : M) → Leads unknown m
+pub unknown_leads : (m : M) → Leads unknown m
 unfolding stop
 unknown_leads m = record { leads = λ s. stops_before }
 
-chosen : (b : Bool) (m n : M) → b ≡ true → choose b m n ≡ m
+pub chosen : (b : Bool) (m n : M) → b ≡ true → choose b m n ≡ m
 unfolding choose
 chosen true m n e = refl
 chosen false m n e = absurd (true≢false (sym e))
 
-not_chosen : (b : Bool) (m n : M) → b ≡ false → choose b m n ≡ n
+pub not_chosen : (b : Bool) (m n : M) → b ≡ false → choose b m n ≡ n
 unfolding choose
 not_chosen true m n e = absurd (true≢false e)
 not_chosen false m n e = refl

@@ -9,7 +9,7 @@ use Rattle.js_syntax.specs.declared.value.Key.TheVariants as key
 use Rattle.js_syntax.specs.declared.value.LiteralValue.{LiteralValue}
 use Rattle.js_syntax.specs.declared.value.LiteralValue.TheVariants as value
 use Rattle.js_syntax.specs.Node.{Forest, Tree, Note, nothing, node, absent, nowhere, joined}
-use Rattle.form_rules.specs.Samples.{a_module, a, binds, reads, one, does, declares, let_, function_a, block}
+use Rattle.form_rules.specs.Samples.{a_module, a, binds, reads, listed, one, does, declares, let_, function_a, block}
 use Rattle.scope_rules.specs.Context.{body_of}
 use Rattle.scope_rules.specs.Binding.{named_in}
 use Rattle.scope_laws.specs.Place.{Around, first, behind, under}
@@ -21,7 +21,7 @@ use Rattle.steps_allowed.specs.SilentStatement.{SilentStatement, silent_statemen
 use Rattle.steps_allowed.specs.EmptyStatement.{empty_statement_leaves}
 use Rattle.steps_allowed.specs.UnusedFunction.{unused_function_leaves}
 use Rattle.steps_allowed.specs.UnusedDeclaration.{a_declaration, SilentDeclaration, unused_declaration_leaves}
-use Rattle.steps_allowed.specs.KnownConditional.{KnownConditional, consequent_is_taken, alternate_is_taken}
+use Rattle.steps_allowed.specs.KnownConditional.{a_conditional, KnownConditional, consequent_is_taken, alternate_is_taken}
 use Rattle.steps_allowed.specs.KnownSide.{right_side_counts, left_side_decides}
 use Rattle.steps_allowed.specs.KnownIf.{an_if, KnownIf, consequent_is_run, alternate_is_run}
 use Rattle.steps_allowed.specs.UnusedOperation.{needed_at, one_operand_acts}
@@ -88,10 +88,20 @@ abbrev there : Around
 there = in_statement (first nothing)
 
 pub consequent_taken : Edit (a_module (does (conditional one call_of_a (reads a)) ∷ [])) (a_module (does call_of_a ∷ []))
-consequent_taken = becomes there _ _ (known_conditional (consequent_is_taken (value.Number (pos 1)) nowhere nowhere nowhere nowhere _ _ _ _ refl refl))
+consequent_taken = becomes there _ _ (known_conditional (consequent_is_taken nowhere nowhere nowhere nowhere _ _ _ _ _ _ refl refl))
 
 pub alternate_taken : Edit (a_module (does (conditional null (reads a) call_of_a) ∷ [])) (a_module (does call_of_a ∷ []))
-alternate_taken = becomes there _ _ (known_conditional (alternate_is_taken value.Null nowhere nowhere nowhere nowhere _ _ _ _ refl refl))
+alternate_taken = becomes there _ _ (known_conditional (alternate_is_taken nowhere nowhere nowhere nowhere _ _ _ _ _ _ refl refl))
+
+pub object_taken : Edit (a_module (does (conditional (array []) call_of_a (reads a)) ∷ [])) (a_module (does call_of_a ∷ []))
+object_taken = becomes there _ _ (known_conditional (consequent_is_taken nowhere nowhere nowhere nowhere _ _ _ _ _ _ refl refl))
+
+pub negated_taken : Edit (a_module (does (conditional (applied unary.LogicalNot (array [])) (reads a) call_of_a) ∷ [])) (a_module (does call_of_a ∷ []))
+negated_taken = becomes there _ _ (known_conditional (alternate_is_taken nowhere nowhere nowhere nowhere _ _ _ _ _ _ refl refl))
+
+pub acting_test_stays : (y : Tree) → KnownConditional statement (a_conditional nowhere Kind.ArrayExpression nowhere (listed Kind.Elements (call_of_a ∷ [])) (joined (reads a) null)) y → ⊥
+acting_test_stays y (consequent_is_taken n m i j t k l a b c truth bare) = absurd cc
+acting_test_stays y (alternate_is_taken n m i j t k l a b c truth bare) = absurd cc
 
 pub consequent_run : Edit (a_module (if_one (does call_of_a) ∷ [])) (a_module (does call_of_a ∷ []))
 consequent_run = becomes (before []) _ _ (known_if (consequent_is_run (value.Number (pos 1)) nowhere nowhere nowhere _ _ (absent nothing) refl refl tt refl))
@@ -100,22 +110,31 @@ pub alternate_run : Edit (a_module (if_null empty (does call_of_a) ∷ [])) (a_m
 alternate_run = becomes (before []) _ _ (known_if (alternate_is_run value.Null nowhere nowhere nowhere nowhere _ _ _ _ refl refl refl))
 
 pub and_goes_right : Edit (a_module (does (logical operator.And one call_of_a) ∷ [])) (a_module (does call_of_a ∷ []))
-and_goes_right = becomes there _ _ (known_side (right_side_counts operator.And (value.Number (pos 1)) nowhere nowhere nowhere _ _ refl refl))
+and_goes_right = becomes there _ _ (known_side (right_side_counts operator.And nowhere nowhere nowhere _ _ _ _ refl refl))
 
 pub and_stays_left : Edit (a_module (does (logical operator.And null call_of_a) ∷ [])) (a_module (does null ∷ []))
-and_stays_left = becomes there _ _ (known_side (left_side_decides operator.And value.Null nowhere nowhere nowhere _ _ refl))
+and_stays_left = becomes there _ _ (known_side (left_side_decides operator.And nowhere nowhere nowhere _ _ _ _ refl refl))
 
 pub or_goes_right : Edit (a_module (does (logical operator.Or null (reads a)) ∷ [])) (a_module (does (reads a) ∷ []))
-or_goes_right = becomes there _ _ (known_side (right_side_counts operator.Or value.Null nowhere nowhere nowhere _ _ refl refl))
+or_goes_right = becomes there _ _ (known_side (right_side_counts operator.Or nowhere nowhere nowhere _ _ _ _ refl refl))
 
 pub or_stays_left : Edit (a_module (does (logical operator.Or one (reads a)) ∷ [])) (a_module (does one ∷ []))
-or_stays_left = becomes there _ _ (known_side (left_side_decides operator.Or (value.Number (pos 1)) nowhere nowhere nowhere _ _ refl))
+or_stays_left = becomes there _ _ (known_side (left_side_decides operator.Or nowhere nowhere nowhere _ _ _ _ refl refl))
 
 pub coalesce_goes_right : Edit (a_module (does (logical operator.Coalesce null o_f) ∷ [])) (a_module (does o_f ∷ []))
-coalesce_goes_right = becomes there _ _ (known_side (right_side_counts operator.Coalesce value.Null nowhere nowhere nowhere _ _ refl refl))
+coalesce_goes_right = becomes there _ _ (known_side (right_side_counts operator.Coalesce nowhere nowhere nowhere _ _ _ _ refl refl))
 
 pub coalesce_stays_left : Edit (a_module (does (logical operator.Coalesce one o_f) ∷ [])) (a_module (does one ∷ []))
-coalesce_stays_left = becomes there _ _ (known_side (left_side_decides operator.Coalesce (value.Number (pos 1)) nowhere nowhere nowhere _ _ refl))
+coalesce_stays_left = becomes there _ _ (known_side (left_side_decides operator.Coalesce nowhere nowhere nowhere _ _ _ _ refl refl))
+
+pub typed_stays_left : Edit (a_module (does (logical operator.Or (applied unary.Typeof one) (reads a)) ∷ [])) (a_module (does (applied unary.Typeof one) ∷ []))
+typed_stays_left = becomes there _ _ (known_side (left_side_decides operator.Or nowhere nowhere nowhere _ _ _ _ refl refl))
+
+pub voided_goes_right : Edit (a_module (does (logical operator.Coalesce (applied unary.Void one) o_f) ∷ [])) (a_module (does o_f ∷ []))
+voided_goes_right = becomes there _ _ (known_side (right_side_counts operator.Coalesce nowhere nowhere nowhere _ _ _ _ refl refl))
+
+pub object_stays_left : Edit (a_module (does (logical operator.Coalesce (array []) o_f) ∷ [])) (a_module (does (array []) ∷ []))
+object_stays_left = becomes there _ _ (known_side (left_side_decides operator.Coalesce nowhere nowhere nowhere _ _ _ _ refl refl))
 
 nameless : (u : Use) (in_with : Bool) (k : Kind) (b : Forest) → stands_bare u in_with k b ≡ true → may_be_named k ≡ false
 nameless u in_with (Kind.Function how pure) b h = absurd cc
@@ -123,16 +142,16 @@ nameless u in_with (Kind.Class how) b h = absurd cc
 nameless u in_with k b h = refl
 
 pub branch_is_nameless : (place : Around) (x y : Tree) → KnownConditional place x y → may_be_named y.kind ≡ false
-branch_is_nameless place x y (consequent_is_taken v n m i j k l b c truth bare) = nameless (use_at place) (asked_at (asked_of_program true) place).in_with k b bare
-branch_is_nameless place x y (alternate_is_taken v n m i j k l b c truth bare) = nameless (use_at place) (asked_at (asked_of_program true) place).in_with l c bare
+branch_is_nameless place x y (consequent_is_taken n m i j t k l a b c truth bare) = nameless (use_at place) (asked_at (asked_of_program true) place).in_with k b bare
+branch_is_nameless place x y (alternate_is_taken n m i j t k l a b c truth bare) = nameless (use_at place) (asked_at (asked_of_program true) place).in_with l c bare
 
 -- what may not stand bare stays
 stays : (place : Around) (k : Kind) (n : Note) (b : Forest) → stands_bare (use_at place) (asked_at (asked_of_program true) place).in_with k b ≡ false → Stays place (node k n b nothing)
-stays place k n b h y (consequent_is_taken v _ _ _ _ _ _ _ _ truth bare) = true≢false (sym bare ∙ h)
-stays place k n b h y (alternate_is_taken v _ _ _ _ _ _ _ _ truth bare) = true≢false truth
+stays place k n b h y (consequent_is_taken _ _ _ _ _ _ _ _ _ _ truth bare) = true≢false (sym bare ∙ h)
+stays place k n b h y (alternate_is_taken _ _ _ _ _ _ _ _ _ _ truth bare) = absurd cc
 
 comes : (place : Around) (k : Kind) (n : Note) (b : Forest) → MayStandBare place k b → ComesOut place (node k n b nothing)
-comes place k n b h = becomes place _ _ (known_conditional (consequent_is_taken (value.Number (pos 1)) nowhere nowhere n nowhere k _ b nothing refl h))
+comes place k n b h = becomes place _ _ (known_conditional (consequent_is_taken nowhere nowhere n nowhere _ k _ nothing b nothing refl h))
 
 -- o.f
 abbrev member : Kind

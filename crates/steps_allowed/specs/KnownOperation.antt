@@ -1,10 +1,10 @@
 -- An operation of which the value is known, and which does nothing but give it, becomes a literal of it (ECMA-262 13.5 to 13.11).
-use Rattle.std.specs.Prelude.{◌≡◌, pos, negsuc, Bool, true, false, not, ◌||◌, Option, Some, None, if◌then◌else◌}
+use Rattle.std.specs.Prelude.{◌≡◌, pos, negsuc, Bool, false, not, ◌||◌, Option, Some, None, if◌then◌else◌}
 use Rattle.js_syntax.specs.declared.node_kind.NodeKind.{NodeKind as Kind}
 use Rattle.js_syntax.specs.declared.node_kind.NodeKind.TheVariants.{Literal as literal, UnaryExpression as unary_expression, BinaryExpression as binary_expression}
 use Rattle.js_syntax.specs.declared.value.LiteralValue.{LiteralValue}
 use Rattle.js_syntax.specs.declared.value.LiteralValue.TheVariants as value
-use Rattle.js_syntax.specs.Node.{Forest, Tree, Note, nothing, node, absent, alone}
+use Rattle.js_syntax.specs.Node.{Forest, Tree, Note, nothing, node, alone}
 use Rattle.js_effects.specs.declared.value.ConstantValue.{ConstantValue}
 use Rattle.js_effects.specs.declared.value.ConstantValue.TheVariants.{Number, Text, Boolean, Null, Undefined}
 -- the value of an expression, as far as its form tells

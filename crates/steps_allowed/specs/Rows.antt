@@ -155,7 +155,7 @@ ComesOut place e = ⊥
 
 -- it becomes nothing
 abbrev pub Stays : Around → Forest → Type 0
-Stays place (node k n below rest) = (y : Tree) → KnownConditional place (a_conditional nowhere nowhere (value.Number (pos 1)) (node k n below null)) y → ⊥
+Stays place (node k n below rest) = (y : Tree) → KnownConditional place (a_conditional nowhere (Kind.Literal (value.Number (pos 1))) nowhere nothing (node k n below null)) y → ⊥
 Stays place e = ⊥
 
 -- an expression in a place
@@ -165,7 +165,7 @@ placed place e = nothing
 
 -- `1 ? e : null` doesn't become (0, e) there
 abbrev pub StaysDirect : Around → Forest → Type 0
-StaysDirect place (node k n below rest) = (y : Tree) → IndirectChoice place (a_conditional nowhere nowhere (value.Number (pos 1)) (node k n below null)) y → ⊥
+StaysDirect place (node k n below rest) = (y : Tree) → IndirectChoice place (a_conditional nowhere (Kind.Literal (value.Number (pos 1))) nowhere nothing (node k n below null)) y → ⊥
 StaysDirect place e = ⊥
 
 -- the place of e in e;

@@ -7,7 +7,7 @@ ghost use Rattle.js_syntax.specs.declared.operator.LogicalOperator.TheVariants a
 ghost use Rattle.js_syntax.specs.declared.operator.UnaryOperator.TheVariants as unary;
 ghost use Rattle.js_syntax.specs.declared.value.LiteralValue.TheVariants as value;
 ghost use Rattle.js_syntax.specs.Node.{Tree, nowhere, joined};
-ghost use Rattle.form_rules.specs.Samples.{a_module, a, binds, reads, one, does, declares, let_, function_a, block};
+ghost use Rattle.form_rules.specs.Samples.{a_module, a, binds, reads, listed, one, does, declares, let_, function_a, block};
 ghost use Rattle.scope_rules.specs.Context.{body_of};
 ghost use Rattle.scope_rules.specs.Binding.{named_in};
 ghost use Rattle.scope_laws.specs.Place.{Around};
@@ -15,7 +15,7 @@ ghost use Rattle.steps_allowed.specs.Places.{a_node, At};
 ghost use Rattle.steps_allowed.specs.Free.{IsFree};
 ghost use Rattle.steps_allowed.specs.SilentStatement.{SilentStatement};
 ghost use Rattle.steps_allowed.specs.UnusedDeclaration.{a_declaration, SilentDeclaration};
-ghost use Rattle.steps_allowed.specs.KnownConditional.{KnownConditional};
+ghost use Rattle.steps_allowed.specs.KnownConditional.{a_conditional, KnownConditional};
 ghost use Rattle.steps_allowed.specs.KnownIf.{an_if, KnownIf};
 ghost use Rattle.steps_allowed.specs.Edits.{Edit};
 ghost use Rattle.steps_allowed.specs.Rows.{before, call_of_a, null, if_one, if_null, conditional, logical, may_be_named, o_f, parenthesized, called, called_in_parentheses, called_in_with, argument, operand, applied, equals, assigned, statement, ComesOut, Stays, StaysUnused, array, spread, hole, sequence, ListStays, ChoiceStays, PartsStay, SidesStay, object, a_is, b_is, getter_of_a, ObjectStays, literal, operation, OperationStays, behind_zero, placed, StaysDirect, with_a, in_with_a, empty, a_is_read, a_is_exported};
@@ -53,10 +53,12 @@ pub fn what_is_used_stays()
     ensures exported { IsFree a_is_exported (named_in a (body_of 0)) → ⊥ }
 {}
 
-/// A conditional and an `if` on a literal become the branch that is taken.
+/// A conditional on a test that is known, and an `if` on a literal, become the branch that is taken.
 pub fn known_branches_are_taken()
     ensures consequent { Edit (a_module (does (conditional one call_of_a (reads a)) ∷ [])) (a_module (does call_of_a ∷ [])) }
     ensures alternate { Edit (a_module (does (conditional null (reads a) call_of_a) ∷ [])) (a_module (does call_of_a ∷ [])) }
+    ensures object { Edit (a_module (does (conditional (array []) call_of_a (reads a)) ∷ [])) (a_module (does call_of_a ∷ [])) }
+    ensures negated { Edit (a_module (does (conditional (applied unary.LogicalNot (array [])) (reads a) call_of_a) ∷ [])) (a_module (does call_of_a ∷ [])) }
     ensures if_holds { Edit (a_module (if_one (does call_of_a) ∷ [])) (a_module (does call_of_a ∷ [])) }
     ensures if_fails { Edit (a_module (if_null empty (does call_of_a) ∷ [])) (a_module (does call_of_a ∷ [])) }
 {}
@@ -68,7 +70,7 @@ pub fn branches_that_declare_stay()
     ensures consequent { (y : Tree) → KnownIf (an_if nowhere nowhere value.Null (joined (block (function_a [] [] ∷ [])) empty)) y → ⊥ }
 {}
 
-/// A logical expression with a literal on its left becomes its right side, if that is evaluated, and else the literal.
+/// A logical expression with a known left side becomes its right one, if that is evaluated, and else the left one.
 pub fn known_sides_count()
     ensures and_right { Edit (a_module (does (logical operator.And one call_of_a) ∷ [])) (a_module (does call_of_a ∷ [])) }
     ensures and_left { Edit (a_module (does (logical operator.And null call_of_a) ∷ [])) (a_module (does null ∷ [])) }
@@ -76,6 +78,14 @@ pub fn known_sides_count()
     ensures or_left { Edit (a_module (does (logical operator.Or one (reads a)) ∷ [])) (a_module (does one ∷ [])) }
     ensures coalesce_right { Edit (a_module (does (logical operator.Coalesce null o_f) ∷ [])) (a_module (does o_f ∷ [])) }
     ensures coalesce_left { Edit (a_module (does (logical operator.Coalesce one o_f) ∷ [])) (a_module (does one ∷ [])) }
+    ensures typed { Edit (a_module (does (logical operator.Or (applied unary.Typeof one) (reads a)) ∷ [])) (a_module (does (applied unary.Typeof one) ∷ [])) }
+    ensures voided { Edit (a_module (does (logical operator.Coalesce (applied unary.Void one) o_f) ∷ [])) (a_module (does o_f ∷ [])) }
+    ensures object { Edit (a_module (does (logical operator.Coalesce (array []) o_f) ∷ [])) (a_module (does (array []) ∷ [])) }
+{}
+
+/// What acts decides nothing, though it is an object.
+pub fn acting_tests_decide_nothing()
+    ensures { (y : Tree) → KnownConditional statement (a_conditional nowhere Kind.ArrayExpression nowhere (listed Kind.Elements (call_of_a ∷ [])) (joined (reads a) null)) y → ⊥ }
 {}
 
 /// But no function or class comes out of a conditional: it would take its name from where it stands.

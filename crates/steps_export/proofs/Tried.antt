@@ -1,8 +1,7 @@
 -- The small programs, by computing.
 use Rattle.std.proofs.Common.{◌≡◌, ◌∙◌, inl, inr, ℕ, refl, ap, arith}
-use Rattle.std.specs.Prelude.{pos, None}
+use Rattle.std.specs.Prelude.{None}
 use Rattle.js_syntax.specs.declared.node_kind.NodeKind.{NodeKind as Kind}
-use Rattle.js_syntax.specs.declared.value.LiteralValue.TheVariants as value
 use Rattle.js_syntax.specs.Class.{root}
 use Rattle.js_syntax.specs.Node.{nothing, nowhere}
 use Rattle.json_shape.specs.Shape.{Fits}
@@ -49,7 +48,7 @@ only_named h = h.stands
 
 pub torn_becomes : TreeEdits before_it behind_it
 torn_becomes =
-    let taken = known_conditional (consequent_is_taken (value.Number (pos 1)) nowhere nowhere nowhere nowhere literal_one.kind (Kind.ExportNamedDeclaration None) nothing _ refl refl) in
+    let taken = known_conditional (consequent_is_taken nowhere nowhere nowhere nowhere literal_one.kind literal_one.kind (Kind.ExportNamedDeclaration None) nothing nothing _ refl refl) in
     one_tree_edit before_it behind_it behind_it (becomes statement torn literal_one taken) (no_tree_edit behind_it)
 
 pub torn_exports : IsExported before_it 0

@@ -34,7 +34,7 @@ literal_one = record { kind = Kind.Literal (value.Number (pos 1)); note = nowher
 
 -- 1 ? 1 : export let a
 abbrev pub torn : Tree
-torn = a_conditional nowhere nowhere (value.Number (pos 1)) (joined (node literal_one.kind nowhere nothing nothing) export_of_a)
+torn = a_conditional nowhere (Kind.Literal (value.Number (pos 1))) nowhere nothing (joined (node literal_one.kind nowhere nothing nothing) export_of_a)
 
 abbrev pub statement : Around
 statement = in_list (under Kind.ExpressionStatement nowhere (first nothing) nothing)

@@ -24,10 +24,10 @@ abbrev there : Around
 there = in_statement (first nothing)
 
 pub conditional_taken : TreeEdits (a_module (does (conditional one call_of_a (reads a)) ∷ [])) (a_module (does call_of_a ∷ []))
-conditional_taken = one_tree_edit _ _ _ (becomes there _ _ (known_conditional (consequent_is_taken (value.Number (pos 1)) nowhere nowhere nowhere nowhere _ _ _ _ refl refl))) (no_tree_edit _)
+conditional_taken = one_tree_edit _ _ _ (becomes there _ _ (known_conditional (consequent_is_taken nowhere nowhere nowhere nowhere _ _ _ _ _ _ refl refl))) (no_tree_edit _)
 
 pub right_side_counted : TreeEdits (a_module (does (logical operator.Coalesce null (reads a)) ∷ [])) (a_module (does (reads a) ∷ []))
-right_side_counted = one_tree_edit _ _ _ (becomes there _ _ (known_side (right_side_counts operator.Coalesce value.Null nowhere nowhere nowhere _ _ refl refl))) (no_tree_edit _)
+right_side_counted = one_tree_edit _ _ _ (becomes there _ _ (known_side (right_side_counts operator.Coalesce nowhere nowhere nowhere _ _ _ _ refl refl))) (no_tree_edit _)
 
 pub part_put_behind_zero : TreeEdits calls_choice calls_behind_zero
 part_put_behind_zero = one_tree_edit _ _ _ (becomes called _ _ (indirect_choice (value_alone_counts nowhere nowhere nowhere _ _ refl refl))) (no_tree_edit _)

@@ -9,6 +9,7 @@ use Rattle.js_syntax.specs.declared.value.LiteralValue.{LiteralValue}
 use Rattle.js_syntax.specs.declared.value.LiteralValue.TheVariants as value
 use Rattle.js_syntax.specs.Node.{Forest, total}
 use Rattle.steps_owed.proofs.KnownSizes.{IsSmall}
+use Rattle.js_tree.specs.Count.{one_each}
 use Rattle.steps_marked.proofs.Picked.{SomeOf, none, stays, leaves, opens, absent_leaves, absent_stays, Picks, one_part, several, part_behind_zero, two_parts, known, in_turn}
 
 -- counts by which what edits build counts no more than what it is built of
@@ -22,7 +23,7 @@ pub record IsSparing (counts : Kind → ℕ) : Type 0 where
   pub of_conditional : counts sequence_expression + counts expressions ≤ counts conditional_expression
   pub of_logical : (o : LogicalOperator) → counts sequence_expression + counts expressions ≤ counts (logical_expression o)
   pub of_choice : (o : LogicalOperator) → counts (logical_expression o) ≤ counts conditional_expression
-  pub zero : (v : LiteralValue) → counts (literal (value.Number (pos 0))) ≤ counts (literal v)
+  pub zero : (t : Kind) → one_each t ≡ 1 → counts (literal (value.Number (pos 0))) ≤ counts t
   pub of_one : (o : UnaryOperator) (w : LiteralValue) → IsSmall w → counts (literal w) ≤ counts (unary_expression o)
   pub of_two : (o : BinaryOperator) (w : LiteralValue) → IsSmall w → counts (literal w) ≤ counts (binary_expression o)
 
@@ -38,7 +39,7 @@ uncounted counts empty sequence list small logical = record {
   of_conditional = Prim.omega (arith, sequence, list);
   of_logical = λ o. Prim.omega (arith, sequence, list);
   of_choice = λ o. Prim.omega (arith, logical o);
-  zero = λ v. Prim.omega (arith, small (value.Number (pos 0)) refl);
+  zero = λ t h. Prim.omega (arith, small (value.Number (pos 0)) refl);
   of_one = λ o w h. Prim.omega (arith, small w h);
   of_two = λ o w h. Prim.omega (arith, small w h);
 }
@@ -58,9 +59,9 @@ module _ (counts : Kind → ℕ) where
   picked_counts spares (several object_expression properties i m parts left holds some) = Prim.omega (arith, spares.of_object, spares.of_properties, some_counts some)
   picked_counts spares (several sequence_expression expressions i m parts left holds some) = Prim.omega (arith, some_counts some)
   picked_counts spares (several k j i m parts left holds some) = absurd cc
-  picked_counts spares (part_behind_zero conditional_expression l v o m i p parts inner choice some) = Prim.omega (arith, spares.of_conditional, spares.zero v, some_counts some)
-  picked_counts spares (part_behind_zero (logical_expression q) l v o m i p parts inner choice some) = Prim.omega (arith, spares.of_logical q, spares.zero v, some_counts some)
-  picked_counts spares (part_behind_zero k l v o m i p parts inner choice some) = absurd cc
+  picked_counts spares (part_behind_zero conditional_expression l t o m i p d parts inner choice one some) = Prim.omega (arith, spares.of_conditional, spares.zero t one, some_counts some)
+  picked_counts spares (part_behind_zero (logical_expression q) l t o m i p d parts inner choice one some) = Prim.omega (arith, spares.of_logical q, spares.zero t one, some_counts some)
+  picked_counts spares (part_behind_zero k l t o m i p d parts inner choice one some) = absurd cc
   picked_counts spares (two_parts o parts left some) = Prim.omega (arith, spares.of_choice o, some_counts some)
   picked_counts spares (in_turn o m sides) = Prim.omega (arith, spares.of_comparison o)
   picked_counts spares (known (unary_expression o) below w operator small) = Prim.omega (arith, spares.of_one o w small)

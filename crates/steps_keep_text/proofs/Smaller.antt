@@ -76,7 +76,7 @@ nodes_shed = counts_shed one_each (record {
   of_conditional = Prim.omega arith;
   of_logical = λ o. Prim.omega arith;
   of_choice = λ o. Prim.omega arith;
-  zero = λ v. Prim.omega arith;
+  zero = λ t h. Prim.omega (arith, h);
   of_one = λ o w h. Prim.omega arith;
   of_two = λ o w h. Prim.omega arith;
 })

@@ -1,4 +1,4 @@
--- A call of what a literal decides, and what edits leave of it.
+-- A call of what a known test decides, and what edits leave of it.
 use Rattle.std.specs.Prelude.{[], ◌∷◌, false}
 use Rattle.js_syntax.specs.declared.node_kind.NodeKind.{NodeKind as Kind}
 use Rattle.js_syntax.specs.Node.{Forest, joined}

@@ -12,6 +12,7 @@ use Rattle.js_syntax.specs.Node.{Forest, Tree, Note, nothing, node, absent, alon
 use Rattle.min_pass.specs.Around.{outermost as asked_of_program}
 use Rattle.scope_laws.specs.Place.{Around}
 use Rattle.scope_laws.proofs.Bindings.{same_value}
+use Rattle.js_tree.specs.Count.{one_each}
 use Rattle.steps_allowed.specs.IndirectChoice.{IndirectChoice, value_alone_counts}
 use Rattle.steps_allowed.specs.OneSidedChoice.{sides, one_side, one_sided, OneSidedChoice, one_branch_acts}
 use Rattle.steps_allowed.specs.IdleParts.{stays_before, counting, all_count, as_value_of, sequence_becomes, IdleParts, idle_parts_leave}
@@ -22,6 +23,7 @@ use Rattle.steps_allowed.specs.Places.{asked_at}
 use Rattle.steps_allowed.specs.UnusedList.{acting, all_act, has_spread, as_one, list_becomes, UnusedList, acting_parts_stay}
 use Rattle.steps_allowed.specs.UnusedOperation.{acts}
 use Rattle.steps_allowed.specs.Uses.{Use, use_at, as_value, stands_bare}
+use Rattle.steps_owed.proofs.KnownTests.{test_counts, side_counts}
 use Rattle.steps_owed.proofs.IndirectChoice.{Counts, consequent_counts, alternate_counts, right_side_counts, part_that_counts}
 use Rattle.steps_owed.proofs.KnownOperation.{Operation, on_one, on_two, is_operation_known, value_small}
 use Rattle.steps_owed.proofs.KnownSizes.{IsSmall}
@@ -57,7 +59,7 @@ is_operator k = false
 pub data Picks : (k : Kind) (below : Forest) (l : Kind) (inner : Forest) → Type 0 where
   one_part : (k j l : Kind) (i m : Note) (parts inner : Forest) → holds_parts k j ≡ true → SomeOf parts (alone l m inner) → Picks k (node j i parts nothing) l inner
   several : (k j : Kind) (i m : Note) (parts left : Forest) → holds_parts k j ≡ true → SomeOf parts left → Picks k (node j i parts nothing) sequence_expression (node expressions m left nothing)
-  part_behind_zero : (k l : Kind) (v : LiteralValue) (o m i p : Note) (parts inner : Forest) → is_choice k ≡ true → SomeOf parts (alone l p inner) → Picks k (node (literal v) o nothing parts) sequence_expression (node expressions m (node (literal (value.Number (pos 0))) i nothing (alone l p inner)) nothing)
+  part_behind_zero : (k l t : Kind) (o m i p : Note) (d parts inner : Forest) → is_choice k ≡ true → one_each t ≡ 1 → SomeOf parts (alone l p inner) → Picks k (node t o d parts) sequence_expression (node expressions m (node (literal (value.Number (pos 0))) i nothing (alone l p inner)) nothing)
   two_parts : (o : LogicalOperator) (parts left : Forest) → SomeOf parts left → Picks conditional_expression parts (logical_expression o) left
   known : (k : Kind) (below : Forest) (w : LiteralValue) → is_operator k ≡ true → IsSmall w → Picks k below (literal w) nothing
   in_turn : (o : BinaryOperator) (m : Note) (sides : Forest) → Picks (binary_expression o) sides sequence_expression (node expressions m sides nothing)
@@ -106,9 +108,9 @@ unused_list_picks a _ _ (acting_parts_stay n m x y unused is) = list_picks n m x
 -- ---- the part that counts
 
 choice_picks : (m i : Note) {x z : Tree} → Counts x z → Picks x.kind x.below sequence_expression (node expressions m (node (literal (value.Number (pos 0))) i nothing (alone z.kind z.note z.below)) nothing)
-choice_picks m i {x = x} (consequent_counts v o p h j k l b c truth) = part_behind_zero x.kind k v p m i h (node k h b (node l j c nothing)) b refl (stays (leaves none))
-choice_picks m i {x = x} (alternate_counts v o p h j k l b c truth) = part_behind_zero x.kind l v p m i j (node k h b (node l j c nothing)) c refl (leaves (stays none))
-choice_picks m i {x = x} (right_side_counts q v o p h k b goes) = part_behind_zero x.kind k v p m i h (node k h b nothing) b refl (stays none)
+choice_picks m i {x = x} (consequent_counts o p h j t k l d b c truth) = part_behind_zero x.kind k t p m i h d (node k h b (node l j c nothing)) b refl (test_counts t p d true truth) (stays (leaves none))
+choice_picks m i {x = x} (alternate_counts o p h j t k l d b c truth) = part_behind_zero x.kind l t p m i j d (node k h b (node l j c nothing)) c refl (test_counts t p d false truth) (leaves (stays none))
+choice_picks m i {x = x} (right_side_counts q o p h t k d b goes) = part_behind_zero x.kind k t p m i h d (node k h b nothing) b refl (side_counts t p d q true goes) (stays none)
 
 pub indirect_choice_picks : (a : Around) (x y : Tree) → IndirectChoice a x y → Picks x.kind x.below y.kind y.below
 indirect_choice_picks a x _ (value_alone_counts n m i _ z counts matters) = choice_picks m i (part_that_counts x.note x.kind x.below z counts)

@@ -18,14 +18,14 @@ use Rattle.steps_fit.proofs.Held.{core_below, core_behind, core_alone}
 use Rattle.steps_owed.proofs.Undeclared.{lead_to_imports, no_imports_there}
 
 -- a part of the row below a node is core where the node is
-pub consequent_core : (above k : Kind) (n m i : Note) (t : Kind) (b r : Forest) → all_core (node above n (node t m nothing (node k i b r)) nothing) ≡ true → all_core (node k i b nothing) ≡ true
-consequent_core above k n m i t b r h = core_alone k i b r (core_behind t m nothing (node k i b r) (core_below above n (node t m nothing (node k i b r)) nothing h))
+pub consequent_core : (above k : Kind) (n m i : Note) (t : Kind) (d b r : Forest) → all_core (node above n (node t m d (node k i b r)) nothing) ≡ true → all_core (node k i b nothing) ≡ true
+consequent_core above k n m i t d b r h = core_alone k i b r (core_behind t m d (node k i b r) (core_below above n (node t m d (node k i b r)) nothing h))
 
-pub alternate_core : (above k l : Kind) (n m i j : Note) (t : Kind) (b c : Forest)
-    → all_core (node above n (node t m nothing (node k i b (node l j c nothing))) nothing) ≡ true → all_core (node l j c nothing) ≡ true
-alternate_core above k l n m i j t b c h =
+pub alternate_core : (above k l : Kind) (n m i j : Note) (t : Kind) (d b c : Forest)
+    → all_core (node above n (node t m d (node k i b (node l j c nothing))) nothing) ≡ true → all_core (node l j c nothing) ≡ true
+alternate_core above k l n m i j t d b c h =
     let branches = node k i b (node l j c nothing) in
-    core_behind k i b (node l j c nothing) (core_behind t m nothing branches (core_below above n (node t m nothing branches) nothing h))
+    core_behind k i b (node l j c nothing) (core_behind t m d branches (core_below above n (node t m d branches) nothing h))
 
 pub imports_before : (source : Text) (k : Kind) (n : Note) (a r : Forest) → import_decls source (node k n a r) ≡ [] → import_decls source (node k n a nothing) ≡ []
 imports_before source k n a r h = both_empty (specifier_decls source k a (import_decls source a)) [] (first_empty (specifier_decls source k a (import_decls source a)) (import_decls source r) h) refl

@@ -1,10 +1,9 @@
--- What a choice owes that a literal decides, which becomes the part that counts behind a zero.
-use Rattle.std.proofs.Common.{◌≡◌, ◌≤◌, ◌<◌, [], ◌∷◌, ◌++◌, pos, Bool, true, false, ◌&&◌, Some, None, if◌then◌else◌, arith, refl, sym, subst}
+-- What a choice owes of which it is known which part counts, which becomes the part that counts behind a zero.
+use Rattle.std.proofs.Common.{◌≡◌, ◌≤◌, ◌<◌, [], ◌∷◌, ◌++◌, pos, Bool, true, false, ◌&&◌, Option, Some, None, arith, refl, sym, subst}
 use Rattle.js_syntax.specs.Class.{Class, root, expression}
 use Rattle.js_syntax.specs.declared.node_kind.NodeKind.{NodeKind as Kind}
 use Rattle.js_syntax.specs.declared.node_kind.NodeKind.TheVariants.{ConditionalExpression as conditional_expression, LogicalExpression as logical_expression, SequenceExpression as sequence_expression, Literal as literal}
 use Rattle.js_syntax.specs.declared.operator.LogicalOperator.{LogicalOperator}
-use Rattle.js_syntax.specs.declared.value.LiteralValue.{LiteralValue}
 use Rattle.js_syntax.specs.declared.value.LiteralValue.TheVariants as value
 use Rattle.js_syntax.specs.Facts.{weight}
 use Rattle.js_syntax.specs.Node.{Note, Forest, Tree, nothing, node, forest_of, total}
@@ -12,9 +11,7 @@ use Rattle.js_syntax.specs.Table.{a_literal, a_sequence_expression, a_logical_ex
 use Rattle.js_syntax.proofs.Truth.{both}
 use Rattle.js_tree.specs.Count.{levels}
 use Rattle.js_rebuilt.specs.Rebuilt.{MayBeBuilt, Rebuilt, ends, stays, leaves, opened, built}
-use Rattle.js_meaning.specs.Operator.{truthy, goes_right}
 use Rattle.js_meaning.specs.Scope.{names_of, bound_names, import_decls}
-use Rattle.js_meaning.specs.Value.{literal_value}
 use Rattle.js_meaning_near.specs.Near.{is_calm, module_of}
 use Rattle.js_meaning_near.specs.Purpose.{Purpose}
 use Rattle.js_meaning_near.specs.Local.{Stands, for_part}
@@ -22,9 +19,9 @@ use Rattle.json_shape.specs.Shape.{one, these, Fits}
 use Rattle.form_rules.specs.Form.{IsWellFormed}
 use Rattle.scope_laws.specs.Place.{Around, plug}
 use Rattle.steps.specs.Steps.{all_core}
-use Rattle.steps_allowed.specs.IndirectChoice.{branch_counts, part_counts, behind_zero, IndirectChoice, value_alone_counts}
-use Rattle.steps_allowed.specs.KnownConditional.{a_conditional}
-use Rattle.steps_allowed.specs.KnownSide.{a_logical}
+use Rattle.steps_allowed.specs.IndirectChoice.{one_of, if_so, part_counts, behind_zero, IndirectChoice, value_alone_counts}
+use Rattle.steps_allowed.specs.KnownConditional.{truth_known, a_conditional}
+use Rattle.steps_allowed.specs.KnownSide.{side_known, a_logical}
 use Rattle.steps_allowed.specs.Wanted.{wanted_at}
 use Rattle.steps_fit.proofs.CoreCalm.{nameless_as_planned}
 use Rattle.steps_fit.proofs.Held.{core_below}
@@ -37,6 +34,7 @@ use Rattle.steps_owed.proofs.BehindZero.{consequent_behind_zero, alternate_behin
 use Rattle.steps_owed.proofs.BranchKinds.{IsExpression}
 use Rattle.steps_owed.proofs.ChoiceParts.{parts_of_conditional, sides_of_logical}
 use Rattle.steps_owed.proofs.ChoiceRuns.{consequent_core, alternate_core, core_there, no_imports_below, imports_before}
+use Rattle.steps_owed.proofs.KnownTests.{test_tells, side_tells, test_weighs, side_weighs, test_counts, side_counts}
 use Rattle.steps_owed.proofs.FitsTaking.{as_conditional, conditional_stood, as_logical, logical_stood}
 use Rattle.steps_owed.proofs.Undeclared.{DeclaresNothing, nothing_behind, both_plainly}
 use Rattle.steps_owed.proofs.UnusedList.{list_is_built, sequence_is_built}
@@ -50,22 +48,23 @@ number_zero = literal (value.Number (pos 0))
 -- ---- which part counts
 
 pub data Counts : (x z : Tree) → Type 0 where
-  consequent_counts : (v : LiteralValue) (o p i j : Note) (k l : Kind) (b c : Forest) → truthy (literal_value v) ≡ true → Counts (a_conditional o p v (node k i b (node l j c nothing))) (tree k i b)
-  alternate_counts : (v : LiteralValue) (o p i j : Note) (k l : Kind) (b c : Forest) → truthy (literal_value v) ≡ false → Counts (a_conditional o p v (node k i b (node l j c nothing))) (tree l j c)
-  right_side_counts : (q : LogicalOperator) (v : LiteralValue) (o p i : Note) (k : Kind) (b : Forest) → goes_right q (literal_value v) ≡ true → Counts (a_logical q o p v (node k i b nothing)) (tree k i b)
+  consequent_counts : (o p i j : Note) (t k l : Kind) (d b c : Forest) → truth_known t p d ≡ Some true → Counts (a_conditional o t p d (node k i b (node l j c nothing))) (tree k i b)
+  alternate_counts : (o p i j : Note) (t k l : Kind) (d b c : Forest) → truth_known t p d ≡ Some false → Counts (a_conditional o t p d (node k i b (node l j c nothing))) (tree l j c)
+  right_side_counts : (q : LogicalOperator) (o p i : Note) (t k : Kind) (d b : Forest) → side_known q t p d ≡ Some true → Counts (a_logical q o t p d (node k i b nothing)) (tree k i b)
 
-branch_that_counts : (o p : Note) (v : LiteralValue) (truth : Bool) (branches : Forest) (z : Tree) → truthy (literal_value v) ≡ truth → branch_counts truth branches ≡ Some z → Counts (a_conditional o p v branches) z
-branch_that_counts o p v true (node k i b (node l j c nothing)) z truth is = subst (Counts (a_conditional o p v (node k i b (node l j c nothing)))) (cc is) (consequent_counts v o p i j k l b c truth)
-branch_that_counts o p v false (node k i b (node l j c nothing)) z truth is = subst (Counts (a_conditional o p v (node k i b (node l j c nothing)))) (cc is) (alternate_counts v o p i j k l b c truth)
-branch_that_counts o p v truth branches z e is = absurd cc
+branch_that_counts : (o p i j : Note) (t k l : Kind) (d b c : Forest) (known : Option Bool) (z : Tree) → truth_known t p d ≡ known → one_of known (tree k i b) (tree l j c) ≡ Some z → Counts (a_conditional o t p d (node k i b (node l j c nothing))) z
+branch_that_counts o p i j t k l d b c (Some true) z truth is = subst (Counts (a_conditional o t p d (node k i b (node l j c nothing)))) (cc is) (consequent_counts o p i j t k l d b c truth)
+branch_that_counts o p i j t k l d b c (Some false) z truth is = subst (Counts (a_conditional o t p d (node k i b (node l j c nothing)))) (cc is) (alternate_counts o p i j t k l d b c truth)
+branch_that_counts o p i j t k l d b c None z truth is = absurd cc
 
-side_that_counts : (q : LogicalOperator) (o p i : Note) (v : LiteralValue) (k : Kind) (b : Forest) (goes : Bool) (z : Tree) → goes_right q (literal_value v) ≡ goes → (if goes then Some (tree k i b) else None) ≡ Some z → Counts (a_logical q o p v (node k i b nothing)) z
-side_that_counts q o p i v k b true z goes is = subst (Counts (a_logical q o p v (node k i b nothing))) (cc is) (right_side_counts q v o p i k b goes)
-side_that_counts q o p i v k b false z goes is = absurd cc
+side_that_counts : (q : LogicalOperator) (o p i : Note) (t k : Kind) (d b : Forest) (known : Option Bool) (z : Tree) → side_known q t p d ≡ known → if_so known (tree k i b) ≡ Some z → Counts (a_logical q o t p d (node k i b nothing)) z
+side_that_counts q o p i t k d b (Some true) z goes is = subst (Counts (a_logical q o t p d (node k i b nothing))) (cc is) (right_side_counts q o p i t k d b goes)
+side_that_counts q o p i t k d b (Some false) z e is = absurd cc
+side_that_counts q o p i t k d b None z e is = absurd cc
 
 pub part_that_counts : (o : Note) (k : Kind) (below : Forest) (z : Tree) → part_counts k below ≡ Some z → Counts (tree k o below) z
-part_that_counts o conditional_expression (node (literal v) p nothing branches) z is = branch_that_counts o p v (truthy (literal_value v)) branches z refl is
-part_that_counts o (logical_expression q) (node (literal v) p nothing (node k i b nothing)) z is = side_that_counts q o p i v k b (goes_right q (literal_value v)) z refl is
+part_that_counts o conditional_expression (node t p d (node k i b (node l j c nothing))) z is = branch_that_counts o p i j t k l d b c (truth_known t p d) z refl is
+part_that_counts o (logical_expression q) (node t p d (node k i b nothing)) z is = side_that_counts q o p i t k d b (side_known q t p d) z refl is
 part_that_counts o k below z is = absurd cc
 
 -- ---- rebuilt
@@ -74,9 +73,9 @@ zero_is_built : MayBeBuilt number_zero nothing
 zero_is_built = record { operation = refl; calls_none = refl; breaks_none = λ c place. refl }
 
 part_is_left : {x z : Tree} → Counts x z → Rebuilt (forest_of x) (forest_of z)
-part_is_left (consequent_counts v o p i j k l b c truth) = opened refl (leaves (stays (leaves ends)))
-part_is_left (alternate_counts v o p i j k l b c truth) = opened refl (leaves (leaves (stays ends)))
-part_is_left (right_side_counts q v o p i k b goes) = opened refl (leaves (stays ends))
+part_is_left (consequent_counts o p i j t k l d b c truth) = opened refl (leaves (stays (leaves ends)))
+part_is_left (alternate_counts o p i j t k l d b c truth) = opened refl (leaves (leaves (stays ends)))
+part_is_left (right_side_counts q o p i t k d b goes) = opened refl (leaves (stays ends))
 
 part_is_behind : (n m i : Note) (x z : Tree) → Rebuilt (forest_of x) (forest_of z) → Rebuilt (forest_of x) (forest_of (behind_zero n m i z))
 part_is_behind n m i x z h = built (sequence_is_built m number_zero z.kind i z.note nothing z.below nothing) (built (list_is_built (node number_zero i nothing (forest_of z))) (built zero_is_built h))
@@ -84,26 +83,26 @@ part_is_behind n m i x z h = built (sequence_is_built m number_zero z.kind i z.n
 -- ---- what it weighs, and how many levels there are
 
 behind_lighter : (n m i : Note) {x z : Tree} → Counts x z → total weight (forest_of (behind_zero n m i z)) < total weight (forest_of x)
-behind_lighter n m i (consequent_counts v o p h j k l b c truth) = Prim.omega arith
-behind_lighter n m i (alternate_counts v o p h j k l b c truth) = Prim.omega arith
-behind_lighter n m i (right_side_counts q v o p h k b goes) = Prim.omega arith
+behind_lighter n m i (consequent_counts o p h j t k l d b c truth) = let test = test_weighs t p d true truth in Prim.omega (arith, test)
+behind_lighter n m i (alternate_counts o p h j t k l d b c truth) = let test = test_weighs t p d false truth in Prim.omega (arith, test)
+behind_lighter n m i (right_side_counts q o p h t k d b goes) = let side = side_weighs t p d q true goes in Prim.omega (arith, side)
 
 behind_no_deeper : (n m i : Note) {x z : Tree} → Counts x z → levels (forest_of (behind_zero n m i z)) ≤ levels (forest_of x)
-behind_no_deeper n m i (consequent_counts v o p h j k l b c truth) = Prim.omega arith
-behind_no_deeper n m i (alternate_counts v o p h j k l b c truth) = Prim.omega arith
-behind_no_deeper n m i (right_side_counts q v o p h k b goes) = Prim.omega arith
+behind_no_deeper n m i (consequent_counts o p h j t k l d b c truth) = let test = test_counts t p d true truth in Prim.omega (arith, test)
+behind_no_deeper n m i (alternate_counts o p h j t k l d b c truth) = let test = test_counts t p d false truth in Prim.omega (arith, test)
+behind_no_deeper n m i (right_side_counts q o p h t k d b goes) = let side = side_counts t p d q true goes in Prim.omega (arith, side)
 
 -- ---- by the table of node types
 
 counted_expression : (a : Around) {x z : Tree} → Counts x z → Fits root (plug a (Some x)) → IsExpression z.kind z.below
-counted_expression a {x = x} (consequent_counts v o p i j k l b c truth) fits = (parts_of_conditional a o x.below fits).1.0
-counted_expression a {x = x} (alternate_counts v o p i j k l b c truth) fits = (parts_of_conditional a o x.below fits).1.1.0
-counted_expression a {x = x} (right_side_counts q v o p i k b goes) fits = (sides_of_logical a q o x.below fits).1.0
+counted_expression a {x = x} (consequent_counts o p i j t k l d b c truth) fits = (parts_of_conditional a o x.below fits).1.0
+counted_expression a {x = x} (alternate_counts o p i j t k l d b c truth) fits = (parts_of_conditional a o x.below fits).1.1.0
+counted_expression a {x = x} (right_side_counts q o p i t k d b goes) fits = (sides_of_logical a q o x.below fits).1.0
 
 choice_expression : (a : Around) {x z : Tree} → Counts x z → Fits root (plug a (Some x)) → IsExpression x.kind x.below
-choice_expression a {x = x} (consequent_counts v o p i j k l b c truth) fits = (a_conditional_expression, tt, refl, tt, refl, parts_of_conditional a o x.below fits)
-choice_expression a {x = x} (alternate_counts v o p i j k l b c truth) fits = (a_conditional_expression, tt, refl, tt, refl, parts_of_conditional a o x.below fits)
-choice_expression a {x = x} (right_side_counts q v o p i k b goes) fits = (a_logical_expression, (q, tt), refl, tt, refl, sides_of_logical a q o x.below fits)
+choice_expression a {x = x} (consequent_counts o p i j t k l d b c truth) fits = (a_conditional_expression, tt, refl, tt, refl, parts_of_conditional a o x.below fits)
+choice_expression a {x = x} (alternate_counts o p i j t k l d b c truth) fits = (a_conditional_expression, tt, refl, tt, refl, parts_of_conditional a o x.below fits)
+choice_expression a {x = x} (right_side_counts q o p i t k d b goes) fits = (a_logical_expression, (q, tt), refl, tt, refl, sides_of_logical a q o x.below fits)
 
 zero_expression : IsExpression number_zero nothing
 zero_expression = (a_literal, (value.Number (pos 0), tt), refl, tt, refl, tt)
@@ -112,17 +111,17 @@ behind_expression : (n m i : Note) (z : Tree) → IsExpression z.kind z.below �
 behind_expression n m i z of = (a_sequence_expression, tt, refl, tt, refl, ((refl, (zero_expression, (of, tt))), tt))
 
 behind_takes : (n m i : Note) {x z : Tree} → Counts x z → IsExpression z.kind z.below → TakesPlace x (behind_zero n m i z)
-behind_takes n m i {x = x} {z = z} (consequent_counts v o p h j k l b c truth) of = record {
+behind_takes n m i {x = x} {z = z} (consequent_counts o p h j t k l d b c truth) of = record {
   classes = λ (to : Class) fits. (as_conditional sequence_expression (behind_zero n m i z).below to (conditional_stood to o x.below fits) (behind_expression n m i z of), tt);
   old_told = refl;
   new_told = refl;
 }
-behind_takes n m i {x = x} {z = z} (alternate_counts v o p h j k l b c truth) of = record {
+behind_takes n m i {x = x} {z = z} (alternate_counts o p h j t k l d b c truth) of = record {
   classes = λ (to : Class) fits. (as_conditional sequence_expression (behind_zero n m i z).below to (conditional_stood to o x.below fits) (behind_expression n m i z of), tt);
   old_told = refl;
   new_told = refl;
 }
-behind_takes n m i {x = x} {z = z} (right_side_counts q v o p h k b goes) of = record {
+behind_takes n m i {x = x} {z = z} (right_side_counts q o p h t k d b goes) of = record {
   classes = λ (to : Class) fits. (as_logical sequence_expression (behind_zero n m i z).below to (logical_stood to o x.below q fits) (behind_expression n m i z of), tt);
   old_told = refl;
   new_told = refl;
@@ -131,9 +130,9 @@ behind_takes n m i {x = x} {z = z} (right_side_counts q v o p h k b goes) of = r
 -- ---- runs
 
 counted_core : {x z : Tree} → Counts x z → all_core (forest_of x) ≡ true → all_core (forest_of z) ≡ true
-counted_core (consequent_counts v o p i j k l b c truth) core = consequent_core conditional_expression k o p i (literal v) b (node l j c nothing) core
-counted_core (alternate_counts v o p i j k l b c truth) core = alternate_core conditional_expression k l o p i j (literal v) b c core
-counted_core (right_side_counts q v o p i k b goes) core = consequent_core (logical_expression q) k o p i (literal v) b nothing core
+counted_core (consequent_counts o p i j t k l d b c truth) core = consequent_core conditional_expression k o p i t d b (node l j c nothing) core
+counted_core (alternate_counts o p i j t k l d b c truth) core = alternate_core conditional_expression k l o p i j t d b c core
+counted_core (right_side_counts q o p i t k d b goes) core = consequent_core (logical_expression q) k o p i t d b nothing core
 
 behind_core : (n m i : Note) (z : Tree) → all_core (forest_of z) ≡ true → all_core (forest_of (behind_zero n m i z)) ≡ true
 behind_core n m i z core = both (all_core (forest_of z) && true) true (both (all_core (forest_of z)) true core refl) refl
@@ -146,11 +145,11 @@ nothing_before k n a r h = record {
 }
 
 counted_declares : {x z : Tree} → Counts x z → DeclaresNothing x.below → DeclaresNothing (forest_of z)
-counted_declares (consequent_counts v o p i j k l b c truth) h =
-    nothing_before k i b (node l j c nothing) (nothing_behind (literal v) p nothing (node k i b (node l j c nothing)) h)
-counted_declares (alternate_counts v o p i j k l b c truth) h =
-    nothing_behind k i b (node l j c nothing) (nothing_behind (literal v) p nothing (node k i b (node l j c nothing)) h)
-counted_declares (right_side_counts q v o p i k b goes) h = nothing_behind (literal v) p nothing (node k i b nothing) h
+counted_declares (consequent_counts o p i j t k l d b c truth) h =
+    nothing_before k i b (node l j c nothing) (nothing_behind t p d (node k i b (node l j c nothing)) h)
+counted_declares (alternate_counts o p i j t k l d b c truth) h =
+    nothing_behind k i b (node l j c nothing) (nothing_behind t p d (node k i b (node l j c nothing)) h)
+counted_declares (right_side_counts q o p i t k d b goes) h = nothing_behind t p d (node k i b nothing) h
 
 behind_declares : (n m i : Note) (z : Tree) → DeclaresNothing (forest_of z) → DeclaresNothing (forest_of (behind_zero n m i z))
 behind_declares n m i z h =
@@ -161,14 +160,14 @@ behind_declares n m i z h =
     }
 
 choice_calm : {x z : Tree} → Counts x z → is_calm x.kind ≡ true
-choice_calm (consequent_counts v o p i j k l b c truth) = refl
-choice_calm (alternate_counts v o p i j k l b c truth) = refl
-choice_calm (right_side_counts q v o p i k b goes) = refl
+choice_calm (consequent_counts o p i j t k l d b c truth) = refl
+choice_calm (alternate_counts o p i j t k l d b c truth) = refl
+choice_calm (right_side_counts q o p i t k d b goes) = refl
 
 behind_stands : (u : Purpose) (n m i : Note) {x z : Tree} → Counts x z → Stands u x.kind x.below sequence_expression (behind_zero n m i z).below
-behind_stands u n m i (consequent_counts v o p h j k l b c truth) = for_part (λ st. consequent_behind_zero u st v p h j m i h k l b c truth)
-behind_stands u n m i (alternate_counts v o p h j k l b c truth) = for_part (λ st. alternate_behind_zero u st v p h j m i j k l b c truth)
-behind_stands u n m i (right_side_counts q v o p h k b goes) = for_part (λ st. right_side_behind_zero u st q v p h m i h k b goes)
+behind_stands u n m i (consequent_counts o p h j t k l d b c truth) = for_part (λ st. consequent_behind_zero u st p h j m i h t k l d b c (test_tells t p d true truth))
+behind_stands u n m i (alternate_counts o p h j t k l d b c truth) = for_part (λ st. alternate_behind_zero u st p h j m i j t k l d b c (test_tells t p d false truth))
+behind_stands u n m i (right_side_counts q o p h t k d b goes) = for_part (λ st. right_side_behind_zero u st q p h m i h t k d b (side_tells t p d q true goes).0)
 
 module _ (n m : Note) (program : Forest) (a : Around) (y : Tree) (fits : Fits root (module_of n m program)) (form : IsWellFormed (module_of n m program)) (core : all_core (module_of n m program) ≡ true) where
   core_within : (x : Tree) → plug a (Some x) ≡ module_of n m program → all_core x.below ≡ true
@@ -191,9 +190,9 @@ module _ (n m : Note) (program : Forest) (a : Around) (y : Tree) (fits : Fits ro
       }
 
   choice_declares : {x z : Tree} → Counts x z → plug a (Some x) ≡ module_of n m program → DeclaresNothing x.below
-  choice_declares {x = x} (consequent_counts v o p i j k l b c truth) is = conditional_declares o x.below is
-  choice_declares {x = x} (alternate_counts v o p i j k l b c truth) is = conditional_declares o x.below is
-  choice_declares {x = x} (right_side_counts q v o p i k b goes) is = logical_declares q o x.below is
+  choice_declares {x = x} (consequent_counts o p i j t k l d b c truth) is = conditional_declares o x.below is
+  choice_declares {x = x} (alternate_counts o p i j t k l d b c truth) is = conditional_declares o x.below is
+  choice_declares {x = x} (right_side_counts q o p i t k d b goes) is = logical_declares q o x.below is
 
 behind_comes : (a : Around) (n m i : Note) {x z : Tree} → Counts x z → DeclaresNothing x.below → Comes a x (behind_zero n m i z)
 behind_comes a n m i {x = x} {z = z} counts h =
@@ -210,24 +209,24 @@ behind_comes a n m i {x = x} {z = z} counts h =
 -- ---- all of it
 
 choice_is_other : {x z : Tree} → Counts x z → IsOther x
-choice_is_other (consequent_counts v o p i j k l b c truth) = record { counts = refl; lists = λ h. refl; begins = λ h. refl; calls = refl }
-choice_is_other (alternate_counts v o p i j k l b c truth) = record { counts = refl; lists = λ h. refl; begins = λ h. refl; calls = refl }
-choice_is_other (right_side_counts q v o p i k b goes) = record { counts = refl; lists = λ h. refl; begins = λ h. refl; calls = refl }
+choice_is_other (consequent_counts o p i j t k l d b c truth) = record { counts = refl; lists = λ h. refl; begins = λ h. refl; calls = refl }
+choice_is_other (alternate_counts o p i j t k l d b c truth) = record { counts = refl; lists = λ h. refl; begins = λ h. refl; calls = refl }
+choice_is_other (right_side_counts q o p i t k d b goes) = record { counts = refl; lists = λ h. refl; begins = λ h. refl; calls = refl }
 
 choice_may_change : (a : Around) {x z : Tree} → Counts x z → MayChange a x
-choice_may_change a (consequent_counts v o p i j k l b c truth) = refl
-choice_may_change a (alternate_counts v o p i j k l b c truth) = refl
-choice_may_change a (right_side_counts q v o p i k b goes) = refl
+choice_may_change a (consequent_counts o p i j t k l d b c truth) = refl
+choice_may_change a (alternate_counts o p i j t k l d b c truth) = refl
+choice_may_change a (right_side_counts q o p i t k d b goes) = refl
 
 choice_no_name : {x z : Tree} → Counts x z → is_read_name x.kind ≡ false
-choice_no_name (consequent_counts v o p i j k l b c truth) = refl
-choice_no_name (alternate_counts v o p i j k l b c truth) = refl
-choice_no_name (right_side_counts q v o p i k b goes) = refl
+choice_no_name (consequent_counts o p i j t k l d b c truth) = refl
+choice_no_name (alternate_counts o p i j t k l d b c truth) = refl
+choice_no_name (right_side_counts q o p i t k d b goes) = refl
 
 choice_unasked : {x z : Tree} → Counts x z → is_asked_for x.kind ≡ false
-choice_unasked (consequent_counts v o p i j k l b c truth) = refl
-choice_unasked (alternate_counts v o p i j k l b c truth) = refl
-choice_unasked (right_side_counts q v o p i k b goes) = refl
+choice_unasked (consequent_counts o p i j t k l d b c truth) = refl
+choice_unasked (alternate_counts o p i j t k l d b c truth) = refl
+choice_unasked (right_side_counts q o p i t k d b goes) = refl
 
 counted_owes : (a : Around) (n m i : Note) {x z : Tree} → Counts x z → ByParts a x (behind_zero n m i z)
 counted_owes a n m i {x = x} {z = z} counts =

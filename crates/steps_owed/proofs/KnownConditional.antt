@@ -1,13 +1,11 @@
--- What a conditional on a literal owes, which becomes the branch that is taken.
-use Rattle.std.proofs.Common.{◌≡◌, ◌<◌, [], ◌∷◌, true, Some, arith, refl, sym, subst}
+-- What a conditional owes of which the test is known, which becomes the branch that is taken.
+use Rattle.std.proofs.Common.{◌≡◌, ◌<◌, [], ◌∷◌, true, false, Some, arith, refl, sym, subst}
 use Rattle.js_syntax.specs.Class.{Class, root, expression}
 use Rattle.js_syntax.specs.declared.node_kind.NodeKind.{NodeKind as Kind}
-use Rattle.js_syntax.specs.declared.node_kind.NodeKind.TheVariants.{Literal as literal}
-use Rattle.js_syntax.specs.declared.value.LiteralValue.{LiteralValue}
 use Rattle.js_syntax.specs.Facts.{weight}
 use Rattle.js_syntax.specs.Node.{Note, Forest, Tree, nothing, node, forest_of, total}
 use Rattle.js_meaning_near.specs.Near.{module_of}
-use Rattle.js_meaning_near.proofs.Branches.{condition_holds, condition_fails}
+use Rattle.known_tests.proofs.Taken.{condition_holds, condition_fails}
 use Rattle.js_meaning_near.specs.Local.{for_part}
 use Rattle.json_shape.specs.Shape.{one, these, Fits}
 use Rattle.form_rules.specs.Form.{IsWellFormed}
@@ -32,103 +30,104 @@ use Rattle.steps_owed.proofs.ChoiceParts.{Three, parts_of_conditional}
 use Rattle.steps_owed.proofs.ChoiceRuns.{consequent_core, alternate_core, core_there, no_imports_below}
 use Rattle.steps_owed.proofs.Expressions.{expression_declares_nothing}
 use Rattle.steps_owed.proofs.FitsTaking.{as_conditional, conditional_stood}
-use Rattle.steps_owed.proofs.Outward.{behind_literal}
+use Rattle.steps_owed.proofs.KnownTests.{test_tells}
+use Rattle.steps_owed.proofs.Outward.{declares_row}
 use Rattle.steps_owed.proofs.PartForm.{Stands, none_of_conditional}
 use Rattle.steps_owed.proofs.Undeclared.{DeclaresNothing, nothing_behind, both_plainly}
 use Rattle.steps_owed.proofs.Wanting.{wanted_as_used}
 
 conditional_lighter : (a : Around) (x y : Tree) → KnownConditional a x y → total weight (forest_of y) < total weight (forest_of x)
-conditional_lighter a x y (consequent_is_taken v n m i j k l b c truth bare) =
-    part_lighter Kind.ConditionalExpression k n i x.below b (node (literal v) m nothing nothing) (node l j c nothing) (Prim.omega arith) refl
-conditional_lighter a x y (alternate_is_taken v n m i j k l b c truth bare) =
-    part_lighter Kind.ConditionalExpression l n j x.below c (node (literal v) m nothing (node k i b nothing)) nothing (Prim.omega arith) refl
+conditional_lighter a x y (consequent_is_taken n m i j t k l d b c truth bare) =
+    part_lighter Kind.ConditionalExpression k n i x.below b (node t m d nothing) (node l j c nothing) (Prim.omega arith) refl
+conditional_lighter a x y (alternate_is_taken n m i j t k l d b c truth bare) =
+    part_lighter Kind.ConditionalExpression l n j x.below c (node t m d (node k i b nothing)) nothing (Prim.omega arith) refl
 
 -- by the table of node types, and by the rules of form: the three parts are expressions
 conditional_takes : (a : Around) (x y : Tree) → KnownConditional a x y → Three x.below → TakesPlace x y
-conditional_takes a x y (consequent_is_taken v n m i j k l b c truth bare) three = record {
+conditional_takes a x y (consequent_is_taken n m i j t k l d b c truth bare) three = record {
   classes = λ (to : Class) fits. (as_conditional k b to (conditional_stood to n x.below fits) three.1.0, tt);
   old_told = refl;
   new_told = expression_told k b three.1.0;
 }
-conditional_takes a x y (alternate_is_taken v n m i j k l b c truth bare) three = record {
+conditional_takes a x y (alternate_is_taken n m i j t k l d b c truth bare) three = record {
   classes = λ (to : Class) fits. (as_conditional l c to (conditional_stood to n x.below fits) three.1.1.0, tt);
   old_told = refl;
   new_told = expression_told l c three.1.1.0;
 }
 
 conditional_stands : (a : Around) (x y : Tree) → KnownConditional a x y → Three x.below → Stands x y
-conditional_stands a x y (consequent_is_taken v n m i j k l b c taken bare) three = record {
-  before = node (literal v) m nothing nothing;
+conditional_stands a x y (consequent_is_taken n m i j t k l d b c truth bare) three = record {
+  before = node t m d nothing;
   after = node l j c nothing;
   note = i;
   is_part = refl;
   gives = refl;
   unasked = bare_unasked k b three.1.0 (use_at a) (asked_at (asked_of_program true) a).in_with bare;
   alike = no_statement k b three.1.0;
-  none_before = none_of_conditional (node (literal v) m nothing nothing);
+  none_before = none_of_conditional (node t m d nothing);
   none_after = none_of_conditional (node l j c nothing);
 }
-conditional_stands a x y (alternate_is_taken v n m i j k l b c taken bare) three = record {
-  before = node (literal v) m nothing (node k i b nothing);
+conditional_stands a x y (alternate_is_taken n m i j t k l d b c truth bare) three = record {
+  before = node t m d (node k i b nothing);
   after = nothing;
   note = j;
   is_part = refl;
   gives = refl;
   unasked = bare_unasked l c three.1.1.0 (use_at a) (asked_at (asked_of_program true) a).in_with bare;
   alike = no_statement l c three.1.1.0;
-  none_before = none_of_conditional (node (literal v) m nothing (node k i b nothing));
+  none_before = none_of_conditional (node t m d (node k i b nothing));
   none_after = λ s p. refl;
 }
 
 conditional_comes_out : (a : Around) (x y : Tree) → KnownConditional a x y → ComesOut a y
-conditional_comes_out a x y (consequent_is_taken v n m i j k l b c truth bare) = bare_comes_out a k i b bare
-conditional_comes_out a x y (alternate_is_taken v n m i j k l b c truth bare) = bare_comes_out a l j c bare
+conditional_comes_out a x y (consequent_is_taken n m i j t k l d b c truth bare) = bare_comes_out a k i b bare
+conditional_comes_out a x y (alternate_is_taken n m i j t k l d b c truth bare) = bare_comes_out a l j c bare
 
 -- by its table of names
 conditional_is_part : (a : Around) (x y : Tree) → KnownConditional a x y → Three x.below → IsPart x y
-conditional_is_part a x y (consequent_is_taken v n m i j k l b c is bare) three = record {
-  before = node (literal v) m nothing nothing;
+conditional_is_part a x y (consequent_is_taken n m i j t k l d b c truth bare) three = record {
+  before = node t m d nothing;
   after = node l j c nothing;
   stands = refl;
   plain = conditional_is_plain;
-  before_declares = behind_literal v m nothing (λ aims at. refl);
+  before_declares = expression_declares_nothing (node t m d nothing) (three.0, tt);
   after_declares = expression_declares_nothing (node l j c nothing) (three.1.1.0, tt);
 }
-conditional_is_part a x y (alternate_is_taken v n m i j k l b c is bare) three = record {
-  before = node (literal v) m nothing (node k i b nothing);
+conditional_is_part a x y (alternate_is_taken n m i j t k l d b c truth bare) three = record {
+  before = node t m d (node k i b nothing);
   after = nothing;
   stands = refl;
   plain = conditional_is_plain;
-  before_declares = behind_literal v m (node k i b nothing) (expression_declares_nothing (node k i b nothing) (three.1.0, tt));
+  before_declares = declares_row t m d (node k i b nothing) (expression_declares_nothing (node t m d nothing) (three.0, tt)) (expression_declares_nothing (node k i b nothing) (three.1.0, tt));
   after_declares = λ aims at. refl;
 }
 
 -- by its runs
 conditional_comes : (a : Around) (x y : Tree) → KnownConditional a x y → Fits root (plug a (Some x)) → all_core (plug a (Some x)) ≡ true → Three x.below → DeclaresNothing x.below → Comes a x y
-conditional_comes a x y (consequent_is_taken v n m i j k l b c truth bare) fits core three h =
+conditional_comes a x y (consequent_is_taken n m i j t k l d b c truth bare) fits core three h =
     let branches = node k i b (node l j c nothing) in
-    let below = node (Kind.Literal v) m nothing branches in
-    let is_core = consequent_core Kind.ConditionalExpression k n m i (Kind.Literal v) b (node l j c nothing) in
+    let below = node t m d branches in
+    let is_core = consequent_core Kind.ConditionalExpression k n m i t d b (node l j c nothing) in
     let wanted = wanted_as_used a x (λ e. cc) core fits in
     record {
       inner = b;
       same = refl;
-      stands = for_part (λ st. condition_holds (wanted_at a) st v m i j k l b c truth (bare_at a k i b three.1.0 (is_core (core_there a x core)) wanted bare));
+      stands = for_part (λ st. condition_holds (wanted_at a) st t m i j d k l b c (test_tells t m d true truth) (bare_at a k i b three.1.0 (is_core (core_there a x core)) wanted bare));
       old_calm = refl;
-      plainly = both_plainly Kind.ConditionalExpression below k i b (node l j c nothing) refl h (nothing_behind (Kind.Literal v) m nothing branches h);
+      plainly = both_plainly Kind.ConditionalExpression below k i b (node l j c nothing) refl h (nothing_behind t m d branches h);
       core = is_core;
     }
-conditional_comes a x y (alternate_is_taken v n m i j k l b c truth bare) fits core three h =
+conditional_comes a x y (alternate_is_taken n m i j t k l d b c truth bare) fits core three h =
     let branches = node k i b (node l j c nothing) in
-    let below = node (Kind.Literal v) m nothing branches in
-    let is_core = alternate_core Kind.ConditionalExpression k l n m i j (Kind.Literal v) b c in
+    let below = node t m d branches in
+    let is_core = alternate_core Kind.ConditionalExpression k l n m i j t d b c in
     let wanted = wanted_as_used a x (λ e. cc) core fits in
     record {
       inner = c;
       same = refl;
-      stands = for_part (λ st. condition_fails (wanted_at a) st v m i j k l b c truth (bare_at a l j c three.1.1.0 (is_core (core_there a x core)) wanted bare));
+      stands = for_part (λ st. condition_fails (wanted_at a) st t m i j d k l b c (test_tells t m d false truth) (bare_at a l j c three.1.1.0 (is_core (core_there a x core)) wanted bare));
       old_calm = refl;
-      plainly = both_plainly Kind.ConditionalExpression below l j c nothing refl h (nothing_behind k i b (node l j c nothing) (nothing_behind (Kind.Literal v) m nothing branches h));
+      plainly = both_plainly Kind.ConditionalExpression below l j c nothing refl h (nothing_behind k i b (node l j c nothing) (nothing_behind t m d branches h));
       core = is_core;
     }
 
@@ -147,9 +146,9 @@ module _ (n m : Note) (b : Forest) (a : Around) (o : Note) (below : Forest) wher
         imports = no_imports_below n m b a whole y is fits form core Kind.ConditionalExpression refl refl (λ p i. refl);
       })
 
-known_owes : (a : Around) (n m : Note) (v : LiteralValue) (branches : Forest) (y : Tree) → KnownConditional a (a_conditional n m v branches) y → ByPart a (a_conditional n m v branches) y
-known_owes a n m v branches y known =
-    let x = a_conditional n m v branches in
+known_owes : (a : Around) (n : Note) (t : Kind) (m : Note) (d : Forest) (branches : Forest) (y : Tree) → KnownConditional a (a_conditional n t m d branches) y → ByPart a (a_conditional n t m d branches) y
+known_owes a n t m d branches y known =
+    let x = a_conditional n t m d branches in
     record {
       lighter = conditional_lighter a x y known;
       no_call = record { counts = refl; lists = λ i. refl; begins = λ i. refl; calls = refl };
@@ -162,5 +161,5 @@ known_owes a n m v branches y known =
     }
 
 pub known_conditional_owes : (a : Around) (x y : Tree) → KnownConditional a x y → ByPart a x y
-known_conditional_owes a x y (consequent_is_taken v n m i j k l b c truth bare) = known_owes a n m v (node k i b (node l j c nothing)) y (consequent_is_taken v n m i j k l b c truth bare)
-known_conditional_owes a x y (alternate_is_taken v n m i j k l b c truth bare) = known_owes a n m v (node k i b (node l j c nothing)) y (alternate_is_taken v n m i j k l b c truth bare)
+known_conditional_owes a x y (consequent_is_taken n m i j t k l d b c truth bare) = known_owes a n t m d (node k i b (node l j c nothing)) y (consequent_is_taken n m i j t k l d b c truth bare)
+known_conditional_owes a x y (alternate_is_taken n m i j t k l d b c truth bare) = known_owes a n t m d (node k i b (node l j c nothing)) y (alternate_is_taken n m i j t k l d b c truth bare)

@@ -120,7 +120,7 @@ if_comes a _ _ (consequent_is_run v n m i k b alternate truth branch field none)
       stands = for_part (λ st. if_holds (wanted_at a) st v m i k b alternate truth calm field);
       old_calm = refl;
       plainly = record { bound = plain.bound; vars = plain.vars; imports = plain.imports };
-      core = consequent_core Kind.IfStatement k n m i (Kind.Literal v) b alternate;
+      core = consequent_core Kind.IfStatement k n m i (Kind.Literal v) nothing b alternate;
     }
 if_comes a _ _ (alternate_is_run v n m i j k l b c truth branch none) h =
     let calm = branch_calm l branch in
@@ -132,7 +132,7 @@ if_comes a _ _ (alternate_is_run v n m i j k l b c truth branch none) h =
       stands = for_part (λ st. if_fails (wanted_at a) st v m i j k l b c truth calm);
       old_calm = refl;
       plainly = record { bound = plain.bound; vars = plain.vars; imports = plain.imports };
-      core = alternate_core Kind.IfStatement k l n m i j (Kind.Literal v) b c;
+      core = alternate_core Kind.IfStatement k l n m i j (Kind.Literal v) nothing b c;
     }
 
 known_owes : (n m : Note) (v : LiteralValue) (branches : Forest) (a : Around) (y : Tree) → KnownIf (an_if n m v branches) y → ByPart a (an_if n m v branches) y

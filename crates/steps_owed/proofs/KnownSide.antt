@@ -1,14 +1,12 @@
--- What a logical expression with a literal on its left owes, which becomes the side that counts.
-use Rattle.std.proofs.Common.{◌≡◌, ◌<◌, [], ◌∷◌, true, Some, arith, refl, sym, subst}
+-- What a logical expression owes of which it is known which side counts, which becomes that side.
+use Rattle.std.proofs.Common.{◌≡◌, ◌<◌, [], ◌∷◌, true, false, Some, arith, refl, sym, subst}
 use Rattle.js_syntax.specs.Class.{Class, root, expression}
 use Rattle.js_syntax.specs.declared.node_kind.NodeKind.{NodeKind as Kind}
-use Rattle.js_syntax.specs.declared.node_kind.NodeKind.TheVariants.{Literal as literal}
 use Rattle.js_syntax.specs.declared.operator.LogicalOperator.{LogicalOperator}
-use Rattle.js_syntax.specs.declared.value.LiteralValue.{LiteralValue}
 use Rattle.js_syntax.specs.Facts.{weight}
 use Rattle.js_syntax.specs.Node.{Note, Forest, Tree, nothing, node, forest_of, total}
 use Rattle.js_meaning_near.specs.Near.{module_of}
-use Rattle.js_meaning_near.proofs.Branches.{right_side_counts as right_counts, left_side_decides as left_decides}
+use Rattle.known_tests.proofs.Taken.{right_counts, left_decides}
 use Rattle.js_meaning_near.specs.Local.{for_part}
 use Rattle.json_shape.specs.Shape.{one, these, Fits}
 use Rattle.form_rules.specs.Form.{IsWellFormed}
@@ -33,67 +31,67 @@ use Rattle.steps_owed.proofs.ChoiceParts.{Two, sides_of_logical}
 use Rattle.steps_owed.proofs.ChoiceRuns.{consequent_core, core_there, no_imports_below}
 use Rattle.steps_owed.proofs.Expressions.{expression_declares_nothing}
 use Rattle.steps_owed.proofs.FitsTaking.{as_logical, logical_stood}
-use Rattle.steps_owed.proofs.Outward.{behind_literal}
+use Rattle.steps_owed.proofs.KnownTests.{side_tells}
 use Rattle.steps_owed.proofs.PartForm.{Stands, none_of_logical}
 use Rattle.steps_owed.proofs.Undeclared.{DeclaresNothing, nothing_behind, both_plainly}
 use Rattle.steps_owed.proofs.Wanting.{wanted_as_used}
 
 side_lighter : (a : Around) (x y : Tree) → KnownSide a x y → total weight (forest_of y) < total weight (forest_of x)
-side_lighter a x y (right_side_counts o v n m i k b goes bare) = part_lighter (Kind.LogicalExpression o) k n i x.below b (node (literal v) m nothing nothing) nothing (Prim.omega arith) refl
-side_lighter a x y (left_side_decides o v n m i k b stays) = part_lighter (Kind.LogicalExpression o) (literal v) n m x.below nothing nothing (node k i b nothing) (Prim.omega arith) refl
+side_lighter a x y (right_side_counts o n m i t k d b goes bare) = part_lighter (Kind.LogicalExpression o) k n i x.below b (node t m d nothing) nothing (Prim.omega arith) refl
+side_lighter a x y (left_side_decides o n m i t k d b stays bare) = part_lighter (Kind.LogicalExpression o) t n m x.below d nothing (node k i b nothing) (Prim.omega arith) refl
 
 -- by the table of node types, and by the rules of form: both sides are expressions
 side_takes : (a : Around) (x y : Tree) → KnownSide a x y → Two x.below → TakesPlace x y
-side_takes a x y (right_side_counts o v n m i k b goes bare) two = record {
+side_takes a x y (right_side_counts o n m i t k d b goes bare) two = record {
   classes = λ (to : Class) fits. (as_logical k b to (logical_stood to n x.below o fits) two.1.0, tt);
   old_told = refl;
   new_told = expression_told k b two.1.0;
 }
-side_takes a x y (left_side_decides o v n m i k b stays) two = record {
-  classes = λ (to : Class) fits. (as_logical (literal v) nothing to (logical_stood to n x.below o fits) two.0, tt);
+side_takes a x y (left_side_decides o n m i t k d b stays bare) two = record {
+  classes = λ (to : Class) fits. (as_logical t d to (logical_stood to n x.below o fits) two.0, tt);
   old_told = refl;
-  new_told = refl;
+  new_told = expression_told t d two.0;
 }
 
 side_stands : (a : Around) (x y : Tree) → KnownSide a x y → Two x.below → Stands x y
-side_stands a x y (right_side_counts o v n m i k b goes bare) two = record {
-  before = node (literal v) m nothing nothing;
+side_stands a x y (right_side_counts o n m i t k d b goes bare) two = record {
+  before = node t m d nothing;
   after = nothing;
   note = i;
   is_part = refl;
   gives = refl;
   unasked = bare_unasked k b two.1.0 (use_at a) (asked_at (asked_of_program true) a).in_with bare;
   alike = no_statement k b two.1.0;
-  none_before = none_of_logical o (node (literal v) m nothing nothing);
+  none_before = none_of_logical o (node t m d nothing);
   none_after = λ s p. refl;
 }
-side_stands a x y (left_side_decides o v n m i k b stays) two = record {
+side_stands a x y (left_side_decides o n m i t k d b stays bare) two = record {
   before = nothing;
   after = node k i b nothing;
   note = m;
   is_part = refl;
   gives = refl;
-  unasked = refl;
-  alike = refl;
+  unasked = bare_unasked t d two.0 (use_at a) (asked_at (asked_of_program true) a).in_with bare;
+  alike = no_statement t d two.0;
   none_before = λ s p. refl;
   none_after = none_of_logical o (node k i b nothing);
 }
 
 side_comes_out : (a : Around) (x y : Tree) → KnownSide a x y → ComesOut a y
-side_comes_out a x y (right_side_counts o v n m i k b goes bare) = bare_comes_out a k i b bare
-side_comes_out a x y (left_side_decides o v n m i k b stays) = record { undeleted = λ e. refl; uncalled = λ e. refl }
+side_comes_out a x y (right_side_counts o n m i t k d b goes bare) = bare_comes_out a k i b bare
+side_comes_out a x y (left_side_decides o n m i t k d b stays bare) = bare_comes_out a t m d bare
 
 -- by its table of names
 side_is_part : (a : Around) (x y : Tree) → KnownSide a x y → Two x.below → IsPart x y
-side_is_part a x y (right_side_counts o v n m i k b goes bare) two = record {
-  before = node (literal v) m nothing nothing;
+side_is_part a x y (right_side_counts o n m i t k d b goes bare) two = record {
+  before = node t m d nothing;
   after = nothing;
   stands = refl;
   plain = logical_is_plain o;
-  before_declares = behind_literal v m nothing (λ aims at. refl);
+  before_declares = expression_declares_nothing (node t m d nothing) (two.0, tt);
   after_declares = λ aims at. refl;
 }
-side_is_part a x y (left_side_decides o v n m i k b stays) two = record {
+side_is_part a x y (left_side_decides o n m i t k d b stays bare) two = record {
   before = nothing;
   after = node k i b nothing;
   stands = refl;
@@ -103,29 +101,36 @@ side_is_part a x y (left_side_decides o v n m i k b stays) two = record {
 }
 
 -- by its runs
+pub left_core : (above k : Kind) (n m : Note) (d r : Forest) → all_core (node above n (node k m d r) nothing) ≡ true → all_core (node k m d nothing) ≡ true
+left_core above k n m d r h = core_alone k m d r (core_below above n (node k m d r) nothing h)
+
 side_comes : (a : Around) (x y : Tree) → KnownSide a x y → Fits root (plug a (Some x)) → all_core (plug a (Some x)) ≡ true → Two x.below → DeclaresNothing x.below → Comes a x y
-side_comes a x y (right_side_counts o v n m i k b goes bare) fits core two h =
+side_comes a x y (right_side_counts o n m i t k d b goes bare) fits core two h =
     let right = node k i b nothing in
-    let below = node (Kind.Literal v) m nothing right in
-    let is_core = consequent_core (Kind.LogicalExpression o) k n m i (Kind.Literal v) b nothing in
+    let below = node t m d right in
+    let is_core = consequent_core (Kind.LogicalExpression o) k n m i t d b nothing in
     let wanted = wanted_as_used a x (λ e. cc) core fits in
     record {
       inner = b;
       same = refl;
-      stands = for_part (λ st. right_counts (wanted_at a) st o v m i k b goes (bare_at a k i b two.1.0 (is_core (core_there a x core)) wanted bare));
+      stands = for_part (λ st. right_counts (wanted_at a) st o t m i d k b (side_tells t m d o true goes).0 (bare_at a k i b two.1.0 (is_core (core_there a x core)) wanted bare));
       old_calm = refl;
-      plainly = both_plainly (Kind.LogicalExpression o) below k i b nothing refl h (nothing_behind (Kind.Literal v) m nothing right h);
+      plainly = both_plainly (Kind.LogicalExpression o) below k i b nothing refl h (nothing_behind t m d right h);
       core = is_core;
     }
-side_comes a x y (left_side_decides o v n m i k b stays) fits core two h =
+side_comes a x y (left_side_decides o n m i t k d b stays bare) fits core two h =
     let right = node k i b nothing in
+    let below = node t m d right in
+    let is_core = left_core (Kind.LogicalExpression o) t n m d right in
+    let wanted = wanted_as_used a x (λ e. cc) core fits in
+    let told = side_tells t m d o false stays in
     record {
-      inner = nothing;
+      inner = d;
       same = refl;
-      stands = for_part (λ st. left_decides (wanted_at a) st o v m i k b nothing stays);
+      stands = for_part (λ st. left_decides (wanted_at a) st o t m i d k b told.0 told.1 (bare_at a t m d two.0 (is_core (core_there a x core)) wanted bare));
       old_calm = refl;
-      plainly = both_plainly (Kind.LogicalExpression o) (node (Kind.Literal v) m nothing right) (Kind.Literal v) m nothing right refl h h;
-      core = λ c. core_alone (Kind.Literal v) m nothing right (core_below (Kind.LogicalExpression o) n (node (Kind.Literal v) m nothing right) nothing c);
+      plainly = both_plainly (Kind.LogicalExpression o) below t m d right refl h h;
+      core = is_core;
     }
 
 module _ (n m : Note) (b : Forest) (a : Around) (o : LogicalOperator) (j : Note) (below : Forest) where
@@ -143,9 +148,9 @@ module _ (n m : Note) (b : Forest) (a : Around) (o : LogicalOperator) (j : Note)
         imports = no_imports_below n m b a whole y is fits form core (Kind.LogicalExpression o) refl refl (λ p i. refl);
       })
 
-known_owes : (a : Around) (o : LogicalOperator) (n m : Note) (v : LiteralValue) (right : Forest) (y : Tree) → KnownSide a (a_logical o n m v right) y → ByPart a (a_logical o n m v right) y
-known_owes a o n m v right y known =
-    let x = a_logical o n m v right in
+known_owes : (a : Around) (o : LogicalOperator) (n : Note) (t : Kind) (m : Note) (d : Forest) (right : Forest) (y : Tree) → KnownSide a (a_logical o n t m d right) y → ByPart a (a_logical o n t m d right) y
+known_owes a o n t m d right y known =
+    let x = a_logical o n t m d right in
     record {
       lighter = side_lighter a x y known;
       no_call = record { counts = refl; lists = λ i. refl; begins = λ i. refl; calls = refl };
@@ -158,5 +163,5 @@ known_owes a o n m v right y known =
     }
 
 pub known_side_owes : (a : Around) (x y : Tree) → KnownSide a x y → ByPart a x y
-known_side_owes a x y (right_side_counts o v n m i k b goes bare) = known_owes a o n m v (node k i b nothing) y (right_side_counts o v n m i k b goes bare)
-known_side_owes a x y (left_side_decides o v n m i k b stays) = known_owes a o n m v (node k i b nothing) y (left_side_decides o v n m i k b stays)
+known_side_owes a x y (right_side_counts o n m i t k d b goes bare) = known_owes a o n t m d (node k i b nothing) y (right_side_counts o n m i t k d b goes bare)
+known_side_owes a x y (left_side_decides o n m i t k d b stays bare) = known_owes a o n t m d (node k i b nothing) y (left_side_decides o n m i t k d b stays bare)

@@ -59,6 +59,7 @@ pub mod IdleParts
 pub mod TwoSides
 pub mod UnusedObject
 pub mod KnownSizes
+pub mod KnownTests
 pub mod KnownOperation
 pub mod Edited
 pub mod Refused

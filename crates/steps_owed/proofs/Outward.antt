@@ -1,6 +1,6 @@
 -- What declares no name outside of functions and classes declares none around it, in trees where functions and classes shut their
 -- names off.
-use Rattle.std.proofs.Common.{◌≡◌, ◌∙◌, ◌≤◌, ℕ, suc, Bool, true, false, not, ◌&&◌, ◌==◌, List, [], ◌∷◌, ◌++◌, if◌then◌else◌, nat_eq, refl, sym, ap, ap₂, arith, true≢false, eqb-true}
+use Rattle.std.proofs.Common.{◌≡◌, ◌∙◌, ◌≤◌, ℕ, suc, Bool, true, false, not, ◌&&◌, ◌==◌, List, [], ◌∷◌, ◌++◌, if◌then◌else◌, nat_eq, refl, sym, ap, ap₂, subst, arith, true≢false, eqb-true}
 use Rattle.std.proofs.lemmas.Bool.{false_from_ne_true}
 use Rattle.js_syntax.specs.declared.node_kind.NodeKind.{NodeKind as Kind}
 use Rattle.js_syntax.specs.declared.node_kind.NodeKind.TheVariants.{Program as program, Function as function, Class as class, PropertyDefinition as property_definition, StaticBlock as static_block, BlockStatement as block_statement, WithStatement as with_statement, SwitchStatement as switch_statement, CatchClause as catch_clause, ForStatement as for_statement, ForInStatement as for_in_statement, ForOfStatement as for_of_statement, VariableDeclaration as variable_declaration, ImportDeclaration as import_declaration, BindingName as binding_name}
@@ -196,3 +196,7 @@ declares_nothing (node k n below rest) h e aims at =
 -- a literal declares nothing, and what stands behind it may not either
 pub behind_literal : (v : LiteralValue) (m : Note) (t : Forest) → DeclaresNothing t → DeclaresNothing (node (kind.Literal v) m nothing t)
 behind_literal v m t h aims at = h aims (suc at)
+
+-- nor does an expression in front of what declares nothing
+pub declares_row : (k : Kind) (n : Note) (a t : Forest) → DeclaresNothing (node k n a nothing) → DeclaresNothing t → DeclaresNothing (node k n a t)
+declares_row k n a t h g = λ aims at. subst (λ ds. named (aims at) n k ++ hoisted (aims_inside no_part (aims at) k a) 0 a ++ ds ≡ []) (sym (g aims (suc at))) (h aims at)

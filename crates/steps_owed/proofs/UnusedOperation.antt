@@ -22,7 +22,6 @@ use Rattle.json_shape.specs.Shape.{one as one_place, these, Fits}
 use Rattle.form_rules.specs.Form.{IsWellFormed}
 use Rattle.scope_counts.proofs.Leaving.{logical_is_plain, conditional_is_plain}
 use Rattle.scope_counts.proofs.Rebuilding.{operation_is_plain}
-use Rattle.scope_counts.specs.Counts.{named, hoisted, aims_inside, no_part}
 use Rattle.scope_laws.specs.Place.{Around, plug}
 use Rattle.steps.specs.Steps.{all_core}
 use Rattle.steps_allowed.specs.Child.{child_at}
@@ -34,13 +33,13 @@ use Rattle.steps_fit.proofs.CoreCalm.{nameless_as_planned}
 use Rattle.steps_fit.proofs.Held.{core_below, core_behind, core_alone}
 use Rattle.steps_owed.specs.Comes.{Comes}
 use Rattle.steps_owed.specs.Owed.{ComesOut, ByPart}
-use Rattle.steps_owed.specs.Part.{DeclaresNothing as Hidden}
 use Rattle.steps_owed.proofs.Bare.{wanted_for, bare_for_runs}
 use Rattle.steps_owed.proofs.BranchKinds.{IsExpression, expression_told, no_statement, bare_unasked}
 use Rattle.steps_owed.proofs.ByPart.{part_lighter}
 use Rattle.steps_owed.proofs.ChoiceParts.{Two, operand_of_unary, sides_of_comparison, sides_of_logical, parts_of_conditional}
 use Rattle.steps_owed.proofs.ChoiceRuns.{core_there, no_imports_below}
 use Rattle.steps_owed.proofs.Expressions.{expression_declares_nothing}
+use Rattle.steps_owed.proofs.Outward.{declares_row}
 use Rattle.steps_owed.proofs.FitsTaking.{as_unary, unary_stood, as_binary, comparison_stood, as_logical, logical_stood, as_conditional, conditional_stood}
 use Rattle.steps_owed.proofs.PartForm.{none_of_binary, none_of_logical, none_of_conditional}
 use Rattle.steps_owed.proofs.SilentAnywhere.{silent_anywhere}
@@ -150,10 +149,6 @@ comes_out a y unused = record {
   undeleted = λ e. absurd (value_not_deleted (sym (unused_as_value a unused) ∙ e));
   uncalled = λ e. absurd (value_not_called (sym (unused_as_value a unused) ∙ e));
 }
-
--- a node in front of others declares nothing with them
-declares_row : (l : Kind) (m : Note) (b r : Forest) → Hidden (node l m b nothing) → Hidden r → Hidden (node l m b r)
-declares_row l m b r h g = λ aims at. subst (λ ds. named (aims at) m l ++ hoisted (aims_inside no_part (aims at) l b) 0 b ++ ds ≡ []) (sym (g aims (suc at))) (h aims at)
 
 abbrev Whole : Note → Note → Forest → Around → Tree → Type 0
 Whole p q r a x = (plug a (Some x) ≡ module_of p q r) × (Fits root (module_of p q r) × (IsWellFormed (module_of p q r) × (all_core (module_of p q r) ≡ true)))

@@ -19,7 +19,7 @@ use Rattle.steps_told.specs.Samples.{asks_for_a_call, without_the_call, table_wi
 pub branch_is_taken : Edit asks_for_a_call without_the_call
 branch_is_taken =
     becomes (under (Kind.Program source_type.Module) (record { span = nowhere.span; id = Some 0 }) (under Kind.Statements nowhere (under Kind.ExpressionStatement nowhere (first nothing) nothing) nothing) nothing) _ _
-    (known_conditional (alternate_is_taken value.Null nowhere nowhere nowhere nowhere _ _ _ nothing refl refl))
+    (known_conditional (alternate_is_taken nowhere nowhere nowhere nowhere _ _ _ _ _ nothing refl refl))
 
 pub call_is_gone : FlagsTellOnly table_with_the_call without_the_call → ⊥
 call_is_gone h = true≢false (sym (h.0.evaluates 0 refl refl))
