@@ -1,23 +1,22 @@
--- What a literal chooses comes to stand behind a zero, as the rule says it.
+-- The part that counts comes to stand behind a zero, as the rule says it.
 use Rattle.std.proofs.Common.{◌≡◌, ◌∙◌, ◌≤◌, ℕ, Bool, true, false, ◌||◌, Option, Some, None, if◌then◌else◌, is_some, refl, sym, ap, subst, arith}
 use Rattle.std.specs.Option.{option_map}
 use Rattle.std.specs.Prelude.{nat_lt}
 use Rattle.js_syntax.specs.declared.node_kind.NodeKind.{NodeKind as Kind}
-use Rattle.js_syntax.specs.declared.node_kind.NodeKind.TheVariants.{ConditionalExpression as conditional_expression, LogicalExpression as logical_expression, Literal as literal}
+use Rattle.js_syntax.specs.declared.node_kind.NodeKind.TheVariants.{ConditionalExpression as conditional_expression, LogicalExpression as logical_expression}
 use Rattle.js_syntax.specs.declared.operator.LogicalOperator.{LogicalOperator}
-use Rattle.js_syntax.specs.declared.value.LiteralValue.{LiteralValue}
 use Rattle.js_syntax.specs.Node.{Forest, Tree, Note, nothing, node, absent, forest_of}
-use Rattle.js_meaning.specs.Value.{literal_value}
-use Rattle.js_meaning.specs.Operator.{truthy, goes_right}
 use Rattle.scope_counts.specs.Counts.{ids}
 use Rattle.symbol_sets.specs.Numbers.{has}
-use Rattle.steps_allowed.specs.IndirectChoice.{branch_counts, part_counts}
+use Rattle.steps_allowed.specs.IndirectChoice.{one_of, if_so, part_counts}
+use Rattle.steps_allowed.specs.KnownConditional.{truth_known}
+use Rattle.steps_allowed.specs.KnownSide.{side_known}
 use Rattle.min_context.specs.Edited.{evals, Edited}
 use Rattle.min_context.specs.Seen.{Seen}
 use Rattle.min_traverse.specs.Lawful.{Rule, Does, or_same}
 use Rattle.rules_expressions.specs.Uses.{Spot}
 use Rattle.rules_expressions.specs.Indirect.{behind_if, indirect_becomes}
-use Rattle.min_expressions.specs.Kept.{matters_at, child_at, literal_in, kept_if, parts_of, is_call}
+use Rattle.min_expressions.specs.Kept.{matters_at, child_at, kept_if, parts_of, is_call}
 use Rattle.min_expressions.specs.Indirect.{branch_behind, branch_of, side_behind, side_of, goes_behind, put_behind}
 use Rattle.min_expressions.proofs.Chosen.{chosen, no_index, three, two, some_kept, second_kept, third_kept, right_kept}
 use Rattle.min_expressions.proofs.Lists.{no_tree}
@@ -30,78 +29,40 @@ if_matters s (Some z) = if matters_at s z then Some z else None
 module _ (s : Spot) where
   -- ---- the branch of a conditional
 
-  by_truth : (t : Bool) (x y z : Tree) → chosen (if t then kept_if (matters_at s y) 1 else kept_if (matters_at s z) 2) (three x y z) ≡ if_matters s (branch_counts t (two y z))
-  by_truth true x y z = second_kept (matters_at s y) x y z
-  by_truth false x y z = third_kept (matters_at s z) x y z
-
-  branch_chosen : (v : LiteralValue) (m : Note) (t : Bool) → truthy (literal_value v) ≡ t → (branches : Forest) → chosen (branch_of s (parts_of (node (literal v) m nothing branches))) (node (literal v) m nothing branches) ≡ if_matters s (branch_counts t branches)
-  branch_chosen v m t w (node k i b (node l j c nothing)) =
-      let x : Tree = record { kind = literal v; note = m; below = nothing } in
-      let y : Tree = record { kind = k; note = i; below = b } in
-      let z : Tree = record { kind = l; note = j; below = c } in
-      ap (λ u. chosen (if u then kept_if (matters_at s y) 1 else kept_if (matters_at s z) 2) (three x y z)) w ∙ by_truth t x y z
-  branch_chosen v m true w nothing = refl
-  branch_chosen v m true w (absent rest) = refl
-  branch_chosen v m true w (node k i b nothing) = refl
-  branch_chosen v m true w (node k i b (absent rest)) = refl
-  branch_chosen v m true w (node k i b (node l j c (absent rest))) = refl
-  branch_chosen v m true w (node k i b (node l j c (node h p d rest))) = refl
-  branch_chosen v m false w nothing = refl
-  branch_chosen v m false w (absent rest) = refl
-  branch_chosen v m false w (node k i b nothing) = refl
-  branch_chosen v m false w (node k i b (absent rest)) = refl
-  branch_chosen v m false w (node k i b (node l j c (absent rest))) = refl
-  branch_chosen v m false w (node k i b (node l j c (node h p d rest))) = refl
-
-  none_of_three : (o : Option LiteralValue) (x y z : Tree) → o ≡ None → chosen (branch_behind s o y z) (three x y z) ≡ None
-  none_of_three o x y z e = ap (λ q. chosen (branch_behind s q y z) (three x y z)) e
-
-  no_branch : (k : Kind) (n : Note) (a rest : Forest) → literal_in k a ≡ None → chosen (branch_of s (parts_of (node k n a rest))) (node k n a rest) ≡ None
-  no_branch k n a (node l m b (node j i c nothing)) e = none_of_three (literal_in k a) (record { kind = k; note = n; below = a }) (record { kind = l; note = m; below = b }) (record { kind = j; note = i; below = c }) e
-  no_branch k n a nothing e = refl
-  no_branch k n a (absent rest) e = refl
-  no_branch k n a (node l m b nothing) e = refl
-  no_branch k n a (node l m b (absent rest)) e = refl
-  no_branch k n a (node l m b (node j i c (absent rest))) e = refl
-  no_branch k n a (node l m b (node j i c (node h p d rest))) e = refl
+  branch_chosen : (truth : Option Bool) (x y z : Tree) → chosen (branch_behind s truth y z) (three x y z) ≡ if_matters s (one_of truth y z)
+  branch_chosen None x y z = refl
+  branch_chosen (Some true) x y z = second_kept (matters_at s y) x y z
+  branch_chosen (Some false) x y z = third_kept (matters_at s z) x y z
 
   by_test : (t : Forest) → chosen (branch_of s (parts_of t)) t ≡ if_matters s (part_counts conditional_expression t)
+  by_test (node t m a (node k i b (node l j c nothing))) =
+      branch_chosen (truth_known t m a) (record { kind = t; note = m; below = a }) (record { kind = k; note = i; below = b }) (record { kind = l; note = j; below = c })
   by_test nothing = refl
   by_test (absent rest) = refl
-  by_test (node (literal v) m nothing branches) = branch_chosen v m (truthy (literal_value v)) refl branches
-  by_test (node k n a rest) = no_branch k n a rest refl
+  by_test (node t m a nothing) = refl
+  by_test (node t m a (absent rest)) = refl
+  by_test (node t m a (node k i b nothing)) = refl
+  by_test (node t m a (node k i b (absent rest))) = refl
+  by_test (node t m a (node k i b (node l j c (absent rest)))) = refl
+  by_test (node t m a (node k i b (node l j c (node h p d rest)))) = refl
 
   -- ---- the side of a logical expression
 
-  by_side : (t : Bool) (x y : Tree) → chosen (if t then kept_if (matters_at s y) 1 else None) (two x y) ≡ if_matters s (if t then Some y else None)
-  by_side true x y = right_kept (matters_at s y) x y
-  by_side false x y = refl
-
-  side_chosen : (o : LogicalOperator) (v : LiteralValue) (m : Note) (right : Forest) → chosen (side_of s o (parts_of (node (literal v) m nothing right))) (node (literal v) m nothing right) ≡ if_matters s (part_counts (logical_expression o) (node (literal v) m nothing right))
-  side_chosen o v m (node k i b nothing) = by_side (goes_right o (literal_value v)) (record { kind = literal v; note = m; below = nothing }) (record { kind = k; note = i; below = b })
-  side_chosen o v m nothing = refl
-  side_chosen o v m (absent rest) = refl
-  side_chosen o v m (node k i b (absent rest)) = refl
-  side_chosen o v m (node k i b (node l j c nothing)) = refl
-  side_chosen o v m (node k i b (node l j c (absent rest))) = refl
-  side_chosen o v m (node k i b (node l j c (node h p d rest))) = refl
-
-  no_side : (o : LogicalOperator) (k : Kind) (n : Note) (a rest : Forest) → literal_in k a ≡ None → chosen (side_of s o (parts_of (node k n a rest))) (node k n a rest) ≡ None
-  no_side o k n a (node l m b nothing) e =
-      let y : Tree = record { kind = l; note = m; below = b } in
-      ap (λ q. chosen (side_behind s o q y) (two (record { kind = k; note = n; below = a }) y)) e
-  no_side o k n a nothing e = refl
-  no_side o k n a (absent rest) e = refl
-  no_side o k n a (node l m b (absent rest)) e = refl
-  no_side o k n a (node l m b (node j i c nothing)) e = refl
-  no_side o k n a (node l m b (node j i c (absent rest))) e = refl
-  no_side o k n a (node l m b (node j i c (node h p d rest))) e = refl
+  side_chosen : (right : Option Bool) (x y : Tree) → chosen (side_behind s right y) (two x y) ≡ if_matters s (if_so right y)
+  side_chosen None x y = refl
+  side_chosen (Some true) x y = right_kept (matters_at s y) x y
+  side_chosen (Some false) x y = refl
 
   by_left : (o : LogicalOperator) (t : Forest) → chosen (side_of s o (parts_of t)) t ≡ if_matters s (part_counts (logical_expression o) t)
+  by_left o (node t m a (node k i b nothing)) = side_chosen (side_known o t m a) (record { kind = t; note = m; below = a }) (record { kind = k; note = i; below = b })
   by_left o nothing = refl
   by_left o (absent rest) = refl
-  by_left o (node (literal v) m nothing right) = side_chosen o v m right
-  by_left o (node k n a rest) = no_side o k n a rest refl
+  by_left o (node t m a nothing) = refl
+  by_left o (node t m a (absent rest)) = refl
+  by_left o (node t m a (node k i b (absent rest))) = refl
+  by_left o (node t m a (node k i b (node l j c nothing))) = refl
+  by_left o (node t m a (node k i b (node l j c (absent rest)))) = refl
+  by_left o (node t m a (node k i b (node l j c (node h p d rest)))) = refl
 
   -- ---- either of them
 
@@ -134,16 +95,13 @@ module _ (s : Spot) where
     pub second : 1 ≤ i
     pub call : is_call k ≡ false
 
-  branch_there : (o : Option LiteralValue) (x y z : Tree) (i : ℕ) → branch_behind s o y z ≡ Some i → IsBehind conditional_expression (three x y z) i
+  branch_there : (truth : Option Bool) (x y z : Tree) (i : ℕ) → branch_behind s truth y z ≡ Some i → IsBehind conditional_expression (three x y z) i
   branch_there None x y z i e = no_index e
-  branch_there (Some v) x y z i e = by (truthy (literal_value v)) e
-    where
-      by : (t : Bool) → (if t then kept_if (matters_at s y) 1 else kept_if (matters_at s z) 2) ≡ Some i → IsBehind conditional_expression (three x y z) i
-      by true f = subst (IsBehind conditional_expression (three x y z)) (some_kept (matters_at s y) 1 i f) (record { there = refl; second = Prim.omega arith; call = refl })
-      by false f = subst (IsBehind conditional_expression (three x y z)) (some_kept (matters_at s z) 2 i f) (record { there = refl; second = Prim.omega arith; call = refl })
+  branch_there (Some true) x y z i e = subst (IsBehind conditional_expression (three x y z)) (some_kept (matters_at s y) 1 i e) (record { there = refl; second = Prim.omega arith; call = refl })
+  branch_there (Some false) x y z i e = subst (IsBehind conditional_expression (three x y z)) (some_kept (matters_at s z) 2 i e) (record { there = refl; second = Prim.omega arith; call = refl })
 
   branches_there : (t : Forest) (i : ℕ) → branch_of s (parts_of t) ≡ Some i → IsBehind conditional_expression t i
-  branches_there (node k n a (node l m b (node j p c nothing))) i e = branch_there (literal_in k a) (record { kind = k; note = n; below = a }) (record { kind = l; note = m; below = b }) (record { kind = j; note = p; below = c }) i e
+  branches_there (node k n a (node l m b (node j p c nothing))) i e = branch_there (truth_known k n a) (record { kind = k; note = n; below = a }) (record { kind = l; note = m; below = b }) (record { kind = j; note = p; below = c }) i e
   branches_there nothing i e = no_index e
   branches_there (absent rest) i e = no_index e
   branches_there (node k n a nothing) i e = no_index e
@@ -153,16 +111,13 @@ module _ (s : Spot) where
   branches_there (node k n a (node l m b (node j p c (absent rest)))) i e = no_index e
   branches_there (node k n a (node l m b (node j p c (node h q d rest)))) i e = no_index e
 
-  side_there : (o : LogicalOperator) (l : Option LiteralValue) (x y : Tree) (i : ℕ) → side_behind s o l y ≡ Some i → IsBehind (logical_expression o) (two x y) i
+  side_there : (o : LogicalOperator) (right : Option Bool) (x y : Tree) (i : ℕ) → side_behind s right y ≡ Some i → IsBehind (logical_expression o) (two x y) i
   side_there o None x y i e = no_index e
-  side_there o (Some v) x y i e = by (goes_right o (literal_value v)) e
-    where
-      by : (t : Bool) → (if t then kept_if (matters_at s y) 1 else None) ≡ Some i → IsBehind (logical_expression o) (two x y) i
-      by true f = subst (IsBehind (logical_expression o) (two x y)) (some_kept (matters_at s y) 1 i f) (record { there = refl; second = Prim.omega arith; call = refl })
-      by false f = no_index f
+  side_there o (Some true) x y i e = subst (IsBehind (logical_expression o) (two x y)) (some_kept (matters_at s y) 1 i e) (record { there = refl; second = Prim.omega arith; call = refl })
+  side_there o (Some false) x y i e = no_index e
 
   sides_there : (o : LogicalOperator) (t : Forest) (i : ℕ) → side_of s o (parts_of t) ≡ Some i → IsBehind (logical_expression o) t i
-  sides_there o (node k n a (node l m b nothing)) i e = side_there o (literal_in k a) (record { kind = k; note = n; below = a }) (record { kind = l; note = m; below = b }) i e
+  sides_there o (node k n a (node l m b nothing)) i e = side_there o (side_known o k n a) (record { kind = k; note = n; below = a }) (record { kind = l; note = m; below = b }) i e
   sides_there o nothing i e = no_index e
   sides_there o (absent rest) i e = no_index e
   sides_there o (node k n a nothing) i e = no_index e

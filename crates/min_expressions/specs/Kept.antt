@@ -1,13 +1,12 @@
 -- Which child of an expression comes out of it, by its index.
 use Rattle.std.specs.Prelude.{ℕ, Bool, true, false, Option, Some, None, if◌then◌else◌}
 use Rattle.js_syntax.specs.declared.node_kind.NodeKind.{NodeKind as Kind}
-use Rattle.js_syntax.specs.declared.node_kind.NodeKind.TheVariants.{ConditionalExpression as conditional_expression, LogicalExpression as logical_expression, Literal as literal, CallExpression as call_expression}
+use Rattle.js_syntax.specs.declared.node_kind.NodeKind.TheVariants.{ConditionalExpression as conditional_expression, LogicalExpression as logical_expression, CallExpression as call_expression}
 use Rattle.js_syntax.specs.declared.operator.LogicalOperator.{LogicalOperator}
-use Rattle.js_syntax.specs.declared.value.LiteralValue.{LiteralValue}
 use Rattle.js_syntax.specs.Node.{Forest, Tree, nothing, node}
-use Rattle.js_meaning.specs.Value.{literal_value}
-use Rattle.js_meaning.specs.Operator.{truthy, goes_right}
 pub use Rattle.steps_allowed.specs.Child.{child_at}
+use Rattle.steps_allowed.specs.KnownConditional.{truth_known}
+use Rattle.steps_allowed.specs.KnownSide.{side_known}
 use Rattle.steps_allowed.specs.Uses.{matters, stands_bare}
 use Rattle.rules_expressions.specs.Uses.{Spot}
 use Rattle.min_expressions.specs.declared.parts.Parts.{Parts as Answer}
@@ -41,31 +40,29 @@ told_parts answer.Others = others
 
 -- ---- which of them
 
-abbrev pub literal_in : Kind → (below : Forest) → Option LiteralValue
-literal_in (literal v) nothing = Some v
-literal_in k below = None
-
 abbrev pub kept_if : Bool → ℕ → Option ℕ
 kept_if b i = if b then Some i else None
 
-abbrev pub branch_kept : Spot → Option LiteralValue → (consequent alternate : Tree) → Option ℕ
+abbrev pub branch_kept : Spot → (truth : Option Bool) → (consequent alternate : Tree) → Option ℕ
 branch_kept s None x y = None
-branch_kept s (Some v) x y = if truthy (literal_value v) then kept_if (stands_at s x) 1 else kept_if (stands_at s y) 2
+branch_kept s (Some true) x y = kept_if (stands_at s x) 1
+branch_kept s (Some false) x y = kept_if (stands_at s y) 2
 
 abbrev pub branch_of : Spot → Parts → Option ℕ
-branch_of s (triple test x y) = branch_kept s (literal_in test.kind test.below) x y
+branch_of s (triple test x y) = branch_kept s (truth_known test.kind test.note test.below) x y
 branch_of s p = None
 
 abbrev pub conditional_keeps : Spot → Kind → (below : Forest) → Option ℕ
 conditional_keeps s conditional_expression below = branch_of s (parts_of below)
 conditional_keeps s k below = None
 
-abbrev pub side_kept : Spot → LogicalOperator → Option LiteralValue → (right : Tree) → Option ℕ
-side_kept s o None x = None
-side_kept s o (Some v) x = if goes_right o (literal_value v) then kept_if (stands_at s x) 1 else Some 0
+abbrev pub side_kept : Spot → (goes_right : Option Bool) → (left right : Tree) → Option ℕ
+side_kept s None x y = None
+side_kept s (Some true) x y = kept_if (stands_at s y) 1
+side_kept s (Some false) x y = kept_if (stands_at s x) 0
 
 abbrev pub side_of : Spot → LogicalOperator → Parts → Option ℕ
-side_of s o (pair left right) = side_kept s o (literal_in left.kind left.below) right
+side_of s o (pair left right) = side_kept s (side_known o left.kind left.note left.below) left right
 side_of s o p = None
 
 abbrev pub logical_keeps : Spot → Kind → (below : Forest) → Option ℕ

@@ -27,7 +27,7 @@ use js_tree::Node;
 use min_context::MinifierTraverseCtx;
 use std::alloc::AllocError;
 
-// What a literal decides.
+// What is decided by what is known.
 fn fold_decided(node: &mut Node, ctx: &mut MinifierTraverseCtx) -> bool
     ensures { Does (either fold_conditional fold_logical) ctx.old node.old result ctx.new node.new }
 {
@@ -35,7 +35,7 @@ fn fold_decided(node: &mut Node, ctx: &mut MinifierTraverseCtx) -> bool
         || PeepholeOptimizations::fold_logical_expr(node, ctx)
 }
 
-// What a literal decides, and what becomes of an operation of which nobody takes the value.
+// What is decided by what is known, and what becomes of an operation of which nobody takes the value.
 fn fold_operation(node: &mut Node, ctx: &mut MinifierTraverseCtx) -> bool
     ensures { Does (either (either fold_conditional fold_logical) fold_unused) ctx.old node.old result ctx.new node.new }
 {
@@ -108,7 +108,7 @@ fn fold_but_operations(node: &mut Node, ctx: &mut MinifierTraverseCtx) -> Result
 pub struct PeepholeOptimizations;
 
 impl PeepholeOptimizations {
-    /// A conditional on a literal becomes the branch that is taken, unless it matters there that this stands there itself.
+    /// A conditional on a test that is known becomes the branch that is taken, unless it matters there that this stands there itself.
     pub fn try_fold_conditional_expression(node: &mut Node, ctx: &mut MinifierTraverseCtx) -> bool
         ensures does { Does fold_conditional ctx.old node.old result ctx.new node.new }
     {
@@ -121,8 +121,8 @@ impl PeepholeOptimizations {
         }
     }
 
-    /// A logical expression with a literal on its left becomes the side that counts, unless it matters there that this stands there
-    /// itself.
+    /// A logical expression of which the left side is known becomes the side that counts, unless it matters there that this stands
+    /// there itself.
     pub fn fold_logical_expr(node: &mut Node, ctx: &mut MinifierTraverseCtx) -> bool
         ensures does { Does fold_logical ctx.old node.old result ctx.new node.new }
     {
@@ -161,8 +161,8 @@ impl PeepholeOptimizations {
         }
     }
 
-    /// An expression that a literal decides, where it matters that the part that counts doesn't stand there itself, becomes that part
-    /// behind a zero, as `(0, o.f)()`. It fails only for want of memory; then all is as it was.
+    /// An expression that what is known decides, where it matters that the part that counts doesn't stand there itself, becomes that
+    /// part behind a zero, as `(0, o.f)()`. It fails only for want of memory; then all is as it was.
     pub fn put_behind_zero(
         node: &mut Node,
         ctx: &mut MinifierTraverseCtx,

@@ -1,17 +1,19 @@
-// What counts of an expression that a literal decides, behind a zero.
+// What counts of an expression that a test decides which is known, behind a zero.
 ghost use Rattle.std.specs.Prelude.{◌≡◌, ◌≤◌, [], ◌∷◌, length, Some, None, pos, OnOk, OnErr, IfOk, true, false, is_some};
 ghost use Rattle.std.specs.Option.{option_map};
 ghost use Rattle.js_syntax.specs.declared.node_kind.NodeKind.TheVariants.{Literal as literal};
 ghost use Rattle.js_syntax.specs.declared.value.LiteralValue.TheVariants as value;
 ghost use Rattle.js_syntax.specs.Node.{nothing, row};
 ghost use Rattle.min_context.specs.Edited.{Edited};
+ghost use Rattle.steps_allowed.specs.KnownConditional.{truth_known};
+ghost use Rattle.steps_allowed.specs.KnownSide.{side_known};
 ghost use Rattle.rules_expressions.specs.Uses.{spot_of};
-ghost use Rattle.min_expressions.specs.Kept.{child_at, kept_if, literal_in, is_call, matters_at, parts_of};
+ghost use Rattle.min_expressions.specs.Kept.{child_at, kept_if, is_call, matters_at, parts_of};
 ghost use Rattle.min_expressions.specs.Indirect.{branch_behind, branch_of, side_behind, side_of, goes_behind, put_behind};
 
 use crate::bare::matters_here;
 use crate::kept::take_out;
-use crate::known::{goes_right, is_truthy, literal_in};
+use crate::known::{side_known, truth_known};
 use crate::list::sequence;
 use crate::parts::{Parts, parts_of};
 use js_syntax::{LiteralValue, LogicalOperator, NodeKind, Span};
@@ -37,16 +39,11 @@ fn branch_behind(
     alternate: &Node,
     ctx: &MinifierTraverseCtx,
 ) -> Option<usize>
-    ensures { result ≡ branch_behind (spot_of ctx.now.place) (literal_in test.now.kind test.now.below) consequent.now alternate.now }
+    ensures { result ≡ branch_behind (spot_of ctx.now.place) (truth_known test.now.kind test.now.note test.now.below) consequent.now alternate.now }
 {
-    match literal_in(test) {
-        Some(value) => {
-            if is_truthy(value) {
-                index_if_matters(consequent, 1, ctx)
-            } else {
-                index_if_matters(alternate, 2, ctx)
-            }
-        }
+    match truth_known(test, ctx.alloc()) {
+        Some(true) => index_if_matters(consequent, 1, ctx),
+        Some(false) => index_if_matters(alternate, 2, ctx),
         None => None,
     }
 }
@@ -69,16 +66,11 @@ fn side_behind(
     right: &Node,
     ctx: &MinifierTraverseCtx,
 ) -> Option<usize>
-    ensures { result ≡ side_behind (spot_of ctx.now.place) operator (literal_in left.now.kind left.now.below) right.now }
+    ensures { result ≡ side_behind (spot_of ctx.now.place) (side_known operator left.now.kind left.now.note left.now.below) right.now }
 {
-    match literal_in(left) {
-        Some(value) => {
-            if goes_right(operator, value) {
-                index_if_matters(right, 1, ctx)
-            } else {
-                None
-            }
-        }
+    match side_known(operator, left, ctx.alloc()) {
+        Some(true) => index_if_matters(right, 1, ctx),
+        Some(false) => None,
         None => None,
     }
 }
@@ -97,7 +89,7 @@ fn side_of(
     }
 }
 
-// The part that a literal chooses, if it matters that it doesn't stand there itself.
+// The part that counts, if it matters that it doesn't stand there itself.
 pub(crate) fn goes_behind(node: &Node, ctx: &MinifierTraverseCtx) -> Option<usize>
     ensures { result ≡ goes_behind (spot_of ctx.now.place) node.now.kind node.now.below }
 {

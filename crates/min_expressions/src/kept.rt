@@ -3,11 +3,13 @@ ghost use Rattle.std.specs.Prelude.{◌≡◌, ◌<◌, length, slice_set, slice
 ghost use Rattle.js_syntax.specs.Node.{row};
 ghost use Rattle.scope_counts.specs.Counts.{ids};
 ghost use Rattle.min_context.specs.Edited.{evals, Leaves, Edited};
+ghost use Rattle.steps_allowed.specs.KnownConditional.{truth_known};
+ghost use Rattle.steps_allowed.specs.KnownSide.{side_known};
 ghost use Rattle.rules_expressions.specs.Uses.{spot_of};
-ghost use Rattle.min_expressions.specs.Kept.{child_at, kept_if, branch_kept, conditional_keeps, side_kept, logical_keeps, literal_in, is_call, stands_at};
+ghost use Rattle.min_expressions.specs.Kept.{child_at, kept_if, branch_kept, conditional_keeps, side_kept, logical_keeps, is_call, stands_at};
 
 use crate::bare::may_stand_bare;
-use crate::known::{goes_right, is_truthy, literal_in};
+use crate::known::{side_known, truth_known};
 use crate::parts::{Parts, parts_of};
 use js_syntax::{LogicalOperator, NodeKind};
 use js_tree::{Node, take};
@@ -29,16 +31,11 @@ fn branch_kept(
     alternate: &Node,
     ctx: &MinifierTraverseCtx,
 ) -> Option<usize>
-    ensures { result ≡ branch_kept (spot_of ctx.now.place) (literal_in test.now.kind test.now.below) consequent.now alternate.now }
+    ensures { result ≡ branch_kept (spot_of ctx.now.place) (truth_known test.now.kind test.now.note test.now.below) consequent.now alternate.now }
 {
-    match literal_in(test) {
-        Some(value) => {
-            if is_truthy(value) {
-                kept_if(consequent, 1, ctx)
-            } else {
-                kept_if(alternate, 2, ctx)
-            }
-        }
+    match truth_known(test, ctx.alloc()) {
+        Some(true) => kept_if(consequent, 1, ctx),
+        Some(false) => kept_if(alternate, 2, ctx),
         None => None,
     }
 }
@@ -63,16 +60,11 @@ fn side_kept(
     right: &Node,
     ctx: &MinifierTraverseCtx,
 ) -> Option<usize>
-    ensures { result ≡ side_kept (spot_of ctx.now.place) operator (literal_in left.now.kind left.now.below) right.now }
+    ensures { result ≡ side_kept (spot_of ctx.now.place) (side_known operator left.now.kind left.now.note left.now.below) left.now right.now }
 {
-    match literal_in(left) {
-        Some(value) => {
-            if goes_right(operator, value) {
-                kept_if(right, 1, ctx)
-            } else {
-                Some(0)
-            }
-        }
+    match side_known(operator, left, ctx.alloc()) {
+        Some(true) => kept_if(right, 1, ctx),
+        Some(false) => kept_if(left, 0, ctx),
         None => None,
     }
 }

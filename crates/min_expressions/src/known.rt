@@ -1,51 +1,71 @@
-// What is known of a literal.
+// What is known by its form of what doesn't act.
 ghost use Rattle.std.specs.Prelude.{◌≡◌};
-ghost use Rattle.std.specs.Option.{option_map};
-ghost use Rattle.js_meaning.specs.Value.{literal_value};
-ghost use Rattle.js_meaning.specs.Operator.{truthy, is_nullish, goes_right};
-ghost use Rattle.min_expressions.specs.Kept.{literal_in};
+ghost use Rattle.js_syntax.specs.Node.{forest_of};
+ghost use Rattle.js_effects.specs.Answers.{bare_answers};
+ghost use Rattle.js_effects.specs.Values.{truth_of};
+ghost use Rattle.known_tests.specs.Tells.{nullish_type, opposite, way_known};
+ghost use Rattle.steps_allowed.specs.KnownConditional.{truth_known};
+ghost use Rattle.steps_allowed.specs.KnownSide.{side_known};
 
-use js_syntax::{LiteralValue, LogicalOperator, NodeKind};
+use crate::list::acts_or_is_list;
+use js_effects::{BareContext, ValueType, evaluate_value_to_boolean, value_type};
+use js_syntax::LogicalOperator;
 use js_tree::Node;
+use std::alloc::Global;
 
-// ToBoolean (ECMA-262 7.1.2).
-pub(crate) fn is_truthy(value: &LiteralValue) -> bool
-    ensures { result ≡ truthy (literal_value value.now) }
+fn truth_of(node: &Node, alloc: Global) -> Option<bool>
+    ensures { result ≡ truth_of bare_answers (forest_of node.now) }
+{
+    evaluate_value_to_boolean(node, &BareContext::new(alloc))
+}
+
+// Whether a test is true, that does nothing but give its value.
+pub(crate) fn truth_known(test: &Node, alloc: Global) -> Option<bool>
+    ensures { result ≡ truth_known test.now.kind test.now.note test.now.below }
+{
+    if acts_or_is_list(test) {
+        None
+    } else {
+        truth_of(test, alloc)
+    }
+}
+
+fn opposite(known: Option<bool>) -> Option<bool>
+    ensures { result ≡ opposite known }
+{
+    match known {
+        Some(holds) => Some(!holds),
+        None => None,
+    }
+}
+
+fn nullish_type(value: ValueType) -> Option<bool>
+    ensures { result ≡ nullish_type value }
 {
     match value {
-        LiteralValue::Null => false,
-        LiteralValue::Boolean(b) => *b,
-        LiteralValue::Number(number) => *number != 0,
-        LiteralValue::Text(text) => !text.as_str().is_empty(),
+        ValueType::Undefined | ValueType::Null => Some(true),
+        ValueType::Undetermined => None,
+        _ => Some(false),
     }
 }
 
-fn is_nullish(value: &LiteralValue) -> bool
-    ensures { result ≡ is_nullish (literal_value value.now) }
-{
-    matches!(value, LiteralValue::Null)
-}
-
-// Whether the right side is evaluated (13.13).
-pub(crate) fn goes_right(operator: LogicalOperator, value: &LiteralValue) -> bool
-    ensures { result ≡ goes_right operator (literal_value value.now) }
+fn way_known(operator: LogicalOperator, left: &Node, alloc: Global) -> Option<bool>
+    ensures { result ≡ way_known operator (forest_of left.now) }
 {
     match operator {
-        LogicalOperator::And => is_truthy(value),
-        LogicalOperator::Or => !is_truthy(value),
-        LogicalOperator::Coalesce => is_nullish(value),
+        LogicalOperator::And => truth_of(left, alloc),
+        LogicalOperator::Or => opposite(truth_of(left, alloc)),
+        LogicalOperator::Coalesce => nullish_type(value_type(left, &BareContext::new(alloc))),
     }
 }
 
-// The value of a literal.
-pub(crate) fn literal_in(node: &Node) -> Option<&LiteralValue>
-    ensures { option_map (λ v. v.now) result ≡ literal_in node.now.kind node.now.below }
+// Whether the right side is evaluated (ECMA-262 13.13), where the left one does nothing but give its value.
+pub(crate) fn side_known(operator: LogicalOperator, left: &Node, alloc: Global) -> Option<bool>
+    ensures { result ≡ side_known operator left.now.kind left.now.note left.now.below }
 {
-    let [] = node.children() else {
-        return None;
-    };
-    match node.kind() {
-        NodeKind::Literal(value) => Some(value),
-        _ => None,
+    if acts_or_is_list(left) {
+        None
+    } else {
+        way_known(operator, left, alloc)
     }
 }

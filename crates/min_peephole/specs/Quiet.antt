@@ -29,7 +29,7 @@ abbrev pub is_row : Kind → Bool
 is_row statements = true
 is_row k = false
 
--- an expression at a place doesn't decide by a literal
+-- an expression at a place isn't decided by what is known
 abbrev pub decides_none : Place → Note → Kind → (inner : Forest) → Bool
 decides_none p n k inner = not (is_some (conditional_becomes (spot_of p) k inner)) && (not (is_some (logical_becomes (spot_of p) k inner)) && not (is_some (indirect_becomes (spot_of p) n k inner)))
 
@@ -42,7 +42,7 @@ wastes_none p n k inner = not (is_some (unused_becomes (spot_of p) k inner)) && 
 abbrev pub keeps_parts : Place → Note → Kind → (inner : Forest) → Bool
 keeps_parts p n k inner = not (is_some (sequence_left (spot_of p) n k inner)) && (not (is_some (two_sides_become (spot_of p) n k inner)) && not (is_some (object_left (spot_of p) n k inner)))
 
--- and is no operation on literals that comes to its value
+-- and is no operation that comes to its value
 abbrev pub computes_none : Note → Kind → (inner : Forest) → Bool
 computes_none n k inner = not (is_some (known_becomes n k inner))
 

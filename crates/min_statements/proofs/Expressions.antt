@@ -1,7 +1,7 @@
 -- What the hook of expressions does, and that it may.
 use Rattle.std.proofs.Common.{◌≡◌, ◌∙◌, ◌≤◌, ◌⊎◌, inl, inr, Bool, true, false, not, ◌||◌, Option, Some, None, is_some, if◌then◌else◌, refl, sym, ap, ap₂, subst, arith, true≢false}
 use Rattle.js_syntax.specs.declared.node_kind.NodeKind.{NodeKind as Kind}
-use Rattle.js_syntax.specs.declared.node_kind.NodeKind.TheVariants.{ArrayExpression as array_expression, Elements as elements, MemberExpression as member_expression, ChainExpression as chain_expression, ParenthesizedExpression as parenthesized_expression, SequenceExpression as sequence_expression, Expressions as expressions, ObjectExpression as object_expression, Properties as properties, Property as property, UnaryExpression as unary_expression, BinaryExpression as binary_expression, ConditionalExpression as conditional_expression, LogicalExpression as logical_expression, Literal as literal}
+use Rattle.js_syntax.specs.declared.node_kind.NodeKind.TheVariants.{ArrayExpression as array_expression, Elements as elements, MemberExpression as member_expression, ChainExpression as chain_expression, ParenthesizedExpression as parenthesized_expression, SequenceExpression as sequence_expression, Expressions as expressions, ObjectExpression as object_expression, Properties as properties, Property as property, UnaryExpression as unary_expression, BinaryExpression as binary_expression, ConditionalExpression as conditional_expression, LogicalExpression as logical_expression}
 use Rattle.js_syntax.specs.declared.operator.BinaryOperator.{BinaryOperator}
 use Rattle.js_syntax.specs.declared.operator.LogicalOperator.{LogicalOperator}
 use Rattle.js_syntax.specs.declared.operator.LogicalOperator.TheVariants as logical
@@ -14,7 +14,7 @@ use Rattle.steps_allowed.specs.KnownConditional.{KnownConditional, consequent_is
 use Rattle.steps_allowed.specs.KnownSide.{KnownSide, right_side_counts, left_side_decides}
 use Rattle.steps_allowed.specs.UnusedOperation.{acts, UnusedOperation, one_operand_acts}
 use Rattle.steps_allowed.specs.UnusedList.{acting, all_act, has_spread, as_one, list_becomes, UnusedList, acting_parts_stay}
-use Rattle.steps_allowed.specs.IndirectChoice.{branch_counts, part_counts, IndirectChoice, value_alone_counts}
+use Rattle.steps_allowed.specs.IndirectChoice.{one_of as branch_of, if_so, part_counts, IndirectChoice, value_alone_counts}
 use Rattle.steps_allowed.specs.OneSidedChoice.{sides, one_side, one_sided, OneSidedChoice, one_branch_acts}
 use Rattle.steps_allowed.specs.IdleParts.{stays_before, counting, all_count, as_value_of, sequence_becomes, IdleParts, idle_parts_leave}
 use Rattle.steps_allowed.specs.TwoSides.{two_sides, TwoSides, both_sides_act}
@@ -56,12 +56,12 @@ use Rattle.min_statements.proofs.Acting.{as_tree_edits, asked_true, moves, staye
 use Rattle.min_statements.proofs.Calls.{is_no_name, CallsStay}
 
 conditional_calls : (a : places.Around) (x y : Tree) → KnownConditional a x y → CallsStay a x y
-conditional_calls a x y (consequent_is_taken v n m i j k l b c truth may) = record { fewer = Prim.omega arith; old = refl; in_with = _; bare = may }
-conditional_calls a x y (alternate_is_taken v n m i j k l b c truth may) = record { fewer = Prim.omega arith; old = refl; in_with = _; bare = may }
+conditional_calls a x y (consequent_is_taken n m i j t k l b c d truth may) = record { fewer = Prim.omega arith; old = refl; in_with = _; bare = may }
+conditional_calls a x y (alternate_is_taken n m i j t k l b c d truth may) = record { fewer = Prim.omega arith; old = refl; in_with = _; bare = may }
 
 side_calls : (a : places.Around) (x y : Tree) → KnownSide a x y → CallsStay a x y
-side_calls a x y (right_side_counts operator v n m i k b goes may) = record { fewer = Prim.omega arith; old = refl; in_with = _; bare = may }
-side_calls a x y (left_side_decides operator v n m i k b goes) = record { fewer = Prim.omega arith; old = refl; in_with = false; bare = refl }
+side_calls a x y (right_side_counts operator n m i t k b c goes may) = record { fewer = Prim.omega arith; old = refl; in_with = _; bare = may }
+side_calls a x y (left_side_decides operator n m i t k b c stays may) = record { fewer = Prim.omega arith; old = refl; in_with = _; bare = may }
 
 -- ---- what becomes an operand of its
 
@@ -160,21 +160,20 @@ record CountsCalls (k : Kind) (parts : Forest) (z : Tree) : Type 0 where
   fewer : evals (forest_of z) ≤ evals parts
   old : is_no_name k ≡ true
 
-branch_calls : (v : LiteralValue) (m : Note) (t : Bool) (branches : Forest) (z : Tree) → branch_counts t branches ≡ Some z → CountsCalls conditional_expression (node (literal v) m nothing branches) z
-branch_calls v m true (node k i b (node l j c nothing)) z e =
-    subst (CountsCalls conditional_expression (node (literal v) m nothing (node k i b (node l j c nothing)))) (same_answer e) (record { fewer = Prim.omega arith; old = refl })
-branch_calls v m false (node k i b (node l j c nothing)) z e =
-    subst (CountsCalls conditional_expression (node (literal v) m nothing (node k i b (node l j c nothing)))) (same_answer e) (record { fewer = Prim.omega arith; old = refl })
-branch_calls v m t branches z e = no_answer e
+branch_calls : (t k l : Kind) (m i j : Note) (a b c : Forest) (z : Tree) (truth : Option Bool) → branch_of truth (record { kind = k; note = i; below = b }) (record { kind = l; note = j; below = c }) ≡ Some z
+    → CountsCalls conditional_expression (node t m a (node k i b (node l j c nothing))) z
+branch_calls t k l m i j a b c z None e = no_answer e
+branch_calls t k l m i j a b c z (Some true) e = subst (CountsCalls conditional_expression (node t m a (node k i b (node l j c nothing)))) (same_answer e) (record { fewer = Prim.omega arith; old = refl })
+branch_calls t k l m i j a b c z (Some false) e = subst (CountsCalls conditional_expression (node t m a (node k i b (node l j c nothing)))) (same_answer e) (record { fewer = Prim.omega arith; old = refl })
 
-right_calls : (o : LogicalOperator) (v : LiteralValue) (m i : Note) (k : Kind) (b : Forest) (z : Tree) (right : Bool) → (let x : Tree = record { kind = k; note = i; below = b } in (if right then Some x else None) ≡ Some z)
-    → CountsCalls (logical_expression o) (node (literal v) m nothing (node k i b nothing)) z
-right_calls o v m i k b z true e = subst (CountsCalls (logical_expression o) (node (literal v) m nothing (node k i b nothing))) (same_answer e) (record { fewer = Prim.omega arith; old = refl })
-right_calls o v m i k b z false e = no_answer e
+right_calls : (o : LogicalOperator) (t k : Kind) (m i : Note) (a b : Forest) (z : Tree) (right : Option Bool) → if_so right (record { kind = k; note = i; below = b }) ≡ Some z → CountsCalls (logical_expression o) (node t m a (node k i b nothing)) z
+right_calls o t k m i a b z None e = no_answer e
+right_calls o t k m i a b z (Some true) e = subst (CountsCalls (logical_expression o) (node t m a (node k i b nothing))) (same_answer e) (record { fewer = Prim.omega arith; old = refl })
+right_calls o t k m i a b z (Some false) e = no_answer e
 
 part_calls : (k : Kind) (parts : Forest) (z : Tree) → part_counts k parts ≡ Some z → CountsCalls k parts z
-part_calls conditional_expression (node (literal v) m nothing branches) z e = branch_calls v m _ branches z e
-part_calls (logical_expression o) (node (literal v) m nothing (node k i b nothing)) z e = right_calls o v m i k b z _ e
+part_calls conditional_expression (node t m a (node k i b (node l j c nothing))) z e = branch_calls t k l m i j a b c z _ e
+part_calls (logical_expression o) (node t m a (node k i b nothing)) z e = right_calls o t k m i a b z _ e
 part_calls k parts z e = no_answer e
 
 indirect_calls : (a : places.Around) (x y : Tree) → IndirectChoice a x y → CallsStay a x y

@@ -1,7 +1,7 @@
 //! What takes dead code out of a program, node by node?
 //!
 //! `Statements` is the walker (min_traverse): behind a list it takes out what rules_dead_code says goes of it (`trim_statements`),
-//! behind a silent statement elsewhere it leaves an empty one (`empty_statement`), behind an expression that decides by a literal
+//! behind a silent statement elsewhere it leaves an empty one (`empty_statement`), behind an expression that a known test decides
 //! the part that counts, alone or behind a zero, behind an operation of which nobody takes the value the operands that act, behind such
 //! an array, object or sequence its parts that act, and behind an operation that doesn't act its value (min_expressions). Each call does
 //! exactly what its rule says, marks what left before it is let go, and touches nothing where nothing goes. `walk_statements` is one

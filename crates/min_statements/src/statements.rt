@@ -16,7 +16,7 @@ use scope_table::Scoping;
 use std::alloc::{AllocError, Global};
 use std::marker::Model;
 
-/// Takes dead code out of lists of statements, empties silent statements elsewhere, and lets expressions that decide by a literal
+/// Takes dead code out of lists of statements, empties silent statements elsewhere, and lets expressions that known tests decide
 /// come to the part that counts, alone or behind a zero, operations, arrays, objects and sequences of which nobody takes the value to
 /// what of them acts, and operations that don't act to their values.
 pub struct Statements {

@@ -1,7 +1,6 @@
 -- What the rules do is edits, and where they have an answer an edit applies.
 use Rattle.std.proofs.Common.{◌≡◌, ◌∙◌, Some, refl, sym, ap, subst}
 use Rattle.js_syntax.specs.declared.node_kind.NodeKind.{NodeKind as Kind}
-use Rattle.js_syntax.specs.declared.node_kind.NodeKind.TheVariants.{Literal as literal}
 use Rattle.js_syntax.specs.Node.{Forest, Tree, Note, nothing, node}
 use Rattle.min_context.specs.Place.{place_at}
 use Rattle.scope_laws.specs.Place as places
@@ -26,12 +25,12 @@ use Rattle.rules_expressions.proofs.Becoming.{Branch, consequent, alternate, bra
 -- ---- at a place of edits
 
 branch_edits : (a : places.Around) (k : Kind) (n : Note) (parts : Forest) (y : Tree) → Branch (spot_at a) k parts y → KnownConditional a (record { kind = k; note = n; below = parts }) y
-branch_edits a _ n _ _ (consequent v m i j k l b c y w may is) = subst (λ z. KnownConditional a (a_conditional n m v (node k i b (node l j c nothing))) z) is (consequent_is_taken v n m i j k l b c w may)
-branch_edits a _ n _ _ (alternate v m i j k l b c y w may is) = subst (λ z. KnownConditional a (a_conditional n m v (node k i b (node l j c nothing))) z) is (alternate_is_taken v n m i j k l b c w may)
+branch_edits a _ n _ _ (consequent m i j t k l d b c y w may is) = subst (λ z. KnownConditional a (a_conditional n t m d (node k i b (node l j c nothing))) z) is (consequent_is_taken n m i j t k l d b c w may)
+branch_edits a _ n _ _ (alternate m i j t k l d b c y w may is) = subst (λ z. KnownConditional a (a_conditional n t m d (node k i b (node l j c nothing))) z) is (alternate_is_taken n m i j t k l d b c w may)
 
 side_edits : (a : places.Around) (k : Kind) (n : Note) (parts : Forest) (y : Tree) → Side (spot_at a) k parts y → KnownSide a (record { kind = k; note = n; below = parts }) y
-side_edits a _ n _ _ (right_side o v m i k b y w may is) = subst (λ z. KnownSide a (a_logical o n m v (node k i b nothing)) z) is (right_side_counts o v n m i k b w may)
-side_edits a _ n _ _ (left_side o v m i k b y w is) = subst (λ z. KnownSide a (a_logical o n m v (node k i b nothing)) z) is (left_side_decides o v n m i k b w)
+side_edits a _ n _ _ (right_side o m i t k d b y w may is) = subst (λ z. KnownSide a (a_logical o n t m d (node k i b nothing)) z) is (right_side_counts o n m i t k d b w may)
+side_edits a _ n _ _ (left_side o m i t k d b y w may is) = subst (λ z. KnownSide a (a_logical o n t m d (node k i b nothing)) z) is (left_side_decides o n m i t k d b w may)
 
 pub conditional_edits : (a : places.Around) (x y : Tree) → conditional_becomes (spot_at a) x.kind x.below ≡ Some y → KnownConditional a x y
 conditional_edits a x y e = branch_edits a x.kind x.note x.below y (branch (spot_at a) x.kind x.below y e)
@@ -40,12 +39,12 @@ pub logical_edits : (a : places.Around) (x y : Tree) → logical_becomes (spot_a
 logical_edits a x y e = side_edits a x.kind x.note x.below y (side (spot_at a) x.kind x.below y e)
 
 pub conditional_answers : (a : places.Around) (x y : Tree) → KnownConditional a x y → conditional_becomes (spot_at a) x.kind x.below ≡ Some y
-conditional_answers a _ _ (consequent_is_taken v n m i j k l b c w may) = branch_is {s = spot_at a} (consequent v m i j k l b c (record { kind = k; note = i; below = b }) w may refl)
-conditional_answers a _ _ (alternate_is_taken v n m i j k l b c w may) = branch_is {s = spot_at a} (alternate v m i j k l b c (record { kind = l; note = j; below = c }) w may refl)
+conditional_answers a _ _ (consequent_is_taken n m i j t k l d b c w may) = branch_is {s = spot_at a} (consequent m i j t k l d b c (record { kind = k; note = i; below = b }) w may refl)
+conditional_answers a _ _ (alternate_is_taken n m i j t k l d b c w may) = branch_is {s = spot_at a} (alternate m i j t k l d b c (record { kind = l; note = j; below = c }) w may refl)
 
 pub logical_answers : (a : places.Around) (x y : Tree) → KnownSide a x y → logical_becomes (spot_at a) x.kind x.below ≡ Some y
-logical_answers a _ _ (right_side_counts o v n m i k b w may) = side_is {s = spot_at a} (right_side o v m i k b (record { kind = k; note = i; below = b }) w may refl)
-logical_answers a _ _ (left_side_decides o v n m i k b w) = side_is {s = spot_at a} (left_side o v m i k b (record { kind = literal v; note = m; below = nothing }) w refl)
+logical_answers a _ _ (right_side_counts o n m i t k d b w may) = side_is {s = spot_at a} (right_side o m i t k d b (record { kind = k; note = i; below = b }) w may refl)
+logical_answers a _ _ (left_side_decides o n m i t k d b w may) = side_is {s = spot_at a} (left_side o m i t k d b (record { kind = t; note = m; below = d }) w may refl)
 
 -- ---- at a place of a walk
 

@@ -1,19 +1,19 @@
--- What becomes of choices on a literal where it matters that the part that counts doesn't stand there itself.
+-- What becomes of choices of which it is known which part counts, where it matters that the part that counts doesn't stand there itself.
 use Rattle.std.proofs.Common.{◌≡◌, ◌∙◌, ◌+◌, ◌≤◌, ℕ, Bool, true, false, Option, Some, None, if◌then◌else◌, refl, sym, ap, subst, arith}
 use Rattle.js_syntax.specs.declared.node_kind.NodeKind.{NodeKind as Kind}
-use Rattle.js_syntax.specs.declared.node_kind.NodeKind.TheVariants.{ConditionalExpression as conditional_expression, LogicalExpression as logical_expression, Literal as literal}
+use Rattle.js_syntax.specs.declared.node_kind.NodeKind.TheVariants.{ConditionalExpression as conditional_expression, LogicalExpression as logical_expression}
 use Rattle.js_syntax.specs.declared.operator.LogicalOperator.{LogicalOperator}
-use Rattle.js_syntax.specs.declared.value.LiteralValue.{LiteralValue}
 use Rattle.js_syntax.specs.Facts.{weight}
 use Rattle.js_syntax.specs.Node.{Forest, Tree, Note, nothing, node, bare, forest_of, total}
-use Rattle.js_meaning.specs.Value.{literal_value}
-use Rattle.js_meaning.specs.Operator.{truthy, goes_right}
 use Rattle.scope_counts.specs.Counts.{ids}
 use Rattle.min_context.specs.Place.{place_at}
 use Rattle.scope_laws.specs.Place as places
 use Rattle.scope_counts.specs.Edits.{Around}
-use Rattle.steps_allowed.specs.IndirectChoice.{branch_counts, part_counts, behind_zero, IndirectChoice, value_alone_counts}
+use Rattle.steps_allowed.specs.IndirectChoice.{one_of, if_so, part_counts, behind_zero, IndirectChoice, value_alone_counts}
+use Rattle.steps_allowed.specs.KnownConditional.{truth_known}
+use Rattle.steps_allowed.specs.KnownSide.{side_known}
 use Rattle.steps_allowed.specs.Uses.{matters}
+use Rattle.steps_owed.proofs.KnownTests.{test_weighs, side_weighs}
 use Rattle.rules_dead_code.specs.Before.{before}
 use Rattle.rules_expressions.specs.Uses.{Spot, spot_of}
 use Rattle.rules_expressions.specs.Lists.{new_note}
@@ -58,21 +58,27 @@ record IsSmall (k : Kind) (parts : Forest) (z : Tree) : Type 0 where
   fewer : (r : ℕ) → ids r (forest_of z) ≤ ids r parts
   lighter : total weight (forest_of z) + 4 ≤ weight k + total weight parts
 
-small_branch : (v : LiteralValue) (m : Note) (t : Bool) (branches : Forest) (z : Tree) → branch_counts t branches ≡ Some z → IsSmall conditional_expression (node (literal v) m nothing branches) z
-small_branch v m true (node k i b (node l j c nothing)) z e =
-    subst (λ y. IsSmall conditional_expression (node (literal v) m nothing (node k i b (node l j c nothing))) y) (same_answer e) (record { fewer = λ r. Prim.omega arith; lighter = Prim.omega arith })
-small_branch v m false (node k i b (node l j c nothing)) z e =
-    subst (λ y. IsSmall conditional_expression (node (literal v) m nothing (node k i b (node l j c nothing))) y) (same_answer e) (record { fewer = λ r. Prim.omega arith; lighter = Prim.omega arith })
-small_branch v m t branches z e = no_answer e
+small_branch : (t : Kind) (m i j : Note) (k l : Kind) (a b c : Forest) (z : Tree) (known : Option Bool) → truth_known t m a ≡ known → one_of known (record { kind = k; note = i; below = b }) (record { kind = l; note = j; below = c }) ≡ Some z
+    → IsSmall conditional_expression (node t m a (node k i b (node l j c nothing))) z
+small_branch t m i j k l a b c z (Some true) w e =
+    let test = test_weighs t m a true w in
+    subst (λ y. IsSmall conditional_expression (node t m a (node k i b (node l j c nothing))) y) (same_answer e) (record { fewer = λ r. Prim.omega arith; lighter = Prim.omega (arith, test) })
+small_branch t m i j k l a b c z (Some false) w e =
+    let test = test_weighs t m a false w in
+    subst (λ y. IsSmall conditional_expression (node t m a (node k i b (node l j c nothing))) y) (same_answer e) (record { fewer = λ r. Prim.omega arith; lighter = Prim.omega (arith, test) })
+small_branch t m i j k l a b c z None w e = no_answer e
 
-small_side : (o : LogicalOperator) (v : LiteralValue) (m i : Note) (k : Kind) (b : Forest) (z : Tree) (right : Bool) → (let x : Tree = record { kind = k; note = i; below = b } in (if right then Some x else None) ≡ Some z)
-    → IsSmall (logical_expression o) (node (literal v) m nothing (node k i b nothing)) z
-small_side o v m i k b z true e = subst (λ y. IsSmall (logical_expression o) (node (literal v) m nothing (node k i b nothing)) y) (same_answer e) (record { fewer = λ r. Prim.omega arith; lighter = Prim.omega arith })
-small_side o v m i k b z false e = no_answer e
+small_side : (o : LogicalOperator) (t : Kind) (m i : Note) (k : Kind) (a b : Forest) (z : Tree) (known : Option Bool) → side_known o t m a ≡ known → if_so known (record { kind = k; note = i; below = b }) ≡ Some z
+    → IsSmall (logical_expression o) (node t m a (node k i b nothing)) z
+small_side o t m i k a b z (Some true) w e =
+    let side = side_weighs t m a o true w in
+    subst (λ y. IsSmall (logical_expression o) (node t m a (node k i b nothing)) y) (same_answer e) (record { fewer = λ r. Prim.omega arith; lighter = Prim.omega (arith, side) })
+small_side o t m i k a b z (Some false) w e = no_answer e
+small_side o t m i k a b z None w e = no_answer e
 
 small_part : (k : Kind) (parts : Forest) (z : Tree) → part_counts k parts ≡ Some z → IsSmall k parts z
-small_part conditional_expression (node (literal v) m nothing branches) z e = small_branch v m (truthy (literal_value v)) branches z e
-small_part (logical_expression o) (node (literal v) m nothing (node k i b nothing)) z e = small_side o v m i k b z (goes_right o (literal_value v)) e
+small_part conditional_expression (node t m a (node k i b (node l j c nothing))) z e = small_branch t m i j k l a b c z (truth_known t m a) refl e
+small_part (logical_expression o) (node t m a (node k i b nothing)) z e = small_side o t m i k a b z (side_known o t m a) refl e
 small_part k parts z e = no_answer e
 
 pub indirect_is_less : (s : Spot) (n : Note) (k : Kind) (parts : Forest) (y : Tree) → indirect_becomes s n k parts ≡ Some y → IsLess (record { kind = k; note = n; below = parts }) y

@@ -1,4 +1,4 @@
--- Choices on a literal where it matters that the part that counts doesn't stand there itself.
+-- Choices of which it is known which part counts, where it matters that the part that counts doesn't stand there itself.
 use Rattle.std.specs.Prelude.{Option, None, Some, if◌then◌else◌}
 use Rattle.js_syntax.specs.declared.node_kind.NodeKind.{NodeKind as Kind}
 use Rattle.js_syntax.specs.Node.{Forest, Tree, Note}

@@ -1,12 +1,11 @@
--- Expressions that decide by a literal, and all rules on expressions.
-use Rattle.std.specs.Prelude.{Bool, true, false, Option, None, Some, if◌then◌else◌}
+-- Expressions of which it is known what they decide, and all rules on expressions.
+use Rattle.std.specs.Prelude.{Bool, true, false, Option, None, Some}
 use Rattle.js_syntax.specs.declared.node_kind.NodeKind.{NodeKind as Kind}
-use Rattle.js_syntax.specs.declared.node_kind.NodeKind.TheVariants.{ConditionalExpression as conditional_expression, LogicalExpression as logical_expression, Literal as literal}
+use Rattle.js_syntax.specs.declared.node_kind.NodeKind.TheVariants.{ConditionalExpression as conditional_expression, LogicalExpression as logical_expression}
 use Rattle.js_syntax.specs.declared.operator.LogicalOperator.{LogicalOperator}
-use Rattle.js_syntax.specs.declared.value.LiteralValue.{LiteralValue}
-use Rattle.js_syntax.specs.Node.{Forest, Tree, Note, nothing, node}
-use Rattle.js_meaning.specs.Value.{literal_value}
-use Rattle.js_meaning.specs.Operator.{truthy, goes_right}
+use Rattle.js_syntax.specs.Node.{Forest, Tree, nothing, node}
+use Rattle.steps_allowed.specs.KnownConditional.{truth_known}
+use Rattle.steps_allowed.specs.KnownSide.{side_known}
 use Rattle.min_traverse.specs.Lawful.{Rule, either}
 use Rattle.rules_expressions.specs.Uses.{Spot, spot_of, bare}
 use Rattle.rules_expressions.specs.Unused.{fold_unused}
@@ -18,31 +17,28 @@ use Rattle.rules_expressions.specs.TwoSides.{fold_two_sides}
 use Rattle.rules_expressions.specs.Objects.{fold_object}
 use Rattle.rules_expressions.specs.Operations.{fold_known}
 
--- of both branches the one that is taken
-abbrev pub branch_taken : Spot → (truth : Bool) → (branches : Forest) → Option Tree
-branch_taken s true (node k i b (node l j c nothing)) = bare s k i b
-branch_taken s false (node k i b (node l j c nothing)) = bare s l j c
+-- of both branches the one that is taken, if it is known which
+abbrev pub branch_taken : Spot → (truth : Option Bool) → (branches : Forest) → Option Tree
+branch_taken s (Some true) (node k i b (node l j c nothing)) = bare s k i b
+branch_taken s (Some false) (node k i b (node l j c nothing)) = bare s l j c
 branch_taken s truth branches = None
 
 abbrev pub by_condition : Spot → (parts : Forest) → Option Tree
-by_condition s (node (literal v) m nothing branches) = branch_taken s (truthy (literal_value v)) branches
+by_condition s (node t m a branches) = branch_taken s (truth_known t m a) branches
 by_condition s parts = None
 
 abbrev pub conditional_becomes : Spot → Kind → (parts : Forest) → Option Tree
 conditional_becomes s conditional_expression parts = by_condition s parts
 conditional_becomes s k parts = None
 
--- the right side where that is evaluated, else the literal on the left
-abbrev pub right_taken : Spot → Forest → Option Tree
-right_taken s (node k i b nothing) = bare s k i b
-right_taken s right = None
-
-abbrev pub left_taken : LiteralValue → Note → (right : Forest) → Option Tree
-left_taken v m (node k i b nothing) = Some (record { kind = literal v; note = m; below = nothing })
-left_taken v m right = None
+-- the right side where that is evaluated, else the left one, if it is known
+abbrev pub side_taken : Spot → (right : Option Bool) → (x y : Tree) → Option Tree
+side_taken s None x y = None
+side_taken s (Some true) x y = bare s y.kind y.note y.below
+side_taken s (Some false) x y = bare s x.kind x.note x.below
 
 abbrev pub by_left_side : Spot → LogicalOperator → (parts : Forest) → Option Tree
-by_left_side s o (node (literal v) m nothing right) = if goes_right o (literal_value v) then right_taken s right else left_taken v m right
+by_left_side s o (node t m a (node k i b nothing)) = side_taken s (side_known o t m a) (record { kind = t; note = m; below = a }) (record { kind = k; note = i; below = b })
 by_left_side s o parts = None
 
 abbrev pub logical_becomes : Spot → Kind → (parts : Forest) → Option Tree

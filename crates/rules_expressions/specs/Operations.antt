@@ -1,4 +1,4 @@
--- Operations on literals of which the value is known.
+-- Operations of which the value is known.
 use Rattle.std.specs.Prelude.{Option, None, Some}
 use Rattle.js_syntax.specs.declared.node_kind.NodeKind.{NodeKind as Kind}
 use Rattle.js_syntax.specs.declared.node_kind.NodeKind.TheVariants.{Literal as literal}

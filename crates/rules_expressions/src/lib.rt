@@ -1,7 +1,7 @@
 //! Which expressions come to a part of theirs, and why may they become it?
 //!
-//! `specs/Known.antt` has the rules: a conditional on a literal becomes the branch that is taken, and a logical expression with a
-//! literal on its left the side that counts, unless it matters where it stands that this stands there itself (`specs/Uses.antt`).
+//! `specs/Known.antt` has the rules: a conditional on a test that is known becomes the branch that is taken, and a logical expression with
+//! a known left side the side that counts, unless it matters where it stands that this stands there itself (`specs/Uses.antt`).
 //! `specs/Unused.antt` has the rule of what nobody takes the value of: of an operation the operand is left that acts, and where
 //! that is such an operation again, its operand that acts, and so on. `specs/Lists.antt` has that of arrays and sequences, of which the
 //! parts are left that act. `specs/Indirect.antt` has that of conditionals and logical expressions of which the part that counts

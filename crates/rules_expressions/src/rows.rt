@@ -8,16 +8,20 @@ ghost use Rattle.scope_rules.specs.Samples.{b};
 ghost use Rattle.steps_allowed.specs.Rows.{null, conditional, with_a};
 ghost use Rattle.rules_expressions.specs.Samples.{left, left_of, doing, uses, member, logical, binary, unary, parenthesized, array, spread, sequence, indirect, empty_text, a_function, object, keyed, computed, number, word, truth};
 
-/// A conditional on a literal becomes the branch that is taken, at any depth.
+/// A conditional on a test that is known becomes the branch that is taken, at any depth. A test that acts is left, though it is an
+/// object.
 pub fn branches_left()
     ensures consequent { left_of (uses (conditional one (reads a) (reads b))) ≡ doing (uses (reads a)) }
     ensures alternate { left_of (uses (conditional null (reads a) (reads b))) ≡ doing (uses (reads b)) }
     ensures empty { left_of (uses (conditional empty_text (reads a) (reads b))) ≡ doing (uses (reads b)) }
     ensures nested { left_of (uses (conditional one (conditional null (reads a) member) (reads b))) ≡ doing (uses member) }
+    ensures object { left_of (uses (conditional (array []) (reads a) (reads b))) ≡ doing (uses (reads a)) }
+    ensures voided { left_of (uses (conditional (unary unary_operator.Void one) (reads a) (reads b))) ≡ doing (uses (reads b)) }
     ensures unknown { left_of (uses (conditional (reads a) one null)) ≡ doing (uses (conditional (reads a) one null)) }
+    ensures acting { left_of (uses (conditional (array (calls (reads a) ∷ [])) one null)) ≡ doing (uses (conditional (array (calls (reads a) ∷ [])) one null)) }
 {}
 
-/// A logical expression with a literal on its left becomes the side that counts.
+/// A logical expression of which the left side is known becomes the side that counts. A function doesn't come out of it.
 pub fn sides_left()
     ensures and_right { left_of (uses (logical logical_operator.And one (reads b))) ≡ doing (uses (reads b)) }
     ensures and_left { left_of (uses (logical logical_operator.And null (reads b))) ≡ doing (uses null) }
@@ -25,6 +29,10 @@ pub fn sides_left()
     ensures or_left { left_of (uses (logical logical_operator.Or one (reads b))) ≡ doing (uses one) }
     ensures coalesce_right { left_of (uses (logical logical_operator.Coalesce null (reads b))) ≡ doing (uses (reads b)) }
     ensures coalesce_left { left_of (uses (logical logical_operator.Coalesce empty_text (reads b))) ≡ doing (uses empty_text) }
+    ensures object { left_of (uses (logical logical_operator.Coalesce (array []) (reads b))) ≡ doing (uses (array [])) }
+    ensures voided { left_of (uses (logical logical_operator.Coalesce (unary unary_operator.Void one) (reads b))) ≡ doing (uses (reads b)) }
+    ensures function_left { left_of (uses (logical logical_operator.Or a_function (reads b))) ≡ doing (uses (logical logical_operator.Or a_function (reads b))) }
+    ensures behind_function { left_of (uses (logical logical_operator.And a_function (reads b))) ≡ doing (uses (reads b)) }
 {}
 
 /// A member is not called where the value of a conditional is, also in parentheses (ECMA-262 13.3.6.2), so it stays behind a zero;

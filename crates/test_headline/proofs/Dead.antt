@@ -77,13 +77,19 @@ declarator_is_dead c =
 -- a(true ? a : b);
 pub conditional_is_dead : Clean row.takes_branch → ⊥
 conditional_is_dead c =
-    c.nothing_is_dead argument _ refl (a_known_conditional argument _ _ (consequent_is_taken (Literal.Boolean true) nowhere nowhere nowhere nowhere (Kind.ReferenceName a) (Kind.ReferenceName (codes "b")) nothing nothing refl refl))
+    c.nothing_is_dead argument _ refl (a_known_conditional argument _ _ (consequent_is_taken nowhere nowhere nowhere nowhere (Kind.Literal (Literal.Boolean true)) (Kind.ReferenceName a) (Kind.ReferenceName (codes "b")) nothing nothing nothing refl refl))
+
+-- a([] ? a : b);
+pub tested_object_is_dead : Clean row.takes_by_object → ⊥
+tested_object_is_dead c =
+    c.nothing_is_dead argument _ refl
+    (a_known_conditional argument _ _ (consequent_is_taken nowhere nowhere nowhere nowhere Kind.ArrayExpression (Kind.ReferenceName a) (Kind.ReferenceName (codes "b")) (listed Kind.Elements []) nothing nothing refl refl))
 
 -- null && a();
 pub side_is_dead : Clean row.never_calls → ⊥
 side_is_dead c =
     let place = in_statement (first nothing) in
-    c.nothing_is_dead place _ refl (a_known_side place _ _ (left_side_decides logical.And Literal.Null nowhere nowhere nowhere (Kind.CallExpression false false) (below_of call_of_a) refl))
+    c.nothing_is_dead place _ refl (a_known_side place _ _ (left_side_decides logical.And nowhere nowhere nowhere (Kind.Literal Literal.Null) (Kind.CallExpression false false) nothing (below_of call_of_a) refl refl))
 
 -- !(a() === 1);
 pub operation_is_dead : Clean row.compares_call → ⊥
@@ -558,10 +564,10 @@ dead_suspect t a x is (an_empty_statement b n item) = ap has_suspect is ∙ susp
 dead_suspect t a x is (a_silent_statement b n below silent) = ap has_suspect is ∙ suspect_there b _ refl
 dead_suspect t a x is (an_unused_function b pure n m y rest item own free) = ap has_suspect is ∙ suspect_there b _ refl
 dead_suspect t a x is (an_unused_declarator b n m y value item own silent free) = ap has_suspect is ∙ suspect_there b _ refl
-dead_suspect t a x is (a_known_conditional b y z (consequent_is_taken v n m i j k l d e truth may)) = ap has_suspect is ∙ suspect_there b _ refl
-dead_suspect t a x is (a_known_conditional b y z (alternate_is_taken v n m i j k l d e truth may)) = ap has_suspect is ∙ suspect_there b _ refl
-dead_suspect t a x is (a_known_side b y z (right_side_counts o v n m i k d goes may)) = ap has_suspect is ∙ suspect_there b _ refl
-dead_suspect t a x is (a_known_side b y z (left_side_decides o v n m i k d goes)) = ap has_suspect is ∙ suspect_there b _ refl
+dead_suspect t a x is (a_known_conditional b y z (consequent_is_taken n m i j v k l c d e truth may)) = ap has_suspect is ∙ suspect_there b _ refl
+dead_suspect t a x is (a_known_conditional b y z (alternate_is_taken n m i j v k l c d e truth may)) = ap has_suspect is ∙ suspect_there b _ refl
+dead_suspect t a x is (a_known_side b y z (right_side_counts o n m i v k d e goes may)) = ap has_suspect is ∙ suspect_there b _ refl
+dead_suspect t a x is (a_known_side b y z (left_side_decides o n m i v k d e stays may)) = ap has_suspect is ∙ suspect_there b _ refl
 dead_suspect t a x is (an_unused_operation b _ _ (one_operand_acts i y z unused needed child)) = ap has_suspect is ∙ suspect_there b y (needed_suspect y.kind y.below i needed)
 dead_suspect t a x is (an_unused_list b _ _ (acting_parts_stay n m y z unused becomes)) = ap has_suspect is ∙ suspect_there b y (list_suspect n m y.kind y.below z becomes)
 dead_suspect t a x is (an_indirect_choice b _ _ (value_alone_counts n m i y z counts alone)) = ap has_suspect is ∙ suspect_there b y (choice_suspect y.kind y.below z counts)

@@ -102,6 +102,10 @@ calls callee given = form.does (form.over (Kind.CallExpression false false) (joi
 abbrev pub takes_branch : Forest
 takes_branch = form.a_module (calls (form.reads form.a) (conditional (form.leaf (Kind.Literal (Literal.Boolean true))) (form.reads form.a) (form.reads (codes "b")) ∷ []) ∷ [])
 
+-- a([] ? a : b);
+abbrev pub takes_by_object : Forest
+takes_by_object = form.a_module (calls (form.reads form.a) (conditional (array []) (form.reads form.a) (form.reads (codes "b")) ∷ []) ∷ [])
+
 -- null && a();
 abbrev pub never_calls : Forest
 never_calls = form.a_module (form.does (either logical.And null call_of_a) ∷ [])

@@ -74,8 +74,9 @@ pub fn dead_code_goes()
 {}
 
 /// `1;` is dead code, and so are `{ ; }`'s empty statement, a function that nothing calls, one of two declarators, a conditional on a
-/// literal, a logical expression with a literal on its left, an operation of which nobody takes the value, where one operand alone acts,
-/// an array of which nobody takes the value, a conditional on a literal that is called so that what it gives has no receiver:
+/// literal, or on an array: `a([] ? a : b);`, a logical expression with a literal on its left, an operation of which nobody takes the
+/// value, where one operand alone acts, an array of which nobody takes the value, a conditional on a literal that is called so that what
+/// it gives has no receiver:
 /// `(1 ? o.g : null)();`, a conditional of which nobody takes the value and one branch alone acts: `a ? b() : 1;`, a sequence that is
 /// used for its value, of which a part before the last doesn't act: `use((1, a));`, a comparison of which nobody takes the value, though
 /// both sides act: `a() === b();`, an object literal of which nobody takes the value, that holds a call: `({ a: a() });`, and an operation
@@ -86,6 +87,7 @@ pub fn dead_code_is_told()
     ensures function { Clean (a_module (function_a [] [] ∷ [])) → ⊥ }
     ensures declarator { Clean row.of_two → ⊥ }
     ensures conditional { Clean row.takes_branch → ⊥ }
+    ensures tested_object { Clean row.takes_by_object → ⊥ }
     ensures side { Clean row.never_calls → ⊥ }
     ensures operation { Clean row.compares_call → ⊥ }
     ensures list { Clean row.lists_call → ⊥ }
