@@ -1,8 +1,9 @@
 -- What a program may lose so that no rule of form is broken by it: items of lists of statements, declarators of such items,
--- expressions that are statements, and what stands around a part of a node, or around those of an expression.
-use Rattle.std.specs.Prelude.{◌≡◌, List, [], ◌∷◌, Bool, true, false, not, ◌&&◌, ◌||◌, ◌==◌}
+-- expressions that are statements, an `if` that declares nothing, and what stands around a part of a node, or around those of an
+-- expression.
+use Rattle.std.specs.Prelude.{◌≡◌, ℕ, List, [], ◌∷◌, Bool, true, false, not, ◌&&◌, ◌||◌, ◌==◌}
 use Rattle.js_syntax.specs.declared.node_kind.NodeKind.{NodeKind as Kind}
-use Rattle.js_syntax.specs.declared.node_kind.NodeKind.TheVariants.{Program as program, ExpressionStatement as expression_statement, EmptyStatement as empty_statement, UnaryExpression as unary_expression, ParenthesizedExpression as parenthesized_expression}
+use Rattle.js_syntax.specs.declared.node_kind.NodeKind.TheVariants.{Program as program, ExpressionStatement as expression_statement, EmptyStatement as empty_statement, IfStatement as if_statement, UnaryExpression as unary_expression, ParenthesizedExpression as parenthesized_expression}
 use Rattle.js_syntax.specs.declared.operator.UnaryOperator.TheVariants as unary
 use Rattle.js_syntax.specs.Node.{Note, Forest, nothing, node, absent, alone}
 use Rattle.form_rules.specs.declared.sought.Sought.{Sought}
@@ -78,6 +79,9 @@ pub data Sheds : Around → (t u : Forest) → Type 0 where
       → Sheds w (node k n a r) s
   -- a statement of an expression becomes empty
   empties : {w : Around} {n m : Note} {a r s : Forest} → may_empty w.row ≡ true → Sheds w r s → Sheds w (node expression_statement n a r) (node empty_statement m nothing s)
+  -- an `if` that declares nothing becomes empty
+  empties_if : {w : Around} {n m : Note} {a r s : Forest} → may_empty w.row ≡ true → ((sought : Sought) (place : ℕ) → declared sought place (alone if_statement n a) ≡ []) → Sheds w r s
+      → Sheds w (node if_statement n a r) (node empty_statement m nothing s)
   -- a part of a node stands for it, or an expression is rebuilt of its parts
   becomes : {w : Around} {k l : Kind} {n m : Note} {a b r s : Forest} → Replaces k n a l m b → may_give_way w.row w.is_asked k ≡ true → may_come_out w.is_deleted (alone l m b) ≡ true → Sheds w r s
       → Sheds w (node k n a r) (node l m b s)
