@@ -69,6 +69,12 @@ module _ (t : Kind) (n i : Note) (a : Forest) (k : Kind) (b : Forest) where
         (tells.quiet E env) (tells.told E env)
     second_statement E env q tells = unknown_leads _
 
+  no_statement : (E : Enter) (env : Env) (q : Ask) → Tells (λ v. truthy v ≡ false) t a → Leads (meaning E Kind.IfStatement (node t n a (node k i b (absent nothing))) q env) (meaning E Kind.EmptyStatement nothing q env)
+  unfolding need may eval
+  no_statement E env (run ls) tells =
+      told_leads (λ v. truthy v ≡ false) (meaning E t a now env) _ (meaning E Kind.EmptyStatement nothing (run ls) env) (λ v h. not_chosen (truthy v) (meaning E k b (run ls) env) _ h) (tells.quiet E env) (tells.told E env)
+  no_statement E env q tells = unknown_leads _
+
   module _ (o : LogicalOperator) where
     abbrev sides : Forest
     sides = node t n a (node k i b nothing)
@@ -121,3 +127,6 @@ statement_holds u st t n i a k b r tells calm f = record { old_hoists = refl; ne
 
 pub statement_fails : (u : Purpose) (st : Names) (t : Kind) (n i j : Note) (a : Forest) (k l : Kind) (b c : Forest) → Tells (λ v. truthy v ≡ false) t a → is_calm l ≡ true → ComesTo u st Kind.IfStatement (node t n a (node k i b (node l j c nothing))) l c
 statement_fails u st t n i j a k l b c tells calm = record { old_hoists = refl; new_hoists = calm_hoists l calm; comes = λ E env binds q p. second_statement t n i a k b j l c E env q tells }
+
+pub statement_is_empty : (u : Purpose) (st : Names) (t : Kind) (n i : Note) (a : Forest) (k : Kind) (b : Forest) → Tells (λ v. truthy v ≡ false) t a → ComesTo u st Kind.IfStatement (node t n a (node k i b (absent nothing))) Kind.EmptyStatement nothing
+statement_is_empty u st t n i a k b tells = record { old_hoists = refl; new_hoists = refl; comes = λ E env binds q p. no_statement t n i a k b E env q tells }

@@ -2,7 +2,7 @@
 ghost use Rattle.std.specs.Prelude.{◌≡◌, Bool, true, false, Some, []};
 ghost use Rattle.js_syntax.specs.declared.node_kind.NodeKind.{NodeKind as Kind};
 ghost use Rattle.js_syntax.specs.declared.operator.LogicalOperator.{LogicalOperator};
-ghost use Rattle.js_syntax.specs.Node.{Forest, Note, nothing, node, alone};
+ghost use Rattle.js_syntax.specs.Node.{Forest, Note, nothing, node, absent, alone};
 ghost use Rattle.js_effects.specs.Answers.{bare_answers};
 ghost use Rattle.js_effects.specs.Silence.{may_have_effects};
 ghost use Rattle.js_effects.specs.Values.{truth_of};
@@ -44,10 +44,13 @@ pub fn a_side_is_taken()
         ComesTo u st (Kind.LogicalExpression o) (node t n a (node k i b nothing)) t a }
 {}
 
-/// A statement `if` comes to the branch that is taken, whether it has another one or not.
+/// A statement `if` comes to the branch that is taken, whether it has another one or not, and to an empty statement where there is
+/// none to take.
 pub fn a_statement_is_taken()
     ensures holds { (u : Purpose) (st : Names) (t : Kind) (n i : Note) (a : Forest) (k : Kind) (b r : Forest) → Tells (λ v. truthy v ≡ true) t a → is_calm k ≡ true → IsField r →
         ComesTo u st Kind.IfStatement (node t n a (node k i b r)) k b }
     ensures fails { (u : Purpose) (st : Names) (t : Kind) (n i j : Note) (a : Forest) (k l : Kind) (b c : Forest) → Tells (λ v. truthy v ≡ false) t a → is_calm l ≡ true →
         ComesTo u st Kind.IfStatement (node t n a (node k i b (node l j c nothing))) l c }
+    ensures nothing_to_take { (u : Purpose) (st : Names) (t : Kind) (n i : Note) (a : Forest) (k : Kind) (b : Forest) → Tells (λ v. truthy v ≡ false) t a →
+        ComesTo u st Kind.IfStatement (node t n a (node k i b (absent nothing))) Kind.EmptyStatement nothing }
 {}

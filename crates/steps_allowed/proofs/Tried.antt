@@ -9,7 +9,7 @@ use Rattle.js_syntax.specs.declared.value.Key.TheVariants as key
 use Rattle.js_syntax.specs.declared.value.LiteralValue.{LiteralValue}
 use Rattle.js_syntax.specs.declared.value.LiteralValue.TheVariants as value
 use Rattle.js_syntax.specs.Node.{Forest, Tree, Note, nothing, node, absent, nowhere, joined}
-use Rattle.form_rules.specs.Samples.{a_module, a, binds, reads, listed, one, does, declares, let_, function_a, block}
+use Rattle.form_rules.specs.Samples.{a_module, a, binds, reads, listed, no, one, does, declares, let_, function_a, block}
 use Rattle.scope_rules.specs.Context.{body_of}
 use Rattle.scope_rules.specs.Binding.{named_in}
 use Rattle.scope_laws.specs.Place.{Around, first, behind, under}
@@ -24,6 +24,7 @@ use Rattle.steps_allowed.specs.UnusedDeclaration.{a_declaration, SilentDeclarati
 use Rattle.steps_allowed.specs.KnownConditional.{a_conditional, KnownConditional, consequent_is_taken, alternate_is_taken}
 use Rattle.steps_allowed.specs.KnownSide.{right_side_counts, left_side_decides}
 use Rattle.steps_allowed.specs.KnownIf.{an_if, KnownIf, consequent_is_run, alternate_is_run}
+use Rattle.steps_allowed.specs.DeadIf.{DeadIf, nothing_is_run}
 use Rattle.steps_allowed.specs.UnusedOperation.{needed_at, one_operand_acts}
 use Rattle.steps_allowed.specs.UnusedList.{list_becomes, acting_parts_stay}
 use Rattle.steps_allowed.specs.IndirectChoice.{value_alone_counts}
@@ -32,8 +33,8 @@ use Rattle.steps_allowed.specs.IdleParts.{idle_parts_leave}
 use Rattle.steps_allowed.specs.TwoSides.{both_sides_act}
 use Rattle.steps_allowed.specs.UnusedObject.{acting_values_stay}
 use Rattle.steps_allowed.specs.KnownOperation.{known_literal, value_is_known}
-use Rattle.steps_allowed.specs.Edits.{Edit, leaves, becomes, empty_statement, silent_statement, unused_function, unused_declaration, known_conditional, known_side, known_if, unused_operation, unused_list, indirect_choice, one_sided_choice, idle_parts, two_sides, unused_object, known_operation}
-use Rattle.steps_allowed.specs.Rows.{in_list, before, call_of_a, null, if_one, if_null, conditional, logical, may_be_named, o_f, parenthesized, in_statement, called, called_in_parentheses, called_in_with, argument, operand, applied, equals, assigned, statement, ComesOut, Stays, StaysUnused, array, spread, hole, sequence, ListStays, ChoiceStays, PartsStay, SidesStay, object, a_is, b_is, getter_of_a, ObjectStays, literal, operation, OperationStays, behind_zero, placed, StaysDirect, with_a, in_with_a, empty, a_is_read, a_is_exported}
+use Rattle.steps_allowed.specs.Edits.{Edit, leaves, becomes, empty_statement, silent_statement, unused_function, unused_declaration, known_conditional, known_side, known_if, dead_if, unused_operation, unused_list, indirect_choice, one_sided_choice, idle_parts, two_sides, unused_object, known_operation}
+use Rattle.steps_allowed.specs.Rows.{in_list, before, call_of_a, null, if_one, if_null, either_way, conditional, logical, may_be_named, o_f, parenthesized, in_statement, called, called_in_parentheses, called_in_with, argument, operand, applied, equals, assigned, statement, ComesOut, Stays, StaysUnused, array, spread, hole, sequence, ListStays, ChoiceStays, PartsStay, SidesStay, object, a_is, b_is, getter_of_a, ObjectStays, literal, operation, OperationStays, behind_zero, placed, StaysDirect, with_a, in_with_a, empty, a_is_read, a_is_exported}
 
 pub empties_in_list : Edit (a_module (does one ∷ [])) (a_module (empty ∷ []))
 empties_in_list = becomes (before []) _ _ (silent_statement (silent_statement_empties nowhere nowhere nowhere _ nothing (inl refl, tt)))
@@ -104,10 +105,28 @@ acting_test_stays y (consequent_is_taken n m i j t k l a b c truth bare) = absur
 acting_test_stays y (alternate_is_taken n m i j t k l a b c truth bare) = absurd cc
 
 pub consequent_run : Edit (a_module (if_one (does call_of_a) ∷ [])) (a_module (does call_of_a ∷ []))
-consequent_run = becomes (before []) _ _ (known_if (consequent_is_run (value.Number (pos 1)) nowhere nowhere nowhere _ _ (absent nothing) refl refl tt refl))
+consequent_run = becomes (before []) _ _ (known_if (consequent_is_run nowhere nowhere nowhere _ _ _ _ (absent nothing) refl refl tt refl))
 
 pub alternate_run : Edit (a_module (if_null empty (does call_of_a) ∷ [])) (a_module (does call_of_a ∷ []))
-alternate_run = becomes (before []) _ _ (known_if (alternate_is_run value.Null nowhere nowhere nowhere nowhere _ _ _ _ refl refl refl))
+alternate_run = becomes (before []) _ _ (known_if (alternate_is_run nowhere nowhere nowhere nowhere _ _ _ _ _ _ refl refl refl))
+
+pub object_run : Edit (a_module (either_way (array []) (does call_of_a) (does (reads a)) ∷ [])) (a_module (does call_of_a ∷ []))
+object_run = becomes (before []) _ _ (known_if (consequent_is_run nowhere nowhere nowhere _ _ _ _ (does (reads a)) refl refl tt refl))
+
+pub dead_if_empties : Edit (a_module (if_null (does call_of_a) no ∷ [])) (a_module (empty ∷ []))
+dead_if_empties = becomes (before []) _ _ (dead_if (nothing_is_run nowhere nowhere nowhere nowhere _ _ _ _ refl refl))
+
+pub dead_if_empties_alone : Edit (a_module (if_one (if_null (does call_of_a) no) ∷ [])) (a_module (if_one empty ∷ []))
+dead_if_empties_alone = becomes consequent _ _ (dead_if (nothing_is_run nowhere nowhere nowhere nowhere _ _ _ _ refl refl))
+
+pub negated_if_empties : Edit (a_module (either_way (applied unary.LogicalNot (array [])) (does call_of_a) no ∷ [])) (a_module (empty ∷ []))
+negated_if_empties = becomes (before []) _ _ (dead_if (nothing_is_run nowhere nowhere nowhere nowhere _ _ _ _ refl refl))
+
+pub dead_function_stays : (y : Tree) → DeadIf (an_if nowhere (Kind.Literal value.Null) nowhere nothing (joined (block (function_a [] [] ∷ [])) no)) y → ⊥
+dead_function_stays y (nothing_is_run n m i o t k b c truth none) = absurd cc
+
+pub acting_if_stays : (y : Tree) → DeadIf (an_if nowhere (Kind.UnaryExpression unary.LogicalNot) nowhere (array (call_of_a ∷ [])) (joined (does call_of_a) no)) y → ⊥
+acting_if_stays y (nothing_is_run n m i o t k b c truth none) = absurd cc
 
 pub and_goes_right : Edit (a_module (does (logical operator.And one call_of_a) ∷ [])) (a_module (does call_of_a ∷ []))
 and_goes_right = becomes there _ _ (known_side (right_side_counts operator.And nowhere nowhere nowhere _ _ _ _ refl refl))
@@ -193,13 +212,13 @@ typed_member_comes = comes (operand unary.Typeof) member nowhere (reads (codes "
 pub deleted_call_comes : ComesOut (operand unary.Delete) (parenthesized call_of_a)
 deleted_call_comes = comes (operand unary.Delete) Kind.ParenthesizedExpression nowhere call_of_a refl
 
-pub alternate_stays : (y : Tree) → KnownIf (an_if nowhere nowhere (value.Number (pos 1)) (joined empty (block (function_a [] [] ∷ [])))) y → ⊥
-alternate_stays y (consequent_is_run v n m i k b alternate truth branch field none) = true≢false (sym none)
-alternate_stays y (alternate_is_run v n m i j k l b c truth branch none) = true≢false truth
+pub alternate_stays : (y : Tree) → KnownIf (an_if nowhere (Kind.Literal (value.Number (pos 1))) nowhere nothing (joined empty (block (function_a [] [] ∷ [])))) y → ⊥
+alternate_stays y (consequent_is_run n m i t k d b alternate truth branch field none) = true≢false (sym none)
+alternate_stays y (alternate_is_run n m i j t k l d b c truth branch none) = absurd cc
 
-pub consequent_stays : (y : Tree) → KnownIf (an_if nowhere nowhere value.Null (joined (block (function_a [] [] ∷ [])) empty)) y → ⊥
-consequent_stays y (consequent_is_run v n m i k b alternate truth branch field none) = true≢false (sym truth)
-consequent_stays y (alternate_is_run v n m i j k l b c truth branch none) = true≢false (sym none)
+pub consequent_stays : (y : Tree) → KnownIf (an_if nowhere (Kind.Literal value.Null) nowhere nothing (joined (block (function_a [] [] ∷ [])) empty)) y → ⊥
+consequent_stays y (consequent_is_run n m i t k d b alternate truth branch field none) = absurd cc
+consequent_stays y (alternate_is_run n m i j t k l d b c truth branch none) = true≢false (sym none)
 
 -- ---- operations of which nobody takes the value
 

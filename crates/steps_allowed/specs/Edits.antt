@@ -12,6 +12,7 @@ use Rattle.steps_allowed.specs.SilentStatement.{SilentStatementEmpties}
 use Rattle.steps_allowed.specs.KnownConditional.{KnownConditional}
 use Rattle.steps_allowed.specs.KnownSide.{KnownSide}
 use Rattle.steps_allowed.specs.KnownIf.{KnownIf}
+use Rattle.steps_allowed.specs.DeadIf.{DeadIf}
 use Rattle.steps_allowed.specs.UnusedOperation.{UnusedOperation}
 use Rattle.steps_allowed.specs.UnusedList.{UnusedList}
 use Rattle.steps_allowed.specs.IndirectChoice.{IndirectChoice}
@@ -34,6 +35,7 @@ pub data Becomes (a : Around) (x y : Tree) : Type 0 where
   known_conditional : KnownConditional a x y → Becomes a x y
   known_side : KnownSide a x y → Becomes a x y
   known_if : KnownIf x y → Becomes a x y
+  dead_if : DeadIf x y → Becomes a x y
   unused_operation : UnusedOperation a x y → Becomes a x y
   unused_list : UnusedList a x y → Becomes a x y
   indirect_choice : IndirectChoice a x y → Becomes a x y

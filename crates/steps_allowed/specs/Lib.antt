@@ -23,6 +23,7 @@ pub mod TwoSides
 pub mod UnusedObject
 pub mod KnownOperation
 pub mod KnownIf
+pub mod DeadIf
 pub mod Edits
 pub mod Arranged
 pub mod Rows

@@ -59,6 +59,10 @@ if_one body = over Kind.IfStatement (joined one (joined body no))
 abbrev pub if_null : (consequent alternate : Forest) → Forest
 if_null consequent alternate = over Kind.IfStatement (joined null (joined consequent alternate))
 
+-- if (test) consequent else alternate
+abbrev pub either_way : (test consequent alternate : Forest) → Forest
+either_way test consequent alternate = over Kind.IfStatement (joined test (joined consequent alternate))
+
 -- test ? consequent : alternate
 abbrev pub conditional : (test consequent alternate : Forest) → Forest
 conditional test consequent alternate = over Kind.ConditionalExpression (joined test (joined consequent alternate))

@@ -6,8 +6,8 @@ ghost use Rattle.js_syntax.specs.declared.operator.BinaryOperator.TheVariants as
 ghost use Rattle.js_syntax.specs.declared.operator.LogicalOperator.TheVariants as operator;
 ghost use Rattle.js_syntax.specs.declared.operator.UnaryOperator.TheVariants as unary;
 ghost use Rattle.js_syntax.specs.declared.value.LiteralValue.TheVariants as value;
-ghost use Rattle.js_syntax.specs.Node.{Tree, nowhere, joined};
-ghost use Rattle.form_rules.specs.Samples.{a_module, a, binds, reads, listed, one, does, declares, let_, function_a, block};
+ghost use Rattle.js_syntax.specs.Node.{Tree, nothing, nowhere, joined};
+ghost use Rattle.form_rules.specs.Samples.{a_module, a, binds, reads, listed, no, one, does, declares, let_, function_a, block};
 ghost use Rattle.scope_rules.specs.Context.{body_of};
 ghost use Rattle.scope_rules.specs.Binding.{named_in};
 ghost use Rattle.scope_laws.specs.Place.{Around};
@@ -17,8 +17,9 @@ ghost use Rattle.steps_allowed.specs.SilentStatement.{SilentStatement};
 ghost use Rattle.steps_allowed.specs.UnusedDeclaration.{a_declaration, SilentDeclaration};
 ghost use Rattle.steps_allowed.specs.KnownConditional.{a_conditional, KnownConditional};
 ghost use Rattle.steps_allowed.specs.KnownIf.{an_if, KnownIf};
+ghost use Rattle.steps_allowed.specs.DeadIf.{DeadIf};
 ghost use Rattle.steps_allowed.specs.Edits.{Edit};
-ghost use Rattle.steps_allowed.specs.Rows.{before, call_of_a, null, if_one, if_null, conditional, logical, may_be_named, o_f, parenthesized, called, called_in_parentheses, called_in_with, argument, operand, applied, equals, assigned, statement, ComesOut, Stays, StaysUnused, array, spread, hole, sequence, ListStays, ChoiceStays, PartsStay, SidesStay, object, a_is, b_is, getter_of_a, ObjectStays, literal, operation, OperationStays, behind_zero, placed, StaysDirect, with_a, in_with_a, empty, a_is_read, a_is_exported};
+ghost use Rattle.steps_allowed.specs.Rows.{before, call_of_a, null, if_one, if_null, either_way, conditional, logical, may_be_named, o_f, parenthesized, called, called_in_parentheses, called_in_with, argument, operand, applied, equals, assigned, statement, ComesOut, Stays, StaysUnused, array, spread, hole, sequence, ListStays, ChoiceStays, PartsStay, SidesStay, object, a_is, b_is, getter_of_a, ObjectStays, literal, operation, OperationStays, behind_zero, placed, StaysDirect, with_a, in_with_a, empty, a_is_read, a_is_exported};
 
 /// A statement of a literal becomes empty, in a list and alone, and leaves the list then.
 pub fn silent_statements_go()
@@ -53,7 +54,7 @@ pub fn what_is_used_stays()
     ensures exported { IsFree a_is_exported (named_in a (body_of 0)) → ⊥ }
 {}
 
-/// A conditional on a test that is known, and an `if` on a literal, become the branch that is taken.
+/// A conditional and an `if` on a test that is known become the branch that is taken.
 pub fn known_branches_are_taken()
     ensures consequent { Edit (a_module (does (conditional one call_of_a (reads a)) ∷ [])) (a_module (does call_of_a ∷ [])) }
     ensures alternate { Edit (a_module (does (conditional null (reads a) call_of_a) ∷ [])) (a_module (does call_of_a ∷ [])) }
@@ -61,13 +62,23 @@ pub fn known_branches_are_taken()
     ensures negated { Edit (a_module (does (conditional (applied unary.LogicalNot (array [])) (reads a) call_of_a) ∷ [])) (a_module (does call_of_a ∷ [])) }
     ensures if_holds { Edit (a_module (if_one (does call_of_a) ∷ [])) (a_module (does call_of_a ∷ [])) }
     ensures if_fails { Edit (a_module (if_null empty (does call_of_a) ∷ [])) (a_module (does call_of_a ∷ [])) }
+    ensures if_object { Edit (a_module (either_way (array []) (does call_of_a) (does (reads a)) ∷ [])) (a_module (does call_of_a ∷ [])) }
+{}
+
+/// An `if` with no branch to take becomes empty, but where it declares a function, or its test acts.
+pub fn dead_ifs_become_empty()
+    ensures call { Edit (a_module (if_null (does call_of_a) no ∷ [])) (a_module (empty ∷ [])) }
+    ensures alone { Edit (a_module (if_one (if_null (does call_of_a) no) ∷ [])) (a_module (if_one empty ∷ [])) }
+    ensures negated { Edit (a_module (either_way (applied unary.LogicalNot (array [])) (does call_of_a) no ∷ [])) (a_module (empty ∷ [])) }
+    ensures function { (y : Tree) → DeadIf (an_if nowhere (Kind.Literal value.Null) nowhere nothing (joined (block (function_a [] [] ∷ [])) no)) y → ⊥ }
+    ensures acting { (y : Tree) → DeadIf (an_if nowhere (Kind.UnaryExpression unary.LogicalNot) nowhere (array (call_of_a ∷ [])) (joined (does call_of_a) no)) y → ⊥ }
 {}
 
 /// A branch that declares a function isn't left out, in a block either: in code that isn't strict its name is one of the
 /// function around too (B.3.2), even where the block never runs.
 pub fn branches_that_declare_stay()
-    ensures alternate { (y : Tree) → KnownIf (an_if nowhere nowhere (value.Number (pos 1)) (joined empty (block (function_a [] [] ∷ [])))) y → ⊥ }
-    ensures consequent { (y : Tree) → KnownIf (an_if nowhere nowhere value.Null (joined (block (function_a [] [] ∷ [])) empty)) y → ⊥ }
+    ensures alternate { (y : Tree) → KnownIf (an_if nowhere (Kind.Literal (value.Number (pos 1))) nowhere nothing (joined empty (block (function_a [] [] ∷ [])))) y → ⊥ }
+    ensures consequent { (y : Tree) → KnownIf (an_if nowhere (Kind.Literal value.Null) nowhere nothing (joined (block (function_a [] [] ∷ [])) empty)) y → ⊥ }
 {}
 
 /// A logical expression with a known left side becomes its right one, if that is evaluated, and else the left one.

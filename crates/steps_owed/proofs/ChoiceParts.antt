@@ -1,6 +1,6 @@
--- What lies below a conditional, operators, lists and a call of a tree that fits the table of node types.
+-- What lies below a conditional, an `if`, operators, lists and a call of a tree that fits the table of node types.
 use Rattle.std.proofs.Common.{◌≡◌, [], ◌∷◌, Bool, true, false, not, Some, refl, sym, ap, ◌∙◌, true≢false}
-use Rattle.js_syntax.specs.Class.{root, expression, callee, argument, object_item}
+use Rattle.js_syntax.specs.Class.{root, expression, statement, callee, argument, object_item}
 use Rattle.js_syntax.specs.declared.node_kind.NodeKind.{NodeKind as Kind}
 use Rattle.js_syntax.specs.declared.operator.UnaryOperator.{UnaryOperator}
 use Rattle.js_syntax.specs.declared.operator.BinaryOperator.{BinaryOperator}
@@ -9,9 +9,9 @@ use Rattle.js_syntax.specs.Hint.{has, is_private}
 use Rattle.js_syntax.specs.Node.{Forest, Note}
 use Rattle.js_syntax.specs.Table.{Row, a_unary_expression, a_logical_expression, a_call_expression, fields_of}
 use Rattle.js_meaning_near.specs.Unused.{compares}
-use Rattle.json_shape.specs.Shape.{Values, kind_in, is_in, one, list, list_with_holes, places, these, Stand, Fits}
+use Rattle.json_shape.specs.Shape.{Values, kind_in, is_in, one, maybe_one, list, list_with_holes, places, these, Stand, Fits}
 use Rattle.scope_laws.specs.Place.{Around, plug}
-use Rattle.steps_owed.proofs.FitsTaking.{is_comparison, comparison_parts, is_but_in, binary_parts, array_parts, sequence_parts}
+use Rattle.steps_owed.proofs.FitsTaking.{is_if, if_parts, is_comparison, comparison_parts, is_but_in, binary_parts, array_parts, sequence_parts}
 use Rattle.steps_owed.proofs.Made.{MadeBy, made_there, conditional_stands, object_stands}
 
 abbrev is_logical : Kind → Bool
@@ -57,6 +57,15 @@ Two t = Stand (these (one expression ∷ one expression ∷ [])) t
 pub parts_of_conditional : (a : Around) (n : Note) (below : Forest) → Fits root (plug a (Some (record { kind = Kind.ConditionalExpression; note = n; below = below }))) → Three below
 parts_of_conditional a n below fits =
     conditional_stands below (made_there a (record { kind = Kind.ConditionalExpression; note = n; below = below }) (these (one root ∷ [])) refl refl fits)
+
+-- a test, a statement, and maybe another one
+abbrev pub TestAndBranches : Forest → Type 0
+TestAndBranches t = Stand (these (one expression ∷ one statement ∷ maybe_one statement ∷ [])) t
+
+pub parts_of_if : (a : Around) (n : Note) (below : Forest) → Fits root (plug a (Some (record { kind = Kind.IfStatement; note = n; below = below }))) → TestAndBranches below
+parts_of_if a n below fits =
+    let made = made_there a (record { kind = Kind.IfStatement; note = n; below = below }) (these (one root ∷ [])) refl refl fits in
+    if_parts (has is_private below) made.row made.values below (ap is_if (sym made.is)) made.stands
 
 pub sides_of_logical : (a : Around) (o : LogicalOperator) (n : Note) (below : Forest) → Fits root (plug a (Some (record { kind = Kind.LogicalExpression o; note = n; below = below }))) → Two below
 sides_of_logical a o n below fits =

@@ -171,7 +171,7 @@ abbrev is_sequence : Kind → Bool
 is_sequence sequence_expression = true
 is_sequence k = false
 
-abbrev is_if : Kind → Bool
+abbrev pub is_if : Kind → Bool
 is_if if_statement = true
 is_if k = false
 
@@ -264,7 +264,7 @@ if_class : (c : Class) (r : TableRow) (vs : Values (fields_of r)) → is_if (kin
 if_class c an_if_statement vs is stood = stood
 if_class c r vs is stood = absurd (true≢false (sym is))
 
-if_parts : (private : Bool) (r : TableRow) (vs : Values (fields_of r)) (parts : Forest) → is_if (kind_in r vs) ≡ true → Stand (these (places private (fields_of r) vs)) parts
+pub if_parts : (private : Bool) (r : TableRow) (vs : Values (fields_of r)) (parts : Forest) → is_if (kind_in r vs) ≡ true → Stand (these (places private (fields_of r) vs)) parts
     → Stand (these (one expression ∷ one statement ∷ maybe_one statement ∷ [])) parts
 if_parts private an_if_statement vs parts is stand = stand
 if_parts private r vs parts is stand = absurd (true≢false (sym is))

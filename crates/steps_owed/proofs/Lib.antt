@@ -47,6 +47,7 @@ pub mod SilentStatement
 pub mod KnownConditional
 pub mod KnownSide
 pub mod KnownIf
+pub mod DeadIf
 pub mod SilentAnywhere
 pub mod UnusedPlace
 pub mod UnusedOperation

@@ -10,7 +10,6 @@ use Rattle.js_syntax.specs.declared.kind.ClassKind.{ClassKind}
 use Rattle.js_syntax.specs.declared.kind.ClassKind.TheVariants as class_kind
 use Rattle.js_syntax.specs.declared.kind.VariableKind.{VariableKind}
 use Rattle.js_syntax.specs.declared.kind.VariableKind.TheVariants as variable
-use Rattle.js_syntax.specs.declared.node_kind.NodeKind.TheVariants as kind
 use Rattle.js_syntax.specs.declared.value.LiteralValue.{LiteralValue}
 use Rattle.js_syntax.specs.Node.{Forest, Note, nothing, node, absent}
 use Rattle.js_syntax.proofs.Truth.{first_of_both, second_of_both}
@@ -193,10 +192,6 @@ declares_nothing (node k n below rest) h e aims at =
     (λ g f. declares_nothing below g (first_of_both (is_enclosed below) (is_enclosed rest) e_below) f 0))
     (declares_nothing rest (second_of_both (declares_none_at k (declares_none below)) (declares_none rest) h) (second_of_both (is_enclosed below) (is_enclosed rest) e_below) aims (suc at))
 
--- a literal declares nothing, and what stands behind it may not either
-pub behind_literal : (v : LiteralValue) (m : Note) (t : Forest) → DeclaresNothing t → DeclaresNothing (node (kind.Literal v) m nothing t)
-behind_literal v m t h aims at = h aims (suc at)
-
--- nor does an expression in front of what declares nothing
+-- of a node that declares nothing in front of what declares nothing
 pub declares_row : (k : Kind) (n : Note) (a t : Forest) → DeclaresNothing (node k n a nothing) → DeclaresNothing t → DeclaresNothing (node k n a t)
 declares_row k n a t h g = λ aims at. subst (λ ds. named (aims at) n k ++ hoisted (aims_inside no_part (aims at) k a) 0 a ++ ds ≡ []) (sym (g aims (suc at))) (h aims at)

@@ -1,7 +1,7 @@
 -- Every case owes: a line each.
 use Rattle.js_syntax.specs.Node.{Tree}
 use Rattle.scope_laws.specs.Place.{Around}
-use Rattle.steps_allowed.specs.Edits.{Leaves, empty_statement, unused_function, unused_declarator, unused_declaration, Becomes, silent_statement, known_conditional, known_side, known_if, unused_operation, unused_list, indirect_choice, one_sided_choice, idle_parts, two_sides, unused_object, known_operation}
+use Rattle.steps_allowed.specs.Edits.{Leaves, empty_statement, unused_function, unused_declarator, unused_declaration, Becomes, silent_statement, known_conditional, known_side, known_if, dead_if, unused_operation, unused_list, indirect_choice, one_sided_choice, idle_parts, two_sides, unused_object, known_operation}
 use Rattle.steps_owed.specs.Owed.{Leaving, Becoming}
 use Rattle.steps_owed.proofs.ByPart.{by_part}
 use Rattle.steps_owed.proofs.ByParts.{by_parts}
@@ -13,6 +13,7 @@ use Rattle.steps_owed.proofs.SilentStatement.{silent_statement_owes}
 use Rattle.steps_owed.proofs.KnownConditional.{known_conditional_owes}
 use Rattle.steps_owed.proofs.KnownSide.{known_side_owes}
 use Rattle.steps_owed.proofs.KnownIf.{known_if_owes}
+use Rattle.steps_owed.proofs.DeadIf.{dead_if_owes}
 use Rattle.steps_owed.proofs.UnusedOperation.{unused_operation_owes}
 use Rattle.steps_owed.proofs.UnusedList.{unused_list_owes}
 use Rattle.steps_owed.proofs.IndirectChoice.{indirect_choice_owes}
@@ -33,6 +34,7 @@ becoming a x y (silent_statement c) = silent_statement_owes a x y c
 becoming a x y (known_conditional c) = by_part a x y (known_conditional_owes a x y c)
 becoming a x y (known_side c) = by_part a x y (known_side_owes a x y c)
 becoming a x y (known_if c) = by_part a x y (known_if_owes a x y c)
+becoming a x y (dead_if c) = dead_if_owes a x y c
 becoming a x y (unused_operation c) = by_part a x y (unused_operation_owes a x y c)
 becoming a x y (unused_list c) = by_parts a x y (unused_list_owes a x y c)
 becoming a x y (indirect_choice c) = by_parts a x y (indirect_choice_owes a x y c)

@@ -3,14 +3,14 @@ use Rattle.std.proofs.Common.{◌≡◌, ℕ, ◌+◌, suc, Bool, true, false, n
 use Rattle.js_tree.specs.Count.{one_each, node_count}
 use Rattle.js_syntax.specs.Class.{root}
 use Rattle.js_syntax.specs.declared.node_kind.NodeKind.{NodeKind as Kind}
-use Rattle.js_syntax.specs.declared.node_kind.NodeKind.TheVariants.{BindingName as binding_name, Function as function, Class as class, ConditionalExpression as conditional_expression, LogicalExpression as logical_expression, UnaryExpression as unary_expression, BinaryExpression as binary_expression, ParenthesizedExpression as parenthesized_expression}
+use Rattle.js_syntax.specs.declared.node_kind.NodeKind.TheVariants.{EmptyStatement as empty_statement, IfStatement as if_statement, BindingName as binding_name, Function as function, Class as class, ConditionalExpression as conditional_expression, LogicalExpression as logical_expression, UnaryExpression as unary_expression, BinaryExpression as binary_expression, ParenthesizedExpression as parenthesized_expression}
 use Rattle.js_syntax.specs.declared.operator.BinaryOperator.{BinaryOperator}
 use Rattle.js_syntax.specs.declared.operator.LogicalOperator.{LogicalOperator}
 use Rattle.js_syntax.specs.declared.operator.UnaryOperator.{UnaryOperator}
 use Rattle.js_syntax.specs.declared.operator.UnaryOperator.TheVariants as unary
 use Rattle.js_syntax.specs.declared.kind.FunctionKind.TheVariants as function_kind
 use Rattle.js_syntax.specs.declared.kind.ClassKind.TheVariants as class_kind
-use Rattle.js_syntax.specs.Node.{Forest, Tree, nothing, node, absent, alone, forest_of}
+use Rattle.js_syntax.specs.Node.{Note, Forest, Tree, nothing, node, absent, alone, forest_of}
 use Rattle.js_syntax.proofs.Truth.{first_of_both, second_of_both}
 use Rattle.form_rules.specs.declared.sought.Sought.{Sought}
 use Rattle.form_rules.specs.declared.sought.Sought.TheVariants.{Nothing as none, Names as names, Bound as bound, Scope as scope, Variables as variables, FunctionScope as function_scope, CatchScope as catch_scope}
@@ -22,8 +22,9 @@ use Rattle.scope_laws.specs.Place as place
 use Rattle.scope_laws.specs.Place.{first, behind, behind_none, under, plug}
 use Rattle.steps_allowed.specs.Uses.{Use, as_value, as_deleted, operand_of, use_below, use_there, use_at}
 use Rattle.steps_allowed.specs.Branches.{declares_none_at, declares_none}
+use Rattle.steps_allowed.specs.Places.{a_node}
 use Rattle.steps_keep_form.specs.Part.{gives_way, is_statement, is_asked_for, StandsFor, Replaces, by_part}
-use Rattle.steps_keep_form.specs.Sheds.{Row, of_declarators, row_below, asked_below, deleted_below, may_give_way, keeps_one, Around, entered, outermost, Sheds, keeps_absent, keeps, becomes}
+use Rattle.steps_keep_form.specs.Sheds.{Row, of_declarators, row_below, asked_below, deleted_below, may_empty, may_give_way, may_come_out, keeps_one, Around, entered, outermost, Sheds, keeps_absent, keeps, empties_if, becomes}
 use Rattle.steps_keep_form.proofs.Firm.{is_told_apart, gives, may_all_give_way, fits_may_give_way}
 use Rattle.steps_keep_form.proofs.Rows.{itself, keeps_itself}
 use Rattle.steps_keep_form.proofs.Rules.{both_empty}
@@ -157,7 +158,12 @@ given_moves k h = ap (λ g. g || (not (is_statement k || is_asked_for k) && not 
 
 -- ---- wherever the node stands
 
-module _ (x y : Tree) (replaces : Replaces x.kind x.note x.below y.kind y.note y.below) (moves : gives x.kind ≡ true) where
+-- what becomes of the first node of a row, where a part may stand for it
+abbrev FirstBecomes : (x y : Tree) → Type 0
+FirstBecomes x y =
+    (z : Around) (rest : Forest) → may_give_way z.row z.is_asked x.kind ≡ true → may_come_out z.is_deleted (forest_of y) ≡ true → Sheds z (node x.kind x.note x.below rest) (node y.kind y.note y.below rest)
+
+module _ (x y : Tree) (first_becomes : FirstBecomes x y) (moves : gives x.kind ≡ true) where
   as_many : (a : place.Around) → length_of (plug a (Some y)) ≡ length_of (plug a (Some x))
   as_many (first rest) = refl
   as_many (behind k n b a) = ap (λ i. suc i) (as_many a)
@@ -175,9 +181,9 @@ module _ (x y : Tree) (replaces : Replaces x.kind x.note x.below y.kind y.note y
   sheds_there : (a : place.Around) (z : Around) (us : ℕ → Use) (at : ℕ) → ((i : ℕ) → z.is_deleted ≡ true → us i ≡ as_deleted) → (use_there us at a ≡ as_deleted → is_bare_name (forest_of y) ≡ false)
       → may_all_give_way z.row z.is_asked (plug a (Some x)) ≡ true → Sheds z (plug a (Some x)) (plug a (Some y))
   sheds_there (first rest) z us at used out h =
-      becomes replaces (may_there z (first_of_both (not (gives x.kind) || may_give_way z.row z.is_asked x.kind)
+      first_becomes z rest (may_there z (first_of_both (not (gives x.kind) || may_give_way z.row z.is_asked x.kind)
       (may_all_give_way (row_below z.row x.kind) (asked_below z.row x.kind) x.below && may_all_give_way z.row z.is_asked rest) h))
-      (come_out z.is_deleted (is_bare_name (forest_of y)) (λ d. out (used at d))) (itself z rest)
+      (come_out z.is_deleted (is_bare_name (forest_of y)) (λ d. out (used at d)))
   sheds_there (behind k n b a) z us at used out h =
       keeps (keeps_itself (row_below z.row k) b) (itself (entered z k b) b)
       (sheds_there a z us (suc at) used out (second_of_both (may_all_give_way (row_below z.row k) (asked_below z.row k) b) (may_all_give_way z.row z.is_asked (plug a (Some x)))
@@ -191,7 +197,17 @@ module _ (x y : Tree) (replaces : Replaces x.kind x.note x.below y.kind y.note y
 
 pub replaced_sheds : (a : place.Around) (x y : Tree) → Replaces x.kind x.note x.below y.kind y.note y.below → gives x.kind ≡ true → (use_at a ≡ as_deleted → is_bare_name (forest_of y) ≡ false) → Fits root (plug a (Some x))
     → Sheds outermost (plug a (Some x)) (plug a (Some y))
-replaced_sheds a x y replaces moves out fits = sheds_there x y replaces moves a outermost (λ i. as_value) 0 (λ i d. absurd (true≢false (sym d))) out (fits_may_give_way (plug a (Some x)) fits)
+replaced_sheds a x y replaces moves out fits =
+    sheds_there x y (λ z rest may bare. becomes replaces may bare (itself z rest)) moves a outermost (λ i. as_value) 0 (λ i d. absurd (true≢false (sym d))) out (fits_may_give_way (plug a (Some x)) fits)
 
 pub part_sheds : (a : place.Around) (x y : Tree) → Stands x y → (use_at a ≡ as_deleted → is_bare_name (forest_of y) ≡ false) → Fits root (plug a (Some x)) → Sheds outermost (plug a (Some x)) (plug a (Some y))
 part_sheds a x y stands = replaced_sheds a x y (by_part stands) (given_moves x.kind stands.gives)
+
+-- An `if` that declares nothing becomes empty: where a part may stand for an `if`, statements may become empty.
+pub emptied_if_sheds : (a : place.Around) (n m : Note) (below : Forest) → ((s : Sought) (at : ℕ) → declared s at (alone if_statement n below) ≡ []) → Fits root (plug a (a_node if_statement n below))
+    → Sheds outermost (plug a (a_node if_statement n below)) (plug a (a_node empty_statement m nothing))
+emptied_if_sheds a n m below unnamed fits =
+    let old : Tree = record { kind = if_statement; note = n; below = below } in
+    let new : Tree = record { kind = empty_statement; note = m; below = nothing } in
+    sheds_there old new (λ z rest may bare. empties_if (second_of_both (not z.is_asked) (may_empty z.row) may) unnamed (itself z rest)) refl a outermost (λ i. as_value) 0 (λ i d. absurd (true≢false (sym d))) (λ d. refl)
+    (fits_may_give_way (plug a (Some old)) fits)

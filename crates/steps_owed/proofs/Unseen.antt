@@ -1,5 +1,5 @@
 -- What a change takes away declares nothing that is seen.
-use Rattle.std.proofs.Common.{◌≡◌, ◌∙◌, ◌⊎◌, inl, inr, ℕ, suc, ◌+◌, Bool, true, false, ◌||◌, List, [], Option, Some, true≢false, refl, sym, ap, subst, arith}
+use Rattle.std.proofs.Common.{◌≡◌, ◌∙◌, ◌⊎◌, inl, inr, ℕ, suc, ◌+◌, Bool, true, false, ◌||◌, ◌&&◌, List, [], Option, Some, true≢false, refl, sym, ap, subst, arith}
 use Rattle.js_syntax.specs.declared.node_kind.NodeKind.{NodeKind as Kind}
 use Rattle.js_syntax.specs.declared.kind.FunctionKind.{FunctionKind}
 use Rattle.js_syntax.specs.declared.kind.FunctionKind.TheVariants as function_kind
@@ -7,6 +7,7 @@ use Rattle.js_syntax.specs.declared.kind.VariableKind.{VariableKind}
 use Rattle.js_syntax.specs.declared.kind.VariableKind.TheVariants as variable
 use Rattle.js_syntax.specs.Node.{Forest, Tree, Note, nothing, node, absent, alone}
 use Rattle.js_syntax.specs.declared.operator.UnaryOperator.TheVariants as unary
+use Rattle.js_syntax.proofs.Truth.{both}
 use Rattle.js_effects.specs.Still.{is_value}
 use Rattle.js_effects.specs.Silence.{is_one_name}
 use Rattle.min_pass.specs.Around.{is_with}
@@ -70,6 +71,9 @@ enclosed_there (first rest) k n below h = enclosed_front k n below rest h
 enclosed_there (behind j m b a) k n below h = enclosed_there a k n below (enclosed_rest j m b (plug a (a_node k n below)) h)
 enclosed_there (behind_none a) k n below h = enclosed_there a k n below h
 enclosed_there (under j m a rest) k n below h = enclosed_there a k n below (enclosed_below j m (plug a (a_node k n below)) rest h)
+
+pub enclosed_alone_there : (a : Around) (k : Kind) (n : Note) (below : Forest) → is_enclosed (plug a (a_node k n below)) ≡ true → is_enclosed (node k n below nothing) ≡ true
+enclosed_alone_there a k n below h = let e = enclosed_there a k n below h in both (is_enclosed_at k below) (is_enclosed below && true) e.0 (both (is_enclosed below) true e.1 refl)
 
 -- ---- silent rows declare in functions alone
 

@@ -1,8 +1,9 @@
--- The table stays exact, with shorter lists, when a node leaves a list or becomes empty, where what it declares is unseen.
-use Rattle.std.proofs.Common.{◌≡◌, ◌∙◌, inl, inr, ℕ, Bool, true, false, List, [], ◌∷◌, Option, Some, true≢false, refl, sym, ap, subst, arith}
+-- The table stays exact, with shorter lists, when a node leaves a list or becomes empty, where what it declares is unseen, or it declares
+-- nothing.
+use Rattle.std.proofs.Common.{◌≡◌, ◌∙◌, inl, inr, ℕ, Bool, true, false, List, [], ◌∷◌, ◌++◌, Option, Some, true≢false, refl, sym, ap, subst, arith}
 use Rattle.js_syntax.specs.declared.node_kind.NodeKind.{NodeKind as Kind}
 use Rattle.js_syntax.specs.declared.node_kind.NodeKind.TheVariants.{PropertyDefinition as property_definition, EmptyStatement as empty_statement}
-use Rattle.js_syntax.specs.Node.{Forest, Tree, Note, nothing, node}
+use Rattle.js_syntax.specs.Node.{Forest, Tree, Note, nothing, node, forest_of}
 use Rattle.scope_rules.specs.Context.{is_there, has_second, opens}
 use Rattle.scope_rules.specs.Site.{BindingSite, sites_of, bindings_among}
 use Rattle.scope_rules.specs.Table.{Symbol, Scoping}
@@ -10,7 +11,7 @@ use Rattle.scope_laws.specs.Exact.{Among, Exact}
 use Rattle.scope_laws.specs.Place.{Around, plug}
 use Rattle.scope_laws.specs.Lists.{is_list, without, is_listed}
 use Rattle.scope_laws.proofs.Around.{stands_there}
-use Rattle.scope_counts.specs.Counts.{Decl}
+use Rattle.scope_counts.specs.Counts.{Decl, named, hoisted, aims_inside, no_part}
 use Rattle.scope_counts.specs.Exact.{count, references_of, lists_of}
 use Rattle.scope_counts.specs.Edits as counts
 use Rattle.scope_counts.specs.Edits.{Rooted, program_with, place_in, SameScopes, in_list}
@@ -18,7 +19,9 @@ use Rattle.scope_counts.specs.Losing.{is_gone, left, UsersLeave, DeclaresGone}
 use Rattle.scope_counts.specs.Scopes.{ExactButMarks, unmarked}
 use Rattle.scope_counts.proofs.Stays.{exact_without, exact_emptied}
 use Rattle.scope_counts.proofs.Whole.{exact_with}
+use Rattle.steps_keep_form.proofs.Rules.{first_empty}
 use Rattle.steps_owed.specs.Kept.{is_program, IsKept}
+use Rattle.steps_owed.specs.Part.{DeclaresNothing}
 use Rattle.steps_owed.specs.Unseen.{IsUnreferred, IsUnseen}
 use Rattle.steps_owed.proofs.Outlying.{declares_before}
 use Rattle.steps_owed.proofs.Places.{place_of, rest_of, same_scopes, IsInside, inside_list, is_rooted}
@@ -82,6 +85,25 @@ module _ (t u : Forest) where
 
 -- ---- at a place
 
+module _ (a : Around) (x : Tree) (is : is_program (plug a (Some x)) ≡ true) where
+  -- an empty statement comes in the place of a node whose declarations are gone
+  empties : ((s : Scoping) → Exact s (plug a (Some x)) → DeclaresGone (unlisted s) x.kind x.note x.below) → IsInside a → (n : Note) (s : Scoping) → IsKept s (plug a (Some x))
+      → IsKept s (plug a (Some (record { kind = empty_statement; note = n; below = nothing })))
+  empties none inside n s kept =
+      let place = is_rooted a x inside is in
+      let p = place.rooted in
+      let rest = rest_of a in
+      let whole = node x.kind x.note x.below rest in
+      let empty = node empty_statement n nothing rest in
+      let old : IsKept s (program_with p whole) = subst (IsKept s) (place.with_node x) kept in
+      let exact : ExactButMarks old.table unmarked (program_with p whole) = (exact_with p whole old.table).0 old.exact in
+      let gone = none old.table (subst (Exact old.table) (sym (place.with_node x)) old.exact) in
+      let scopes : SameScopes (place_in p) whole empty = subst (λ b. SameScopes b whole empty) (sym place.place_is)
+      (same_scopes x.kind empty_statement x.note n x.below nothing rest (place_of place.inner)) in
+      subst (IsKept s) (sym (place.with_node (record { kind = empty_statement; note = n; below = nothing })))
+      (kept_but_marks p (left whole empty) whole empty s old
+      (exact_emptied (unlisted old.table) p x.kind x.note n x.below rest gone scopes (users_leave old.table p whole empty exact) old.table unmarked (left whole empty) (λ r. refl) exact))
+
 module _ (a : Around) (x : Tree) (unseen : IsUnseen a (Some x)) (is : is_program (plug a (Some x)) ≡ true) where
   declares_gone : IsInside a → (s : Scoping) → Exact s (plug a (Some x)) → DeclaresGone (unlisted s) x.kind x.note x.below
   declares_gone inside s exact aims d i =
@@ -113,16 +135,9 @@ module _ (a : Around) (x : Tree) (unseen : IsUnseen a (Some x)) (is : is_program
 
   -- an empty statement comes in its place
   pub unseen_empties : IsInside a → (n : Note) (s : Scoping) → IsKept s (plug a (Some x)) → IsKept s (plug a (Some (record { kind = empty_statement; note = n; below = nothing })))
-  unseen_empties inside n s kept =
-      let place = is_rooted a x inside is in
-      let p = place.rooted in
-      let rest = rest_of a in
-      let empty = node empty_statement n nothing rest in
-      let old : IsKept s (program_with p whole) = subst (IsKept s) (place.with_node x) kept in
-      let exact : ExactButMarks old.table unmarked (program_with p whole) = (exact_with p whole old.table).0 old.exact in
-      let gone = declares_gone inside old.table (subst (Exact old.table) (sym (place.with_node x)) old.exact) in
-      let scopes : SameScopes (place_in p) whole empty = subst (λ b. SameScopes b whole empty) (sym place.place_is)
-      (same_scopes x.kind empty_statement x.note n x.below nothing rest (place_of place.inner)) in
-      subst (IsKept s) (sym (place.with_node (record { kind = empty_statement; note = n; below = nothing })))
-      (kept_but_marks p (left whole empty) whole empty s old
-      (exact_emptied (unlisted old.table) p x.kind x.note n x.below rest gone scopes (users_leave old.table p whole empty exact) old.table unmarked (left whole empty) (λ r. refl) exact))
+  unseen_empties inside = empties a x is (declares_gone inside) inside
+
+-- so does one that declares nothing
+pub idle_empties : (a : Around) (x : Tree) → DeclaresNothing (forest_of x) → is_program (plug a (Some x)) ≡ true → IsInside a → (n : Note) (s : Scoping) → IsKept s (plug a (Some x)) → IsKept s (plug a (Some (record { kind = empty_statement; note = n; below = nothing })))
+idle_empties a x none is inside =
+    empties a x is (λ s exact aims d i. absurd (subst (Among d) (first_empty (named aims x.note x.kind ++ hoisted (aims_inside no_part aims x.kind x.below) 0 x.below) [] (none (λ at. aims) 0)) i)) inside
