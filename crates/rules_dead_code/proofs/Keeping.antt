@@ -12,7 +12,7 @@ use Rattle.steps_fit.proofs.Modules.{fits_program}
 use Rattle.steps_owed.specs.Kept.{is_program}
 use Rattle.steps_owed.proofs.FitsEdits.{edit_fits, tree_edits_fit}
 use Rattle.steps_marked.specs.Flags.{first_mark}
-use Rattle.steps_marked.proofs.Cuts.{Cuts, leaves, empties, parts, rebuilds, inside, behind, behind_none, edit_cuts}
+use Rattle.steps_marked.proofs.Cuts.{Cuts, leaves, empties, empties_if, parts, rebuilds, inside, behind, behind_none, edit_cuts}
 use Rattle.steps_marked.proofs.Exposing.{part_no_program}
 use Rattle.steps_marked.proofs.Telling.{no_program, edits_told}
 use Rattle.steps_marked.proofs.Tables.{edits_keep_marked}
@@ -36,6 +36,7 @@ script_first k n m a b c d = refl
 root_cut : (listed : Bool) (t u : Forest) → Cuts listed t u → listed ≡ false → is_program t ≡ true → SameRoot t u
 root_cut listed t u (leaves k n below rest plain) l e = absurd (true≢false l)
 root_cut listed t u (empties r n m below rest) l e = never e
+root_cut listed t u (empties_if r n m below rest) l e = never e
 root_cut listed t u (parts r k x i j b v w rest gives unasked) l e = never (sym (no_program k i (joined v (node x j b w)) rest gives) ∙ e)
 root_cut listed t u (rebuilds r k x n m a b rest made) l e = never (sym (part_no_program k n a rest made.old_unasked) ∙ e)
 root_cut listed t u (inside r k n below now rest called h) l e = record { script = script_first k n n now below rest rest; mark = refl }

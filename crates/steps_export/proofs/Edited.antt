@@ -5,7 +5,8 @@ use Rattle.js_syntax.specs.declared.node_kind.NodeKind.TheVariants as kind
 use Rattle.js_syntax.specs.declared.kind.FunctionKind.TheVariants as function_kind
 use Rattle.js_syntax.specs.declared.kind.VariableKind.TheVariants as variable
 use Rattle.js_syntax.specs.Class.{root}
-use Rattle.js_syntax.specs.Node.{Forest, Tree, Note, nothing, node, alone, forest_of}
+use Rattle.js_syntax.specs.Node.{Forest, Tree, Note, nothing, node, absent, alone, forest_of}
+use Rattle.js_syntax.proofs.Truth.{both}
 use Rattle.js_effects.specs.Silence.{is_marked}
 use Rattle.json_shape.specs.Shape.{Fits}
 use Rattle.min_pass.specs.Around.{is_with}
@@ -24,15 +25,19 @@ use Rattle.steps_allowed.specs.UnusedFunction.{unused_function_leaves}
 use Rattle.steps_allowed.specs.UnusedDeclarator.{SilentDeclarator, unused_declarator_leaves}
 use Rattle.steps_allowed.specs.UnusedDeclaration.{SilentDeclaration, one_declarator, unused_declaration_leaves}
 use Rattle.steps_allowed.specs.SilentStatement.{SilentStatement, silent_statement_empties}
-use Rattle.steps_allowed.specs.Edits.{Leaves, empty_statement, unused_function, unused_declarator, unused_declaration, Becomes, silent_statement, known_conditional, known_side, known_if, unused_operation, unused_list, indirect_choice, one_sided_choice, idle_parts, two_sides, unused_object, known_operation, Edit, leaves, becomes, TreeEdits, no_tree_edit, one_tree_edit}
+use Rattle.steps_allowed.specs.Branches.{declares_none}
+use Rattle.steps_allowed.specs.DeadIf.{DeadIf, nothing_is_run}
+use Rattle.steps_allowed.specs.Edits.{Leaves, empty_statement, unused_function, unused_declarator, unused_declaration, Becomes, silent_statement, known_conditional, known_side, known_if, dead_if, unused_operation, unused_list, indirect_choice, one_sided_choice, idle_parts, two_sides, unused_object, known_operation, Edit, leaves, becomes, TreeEdits, no_tree_edit, one_tree_edit}
 use Rattle.steps_owed.specs.Kept.{is_program}
 use Rattle.steps_owed.specs.Owed.{ByPart, ByParts}
-use Rattle.steps_owed.proofs.Expressions.{expression_declares_nothing}
+use Rattle.steps_owed.specs.Part.{DeclaresNothing}
+use Rattle.steps_owed.proofs.ChoiceParts.{parts_of_if}
+use Rattle.steps_owed.proofs.Expressions.{expression_declares_none, expression_declares_nothing}
 use Rattle.steps_owed.proofs.FitsEdits.{edit_fits}
 use Rattle.steps_owed.proofs.Inside.{enclosed_below, enclosed_rest}
 use Rattle.steps_owed.proofs.KnownConditional.{known_conditional_owes}
 use Rattle.steps_owed.proofs.KnownSide.{known_side_owes}
-use Rattle.steps_owed.proofs.KnownIf.{known_if_owes}
+use Rattle.steps_owed.proofs.KnownIf.{tested_row, known_if_owes}
 use Rattle.steps_owed.proofs.UnusedOperation.{unused_operation_owes}
 use Rattle.steps_owed.proofs.UnusedList.{unused_list_owes}
 use Rattle.steps_owed.proofs.IndirectChoice.{indirect_choice_owes}
@@ -41,9 +46,10 @@ use Rattle.steps_owed.proofs.IdleParts.{idle_parts_owes}
 use Rattle.steps_owed.proofs.TwoSides.{two_sides_owes}
 use Rattle.steps_owed.proofs.UnusedObject.{unused_object_owes}
 use Rattle.steps_owed.proofs.KnownOperation.{known_operation_owes}
+use Rattle.steps_owed.proofs.Outward.{declares_nothing}
 use Rattle.steps_owed.proofs.Owed.{leaving}
 use Rattle.steps_owed.proofs.TableKept as tables
-use Rattle.steps_owed.proofs.Unseen.{both_at, enclosed_there}
+use Rattle.steps_owed.proofs.Unseen.{both_at, enclosed_there, enclosed_alone_there}
 use Rattle.steps_marked.specs.Exports.{IsMarkedAmong}
 use Rattle.steps_marked.proofs.Exposing.{part_no_program}
 use Rattle.steps_marked.proofs.Telling.{no_program}
@@ -65,6 +71,14 @@ anywhere x w cs at next (under k n a rest) = anywhere x (w || is_with k) (inside
 
 gone_stays : (e : BindingSite) (k : Kind) (n : Note) (below : Forest) (y : Option Tree) (c : Context) (next : ℕ) → Gone e k n below c next → Stays e (record { kind = k; note = n; below = below }) y c next
 gone_stays e k n below y c next gone all a same h = absurd (gone (collected_declared all (λ at. c) 0 next (node k n below nothing) e h))
+
+-- an `if` with no branch to take: neither its test nor its branch declares a name
+dead_declares_nothing : (a : Around) (x y : Tree) → DeadIf x y → Fits root (plug a (Some x)) → DeclaresNothing (forest_of x)
+dead_declares_nothing a x y (nothing_is_run n m i o tested k d b truth none) fits =
+    let branch = node k i b (absent nothing) in
+    let below = node tested m d branch in
+    let undeclared = tested_row tested m d branch (expression_declares_none (node tested m d nothing) ((parts_of_if a n below fits).0, tt)) none in
+    declares_nothing (forest_of x) (both (declares_none below) true undeclared refl) (enclosed_alone_there a kind.IfStatement n below (fits_enclosed (plug a (Some x)) fits))
 
 module _ (e : BindingSite) (top : e.layer.scope ≡ 0) where
   abbrev ExportedBy : Forest → Type 0
@@ -136,6 +150,10 @@ module _ (e : BindingSite) (top : e.layer.scope ≡ 0) where
   changed a x y (known_conditional c) fits h = part_settled a x y (known_conditional_owes a x y c) fits h
   changed a x y (known_side c) fits h = part_settled a x y (known_side_owes a x y c) fits h
   changed a x y (known_if c) fits h = part_settled a x y (known_if_owes a x y c) fits h
+  changed a x y (dead_if (nothing_is_run n m i o tested k d b truth none)) fits h =
+      subst ExportedBy (made_plug a y)
+      (settled a x (Some y) Anything fits (λ rest. refl) (λ f. absurd (true≢false f)) (anywhere (Some x) false (λ at. outermost) 0 0 a)
+      (λ w c next some any. undeclared_stays e top x y (dead_declares_nothing a x y (nothing_is_run n m i o tested k d b truth none) fits) c next some) h)
   changed a x y (unused_operation c) fits h = part_settled a x y (unused_operation_owes a x y c) fits h
   changed a x y (unused_list c) fits h = parts_settled a x y (unused_list_owes a x y c) fits h
   changed a x y (indirect_choice c) fits h = parts_settled a x y (indirect_choice_owes a x y c) fits h

@@ -18,6 +18,7 @@ module _ (counts : Kind → ℕ) (spares : IsSparing counts) where
   cut_lighter : (listed : Bool) (t u : Forest) → Cuts listed t u → total counts u ≤ total counts t
   cut_lighter listed t u (cuts.leaves k n below rest plain) = Prim.omega arith
   cut_lighter listed t u (cuts.empties l n m below rest) = Prim.omega (arith, spares.empty)
+  cut_lighter listed t u (cuts.empties_if l n m below rest) = Prim.omega (arith, spares.empty_if)
   cut_lighter listed t u (cuts.parts i k l n m b v w rest gives unasked) = Prim.omega (arith, total_joined counts v (node l m b w))
   cut_lighter listed t u (cuts.rebuilds i k l n m a b rest made) = Prim.omega (arith, picked_counts counts spares made.picks)
   cut_lighter listed t u (cuts.inside l k n below now rest called c) = Prim.omega (arith, cut_lighter (is_list k) below now c)
@@ -51,6 +52,7 @@ part_levels more at (node k n below v) l m b w = Prim.omega (arith, part_levels 
 cut_levels : (more : ℕ → ℕ) (at : ℕ) (listed : Bool) (t u : Forest) → Cuts listed t u → (listed ≡ true → IsLevel more) → levels_at more at u ≤ levels_at more at t
 cut_levels more at listed t u (cuts.leaves k n below rest plain) level = Prim.omega (arith, moved more (level refl) at (suc at) rest)
 cut_levels more at listed t u (cuts.empties l n m below rest) level = Prim.omega arith
+cut_levels more at listed t u (cuts.empties_if l n m below rest) level = Prim.omega arith
 cut_levels more at listed t u (cuts.parts i k l n m b v w rest gives unasked) level = Prim.omega (arith, part_levels (lower k) 0 v l m b w)
 cut_levels more at listed t u (cuts.rebuilds i k l n m a b rest made) level = Prim.omega (arith, made.no_deeper)
 cut_levels more at listed t u (cuts.inside l k n below now rest called c) level = Prim.omega (arith, cut_levels (lower k) 0 (is_list k) below now c (list_level k))
@@ -68,6 +70,7 @@ levels_shed = record { renoted = unseen levels (bare_levels (λ at. 0) 0); cut =
 pub nodes_shed : IsShed node_count
 nodes_shed = counts_shed one_each (record {
   empty = Prim.omega arith;
+  empty_if = Prim.omega arith;
   of_array = Prim.omega arith;
   of_elements = Prim.omega arith;
   of_object = Prim.omega arith;

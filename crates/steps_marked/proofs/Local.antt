@@ -1,10 +1,10 @@
 -- What an edit makes of the row in which it is made, whose other nodes keep their marks.
 use Rattle.std.proofs.Common.{◌≡◌, ◌∙◌, ◌≤◌, ◌<◌, true, false, Some, is_some, arith, sym, ap}
 use Rattle.js_syntax.specs.declared.node_kind.NodeKind.{NodeKind as Kind}
-use Rattle.js_syntax.specs.declared.node_kind.NodeKind.TheVariants.{ExpressionStatement as expression_statement, EmptyStatement as empty_statement}
+use Rattle.js_syntax.specs.declared.node_kind.NodeKind.TheVariants.{ExpressionStatement as expression_statement, IfStatement as if_statement, EmptyStatement as empty_statement}
 use Rattle.js_syntax.specs.Class.{root, expression}
 use Rattle.js_syntax.specs.Facts.{weight}
-use Rattle.js_syntax.specs.Node.{Forest, Tree, Note, nothing, node, alone, joined, total, forest_of}
+use Rattle.js_syntax.specs.Node.{Forest, Tree, Note, nothing, node, absent, alone, joined, total, forest_of}
 use Rattle.js_tree.specs.Count.{levels}
 use Rattle.js_tree.specs.Names.{eval_name}
 use Rattle.js_rebuilt.specs.Rebuilt.{Rebuilt}
@@ -17,6 +17,7 @@ use Rattle.steps_allowed.specs.UnusedFunction.{unused_function_leaves}
 use Rattle.steps_allowed.specs.UnusedDeclarator.{unused_declarator_leaves}
 use Rattle.steps_allowed.specs.UnusedDeclaration.{unused_declaration_leaves}
 use Rattle.steps_allowed.specs.SilentStatement.{silent_statement_empties}
+use Rattle.steps_allowed.specs.DeadIf.{nothing_is_run}
 use Rattle.steps_allowed.specs.Edits as edits
 use Rattle.steps_allowed.specs.Edits.{Leaves, Edit}
 use Rattle.steps_owed.specs.Owed.{ByPart, ByParts}
@@ -51,11 +52,12 @@ pub record IsRebuilt (k : Kind) (n : Note) (a : Forest) (l : Kind) (m : Note) (b
   pub no_deeper : levels (alone l m b) ≤ levels (alone k n a)
   pub picks : Picks k a l b
 
--- A node leaves a list, a statement of an expression becomes empty, a part of a node comes in its place, or an expression is rebuilt of
--- its parts; what comes isn't the name `eval` if it is called.
+-- A node leaves a list, a statement of an expression or an `if` becomes empty, a part of a node comes in its place, or an expression is
+-- rebuilt of its parts; what comes isn't the name `eval` if it is called.
 pub data Local (place : Around) : (t u : Forest) → Type 0 where
   leaves : (k : Kind) (n : Note) (b rest : Forest) → in_list false place ≡ true → is_directive_kind k ≡ false → 1 ≤ total weight (alone k n b) → Local place (node k n b rest) rest
   empties : (n m : Note) (b rest : Forest) → Local place (node expression_statement n b rest) (node empty_statement m nothing rest)
+  empties_if : (n m : Note) (b rest : Forest) → Local place (node if_statement n b rest) (node empty_statement m nothing rest)
   parts : (k l : Kind) (i j : Note) (b v w rest : Forest) → gives_way k ≡ true → is_asked_for l ≡ false → (called_at false place ≡ true → is_some (eval_name (node l j b rest)) ≡ false)
       → Local place (node k i (joined v (node l j b w)) rest) (node l j b rest)
   rebuilds : (k l : Kind) (n m : Note) (a b rest : Forest) → IsRebuilt k n a l m b → (called_at false place ≡ true → is_some (eval_name (node l m b rest)) ≡ false) → Local place (node k n a rest) (node l m b rest)
@@ -132,6 +134,14 @@ is_local t u (edits.becomes a x y (edits.silent_statement (silent_statement_empt
 is_local t u (edits.becomes a x y (edits.known_conditional c)) fits = by_part a x y (known_conditional_owes a x y c) fits
 is_local t u (edits.becomes a x y (edits.known_side c)) fits = by_part a x y (known_side_owes a x y c) fits
 is_local t u (edits.becomes a x y (edits.known_if c)) fits = by_part a x y (known_if_owes a x y c) fits
+is_local t u (edits.becomes a x y (edits.dead_if (nothing_is_run n m i o tested k d b truth none))) fits = record {
+  place = place_of a;
+  old = node if_statement n (node tested m d (node k i b (absent nothing))) (rest_of a);
+  new = node empty_statement o nothing (rest_of a);
+  local = empties_if n o (node tested m d (node k i b (absent nothing))) (rest_of a);
+  old_is = placed_is a x;
+  new_is = placed_is a y;
+}
 is_local t u (edits.becomes a x y (edits.unused_operation c)) fits = by_part a x y (unused_operation_owes a x y c) fits
 is_local t u (edits.becomes a x y (edits.unused_list c)) fits = by_parts a x y (unused_list_owes a x y c) (unused_list_picks a x y c) fits
 is_local t u (edits.becomes a x y (edits.indirect_choice c)) fits = by_parts a x y (indirect_choice_owes a x y c) (indirect_choice_picks a x y c) fits

@@ -34,7 +34,7 @@ use Rattle.steps_owed.specs.Kept.{is_program}
 use Rattle.steps_owed.specs.Part.{DeclaresNothing}
 use Rattle.steps_owed.proofs.FitsEdits.{edit_fits}
 use Rattle.steps_marked.specs.Exports.{IsMarkedAmong, WasExported}
-use Rattle.steps_marked.proofs.Cuts.{Cuts, leaves, empties, parts, rebuilds, inside as cut_inside, behind, behind_none, edit_cuts}
+use Rattle.steps_marked.proofs.Cuts.{Cuts, leaves, empties, empties_if, parts, rebuilds, inside as cut_inside, behind, behind_none, edit_cuts}
 use Rattle.steps_marked.proofs.Telling.{no_program}
 use Rattle.steps_marked.proofs.Exposing.{never, part_no_program, thinner_cuts}
 
@@ -295,24 +295,30 @@ module _ (e : BindingSite) (top : e.layer.scope ≡ 0) where
   abbrev rest_only : (xs ys zs : List Site) → Among e (bindings_among xs) → Among e (bindings_among (xs ++ ys ++ zs))
   rest_only xs ys zs h = binding_left e (xs ++ ys) zs (binding_left e xs ys h)
 
-  cuts_found : (all listed : Bool) (t u : Forest) → Cuts listed t u → (qs ps : ℕ → Context) (i j next other : ℕ) → 0 < next → Covers listed qs ps → (listed ≡ false → i ≡ j) → Among e (bindings_among (collected all qs i next u)) → Found (collected all ps j other t)
-  cuts_found all listed t u (leaves k n below rest plain) qs ps i j next other some c f h =
-      found_third (if all then own_sites (ps j) n k below else []) (collected (all || is_export k) (inside (ps j) other k below) 0 (other + opens_one k below) below) (collected all ps (suc j) (other + scope_count (node k n below nothing)) rest)
-      (row_found all true rest qs ps i (suc j) next (other + scope_count (node k n below nothing)) some c (λ l. absurd (true≢false l)) h)
-  cuts_found all listed t u (empties r n m below rest) qs ps i j next other some c f h =
+  -- what becomes empty declares nothing then
+  emptied_found : (all listed : Bool) (k : Kind) (n m : Note) (below rest : Forest) (qs ps : ℕ → Context) (i j next other : ℕ) → 0 < next → Covers listed qs ps → (listed ≡ false → i ≡ j)
+      → Among e (bindings_among (collected all qs i next (node kind.EmptyStatement m nothing rest))) → Found (collected all ps j other (node k n below rest))
+  emptied_found all r k n m below rest qs ps i j next other some c f h =
       by (binding_in e (if all then own_sites (qs i) m kind.EmptyStatement nothing else []) [] (collected all qs (suc i) (next + 0) rest) h)
     where
       none_empty : (a : Bool) → Among e (bindings_among (if a then own_sites (qs i) m kind.EmptyStatement nothing else [])) → ⊥
       none_empty true g = g
       none_empty false g = g
 
-      by : InThree e (bindings_among (if all then own_sites (qs i) m kind.EmptyStatement nothing else [])) (bindings_among []) (bindings_among (collected all qs (suc i) (next + 0) rest)) → Found (collected all ps j other (node kind.ExpressionStatement n below rest))
+      by : InThree e (bindings_among (if all then own_sites (qs i) m kind.EmptyStatement nothing else [])) (bindings_among []) (bindings_among (collected all qs (suc i) (next + 0) rest)) → Found (collected all ps j other (node k n below rest))
       by (in_first g) = absurd (none_empty all g)
       by (in_second g) = absurd g
       by (in_third g) =
-          found_third (if all then own_sites (ps j) n kind.ExpressionStatement below else []) (collected (all || false) (inside (ps j) other kind.ExpressionStatement below) 0 (other + opens_one kind.ExpressionStatement below) below)
-          (collected all ps (suc j) (other + scope_count (node kind.ExpressionStatement n below nothing)) rest)
-          (row_found all r rest qs ps (suc i) (suc j) (next + 0) (other + scope_count (node kind.ExpressionStatement n below nothing)) (Prim.omega (arith, some)) c (λ l. ap suc (f l)) g)
+          found_third (if all then own_sites (ps j) n k below else []) (collected (all || is_export k) (inside (ps j) other k below) 0 (other + opens_one k below) below)
+          (collected all ps (suc j) (other + scope_count (node k n below nothing)) rest)
+          (row_found all r rest qs ps (suc i) (suc j) (next + 0) (other + scope_count (node k n below nothing)) (Prim.omega (arith, some)) c (λ l. ap suc (f l)) g)
+
+  cuts_found : (all listed : Bool) (t u : Forest) → Cuts listed t u → (qs ps : ℕ → Context) (i j next other : ℕ) → 0 < next → Covers listed qs ps → (listed ≡ false → i ≡ j) → Among e (bindings_among (collected all qs i next u)) → Found (collected all ps j other t)
+  cuts_found all listed t u (leaves k n below rest plain) qs ps i j next other some c f h =
+      found_third (if all then own_sites (ps j) n k below else []) (collected (all || is_export k) (inside (ps j) other k below) 0 (other + opens_one k below) below) (collected all ps (suc j) (other + scope_count (node k n below nothing)) rest)
+      (row_found all true rest qs ps i (suc j) next (other + scope_count (node k n below nothing)) some c (λ l. absurd (true≢false l)) h)
+  cuts_found all listed t u (empties r n m below rest) qs ps i j next other some c f h = emptied_found all r kind.ExpressionStatement n m below rest qs ps i j next other some c f h
+  cuts_found all listed t u (empties_if r n m below rest) qs ps i j next other some c f h = emptied_found all r kind.IfStatement n m below rest qs ps i j next other some c f h
   cuts_found all listed t u (parts r k l m n b v w rest gives unasked) qs ps i j next other some c f h =
       let whole = joined v (node l n b w) in
       by whole refl (binding_in e (if all then own_sites (qs i) n l b else []) (collected (all || is_export l) (inside (qs i) next l b) 0 (next + opens_one l b) b) (collected all qs (suc i) (next + scope_count (node l n b nothing)) rest) h)
@@ -386,6 +392,7 @@ module _ (e : BindingSite) (top : e.layer.scope ≡ 0) where
   root_found : (listed : Bool) (t u : Forest) → Cuts listed t u → listed ≡ false → is_program t ≡ true → Among e (bindings_among (collected_exports u)) → Found (collected_exports t)
   root_found listed t u (leaves k n below rest plain) l is h = absurd (true≢false l)
   root_found listed t u (empties r n m below rest) l is h = never is
+  root_found listed t u (empties_if r n m below rest) l is h = never is
   root_found listed t u (parts r k x m n b v w rest gives unasked) l is h = never (sym (no_program k m (joined v (node x n b w)) rest gives) ∙ is)
   root_found listed t u (rebuilds r k x n m a b rest made) l is h = never (sym (part_no_program k n a rest made.old_unasked) ∙ is)
   root_found listed t u (cut_inside r (kind.Program source) n below now rest called x) l is h =
