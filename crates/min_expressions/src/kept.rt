@@ -106,8 +106,8 @@ pub(crate) fn take_out(
     kept
 }
 
-// A child takes the place of its parent. The context is told of what leaves.
-pub(crate) fn keep_child(node: &mut Node, at: usize, ctx: &mut MinifierTraverseCtx)
+/// A child takes the place of its parent, which is no call. The context is told of what leaves, and asked for another pass.
+pub fn keep_child(node: &mut Node, at: usize, ctx: &mut MinifierTraverseCtx)
     requires there { is_some (child_at at node.old.below) ≡ true }
     requires call { is_call node.old.kind ≡ false }
     ensures kept { child_at at node.old.below ≡ Some node.new }

@@ -19,9 +19,10 @@ fn truth_of(node: &Node, alloc: Global) -> Option<bool>
     evaluate_value_to_boolean(node, &BareContext::new(alloc))
 }
 
-// Whether a test is true, that does nothing but give its value.
-pub(crate) fn truth_known(test: &Node, alloc: Global) -> Option<bool>
-    ensures { result ≡ truth_known test.now.kind test.now.note test.now.below }
+/// Whether a test is true (ECMA-262 7.1.2), if it does nothing but give its value, wherever it stands, and its form tells. The recursion
+/// goes as deep as the tree.
+pub fn truth_known(test: &Node, alloc: Global) -> Option<bool>
+    ensures known { result ≡ truth_known test.now.kind test.now.note test.now.below }
 {
     if acts_or_is_list(test) {
         None

@@ -75,12 +75,17 @@ trim_does names c k d x y list dead asked leaves tree =
 trim_does_none : (names : Names) (c : Seen) (x : Tree) → has_dead (facts_of names c) (where_of c.place) x.below ≡ false → Does (trim names) c x false c x
 trim_does_none names c x e = does_none (trim names) c x (none_left (record x { below = trimmed (facts_of names c) (where_of c.place) x.below }) e)
 
-empty_does : (names : Names) (c d : Seen) (x y : Tree) → is_silent_statement (facts_of names c) (where_of c.place) x.kind x.below ≡ true → y ≡ record { kind = empty_statement; note = unmarked x.note; below = nothing } → DropsNode c x d → Does (empty names) c x true d y
-empty_does names c d x y silent tree drops =
+pub empty_edited : (c d : Seen) (x y : Tree) → y ≡ record { kind = empty_statement; note = unmarked x.note; below = nothing } → DropsNode c x d → Edited c x y true d
+empty_edited c d x y tree drops =
     let z : Tree = record { kind = empty_statement; note = unmarked x.note; below = nothing } in
     let l : Leaves (record c { requested = true }) (λ r. ids r (forest_of x)) (evals (forest_of x)) d = record { same = drops.same; room = drops.room; marks = drops.marks; evals = drops.evals } in
     let e : Edited c x z true d = edited x z refl l (λ r. Prim.omega arith) (Prim.omega arith) in
-    does_some (empty names) c x y (some_left z silent ∙ ap Some (sym tree)) (subst (λ q. Edited c x q true d) (sym tree) e)
+    subst (λ q. Edited c x q true d) (sym tree) e
+
+empty_does : (names : Names) (c d : Seen) (x y : Tree) → is_silent_statement (facts_of names c) (where_of c.place) x.kind x.below ≡ true → y ≡ record { kind = empty_statement; note = unmarked x.note; below = nothing } → Edited c x y true d → Does (empty names) c x true d y
+empty_does names c d x y silent tree e =
+    let z : Tree = record { kind = empty_statement; note = unmarked x.note; below = nothing } in
+    does_some (empty names) c x y (some_left z silent ∙ ap Some (sym tree)) e
 
 empty_does_none : (names : Names) (c : Seen) (x : Tree) → is_silent_statement (facts_of names c) (where_of c.place) x.kind x.below ≡ false → Does (empty names) c x false c x
 empty_does_none names c x e = does_none (empty names) c x (none_left (record { kind = empty_statement; note = unmarked x.note; below = nothing }) e)
@@ -106,9 +111,9 @@ pub new_empty : (z : Tree) (n : Note) (s : Span) (items : List (Option Tree)) �
 new_empty z n s items new span none =
     new ∙ ap {A = Span} {B = Tree} (λ q. record { kind = empty_statement; note = record { span = q; id = None }; below = row items }) span ∙ ap {A = List (Option Tree)} {B = Tree} (λ l. record { kind = empty_statement; note = unmarked n; below = row l }) none
 
-pub empties : (names : Names) (c d : Seen) (x y z : Tree) (f : Facts) (w : Where) → w ≡ where_of c.place → f ≡ facts_of names c → true ≡ is_silent_statement f w x.kind x.below → y ≡ z → z ≡ record { kind = empty_statement; note = unmarked x.note; below = nothing } → DropsNode c x d → Does (empty names) c x true d y
-empties names c d x y z f w at facts silent put new drops =
-    empty_does names c d x y (asked_so (λ g v t. is_silent_statement g v x.kind t) f (facts_of names c) w (where_of c.place) x.below x.below true silent facts at refl) (put ∙ new) drops
+pub empties : (names : Names) (c d : Seen) (x y : Tree) (f : Facts) (w : Where) → w ≡ where_of c.place → f ≡ facts_of names c → true ≡ is_silent_statement f w x.kind x.below → y ≡ record { kind = empty_statement; note = unmarked x.note; below = nothing } → Edited c x y true d → Does (empty names) c x true d y
+empties names c d x y f w at facts silent put e =
+    empty_does names c d x y (asked_so (λ g v t. is_silent_statement g v x.kind t) f (facts_of names c) w (where_of c.place) x.below x.below true silent facts at refl) put e
 
 pub empties_none : (names : Names) (c : Seen) (x : Tree) (f : Facts) (w : Where) → w ≡ where_of c.place → f ≡ facts_of names c → false ≡ is_silent_statement f w x.kind x.below → Does (empty names) c x false c x
 empties_none names c x f w at facts silent =

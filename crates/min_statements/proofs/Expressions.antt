@@ -26,7 +26,7 @@ use Rattle.steps_owed.proofs.UnusedOperation.{Needed, the_operand, first_side, s
 use Rattle.min_context.specs.Edited.{evals, Edited}
 use Rattle.min_context.specs.Place.{place_at}
 use Rattle.min_context.specs.Seen.{Seen}
-use Rattle.min_traverse.specs.Lawful.{Stays, Does, or_same, or_else}
+use Rattle.min_traverse.specs.Lawful.{Stays, Rule, Lawful, Does, or_same, or_else}
 use Rattle.min_traverse.specs.Moves.{Holds, IsHere, NodeMoves}
 use Rattle.rules_dead_code.specs.Before.{before}
 use Rattle.rules_expressions.specs.Uses.{Spot, spot_of}
@@ -342,27 +342,34 @@ calls_stay c a x y r here found =
     ]
 
 module _ (stays : Stays AnyEdit) (names : Names) where
-  pub expression_moves : {c d : Seen} {x y : Tree} {answer : Bool} → Does at_expression_end c x answer d y → NodeMoves Names AnyEdit (Holds Own) names c x names d y
-  expression_moves {c = c} {d = d} {x = x} {y = y} does = go (at_expression_end c x) refl
+  -- of any lawful rule that makes no call a direct one of `eval`
+  pub rule_moves : (rule : Rule) → Lawful AnyEdit rule → ((c : Seen) (a : Around) (x y : Tree) (r : Forest) → IsHere c a → rule c x ≡ Some y → CallsStay (before a r) x y) → {c d : Seen} {x y : Tree} {answer : Bool} → Does rule c x answer d y
+      → NodeMoves Names AnyEdit (Holds Own) names c x names d y
+  rule_moves rule lawful calls {c = c} {d = d} {x = x} {y = y} does = go (rule c x) refl
     where
-      go : (o : Option Tree) → at_expression_end c x ≡ o → NodeMoves Names AnyEdit (Holds Own) names c x names d y
+      go : (o : Option Tree) → rule c x ≡ o → NodeMoves Names AnyEdit (Holds Own) names c x names d y
       go None is =
           let e : Edited c x y false d = subst (λ o. Edited c x y (is_some o) d) is does.edited in
           stayed stays names (does.tree ∙ ap (or_same x) is) (e.none refl)
       go (Some z) is =
-          let found : at_expression_end c x ≡ Some y = is ∙ ap Some (sym (does.tree ∙ ap (or_same x) is)) in
+          let found : rule c x ≡ Some y = is ∙ ap Some (sym (does.tree ∙ ap (or_same x) is)) in
           let e : Edited c x y true d = subst (λ o. Edited c x y (is_some o) d) is does.edited in
-          let lawful = expressions_fold AnyEdit (λ o t u e. e) in
-          moves stays names (λ a r p h. as_tree_edits (lawful.edits c a x y r h.0 p found)) (lawful.thins c x y found) (lawful.lighter c x y found) (λ a r p. calls_stay c a x y r p found) e
+          moves stays names (λ a r p h. as_tree_edits (lawful.edits c a x y r h.0 p found)) (lawful.thins c x y found) (lawful.lighter c x y found) (λ a r p. calls c a x y r p found) e
+
+  pub expression_moves : {c d : Seen} {x y : Tree} {answer : Bool} → Does at_expression_end c x answer d y → NodeMoves Names AnyEdit (Holds Own) names c x names d y
+  expression_moves does = rule_moves at_expression_end (expressions_fold AnyEdit (λ o t u e. e)) calls_stay does
 
 module _ (names : Names) {c d : Seen} {x y : Tree} {answer : Bool} (quiet : d.requested ≡ false) where
-  pub expression_visits : Does at_expression_end c x answer d y → Found (is_some (at_expression_end c x)) names c names d
-  expression_visits does = go (at_expression_end c x) refl
+  pub rule_visits : (rule : Rule) → Does rule c x answer d y → Found (is_some (rule c x)) names c names d
+  rule_visits rule does = go (rule c x) refl
     where
-      go : (o : Option Tree) → at_expression_end c x ≡ o → Found (is_some (at_expression_end c x)) names c names d
+      go : (o : Option Tree) → rule c x ≡ o → Found (is_some (rule c x)) names c names d
       go None is =
           let e : Edited c x y false d = subst (λ o. Edited c x y (is_some o) d) is does.edited in
           record { names_same = refl; context_same = e.none refl; none = ap is_some is }
       go (Some z) is =
           let e : Edited c x y true d = subst (λ o. Edited c x y (is_some o) d) is does.edited in
           asked_true c.requested (sym e.asked ∙ quiet)
+
+  pub expression_visits : Does at_expression_end c x answer d y → Found (is_some (at_expression_end c x)) names c names d
+  expression_visits does = rule_visits at_expression_end does

@@ -5,4 +5,6 @@ mod Shed
 mod Calls
 mod Acting
 mod Expressions
+mod Branches
+mod Ending
 mod Seeing

@@ -1,8 +1,8 @@
 -- A walk that asked for no other pass saw each node, and nothing of it goes or comes to its parts or its value.
-use Rattle.std.proofs.Common.{◌≡◌, ◌∙◌, Bool, false, true, if◌then◌else◌, Option, Some, None, is_some, refl, sym, ap, subst, true≢false}
+use Rattle.std.proofs.Common.{◌≡◌, ◌∙◌, Bool, false, true, ◌||◌, if◌then◌else◌, Option, Some, None, is_some, refl, sym, ap, subst, true≢false}
 use Rattle.js_syntax.specs.Class.{root}
 use Rattle.js_syntax.specs.declared.node_kind.NodeKind.{NodeKind as Kind}
-use Rattle.js_syntax.specs.declared.node_kind.NodeKind.TheVariants.{ExpressionStatement as expression_statement, EmptyStatement as empty_statement, ArrayExpression as array_expression, ObjectExpression as object_expression, UnaryExpression as unary_expression, BinaryExpression as binary_expression, SequenceExpression as sequence_expression, ConditionalExpression as conditional_expression, LogicalExpression as logical_expression}
+use Rattle.js_syntax.specs.declared.node_kind.NodeKind.TheVariants.{ExpressionStatement as expression_statement, EmptyStatement as empty_statement, IfStatement as if_statement, ArrayExpression as array_expression, ObjectExpression as object_expression, UnaryExpression as unary_expression, BinaryExpression as binary_expression, SequenceExpression as sequence_expression, ConditionalExpression as conditional_expression, LogicalExpression as logical_expression}
 use Rattle.json_shape.specs.Shape.{Fits}
 use Rattle.min_pass.specs.Pass.{unmarked}
 use Rattle.js_syntax.specs.Node.{Forest, Tree, Note, nothing, node, absent, forest_of}
@@ -32,9 +32,10 @@ use Rattle.rules_expressions.specs.Sequences.{sequence_left}
 use Rattle.rules_expressions.specs.TwoSides.{two_sides_become}
 use Rattle.rules_expressions.specs.Objects.{object_left}
 use Rattle.rules_expressions.specs.Operations.{known_becomes}
+use Rattle.rules_expressions.specs.Ifs.{if_becomes}
 use Rattle.rules_expressions.specs.Settled.{IsSettledAt, IsSettled}
 use Rattle.rules_expressions.proofs.Walked.{settled_nodes}
-use Rattle.slots_fit.specs.Had.{is_always_expression, HasSlots}
+use Rattle.slots_fit.specs.Had.{is_always_statement, is_always_expression, HasSlots}
 use Rattle.slots_fit.proofs.Had.{slots_had}
 use Rattle.min_statements.specs.Walker.{Names, facts_of}
 use Rattle.min_statements.proofs.Acting.{none_left}
@@ -50,7 +51,7 @@ becomes p x = becomes_so (spot_of p) x.note x.kind x.below
 -- of a list of statements, of a statement and of an expression that has its own slot
 record IsAlive (f : Facts) (p : Place) (x : Tree) : Type 0 where
   list : outer_slot (above_place p) x.kind ≡ outer.Statements → has_dead f (where_of p) x.below ≡ false
-  statement : outer_slot (above_place p) x.kind ≡ outer.Statement → is_silent_statement f (where_of p) x.kind x.below ≡ false
+  statement : outer_slot (above_place p) x.kind ≡ outer.Statement → is_silent_statement f (where_of p) x.kind x.below || is_some (if_becomes x.note x.kind x.below) ≡ false
   expression : middle_slot (above_place p) x.kind ≡ middle.Expression → is_some (becomes p x) ≡ false
 
 abbrev Same : Names → Seen → Names → Seen → Type 0
@@ -97,7 +98,7 @@ module _ (s : Names) (k : Seen) (x : Tree) (s' : Names) (k' : Seen) where
   record Left (o : Outer) : Type 0 where
     same : Same s k s' k'
     list : o ≡ outer.Statements → has_dead (facts_of s k) (where_of k.place) x.below ≡ false
-    statement : o ≡ outer.Statement → is_silent_statement (facts_of s k) (where_of k.place) x.kind x.below ≡ false
+    statement : o ≡ outer.Statement → is_silent_statement (facts_of s k) (where_of k.place) x.kind x.below || is_some (if_becomes x.note x.kind x.below) ≡ false
 
   left_outer : (o : Outer) → Called Visited is_written (exit_outer o) s k x s' k' → Left o
   left_outer outer.Statements h = record { same = (sym h.names_same, sym h.context_same); list = λ e. h.none; statement = λ e. absurd Prim.cc }
@@ -142,7 +143,9 @@ at_node p x s k s' k' at v inside =
       sym f.same.1 ∙ context_2,
       record {
         list = λ q. subst (λ g. has_dead g (where_of p) x.below ≡ false) facts_2 (subst (λ z. has_dead (facts_of v.exits.s2 v.exits.k2) (where_of z) x.below ≡ false) place_2 (f.list q));
-        statement = λ q. subst (λ g. is_silent_statement g (where_of p) x.kind x.below ≡ false) facts_2 (subst (λ z. is_silent_statement (facts_of v.exits.s2 v.exits.k2) (where_of z) x.kind x.below ≡ false) place_2 (f.statement q));
+        statement = λ q.
+            subst (λ g. is_silent_statement g (where_of p) x.kind x.below || is_some (if_becomes x.note x.kind x.below) ≡ false) facts_2
+            (subst (λ z. is_silent_statement (facts_of v.exits.s2 v.exits.k2) (where_of z) x.kind x.below || is_some (if_becomes x.note x.kind x.below) ≡ false) place_2 (f.statement q));
         expression = λ q. subst (λ z. is_some (becomes z x) ≡ false) place_1 (e.expression q);
       },
       subst (λ g. EachNode (IsAlive g) (below p (above_of x.kind x.note)) x.below) facts_1 inside.each,
@@ -185,14 +188,26 @@ alive s s' k k' x y at same v =
 
 -- ---- and each of them has its own slot
 
-not_silent : (f : Facts) (w : Where) (k : Kind) (b : Forest) → (k ≡ expression_statement → is_silent_statement f w k b ≡ false) → is_silent_statement f w k b ≡ false
-not_silent f w expression_statement b h = h refl
-not_silent f w k b h = refl
+neither : (a b : Bool) → a || b ≡ false → (a ≡ false) × (b ≡ false)
+neither true b e = absurd (true≢false e)
+neither false b e = (refl, e)
+
+not_silent : (f : Facts) (w : Where) (n : Note) (k : Kind) (b : Forest) → (is_always_statement k ≡ true → is_silent_statement f w k b || is_some (if_becomes n k b) ≡ false) → is_silent_statement f w k b ≡ false
+not_silent f w n expression_statement b h = (neither (is_silent_statement f w expression_statement b) false (h refl)).0
+not_silent f w n k b h = refl
+
+not_known : (f : Facts) (w : Where) (n : Note) (k : Kind) (b : Forest) → (is_always_statement k ≡ true → is_silent_statement f w k b || is_some (if_becomes n k b) ≡ false) → if_becomes n k b ≡ None
+not_known f w n if_statement b h = none_is (if_becomes n if_statement b) (h refl)
+  where
+    none_is : (o : Option Tree) → is_some o ≡ false → o ≡ None
+    none_is None e = refl
+    none_is (Some y) e = absurd (true≢false e)
+not_known f w n k b h = refl
 
 quiet_at : (f : Facts) (p : Place) (x : Tree) → IsAlive f p x → HasSlots p x → IsQuietAt f p x
 quiet_at f p x h slots = record {
   list = λ e. h.list (slots.list e);
-  statement = none_left (record { kind = empty_statement; note = unmarked x.note; below = nothing }) (not_silent f (where_of p) x.kind x.below (λ e. h.statement (slots.statement e)));
+  statement = none_left (record { kind = empty_statement; note = unmarked x.note; below = nothing }) (not_silent f (where_of p) x.note x.kind x.below (λ e. h.statement (slots.statement e)));
 }
 
 first_none : (o p : Option Tree) → is_some (or_else o p) ≡ false → o ≡ None
@@ -281,7 +296,7 @@ settled_kind s n k b h = (refl, refl, none_either_way s.is_unused, none_either_w
 settled_at : (f : Facts) (p : Place) (x : Tree) → IsAlive f p x → HasSlots p x → IsSettledAt p x
 settled_at f p x h slots =
     let e = settled_kind (spot_of p) x.note x.kind x.below (λ e. h.expression (slots.expression e)) in
-    record { conditional = e.0; logical = e.1; unused = e.2; list = e.3; indirect = e.4; one_sided = e.5; sequence = e.6; two_sides = e.7; object = e.8; known = e.9 }
+    record { conditional = e.0; logical = e.1; unused = e.2; list = e.3; indirect = e.4; one_sided = e.5; sequence = e.6; two_sides = e.7; object = e.8; known = e.9; statement = not_known f (where_of p) x.note x.kind x.below (λ e. h.statement (slots.statement e)) }
 
 -- Nothing of a program goes by what is known that a walk found as it is, and no expression of it comes to its parts or its value.
 pub none_goes : (s s' : Names) (k k' : Seen) (x y : Tree) → k.place ≡ outside → y ≡ x → Fits root (forest_of y) → Visits Visited is_written top (forest_of x) s k s' k' → IsQuiet (facts_of s' k') (forest_of y)

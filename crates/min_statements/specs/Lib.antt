@@ -2,4 +2,5 @@ pub mod Names
 pub mod Walker
 pub mod Shed
 pub mod Acts
+pub mod Ifs
 pub mod Own

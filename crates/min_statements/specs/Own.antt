@@ -1,5 +1,5 @@
 -- What the walker asks of the whole program beside that the context is true, and what it leaves known.
-use Rattle.std.specs.Prelude.{◌≡◌, ℕ, Bool, true, false, Some, is_some}
+use Rattle.std.specs.Prelude.{◌≡◌, ℕ, Bool, true, false, ◌||◌, Some, is_some}
 use Rattle.js_syntax.specs.Node.{Forest, Tree}
 use Rattle.min_context.specs.Seen.{Seen}
 use Rattle.min_options.specs.declared.options.CompressOptions.{CompressOptions}
@@ -15,6 +15,7 @@ use Rattle.js_effects.specs.Silence.{is_marked}
 use Rattle.rules_dead_code.specs.Quiet.{IsExported}
 use Rattle.rules_dead_code.specs.Knows.{TellsBound, TellsExported}
 use Rattle.rules_dead_code.specs.Rules.{where_of, has_dead, is_silent_statement}
+use Rattle.rules_expressions.specs.Ifs.{if_becomes}
 use Rattle.rules_expressions.specs.Known.{at_expression_end}
 use Rattle.min_statements.specs.Walker.{Names, facts_of}
 
@@ -58,6 +59,6 @@ pub record Found (dead : Bool) (names : Names) (c : Seen) (later : Names) (d : S
 
 abbrev pub Visited : Hook → Names → Seen → Tree → Names → Seen → Type 0
 Visited hook.ExitStatements names c x later d = Found (has_dead (facts_of names c) (where_of c.place) x.below) names c later d
-Visited hook.ExitStatement names c x later d = Found (is_silent_statement (facts_of names c) (where_of c.place) x.kind x.below) names c later d
+Visited hook.ExitStatement names c x later d = Found (is_silent_statement (facts_of names c) (where_of c.place) x.kind x.below || is_some (if_becomes x.note x.kind x.below)) names c later d
 Visited hook.ExitExpression names c x later d = Found (is_some (at_expression_end c x)) names c later d
 Visited h names c x later d = Unit {0}

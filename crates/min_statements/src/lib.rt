@@ -1,7 +1,8 @@
 //! What takes dead code out of a program, node by node?
 //!
 //! `Statements` is the walker (min_traverse): behind a list it takes out what rules_dead_code says goes of it (`trim_statements`),
-//! behind a silent statement elsewhere it leaves an empty one (`empty_statement`), behind an expression that a known test decides
+//! behind a silent statement elsewhere it leaves an empty one (`empty_statement`), behind an `if` on a test that is known the branch that
+//! runs, or an empty statement (`try_fold_if`), behind an expression that a known test decides
 //! the part that counts, alone or behind a zero, behind an operation of which nobody takes the value the operands that act, behind such
 //! an array, object or sequence its parts that act, and behind an operation that doesn't act its value (min_expressions). Each call does
 //! exactly what its rule says, marks what left before it is let go, and touches nothing where nothing goes. `walk_statements` is one
@@ -13,12 +14,14 @@
 mod emptied;
 mod facts;
 mod goes;
+mod ifs;
 mod names;
 mod statements;
 mod trimmed;
 mod walk;
 
 pub use emptied::empty_statement;
+pub use ifs::try_fold_if;
 pub use statements::Statements;
 pub use trimmed::trim_statements;
 pub use walk::walk_statements;

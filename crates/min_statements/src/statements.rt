@@ -5,6 +5,7 @@ ghost use Rattle.min_statements.specs.Walker.{facts_of, names_of};
 
 use crate::emptied::empty_statement;
 use crate::facts::Facts;
+use crate::ifs::try_fold_if;
 use crate::trimmed::trim_statements;
 use exported_names::{bound_references, exported_symbols};
 use js_syntax::SourceType;
@@ -16,8 +17,8 @@ use scope_table::Scoping;
 use std::alloc::{AllocError, Global};
 use std::marker::Model;
 
-/// Takes dead code out of lists of statements, empties silent statements elsewhere, and lets expressions that known tests decide
-/// come to the part that counts, alone or behind a zero, operations, arrays, objects and sequences of which nobody takes the value to
+/// Takes dead code out of lists of statements, empties silent statements elsewhere, and lets expressions and `if`s that known tests
+/// decide come to the part that counts, alone or behind a zero, operations, arrays, objects and sequences of which nobody takes the value to
 /// what of them acts, and operations that don't act to their values.
 pub struct Statements {
     // Of each reference by its id, whether it has a symbol: this stays through a run.
@@ -99,7 +100,10 @@ impl Traverse for Statements {
         node: &mut Node,
         ctx: &mut MinifierTraverseCtx,
     ) -> Result<(), AllocError> {
-        empty_statement(self, node, ctx);
+        if empty_statement(self, node, ctx) {
+            return Ok(());
+        }
+        try_fold_if(node, ctx);
         Ok(())
     }
 

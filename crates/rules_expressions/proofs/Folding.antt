@@ -19,6 +19,7 @@ use Rattle.rules_expressions.specs.Sequences.{sequence_left, fold_sequence}
 use Rattle.rules_expressions.specs.TwoSides.{two_sides_become, fold_two_sides}
 use Rattle.rules_expressions.specs.Objects.{object_left, fold_object}
 use Rattle.rules_expressions.specs.Operations.{fold_known}
+use Rattle.rules_expressions.specs.Ifs.{fold_if}
 use Rattle.rules_expressions.proofs.Becoming.{branch, branch_is_less, side, side_is_less}
 use Rattle.rules_expressions.proofs.Unused.{left_part, left_is_less, unused_edits_there}
 use Rattle.rules_expressions.proofs.Lists.{list_is_less, list_edits_there}
@@ -28,7 +29,8 @@ use Rattle.rules_expressions.proofs.Sequences.{sequence_is_less, sequence_edits_
 use Rattle.rules_expressions.proofs.TwoSides.{two_sides_is_less, two_sides_edits_there}
 use Rattle.rules_expressions.proofs.Objects.{object_is_less, object_edits_there}
 use Rattle.rules_expressions.proofs.Operations.{known_is_less, known_edits}
-use Rattle.rules_expressions.proofs.Editing.{conditional_edit, logical_edit, unused_edit, list_edit, indirect_edit, one_sided_edit, sequence_edit, two_sides_edit, object_edit, known_edit}
+use Rattle.rules_expressions.proofs.Ifs.{if_is_less, if_edits}
+use Rattle.rules_expressions.proofs.Editing.{conditional_edit, logical_edit, unused_edit, list_edit, indirect_edit, one_sided_edit, sequence_edit, two_sides_edit, object_edit, known_edit, if_edit}
 
 module _ (E : CompressOptions → Forest → Forest → Type 0) (makes : (o : CompressOptions) (t u : Forest) → Edit t u → E o t u) where
   pub conditionals_fold : Lawful E fold_conditional
@@ -104,6 +106,13 @@ module _ (E : CompressOptions → Forest → Forest → Type 0) (makes : (o : Co
     edits = λ c a x y r h at e. one_edit (makes c.options (plug a (before x r)) (plug a (before y r)) (known_edit a x y r (known_edits (place a r) x y e))) no_edit;
     thins = λ c x y e. (known_is_less x.note x.kind x.below y e).thins;
     lighter = λ c x y e. (known_is_less x.note x.kind x.below y e).lighter;
+  }
+
+  pub ifs_fold : Lawful E fold_if
+  ifs_fold = record {
+    edits = λ c a x y r h at e. one_edit (makes c.options (plug a (before x r)) (plug a (before y r)) (if_edit a x y r (if_edits x y e))) no_edit;
+    thins = λ c x y e. (if_is_less x y e).thins;
+    lighter = λ c x y e. (if_is_less x y e).lighter;
   }
 
   pub expressions_fold : Lawful E at_expression_end

@@ -8,6 +8,7 @@ pub mod Sequences
 pub mod TwoSides
 pub mod Objects
 pub mod Operations
+pub mod Ifs
 pub mod Editing
 pub mod Folding
 pub mod Settled

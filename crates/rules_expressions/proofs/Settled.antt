@@ -1,5 +1,5 @@
 -- Where the rules have no answer no edit of theirs applies.
-use Rattle.std.proofs.Common.{◌≡◌, ◌∙◌, Some, refl, sym, ap}
+use Rattle.std.proofs.Common.{◌≡◌, ◌∙◌, inl, inr, Some, refl, sym, ap}
 use Rattle.js_syntax.specs.Node.{Forest, Tree}
 use Rattle.min_context.specs.Place.{place_at}
 use Rattle.scope_laws.specs.Place as places
@@ -14,6 +14,8 @@ use Rattle.steps_allowed.specs.IdleParts.{IdleParts}
 use Rattle.steps_allowed.specs.TwoSides.{TwoSides}
 use Rattle.steps_allowed.specs.UnusedObject.{UnusedObject}
 use Rattle.steps_allowed.specs.KnownOperation.{KnownOperation}
+use Rattle.steps_allowed.specs.KnownIf.{KnownIf}
+use Rattle.steps_allowed.specs.DeadIf.{DeadIf}
 use Rattle.steps_owed.proofs.Places.{place_of, rest_of, placed_is}
 use Rattle.rules_dead_code.specs.Before.{before}
 use Rattle.rules_expressions.specs.Uses.{spot_of}
@@ -26,6 +28,7 @@ use Rattle.rules_expressions.specs.Sequences.{sequence_left}
 use Rattle.rules_expressions.specs.TwoSides.{two_sides_become}
 use Rattle.rules_expressions.specs.Objects.{object_left}
 use Rattle.rules_expressions.specs.Operations.{known_becomes}
+use Rattle.rules_expressions.specs.Ifs.{if_becomes}
 use Rattle.rules_expressions.specs.Settled.{IsSettledAt, IsSettled}
 use Rattle.rules_expressions.proofs.Uses.{spot_at, spot_before, plug_before}
 use Rattle.rules_expressions.proofs.Becoming.{no_answer, none_of}
@@ -37,6 +40,7 @@ use Rattle.rules_expressions.proofs.Sequences.{sequence_edits_there, sequence_an
 use Rattle.rules_expressions.proofs.TwoSides.{two_sides_edits_there, two_sides_answers}
 use Rattle.rules_expressions.proofs.Objects.{object_edits_there, object_answers}
 use Rattle.rules_expressions.proofs.Operations.{known_edits, known_answers}
+use Rattle.rules_expressions.proofs.Ifs.{if_edits, known_if_answers, dead_if_answers}
 use Rattle.rules_expressions.proofs.Editing.{conditional_edits_there, logical_edits_there, conditional_answers, logical_answers}
 
 before_place : (a : places.Around) → before (place_of a) (rest_of a) ≡ a
@@ -82,6 +86,12 @@ module _ (t : Forest) (settled : IsSettled t) (a : places.Around) (x y : Tree) (
   pub no_known : KnownOperation a x y → ⊥
   no_known o = let w = known_answers a x y o in no_answer (sym settled_there.known ∙ w.1)
 
+  pub no_known_if : KnownIf x y → ⊥
+  no_known_if o = no_answer (sym settled_there.statement ∙ known_if_answers x y o)
+
+  pub no_dead_if : DeadIf x y → ⊥
+  no_dead_if o = let w = dead_if_answers x y o in no_answer (sym settled_there.statement ∙ w.1)
+
 pub is_settled :
     (t : Forest)
     → ((a : places.Around) (x y : Tree) → t ≡ places.plug a (Some x) → KnownConditional a x y → ⊥)
@@ -94,8 +104,10 @@ pub is_settled :
     → ((a : places.Around) (x y : Tree) → t ≡ places.plug a (Some x) → TwoSides a x y → ⊥)
     → ((a : places.Around) (x y : Tree) → t ≡ places.plug a (Some x) → UnusedObject a x y → ⊥)
     → ((a : places.Around) (x y : Tree) → t ≡ places.plug a (Some x) → KnownOperation a x y → ⊥)
+    → ((a : places.Around) (x y : Tree) → t ≡ places.plug a (Some x) → KnownIf x y → ⊥)
+    → ((a : places.Around) (x y : Tree) → t ≡ places.plug a (Some x) → DeadIf x y → ⊥)
     → IsSettled t
-is_settled t never_branch never_side never_unused never_list never_indirect never_one_sided never_sequence never_two_sides never_object never_known = record {
+is_settled t never_branch never_side never_unused never_list never_indirect never_one_sided never_sequence never_two_sides never_object never_known never_known_if never_dead_if = record {
   each = λ a x rest is. record {
     conditional = none_of (conditional_becomes (spot_of (place_at a)) x.kind x.below) (λ y e. never_branch (before a rest) x y (is ∙ sym (plug_before a x rest)) (conditional_edits_there a x y rest e));
     logical = none_of (logical_becomes (spot_of (place_at a)) x.kind x.below) (λ y e. never_side (before a rest) x y (is ∙ sym (plug_before a x rest)) (logical_edits_there a x y rest e));
@@ -107,5 +119,9 @@ is_settled t never_branch never_side never_unused never_list never_indirect neve
     two_sides = none_of (two_sides_become (spot_of (place_at a)) x.note x.kind x.below) (λ y e. never_two_sides (before a rest) x y (is ∙ sym (plug_before a x rest)) (two_sides_edits_there a x y rest e));
     object = none_of (object_left (spot_of (place_at a)) x.note x.kind x.below) (λ y e. never_object (before a rest) x y (is ∙ sym (plug_before a x rest)) (object_edits_there a x y rest e));
     known = none_of (known_becomes x.note x.kind x.below) (λ y e. never_known (before a rest) x y (is ∙ sym (plug_before a x rest)) (known_edits (before a rest) x y e));
+    statement = none_of (if_becomes x.note x.kind x.below) (λ y e. elim (if_edits x y e) [
+      | inl known ↦ never_known_if (before a rest) x y (is ∙ sym (plug_before a x rest)) known
+      | inr dead ↦ never_dead_if (before a rest) x y (is ∙ sym (plug_before a x rest)) dead
+    ]);
   };
 }

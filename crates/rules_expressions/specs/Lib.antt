@@ -7,6 +7,7 @@ pub mod Sequences
 pub mod TwoSides
 pub mod Objects
 pub mod Operations
+pub mod Ifs
 pub mod Known
 pub mod Settled
 pub mod Samples

@@ -24,14 +24,15 @@ use Rattle.rules_expressions.specs.Sequences.{sequence_left}
 use Rattle.rules_expressions.specs.TwoSides.{two_sides_become}
 use Rattle.rules_expressions.specs.Objects.{object_left}
 use Rattle.rules_expressions.specs.Operations.{known_becomes}
+use Rattle.rules_expressions.specs.Ifs.{if_becomes}
 
 -- ---- what a walk leaves that asks all rules behind each node
 
 abbrev pub becomes_at : Place → Tree → Option Tree
 becomes_at p x =
-    or_else (or_else (or_else (or_else (or_else (or_else (or_else (or_else (or_else (conditional_becomes (spot_of p) x.kind x.below) (logical_becomes (spot_of p) x.kind x.below)) (unused_becomes (spot_of p) x.kind x.below))
+    or_else (or_else (or_else (or_else (or_else (or_else (or_else (or_else (or_else (or_else (conditional_becomes (spot_of p) x.kind x.below) (logical_becomes (spot_of p) x.kind x.below)) (unused_becomes (spot_of p) x.kind x.below))
     (unused_list_becomes (spot_of p) x.note x.kind x.below)) (indirect_becomes (spot_of p) x.note x.kind x.below)) (one_sided_becomes (spot_of p) x.note x.kind x.below)) (sequence_left (spot_of p) x.note x.kind x.below))
-    (two_sides_become (spot_of p) x.note x.kind x.below)) (object_left (spot_of p) x.note x.kind x.below)) (known_becomes x.note x.kind x.below)
+    (two_sides_become (spot_of p) x.note x.kind x.below)) (object_left (spot_of p) x.note x.kind x.below)) (known_becomes x.note x.kind x.below)) (if_becomes x.note x.kind x.below)
 
 abbrev pub folded_at : Place → Tree → Tree
 folded_at p x = or_same x (becomes_at p x)
@@ -112,3 +113,7 @@ truth b = leaf (Kind.Literal (value.Boolean b))
 -- function () {}
 abbrev pub a_function : Forest
 a_function = function_of function_kind.Expression no [] []
+
+-- while (1) body
+abbrev pub endless : Forest → Forest
+endless body = over Kind.WhileStatement (joined (leaf (Kind.Literal (value.Number (pos 1)))) body)

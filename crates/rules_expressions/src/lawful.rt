@@ -12,6 +12,7 @@ ghost use Rattle.rules_expressions.specs.Sequences.{fold_sequence};
 ghost use Rattle.rules_expressions.specs.TwoSides.{fold_two_sides};
 ghost use Rattle.rules_expressions.specs.Objects.{fold_object};
 ghost use Rattle.rules_expressions.specs.Operations.{fold_known};
+ghost use Rattle.rules_expressions.specs.Ifs.{fold_if};
 
 use min_traverse::Traverse;
 
@@ -27,5 +28,6 @@ pub fn rules_are_lawful<T: Traverse>()
     ensures two_sides { ((o : CompressOptions) (t u : Forest) → Edit t u → T.edit o t u) → Lawful T.edit fold_two_sides }
     ensures object { ((o : CompressOptions) (t u : Forest) → Edit t u → T.edit o t u) → Lawful T.edit fold_object }
     ensures known { ((o : CompressOptions) (t u : Forest) → Edit t u → T.edit o t u) → Lawful T.edit fold_known }
+    ensures statement { ((o : CompressOptions) (t u : Forest) → Edit t u → T.edit o t u) → Lawful T.edit fold_if }
     ensures all { ((o : CompressOptions) (t u : Forest) → Edit t u → T.edit o t u) → Lawful T.edit at_expression_end }
 {}

@@ -17,6 +17,8 @@ ghost use Rattle.steps_allowed.specs.IdleParts.{IdleParts};
 ghost use Rattle.steps_allowed.specs.TwoSides.{TwoSides};
 ghost use Rattle.steps_allowed.specs.UnusedObject.{UnusedObject};
 ghost use Rattle.steps_allowed.specs.KnownOperation.{KnownOperation};
+ghost use Rattle.steps_allowed.specs.KnownIf.{KnownIf};
+ghost use Rattle.steps_allowed.specs.DeadIf.{DeadIf};
 ghost use Rattle.steps_allowed.specs.Uses.{use_at};
 ghost use Rattle.rules_dead_code.specs.Before.{before};
 ghost use Rattle.rules_expressions.specs.Uses.{spot_of};
@@ -29,6 +31,7 @@ ghost use Rattle.rules_expressions.specs.Sequences.{sequence_left};
 ghost use Rattle.rules_expressions.specs.TwoSides.{two_sides_become};
 ghost use Rattle.rules_expressions.specs.Objects.{object_left};
 ghost use Rattle.rules_expressions.specs.Operations.{known_becomes};
+ghost use Rattle.rules_expressions.specs.Ifs.{if_becomes};
 ghost use Rattle.rules_expressions.specs.Settled.{IsSettled};
 
 /// Law: the context of a walk tells what an expression is used for, whether a `with` statement is around, and whether nobody takes
@@ -53,6 +56,7 @@ pub fn answers_are_edits()
     ensures two_sides { (a : Around) (x y : Tree) (rest : Forest) → two_sides_become (spot_of (place_at a)) x.note x.kind x.below ≡ Some y → TwoSides (before a rest) x y }
     ensures object { (a : Around) (x y : Tree) (rest : Forest) → object_left (spot_of (place_at a)) x.note x.kind x.below ≡ Some y → UnusedObject (before a rest) x y }
     ensures known { (a : Around) (x y : Tree) (rest : Forest) → known_becomes x.note x.kind x.below ≡ Some y → KnownOperation (before a rest) x y }
+    ensures statement { (x y : Tree) → if_becomes x.note x.kind x.below ≡ Some y → KnownIf x y ⊎ DeadIf x y }
 {}
 
 /// Law: and where such an edit applies the rule answers what it leaves, or what more of them leave of that. Of a list, of what goes
@@ -69,6 +73,8 @@ pub fn edits_are_answers()
     ensures two_sides { (a : Around) (x z : Tree) (rest : Forest) → TwoSides (before a rest) x z → (y : Tree) × (two_sides_become (spot_of (place_at a)) x.note x.kind x.below ≡ Some y) × (bare (forest_of y) ≡ bare (forest_of z)) }
     ensures object { (a : Around) (x z : Tree) (rest : Forest) → UnusedObject (before a rest) x z → (y : Tree) × (object_left (spot_of (place_at a)) x.note x.kind x.below ≡ Some y) × (bare (forest_of y) ≡ bare (forest_of z)) }
     ensures known { (a : Around) (x z : Tree) (rest : Forest) → KnownOperation (before a rest) x z → (y : Tree) × (known_becomes x.note x.kind x.below ≡ Some y) × (bare (forest_of y) ≡ bare (forest_of z)) }
+    ensures known_if { (x y : Tree) → KnownIf x y → if_becomes x.note x.kind x.below ≡ Some y }
+    ensures dead_if { (x z : Tree) → DeadIf x z → (y : Tree) × (if_becomes x.note x.kind x.below ≡ Some y) × (bare (forest_of y) ≡ bare (forest_of z)) }
 {}
 
 /// Law: so the rules change nothing of a program exactly where no such edit applies in it.
@@ -83,6 +89,8 @@ pub fn what_is_settled_has_no_edits()
     ensures two_sides { (t : Forest) → IsSettled t → (a : places.Around) (x y : Tree) → t ≡ places.plug a (Some x) → TwoSides a x y → ⊥ }
     ensures object { (t : Forest) → IsSettled t → (a : places.Around) (x y : Tree) → t ≡ places.plug a (Some x) → UnusedObject a x y → ⊥ }
     ensures known { (t : Forest) → IsSettled t → (a : places.Around) (x y : Tree) → t ≡ places.plug a (Some x) → KnownOperation a x y → ⊥ }
+    ensures known_if { (t : Forest) → IsSettled t → (a : places.Around) (x y : Tree) → t ≡ places.plug a (Some x) → KnownIf x y → ⊥ }
+    ensures dead_if { (t : Forest) → IsSettled t → (a : places.Around) (x y : Tree) → t ≡ places.plug a (Some x) → DeadIf x y → ⊥ }
     ensures settled { (t : Forest)
         → ((a : places.Around) (x y : Tree) → t ≡ places.plug a (Some x) → KnownConditional a x y → ⊥)
         → ((a : places.Around) (x y : Tree) → t ≡ places.plug a (Some x) → KnownSide a x y → ⊥)
@@ -94,5 +102,7 @@ pub fn what_is_settled_has_no_edits()
         → ((a : places.Around) (x y : Tree) → t ≡ places.plug a (Some x) → TwoSides a x y → ⊥)
         → ((a : places.Around) (x y : Tree) → t ≡ places.plug a (Some x) → UnusedObject a x y → ⊥)
         → ((a : places.Around) (x y : Tree) → t ≡ places.plug a (Some x) → KnownOperation a x y → ⊥)
+        → ((a : places.Around) (x y : Tree) → t ≡ places.plug a (Some x) → KnownIf x y → ⊥)
+        → ((a : places.Around) (x y : Tree) → t ≡ places.plug a (Some x) → DeadIf x y → ⊥)
         → IsSettled t }
 {}

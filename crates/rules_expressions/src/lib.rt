@@ -1,4 +1,4 @@
-//! Which expressions come to a part of theirs, and why may they become it?
+//! Which expressions, and which statements `if`, come to a part of theirs, and why may they become it?
 //!
 //! `specs/Known.antt` has the rules: a conditional on a test that is known becomes the branch that is taken, and a logical expression with
 //! a known left side the side that counts, unless it matters where it stands that this stands there itself (`specs/Uses.antt`).
@@ -10,7 +10,8 @@
 //! leave that don't act, but the last. `specs/TwoSides.antt` has that of comparisons of which nobody takes the value and both sides act:
 //! they become a sequence of these. `specs/Objects.antt` has that of object literals of which nobody takes the value: the values of their
 //! properties are left that act. `specs/Operations.antt` has that of operations that don't act and of which the value is known: they become a
-//! literal of it, wherever they stand. `laws` states that what the context of a walk tells of a place
+//! literal of it, wherever they stand. `specs/Ifs.antt` has that of statements `if` on a test that is known: they become the branch that
+//! runs, or empty where there is none. `laws` states that what the context of a walk tells of a place
 //! is so, that a rule has an answer exactly where the edit of steps_allowed applies that it makes (of several operations it answers
 //! what the last edit leaves), and that they change nothing of a program exactly where no such edit applies (`specs/Settled.antt`),
 //! which a walk sees node by node (`quiet`). `lawful` states that each is lawful, so that a hook of a walk may apply it. `rows` are

@@ -3,10 +3,10 @@ ghost use Rattle.std.specs.Prelude.{◌≡◌, codes, [], ◌∷◌, true};
 ghost use Rattle.js_syntax.specs.declared.operator.BinaryOperator.TheVariants as binary_operator;
 ghost use Rattle.js_syntax.specs.declared.operator.LogicalOperator.TheVariants as logical_operator;
 ghost use Rattle.js_syntax.specs.declared.operator.UnaryOperator.TheVariants as unary_operator;
-ghost use Rattle.form_rules.specs.Samples.{a, reads, one, does, calls};
+ghost use Rattle.form_rules.specs.Samples.{a_module, a, no, reads, one, does, calls, let_, block};
 ghost use Rattle.scope_rules.specs.Samples.{b};
-ghost use Rattle.steps_allowed.specs.Rows.{null, conditional, with_a};
-ghost use Rattle.rules_expressions.specs.Samples.{left, left_of, doing, uses, member, logical, binary, unary, parenthesized, array, spread, sequence, indirect, empty_text, a_function, object, keyed, computed, number, word, truth};
+ghost use Rattle.steps_allowed.specs.Rows.{null, conditional, either_way, empty, with_a};
+ghost use Rattle.rules_expressions.specs.Samples.{left, left_of, doing, uses, member, logical, binary, unary, parenthesized, array, spread, sequence, indirect, empty_text, a_function, object, keyed, computed, number, word, truth, endless};
 
 /// A conditional on a test that is known becomes the branch that is taken, at any depth. A test that acts is left, though it is an
 /// object.
@@ -165,4 +165,19 @@ pub fn operations_without_a_literal()
     ensures mixed { left_of (uses (binary binary_operator.Addition (word a) (number 1))) ≡ doing (uses (binary binary_operator.Addition (word a) (number 1))) }
     ensures fraction { left_of (uses (binary binary_operator.Division (number 1) (number 2))) ≡ doing (uses (binary binary_operator.Division (number 1) (number 2))) }
     ensures undefined { left_of (uses (unary unary_operator.Void (number 0))) ≡ doing (uses (unary unary_operator.Void (number 0))) }
+{}
+
+/// A statement `if` on a test that is known becomes the branch that runs, at any depth, or empty where none does. It stays where the
+/// other branch declares a name, a block's own name too, where a loop would come out of it, and where its test acts or isn't known.
+pub fn ifs_left()
+    ensures holds { left (a_module (either_way one (does (reads a)) (does (reads b)) ∷ [])) ≡ doing (reads a) }
+    ensures fails { left (a_module (either_way null (does (reads a)) (does (reads b)) ∷ [])) ≡ doing (reads b) }
+    ensures nothing { left (a_module (either_way null (does (reads a)) no ∷ [])) ≡ a_module (empty ∷ []) }
+    ensures block { left (a_module (either_way (array []) (block (does (reads a) ∷ [])) no ∷ [])) ≡ a_module (block (does (reads a) ∷ []) ∷ []) }
+    ensures negated { left (a_module (either_way (unary unary_operator.LogicalNot one) (does (reads a)) no ∷ [])) ≡ a_module (empty ∷ []) }
+    ensures nested { left (a_module (either_way one (either_way null (does (reads a)) (does (reads b))) no ∷ [])) ≡ doing (reads b) }
+    ensures declares { left (a_module (either_way null (block (let_ a ∷ [])) no ∷ [])) ≡ a_module (either_way null (block (let_ a ∷ [])) no ∷ []) }
+    ensures endless { left (a_module (either_way one (endless (does (reads a))) no ∷ [])) ≡ a_module (either_way one (endless (does (reads a))) no ∷ []) }
+    ensures unknown { left (a_module (either_way (reads b) (does (reads a)) no ∷ [])) ≡ a_module (either_way (reads b) (does (reads a)) no ∷ []) }
+    ensures acting { left (a_module (either_way (array (calls (reads b) ∷ [])) (does (reads a)) no ∷ [])) ≡ a_module (either_way (array (calls (reads b) ∷ [])) (does (reads a)) no ∷ []) }
 {}

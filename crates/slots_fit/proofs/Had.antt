@@ -11,7 +11,7 @@ use Rattle.rules_dead_code.proofs.Walked.{each_both}
 use Rattle.slots_fit.specs.Had.{HasSlots, is_always_expression}
 use Rattle.slots_fit.proofs.Missed.{IsSeen, unmissed}
 use Rattle.slots_fit.proofs.Statements as statement
-use Rattle.slots_fit.proofs.Statements.{slot_of_list, slot_of_statement, statements_seen}
+use Rattle.slots_fit.proofs.Statements.{slot_of_list, slot_of_statement, watched, statements_seen}
 use Rattle.slots_fit.proofs.Expressions as expression
 use Rattle.slots_fit.proofs.Expressions.{slot_of_expression, expressions_seen}
 
@@ -20,7 +20,7 @@ has_slots p x s e = record {
   list = λ is.
       ap (λ k. outer_slot (above_place p) k) is ∙ slot_of_list (above_place p) (unmissed (statement.is_missed (above_place p)) (statement.is_watched x.kind) s (ap statement.is_watched is));
   statement = λ is.
-      ap (λ k. outer_slot (above_place p) k) is ∙ slot_of_statement (above_place p) (unmissed (statement.is_missed (above_place p)) (statement.is_watched x.kind) s (ap statement.is_watched is));
+      slot_of_statement (above_place p) x.kind is (unmissed (statement.is_missed (above_place p)) (statement.is_watched x.kind) s (watched x.kind is));
   expression = λ is. slot_of_expression (above_place p) x.kind (unmissed (expression.is_missed (above_place p)) (is_always_expression x.kind) e is) is;
 }
 

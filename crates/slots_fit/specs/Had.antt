@@ -1,13 +1,19 @@
 -- Which slots a node has, wherever the table of node types lets it stand.
 use Rattle.std.specs.Prelude.{◌≡◌, Bool, true, false, not, ◌&&◌}
 use Rattle.js_syntax.specs.declared.node_kind.NodeKind.{NodeKind as Kind}
-use Rattle.js_syntax.specs.declared.node_kind.NodeKind.TheVariants.{Statements as statements, ExpressionStatement as expression_statement, CallExpression as call_expression, MemberExpression as member_expression, Literal as literal, Function as function}
+use Rattle.js_syntax.specs.declared.node_kind.NodeKind.TheVariants.{Statements as statements, ExpressionStatement as expression_statement, IfStatement as if_statement, CallExpression as call_expression, MemberExpression as member_expression, Literal as literal, Function as function}
 use Rattle.js_syntax.specs.Node.{Tree}
 use Rattle.min_context.specs.Place.{Place}
 use Rattle.min_traverse.specs.Slot.{is_expression, outer_slot, middle_slot}
 use Rattle.min_traverse.specs.Visits.{above_place}
 use Rattle.min_traverse.specs.declared.slot.Outer.TheVariants as outer
 use Rattle.min_traverse.specs.declared.slot.Middle.TheVariants as middle
+
+-- statements that a hook looks at
+abbrev pub is_always_statement : Kind → Bool
+is_always_statement expression_statement = true
+is_always_statement if_statement = true
+is_always_statement k = false
 
 -- kinds that may stand as the link of a chain, as the text of a directive or as the function of a method
 abbrev pub may_be_no_expression : Kind → Bool
@@ -22,5 +28,5 @@ is_always_expression k = is_expression k && not (may_be_no_expression k)
 
 pub record HasSlots (p : Place) (x : Tree) : Type 0 where
   pub list : x.kind ≡ statements → outer_slot (above_place p) x.kind ≡ outer.Statements
-  pub statement : x.kind ≡ expression_statement → outer_slot (above_place p) x.kind ≡ outer.Statement
+  pub statement : is_always_statement x.kind ≡ true → outer_slot (above_place p) x.kind ≡ outer.Statement
   pub expression : is_always_expression x.kind ≡ true → middle_slot (above_place p) x.kind ≡ middle.Expression

@@ -1,5 +1,5 @@
 use Rattle.std.proofs.Common.{◌∙◌, sym}
-use Rattle.min_statements.proofs.Acting.{empties, empties_none, new_empty}
+use Rattle.min_statements.proofs.Acting.{empties, empties_none}
 use Rattle.min_statements.proofs.emptied.empty_statement.Goals as goal
 
 pub returns-then-not-is_silent_statement : goal.returns-then-not-is_silent_statement
@@ -9,6 +9,6 @@ returns-then-not-is_silent_statement c = record {
 
 pub returns : goal.returns
 returns c = record {
-  does = empties c.args.names.now c.args.ctx.now c.replace_statement.new.self c.args.node.now c.replace_statement.new.slot c.new-statement.result c.facts.result c.of.result c.of.ensures c.facts.ensures (sym c.if-not-is_silent_statement.false ∙ c.is_silent_statement.ensures)
-      c.replace_statement.ensures.put (new_empty c.new-statement.result c.args.node.now.note c.span.result c.new.result.items c.new-statement.ensures c.span.ensures c.new.ensures.items) c.replace_statement.ensures.dropped;
+  does = empties c.args.names.now c.args.ctx.now c.put_empty.new.ctx c.args.node.now c.put_empty.new.node c.facts.result c.of.result c.of.ensures c.facts.ensures (sym c.if-not-is_silent_statement.false ∙ c.is_silent_statement.ensures)
+      c.put_empty.ensures.put c.put_empty.ensures.edited;
 }

@@ -8,6 +8,7 @@ use Rattle.rules_expressions.proofs.Sequences.{sequence_edits_there}
 use Rattle.rules_expressions.proofs.TwoSides.{two_sides_edits_there}
 use Rattle.rules_expressions.proofs.Objects.{object_edits_there}
 use Rattle.rules_expressions.proofs.Operations.{known_edits}
+use Rattle.rules_expressions.proofs.Ifs.{if_edits}
 use Rattle.rules_expressions.proofs.laws.answers_are_edits.Goals as goal
 
 pub returns-clause-conditional : goal.returns-clause-conditional
@@ -42,3 +43,6 @@ returns-clause-object c = object_edits_there
 
 pub returns-clause-known : goal.returns-clause-known
 returns-clause-known c a x y rest = known_edits (before a rest) x y
+
+pub returns-clause-statement : goal.returns-clause-statement
+returns-clause-statement c = if_edits

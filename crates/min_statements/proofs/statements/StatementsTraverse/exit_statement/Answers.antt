@@ -1,10 +1,24 @@
+use Rattle.std.proofs.Common.{◌≡◌, Bool, true, false, subst}
+use Rattle.js_syntax.specs.Node.{Tree}
+use Rattle.min_context.specs.Seen.{Seen}
+use Rattle.min_traverse.specs.Lawful.{Does}
+use Rattle.min_statements.specs.Acts.{empty}
 use Rattle.min_statements.specs.Own.{AnyEdit}
 use Rattle.rules_dead_code.proofs.StaysTrue.{stays}
-use Rattle.min_statements.proofs.Acting.{empty_moves, empty_visits}
+use Rattle.min_statements.proofs.Acting.{empty_moves}
+use Rattle.min_statements.proofs.Ending.{statement_moves, emptied_visits, statement_visits}
 use Rattle.min_statements.proofs.statements.StatementsTraverse.exit_statement.Goals as goal
 
-pub returns : goal.returns
-returns c = record {
+pub returns-then-empty_statement : goal.returns-then-empty_statement
+returns-then-empty_statement c = record {
   moves = empty_moves (stays AnyEdit (λ o t u e. e)) c.args.self.now c.empty_statement.ensures.does;
-  visited = λ quiet. empty_visits c.args.self.now quiet c.empty_statement.ensures.does;
+  visited = λ quiet. emptied_visits c.args.self.now quiet (subst (λ (b : Bool). Does (empty c.args.self.now) c.args.ctx.now c.args.node.now b c.empty_statement.new.ctx c.empty_statement.new.node) c.if-empty_statement.true c.empty_statement.ensures.does);
 }
+
+pub returns : goal.returns
+returns c =
+    let none = subst (λ (b : Bool). Does (empty c.args.self.now) c.args.ctx.now c.args.node.now b c.empty_statement.new.ctx c.empty_statement.new.node) c.if-empty_statement.false c.empty_statement.ensures.does in
+    record {
+      moves = statement_moves (stays AnyEdit (λ o t u e. e)) c.args.self.now none c.try_fold_if.ensures.does;
+      visited = λ quiet. statement_visits c.args.self.now quiet none c.try_fold_if.ensures.does;
+    }

@@ -1,0 +1,165 @@
+// What becomes of an `if` of which the test is known.
+ghost use Rattle.std.specs.Prelude.{◌≡◌};
+ghost use Rattle.js_syntax.specs.Node.{row};
+ghost use Rattle.min_traverse.specs.Lawful.{Does};
+ghost use Rattle.steps_allowed.specs.Branches.{is_branch, declares_none};
+ghost use Rattle.steps_allowed.specs.KnownConditional.{truth_known};
+ghost use Rattle.rules_expressions.specs.Ifs.{fold_if};
+ghost use Rattle.min_statements.specs.Ifs.{branches_of, told_branches, declares_no_name, index_if, one_of_two, one_or_none, branch_at};
+
+use crate::emptied::put_empty;
+use js_syntax::{ClassKind, FunctionKind, NodeKind};
+use js_tree::Node;
+use min_context::MinifierTraverseCtx;
+use min_expressions::{keep_child, truth_known};
+use std::alloc::Global;
+
+// ---- what may take the place of the whole, and what may leave
+
+// A statement that means the same wherever one may stand.
+fn is_branch(kind: &NodeKind) -> bool
+    ensures { result ≡ is_branch kind.now }
+{
+    match kind {
+        NodeKind::EmptyStatement
+        | NodeKind::ExpressionStatement
+        | NodeKind::BlockStatement
+        | NodeKind::IfStatement
+        | NodeKind::BreakStatement(_)
+        | NodeKind::ContinueStatement(_)
+        | NodeKind::ReturnStatement
+        | NodeKind::ThrowStatement
+        | NodeKind::SwitchStatement
+        | NodeKind::TryStatement => true,
+        _ => false,
+    }
+}
+
+// Whether nothing declares a name, outside of functions and classes. The recursion goes as deep as the tree.
+#[cycle(declares)]
+fn declares_no_name(node: &Node) -> bool
+    ensures { result ≡ declares_no_name node.now }
+{
+    match node.kind() {
+        NodeKind::BindingName(_) => false,
+        NodeKind::Function { kind, .. } => !matches!(kind, FunctionKind::Declaration),
+        NodeKind::Class(kind) => !matches!(kind, ClassKind::Declaration),
+        _ => declares_none(node.children()),
+    }
+}
+
+#[cycle(declares)]
+fn declares_none(children: &[Option<Node>]) -> bool
+    ensures { result ≡ declares_none (row children.now) }
+{
+    let mut rest = children;
+    while let [first, others @ ..] = rest {
+        if let Some(node) = first {
+            if !declares_no_name(node) {
+                return false;
+            }
+        }
+        rest = others;
+    }
+    true
+}
+
+// ---- the branches
+
+/// The test of an `if`, and its branches, or its one branch, or other parts.
+enum Branches<'a> {
+    Both(&'a Node, &'a Node, &'a Node),
+    One(&'a Node, &'a Node),
+    Others,
+}
+
+fn branches_of<'a>(children: &'a [Option<Node>]) -> Branches<'a>
+    ensures { told_branches result ≡ branches_of (row children.now) }
+{
+    match children {
+        [Some(test), Some(consequent), Some(alternate)] => {
+            Branches::Both(test, consequent, alternate)
+        }
+        [Some(test), Some(consequent), None] => Branches::One(test, consequent),
+        [] => Branches::Others,
+        [None, ..] => Branches::Others,
+        [Some(_)] => Branches::Others,
+        [Some(_), None, ..] => Branches::Others,
+        [Some(_), Some(_)] => Branches::Others,
+        [Some(_), Some(_), None, None, ..] => Branches::Others,
+        [Some(_), Some(_), None, Some(_), ..] => Branches::Others,
+        [Some(_), Some(_), Some(_), None, ..] => Branches::Others,
+        [Some(_), Some(_), Some(_), Some(_), ..] => Branches::Others,
+    }
+}
+
+fn index_if(holds: bool, at: Option<usize>) -> Option<Option<usize>>
+    ensures { result ≡ index_if holds at }
+{
+    if holds { Some(at) } else { None }
+}
+
+fn one_of_two(
+    test: &Node,
+    consequent: &Node,
+    alternate: &Node,
+    alloc: Global,
+) -> Option<Option<usize>>
+    ensures { result ≡ one_of_two (truth_known test.now.kind test.now.note test.now.below) consequent.now alternate.now }
+{
+    match truth_known(test, alloc) {
+        Some(true) => index_if(
+            is_branch(consequent.kind()) && declares_no_name(alternate),
+            Some(1),
+        ),
+        Some(false) => index_if(
+            is_branch(alternate.kind()) && declares_no_name(consequent),
+            Some(2),
+        ),
+        None => None,
+    }
+}
+
+fn one_or_none(test: &Node, consequent: &Node, alloc: Global) -> Option<Option<usize>>
+    ensures { result ≡ one_or_none (truth_known test.now.kind test.now.note test.now.below) consequent.now }
+{
+    match truth_known(test, alloc) {
+        Some(true) => index_if(is_branch(consequent.kind()), Some(1)),
+        Some(false) => index_if(declares_no_name(consequent), None),
+        None => None,
+    }
+}
+
+// The child that takes the place of an `if`, by its index, or that there is none.
+fn branch_at(node: &Node, alloc: Global) -> Option<Option<usize>>
+    ensures { result ≡ branch_at node.now.kind node.now.below }
+{
+    let NodeKind::IfStatement = node.kind() else {
+        return None;
+    };
+    match branches_of(node.children()) {
+        Branches::Both(test, consequent, alternate) => {
+            one_of_two(test, consequent, alternate, alloc)
+        }
+        Branches::One(test, consequent) => one_or_none(test, consequent, alloc),
+        Branches::Others => None,
+    }
+}
+
+/// An `if` on a test that is known becomes the branch that runs, if that means the same wherever it stands and the other one declares no
+/// name; and empty, if there is no branch to run. The context is told.
+pub fn try_fold_if(node: &mut Node, ctx: &mut MinifierTraverseCtx) -> bool
+    ensures does { Does fold_if ctx.old node.old result ctx.new node.new }
+{
+    match branch_at(node, ctx.alloc()) {
+        Some(Some(at)) => {
+            keep_child(node, at, ctx);
+            true
+        }
+        Some(None) => {
+            put_empty(node, ctx);
+            true
+        }
+        None => false,
+    }
+}
