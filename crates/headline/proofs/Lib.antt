@@ -9,4 +9,5 @@ mod RenotedChoice
 mod RenotedParts
 mod RenotedSides
 mod RenotedKnown
+mod RenotedIf
 pub mod Renoted

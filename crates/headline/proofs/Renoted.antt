@@ -42,14 +42,17 @@ use Rattle.steps_allowed.specs.IdleParts.{sequence_becomes, IdleParts, idle_part
 use Rattle.steps_allowed.specs.TwoSides.{TwoSides, both_sides_act}
 use Rattle.steps_allowed.specs.UnusedObject.{UnusedObject, acting_values_stay}
 use Rattle.steps_allowed.specs.KnownOperation.{KnownOperation, value_is_known}
+use Rattle.steps_allowed.specs.KnownIf.{KnownIf}
+use Rattle.steps_allowed.specs.DeadIf.{DeadIf}
 use Rattle.steps_owed.proofs.ExposedBare.{bare_inside, bare_below, bare_exposed}
 use Rattle.steps_owed.proofs.Focus.{follows_there}
-use Rattle.headline.specs.Clean.{IsDead, an_empty_statement, a_silent_statement, an_unused_function, an_unused_declarator, a_known_conditional, a_known_side, an_unused_operation, an_unused_list, an_indirect_choice, a_one_sided_choice, idle_parts, two_sides, an_unused_object, a_known_operation, Clean}
+use Rattle.headline.specs.Clean.{IsDead, an_empty_statement, a_silent_statement, an_unused_function, an_unused_declarator, a_known_conditional, a_known_side, an_unused_operation, an_unused_list, an_indirect_choice, a_one_sided_choice, idle_parts, two_sides, an_unused_object, a_known_operation, a_known_if, a_dead_if, Clean}
 use Rattle.headline.proofs.RenotedUnused.{stands_as, needed_as, child_as, list_as}
 use Rattle.headline.proofs.RenotedChoice.{counts_as}
 use Rattle.headline.proofs.RenotedParts.{side_as, sequence_as}
 use Rattle.headline.proofs.RenotedSides.{two_sides_as, object_as}
 use Rattle.headline.proofs.RenotedKnown.{known_as, truth_as, side_as as known_side_as}
+use Rattle.headline.proofs.RenotedIf.{known_if_as, dead_if_as}
 
 -- ---- sites without ids and spans
 
@@ -629,6 +632,20 @@ module _ (t u : Forest) (e : bare t ≡ bare u) (clean : Clean t) where
       let now : Tree = record { kind = x.kind; note = o.note; below = o.below } in
       clean.nothing_is_dead o.around (Some now) o.is (a_known_operation o.around now _ (value_is_known i v now (known_as x.kind o.note x.note o.below x.below v o.same known)))
 
+  no_known_if : (a : Around) (x y : Tree) → u ≡ plug a (Some x) → KnownIf x y → ⊥
+  no_known_if a x y is known =
+      let o = other_place a x.kind x.note x.below is in
+      let now : Tree = record { kind = x.kind; note = o.note; below = o.below } in
+      let z = known_if_as o.note o.below x y o.same known in
+      clean.nothing_is_dead o.around (Some now) o.is (a_known_if o.around now z.0 z.1)
+
+  no_dead_if : (a : Around) (x y : Tree) → u ≡ plug a (Some x) → DeadIf x y → ⊥
+  no_dead_if a x y is dead =
+      let o = other_place a x.kind x.note x.below is in
+      let now : Tree = record { kind = x.kind; note = o.note; below = o.below } in
+      let z = dead_if_as o.note o.below x y o.same dead in
+      clean.nothing_is_dead o.around (Some now) o.is (a_dead_if o.around now z.0 z.1)
+
   none_dead : (a : Around) (x : Option Tree) → u ≡ plug a x → IsDead u a x → ⊥
   none_dead a x is (an_empty_statement b n item) = no_empty b n is item
   none_dead a x is (a_silent_statement b n below silent) = no_silent b n below is silent
@@ -644,6 +661,8 @@ module _ (t u : Forest) (e : bare t ≡ bare u) (clean : Clean t) where
   none_dead a x is (two_sides b y z act) = no_two_sides b y z is act
   none_dead a x is (an_unused_object b y z unused) = no_object b y z is unused
   none_dead a x is (a_known_operation b y z known) = no_known b y z is known
+  none_dead a x is (a_known_if b y z known) = no_known_if b y z is known
+  none_dead a x is (a_dead_if b y z dead) = no_dead_if b y z is dead
 
 pub clean_as : (t u : Forest) → bare t ≡ bare u → Clean t → Clean u
 clean_as t u e clean = record { nothing_is_dead = none_dead t u e clean }

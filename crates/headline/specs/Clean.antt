@@ -29,6 +29,9 @@ use Rattle.steps_allowed.specs.TwoSides.{TwoSides}
 use Rattle.steps_allowed.specs.UnusedObject.{UnusedObject}
 -- and an operation, and its value
 use Rattle.steps_allowed.specs.KnownOperation.{KnownOperation}
+-- and an `if` on a test that is known, and the branch that runs, or nothing
+use Rattle.steps_allowed.specs.KnownIf.{KnownIf}
+use Rattle.steps_allowed.specs.DeadIf.{DeadIf}
 -- whose names only the tree's references may use
 use Rattle.steps_allowed.specs.Exposure.{IsOwnFunction, IsOwnDeclarator}
 
@@ -71,6 +74,11 @@ pub data IsDead (t : Forest) : Around → Option Tree → Type 0 where
   an_unused_object : (a : Around) (x y : Tree) → UnusedObject a x y → IsDead t a (Some x)
   -- an operation that doesn't act, of which the value is known and has a literal: the operation does nothing that the literal doesn't
   a_known_operation : (a : Around) (x y : Tree) → KnownOperation a x y → IsDead t a (Some x)
+  -- an `if` whose condition does nothing but give a value, of which its form tells whether it is true, if the branch that runs may stand
+  -- in its place and the other one declares no name: that one never runs
+  a_known_if : (a : Around) (x y : Tree) → KnownIf x y → IsDead t a (Some x)
+  -- such an `if` with no branch to run, whose only branch declares no name: it does nothing
+  a_dead_if : (a : Around) (x y : Tree) → DeadIf x y → IsDead t a (Some x)
 
 -- No part of the program is dead code.
 pub record Clean (t : Forest) : Type 0 where

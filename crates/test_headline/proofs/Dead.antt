@@ -34,8 +34,10 @@ use Rattle.steps_allowed.specs.IdleParts.{sequence_becomes, idle_parts_leave}
 use Rattle.steps_allowed.specs.TwoSides.{two_sides as two_sides_at, both_sides_act}
 use Rattle.steps_allowed.specs.UnusedObject.{object_becomes, acting_values_stay}
 use Rattle.steps_allowed.specs.KnownOperation.{known_literal, value_is_known}
+use Rattle.steps_allowed.specs.KnownIf.{consequent_is_run, alternate_is_run}
+use Rattle.steps_allowed.specs.DeadIf.{nothing_is_run}
 use Rattle.steps_allowed.specs.Uses.{Use}
-use Rattle.headline.specs.Clean.{IsDead, an_empty_statement, a_silent_statement, an_unused_function, an_unused_declarator, a_known_conditional, a_known_side, an_unused_operation, an_unused_list, an_indirect_choice, a_one_sided_choice, idle_parts, two_sides, an_unused_object, a_known_operation, Clean}
+use Rattle.headline.specs.Clean.{IsDead, an_empty_statement, a_silent_statement, an_unused_function, an_unused_declarator, a_known_conditional, a_known_side, an_unused_operation, an_unused_list, an_indirect_choice, a_one_sided_choice, idle_parts, two_sides, an_unused_object, a_known_operation, a_known_if, a_dead_if, Clean}
 use Rattle.min_peephole.specs.Quiet.{is_quiet}
 use Rattle.min_peephole.proofs.Quieted.{quiet_clean}
 use Rattle.test_headline.specs.Rows as row
@@ -126,6 +128,17 @@ object_is_dead c = c.nothing_is_dead statement _ refl (an_unused_object statemen
 -- use(!0);
 pub known_is_dead : Clean row.uses_negation → ⊥
 known_is_dead c = c.nothing_is_dead given _ refl (a_known_operation given _ _ (value_is_known nowhere (Literal.Boolean true) _ refl))
+
+-- if (1) a(); else b();
+pub if_holds_is_dead : Clean row.runs_one_branch → ⊥
+if_holds_is_dead c =
+    c.nothing_is_dead (before []) _ refl
+    (a_known_if (before []) _ _ (consequent_is_run nowhere nowhere nowhere (Kind.Literal (Literal.Number (pos 1))) Kind.ExpressionStatement nothing call_of_a (does row.call_of_b) refl refl tt refl))
+
+-- if (null) a();
+pub if_fails_is_dead : Clean row.runs_no_branch → ⊥
+if_fails_is_dead c =
+    c.nothing_is_dead (before []) _ refl (a_dead_if (before []) _ _ (nothing_is_run nowhere nowhere nowhere nowhere (Kind.Literal Literal.Null) Kind.ExpressionStatement nothing call_of_a refl refl))
 
 -- ---- what has none
 
@@ -499,6 +512,7 @@ misplaced_is_dead c = c.nothing_is_dead behind_export _ refl (an_unused_function
 abbrev is_suspect : Kind → Bool
 is_suspect Kind.EmptyStatement = true
 is_suspect Kind.ExpressionStatement = true
+is_suspect Kind.IfStatement = true
 is_suspect (Kind.Function how pure) = true
 is_suspect Kind.VariableDeclarator = true
 is_suspect Kind.ConditionalExpression = true
@@ -576,6 +590,9 @@ dead_suspect t a x is (idle_parts b _ _ (idle_parts_leave n m y z leave)) = ap h
 dead_suspect t a x is (two_sides b _ _ (both_sides_act n m y z unused act)) = ap has_suspect is ∙ suspect_there b y (both_suspect n m y.kind y.below z act)
 dead_suspect t a x is (an_unused_object b _ _ (acting_values_stay n m y z unused becomes)) = ap has_suspect is ∙ suspect_there b y (object_suspect n m y.kind y.below z becomes)
 dead_suspect t a x is (a_known_operation b _ _ (value_is_known i v y known)) = ap has_suspect is ∙ suspect_there b y (known_suspect y.kind y.note y.below v known)
+dead_suspect t a x is (a_known_if b y z (consequent_is_run n m i v k c d e truth branch field none)) = ap has_suspect is ∙ suspect_there b _ refl
+dead_suspect t a x is (a_known_if b y z (alternate_is_run n m i j v k l c d e truth branch none)) = ap has_suspect is ∙ suspect_there b _ refl
+dead_suspect t a x is (a_dead_if b y z (nothing_is_run n m i j v k c d truth none)) = ap has_suspect is ∙ suspect_there b _ refl
 
 -- A declaration goes with the last of its declarators, and stays where it has none.
 pub nothing_declared_is_clean : Clean row.declares_nothing

@@ -10,7 +10,7 @@ use Rattle.js_syntax.specs.declared.value.Key.TheVariants as key
 use Rattle.js_syntax.specs.declared.value.LiteralValue.{LiteralValue as Literal}
 use Rattle.js_syntax.specs.Node.{Forest, joined}
 use Rattle.form_rules.specs.Samples as form
-use Rattle.steps_allowed.specs.Rows.{call_of_a, call_of_eval, exports_declaration, null, conditional, logical as either, applied, equals, array, sequence, behind_zero}
+use Rattle.steps_allowed.specs.Rows.{call_of_a, call_of_eval, exports_declaration, null, if_null, either_way, conditional, logical as either, applied, equals, array, sequence, behind_zero}
 use Rattle.js_meaning.specs.Samples as sample
 use Rattle.js_meaning.specs.Examples.{g, o, function_g, says_number}
 
@@ -201,3 +201,11 @@ uses_true = form.a_module (calls (form.reads (codes "use")) (form.leaf (Kind.Lit
 -- use(-1);
 abbrev pub uses_minus_one : Forest
 uses_minus_one = form.a_module (calls (form.reads (codes "use")) (applied unary.UnaryNegation form.one ∷ []) ∷ [])
+
+-- if (1) a(); else b();
+abbrev pub runs_one_branch : Forest
+runs_one_branch = form.a_module (either_way form.one (form.does call_of_a) (form.does call_of_b) ∷ [])
+
+-- if (null) a();
+abbrev pub runs_no_branch : Forest
+runs_no_branch = form.a_module (if_null (form.does call_of_a) form.no ∷ [])

@@ -1,0 +1,58 @@
+-- What an `if` on a known test becomes doesn't see notes.
+use Rattle.std.proofs.Common.{◌≡◌, ◌↔◌, ◌∙◌, true, ◌&&◌, refl, sym, ap₂, subst}
+use Rattle.js_syntax.specs.declared.node_kind.NodeKind.{NodeKind as Kind}
+use Rattle.js_syntax.specs.Node.{Forest, Tree, Note, nothing, node, absent, nowhere, bare}
+use Rattle.js_meaning_near.specs.Local.{IsField}
+use Rattle.steps_allowed.specs.Branches.{declares_none_at, declares_none}
+use Rattle.steps_allowed.specs.DeadIf.{DeadIf, nothing_is_run}
+use Rattle.steps_allowed.specs.KnownIf.{KnownIf, consequent_is_run, alternate_is_run}
+use Rattle.headline.proofs.RenotedKnown.{truth_bare}
+
+declares_bare : (t : Forest) → declares_none (bare t) ≡ declares_none t
+declares_bare nothing = refl
+declares_bare (absent rest) = declares_bare rest
+declares_bare (node k n below rest) = ap₂ (λ x y. declares_none_at k x && y) (declares_bare below) (declares_bare rest)
+
+field_bare : (t : Forest) → IsField (bare t) ↔ IsField t
+field_bare nothing = (λ h. h, λ h. h)
+field_bare (absent nothing) = (λ h. h, λ h. h)
+field_bare (absent (absent rest)) = (λ h. h, λ h. h)
+field_bare (absent (node k n below rest)) = (λ h. h, λ h. h)
+field_bare (node k n below nothing) = (λ h. h, λ h. h)
+field_bare (node k n below (absent rest)) = (λ h. h, λ h. h)
+field_bare (node k n below (node l m c rest)) = (λ h. h, λ h. h)
+
+-- ---- of a tree without its notes
+
+known_bare : (n : Note) (x y : Tree) → KnownIf x y → (z : Tree) × KnownIf (record { kind = x.kind; note = n; below = bare x.below }) z
+known_bare n _ _ (consequent_is_run _ m i t k a b alternate truth branch field none) =
+    (_, consequent_is_run n nowhere nowhere t k (bare a) (bare b) (bare alternate) (truth_bare t m a ∙ truth) branch ((field_bare alternate).1 field) (declares_bare alternate ∙ none))
+known_bare n _ _ (alternate_is_run _ m i j t k l a b c truth branch none) =
+    (_, alternate_is_run n nowhere nowhere nowhere t k l (bare a) (bare b) (bare c) (truth_bare t m a ∙ truth) branch (declares_bare (node k i b nothing) ∙ none))
+
+dead_bare : (n : Note) (x y : Tree) → DeadIf x y → (z : Tree) × DeadIf (record { kind = x.kind; note = n; below = bare x.below }) z
+dead_bare n _ _ (nothing_is_run _ m i o t k a b truth none) = (_, nothing_is_run n nowhere nowhere o t k (bare a) (bare b) (truth_bare t m a ∙ truth) (declares_bare (node k i b nothing) ∙ none))
+
+-- ---- and back
+
+known_there : (n : Note) (k : Kind) (f : Forest) (z : Tree) → KnownIf (record { kind = k; note = n; below = bare f }) z → (y : Tree) × KnownIf (record { kind = k; note = n; below = f }) y
+known_there n _ (node t m a (node k i b (node l j c nothing))) _ (alternate_is_run _ _ _ _ _ _ _ _ _ _ truth branch none) =
+    (_, alternate_is_run n m i j t k l a b c (sym (truth_bare t m a) ∙ truth) branch (sym (declares_bare (node k i b nothing)) ∙ none))
+known_there n _ (node t m a (node k i b alternate)) _ (consequent_is_run _ _ _ _ _ _ _ _ truth branch field none) =
+    (_, consequent_is_run n m i t k a b alternate (sym (truth_bare t m a) ∙ truth) branch ((field_bare alternate).0 field) (sym (declares_bare alternate) ∙ none))
+known_there n k f z h = elim h [ ]
+
+pub known_if_as : (n : Note) (f : Forest) (x y : Tree) → bare f ≡ bare x.below → KnownIf x y → (z : Tree) × KnownIf (record { kind = x.kind; note = n; below = f }) z
+known_if_as n f x y e known =
+    let there = known_bare n x y known in
+    known_there n x.kind f there.0 (subst (λ t. KnownIf (record { kind = x.kind; note = n; below = t }) there.0) (sym e) there.1)
+
+dead_there : (n : Note) (k : Kind) (f : Forest) (z : Tree) → DeadIf (record { kind = k; note = n; below = bare f }) z → (y : Tree) × DeadIf (record { kind = k; note = n; below = f }) y
+dead_there n _ (node t m a (node k i b (absent nothing))) _ (nothing_is_run _ _ _ o _ _ _ _ truth none) =
+    (_, nothing_is_run n m i o t k a b (sym (truth_bare t m a) ∙ truth) (sym (declares_bare (node k i b nothing)) ∙ none))
+dead_there n k f z h = elim h [ ]
+
+pub dead_if_as : (n : Note) (f : Forest) (x y : Tree) → bare f ≡ bare x.below → DeadIf x y → (z : Tree) × DeadIf (record { kind = x.kind; note = n; below = f }) z
+dead_if_as n f x y e dead =
+    let there = dead_bare n x y dead in
+    dead_there n x.kind f there.0 (subst (λ t. DeadIf (record { kind = x.kind; note = n; below = t }) there.0) (sym e) there.1)
