@@ -14,11 +14,12 @@ use Rattle.js_meaning.specs.Module.{names_in}
 use Rattle.steps.specs.Names.{is_among}
 use Rattle.steps.proofs.Among.{among_joined}
 use Rattle.steps_keep_runs.specs.Once.{is_first, binds_at, binds}
-use Rattle.steps_names.specs.Placed.{Sort, a_name, the_parameters, a_declarator, the_declarators, a_declaration, an_import, the_specifiers, the_statements, a_body, the_cases, a_case, an_export, plain, Place, no_node, names, parameters, code, program_list, module_items, lists, items, declared, declaration, declarators, specifiers, cases, case_items, listed, others, sort_of, place_below, name_place, function_place, specifier_place, statements_place, fits, well_placed}
+use Rattle.steps_names.specs.Placed.{Sort, a_name, the_parameters, a_declarator, the_declarators, a_declaration, an_import, the_specifiers, the_statements, a_body, the_cases, a_case, an_export, plain, Place, no_node, names, parameters, code, program_list, module_items, lists, items, declared, declaration, declarators, specifiers, cases, case_items, listed, others, sort_of, place_below, name_place, function_place, specifier_place, statements_place, fits, well_placed, has_plain_values}
 use Rattle.steps_names.proofs.Lists.{names_joined, names_so, third, not_first, either}
 use Rattle.steps_names.proofs.Taking.{has_items, takes_items, takes_vars, takes_names, takes_imports, items_fit, vars_fit, names_fit, imports_fit, never_fits}
 use Rattle.js_syntax.proofs.Truth.{neither, first_of_neither, second_of_neither}
 use Rattle.steps_names.proofs.Meeting.{later}
+use Rattle.steps_names.proofs.Values.{values_below, values_behind, in_declaration}
 
 -- ---- lists without a name
 
@@ -245,59 +246,64 @@ function_binds x p function_kind.Arrow pure a f w l h = hidden _ (binds x a) (λ
 declaration_row : (x : Text) (a : Forest) → Lacks x (bound_names a) → Lacks x (var_names a) → RowLacks x declaration a
 declaration_row x a g h = declares_place x declaration a refl refl g h
 
-node_binds : (x : Text) (p : Place) (k : Kind) (a : Forest) → fits p (sort_of k) ≡ true → well_placed (place_below p k) 0 a ≡ true → NodeLacks x p k a → (Free x (place_below p k) 0 a → binds x a ≡ false) → binds_at x k a (binds x a) ≡ false
-node_binds x p (Kind.BindingName y) a f w l h = neither (bytes_eq y x) (binds x a) (first_of_neither (bytes_eq y x) false (l.by_names (names_fit p a_name f refl))) (h (row_free x (λ i. no_node) 0 a (λ i m. empty_place x a)))
-node_binds x p Kind.Parameters a f w l h = h (row_free x (λ i. names) 0 a (λ i m. names_place x a (l.by_names (names_fit p the_parameters f refl))))
-node_binds x p Kind.VariableDeclarator a f w l h =
+-- a declaration that declares no name by `var`
+without_variables : (x : Text) (a : Forest) → well_placed (λ i. declaration) 0 a ≡ true → has_plain_values a ≡ true → Lacks x (var_names a)
+without_variables x a w v = ap (λ xs. is_among xs x) (in_declaration 0 a w v)
+
+node_binds : (x : Text) (p : Place) (k : Kind) (a : Forest) → fits p (sort_of k) ≡ true → well_placed (place_below p k) 0 a ≡ true → has_plain_values a ≡ true → NodeLacks x p k a → (Free x (place_below p k) 0 a → binds x a ≡ false) → binds_at x k a (binds x a) ≡ false
+node_binds x p (Kind.BindingName y) a f w u l h = neither (bytes_eq y x) (binds x a) (first_of_neither (bytes_eq y x) false (l.by_names (names_fit p a_name f refl))) (h (row_free x (λ i. no_node) 0 a (λ i m. empty_place x a)))
+node_binds x p Kind.Parameters a f w u l h = h (row_free x (λ i. names) 0 a (λ i m. names_place x a (l.by_names (names_fit p the_parameters f refl))))
+node_binds x p Kind.VariableDeclarator a f w u l h =
     let v : Lacks x (var_names a) = l.by_variables (vars_fit p a_declarator f refl) in
     h (row_free x (λ at. if at == 0 then names else others) 0 a (λ i m. either (λ q. RowLacks x q a) (i == 0) names others (names_place x a (l.by_names (names_fit p a_declarator f refl))) (others_row x a v)))
-node_binds x p Kind.Declarators a f w l h = h (row_free x (λ i. declarators) 0 a (λ i m. declares_place x declarators a refl refl (l.by_names (names_fit p the_declarators f refl)) (l.by_variables (vars_fit p the_declarators f refl))))
-node_binds x p (Kind.VariableDeclaration variable.Var) a f w l h =
+node_binds x p Kind.Declarators a f w u l h = h (row_free x (λ i. declarators) 0 a (λ i m. declares_place x declarators a refl refl (l.by_names (names_fit p the_declarators f refl)) (l.by_variables (vars_fit p the_declarators f refl))))
+node_binds x p (Kind.VariableDeclaration variable.Var) a f w u l h =
     let g : Lacks x (bound_names a ++ var_names a) = l.by_variables (vars_fit p plain f refl) in
     h (row_free x (λ i. declaration) 0 a (λ i m. declaration_row x a (lacks_left x (bound_names a) (var_names a) g) (lacks_right x (bound_names a) (var_names a) g)))
-node_binds x p (Kind.VariableDeclaration variable.Let) a f w l h =
-    h (row_free x (λ i. declaration) 0 a (λ i m. declaration_row x a (undeclared_so x (waiting false) (bound_names a) (l.by_items (asked_items p a_declaration f refl refl))) (l.by_variables (vars_fit p a_declaration f refl))))
-node_binds x p (Kind.VariableDeclaration variable.Const) a f w l h =
-    h (row_free x (λ i. declaration) 0 a (λ i m. declaration_row x a (undeclared_so x (waiting true) (bound_names a) (l.by_items (asked_items p a_declaration f refl refl))) (l.by_variables (vars_fit p a_declaration f refl))))
-node_binds x p (Kind.Function how pure) a f w l h = function_binds x p how pure a f w l h
-node_binds x p Kind.CatchClause a f w l h =
+node_binds x p (Kind.VariableDeclaration variable.Let) a f w u l h =
+    h (row_free x (λ i. declaration) 0 a (λ i m. declaration_row x a (undeclared_so x (waiting false) (bound_names a) (l.by_items (asked_items p a_declaration f refl refl))) (without_variables x a w u)))
+node_binds x p (Kind.VariableDeclaration variable.Const) a f w u l h =
+    h (row_free x (λ i. declaration) 0 a (λ i m. declaration_row x a (undeclared_so x (waiting true) (bound_names a) (l.by_items (asked_items p a_declaration f refl refl))) (without_variables x a w u)))
+node_binds x p (Kind.Function how pure) a f w u l h = function_binds x p how pure a f w l h
+node_binds x p Kind.CatchClause a f w u l h =
     hidden _ (binds x a) (λ g. h (first_free x (λ at. if at == 0 then names else others) a (names_place x (first_of a) g) (others_behind x names a (l.by_variables (vars_fit p plain f refl)))))
-node_binds x p Kind.ForStatement a f w l h =
+node_binds x p Kind.ForStatement a f w u l h =
     let v : Lacks x (var_names a) = l.by_variables (vars_fit p plain f refl) in
     hidden _ (binds x a) (λ g. h (first_free x (λ at. if at == 0 then declared else others) a (items_place x declared (first_of a) refl refl g (variables_first x a v)) (others_behind x declared a v)))
-node_binds x p Kind.SwitchStatement a f w l h =
+node_binds x p Kind.SwitchStatement a f w u l h =
     let v : Lacks x (var_names a) = l.by_variables (vars_fit p plain f refl) in
     h (row_free x (λ at. if at == 1 then cases else others) 0 a (λ i m. either (λ q. RowLacks x q a) (i == 1) cases others (variables_place x cases a refl refl refl v) (others_row x a v)))
-node_binds x p Kind.Cases a f w l h = hidden _ (binds x a) (λ g. h (row_free x (λ i. case_items) 0 a (λ i m. items_place x case_items a refl refl g (l.by_variables (vars_fit p the_cases f refl)))))
-node_binds x p Kind.BlockStatement a f w l h = hidden _ (binds x a) (λ g. h (row_free x (λ i. lists) 0 a (λ i m. items_place x lists a refl refl g (l.by_variables (vars_fit p plain f refl)))))
-node_binds x p Kind.SwitchCase a f w l h = h (row_free x (λ i. lists) 0 a (λ i m. items_place x lists a refl refl (l.by_items (asked_items p a_case f refl refl)) (l.by_variables (vars_fit p a_case f refl))))
-node_binds x p Kind.FunctionBody a f w l h = h (row_free x (λ i. lists) 0 a (λ i m. items_place x lists a refl refl (l.by_items (asked_items p a_body f refl refl)) (l.by_variables (vars_fit p a_body f refl))))
-node_binds x p Kind.Statements a f w l h = h (row_free x (λ i. statements_place p) 0 a (λ i m. statements_row x p a (l.by_items (asked_items p the_statements f refl refl)) (l.by_variables (vars_fit p the_statements f refl))))
-node_binds x p (Kind.ExportNamedDeclaration None) a f w l h = h (row_free x (λ i. declared) 0 a (λ i m. items_place x declared a refl refl (l.by_items (asked_items p an_export f refl refl)) (l.by_variables (vars_fit p an_export f refl))))
-node_binds x p (Kind.ExportNamedDeclaration (Some source)) a f w l h = h (row_free x (λ i. listed) 0 a (λ i m. variables_place x listed a refl refl refl (l.by_variables (vars_fit p an_export f refl))))
-node_binds x p Kind.ExportDefaultDeclaration a f w l h =
+node_binds x p Kind.Cases a f w u l h = hidden _ (binds x a) (λ g. h (row_free x (λ i. case_items) 0 a (λ i m. items_place x case_items a refl refl g (l.by_variables (vars_fit p the_cases f refl)))))
+node_binds x p Kind.BlockStatement a f w u l h = hidden _ (binds x a) (λ g. h (row_free x (λ i. lists) 0 a (λ i m. items_place x lists a refl refl g (l.by_variables (vars_fit p plain f refl)))))
+node_binds x p Kind.SwitchCase a f w u l h = h (row_free x (λ i. lists) 0 a (λ i m. items_place x lists a refl refl (l.by_items (asked_items p a_case f refl refl)) (l.by_variables (vars_fit p a_case f refl))))
+node_binds x p Kind.FunctionBody a f w u l h = h (row_free x (λ i. lists) 0 a (λ i m. items_place x lists a refl refl (l.by_items (asked_items p a_body f refl refl)) (l.by_variables (vars_fit p a_body f refl))))
+node_binds x p Kind.Statements a f w u l h = h (row_free x (λ i. statements_place p) 0 a (λ i m. statements_row x p a (l.by_items (asked_items p the_statements f refl refl)) (l.by_variables (vars_fit p the_statements f refl))))
+node_binds x p (Kind.ExportNamedDeclaration None) a f w u l h = h (row_free x (λ i. declared) 0 a (λ i m. items_place x declared a refl refl (l.by_items (asked_items p an_export f refl refl)) (l.by_variables (vars_fit p an_export f refl))))
+node_binds x p (Kind.ExportNamedDeclaration (Some source)) a f w u l h = h (row_free x (λ i. listed) 0 a (λ i m. variables_place x listed a refl refl refl (l.by_variables (vars_fit p an_export f refl))))
+node_binds x p Kind.ExportDefaultDeclaration a f w u l h =
     h (row_free x (λ i. declared) 0 a (λ i m. items_place x declared a refl refl (undeclared_default x (lexical a) (l.by_items (asked_items p an_export f refl refl))) (l.by_variables (vars_fit p an_export f refl))))
-node_binds x p (Kind.ImportDeclaration source) a f w l h =
+node_binds x p (Kind.ImportDeclaration source) a f w u l h =
     h (row_free x (λ i. specifiers) 0 a (λ i m. record { by_items = λ e. never_so e; by_variables = λ e. l.by_variables (vars_fit p an_import f refl); by_names = λ e. never_so e; by_imports = λ e. (source, l.by_items (asked_items p an_import f refl refl)) }))
-node_binds x p (Kind.ImportSpecifier name) a f w l h = let i = l.by_imports (imports_fit p f) in h (imported_name x a w (first_lacks x (linked i.0 (module_text name)) (first_name a) i.1))
-node_binds x p Kind.ImportDefaultSpecifier a f w l h = let i = l.by_imports (imports_fit p f) in h (imported_name x a w (first_lacks x (linked i.0 (codes "default")) (first_name a) i.1))
-node_binds x p Kind.ImportNamespaceSpecifier a f w l h = let i = l.by_imports (imports_fit p f) in h (imported_name x a w (first_lacks x (linked i.0 (codes "*")) (first_name a) i.1))
-node_binds x p Kind.Specifiers a f w l h = h (row_free x (λ i. specifier_place p) 0 a (λ i m. specifiers_row x p a f l))
-node_binds x p (Kind.Program source) a f w l h = absurd (never_fits p f)
-node_binds x p (Kind.Class how) a f w l h = absurd (never_fits p f)
-node_binds x p (Kind.PropertyDefinition is_static key) a f w l h = absurd (never_fits p f)
-node_binds x p Kind.StaticBlock a f w l h = absurd (never_fits p f)
-node_binds x p Kind.WithStatement a f w l h = absurd (never_fits p f)
-node_binds x p Kind.ForInStatement a f w l h = absurd (never_fits p f)
-node_binds x p Kind.ForOfStatement a f w l h = absurd (never_fits p f)
-node_binds x p k a f w l h = h (row_free x (λ i. others) 0 a (λ i m. others_row x a (l.by_variables (vars_fit p plain f refl))))
+node_binds x p (Kind.ImportSpecifier name) a f w u l h = let i = l.by_imports (imports_fit p f) in h (imported_name x a w (first_lacks x (linked i.0 (module_text name)) (first_name a) i.1))
+node_binds x p Kind.ImportDefaultSpecifier a f w u l h = let i = l.by_imports (imports_fit p f) in h (imported_name x a w (first_lacks x (linked i.0 (codes "default")) (first_name a) i.1))
+node_binds x p Kind.ImportNamespaceSpecifier a f w u l h = let i = l.by_imports (imports_fit p f) in h (imported_name x a w (first_lacks x (linked i.0 (codes "*")) (first_name a) i.1))
+node_binds x p Kind.Specifiers a f w u l h = h (row_free x (λ i. specifier_place p) 0 a (λ i m. specifiers_row x p a f l))
+node_binds x p (Kind.Program source) a f w u l h = absurd (never_fits p f)
+node_binds x p (Kind.Class how) a f w u l h = absurd (never_fits p f)
+node_binds x p (Kind.PropertyDefinition is_static key) a f w u l h = absurd (never_fits p f)
+node_binds x p Kind.StaticBlock a f w u l h = absurd (never_fits p f)
+node_binds x p Kind.WithStatement a f w u l h = absurd (never_fits p f)
+node_binds x p Kind.ForInStatement a f w u l h = absurd (never_fits p f)
+node_binds x p Kind.ForOfStatement a f w u l h = absurd (never_fits p f)
+node_binds x p k a f w u l h = h (row_free x (λ i. others) 0 a (λ i m. others_row x a (l.by_variables (vars_fit p plain f refl))))
 
 -- ---- rows
 
-pub row_binds : (x : Text) (places : ℕ → Place) (at : ℕ) (t : Forest) → well_placed places at t ≡ true → Free x places at t → binds x t ≡ false
-row_binds x places at nothing w h = refl
-row_binds x places at (absent r) w h = row_binds x places (suc at) r w h
-row_binds x places at (node k n a r) w h =
+pub row_binds : (x : Text) (places : ℕ → Place) (at : ℕ) (t : Forest) → well_placed places at t ≡ true → has_plain_values t ≡ true → Free x places at t → binds x t ≡ false
+row_binds x places at nothing w v h = refl
+row_binds x places at (absent r) w v h = row_binds x places (suc at) r w v h
+row_binds x places at (node k n a r) w v h =
     let e = and_parts (fits (places at) (sort_of k)) _ w in
     let i = and_parts (well_placed (place_below (places at) k) 0 a) _ e.1 in
-    neither (binds_at x k a (binds x a)) (binds x r) (node_binds x (places at) k a e.0 i.0 h.0 (λ g. row_binds x (place_below (places at) k) 0 a i.0 g)) (row_binds x places (suc at) r i.1 h.1)
+    let inner = values_below k n a r v in
+    neither (binds_at x k a (binds x a)) (binds x r) (node_binds x (places at) k a e.0 i.0 inner h.0 (λ g. row_binds x (place_below (places at) k) 0 a i.0 inner g)) (row_binds x places (suc at) r i.1 (values_behind k n a r v) h.1)

@@ -24,6 +24,7 @@ use Rattle.steps_keep_runs.proofs.Modules.{module_lists, InItems, in_items, in_i
 use Rattle.steps_names.specs.Placed.{Place, program_list, module_items, lists, case_items, sort_of, place_below, function_place, fits, well_placed, has_plain_values, is_well_placed}
 use Rattle.steps_names.proofs.Lists.{in_left, in_right}
 use Rattle.steps_names.proofs.Taking.{never_fits}
+use Rattle.steps_names.proofs.Values.{values_below, values_behind}
 use Rattle.steps_fit.specs.Clear.{ClearAt, Clear}
 use Rattle.headline.proofs.Binding.{Lacks, undeclared_left, undeclared_right, undeclared_so, Free, row_free, items_place, code_free, row_binds}
 use Rattle.headline.proofs.Cells.{dropped_cells, once_cells, row_cells}
@@ -59,39 +60,45 @@ behind_placed places nothing w = refl
 behind_placed places (absent r) w = w
 behind_placed places (node k n a r) w = (and_parts (well_placed (place_below (places 0) k) 0 a) _ (and_parts (fits (places 0) (sort_of k)) _ w).1).1
 
-function_once : (x : Text) (f : FunctionKind) (a b : Forest) → Dropped x (function_decls f a) (function_decls f b) → HasCells x (function_decls f a) → well_placed (function_place f) 0 b ≡ true → OnceAt x (function_decls f b) (behind b)
-function_once x f a b d c w = (dropped_cells x d c, λ e. row_binds x (function_place f) 1 (behind b) (behind_placed (function_place f) b w) (code_free x f b (sym (declares_among (function_decls f b) x) ∙ e)))
+behind_values : (b : Forest) → has_plain_values b ≡ true → has_plain_values (behind b) ≡ true
+behind_values nothing v = refl
+behind_values (absent r) v = v
+behind_values (node k n a r) v = values_behind k n a r v
 
-block_once : (x : Text) (p : Place) (a b : Forest) → well_placed (λ i. p) 0 b ≡ true → HasCells x (lexical b) → (Lacks x (names_in (lexical b)) → Free x (λ i. p) 0 b) → OnceAt x (lexical b) b
-block_once x p a b w c h = (c, λ e. row_binds x (λ i. p) 0 b w (h (sym (declares_among (lexical b) x) ∙ e)))
+function_once : (x : Text) (f : FunctionKind) (a b : Forest) → Dropped x (function_decls f a) (function_decls f b) → HasCells x (function_decls f a) → well_placed (function_place f) 0 b ≡ true → has_plain_values b ≡ true → OnceAt x (function_decls f b) (behind b)
+function_once x f a b d c w v = (dropped_cells x d c, λ e. row_binds x (function_place f) 1 (behind b) (behind_placed (function_place f) b w) (behind_values b v) (code_free x f b (sym (declares_among (function_decls f b) x) ∙ e)))
+
+block_once : (x : Text) (p : Place) (a b : Forest) → well_placed (λ i. p) 0 b ≡ true → has_plain_values b ≡ true → HasCells x (lexical b) → (Lacks x (names_in (lexical b)) → Free x (λ i. p) 0 b) → OnceAt x (lexical b) b
+block_once x p a b w v c h = (c, λ e. row_binds x (λ i. p) 0 b w v (h (sym (declares_among (lexical b) x) ∙ e)))
 
 same_vars_after : (x : Text) (d : Drop) (xs ys : List Text) → d ≡ of_block x → VarsChange d xs ys → Lacks x xs → Lacks x ys
 same_vars_after x d xs ys e v h = ap (λ zs. is_among zs x) (sym (subst (λ o. VarsChange o xs ys) e v)) ∙ h
 
-once_at : (w : Around) {a b : Forest} (k : Kind) (s : Step (entered w k a) a b) (d : Drop) → dropped s ≡ d → holds_well k a ≡ true → heads k a ≡ true → is_formed a ≡ true → (p : Place) → fits p (sort_of k) ≡ true → well_placed (place_below p k) 0 b ≡ true → ClearAt k a → OnceIn k b d
-once_at w (Kind.Program source) s d e m g f p i o c = absurd (never_fits p i)
-once_at w {a} {b} (Kind.Function how pure) s (of_block x) e m g f p i o c =
-    function_once x how a b (subst (λ v. DeclsChange v (function_decls how a) (function_decls how b)) e (function_change how pure s refl m g f)) (c x (subst (λ v. AmongIf v (var_names (behind (behind a)) ++ names_in (lexical (behind (behind a))))) e (body_among s (body_change how pure s refl m g f)))) o
-once_at w {a} {b} (Kind.Function how pure) s (of_function x) e m g f p i o c =
-    function_once x how a b (subst (λ v. DeclsChange v (function_decls how a) (function_decls how b)) e (function_change how pure s refl m g f)) (c x (subst (λ v. AmongIf v (var_names (behind (behind a)) ++ names_in (lexical (behind (behind a))))) e (body_among s (body_change how pure s refl m g f)))) o
-once_at w {a} {b} Kind.BlockStatement s (of_block x) e m g f p i o c =
+once_at : (w : Around) {a b : Forest} (k : Kind) (s : Step (entered w k a) a b) (d : Drop) → dropped s ≡ d → holds_well k a ≡ true → heads k a ≡ true → is_formed a ≡ true → (p : Place) → fits p (sort_of k) ≡ true → well_placed (place_below p k) 0 b ≡ true → has_plain_values b ≡ true → ClearAt k a → OnceIn k b d
+once_at w (Kind.Program source) s d e m g f p i o u c = absurd (never_fits p i)
+once_at w {a} {b} (Kind.Function how pure) s (of_block x) e m g f p i o u c =
+    function_once x how a b (subst (λ v. DeclsChange v (function_decls how a) (function_decls how b)) e (function_change how pure s refl m g f)) (c x (subst (λ v. AmongIf v (var_names (behind (behind a)) ++ names_in (lexical (behind (behind a))))) e (body_among s (body_change how pure s refl m g f)))) o u
+once_at w {a} {b} (Kind.Function how pure) s (of_function x) e m g f p i o u c =
+    function_once x how a b (subst (λ v. DeclsChange v (function_decls how a) (function_decls how b)) e (function_change how pure s refl m g f)) (c x (subst (λ v. AmongIf v (var_names (behind (behind a)) ++ names_in (lexical (behind (behind a))))) e (body_among s (body_change how pure s refl m g f)))) o u
+once_at w {a} {b} Kind.BlockStatement s (of_block x) e m g f p i o u c =
     let v : Lacks x (var_names b) = same_vars_after x (dropped s) (var_names a) (var_names b) e (vars_step s Kind.BlockStatement m (inr refl) f) (passing_free s x e) in
-    block_once x lists a b o (row_cells x (λ i. lists) 0 b (λ i. refl) o) (λ l. row_free x (λ i. lists) 0 b (λ i n. items_place x lists b refl refl l v))
-once_at w {a} {b} Kind.Cases s (of_block x) e m g f p i o c =
+    block_once x lists a b o u (row_cells x (λ i. lists) 0 b (λ i. refl) o) (λ l. row_free x (λ i. lists) 0 b (λ i n. items_place x lists b refl refl l v))
+once_at w {a} {b} Kind.Cases s (of_block x) e m g f p i o u c =
     let v : Lacks x (var_names b) = same_vars_after x (dropped s) (var_names a) (var_names b) e (vars_step s Kind.Cases m (inr refl) f) (passing_free s x e) in
-    block_once x case_items a b o (row_cells x (λ i. case_items) 0 b (λ i. refl) o) (λ l. row_free x (λ i. case_items) 0 b (λ i n. items_place x case_items b refl refl l v))
-once_at w k s d e m g f p i o c = tt
+    block_once x case_items a b o u (row_cells x (λ i. case_items) 0 b (λ i. refl) o) (λ l. row_free x (λ i. case_items) 0 b (λ i n. items_place x case_items b refl refl l v))
+once_at w k s d e m g f p i o u c = tt
 
-once_step : {w : Around} {t u : Forest} (s : Step w t u) (places : ℕ → Place) (at : ℕ) → is_formed t ≡ true → well_placed places at u ≡ true → Clear t → Once s
-once_step (leaves g) places at f o c = tt
-once_step (empties h) places at f o c = tt
-once_step (inside {w = w} {k = k} {a = a} {b = b} {r = r} s) places at f o c =
+once_step : {w : Around} {t u : Forest} (s : Step w t u) (places : ℕ → Place) (at : ℕ) → is_formed t ≡ true → well_placed places at u ≡ true → has_plain_values u ≡ true → Clear t → Once s
+once_step (leaves g) places at f o v c = tt
+once_step (empties h) places at f o v c = tt
+once_step (inside {w = w} {k = k} {n = n} {a = a} {b = b} {r = r} s) places at f o v c =
     let i = and_parts (fits (places at) (sort_of k)) _ o in
     let j = and_parts (well_placed (place_below (places at) k) 0 b) _ i.1 in
-    (once_at w k s (dropped s) refl (form_holds k a r f) (form_heads k a r f) (form_below k a r f) (places at) i.0 j.0 c.0, once_step s (place_below (places at) k) 0 (form_below k a r f) j.0 c.1)
-once_step (behind_node {k = k} {a = a} {r = r} s) places at f o c =
-    once_step s places (suc at) (form_behind k a r f) (and_parts (well_placed (place_below (places at) k) 0 a) _ (and_parts (fits (places at) (sort_of k)) _ o).1).1 c.2
-once_step (behind_absent s) places at f o c = once_step s places (suc at) f o c
+    let inner = values_below k n b r v in
+    (once_at w k s (dropped s) refl (form_holds k a r f) (form_heads k a r f) (form_below k a r f) (places at) i.0 j.0 inner c.0, once_step s (place_below (places at) k) 0 (form_below k a r f) j.0 inner c.1)
+once_step (behind_node {k = k} {n = n} {a = a} {r = r} {s = u} s) places at f o v c =
+    once_step s places (suc at) (form_behind k a r f) (and_parts (well_placed (place_below (places at) k) 0 a) _ (and_parts (fits (places at) (sort_of k)) _ o).1).1 (values_behind k n a u v) c.2
+once_step (behind_absent s) places at f o v c = once_step s places (suc at) f o v c
 
 -- ---- modules
 
@@ -101,13 +108,13 @@ items_free x b e =
     let v : Lacks x (var_names b) = undeclared_so x ready (var_names b) (undeclared_left x (all_so ready (var_names b)) (lexical b) h) in
     row_free x (λ i. module_items) 0 b (λ i n. items_place x module_items b refl refl (undeclared_right x (all_so ready (var_names b)) (lexical b) h) v)
 
-list_once : (x : Text) (m : Note) (a b : Forest) → Dropped x (module_decls a) (module_decls b) → well_placed (λ i. module_items) 0 b ≡ true → ClearAt (Kind.Program source_type.Module) (alone Kind.Statements m a) → OnceAt x (module_decls b) b
-list_once x m a b d w c = (once_cells x (module_decls a) (module_decls b) d (c x), λ e. row_binds x (λ i. module_items) 0 b w (items_free x b e))
+list_once : (x : Text) (m : Note) (a b : Forest) → Dropped x (module_decls a) (module_decls b) → well_placed (λ i. module_items) 0 b ≡ true → has_plain_values b ≡ true → ClearAt (Kind.Program source_type.Module) (alone Kind.Statements m a) → OnceAt x (module_decls b) b
+list_once x m a b d w v c = (once_cells x (module_decls a) (module_decls b) d (c x), λ e. row_binds x (λ i. module_items) 0 b w v (items_free x b e))
 
-top_once : (m : Note) (a b : Forest) (d : Drop) → DeclsChange d (module_decls a) (module_decls b) → well_placed (λ i. module_items) 0 b ≡ true → ClearAt (Kind.Program source_type.Module) (alone Kind.Statements m a) → OnceIn (Kind.Program source_type.Module) (alone Kind.Statements m b) d
-top_once m a b no_drop h w c = tt
-top_once m a b (of_block x) h w c = list_once x m a b h w c
-top_once m a b (of_function x) h w c = list_once x m a b h w c
+top_once : (m : Note) (a b : Forest) (d : Drop) → DeclsChange d (module_decls a) (module_decls b) → well_placed (λ i. module_items) 0 b ≡ true → has_plain_values b ≡ true → ClearAt (Kind.Program source_type.Module) (alone Kind.Statements m a) → OnceIn (Kind.Program source_type.Module) (alone Kind.Statements m b) d
+top_once m a b no_drop h w v c = tt
+top_once m a b (of_block x) h w v c = list_once x m a b h w v c
+top_once m a b (of_function x) h w v c = list_once x m a b h w v c
 
 items_once : (n m : Note) (a u : Forest) (s : Step outermost (module_of n m a) u) → InItems n m a u s
     → is_formed (module_of n m a) ≡ true → is_well_placed u ≡ true → Clear (module_of n m a) → Once s
@@ -119,7 +126,8 @@ items_once n m a _ _ (in_items {b = b} s) f w c =
     let v : well_placed (λ i. program_list) 0 k ≡ true = (and_parts (well_placed (λ i. program_list) 0 k) (has_plain_values k) w).0 in
     let o : well_placed (λ i. module_items) 0 b ≡ true = (and_parts (well_placed (λ i. module_items) 0 b) true v).0 in
     let d = module_lists (dropped s) (var_names a) (var_names b) (lexical a) (lexical b) (vars_step s Kind.Statements l (inl refl) g) (lexical_step s Kind.Statements l refl (inl refl) g) in
-    (top_once m a b (dropped s) d o c.0, (tt, once_step s (λ i. module_items) 0 g o c.1.1))
+    let u : has_plain_values b ≡ true = values_below Kind.Statements m b nothing (and_parts (well_placed (λ i. program_list) 0 k) (has_plain_values k) w).1 in
+    (top_once m a b (dropped s) d o u c.0, (tt, once_step s (λ i. module_items) 0 g o u c.1.1))
 
 pub module_once : (n m : Note) (a u : Forest) (s : Step outermost (module_of n m a) u) → is_formed (module_of n m a) ≡ true → is_well_placed u ≡ true → Clear (module_of n m a) → Once s
 module_once n m a u s f w c = items_once n m a u s (in_its_items n m a u s) f w c

@@ -47,9 +47,11 @@ first_name nothing = None
 first_name (node k n a r) = declared_name k
 first_name (absent r) = None
 
--- BoundNames of patterns, declarators and parameters (8.2.1)
+-- BoundNames of patterns, declarators and parameters (8.2.1); what `let` and `const` declare they declare in their own scope
 abbrev pub names_of : Kind → List Text → List Text
 names_of (Kind.BindingName x) inner = x ∷ []
+names_of (Kind.VariableDeclaration variable.Let) inner = []
+names_of (Kind.VariableDeclaration variable.Const) inner = []
 names_of (Kind.Function f pure) inner = []
 names_of (Kind.Class c) inner = []
 names_of _ inner = inner
@@ -59,9 +61,11 @@ bound_names nothing = []
 bound_names (absent r) = bound_names r
 bound_names (node k n a r) = names_of k (bound_names a) ++ bound_names r
 
--- VarDeclaredNames (8.2.6): not those of functions and classes inside
+-- VarDeclaredNames (8.2.6): not those of functions and classes inside, and none of `let` and `const`
 abbrev pub vars_of : Kind → Forest → List Text → List Text
 vars_of (Kind.VariableDeclaration variable.Var) a inner = bound_names a ++ inner
+vars_of (Kind.VariableDeclaration variable.Let) a inner = []
+vars_of (Kind.VariableDeclaration variable.Const) a inner = []
 vars_of (Kind.Function f pure) a inner = []
 vars_of (Kind.Class c) a inner = []
 vars_of _ a inner = inner

@@ -27,6 +27,7 @@ true_false e = cc
 
 pub calm_names : (k : Kind) (l : List Text) → is_calm k ≡ true → names_of k l ≡ l
 calm_names (Kind.BindingName x) l h = absurd (true_false (sym h))
+calm_names (Kind.VariableDeclaration how) l h = absurd (true_false (sym h))
 calm_names (Kind.Function f pure) l h = absurd (true_false (sym h))
 calm_names (Kind.Class c) l h = absurd (true_false (sym h))
 calm_names k l h = refl

@@ -59,6 +59,8 @@ bound_alike (alike_signed y r) = bound_alike r
 
 vars_below : (k : Kind) {g : Bool} {a b : Forest} → Like g a b → var_names a ≡ var_names b → vars_of k a (var_names a) ≡ vars_of k b (var_names b)
 vars_below (Kind.VariableDeclaration variable.Var) s e = ap₂ (λ (x y : List Text). x ++ y) (bound_alike s) e
+vars_below (Kind.VariableDeclaration variable.Let) s e = refl
+vars_below (Kind.VariableDeclaration variable.Const) s e = refl
 vars_below (Kind.Function f pure) s e = refl
 vars_below (Kind.Class c) s e = refl
 vars_below _ s e = e

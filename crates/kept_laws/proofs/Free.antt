@@ -53,6 +53,8 @@ free_shut = shut_as_planned kept.is_var lets of_free in_free free_lists refl (ro
 
 vars_here : (k : Kind) (a : Forest) → not (kept.is_var k) ≡ true → (shut kept.is_var lets (λ i. true) 0 a ≡ true → var_names a ≡ []) → shut kept.is_var lets (λ i. lets k i) 0 a ≡ true → vars_of k a (var_names a) ≡ []
 vars_here (variable_declaration variable.Var) a h f e = absurd cc
+vars_here (variable_declaration variable.Let) a h f e = refl
+vars_here (variable_declaration variable.Const) a h f e = refl
 vars_here (function how pure) a h f e = refl
 vars_here (class how) a h f e = refl
 vars_here k a h f e = f e
@@ -126,6 +128,8 @@ fields r vs h = if_so (in_expression r) (unnamed r (kind_in r vs)) (keep r vs) h
 
 names_here : (k : Kind) (a : Forest) → not (is_name k) ≡ true → (shut is_name lets (λ i. true) 0 a ≡ true → bound_names a ≡ []) → shut is_name lets (λ i. lets k i) 0 a ≡ true → names_of k (bound_names a) ≡ []
 names_here (binding_name x) a h f e = absurd cc
+names_here (variable_declaration variable.Let) a h f e = refl
+names_here (variable_declaration variable.Const) a h f e = refl
 names_here (function how pure) a h f e = refl
 names_here (class how) a h f e = refl
 names_here k a h f e = f e

@@ -93,7 +93,8 @@ of_declaration : (a : Forest) (how : VariableKind) → Stand (these (list declar
 of_declaration a variable.Var st =
     declaration_law a st
     ∙ sym (append-nil (bound_names a)) ∙ ap (λ z. bound_names a ++ z) (sym (row_is_free a (these (list declarators declarator_item ∷ [])) refl st))
-of_declaration a how st = sym (row_is_free a (these (list declarators declarator_item ∷ [])) refl st)
+of_declaration a variable.Let st = refl
+of_declaration a variable.Const st = refl
 
 nothing_stands : (a : Forest) → Stand (these []) a → [] ≡ var_names a
 nothing_stands nothing st = refl

@@ -68,6 +68,8 @@ fn bound_of_node<'a>(found: Vec<&'a str>, node: &'a Node) -> Result<Vec<&'a str>
             found.push(name.as_str())?;
             Ok(found)
         }
+        NodeKind::VariableDeclaration(VariableKind::Let) => Ok(found),
+        NodeKind::VariableDeclaration(VariableKind::Const) => Ok(found),
         NodeKind::Function { .. } => Ok(found),
         NodeKind::Class(_) => Ok(found),
         _ => bound_of_row(found, node.children()),
@@ -110,6 +112,8 @@ fn vars_of_node<'a>(found: Vec<&'a str>, node: &'a Node) -> Result<Vec<&'a str>,
             let found = bound_of_row(found, node.children())?;
             vars_of_row(found, node.children())
         }
+        NodeKind::VariableDeclaration(VariableKind::Let) => Ok(found),
+        NodeKind::VariableDeclaration(VariableKind::Const) => Ok(found),
         NodeKind::Function { .. } => Ok(found),
         NodeKind::Class(_) => Ok(found),
         _ => vars_of_row(found, node.children()),

@@ -137,6 +137,8 @@ lacking_among P x (decl y left_out ∷ ds) h e = elim (or_cases (bytes_eq y x) (
 
 names_ok_at : (k : Kind) (inner : List Text) → OkAt k → EachName OkName inner → EachName OkName (names_of k inner)
 names_ok_at (Kind.BindingName x) inner h g = (h, tt)
+names_ok_at (Kind.VariableDeclaration variable.Let) inner h g = tt
+names_ok_at (Kind.VariableDeclaration variable.Const) inner h g = tt
 names_ok_at (Kind.Function f pure) inner h g = tt
 names_ok_at (Kind.Class c) inner h g = tt
 names_ok_at k inner h g = g
@@ -148,8 +150,8 @@ bound_ok (node k n a r) h = each_joined OkName (names_of k (bound_names a)) (bou
 
 vars_ok_at : (k : Kind) (a : Forest) (inner : List Text) → AllOk a → EachName OkName inner → EachName OkName (vars_of k a inner)
 vars_ok_at (Kind.VariableDeclaration variable.Var) a inner h g = each_joined OkName (bound_names a) inner (bound_ok a h) g
-vars_ok_at (Kind.VariableDeclaration variable.Let) a inner h g = g
-vars_ok_at (Kind.VariableDeclaration variable.Const) a inner h g = g
+vars_ok_at (Kind.VariableDeclaration variable.Let) a inner h g = tt
+vars_ok_at (Kind.VariableDeclaration variable.Const) a inner h g = tt
 vars_ok_at (Kind.Function f pure) a inner h g = tt
 vars_ok_at (Kind.Class c) a inner h g = tt
 vars_ok_at k a inner h g = g

@@ -3,6 +3,7 @@ use Rattle.std.proofs.Common.{◌≡◌, List, [], ◌∷◌, Bool, true, false,
 use Rattle.js_syntax.specs.Class.{Class, root, declarator_item, for_init, declaration, default_export, method_value, declared_name, read_name, private_key, expression, expression_or_private, callee, argument, object_item, binding, binding_value, binding_element, simple_target, target, import_item, export_item, foreign_item, no_node}
 use Rattle.js_syntax.specs.declared.node_kind.NodeKind.{NodeKind as Kind}
 use Rattle.js_syntax.specs.Facts.{is_core}
+use Rattle.js_syntax.specs.declared.kind.VariableKind.TheVariants as variable
 use Rattle.js_syntax.specs.Node.{Forest, nothing, node, absent}
 use Rattle.js_syntax.specs.Table.{Row, a_program, a_function_declaration, a_default_function, a_function_expression, an_arrow_function, a_variable_declaration, a_variable_declarator, a_class_declaration, a_default_class, a_class_expression, a_binding_name, a_reference_name, a_target_name, a_private_name, a_literal, a_reg_exp, a_this_expression, a_super, an_array_expression, an_object_expression, a_property, a_method_property, a_sequence_expression, a_unary_expression, an_update_expression, a_binary_expression, an_in_expression, a_logical_expression, an_assignment_expression, a_compound_assignment, a_conditional_expression, a_call_expression, a_new_expression, a_member_expression, a_chain_expression, a_parenthesized_expression, a_parenthesized_target, a_template_literal, a_tagged_template_expression, a_spread_element, a_binding_rest, a_binding_object, a_target_object, a_binding_array, a_target_array, a_binding_default, a_new_target, an_import_meta, an_import_expression, an_import_specifier, an_import_default_specifier, an_import_namespace_specifier, an_export_specifier, a_foreign_specifier, fields_of, type_of, stands}
 use Rattle.js_meaning.specs.Value.{Text}
@@ -163,6 +164,8 @@ expressions_keep r vs = refl
 
 names_below : (k : Kind) (b : Bool) (xs : List Text) → (b ≡ true → xs ≡ []) → (is_function k || (is_nameless k && b)) ≡ true → names_of k xs ≡ []
 names_below (Kind.BindingName x) b xs to h = absurd cc
+names_below (Kind.VariableDeclaration variable.Let) b xs to h = refl
+names_below (Kind.VariableDeclaration variable.Const) b xs to h = refl
 names_below (Kind.Function f pure) b xs to h = refl
 names_below (Kind.Class c) b xs to h = refl
 names_below k b xs to h = to h

@@ -189,8 +189,8 @@ module _ (x : Text) where
       let two = occurs_joined x (bound_names a) (var_names a) in
       let three = no_variables x (var_names a) n in
       omega (arith, one, two, three)
-  var_found p s q (Kind.VariableDeclaration variable.Let) a h c g w v e n below = less_by _ 0 _ (no_variables x (var_names a) n) (no_less _)
-  var_found p s q (Kind.VariableDeclaration variable.Const) a h c g w v e n below = less_by _ 0 _ (no_variables x (var_names a) n) (no_less _)
+  var_found p s q (Kind.VariableDeclaration variable.Let) a h c g w v e n below = no_less _
+  var_found p s q (Kind.VariableDeclaration variable.Const) a h c g w v e n below = no_less _
   var_found p s q (Kind.Function how pure) a h c g w v e n below = no_less _
   var_found p s q (Kind.Class how) a h c g w v e n below = no_less _
   var_found p s q (Kind.Program source) a h c g w v e n below = absurd (never_fits p g)

@@ -162,6 +162,8 @@ same_bounds (alike_function e g) = same_bounds g
 
 vars_at : (k : Kind) (a b : Forest) → bound_names a ≡ bound_names b → var_names a ≡ var_names b → vars_of k a (var_names a) ≡ vars_of k b (var_names b)
 vars_at (Kind.VariableDeclaration variable.Var) a b e f = ap₂ (λ l m. l ++ m) e f
+vars_at (Kind.VariableDeclaration variable.Let) a b e f = refl
+vars_at (Kind.VariableDeclaration variable.Const) a b e f = refl
 vars_at (Kind.Function how pure) a b e f = refl
 vars_at (Kind.Class c) a b e f = refl
 vars_at k a b e f = f

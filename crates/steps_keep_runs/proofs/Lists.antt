@@ -74,6 +74,8 @@ empty_right (x ∷ xs) ys e = absurd (cc)
 no_vars_at : (k : Kind) (a : Forest) → names_of k (bound_names a) ≡ [] → (bound_names a ≡ [] → var_names a ≡ []) → vars_of k a (var_names a) ≡ []
 no_vars_at (Kind.BindingName x) a e h = absurd (cc)
 no_vars_at (Kind.VariableDeclaration variable.Var) a e h = ap₂ (λ l m. l ++ m) e (h e)
+no_vars_at (Kind.VariableDeclaration variable.Let) a e h = refl
+no_vars_at (Kind.VariableDeclaration variable.Const) a e h = refl
 no_vars_at (Kind.Function f pure) a e h = refl
 no_vars_at (Kind.Class c) a e h = refl
 no_vars_at k a e h = h e
@@ -228,11 +230,11 @@ vars_out xs ys (of_function x) h = h
 
 vars_gone : {w : Around} {a b : Forest} (how : VariableKind) (s : Step w a b) → Gone how s → VarsChange (dropped s) (vars_of (Kind.VariableDeclaration how) a (var_names a)) (vars_of (Kind.VariableDeclaration how) b (var_names b))
 vars_gone {a = a} {b = b} variable.Var s (nothing_gone c) = vars_no_drop _ _ (dropped s) c.drops (ap₂ (λ l m. l ++ m) (same_bounds c.alike) (same_vars c.alike))
-vars_gone {a = a} {b = b} variable.Let s (nothing_gone c) = vars_no_drop _ _ (dropped s) c.drops (same_vars c.alike)
-vars_gone {a = a} {b = b} variable.Const s (nothing_gone c) = vars_no_drop _ _ (dropped s) c.drops (same_vars c.alike)
+vars_gone variable.Let s (nothing_gone c) = vars_no_drop [] [] (dropped s) c.drops refl
+vars_gone variable.Const s (nothing_gone c) = vars_no_drop [] [] (dropped s) c.drops refl
 vars_gone {a = a} {b = b} variable.Var s (one_gone x d l v) = subst (λ d. VarsChange d (bound_names a ++ var_names a) (bound_names b ++ var_names b)) (sym d) (subst (λ m. Less x (bound_names a ++ var_names a) (bound_names b ++ m)) v (less_back (var_names a) l))
-vars_gone {a = a} {b = b} variable.Let s (one_gone x d l v) = subst (λ d. VarsChange d (var_names a) (var_names b)) (sym d) v
-vars_gone {a = a} {b = b} variable.Const s (one_gone x d l v) = subst (λ d. VarsChange d (var_names a) (var_names b)) (sym d) v
+vars_gone variable.Let s (one_gone x d l v) = subst (λ d. VarsChange d [] []) (sym d) refl
+vars_gone variable.Const s (one_gone x d l v) = subst (λ d. VarsChange d [] []) (sym d) refl
 
 vars_inside : (w : Around) {a b : Forest} (k : Kind) (s : Step (entered w k a) a b) (above : Kind) → may_hold above k ≡ true → InList w.row → heads k a ≡ true → is_formed a ≡ true
     → (InList (entered w k a).row → VarsChange (dropped s) (var_names a) (var_names b)) → VarsChange (outside k (dropped s)) (vars_of k a (var_names a)) (vars_of k b (var_names b))
@@ -250,8 +252,8 @@ vars_inside w {a} k s above m i e f h = h (list_below w k a i tt)
 
 declaration_vars : (how : VariableKind) (x : Text) (m l j : Note) (v : Forest) → bound_names v ≡ [] → VarsChange (declared_so how x) (vars_of (Kind.VariableDeclaration how) (alone Kind.Declarators m (alone Kind.VariableDeclarator l (node (Kind.BindingName x) j nothing v))) ((var_names v ++ []) ++ [])) []
 declaration_vars variable.Var x m l j v e = subst (λ n. Less x n []) (sym (ap₂ (λ b c. (((x ∷ b) ++ []) ++ []) ++ ((c ++ []) ++ [])) e (no_vars v e))) less_here
-declaration_vars variable.Let x m l j v e = ap (λ c. (c ++ []) ++ []) (no_vars v e)
-declaration_vars variable.Const x m l j v e = ap (λ c. (c ++ []) ++ []) (no_vars v e)
+declaration_vars variable.Let x m l j v e = refl
+declaration_vars variable.Const x m l j v e = refl
 
 declaration_lexical : (how : VariableKind) (x : Text) (m l j : Note) (v : Forest) → bound_names v ≡ [] → LexicalChange (declared_so how x) (item_decls (Kind.VariableDeclaration how) (alone Kind.Declarators m (alone Kind.VariableDeclarator l (node (Kind.BindingName x) j nothing v))) []) []
 declaration_lexical variable.Var x m l j v e = refl

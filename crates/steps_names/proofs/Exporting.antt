@@ -23,6 +23,7 @@ use Rattle.steps_names.specs.Agreeing.{exports_at, exports}
 use Rattle.steps_names.specs.Standing.{is_export, exported_sites, exported_declarations}
 use Rattle.steps_names.proofs.Lists.{names_joined, names_so, either}
 use Rattle.steps_names.proofs.Taking.{kept}
+use Rattle.steps_names.proofs.Values.{value_here, values_below, values_behind}
 use Rattle.steps_names.proofs.Sites.{binding_second, binding_third, binding_left, binding_right, placed_here, placed_below, placed_behind, never_stands}
 
 in_either : (xs ys : List Text) (x : Text) → is_among (xs ++ ys) x ≡ true → (is_among xs x ≡ true) ⊎ (is_among ys x ≡ true)
@@ -30,17 +31,6 @@ in_either xs ys x e = or_cases (is_among xs x) (is_among ys x) (sym (among_joine
 
 declared_in_either : (ds es : List Decl) (x : Text) → is_among (names_in (ds ++ es)) x ≡ true → (is_among (names_in ds) x ≡ true) ⊎ (is_among (names_in es) x ≡ true)
 declared_in_either ds es x e = in_either (names_in ds) (names_in es) x (sym (ap (λ xs. is_among xs x) (names_joined ds es)) ∙ e)
-
--- ---- initialisers
-
-value_here : (k : Kind) (n : Note) (a r : Forest) → has_plain_values (node k n a r) ≡ true → has_plain_value k a ≡ true
-value_here k n a r e = (and_parts (has_plain_value k a) _ e).0
-
-values_below : (k : Kind) (n : Note) (a r : Forest) → has_plain_values (node k n a r) ≡ true → has_plain_values a ≡ true
-values_below k n a r e = (and_parts (has_plain_values a) (has_plain_values r) (and_parts (has_plain_value k a) _ e).1).0
-
-values_behind : (k : Kind) (n : Note) (a r : Forest) → has_plain_values (node k n a r) ≡ true → has_plain_values r ≡ true
-values_behind k n a r e = (and_parts (has_plain_values a) (has_plain_values r) (and_parts (has_plain_value k a) _ e).1).1
 
 none_among : (xs : List Text) (x : Text) → is_none xs ≡ true → is_among xs x ≡ true → ⊥
 none_among [] x n e = true≢false (sym e)
@@ -167,8 +157,8 @@ variables_found p c next (Kind.VariableDeclaration variable.Var) a l x is f w v 
   | inl g ↦ in_declaration (inside c next (Kind.VariableDeclaration variable.Var) a) 0 (next + 0) a l x (λ i. is) w v g
   | inr g ↦ found (λ i. is) g
 ]
-variables_found p c next (Kind.VariableDeclaration variable.Let) a l x is f w v found e = found (λ i. is) e
-variables_found p c next (Kind.VariableDeclaration variable.Const) a l x is f w v found e = found (λ i. is) e
+variables_found p c next (Kind.VariableDeclaration variable.Let) a l x is f w v found e = absurd (true≢false (sym e))
+variables_found p c next (Kind.VariableDeclaration variable.Const) a l x is f w v found e = absurd (true≢false (sym e))
 variables_found p c next (Kind.Function how pure) a l x is f w v found e = absurd (true≢false (sym e))
 variables_found p c next (Kind.Class how) a l x is f w v found e = absurd (true≢false (sym e))
 variables_found p c next k a l x is f w v found e = found (λ i. variables_below p c next k a i f refl ∙ is) e

@@ -1,5 +1,6 @@
 pub mod Lists
 pub mod Taking
+pub mod Values
 pub mod Meeting
 pub mod Seeing
 pub mod Sites

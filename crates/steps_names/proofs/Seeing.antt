@@ -14,10 +14,11 @@ use Rattle.form_rules.specs.Context.{is_strict_function}
 use Rattle.scope_rules.specs.declared.layer.Layer.{Layer}
 use Rattle.scope_rules.specs.Context.{Context, opens, inside, body_of, parameters_of, own_name_of, in_block, below_it, declares, at_function_name, at_parameters, in_function}
 use Rattle.scope_rules.specs.Site.{BindingSite}
-use Rattle.steps_names.specs.Placed.{the_parameters, a_declarator, the_declarators, a_declaration, an_import, the_specifiers, plain, Place, no_node, names, parameters, code, program_list, lists, declared, declaration, specifiers, imports, cases, listed, others, never, sort_of, place_below, name_place, function_place, specifier_place, statements_place, fits, well_placed}
+use Rattle.steps_names.specs.Placed.{the_parameters, a_declarator, the_declarators, a_declaration, an_import, the_specifiers, plain, Place, no_node, names, parameters, code, program_list, lists, declared, declaration, specifiers, imports, cases, listed, others, never, sort_of, place_below, name_place, function_place, specifier_place, statements_place, fits, well_placed, has_plain_values}
 use Rattle.steps_names.specs.Agreeing.{names_of_scope}
 use Rattle.steps_names.proofs.Lists.{in_left, in_right, declared_left, declared_right, declared_so, third, not_second, not_first, either}
 use Rattle.steps_names.proofs.Taking.{has_items, has_vars, takes_items, takes_vars, takes_names, takes_imports, items_fit, vars_fit, names_fit, imports_fit, never_fits, keeps, kept}
+use Rattle.steps_names.proofs.Values.{in_declaration}
 use Rattle.steps_names.proofs.Meeting.{Here, in_block as here_in_block, in_variables as here_in_variables, as_declared as here_as_declared, as_imported as here_as_imported, Meets, Same, Gathered, of_block, of_variables, of_declared, of_imported, gather}
 
 pub data Seen (p : Place) (c : Context) (next : ℕ) (k : Kind) (a : Forest) (b : BindingSite) : Type 0 where
@@ -80,9 +81,9 @@ seen_part p c next k a b keeps_it takes variables no_items no_imports same vars 
     by (of_declared i l t e g) = around (here_as_declared takes e (ap (λ xs. is_among xs b.name) same ∙ g))
     by (of_imported i l t e g) = absurd (true≢false (sym t ∙ no_imports i))
 
-seen_variables : (how : _) (p : Place) (c : Context) (next : ℕ) (a : Forest) (b : BindingSite) → fits p (sort_of (Kind.VariableDeclaration how)) ≡ true
+seen_variables : (how : _) (p : Place) (c : Context) (next : ℕ) (a : Forest) (b : BindingSite) → fits p (sort_of (Kind.VariableDeclaration how)) ≡ true → well_placed (λ i. declaration) 0 a ≡ true → has_plain_values a ≡ true
     → Meets (λ i. declaration) (inside c next (Kind.VariableDeclaration how) a) 0 a b → Seen p c next (Kind.VariableDeclaration how) a b
-seen_variables variable.Var p c next a b f h =
+seen_variables variable.Var p c next a b f w v h =
     by (gather (λ i. declaration) (inside c next (Kind.VariableDeclaration variable.Var) a) 0 c.block c.variables c.variables a b (record { in_block = λ i l. refl; in_variables = λ i l. refl; as_declared = λ i l. refl }) h)
   where
     by : Gathered (λ i. declaration) 0 c.block c.variables c.variables a b → Seen p c next (Kind.VariableDeclaration variable.Var) a b
@@ -90,20 +91,20 @@ seen_variables variable.Var p c next a b f h =
     by (of_variables i l t e g) = around (here_in_variables (vars_fit p plain f refl) e (in_right (bound_names a) (var_names a) b.name g))
     by (of_declared i l t e g) = around (here_in_variables (vars_fit p plain f refl) e (in_left (bound_names a) (var_names a) b.name g))
     by (of_imported i l t e g) = absurd (true≢false (sym t))
-seen_variables variable.Let p c next a b f h =
+seen_variables variable.Let p c next a b f w v h =
     by (gather (λ i. declaration) (inside c next (Kind.VariableDeclaration variable.Let) a) 0 c.block c.variables c.block a b (record { in_block = λ i l. refl; in_variables = λ i l. refl; as_declared = λ i l. refl }) h)
   where
     by : Gathered (λ i. declaration) 0 c.block c.variables c.block a b → Seen p c next (Kind.VariableDeclaration variable.Let) a b
     by (of_block i l t e g) = absurd (true≢false (sym t))
-    by (of_variables i l t e g) = around (here_in_variables (vars_fit p a_declaration f refl) e g)
+    by (of_variables i l t e g) = absurd (true≢false (sym g ∙ ap (λ xs. is_among xs b.name) (in_declaration 0 a w v)))
     by (of_declared i l t e g) = around (here_in_block (items_fit p a_declaration f refl) e (declared_so (waiting false) (bound_names a) b.name g))
     by (of_imported i l t e g) = absurd (true≢false (sym t))
-seen_variables variable.Const p c next a b f h =
+seen_variables variable.Const p c next a b f w v h =
     by (gather (λ i. declaration) (inside c next (Kind.VariableDeclaration variable.Const) a) 0 c.block c.variables c.block a b (record { in_block = λ i l. refl; in_variables = λ i l. refl; as_declared = λ i l. refl }) h)
   where
     by : Gathered (λ i. declaration) 0 c.block c.variables c.block a b → Seen p c next (Kind.VariableDeclaration variable.Const) a b
     by (of_block i l t e g) = absurd (true≢false (sym t))
-    by (of_variables i l t e g) = around (here_in_variables (vars_fit p a_declaration f refl) e g)
+    by (of_variables i l t e g) = absurd (true≢false (sym g ∙ ap (λ xs. is_among xs b.name) (in_declaration 0 a w v)))
     by (of_declared i l t e g) = around (here_in_block (items_fit p a_declaration f refl) e (declared_so (waiting true) (bound_names a) b.name g))
     by (of_imported i l t e g) = absurd (true≢false (sym t))
 
@@ -393,37 +394,37 @@ no_imports_there : (p : Place) → takes_imports (statements_place p) ≡ false
 no_imports_there program_list = refl
 no_imports_there p = refl
 
-pub seen : (p : Place) (c : Context) (next : ℕ) (k : Kind) (a : Forest) (b : BindingSite) → fits p (sort_of k) ≡ true → well_placed (place_below p k) 0 a ≡ true
+pub seen : (p : Place) (c : Context) (next : ℕ) (k : Kind) (a : Forest) (b : BindingSite) → fits p (sort_of k) ≡ true → well_placed (place_below p k) 0 a ≡ true → has_plain_values a ≡ true
     → Meets (place_below p k) (inside c next k a) 0 a b → Seen p c next k a b
-seen p c next (Kind.BindingName x) a b f w h = seen_nothing p c next x a b h
-seen p c next Kind.Parameters a b f w h = seen_part p c next Kind.Parameters a b refl (names_fit p the_parameters f refl) (inr (λ i. refl)) (λ i. refl) (λ i. refl) refl refl h
-seen p c next Kind.Declarators a b f w h = seen_part p c next Kind.Declarators a b refl (names_fit p the_declarators f refl) (inl (vars_fit p the_declarators f refl)) (λ i. refl) (λ i. refl) refl refl h
-seen p c next Kind.VariableDeclarator a b f w h =
+seen p c next (Kind.BindingName x) a b f w v h = seen_nothing p c next x a b h
+seen p c next Kind.Parameters a b f w v h = seen_part p c next Kind.Parameters a b refl (names_fit p the_parameters f refl) (inr (λ i. refl)) (λ i. refl) (λ i. refl) refl refl h
+seen p c next Kind.Declarators a b f w v h = seen_part p c next Kind.Declarators a b refl (names_fit p the_declarators f refl) (inl (vars_fit p the_declarators f refl)) (λ i. refl) (λ i. refl) refl refl h
+seen p c next Kind.VariableDeclarator a b f w v h =
     seen_part p c next Kind.VariableDeclarator a b refl (names_fit p a_declarator f refl) (inl (vars_fit p a_declarator f refl))
     (λ i. either (λ q. takes_items q ≡ false) (i == 0) names others refl refl) (λ i. either (λ q. takes_imports q ≡ false) (i == 0) names others refl refl) refl refl h
-seen p c next (Kind.VariableDeclaration how) a b f w h = seen_variables how p c next a b f h
-seen p c next (Kind.ImportDeclaration source) a b f w h = seen_import p c next source a b f h
-seen p c next Kind.Specifiers a b f w h = seen_specifiers p c next a b f h
-seen p c next (Kind.ImportSpecifier name) a b f w h = seen_imported p c next (Kind.ImportSpecifier name) a b _ refl (imports_fit p f) (λ i. refl) (λ source. refl) w h
-seen p c next Kind.ImportDefaultSpecifier a b f w h = seen_imported p c next Kind.ImportDefaultSpecifier a b _ refl (imports_fit p f) (λ i. refl) (λ source. refl) w h
-seen p c next Kind.ImportNamespaceSpecifier a b f w h = seen_imported p c next Kind.ImportNamespaceSpecifier a b _ refl (imports_fit p f) (λ i. refl) (λ source. refl) w h
-seen p c next Kind.Statements a b f w h = seen_list p c next Kind.Statements a b refl refl refl f (λ i. no_names_there p) (λ i. no_imports_there p) (λ g. g) refl h
-seen p c next Kind.FunctionBody a b f w h = seen_list p c next Kind.FunctionBody a b refl refl refl f (λ i. refl) (λ i. refl) (λ g. g) refl h
-seen p c next Kind.Cases a b f w h = seen_list p c next Kind.Cases a b refl refl refl f (λ i. refl) (λ i. refl) (λ g. g) refl h
-seen p c next Kind.SwitchCase a b f w h = seen_list p c next Kind.SwitchCase a b refl refl refl f (λ i. refl) (λ i. refl) (λ g. g) refl h
-seen p c next (Kind.ExportNamedDeclaration None) a b f w h = seen_list p c next (Kind.ExportNamedDeclaration None) a b refl refl refl f (λ i. refl) (λ i. refl) (λ g. g) refl h
-seen p c next (Kind.ExportNamedDeclaration (Some source)) a b f w h = seen_others listed refl refl refl p c next (Kind.ExportNamedDeclaration (Some source)) a b refl refl f (λ i. refl) refl h
-seen p c next Kind.ExportDefaultDeclaration a b f w h = seen_list p c next Kind.ExportDefaultDeclaration a b refl refl refl f (λ i. refl) (λ i. refl) (in_default (lexical a) b.name) refl h
-seen p c next Kind.BlockStatement a b f w h = seen_block p c next a b f h
-seen p c next Kind.ForStatement a b f w h = seen_for p c next a b f h
-seen p c next Kind.CatchClause a b f w h = seen_catch p c next a b f h
-seen p c next Kind.SwitchStatement a b f w h = seen_switch p c next a b f h
-seen p c next (Kind.Function how pure) a b f w h = seen_function p c next how pure (c.strict || is_strict_function a) a b f w h
-seen p c next (Kind.Program source) a b f w h = never_stands p f
-seen p c next (Kind.Class how) a b f w h = never_stands p f
-seen p c next (Kind.PropertyDefinition is_static key) a b f w h = never_stands p f
-seen p c next Kind.StaticBlock a b f w h = never_stands p f
-seen p c next Kind.WithStatement a b f w h = never_stands p f
-seen p c next Kind.ForInStatement a b f w h = never_stands p f
-seen p c next Kind.ForOfStatement a b f w h = never_stands p f
-seen p c next k a b f w h = seen_others others refl refl refl p c next k a b refl refl f (λ i. refl) refl h
+seen p c next (Kind.VariableDeclaration how) a b f w v h = seen_variables how p c next a b f w v h
+seen p c next (Kind.ImportDeclaration source) a b f w v h = seen_import p c next source a b f h
+seen p c next Kind.Specifiers a b f w v h = seen_specifiers p c next a b f h
+seen p c next (Kind.ImportSpecifier name) a b f w v h = seen_imported p c next (Kind.ImportSpecifier name) a b _ refl (imports_fit p f) (λ i. refl) (λ source. refl) w h
+seen p c next Kind.ImportDefaultSpecifier a b f w v h = seen_imported p c next Kind.ImportDefaultSpecifier a b _ refl (imports_fit p f) (λ i. refl) (λ source. refl) w h
+seen p c next Kind.ImportNamespaceSpecifier a b f w v h = seen_imported p c next Kind.ImportNamespaceSpecifier a b _ refl (imports_fit p f) (λ i. refl) (λ source. refl) w h
+seen p c next Kind.Statements a b f w v h = seen_list p c next Kind.Statements a b refl refl refl f (λ i. no_names_there p) (λ i. no_imports_there p) (λ g. g) refl h
+seen p c next Kind.FunctionBody a b f w v h = seen_list p c next Kind.FunctionBody a b refl refl refl f (λ i. refl) (λ i. refl) (λ g. g) refl h
+seen p c next Kind.Cases a b f w v h = seen_list p c next Kind.Cases a b refl refl refl f (λ i. refl) (λ i. refl) (λ g. g) refl h
+seen p c next Kind.SwitchCase a b f w v h = seen_list p c next Kind.SwitchCase a b refl refl refl f (λ i. refl) (λ i. refl) (λ g. g) refl h
+seen p c next (Kind.ExportNamedDeclaration None) a b f w v h = seen_list p c next (Kind.ExportNamedDeclaration None) a b refl refl refl f (λ i. refl) (λ i. refl) (λ g. g) refl h
+seen p c next (Kind.ExportNamedDeclaration (Some source)) a b f w v h = seen_others listed refl refl refl p c next (Kind.ExportNamedDeclaration (Some source)) a b refl refl f (λ i. refl) refl h
+seen p c next Kind.ExportDefaultDeclaration a b f w v h = seen_list p c next Kind.ExportDefaultDeclaration a b refl refl refl f (λ i. refl) (λ i. refl) (in_default (lexical a) b.name) refl h
+seen p c next Kind.BlockStatement a b f w v h = seen_block p c next a b f h
+seen p c next Kind.ForStatement a b f w v h = seen_for p c next a b f h
+seen p c next Kind.CatchClause a b f w v h = seen_catch p c next a b f h
+seen p c next Kind.SwitchStatement a b f w v h = seen_switch p c next a b f h
+seen p c next (Kind.Function how pure) a b f w v h = seen_function p c next how pure (c.strict || is_strict_function a) a b f w h
+seen p c next (Kind.Program source) a b f w v h = never_stands p f
+seen p c next (Kind.Class how) a b f w v h = never_stands p f
+seen p c next (Kind.PropertyDefinition is_static key) a b f w v h = never_stands p f
+seen p c next Kind.StaticBlock a b f w v h = never_stands p f
+seen p c next Kind.WithStatement a b f w v h = never_stands p f
+seen p c next Kind.ForInStatement a b f w v h = never_stands p f
+seen p c next Kind.ForOfStatement a b f w v h = never_stands p f
+seen p c next k a b f w v h = seen_others others refl refl refl p c next k a b refl refl f (λ i. refl) refl h

@@ -15,9 +15,10 @@ use Rattle.scope_rules.specs.Site.{Site, scope_site, binding_site, reference_sit
 use Rattle.scope_laws.specs.Exact.{Among}
 use Rattle.scope_laws.proofs.Around.{references_append}
 use Rattle.scope_laws.proofs.Among.{among_left, among_right, among_cases}
-use Rattle.steps_names.specs.Placed.{a_name, Place, sort_of, place_below, fits, well_placed}
+use Rattle.steps_names.specs.Placed.{a_name, Place, sort_of, place_below, fits, well_placed, has_plain_values}
 use Rattle.steps_names.proofs.Lists.{either}
 use Rattle.steps_names.proofs.Taking.{names_fit, never_fits, Kept, kept}
+use Rattle.steps_names.proofs.Values.{values_below, values_behind}
 use Rattle.steps_names.proofs.Meeting.{Here, in_block as here_in_block, in_variables as here_in_variables, as_declared as here_as_declared, as_imported as here_as_imported, Meets}
 use Rattle.steps_names.proofs.Seeing.{Seen, in_scope, around, seen}
 
@@ -91,13 +92,13 @@ placed_below ps at k n a r w = (and_parts (well_placed (place_below (ps at) k) 0
 pub placed_behind : (ps : ℕ → Place) (at : ℕ) (k : Kind) (n : Note) (a r : Forest) → well_placed ps at (node k n a r) ≡ true → well_placed ps (suc at) r ≡ true
 placed_behind ps at k n a r w = (and_parts (well_placed (place_below (ps at) k) 0 a) (well_placed ps (suc at) r) (and_parts (fits (ps at) (sort_of k)) _ w).1).1
 
-pub declared_at : (ps : ℕ → Place) (cs : ℕ → Context) (at next : ℕ) (t : Forest) (b : BindingSite) → well_placed ps at t ≡ true → Among b (bindings_among (sites cs at next t)) → (next ≤ b.layer.scope) ⊎ Meets ps cs at t b
-declared_at ps cs at next nothing b w h = absurd h
-declared_at ps cs at next (absent r) b w h = declared_at ps cs (suc at) next r b w h
-declared_at ps cs at next (node k n a r) b w h =
+pub declared_at : (ps : ℕ → Place) (cs : ℕ → Context) (at next : ℕ) (t : Forest) (b : BindingSite) → well_placed ps at t ≡ true → has_plain_values t ≡ true → Among b (bindings_among (sites cs at next t)) → (next ≤ b.layer.scope) ⊎ Meets ps cs at t b
+declared_at ps cs at next nothing b w v h = absurd h
+declared_at ps cs at next (absent r) b w v h = declared_at ps cs (suc at) next r b w v h
+declared_at ps cs at next (node k n a r) b w v h =
     by (binding_in b (own_sites (cs at) n k a) (sites (inside (cs at) next k a) 0 (next + opens_one k a) a) (sites cs (suc at) (next + scope_count (node k n a nothing)) r) h)
-    (declared_at (place_below (ps at) k) (inside (cs at) next k a) 0 (next + opens_one k a) a b (placed_below ps at k n a r w))
-    (declared_at ps cs (suc at) (next + scope_count (node k n a nothing)) r b (placed_behind ps at k n a r w))
+    (declared_at (place_below (ps at) k) (inside (cs at) next k a) 0 (next + opens_one k a) a b (placed_below ps at k n a r w) (values_below k n a r v))
+    (declared_at ps cs (suc at) (next + scope_count (node k n a nothing)) r b (placed_behind ps at k n a r w) (values_behind k n a r v))
   where
     seen_so : Seen (ps at) (cs at) next k a b → (next ≤ b.layer.scope) ⊎ Meets ps cs at (node k n a r) b
     seen_so (in_scope o e g) = inl (Prim.omega (arith, e))
@@ -105,7 +106,7 @@ declared_at ps cs at next (node k n a r) b w h =
 
     of_below : (next + opens_one k a ≤ b.layer.scope) ⊎ Meets (place_below (ps at) k) (inside (cs at) next k a) 0 a b → (next ≤ b.layer.scope) ⊎ Meets ps cs at (node k n a r) b
     of_below (inl l) = inl (Prim.omega (arith, l))
-    of_below (inr m) = seen_so (seen (ps at) (cs at) next k a b (placed_here ps at k n a r w) (placed_below ps at k n a r w) m)
+    of_below (inr m) = seen_so (seen (ps at) (cs at) next k a b (placed_here ps at k n a r w) (placed_below ps at k n a r w) (values_below k n a r v) m)
 
     of_rest : (next + scope_count (node k n a nothing) ≤ b.layer.scope) ⊎ Meets ps cs (suc at) r b → (next ≤ b.layer.scope) ⊎ Meets ps cs at (node k n a r) b
     of_rest (inl l) = inl (Prim.omega (arith, l))

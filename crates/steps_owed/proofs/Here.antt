@@ -101,7 +101,7 @@ here_below t w cs at next k n a r h = record {
   placed = inner;
   agreed = h.agreed.1;
   known = known_below (declarations_of t) w (h.places at) (cs at) next k a placed inner h.agreed.0 h.known.0;
-  variables = variables_below w (h.places at) k n a r placed h.good.clear.0 h.variables;
+  variables = variables_below w (h.places at) k n a r placed inner (good_below k n a r h.good).values h.good.clear.0 h.variables;
   lists = λ i l. lists_below w (h.places at) k n a r i placed h.good.clear.0 (h.lists at) l;
   apart = subst (λ row. RowApart row (entered w k a) a) (sym (entered_row w k a))
       (apart_below w.row w k n a r (arranged_here k n a r h.good) h.variables

@@ -1,5 +1,5 @@
 -- Names that scopes declare apart from others, as far as a row declares them.
-use Rattle.std.proofs.Common.{◌≡◌, ◌∙◌, inl, inr, ℕ, Bool, true, false, ◌&&◌, if◌then◌else◌, ◌==◌, List, [], ◌++◌, Some, None, refl, sym, true≢false}
+use Rattle.std.proofs.Common.{◌≡◌, ◌∙◌, inl, inr, ℕ, Bool, true, false, ◌&&◌, if◌then◌else◌, ◌==◌, List, [], ◌++◌, Some, None, refl, sym, subst, true≢false}
 use Rattle.std.proofs.lemmas.Bool.{and_parts, and_from}
 use Rattle.js_syntax.specs.declared.node_kind.NodeKind.{NodeKind as Kind}
 use Rattle.js_syntax.specs.Node.{Forest, nothing, node, absent, Note}
@@ -12,9 +12,10 @@ use Rattle.steps.specs.Names.{is_among}
 use Rattle.steps.specs.Steps.{Row, items, of_item, declarators, other, is_single, row_below, Around, entered, in_row}
 use Rattle.steps_fit.specs.Clear.{Apart, ClearAt}
 use Rattle.steps_allowed.specs.Arranged.{is_declarator, are_declarators, has_declarators, is_arranged_at}
-use Rattle.steps_names.specs.Placed.{the_statements, a_body, a_case, Place, no_node, names, code, program_list, module_items, lists, items as items_place, declared, specifiers, cases, case_items, others, sort_of, place_below, specifier_place, fits}
+use Rattle.steps_names.specs.Placed.{the_statements, a_body, a_case, Place, no_node, names, code, program_list, module_items, lists, items as items_place, declared, specifiers, cases, case_items, others, sort_of, place_below, specifier_place, fits, well_placed, has_plain_values}
 use Rattle.steps_names.proofs.Lists.{in_left, in_right, declared_left, declared_right, declared_so}
 use Rattle.steps_names.proofs.Taking.{never_fits}
+use Rattle.steps_names.proofs.Values.{in_declaration}
 use Rattle.steps_owed.proofs.KnownNames.{among_cases}
 
 -- ---- lists without common names
@@ -31,16 +32,22 @@ apart_of_both xs ys zs h g x e f = elim (among_cases xs zs x f) [
 
 -- ---- variables
 
-pub variables_below : (w : Around) (p : Place) (k : Kind) (n : Note) (a r : Forest) → fits p (sort_of k) ≡ true → ClearAt k a → Apart (var_names (node k n a r)) w.inner → Apart (var_names a) (entered w k a).inner
-variables_below w p (Kind.Program source) n a r e clear h = apart_nothing (var_names a)
-variables_below w p (Kind.Function f pure) n a r e clear h = apart_nothing (var_names a)
-variables_below w p Kind.BlockStatement n a r e clear h = apart_of_both (names_in (lexical a)) (var_names a) w.inner clear (λ x i. h x (in_left (var_names a) (var_names r) x i))
-variables_below w p Kind.Cases n a r e clear h = apart_of_both (names_in (lexical a)) (var_names a) w.inner clear (λ x i. h x (in_left (var_names a) (var_names r) x i))
-variables_below w p Kind.ForStatement n a r e clear h = apart_of_both (names_in (lexical (first_of a))) (var_names a) w.inner clear (λ x i. h x (in_left (var_names a) (var_names r) x i))
-variables_below w p Kind.CatchClause n a r e clear h = apart_of_both (bound_names (first_of a)) (var_names a) w.inner clear (λ x i. h x (in_left (var_names a) (var_names r) x i))
-variables_below w p (Kind.VariableDeclaration variable.Var) n a r e clear h = λ x i. h x (in_left (bound_names a ++ var_names a) (var_names r) x (in_right (bound_names a) (var_names a) x i))
-variables_below w p (Kind.Class how) n a r e clear h = absurd (never_fits p e)
-variables_below w p k n a r e clear h = λ x i. h x (in_left (var_names a) (var_names r) x i)
+declares_none_by_var : (inner xs : List Text) → xs ≡ [] → Apart xs inner
+declares_none_by_var inner xs e = subst (λ ys. Apart ys inner) (sym e) (λ x f. absurd (true≢false (sym f)))
+
+pub variables_below : (w : Around) (p : Place) (k : Kind) (n : Note) (a r : Forest) → fits p (sort_of k) ≡ true → well_placed (place_below p k) 0 a ≡ true → has_plain_values a ≡ true → ClearAt k a
+    → Apart (var_names (node k n a r)) w.inner → Apart (var_names a) (entered w k a).inner
+variables_below w p (Kind.Program source) n a r e o v clear h = apart_nothing (var_names a)
+variables_below w p (Kind.Function f pure) n a r e o v clear h = apart_nothing (var_names a)
+variables_below w p Kind.BlockStatement n a r e o v clear h = apart_of_both (names_in (lexical a)) (var_names a) w.inner clear (λ x i. h x (in_left (var_names a) (var_names r) x i))
+variables_below w p Kind.Cases n a r e o v clear h = apart_of_both (names_in (lexical a)) (var_names a) w.inner clear (λ x i. h x (in_left (var_names a) (var_names r) x i))
+variables_below w p Kind.ForStatement n a r e o v clear h = apart_of_both (names_in (lexical (first_of a))) (var_names a) w.inner clear (λ x i. h x (in_left (var_names a) (var_names r) x i))
+variables_below w p Kind.CatchClause n a r e o v clear h = apart_of_both (bound_names (first_of a)) (var_names a) w.inner clear (λ x i. h x (in_left (var_names a) (var_names r) x i))
+variables_below w p (Kind.VariableDeclaration variable.Var) n a r e o v clear h = λ x i. h x (in_left (bound_names a ++ var_names a) (var_names r) x (in_right (bound_names a) (var_names a) x i))
+variables_below w p (Kind.VariableDeclaration variable.Let) n a r e o v clear h = declares_none_by_var w.inner (var_names a) (in_declaration 0 a o v)
+variables_below w p (Kind.VariableDeclaration variable.Const) n a r e o v clear h = declares_none_by_var w.inner (var_names a) (in_declaration 0 a o v)
+variables_below w p (Kind.Class how) n a r e o v clear h = absurd (never_fits p e)
+variables_below w p k n a r e o v clear h = λ x i. h x (in_left (var_names a) (var_names r) x i)
 
 -- ---- what a list of statements declares
 
