@@ -3,15 +3,25 @@ use Rattle.std.proofs.Common.{◌≡◌, ◌↔◌, ◌∙◌, true, ◌&&◌, r
 use Rattle.js_syntax.specs.declared.node_kind.NodeKind.{NodeKind as Kind}
 use Rattle.js_syntax.specs.Node.{Forest, Tree, Note, nothing, node, absent, nowhere, bare}
 use Rattle.js_meaning_near.specs.Local.{IsField}
-use Rattle.steps_allowed.specs.Branches.{declares_none_at, declares_none}
+use Rattle.steps_allowed.specs.Branches.{lets_only_at, lets_only, stays_inside_at, stays_inside, declares_none_at, declares_none}
 use Rattle.steps_allowed.specs.DeadIf.{DeadIf, nothing_is_run}
 use Rattle.steps_allowed.specs.KnownIf.{KnownIf, consequent_is_run, alternate_is_run}
 use Rattle.headline.proofs.RenotedKnown.{truth_bare}
 
+lets_bare : (t : Forest) → lets_only (bare t) ≡ lets_only t
+lets_bare nothing = refl
+lets_bare (absent rest) = lets_bare rest
+lets_bare (node k n below rest) = ap₂ (λ x y. lets_only_at k x && y) (lets_bare below) (lets_bare rest)
+
+inside_bare : (t : Forest) → stays_inside (bare t) ≡ stays_inside t
+inside_bare nothing = refl
+inside_bare (absent rest) = inside_bare rest
+inside_bare (node k n below rest) = ap₂ (λ x y. x && y) (ap₂ (λ x y. stays_inside_at k x y) (lets_bare below) (inside_bare below)) (inside_bare rest)
+
 declares_bare : (t : Forest) → declares_none (bare t) ≡ declares_none t
 declares_bare nothing = refl
 declares_bare (absent rest) = declares_bare rest
-declares_bare (node k n below rest) = ap₂ (λ x y. declares_none_at k x && y) (declares_bare below) (declares_bare rest)
+declares_bare (node k n below rest) = ap₂ (λ x y. x && y) (ap₂ (λ x y. declares_none_at k x y) (inside_bare below) (declares_bare below)) (declares_bare rest)
 
 field_bare : (t : Forest) → IsField (bare t) ↔ IsField t
 field_bare nothing = (λ h. h, λ h. h)

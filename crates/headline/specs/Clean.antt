@@ -75,9 +75,9 @@ pub data IsDead (t : Forest) : Around → Option Tree → Type 0 where
   -- an operation that doesn't act, of which the value is known and has a literal: the operation does nothing that the literal doesn't
   a_known_operation : (a : Around) (x y : Tree) → KnownOperation a x y → IsDead t a (Some x)
   -- an `if` whose condition does nothing but give a value, of which its form tells whether it is true, if the branch that runs may stand
-  -- in its place and the other one declares no name: that one never runs
+  -- in its place and the other one declares no name around it: that one never runs
   a_known_if : (a : Around) (x y : Tree) → KnownIf x y → IsDead t a (Some x)
-  -- such an `if` with no branch to run, whose only branch declares no name: it does nothing
+  -- such an `if` with no branch to run, whose only branch declares no name around it: it does nothing
   a_dead_if : (a : Around) (x y : Tree) → DeadIf x y → IsDead t a (Some x)
 
 -- No part of the program is dead code.

@@ -4,7 +4,7 @@ use Rattle.js_syntax.specs.declared.node_kind.NodeKind.{NodeKind as Kind}
 use Rattle.js_syntax.specs.declared.node_kind.NodeKind.TheVariants.{IfStatement as if_statement, EmptyStatement as empty_statement, ExpressionStatement as expression_statement, BlockStatement as block_statement, BreakStatement as break_statement, ContinueStatement as continue_statement, ReturnStatement as return_statement, ThrowStatement as throw_statement, SwitchStatement as switch_statement, TryStatement as try_statement}
 use Rattle.js_syntax.specs.Node.{Forest, Note, Tree, nothing, node, absent, forest_of}
 use Rattle.scope_laws.specs.Place as places
-use Rattle.steps_allowed.specs.Branches.{is_branch, declares_none_at, declares_none}
+use Rattle.steps_allowed.specs.Branches.{is_branch}
 use Rattle.steps_allowed.specs.DeadIf.{DeadIf, nothing_is_run}
 use Rattle.steps_allowed.specs.KnownConditional.{truth_known}
 use Rattle.steps_allowed.specs.KnownIf.{KnownIf, consequent_is_run, alternate_is_run}

@@ -2,19 +2,18 @@
 ghost use Rattle.std.specs.Prelude.{◌≡◌};
 ghost use Rattle.js_syntax.specs.Node.{row};
 ghost use Rattle.min_traverse.specs.Lawful.{Does};
-ghost use Rattle.steps_allowed.specs.Branches.{is_branch, declares_none};
+ghost use Rattle.steps_allowed.specs.Branches.{is_branch};
 ghost use Rattle.steps_allowed.specs.KnownConditional.{truth_known};
 ghost use Rattle.rules_expressions.specs.Ifs.{fold_if};
-ghost use Rattle.min_statements.specs.Ifs.{branches_of, told_branches, declares_no_name, index_if, one_of_two, one_or_none, branch_at};
+ghost use Rattle.min_statements.specs.Ifs.{branches_of, told_branches, index_if, one_of_two, one_or_none, branch_at};
 
 use crate::emptied::put_empty;
-use js_syntax::{ClassKind, FunctionKind, NodeKind};
+use crate::inside::declares_no_name;
+use js_syntax::NodeKind;
 use js_tree::Node;
 use min_context::MinifierTraverseCtx;
 use min_expressions::{keep_child, truth_known};
 use std::alloc::Global;
-
-// ---- what may take the place of the whole, and what may leave
 
 // A statement that means the same wherever one may stand.
 fn is_branch(kind: &NodeKind) -> bool
@@ -33,35 +32,6 @@ fn is_branch(kind: &NodeKind) -> bool
         | NodeKind::TryStatement => true,
         _ => false,
     }
-}
-
-// Whether nothing declares a name, outside of functions and classes. The recursion goes as deep as the tree.
-#[cycle(declares)]
-fn declares_no_name(node: &Node) -> bool
-    ensures { result ≡ declares_no_name node.now }
-{
-    match node.kind() {
-        NodeKind::BindingName(_) => false,
-        NodeKind::Function { kind, .. } => !matches!(kind, FunctionKind::Declaration),
-        NodeKind::Class(kind) => !matches!(kind, ClassKind::Declaration),
-        _ => declares_none(node.children()),
-    }
-}
-
-#[cycle(declares)]
-fn declares_none(children: &[Option<Node>]) -> bool
-    ensures { result ≡ declares_none (row children.now) }
-{
-    let mut rest = children;
-    while let [first, others @ ..] = rest {
-        if let Some(node) = first {
-            if !declares_no_name(node) {
-                return false;
-            }
-        }
-        rest = others;
-    }
-    true
 }
 
 // ---- the branches
@@ -147,7 +117,7 @@ fn branch_at(node: &Node, alloc: Global) -> Option<Option<usize>>
 }
 
 /// An `if` on a test that is known becomes the branch that runs, if that means the same wherever it stands and the other one declares no
-/// name; and empty, if there is no branch to run. The context is told.
+/// name around it; and empty, if there is no branch to run. The context is told.
 pub fn try_fold_if(node: &mut Node, ctx: &mut MinifierTraverseCtx) -> bool
     ensures does { Does fold_if ctx.old node.old result ctx.new node.new }
 {

@@ -15,6 +15,7 @@ mod emptied;
 mod facts;
 mod goes;
 mod ifs;
+mod inside;
 mod names;
 mod statements;
 mod trimmed;

@@ -3,7 +3,7 @@ ghost use Rattle.std.specs.Prelude.{◌≡◌, codes, [], ◌∷◌, true};
 ghost use Rattle.js_syntax.specs.declared.operator.BinaryOperator.TheVariants as binary_operator;
 ghost use Rattle.js_syntax.specs.declared.operator.LogicalOperator.TheVariants as logical_operator;
 ghost use Rattle.js_syntax.specs.declared.operator.UnaryOperator.TheVariants as unary_operator;
-ghost use Rattle.form_rules.specs.Samples.{a_module, a, no, reads, one, does, calls, let_, block};
+ghost use Rattle.form_rules.specs.Samples.{a_module, a, no, reads, one, does, calls, let_, var_, block};
 ghost use Rattle.scope_rules.specs.Samples.{b};
 ghost use Rattle.steps_allowed.specs.Rows.{null, conditional, either_way, empty, with_a};
 ghost use Rattle.rules_expressions.specs.Samples.{left, left_of, doing, uses, member, logical, binary, unary, parenthesized, array, spread, sequence, indirect, empty_text, a_function, object, keyed, computed, number, word, truth, endless};
@@ -168,7 +168,8 @@ pub fn operations_without_a_literal()
 {}
 
 /// A statement `if` on a test that is known becomes the branch that runs, at any depth, or empty where none does. It stays where the
-/// other branch declares a name, a block's own name too, where a loop would come out of it, and where its test acts or isn't known.
+/// other branch declares a name around it, as `var` does in a block and `let` doesn't, where a loop would come out of it, and where its
+/// test acts or isn't known.
 pub fn ifs_left()
     ensures holds { left (a_module (either_way one (does (reads a)) (does (reads b)) ∷ [])) ≡ doing (reads a) }
     ensures fails { left (a_module (either_way null (does (reads a)) (does (reads b)) ∷ [])) ≡ doing (reads b) }
@@ -176,7 +177,8 @@ pub fn ifs_left()
     ensures block { left (a_module (either_way (array []) (block (does (reads a) ∷ [])) no ∷ [])) ≡ a_module (block (does (reads a) ∷ []) ∷ []) }
     ensures negated { left (a_module (either_way (unary unary_operator.LogicalNot one) (does (reads a)) no ∷ [])) ≡ a_module (empty ∷ []) }
     ensures nested { left (a_module (either_way one (either_way null (does (reads a)) (does (reads b))) no ∷ [])) ≡ doing (reads b) }
-    ensures declares { left (a_module (either_way null (block (let_ a ∷ [])) no ∷ [])) ≡ a_module (either_way null (block (let_ a ∷ [])) no ∷ []) }
+    ensures inside { left (a_module (either_way null (block (let_ a ∷ [])) no ∷ [])) ≡ a_module (empty ∷ []) }
+    ensures declares { left (a_module (either_way null (block (var_ a ∷ [])) no ∷ [])) ≡ a_module (either_way null (block (var_ a ∷ [])) no ∷ []) }
     ensures endless { left (a_module (either_way one (endless (does (reads a))) no ∷ [])) ≡ a_module (either_way one (endless (does (reads a))) no ∷ []) }
     ensures unknown { left (a_module (either_way (reads b) (does (reads a)) no ∷ [])) ≡ a_module (either_way (reads b) (does (reads a)) no ∷ []) }
     ensures acting { left (a_module (either_way (array (calls (reads b) ∷ [])) (does (reads a)) no ∷ [])) ≡ a_module (either_way (array (calls (reads b) ∷ [])) (does (reads a)) no ∷ []) }

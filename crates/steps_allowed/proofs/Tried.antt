@@ -9,7 +9,7 @@ use Rattle.js_syntax.specs.declared.value.Key.TheVariants as key
 use Rattle.js_syntax.specs.declared.value.LiteralValue.{LiteralValue}
 use Rattle.js_syntax.specs.declared.value.LiteralValue.TheVariants as value
 use Rattle.js_syntax.specs.Node.{Forest, Tree, Note, nothing, node, absent, nowhere, joined}
-use Rattle.form_rules.specs.Samples.{a_module, a, binds, reads, listed, no, one, does, declares, let_, function_a, block}
+use Rattle.form_rules.specs.Samples.{a_module, a, binds, reads, listed, no, one, does, declares, let_, var_, function_a, block}
 use Rattle.scope_rules.specs.Context.{body_of}
 use Rattle.scope_rules.specs.Binding.{named_in}
 use Rattle.scope_laws.specs.Place.{Around, first, behind, under}
@@ -121,6 +121,12 @@ dead_if_empties_alone = becomes consequent _ _ (dead_if (nothing_is_run nowhere 
 
 pub negated_if_empties : Edit (a_module (either_way (applied unary.LogicalNot (array [])) (does call_of_a) no ∷ [])) (a_module (empty ∷ []))
 negated_if_empties = becomes (before []) _ _ (dead_if (nothing_is_run nowhere nowhere nowhere nowhere _ _ _ _ refl refl))
+
+pub dead_let_empties : Edit (a_module (if_null (block (let_ a ∷ [])) no ∷ [])) (a_module (empty ∷ []))
+dead_let_empties = becomes (before []) _ _ (dead_if (nothing_is_run nowhere nowhere nowhere nowhere _ _ _ _ refl refl))
+
+pub dead_var_stays : (y : Tree) → DeadIf (an_if nowhere (Kind.Literal value.Null) nowhere nothing (joined (block (var_ a ∷ [])) no)) y → ⊥
+dead_var_stays y (nothing_is_run n m i o t k b c truth none) = absurd cc
 
 pub dead_function_stays : (y : Tree) → DeadIf (an_if nowhere (Kind.Literal value.Null) nowhere nothing (joined (block (function_a [] [] ∷ [])) no)) y → ⊥
 dead_function_stays y (nothing_is_run n m i o t k b c truth none) = absurd cc

@@ -1,9 +1,10 @@
 -- Which branches of an `if` may stand in its place, and which may be left out.
 use Rattle.std.specs.Prelude.{Bool, true, false, ◌&&◌}
 use Rattle.js_syntax.specs.declared.node_kind.NodeKind.{NodeKind as Kind}
-use Rattle.js_syntax.specs.declared.node_kind.NodeKind.TheVariants.{EmptyStatement as empty_statement, ExpressionStatement as expression_statement, BlockStatement as block_statement, IfStatement as if_statement, BreakStatement as break_statement, ContinueStatement as continue_statement, ReturnStatement as return_statement, ThrowStatement as throw_statement, SwitchStatement as switch_statement, TryStatement as try_statement, Function as function, Class as class, BindingName as binding_name}
+use Rattle.js_syntax.specs.declared.node_kind.NodeKind.TheVariants.{EmptyStatement as empty_statement, ExpressionStatement as expression_statement, BlockStatement as block_statement, IfStatement as if_statement, BreakStatement as break_statement, ContinueStatement as continue_statement, ReturnStatement as return_statement, ThrowStatement as throw_statement, SwitchStatement as switch_statement, TryStatement as try_statement, Function as function, Class as class, VariableDeclaration as variable_declaration, BindingName as binding_name}
 use Rattle.js_syntax.specs.declared.kind.FunctionKind.TheVariants as function_kind
 use Rattle.js_syntax.specs.declared.kind.ClassKind.TheVariants as class_kind
+use Rattle.js_syntax.specs.declared.kind.VariableKind.TheVariants as variable
 use Rattle.js_syntax.specs.Node.{Forest, nothing, node, absent}
 
 -- statements that mean the same wherever one may stand: a label has another meaning in front of a loop (14.13)
@@ -20,16 +21,49 @@ is_branch switch_statement = true
 is_branch try_statement = true
 is_branch k = false
 
--- whether nothing in a row declares a name, outside of functions and classes
-abbrev pub declares_none_at : Kind → (below : Bool) → Bool
-declares_none_at (binding_name x) below = false
-declares_none_at (function function_kind.Declaration pure) below = false
-declares_none_at (function how pure) below = true
-declares_none_at (class class_kind.Declaration) below = false
-declares_none_at (class class_kind.Expression) below = true
-declares_none_at k below = below
+-- Whether nothing in a row declares a name around it, outside of functions and classes. What `let`, `const` and classes declare in a block
+-- they declare in it alone (ECMA-262 14.2.2); what `var` declares there is one of the function around (14.3.2), and a function that is
+-- declared there may be (B.3.2).
+
+-- of the declarators of `let` and `const`
+abbrev pub lets_only_at : Kind → (below : Bool) → Bool
+lets_only_at (variable_declaration how) below = false
+lets_only_at (function function_kind.Declaration pure) below = false
+lets_only_at (function how pure) below = true
+lets_only_at (class class_kind.Declaration) below = false
+lets_only_at (class class_kind.Expression) below = true
+lets_only_at k below = below
+
+abbrev pub lets_only : Forest → Bool
+lets_only nothing = true
+lets_only (absent rest) = lets_only rest
+lets_only (node k n below rest) = lets_only_at k (lets_only below) && lets_only rest
+
+-- of what stands in a block
+abbrev pub stays_inside_at : Kind → (lets below : Bool) → Bool
+stays_inside_at (binding_name x) lets below = false
+stays_inside_at (variable_declaration variable.Var) lets below = false
+stays_inside_at (variable_declaration how) lets below = lets
+stays_inside_at (function function_kind.Declaration pure) lets below = false
+stays_inside_at (function how pure) lets below = true
+stays_inside_at (class how) lets below = true
+stays_inside_at k lets below = below
+
+abbrev pub stays_inside : Forest → Bool
+stays_inside nothing = true
+stays_inside (absent rest) = stays_inside rest
+stays_inside (node k n below rest) = stays_inside_at k (lets_only below) (stays_inside below) && stays_inside rest
+
+abbrev pub declares_none_at : Kind → (inside below : Bool) → Bool
+declares_none_at (binding_name x) inside below = false
+declares_none_at (function function_kind.Declaration pure) inside below = false
+declares_none_at (function how pure) inside below = true
+declares_none_at (class class_kind.Declaration) inside below = false
+declares_none_at (class class_kind.Expression) inside below = true
+declares_none_at block_statement inside below = inside
+declares_none_at k inside below = below
 
 abbrev pub declares_none : Forest → Bool
 declares_none nothing = true
 declares_none (absent rest) = declares_none rest
-declares_none (node k n below rest) = declares_none_at k (declares_none below) && declares_none rest
+declares_none (node k n below rest) = declares_none_at k (stays_inside below) (declares_none below) && declares_none rest

@@ -1,5 +1,5 @@
 -- An `if` on a test that does nothing but give a value, of which it is known by its form that it is false, becomes empty where it has no
--- other branch and this one declares no name (ECMA-262 14.6).
+-- other branch and this one declares no name around it (ECMA-262 14.6).
 use Rattle.std.specs.Prelude.{◌≡◌, true, false, Some}
 use Rattle.js_syntax.specs.declared.node_kind.NodeKind.{NodeKind as Kind}
 use Rattle.js_syntax.specs.declared.node_kind.NodeKind.TheVariants.{EmptyStatement as empty_statement}

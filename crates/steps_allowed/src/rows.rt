@@ -7,7 +7,7 @@ ghost use Rattle.js_syntax.specs.declared.operator.LogicalOperator.TheVariants a
 ghost use Rattle.js_syntax.specs.declared.operator.UnaryOperator.TheVariants as unary;
 ghost use Rattle.js_syntax.specs.declared.value.LiteralValue.TheVariants as value;
 ghost use Rattle.js_syntax.specs.Node.{Tree, nothing, nowhere, joined};
-ghost use Rattle.form_rules.specs.Samples.{a_module, a, binds, reads, listed, no, one, does, declares, let_, function_a, block};
+ghost use Rattle.form_rules.specs.Samples.{a_module, a, binds, reads, listed, no, one, does, declares, let_, var_, function_a, block};
 ghost use Rattle.scope_rules.specs.Context.{body_of};
 ghost use Rattle.scope_rules.specs.Binding.{named_in};
 ghost use Rattle.scope_laws.specs.Place.{Around};
@@ -65,11 +65,14 @@ pub fn known_branches_are_taken()
     ensures if_object { Edit (a_module (either_way (array []) (does call_of_a) (does (reads a)) ∷ [])) (a_module (does call_of_a ∷ [])) }
 {}
 
-/// An `if` with no branch to take becomes empty, but where it declares a function, or its test acts.
+/// An `if` with no branch to take becomes empty, but where it declares a function or, by `var`, a variable of the function around,
+/// or its test acts. What `let` declares in a block is of that block alone.
 pub fn dead_ifs_become_empty()
     ensures call { Edit (a_module (if_null (does call_of_a) no ∷ [])) (a_module (empty ∷ [])) }
     ensures alone { Edit (a_module (if_one (if_null (does call_of_a) no) ∷ [])) (a_module (if_one empty ∷ [])) }
     ensures negated { Edit (a_module (either_way (applied unary.LogicalNot (array [])) (does call_of_a) no ∷ [])) (a_module (empty ∷ [])) }
+    ensures with_let { Edit (a_module (if_null (block (let_ a ∷ [])) no ∷ [])) (a_module (empty ∷ [])) }
+    ensures with_var { (y : Tree) → DeadIf (an_if nowhere (Kind.Literal value.Null) nowhere nothing (joined (block (var_ a ∷ [])) no)) y → ⊥ }
     ensures function { (y : Tree) → DeadIf (an_if nowhere (Kind.Literal value.Null) nowhere nothing (joined (block (function_a [] [] ∷ [])) no)) y → ⊥ }
     ensures acting { (y : Tree) → DeadIf (an_if nowhere (Kind.UnaryExpression unary.LogicalNot) nowhere (array (call_of_a ∷ [])) (joined (does call_of_a) no)) y → ⊥ }
 {}

@@ -19,7 +19,7 @@ use Rattle.steps_keep_form.proofs.Rows.{is_other}
 use Rattle.steps_owed.specs.Owed.{is_read_name, ByParts, Becoming}
 use Rattle.steps_owed.specs.TakesPlace.{is_told_by_class}
 use Rattle.steps_owed.proofs.BranchKinds.{no_statement}
-use Rattle.steps_owed.proofs.Expressions.{expression_declares_none, expression_declares_nothing}
+use Rattle.steps_owed.proofs.Expressions.{expression_declares_none, expression_stays_outside, expression_declares_nothing}
 use Rattle.steps_owed.proofs.FitsBecoming.{told_no_list, becoming_fits}
 use Rattle.steps_owed.proofs.PartForm.{nothing_declared, replaced_sheds}
 use Rattle.steps_owed.proofs.RebuiltCounts.{rebuilt_kept}
@@ -64,8 +64,8 @@ module _ (a : Around) (x y : Tree) (owed : ByParts a x y) (fits : Fits root (plu
     unasked = owed.unasked fits;
     old_expression = no_statement x.kind x.below old_fits.0;
     expression = is_expression;
-    none = λ s p. nothing_declared s p (forest_of x) (expression_declares_none (forest_of x) old_fits);
-    still_none = λ s p. nothing_declared s p (forest_of y) (expression_declares_none (forest_of y) new_fits);
+    none = λ s p. nothing_declared s p (forest_of x) (expression_stays_outside s (forest_of x) old_fits) (expression_declares_none (forest_of x) old_fits);
+    still_none = λ s p. nothing_declared s p (forest_of y) (expression_stays_outside s (forest_of y) new_fits) (expression_declares_none (forest_of y) new_fits);
     laid_out = laid;
   }
 

@@ -32,7 +32,7 @@ use Rattle.steps_owed.proofs.FitsTaking.{as_if, if_stood}
 use Rattle.steps_owed.proofs.KnownIf.{tested_row}
 use Rattle.steps_owed.proofs.KnownTests.{test_tells, test_weighs}
 use Rattle.steps_owed.proofs.Outward.{declares_nothing}
-use Rattle.steps_owed.proofs.PartForm.{nothing_declared, emptied_if_sheds}
+use Rattle.steps_owed.proofs.PartForm.{nothing_declared, if_stays_outside, emptied_if_sheds}
 use Rattle.steps_owed.proofs.Places.{inside_program}
 use Rattle.steps_owed.proofs.Undeclared.{no_names, both_plainly}
 use Rattle.steps_owed.proofs.Unseen.{enclosed_alone_there}
@@ -80,7 +80,7 @@ module _ (a : Around) (n m i o : Note) (t k : Kind) (d b : Forest) (truth : trut
     no_call = record { counts = refl; lists = λ j. refl; begins = λ j. refl; calls = refl };
     may_change = refl;
     fits = becoming_fits a x y takes;
-    sheds = λ fits. emptied_if_sheds a n o below (λ s at. nothing_declared s at (forest_of x) (none_there fits)) fits;
+    sheds = λ fits. emptied_if_sheds a n o below (λ s at. nothing_declared s at (forest_of x) (if_stays_outside s n below) (none_there fits)) fits;
     kept = λ fits s kept. idle_empties a x (idle fits) (fits_program (plug a (Some x)) fits) (inside_program a x (fits_program (plug a (Some x)) fits) (λ rest. refl)) o s kept;
     runs = by_coming (λ p q r is fits form core. comes (no_imports_below p q r a x y is fits form core if_statement refl refl (λ s j. refl)) (none_below (subst (Fits root) (sym is) fits)));
   }

@@ -1,22 +1,25 @@
 -- In trees that fit the table of node types expressions declare no name outside of functions and classes.
-use Rattle.std.proofs.Common.{◌≡◌, ℕ, suc, [], ◌∷◌, Bool, true, false, not, ◌&&◌, ◌||◌, refl}
+use Rattle.std.proofs.Common.{◌≡◌, ℕ, suc, [], ◌∷◌, Bool, true, false, not, ◌&&◌, ◌||◌, refl, sym, true≢false}
 use Rattle.js_syntax.specs.Class.{Class, root, method_value, private_key, expression, expression_or_private, callee, argument, object_item, chain_part, template, quasi_item, simple_target, target, target_value, target_element, target_item}
 use Rattle.js_syntax.specs.declared.node_kind.NodeKind.{NodeKind as Kind}
-use Rattle.js_syntax.specs.declared.node_kind.NodeKind.TheVariants.{Function as function, Class as class, BindingName as binding_name}
+use Rattle.js_syntax.specs.declared.node_kind.NodeKind.TheVariants.{Function as function, Class as class, BlockStatement as block_statement, BindingName as binding_name}
 use Rattle.js_syntax.specs.declared.kind.FunctionKind.TheVariants as function_kind
 use Rattle.js_syntax.specs.declared.kind.ClassKind.TheVariants as class_kind
 use Rattle.js_syntax.specs.Node.{Forest, nothing, node, absent}
 use Rattle.js_syntax.specs.Table.{Row, a_program, a_function_expression, an_arrow_function, a_class_expression, a_reference_name, a_target_name, a_private_name, a_literal, a_reg_exp, a_this_expression, a_super, an_array_expression, an_object_expression, a_property, a_method_property, a_sequence_expression, a_unary_expression, an_update_expression, a_binary_expression, an_in_expression, a_logical_expression, an_assignment_expression, a_compound_assignment, a_conditional_expression, a_call_expression, a_new_expression, a_member_expression, a_chain_expression, a_parenthesized_expression, a_parenthesized_target, a_template_literal, a_template_element, a_tagged_template_expression, a_spread_element, a_target_rest, a_target_object, a_target_array, a_target_property, a_target_default, a_new_target, an_import_meta, an_import_expression, fields_of}
 use Rattle.js_syntax.proofs.Truth.{first_of_both, second_of_both, both}
+use Rattle.form_rules.specs.declared.sought.Sought.{Sought}
+use Rattle.form_rules.specs.declared.sought.Sought.TheVariants.{CatchScope as catch_scope}
 use Rattle.json_shape.specs.Shape.{Values, kind_in, first_of, one, these, Fits}
 use Rattle.json_shape.proofs.Choice.{is_list_kind}
-use Rattle.steps_allowed.specs.Branches.{declares_none_at, declares_none}
+use Rattle.steps_allowed.specs.Branches.{stays_inside, declares_none_at, declares_none}
 use Rattle.steps_fit.proofs.CoreCalm.{rows_of}
 use Rattle.steps_fit.proofs.CoreRows.{takes_such, if_so, fields_pass}
 use Rattle.steps_fit.proofs.Enclosing.{enclosed}
 use Rattle.steps_fit.proofs.Shut.{shut, takes_marked, shut_as_planned}
 use Rattle.steps_owed.specs.Part.{DeclaresNothing}
 use Rattle.steps_owed.proofs.Outward.{declares_nothing}
+use Rattle.steps_owed.proofs.PartForm.{keeps_outside, stays_outside}
 
 -- ---- expressions, and what they are made of down to functions and classes
 
@@ -82,10 +85,12 @@ in_expression an_import_meta = true
 in_expression an_import_expression = true
 in_expression r = false
 
+-- A block counts too, since it may have a scope of its own.
 abbrev declares_itself : Kind → Bool
 declares_itself (binding_name x) = true
 declares_itself (function function_kind.Declaration pure) = true
 declares_itself (class class_kind.Declaration) = true
+declares_itself block_statement = true
 declares_itself k = false
 
 -- what lies in a function or class doesn't matter
@@ -113,6 +118,7 @@ lists : (kind : Kind) → is_list_kind kind ≡ true → not (declares_itself ki
 lists (binding_name x) h = absurd cc
 lists (function how pure) h = absurd cc
 lists (class how) h = absurd cc
+lists block_statement h = absurd cc
 lists kind h = refl
 
 fields : (r : Row) (vs : Values (fields_of r)) → in_expression r ≡ true → keeps_it r (kind_in r vs) ≡ true
@@ -125,24 +131,44 @@ shut_declares at (node k n below rest) h =
     let inner = shut declares_itself lets (λ i. lets k i) 0 below in
     let later = shut declares_itself lets (λ i. true) (suc at) rest in
     let further = second_of_both (not (declares_itself k)) (inner && later) h in
-    both (declares_none_at k (declares_none below)) (declares_none rest)
+    both (declares_none_at k (stays_inside below) (declares_none below)) (declares_none rest)
     (here k below (first_of_both (not (declares_itself k)) (inner && later) h) (first_of_both inner later further) (shut_declares 0 below))
     (shut_declares (suc at) rest (second_of_both inner later further))
   where
     here : (k : Kind) (below : Forest) → not (declares_itself k) ≡ true → shut declares_itself lets (λ i. lets k i) 0 below ≡ true
-        → (shut declares_itself lets (λ i. true) 0 below ≡ true → declares_none below ≡ true) → declares_none_at k (declares_none below) ≡ true
+        → (shut declares_itself lets (λ i. true) 0 below ≡ true → declares_none below ≡ true) → declares_none_at k (stays_inside below) (declares_none below) ≡ true
     here (binding_name x) below h e f = h
     here (function function_kind.Declaration pure) below h e f = h
     here (function how pure) below h e f = refl
     here (class class_kind.Declaration) below h e f = h
     here (class class_kind.Expression) below h e f = refl
+    here block_statement below h e f = absurd (true≢false (sym h))
     here k below h e f = f e
 
--- an expression of the table
+-- nothing of the row is a block
+shut_outside : (s : Sought) (at : ℕ) (t : Forest) → shut declares_itself lets (λ i. true) at t ≡ true → stays_outside s t ≡ true
+shut_outside s at nothing h = refl
+shut_outside s at (absent rest) h = shut_outside s (suc at) rest h
+shut_outside s at (node k n below rest) h =
+    let inner = shut declares_itself lets (λ i. lets k i) 0 below in
+    let later = shut declares_itself lets (λ i. true) (suc at) rest in
+    both (keeps_outside s k) (stays_outside s rest) (here s k (first_of_both (not (declares_itself k)) (inner && later) h))
+    (shut_outside s (suc at) rest (second_of_both inner later (second_of_both (not (declares_itself k)) (inner && later) h)))
+  where
+    here : (s : Sought) (k : Kind) → not (declares_itself k) ≡ true → keeps_outside s k ≡ true
+    here (catch_scope fs) block_statement h = h
+    here s k h = refl
+
+-- ---- an expression of the table
+
+expression_shut : (t : Forest) → Fits expression t → shut declares_itself lets (λ i. true) 0 t ≡ true
+expression_shut t fits = shut_as_planned declares_itself lets of_expression in_expression lists refl (rows_of of_expression in_expression closed others) fields t (λ i. true) 0 (these (one expression ∷ [])) refl fits
+
 pub expression_declares_none : (t : Forest) → Fits expression t → declares_none t ≡ true
-expression_declares_none t fits =
-    shut_declares 0 t
-    (shut_as_planned declares_itself lets of_expression in_expression lists refl (rows_of of_expression in_expression closed others) fields t (λ i. true) 0 (these (one expression ∷ [])) refl fits)
+expression_declares_none t fits = shut_declares 0 t (expression_shut t fits)
+
+pub expression_stays_outside : (s : Sought) (t : Forest) → Fits expression t → stays_outside s t ≡ true
+expression_stays_outside s t fits = shut_outside s 0 t (expression_shut t fits)
 
 pub expression_declares_nothing : (t : Forest) → Fits expression t → DeclaresNothing t
 expression_declares_nothing t fits = declares_nothing t (expression_declares_none t fits) (enclosed t (these (one expression ∷ [])) refl fits)

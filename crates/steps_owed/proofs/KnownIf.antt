@@ -13,7 +13,7 @@ use Rattle.known_tests.proofs.Taken.{statement_holds, statement_fails}
 use Rattle.form_rules.specs.Scope.{sought_below}
 use Rattle.scope_counts.proofs.Leaving.{if_is_plain}
 use Rattle.scope_laws.specs.Place.{Around, plug}
-use Rattle.steps_allowed.specs.Branches.{declares_none_at, declares_none}
+use Rattle.steps_allowed.specs.Branches.{stays_inside, declares_none_at, declares_none}
 use Rattle.steps_allowed.specs.KnownIf.{an_if, KnownIf, consequent_is_run, alternate_is_run}
 use Rattle.steps_allowed.specs.Wanted.{wanted_at}
 use Rattle.js_syntax.proofs.Truth.{both, first_of_both}
@@ -33,7 +33,7 @@ use Rattle.steps_owed.proofs.FitsTaking.{as_if, if_stood, if_below}
 use Rattle.steps_owed.proofs.Inside.{enclosed_here, enclosed_below, enclosed_rest}
 use Rattle.steps_owed.proofs.KnownTests.{test_tells}
 use Rattle.steps_owed.proofs.Outward.{declares_row, declares_nothing}
-use Rattle.steps_owed.proofs.PartForm.{Stands, nothing_declared}
+use Rattle.steps_owed.proofs.PartForm.{Stands, nothing_declared, outside_below}
 use Rattle.steps_owed.proofs.Undeclared.{no_names, DeclaresNothing, alone_plainly, last_plainly}
 use Rattle.steps_owed.proofs.Unseen.{enclosed_there}
 
@@ -60,7 +60,7 @@ if_takes x y (alternate_is_run n m i j t k l d b c truth branch none) = record {
 
 -- the test is an expression, which declares nothing
 pub tested_row : (t : Kind) (m : Note) (d r : Forest) → declares_none (node t m d nothing) ≡ true → declares_none r ≡ true → declares_none (node t m d r) ≡ true
-tested_row t m d r h g = both (declares_none_at t (declares_none d)) (declares_none r) (first_of_both (declares_none_at t (declares_none d)) true h) g
+tested_row t m d r h g = both (declares_none_at t (stays_inside d) (declares_none d)) (declares_none r) (first_of_both (declares_none_at t (stays_inside d) (declares_none d)) true h) g
 
 pub test_gone : (t : Kind) (m : Note) (d r : Forest) → declares_none (node t m d nothing) ≡ true → ((source : Text) → import_decls source (node t m d r) ≡ []) → DeclaresNothing (node t m d nothing)
 test_gone t m d r h imports = record { bound = no_names (node t m d nothing) h; imports = λ source. imports_before source t m d r (imports source) }
@@ -76,8 +76,8 @@ if_stands x y (consequent_is_run n m i t k d b alternate taken branch one silent
       gives = refl;
       unasked = unasked.0;
       alike = unasked.1;
-      none_before = λ s p. nothing_declared (sought_below s if_statement) p (node t m d nothing) (expression_declares_none (node t m d nothing) (parts.0, tt));
-      none_after = λ s p. nothing_declared (sought_below s if_statement) p alternate silent;
+      none_before = λ s p. nothing_declared (sought_below s if_statement) p (node t m d nothing) (outside_below s if_statement (node t m d nothing)) (expression_declares_none (node t m d nothing) (parts.0, tt));
+      none_after = λ s p. nothing_declared (sought_below s if_statement) p alternate (outside_below s if_statement alternate) silent;
     }
 if_stands x y (alternate_is_run n m i j t k l d b c taken branch silent) parts =
     let unasked = branch_unasked l branch in
@@ -89,7 +89,7 @@ if_stands x y (alternate_is_run n m i j t k l d b c taken branch silent) parts =
       gives = refl;
       unasked = unasked.0;
       alike = unasked.1;
-      none_before = λ s p. nothing_declared (sought_below s if_statement) p (node t m d (node k i b nothing)) (tested_row t m d (node k i b nothing) (expression_declares_none (node t m d nothing) (parts.0, tt)) silent);
+      none_before = λ s p. nothing_declared (sought_below s if_statement) p (node t m d (node k i b nothing)) (outside_below s if_statement (node t m d (node k i b nothing))) (tested_row t m d (node k i b nothing) (expression_declares_none (node t m d nothing) (parts.0, tt)) silent);
       none_after = λ s p. refl;
     }
 

@@ -14,7 +14,7 @@ use Rattle.js_syntax.specs.declared.value.LiteralValue.{LiteralValue}
 use Rattle.js_syntax.specs.Node.{Forest, Note, nothing, node, absent}
 use Rattle.js_syntax.proofs.Truth.{first_of_both, second_of_both}
 use Rattle.scope_rules.specs.Context.{has_second}
-use Rattle.steps_allowed.specs.Branches.{declares_none_at, declares_none}
+use Rattle.steps_allowed.specs.Branches.{lets_only_at, lets_only, stays_inside_at, stays_inside, declares_none_at, declares_none}
 use Rattle.steps_fit.specs.Enclosed.{is_binding, is_var, inherits, passes, closed, begins_with_name, none, is_enclosed_at, is_enclosed}
 use Rattle.scope_counts.specs.Counts.{Aims, no_part, aims_of_body, aims_of_block, aims_of_parameters, aims_of_variables, aims_of_function_name, aims_of_class_name, naming_in, aims_inside, named, hoisted}
 use Rattle.steps_owed.specs.Part.{DeclaresNothing}
@@ -162,35 +162,182 @@ function_declares a how pure below unnamed e =
     named_first none (inherits (function how pure)) (aims_inside no_part a (function how pure) below) below unnamed (λ i h. function_inside a how (i == 0) (i == 1) (not_first i h))
     (first_of_both (begins_with_name below) (closed none (inherits (function how pure)) 0 below) e) (second_of_both (begins_with_name below) (closed none (inherits (function how pure)) 0 below) e)
 
-class_declares : (a : Aims) (below : Forest) → is_enclosed_at (class class_kind.Expression) below ≡ true → hoisted (aims_inside no_part a (class class_kind.Expression) below) 0 below ≡ []
-class_declares a below e =
-    let shut = inherits (class class_kind.Expression) in
-    named_first shut shut (aims_inside no_part a (class class_kind.Expression) below) below refl (λ i h. class_inside a class_kind.Expression (i == 0) (not_first i h))
+class_declares : (a : Aims) (how : ClassKind) (below : Forest) → (aims_of_class_name no_part a how).naming ≡ false → is_enclosed_at (class how) below ≡ true
+    → hoisted (aims_inside no_part a (class how) below) 0 below ≡ []
+class_declares a how below unnamed e =
+    let shut = inherits (class how) in
+    named_first shut shut (aims_inside no_part a (class how) below) below unnamed (λ i h. class_inside a how (i == 0) (not_first i h))
     (first_of_both (begins_with_name below) (closed shut shut 0 below) e) (second_of_both (begins_with_name below) (closed shut shut 0 below) e)
+
+-- ---- where a name declares what `let` does
+
+-- neither a name nor what declares as `let` does declares in the layer
+record Unaimed (a : Aims) : Type 0 where
+  block : a.block ≡ false
+  naming : a.naming ≡ false
+
+module _ (a : Aims) (h : Unaimed a) where
+  unaimed_part : (z : Bool) → Unaimed (if z then aims_of_block no_part a else a)
+  unaimed_part true = record { block = refl; naming = h.naming }
+  unaimed_part false = h
+
+  unaimed_parameter : (z : Bool) → Unaimed (if z then naming_in false (aims_of_block no_part a) else aims_of_block no_part a)
+  unaimed_parameter true = record { block = refl; naming = refl }
+  unaimed_parameter false = record { block = refl; naming = h.naming }
+
+  unaimed_function : (how : FunctionKind) (z o : Bool) → Unaimed (if z then aims_of_function_name no_part a how else if o then aims_of_parameters no_part else aims_of_body no_part a)
+  unaimed_function function_kind.Declaration true o = record { block = h.block; naming = h.block }
+  unaimed_function how true o = record { block = h.block; naming = refl }
+  unaimed_function how false true = record { block = refl; naming = refl }
+  unaimed_function how false false = record { block = refl; naming = h.naming }
+
+  unaimed_class : (how : ClassKind) (z : Bool) → Unaimed (if z then aims_of_class_name no_part a how else aims_of_block no_part a)
+  unaimed_class class_kind.Declaration true = record { block = h.block; naming = h.block }
+  unaimed_class class_kind.Expression true = record { block = h.block; naming = refl }
+  unaimed_class how false = record { block = refl; naming = h.naming }
+
+  unaimed_inside : (k : Kind) (below : Forest) → lets_only_at k (lets_only below) ≡ true → (i : ℕ) → Unaimed (aims_inside no_part a k below i)
+  unaimed_inside (program source) below l i = record { block = refl; naming = h.naming }
+  unaimed_inside (function how pure) below l i = unaimed_function how (i == 0) (i == 1)
+  unaimed_inside (class how) below l i = unaimed_class how (i == 0)
+  unaimed_inside static_block below l i = record { block = refl; naming = h.naming }
+  unaimed_inside (property_definition is_static key) below l i = unaimed_part (has_second below && i == 1)
+  unaimed_inside block_statement below l i = record { block = refl; naming = h.naming }
+  unaimed_inside switch_statement below l i = unaimed_part (i == 1)
+  unaimed_inside with_statement below l i = unaimed_part (i == 1)
+  unaimed_inside catch_clause below l i = unaimed_parameter (i == 0)
+  unaimed_inside for_statement below l i = record { block = refl; naming = h.naming }
+  unaimed_inside for_in_statement below l i = record { block = refl; naming = h.naming }
+  unaimed_inside for_of_statement below l i = record { block = refl; naming = h.naming }
+  unaimed_inside (variable_declaration how) below l i = absurd (true≢false (sym l))
+  unaimed_inside (import_declaration source) below l i = record { block = h.block; naming = h.block }
+  unaimed_inside k below l i = h
+
+  let_declares : (k : Kind) (n : Note) (below : Forest) → lets_only_at k (lets_only below) ≡ true → is_enclosed_at k below ≡ true
+      → (lets_only below ≡ true → (aims : ℕ → Aims) → ((i : ℕ) → Unaimed (aims i)) → hoisted aims 0 below ≡ [])
+      → named a n k ++ hoisted (aims_inside no_part a k below) 0 below ≡ []
+  let_declares (binding_name x) n below l e inner = ap₂ (λ ds es. ds ++ es) (ap (λ c. if c then record { name = x; symbol = n.id } ∷ [] else []) h.naming) (inner l (aims_inside no_part a (binding_name x) below) (λ i. h))
+  let_declares (variable_declaration how) n below l e inner = absurd (true≢false (sym l))
+  let_declares (function function_kind.Declaration pure) n below l e inner = absurd (true≢false (sym l))
+  let_declares (function function_kind.Expression pure) n below l e inner = function_declares a function_kind.Expression pure below refl e
+  let_declares (function function_kind.Arrow pure) n below l e inner = function_declares a function_kind.Arrow pure below refl e
+  let_declares (class class_kind.Declaration) n below l e inner = absurd (true≢false (sym l))
+  let_declares (class class_kind.Expression) n below l e inner = class_declares a class_kind.Expression below refl e
+  let_declares k n below l e inner = inner l (aims_inside no_part a k below) (unaimed_inside k below l)
+
+lets_declare : (t : Forest) → lets_only t ≡ true → is_enclosed t ≡ true → (aims : ℕ → Aims) → ((i : ℕ) → Unaimed (aims i)) → (at : ℕ) → hoisted aims at t ≡ []
+lets_declare nothing l e aims h at = refl
+lets_declare (absent rest) l e aims h at = lets_declare rest l e aims h (suc at)
+lets_declare (node k n below rest) l e aims h at =
+    let e_below = second_of_both (is_enclosed_at k below) (is_enclosed below && is_enclosed rest) e in
+    ap₂ (λ ds es. ds ++ es)
+    (let_declares (aims at) (h at) k n below (first_of_both (lets_only_at k (lets_only below)) (lets_only rest) l)
+    (first_of_both (is_enclosed_at k below) (is_enclosed below && is_enclosed rest) e)
+    (λ g f u. lets_declare below g (first_of_both (is_enclosed below) (is_enclosed rest) e_below) f u 0))
+    (lets_declare rest (second_of_both (lets_only_at k (lets_only below)) (lets_only rest) l) (second_of_both (is_enclosed below) (is_enclosed rest) e_below) aims h (suc at))
+
+-- ---- in a block, which has a layer of its own
+
+abbrev Apart : Aims → Type 0
+Apart a = a.block ≡ false
+
+module _ (a : Aims) (h : Apart a) where
+  apart_part : (z : Bool) → Apart (if z then aims_of_block no_part a else a)
+  apart_part true = refl
+  apart_part false = h
+
+  apart_parameter : (z : Bool) → Apart (if z then naming_in false (aims_of_block no_part a) else aims_of_block no_part a)
+  apart_parameter true = refl
+  apart_parameter false = refl
+
+  apart_function : (how : FunctionKind) (z o : Bool) → Apart (if z then aims_of_function_name no_part a how else if o then aims_of_parameters no_part else aims_of_body no_part a)
+  apart_function function_kind.Declaration true o = h
+  apart_function how true o = h
+  apart_function how false true = refl
+  apart_function how false false = refl
+
+  apart_class : (how : ClassKind) (z : Bool) → Apart (if z then aims_of_class_name no_part a how else aims_of_block no_part a)
+  apart_class class_kind.Declaration true = h
+  apart_class class_kind.Expression true = h
+  apart_class how false = refl
+
+  apart_variables : (how : VariableKind) → Apart (aims_of_variables a how)
+  apart_variables variable.Var = h
+  apart_variables variable.Let = h
+  apart_variables variable.Const = h
+
+  apart_inside : (k : Kind) (below : Forest) (i : ℕ) → Apart (aims_inside no_part a k below i)
+  apart_inside (program source) below i = refl
+  apart_inside (function how pure) below i = apart_function how (i == 0) (i == 1)
+  apart_inside (class how) below i = apart_class how (i == 0)
+  apart_inside static_block below i = refl
+  apart_inside (property_definition is_static key) below i = apart_part (has_second below && i == 1)
+  apart_inside block_statement below i = refl
+  apart_inside switch_statement below i = apart_part (i == 1)
+  apart_inside with_statement below i = apart_part (i == 1)
+  apart_inside catch_clause below i = apart_parameter (i == 0)
+  apart_inside for_statement below i = refl
+  apart_inside for_in_statement below i = refl
+  apart_inside for_of_statement below i = refl
+  apart_inside (variable_declaration how) below i = apart_variables how
+  apart_inside (import_declaration source) below i = h
+  apart_inside k below i = h
+
+  inside_declares : (k : Kind) (n : Note) (below : Forest) → stays_inside_at k (lets_only below) (stays_inside below) ≡ true → is_enclosed_at k below ≡ true
+      → (lets_only below ≡ true → (aims : ℕ → Aims) → ((i : ℕ) → Unaimed (aims i)) → hoisted aims 0 below ≡ [])
+      → (stays_inside below ≡ true → (aims : ℕ → Aims) → ((i : ℕ) → Apart (aims i)) → hoisted aims 0 below ≡ [])
+      → named a n k ++ hoisted (aims_inside no_part a k below) 0 below ≡ []
+  inside_declares (binding_name x) n below l e lets inner = absurd (true≢false (sym l))
+  inside_declares (variable_declaration variable.Var) n below l e lets inner = absurd (true≢false (sym l))
+  inside_declares (variable_declaration variable.Let) n below l e lets inner = lets l (aims_inside no_part a (variable_declaration variable.Let) below) (λ i. record { block = h; naming = h })
+  inside_declares (variable_declaration variable.Const) n below l e lets inner = lets l (aims_inside no_part a (variable_declaration variable.Const) below) (λ i. record { block = h; naming = h })
+  inside_declares (function function_kind.Declaration pure) n below l e lets inner = absurd (true≢false (sym l))
+  inside_declares (function function_kind.Expression pure) n below l e lets inner = function_declares a function_kind.Expression pure below refl e
+  inside_declares (function function_kind.Arrow pure) n below l e lets inner = function_declares a function_kind.Arrow pure below refl e
+  inside_declares (class class_kind.Declaration) n below l e lets inner = class_declares a class_kind.Declaration below h e
+  inside_declares (class class_kind.Expression) n below l e lets inner = class_declares a class_kind.Expression below refl e
+  inside_declares k n below l e lets inner = inner l (aims_inside no_part a k below) (apart_inside k below)
+
+insides_declare : (t : Forest) → stays_inside t ≡ true → is_enclosed t ≡ true → (aims : ℕ → Aims) → ((i : ℕ) → Apart (aims i)) → (at : ℕ) → hoisted aims at t ≡ []
+insides_declare nothing l e aims h at = refl
+insides_declare (absent rest) l e aims h at = insides_declare rest l e aims h (suc at)
+insides_declare (node k n below rest) l e aims h at =
+    let here = stays_inside_at k (lets_only below) (stays_inside below) in
+    let e_below = second_of_both (is_enclosed_at k below) (is_enclosed below && is_enclosed rest) e in
+    let enclosed_inside = first_of_both (is_enclosed below) (is_enclosed rest) e_below in
+    ap₂ (λ ds es. ds ++ es)
+    (inside_declares (aims at) (h at) k n below (first_of_both here (stays_inside rest) l) (first_of_both (is_enclosed_at k below) (is_enclosed below && is_enclosed rest) e)
+    (λ g f u. lets_declare below g enclosed_inside f u 0)
+    (λ g f u. insides_declare below g enclosed_inside f u 0))
+    (insides_declare rest (second_of_both here (stays_inside rest) l) (second_of_both (is_enclosed below) (is_enclosed rest) e_below) aims h (suc at))
 
 -- ---- trees
 
-node_declares : (a : Aims) (k : Kind) (n : Note) (below : Forest) → declares_none_at k (declares_none below) ≡ true → is_enclosed_at k below ≡ true
+node_declares : (a : Aims) (k : Kind) (n : Note) (below : Forest) → declares_none_at k (stays_inside below) (declares_none below) ≡ true → is_enclosed_at k below ≡ true
+    → (stays_inside below ≡ true → (aims : ℕ → Aims) → ((i : ℕ) → Apart (aims i)) → hoisted aims 0 below ≡ [])
     → (declares_none below ≡ true → (aims : ℕ → Aims) → hoisted aims 0 below ≡ [])
     → named a n k ++ hoisted (aims_inside no_part a k below) 0 below ≡ []
-node_declares a (binding_name x) n below h e inner = absurd (true≢false (sym h))
-node_declares a (function function_kind.Declaration pure) n below h e inner = absurd (true≢false (sym h))
-node_declares a (function function_kind.Expression pure) n below h e inner = function_declares a function_kind.Expression pure below refl e
-node_declares a (function function_kind.Arrow pure) n below h e inner = function_declares a function_kind.Arrow pure below refl e
-node_declares a (class class_kind.Declaration) n below h e inner = absurd (true≢false (sym h))
-node_declares a (class class_kind.Expression) n below h e inner = class_declares a below e
-node_declares a k n below h e inner = inner h (aims_inside no_part a k below)
+node_declares a (binding_name x) n below h e inside inner = absurd (true≢false (sym h))
+node_declares a (function function_kind.Declaration pure) n below h e inside inner = absurd (true≢false (sym h))
+node_declares a (function function_kind.Expression pure) n below h e inside inner = function_declares a function_kind.Expression pure below refl e
+node_declares a (function function_kind.Arrow pure) n below h e inside inner = function_declares a function_kind.Arrow pure below refl e
+node_declares a (class class_kind.Declaration) n below h e inside inner = absurd (true≢false (sym h))
+node_declares a (class class_kind.Expression) n below h e inside inner = class_declares a class_kind.Expression below refl e
+node_declares a block_statement n below h e inside inner = inside h (aims_inside no_part a block_statement below) (λ i. refl)
+node_declares a k n below h e inside inner = inner h (aims_inside no_part a k below)
 
 pub declares_nothing : (t : Forest) → declares_none t ≡ true → is_enclosed t ≡ true → DeclaresNothing t
 declares_nothing nothing h e aims at = refl
 declares_nothing (absent rest) h e aims at = declares_nothing rest h e aims (suc at)
 declares_nothing (node k n below rest) h e aims at =
+    let here = declares_none_at k (stays_inside below) (declares_none below) in
     let e_below = second_of_both (is_enclosed_at k below) (is_enclosed below && is_enclosed rest) e in
+    let enclosed_inside = first_of_both (is_enclosed below) (is_enclosed rest) e_below in
     ap₂ (λ ds es. ds ++ es)
-    (node_declares (aims at) k n below (first_of_both (declares_none_at k (declares_none below)) (declares_none rest) h)
-    (first_of_both (is_enclosed_at k below) (is_enclosed below && is_enclosed rest) e)
-    (λ g f. declares_nothing below g (first_of_both (is_enclosed below) (is_enclosed rest) e_below) f 0))
-    (declares_nothing rest (second_of_both (declares_none_at k (declares_none below)) (declares_none rest) h) (second_of_both (is_enclosed below) (is_enclosed rest) e_below) aims (suc at))
+    (node_declares (aims at) k n below (first_of_both here (declares_none rest) h) (first_of_both (is_enclosed_at k below) (is_enclosed below && is_enclosed rest) e)
+    (λ g f u. insides_declare below g enclosed_inside f u 0)
+    (λ g f. declares_nothing below g enclosed_inside f 0))
+    (declares_nothing rest (second_of_both here (declares_none rest) h) (second_of_both (is_enclosed below) (is_enclosed rest) e_below) aims (suc at))
 
 -- of a node that declares nothing in front of what declares nothing
 pub declares_row : (k : Kind) (n : Note) (a t : Forest) → DeclaresNothing (node k n a nothing) → DeclaresNothing t → DeclaresNothing (node k n a t)

@@ -3,25 +3,27 @@ use Rattle.std.proofs.Common.{◌≡◌, ℕ, ◌+◌, suc, Bool, true, false, n
 use Rattle.js_tree.specs.Count.{one_each, node_count}
 use Rattle.js_syntax.specs.Class.{root}
 use Rattle.js_syntax.specs.declared.node_kind.NodeKind.{NodeKind as Kind}
-use Rattle.js_syntax.specs.declared.node_kind.NodeKind.TheVariants.{EmptyStatement as empty_statement, IfStatement as if_statement, BindingName as binding_name, Function as function, Class as class, ConditionalExpression as conditional_expression, LogicalExpression as logical_expression, UnaryExpression as unary_expression, BinaryExpression as binary_expression, ParenthesizedExpression as parenthesized_expression}
+use Rattle.js_syntax.specs.declared.node_kind.NodeKind.TheVariants.{EmptyStatement as empty_statement, BlockStatement as block_statement, IfStatement as if_statement, VariableDeclaration as variable_declaration, BindingName as binding_name, Function as function, Class as class, ConditionalExpression as conditional_expression, LogicalExpression as logical_expression, UnaryExpression as unary_expression, BinaryExpression as binary_expression, ParenthesizedExpression as parenthesized_expression}
 use Rattle.js_syntax.specs.declared.operator.BinaryOperator.{BinaryOperator}
 use Rattle.js_syntax.specs.declared.operator.LogicalOperator.{LogicalOperator}
 use Rattle.js_syntax.specs.declared.operator.UnaryOperator.{UnaryOperator}
 use Rattle.js_syntax.specs.declared.operator.UnaryOperator.TheVariants as unary
 use Rattle.js_syntax.specs.declared.kind.FunctionKind.TheVariants as function_kind
 use Rattle.js_syntax.specs.declared.kind.ClassKind.TheVariants as class_kind
+use Rattle.js_syntax.specs.declared.kind.VariableKind.TheVariants as variable
 use Rattle.js_syntax.specs.Node.{Note, Forest, Tree, nothing, node, absent, alone, forest_of}
-use Rattle.js_syntax.proofs.Truth.{first_of_both, second_of_both}
+use Rattle.js_syntax.proofs.Truth.{both, first_of_both, second_of_both}
 use Rattle.form_rules.specs.declared.sought.Sought.{Sought}
 use Rattle.form_rules.specs.declared.sought.Sought.TheVariants.{Nothing as none, Names as names, Bound as bound, Scope as scope, Variables as variables, FunctionScope as function_scope, CatchScope as catch_scope}
-use Rattle.form_rules.specs.Scope.{declared, declared_here, sought_below}
+use Rattle.form_rules.specs.Scope.{declared, declared_here, bound_below, variables_below, scope_below, function_below, catch_below, sought_below}
+use Rattle.form_rules.specs.declared.sought.Sort.{Sort}
 use Rattle.form_rules.specs.Rules.{length_of, is_bare_name}
 use Rattle.json_shape.specs.Shape.{Fits}
 use Rattle.json_shape.proofs.Choice.{is_list_kind}
 use Rattle.scope_laws.specs.Place as place
 use Rattle.scope_laws.specs.Place.{first, behind, behind_none, under, plug}
 use Rattle.steps_allowed.specs.Uses.{Use, as_value, as_deleted, operand_of, use_below, use_there, use_at}
-use Rattle.steps_allowed.specs.Branches.{declares_none_at, declares_none}
+use Rattle.steps_allowed.specs.Branches.{lets_only, stays_inside_at, stays_inside, declares_none_at, declares_none}
 use Rattle.steps_allowed.specs.Places.{a_node}
 use Rattle.steps_keep_form.specs.Part.{gives_way, is_statement, is_asked_for, StandsFor, Replaces, by_part}
 use Rattle.steps_keep_form.specs.Sheds.{Row, of_declarators, row_below, asked_below, deleted_below, may_empty, may_give_way, may_come_out, keeps_one, Around, entered, outermost, Sheds, keeps_absent, keeps, empties_if, becomes}
@@ -36,9 +38,9 @@ abbrev is_name : Kind → Bool
 is_name (binding_name x) = true
 is_name k = false
 
-not_name : (k : Kind) (below : Bool) → declares_none_at k below ≡ true → is_name k ≡ false
-not_name (binding_name x) below h = absurd cc
-not_name k below h = refl
+not_name : (k : Kind) (inside below : Bool) → declares_none_at k inside below ≡ true → is_name k ≡ false
+not_name (binding_name x) inside below h = absurd cc
+not_name k inside below h = refl
 
 no_name_here : (s : Sought) (p : ℕ) (k : Kind) → is_name k ≡ false → declared_here s p k ≡ []
 no_name_here s p (binding_name x) h = absurd cc
@@ -77,25 +79,124 @@ class_seeks variables = refl
 class_seeks function_scope = refl
 class_seeks (catch_scope f) = refl
 
-none_below : (s : Sought) (k : Kind) (a : Forest) (p : ℕ) → ((z : Sought) (q : ℕ) → declares_none a ≡ true → declared z q a ≡ []) → declares_none_at k (declares_none a) ≡ true
-    → declared (sought_below s k) p a ≡ []
-none_below s (binding_name x) a p f h = absurd cc
-none_below s (function function_kind.Declaration pure) a p f h = absurd cc
-none_below s (function function_kind.Expression pure) a p f h = ap (λ z. declared z p a) (expression_seeks s pure) ∙ none_declared p a
-none_below s (function function_kind.Arrow pure) a p f h = ap (λ z. declared z p a) (arrow_seeks s pure) ∙ none_declared p a
-none_below s (class class_kind.Declaration) a p f h = absurd cc
-none_below s (class class_kind.Expression) a p f h = ap (λ z. declared z p a) (class_seeks s) ∙ none_declared p a
-none_below s k a p f h = f (sought_below s k) p h
+-- Of a block whose names stay in it the names that `var` declares are sought, and there is none.
+abbrev seeks_variables : Sought → Bool
+seeks_variables none = true
+seeks_variables variables = true
+seeks_variables s = false
 
-pub nothing_declared : (s : Sought) (p : ℕ) (t : Forest) → declares_none t ≡ true → declared s p t ≡ []
-nothing_declared s p nothing h = refl
-nothing_declared s p (absent r) h = nothing_declared s p r h
-nothing_declared s p (node k n a r) h =
-    let own = first_of_both (declares_none_at k (declares_none a)) (declares_none r) h in
+inside_below : (k : Kind) (a : Forest) (p : ℕ) → ((z : Sought) (q : ℕ) → seeks_variables z ≡ true → stays_inside a ≡ true → declared z q a ≡ [])
+    → stays_inside_at k (lets_only a) (stays_inside a) ≡ true → declared (variables_below k) p a ≡ []
+inside_below (binding_name x) a p f h = absurd cc
+inside_below (variable_declaration variable.Var) a p f h = absurd cc
+inside_below (variable_declaration how) a p f h = none_declared p a
+inside_below (function function_kind.Declaration pure) a p f h = absurd cc
+inside_below (function how pure) a p f h = none_declared p a
+inside_below (class how) a p f h = none_declared p a
+inside_below k a p f h = f (variables_below k) p refl h
+
+inside_declared : (s : Sought) (p : ℕ) (t : Forest) → seeks_variables s ≡ true → stays_inside t ≡ true → declared s p t ≡ []
+inside_declared variables p nothing e h = refl
+inside_declared variables p (absent r) e h = inside_declared variables p r e h
+inside_declared variables p (node k n a r) e h =
+    let here = stays_inside_at k (lets_only a) (stays_inside a) in
+    both_empty (declared (variables_below k) (p + one_each k) a) (declared variables (p + node_count (alone k n a)) r)
+    (inside_below k a (p + one_each k) (λ z q g i. inside_declared z q a g i) (first_of_both here (stays_inside r) h))
+    (inside_declared variables (p + node_count (alone k n a)) r refl (second_of_both here (stays_inside r) h))
+inside_declared none p t e h = none_declared p t
+inside_declared s p t e h = absurd cc
+
+-- A block's own scope is sought in a catch clause alone, and in nothing below what lies there.
+abbrev pub keeps_outside : Sought → Kind → Bool
+keeps_outside (catch_scope fs) block_statement = false
+keeps_outside s k = true
+
+abbrev pub stays_outside : Sought → Forest → Bool
+stays_outside s nothing = true
+stays_outside s (absent r) = stays_outside s r
+stays_outside s (node k n a r) = keeps_outside s k && stays_outside s r
+
+abbrev is_catch : Sought → Bool
+is_catch (catch_scope fs) = true
+is_catch s = false
+
+outside_as : (s : Sought) (t : Forest) → is_catch s ≡ false → stays_outside s t ≡ true
+outside_as s nothing e = refl
+outside_as s (absent r) e = outside_as s r e
+outside_as s (node k n a r) e = both (keeps_outside s k) (stays_outside s r) (here s k e) (outside_as s r e)
+  where
+    here : (s : Sought) (k : Kind) → is_catch s ≡ false → keeps_outside s k ≡ true
+    here (catch_scope fs) k e = absurd cc
+    here s k e = refl
+
+bound_is_no_catch : (s : Sort) (k : Kind) → is_catch (bound_below s k) ≡ false
+bound_is_no_catch s (binding_name x) = refl
+bound_is_no_catch s k = refl
+
+variables_are_no_catch : (k : Kind) → is_catch (variables_below k) ≡ false
+variables_are_no_catch (variable_declaration variable.Var) = refl
+variables_are_no_catch (variable_declaration how) = refl
+variables_are_no_catch k = refl
+
+scope_is_no_catch : (s : Sort) (k : Kind) → is_catch (scope_below s k) ≡ false
+scope_is_no_catch s (variable_declaration variable.Var) = refl
+scope_is_no_catch s (variable_declaration how) = refl
+scope_is_no_catch s (class class_kind.Declaration) = refl
+scope_is_no_catch s (class how) = refl
+scope_is_no_catch s (function function_kind.Declaration pure) = refl
+scope_is_no_catch s (function how pure) = refl
+scope_is_no_catch s k = refl
+
+function_is_no_catch : (k : Kind) → is_catch (function_below k) ≡ false
+function_is_no_catch (binding_name x) = refl
+function_is_no_catch k = refl
+
+catch_is_no_catch : (s : Sort) (k : Kind) → is_catch (catch_below s k) ≡ false
+catch_is_no_catch s block_statement = refl
+catch_is_no_catch s k = refl
+
+below_no_catch : (s : Sought) (k : Kind) → is_catch (sought_below s k) ≡ false
+below_no_catch none k = refl
+below_no_catch (names f) k = refl
+below_no_catch (bound f) k = bound_is_no_catch f k
+below_no_catch (scope f) k = scope_is_no_catch f k
+below_no_catch variables k = variables_are_no_catch k
+below_no_catch function_scope k = function_is_no_catch k
+below_no_catch (catch_scope f) k = catch_is_no_catch f k
+
+pub outside_below : (s : Sought) (k : Kind) (t : Forest) → stays_outside (sought_below s k) t ≡ true
+outside_below s k t = outside_as (sought_below s k) t (below_no_catch s k)
+
+-- an `if` is no block
+pub if_stays_outside : (s : Sought) (n : Note) (a : Forest) → stays_outside s (alone if_statement n a) ≡ true
+if_stays_outside (catch_scope f) n a = refl
+if_stays_outside s n a = refl
+
+block_seeks : (s : Sought) → keeps_outside s block_statement ≡ true → seeks_variables (sought_below s block_statement) ≡ true
+block_seeks (catch_scope f) h = absurd cc
+block_seeks s h = refl
+
+none_below : (s : Sought) (k : Kind) (a : Forest) (p : ℕ) → keeps_outside s k ≡ true → ((z : Sought) (q : ℕ) → stays_outside z a ≡ true → declares_none a ≡ true → declared z q a ≡ [])
+    → declares_none_at k (stays_inside a) (declares_none a) ≡ true → declared (sought_below s k) p a ≡ []
+none_below s (binding_name x) a p o f h = absurd cc
+none_below s (function function_kind.Declaration pure) a p o f h = absurd cc
+none_below s (function function_kind.Expression pure) a p o f h = ap (λ z. declared z p a) (expression_seeks s pure) ∙ none_declared p a
+none_below s (function function_kind.Arrow pure) a p o f h = ap (λ z. declared z p a) (arrow_seeks s pure) ∙ none_declared p a
+none_below s (class class_kind.Declaration) a p o f h = absurd cc
+none_below s (class class_kind.Expression) a p o f h = ap (λ z. declared z p a) (class_seeks s) ∙ none_declared p a
+none_below s block_statement a p o f h = inside_declared (sought_below s block_statement) p a (block_seeks s o) h
+none_below s k a p o f h = f (sought_below s k) p (outside_below s k a) h
+
+pub nothing_declared : (s : Sought) (p : ℕ) (t : Forest) → stays_outside s t ≡ true → declares_none t ≡ true → declared s p t ≡ []
+nothing_declared s p nothing o h = refl
+nothing_declared s p (absent r) o h = nothing_declared s p r o h
+nothing_declared s p (node k n a r) o h =
+    let here = declares_none_at k (stays_inside a) (declares_none a) in
+    let own = first_of_both here (declares_none r) h in
     both_empty (declared_here s p k ++ declared (sought_below s k) (p + one_each k) a) (declared s (p + node_count (alone k n a)) r)
-    (both_empty (declared_here s p k) (declared (sought_below s k) (p + one_each k) a) (no_name_here s p k (not_name k (declares_none a) own))
-    (none_below s k a (p + one_each k) (λ z q g. nothing_declared z q a g) own))
-    (nothing_declared s (p + node_count (alone k n a)) r (second_of_both (declares_none_at k (declares_none a)) (declares_none r) h))
+    (both_empty (declared_here s p k) (declared (sought_below s k) (p + one_each k) a) (no_name_here s p k (not_name k (stays_inside a) (declares_none a) own))
+    (none_below s k a (p + one_each k) (first_of_both (keeps_outside s k) (stays_outside s r) o) (λ z q g i. nothing_declared z q a g i) own))
+    (nothing_declared s (p + node_count (alone k n a)) r (second_of_both (keeps_outside s k) (stays_outside s r) o) (second_of_both here (declares_none r) h))
 
 -- ---- branches
 

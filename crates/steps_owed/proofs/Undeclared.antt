@@ -4,6 +4,7 @@ use Rattle.std.proofs.lemmas.List.{append-nil}
 use Rattle.js_syntax.specs.declared.node_kind.NodeKind.{NodeKind as Kind}
 use Rattle.js_syntax.specs.declared.kind.FunctionKind.{FunctionKind}
 use Rattle.js_syntax.specs.declared.kind.FunctionKind.TheVariants as function_kind
+use Rattle.js_syntax.specs.declared.kind.VariableKind.TheVariants as variable
 use Rattle.js_syntax.specs.declared.scalar.SourceType.{SourceType}
 use Rattle.js_syntax.specs.declared.scalar.SourceType.TheVariants as source_type
 use Rattle.js_syntax.specs.Node.{Note, Forest, Tree, nothing, node, absent, below_of}
@@ -14,7 +15,7 @@ use Rattle.js_meaning_near.specs.Near.{is_calm, module_of}
 use Rattle.js_meaning_near.specs.Local.{Plainly}
 use Rattle.js_meaning_near.proofs.Local.{calm_names, calm_vars, calm_specifier}
 use Rattle.scope_laws.specs.Place.{Around, first, behind, behind_none, under, plug}
-use Rattle.steps_allowed.specs.Branches.{declares_none_at, declares_none}
+use Rattle.steps_allowed.specs.Branches.{lets_only, stays_inside_at, stays_inside, declares_none_at, declares_none}
 use Rattle.steps_keep_form.proofs.Rules.{first_empty, second_empty, both_empty}
 use Rattle.steps_keep_runs.proofs.Lists.{no_vars}
 use Rattle.steps_names.specs.Placed.{Place, no_node, names, parameters, code, program_list, module_items, declared, specifiers, imports, cases, others, fits, sort_of, an_import, an_imported, name_place, statements_place, specifier_place, place_below, well_placed, has_plain_values, is_well_placed}
@@ -25,18 +26,42 @@ use Rattle.js_syntax.proofs.Truth.{first_of_both, second_of_both}
 
 -- ---- no names
 
-none_below : (k : Kind) (b : Bool) (xs : List Text) → declares_none_at k b ≡ true → (b ≡ true → xs ≡ []) → names_of k xs ≡ []
-none_below (Kind.BindingName x) b xs h to = absurd (true≢false (sym h))
-none_below (Kind.Function f pure) b xs h to = refl
-none_below (Kind.Class c) b xs h to = refl
-none_below k b xs h to = to h
+none_inside : (k : Kind) (lets b : Bool) (xs : List Text) → stays_inside_at k lets b ≡ true → (b ≡ true → xs ≡ []) → names_of k xs ≡ []
+none_inside (Kind.BindingName x) lets b xs h to = absurd (true≢false (sym h))
+none_inside (Kind.VariableDeclaration variable.Var) lets b xs h to = absurd (true≢false (sym h))
+none_inside (Kind.VariableDeclaration variable.Let) lets b xs h to = refl
+none_inside (Kind.VariableDeclaration variable.Const) lets b xs h to = refl
+none_inside (Kind.Function f pure) lets b xs h to = refl
+none_inside (Kind.Class c) lets b xs h to = refl
+none_inside k lets b xs h to = to h
+
+-- a row whose names stay in the block that it stands in
+no_names_inside : (t : Forest) → stays_inside t ≡ true → bound_names t ≡ []
+no_names_inside nothing h = refl
+no_names_inside (absent r) h = no_names_inside r h
+no_names_inside (node k n a r) h =
+    let here = stays_inside_at k (lets_only a) (stays_inside a) in
+    both_empty (names_of k (bound_names a)) (bound_names r) (none_inside k (lets_only a) (stays_inside a) (bound_names a) (first_of_both here (stays_inside r) h) (no_names_inside a))
+    (no_names_inside r (second_of_both here (stays_inside r) h))
+
+none_below : (k : Kind) (inside b : Bool) (xs : List Text) → declares_none_at k inside b ≡ true → (inside ≡ true → xs ≡ []) → (b ≡ true → xs ≡ []) → names_of k xs ≡ []
+none_below (Kind.BindingName x) inside b xs h within to = absurd (true≢false (sym h))
+none_below (Kind.VariableDeclaration variable.Let) inside b xs h within to = refl
+none_below (Kind.VariableDeclaration variable.Const) inside b xs h within to = refl
+none_below (Kind.VariableDeclaration variable.Var) inside b xs h within to = to h
+none_below (Kind.Function f pure) inside b xs h within to = refl
+none_below (Kind.Class c) inside b xs h within to = refl
+none_below Kind.BlockStatement inside b xs h within to = within h
+none_below k inside b xs h within to = to h
 
 pub no_names : (t : Forest) → declares_none t ≡ true → bound_names t ≡ []
 no_names nothing h = refl
 no_names (absent r) h = no_names r h
 no_names (node k n a r) h =
-    both_empty (names_of k (bound_names a)) (bound_names r) (none_below k (declares_none a) (bound_names a) (first_of_both (declares_none_at k (declares_none a)) (declares_none r) h) (no_names a))
-    (no_names r (second_of_both (declares_none_at k (declares_none a)) (declares_none r) h))
+    let here = declares_none_at k (stays_inside a) (declares_none a) in
+    both_empty (names_of k (bound_names a)) (bound_names r)
+    (none_below k (stays_inside a) (declares_none a) (bound_names a) (first_of_both here (declares_none r) h) (no_names_inside a) (no_names a))
+    (no_names r (second_of_both here (declares_none r) h))
 
 -- ---- no imports, but in lists of a module's items
 

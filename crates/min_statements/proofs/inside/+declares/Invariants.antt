@@ -2,7 +2,7 @@ use Rattle.std.proofs.Common.{◌≡◌, ◌≤◌, ◌+◌, ◌*◌, length}
 use Rattle.js_syntax.specs.Node.{row}
 use Rattle.js_tree.specs.Weight.{size_of, tree_size}
 use Rattle.steps_allowed.specs.Branches.{declares_none}
-use Rattle.min_statements.proofs.ifs.+declares.Given as goal
+use Rattle.min_statements.proofs.inside.+declares.Given as goal
 
 abbrev pub decreases-declares_no_name : goal.decreases-declares_no_name
 decreases-declares_no_name l = 2 * tree_size l.node.now

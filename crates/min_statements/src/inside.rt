@@ -1,0 +1,103 @@
+// What declares no name around it. Each recursion goes as deep as the tree.
+ghost use Rattle.std.specs.Prelude.{◌≡◌};
+ghost use Rattle.js_syntax.specs.Node.{row};
+ghost use Rattle.steps_allowed.specs.Branches.{lets_only_at, lets_only, stays_inside_at, stays_inside, declares_none};
+ghost use Rattle.min_statements.specs.Ifs.{declares_no_name};
+
+use js_syntax::{ClassKind, FunctionKind, NodeKind, VariableKind};
+use js_tree::Node;
+
+// ---- the declarators of `let` and `const`
+
+#[cycle(lets)]
+fn lets_only_at(node: &Node) -> bool
+    ensures { result ≡ lets_only_at node.now.kind (lets_only node.now.below) }
+{
+    match node.kind() {
+        NodeKind::VariableDeclaration(_) => false,
+        NodeKind::Function { kind, .. } => !matches!(kind, FunctionKind::Declaration),
+        NodeKind::Class(kind) => !matches!(kind, ClassKind::Declaration),
+        _ => lets_only(node.children()),
+    }
+}
+
+#[cycle(lets)]
+fn lets_only(children: &[Option<Node>]) -> bool
+    ensures { result ≡ lets_only (row children.now) }
+{
+    let mut rest = children;
+    while let [first, others @ ..] = rest {
+        if let Some(node) = first {
+            if !lets_only_at(node) {
+                return false;
+            }
+        }
+        rest = others;
+    }
+    true
+}
+
+// ---- what stands in a block
+
+#[cycle(inside)]
+fn stays_inside_at(node: &Node) -> bool
+    ensures { result ≡ stays_inside_at node.now.kind (lets_only node.now.below) (stays_inside node.now.below) }
+{
+    match node.kind() {
+        NodeKind::BindingName(_) => false,
+        NodeKind::VariableDeclaration(VariableKind::Var) => false,
+        NodeKind::VariableDeclaration(VariableKind::Let) => lets_only(node.children()),
+        NodeKind::VariableDeclaration(VariableKind::Const) => lets_only(node.children()),
+        NodeKind::Function { kind, .. } => !matches!(kind, FunctionKind::Declaration),
+        NodeKind::Class(_) => true,
+        _ => stays_inside(node.children()),
+    }
+}
+
+#[cycle(inside)]
+fn stays_inside(children: &[Option<Node>]) -> bool
+    ensures { result ≡ stays_inside (row children.now) }
+{
+    let mut rest = children;
+    while let [first, others @ ..] = rest {
+        if let Some(node) = first {
+            if !stays_inside_at(node) {
+                return false;
+            }
+        }
+        rest = others;
+    }
+    true
+}
+
+// ---- anything
+
+// Whether nothing declares a name around it, outside of functions and classes.
+#[cycle(declares)]
+pub(crate) fn declares_no_name(node: &Node) -> bool
+    ensures { result ≡ declares_no_name node.now }
+{
+    match node.kind() {
+        NodeKind::BindingName(_) => false,
+        NodeKind::Function { kind, .. } => !matches!(kind, FunctionKind::Declaration),
+        NodeKind::Class(kind) => !matches!(kind, ClassKind::Declaration),
+        NodeKind::BlockStatement => stays_inside(node.children()),
+        _ => declares_none(node.children()),
+    }
+}
+
+#[cycle(declares)]
+fn declares_none(children: &[Option<Node>]) -> bool
+    ensures { result ≡ declares_none (row children.now) }
+{
+    let mut rest = children;
+    while let [first, others @ ..] = rest {
+        if let Some(node) = first {
+            if !declares_no_name(node) {
+                return false;
+            }
+        }
+        rest = others;
+    }
+    true
+}
