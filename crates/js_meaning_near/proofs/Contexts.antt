@@ -21,7 +21,7 @@ use Rattle.js_meaning.specs.Meaning.{does, if_core, eval, take_this, run_code, e
 use Rattle.js_meaning.specs.Run.{finish, finally, module_does, as_value, first_state, seen, run_within, run}
 use Rattle.js_meaning.specs.Kept.{keeps, Keeps, Kept, refines, Refines, Refined}
 use Rattle.js_meaning_near.specs.Names.{Status, known, exactly, Decls, Names, Usable}
-use Rattle.js_meaning_near.specs.Near.{Permits, ComesTo, comes_to, meaning, Silent, NoField, Change, statement_emptied, no_statement_emptied, near_silent, same_effects, wastes_more, one_sided, shorter, LooseModule, loose_module, value_read, Row, fields, items, ReceiverOk, is_row, Near, near_nothing, near_absent, near_node, near_closure, near_hoisted, near_unread, near_known, near_uncovered, changed, leaves, Code, near_code, ExportsOk, NearModule, near_module, module_of, sign_applied}
+use Rattle.js_meaning_near.specs.Near.{Permits, ComesTo, comes_to, behind_jump, meaning, Silent, NoField, Change, statement_emptied, no_statement_emptied, near_silent, same_effects, wastes_more, one_sided, shorter, LooseModule, loose_module, value_read, Row, fields, items, ReceiverOk, is_row, Near, near_nothing, near_absent, near_node, near_closure, near_hoisted, near_unread, near_known, near_uncovered, changed, leaves, Code, near_code, ExportsOk, NearModule, near_module, module_of, sign_applied}
 use Rattle.js_meaning_near.proofs.Worlds.{any_value, only_value, both, slack, In, here, Links, Rule, World, same, no_links, slack_links, no_both, not_in}
 use Rattle.js_meaning_near.proofs.Relations.{HoldsCell, SameSlot, same_local, same_import, as_many, CallEnds, call_gives, call_uncovered, call_out, At, at_nowhere, at_loose, at_live, at_known, at_dead, at_unread, Envs, Same, same_plain, SameOpt, same_none, same_some, SameAll, all_nil, SameCompletion, same_normal, same_gives, same_gives_all, same_refers, same_breaks, same_continues, same_returns, same_throws, SameExports, no_exports, an_export, SameAsk, same_run, same_value, same_place, same_take, same_take_all, same_declares, same_collect, same_entry, same_matches, States, Follows, both_go, both_stop, old_stops, old_out, Acts, Means, Tasks, same_body, same_turn, same_back, Enters, same_later, all_later}
 use Rattle.js_meaning_near.proofs.Acts.{bind_acts, give_both, stop_acts, unknown_acts, normal_acts, value_acts, seq_acts, set_exports_acts, spend_acts, give_acts, give_right}
@@ -33,6 +33,7 @@ use Rattle.js_meaning_near.proofs.Hosted.{report_acts, host_acts, consult_acts, 
 use Rattle.js_meaning_near.proofs.Alone.{leads_acts, no_expression, silent_statement, idle_alone, seq_alone, alone_nothing}
 use Rattle.js_meaning_near.proofs.Effects.{effects_act, leads_effects}
 use Rattle.js_meaning_near.proofs.Wasting.{statement_acts, wasted_means, sided_means, shorter_means}
+use Rattle.js_meaning_near.proofs.Jumps.{list_behind}
 use Rattle.js_meaning_near.proofs.Nodes.{true_false, start_acts, first_ask_same, closure_acts, hoisted_does, does_acts, does_effect}
 use Rattle.js_meaning_near.proofs.Avoid.{false_true}
 
@@ -148,6 +149,7 @@ near_rows E n (wastes_more {us = us} {p = p} {c = c} {d = d} g q o t) = rows_wit
 near_rows E n (one_sided {us = us} {p = p} {b = b} {c = c} {d = d} g q o t) = rows_with E p us c d (part (sided_means E b g q (near_rows E n o))) (near_rows E n t)
 near_rows E n (shorter {us = us} {p = p} {i = i} {j = j} {b = b} {c = c} {d = d} q o t) = rows_with E p us c d (part (shorter_means E i j b q (near_rows E n o))) (near_rows E n t)
 near_rows E n (leaves i c) = record { listed = λ {w} {e} {f} {q} r s. seq_alone (idle_alone E q i r) ((near_rows E n c).listed r s) }
+near_rows E n (behind_jump {k = k} {n = m} {a = a} {c = c} {e = e} j u t) = list_behind E k m a c e j (near_rows E n t)
 
 -- functions
 

@@ -17,7 +17,7 @@ use Rattle.js_meaning.specs.Kept.{Refined}
 use Rattle.js_meaning_near.specs.Quiet.{gives_quietly, Quiet}
 use Rattle.js_meaning.specs.Node as asks
 use Rattle.js_meaning_near.specs.Names.{Decls, known, exactly, Names, no_names, with_name, no_decls, in_both_known, Fillable, AllPlain, PlainBut}
-use Rattle.js_meaning_near.specs.Near.{Silent, hoists_nothing, first_stays, idle_empty, idle_function, idle_declarator, idle_declaration, all_idle, one_idle, statement_emptied, value_read, fields, items, Near, near_node, near_known, changed, leaves, near_nothing, near_absent, near_module, module_of}
+use Rattle.js_meaning_near.specs.Near.{is_jump, Silent, hoists_nothing, first_stays, idle_empty, idle_function, idle_declarator, idle_declaration, all_idle, one_idle, statement_emptied, value_read, fields, items, Near, near_node, near_known, changed, leaves, near_nothing, near_absent, near_module, module_of}
 use Rattle.js_meaning_near.specs.Fit.{names_after, whole}
 use Rattle.js_meaning_near.specs.Once.{Once, at_place, in_rest, in_node, in_declaration, same_node_first}
 use Rattle.js_meaning_near.specs.Avoid.{declares, Dropping, dropped_here, dropped_later, HasCells, ExportsAvoid, InPlace, Avoids}
@@ -25,7 +25,7 @@ use Rattle.js_meaning_near.specs.Examples.{block_of, behind_name, function_of, d
 use Rattle.js_meaning_near.specs.Purpose.{for_value, for_effect, for_values}
 use Rattle.js_meaning_near.specs.Bare.{stands_bare}
 use Rattle.js_meaning_near.specs.Local as local
-use Rattle.js_meaning_near.specs.Local.{Plainly, Local}
+use Rattle.js_meaning_near.specs.Local.{Plainly, DeclaresNothing, Local}
 use Rattle.js_meaning_near.specs.Unused.{all_needed, needed, not_needed}
 use Rattle.js_meaning_near.proofs.Branches.{condition_holds}
 use Rattle.js_meaning_near.proofs.Unused.{array_wasted}
@@ -117,12 +117,17 @@ constant_read n x p v c e f y z =
 
 -- an expression comes to one of its parts
 
-pub local_change : (n m : Note) (a b : Forest) → Local for_values a b → InPlace whole items b → entries a ≡ entries b → stars a ≡ stars b → requests a ≡ requests b → Refined (module_of n m a) (module_of n m b)
+pub local_change : (n m : Note) (a b : Forest) → Local for_values items a b → InPlace whole items b → entries a ≡ entries b → stars a ≡ stars b → requests a ≡ requests b → Refined (module_of n m a) (module_of n m b)
 local_change n m a b s y e t r = near_refines n m n m (near_module (subst (λ ds. Decls no_names ds (module_decls b) (names_after no_names (module_decls b))) (sym (module_decls_stay s)) (same_decls no_names (module_decls b))) e (exports_plain _ (entries a) plain) t r
-    (local_near whole items _ s (fits_clear whole items _ b plain y)))
+    (local_near items _ s (fits_clear whole items _ b plain y)))
   where
     plain : AllPlain (names_after no_names (module_decls b))
     plain = λ x. after_plain (module_decls b) no_names x tt
+
+-- a statement behind a jump leaves its list
+
+pub behind_jump_leaves : (n : Note) (k : Kind) (a b c : Forest) → is_jump k ≡ true → DeclaresNothing Kind.IfStatement b → InPlace whole items (node k n a c) → Refined (module_of n n (node k n a (node Kind.IfStatement n b c))) (module_of n n (node k n a c))
+behind_jump_leaves n k a b c j d y = local_change n n _ _ (local.behind_jump j (local.node_cut refl d)) y refl refl refl
 
 -- a branch comes out bare
 

@@ -9,6 +9,7 @@ pub mod Rows
 pub mod Hosted
 pub mod Alone
 pub mod Nodes
+pub mod Jumps
 pub mod Wasting
 pub mod Contexts
 pub mod Fit

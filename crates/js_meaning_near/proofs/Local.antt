@@ -12,10 +12,11 @@ use Rattle.js_meaning.specs.Value.{Text, this_name}
 use Rattle.js_meaning.specs.Scope.{Decl, waiting, ready, all_so, named_so, first_of, behind, declared_name, first_name, names_of, bound_names, vars_of, var_names, specifier_decls, import_decls, item_decls, lexical, receiver_decls, function_decls, decl, module_decls}
 use Rattle.js_meaning_near.specs.Purpose.{Purpose, Purposes, all, purpose_here, purposes_behind, for_values, wanted_below}
 use Rattle.js_meaning_near.specs.Names.{Names, no_names, Decls, Copied, declared, FillableIf}
-use Rattle.js_meaning_near.specs.Near.{Row, fields, is_calm, hoists_nothing, Heads, is_row, Near, near_nothing, near_absent, near_node, near_closure, near_hoisted, near_uncovered, comes_to, wastes_more, one_sided, shorter, Code, near_code}
+use Rattle.js_meaning_near.specs.Near as near
+use Rattle.js_meaning_near.specs.Near.{Row, fields, items, row_below, is_calm, hoists_nothing, Unreached, goes_here, goes_behind, goes_behind_none, Heads, is_row, Near, near_nothing, near_absent, near_node, near_closure, near_hoisted, near_uncovered, comes_to, wastes_more, one_sided, shorter, Code, near_code}
 use Rattle.js_meaning_near.specs.Fit.{names_after, around_code, within_code, FunctionOk, Part, whole, others, part_of, purposes_of, NodeFits, IfCore, Fits}
 use Rattle.js_meaning_near.specs.Once.{NodeStays}
-use Rattle.js_meaning_near.specs.Local.{ReadsSame, Stands, for_part, for_waste, for_sides, for_sequence, Local, at_place, in_below, in_rest, in_absent}
+use Rattle.js_meaning_near.specs.Local.{ReadsSame, Stands, for_part, for_waste, for_sides, for_sequence, DeclaresNothing, Cut, node_cut, cut_behind, cut_behind_none, Local, at_place, behind_jump, in_below, in_rest, in_absent}
 use Rattle.js_meaning_near.proofs.Fit.{same_decls, same_copied, same_node, fits_near, fit}
 use Rattle.js_meaning_near.proofs.Once.{node_stays}
 use Rattle.js_meaning_near.proofs.Branches.{blunt_hoists}
@@ -75,16 +76,45 @@ new_node (for_waste g c f) = (c no_names).new_hoists
 new_node (for_sides g c) = refl
 new_node (for_sequence c) = refl
 
+-- what stands behind a jump
+
+cut_unreached : {r s : Forest} → Cut r s → Unreached r s
+cut_unreached (node_cut h d) = goes_here h
+cut_unreached (cut_behind c) = goes_behind (cut_unreached c)
+cut_unreached (cut_behind_none c) = goes_behind_none (cut_unreached c)
+
+pub cut_bound : {r s : Forest} → Cut r s → bound_names r ≡ bound_names s
+cut_bound (node_cut {r = r} h d) = ap (λ v. v ++ bound_names r) d.bound
+cut_bound (cut_behind {k = k} {a = a} c) = ap (λ v. names_of k (bound_names a) ++ v) (cut_bound c)
+cut_bound (cut_behind_none c) = cut_bound c
+
+pub cut_vars : {r s : Forest} → Cut r s → var_names r ≡ var_names s
+cut_vars (node_cut {r = r} h d) = ap (λ v. v ++ var_names r) d.vars
+cut_vars (cut_behind {k = k} {a = a} c) = ap (λ v. vars_of k a (var_names a) ++ v) (cut_vars c)
+cut_vars (cut_behind_none c) = cut_vars c
+
+pub cut_imports : {r s : Forest} (source : Text) → Cut r s → import_decls source r ≡ import_decls source s
+cut_imports source (node_cut {r = r} h d) = ap (λ v. v ++ import_decls source r) (d.imports source)
+cut_imports source (cut_behind {k = k} {a = a} c) = ap (λ v. specifier_decls source k a (import_decls source a) ++ v) (cut_imports source c)
+cut_imports source (cut_behind_none c) = cut_imports source c
+
+pub cut_lexical : {r s : Forest} → Cut r s → lexical r ≡ lexical s
+cut_lexical (node_cut {k = k} {a = a} {r = r} h d) = ap (λ v. v ++ lexical r) (items_of k a (lexical a) h)
+cut_lexical (cut_behind {k = k} {a = a} c) = ap (λ v. item_decls k a (lexical a) ++ v) (cut_lexical c)
+cut_lexical (cut_behind_none c) = cut_lexical c
+
 -- what stays
 
-same_name : {us : Purposes} {t u : Forest} → Local us t u → first_name t ≡ first_name u
+same_name : {us : Purposes} {o : Row} {t u : Forest} → Local us o t u → first_name t ≡ first_name u
 same_name (at_place {k = k} {l = l} c p) = name_of k (old_node c) ∙ sym (name_of l (new_node c))
+same_name (behind_jump j c) = refl
 same_name (in_below q s) = refl
 same_name (in_rest s) = refl
 same_name (in_absent s) = refl
 
-pub same_bound : {us : Purposes} {t u : Forest} → Local us t u → bound_names t ≡ bound_names u
+pub same_bound : {us : Purposes} {o : Row} {t u : Forest} → Local us o t u → bound_names t ≡ bound_names u
 same_bound (at_place {r = r} c p) = ap (λ v. v ++ bound_names r) p.bound
+same_bound (behind_jump {k = k} {a = a} j c) = ap (λ v. names_of k (bound_names a) ++ v) (cut_bound c)
 same_bound (in_below {k = k} {r = r} q s) = ap (λ v. names_of k v ++ bound_names r) (same_bound s)
 same_bound (in_rest {k = k} {a = a} s) = ap (λ v. names_of k (bound_names a) ++ v) (same_bound s)
 same_bound (in_absent s) = same_bound s
@@ -95,8 +125,9 @@ vars_stay (Kind.VariableDeclaration variable.Let) a b l e = refl
 vars_stay (Kind.VariableDeclaration variable.Const) a b l e = refl
 vars_stay k a b l e = refl
 
-same_vars : {us : Purposes} {t u : Forest} → Local us t u → var_names t ≡ var_names u
+same_vars : {us : Purposes} {o : Row} {t u : Forest} → Local us o t u → var_names t ≡ var_names u
 same_vars (at_place {r = r} c p) = ap (λ v. v ++ var_names r) p.vars
+same_vars (behind_jump {k = k} {a = a} j c) = ap (λ v. vars_of k a (var_names a) ++ v) (cut_vars c)
 same_vars (in_below {k = k} {a = a} {b = b} {r = r} q s) = ap (λ v. v ++ var_names r) (ap (vars_of k a) (same_vars s) ∙ vars_stay k a b (var_names b) (same_bound s))
 same_vars (in_rest {k = k} {a = a} s) = ap (λ v. vars_of k a (var_names a) ++ v) (same_vars s)
 same_vars (in_absent s) = same_vars s
@@ -107,13 +138,14 @@ specifier_stays source Kind.ImportDefaultSpecifier a b l e = ap (named_so _) e
 specifier_stays source Kind.ImportNamespaceSpecifier a b l e = ap (named_so _) e
 specifier_stays source k a b l e = refl
 
-same_imports : {us : Purposes} {t u : Forest} (source : Text) → Local us t u → import_decls source t ≡ import_decls source u
+same_imports : {us : Purposes} {o : Row} {t u : Forest} (source : Text) → Local us o t u → import_decls source t ≡ import_decls source u
 same_imports source (at_place {r = r} c p) = ap (λ v. v ++ import_decls source r) (p.imports source)
+same_imports source (behind_jump {k = k} {a = a} j c) = ap (λ v. specifier_decls source k a (import_decls source a) ++ v) (cut_imports source c)
 same_imports source (in_below {k = k} {a = a} {b = b} {r = r} q s) = ap (λ v. v ++ import_decls source r) (ap (specifier_decls source k a) (same_imports source s) ∙ specifier_stays source k a b (import_decls source b) (same_name s))
 same_imports source (in_rest {k = k} {a = a} s) = ap (λ v. specifier_decls source k a (import_decls source a) ++ v) (same_imports source s)
 same_imports source (in_absent s) = same_imports source s
 
-items_stay : {us : Purposes} (k : Kind) (a b : Forest) (l : List Decl) → Local us a b → item_decls k a l ≡ item_decls k b l
+items_stay : {us : Purposes} {o : Row} (k : Kind) (a b : Forest) (l : List Decl) → Local us o a b → item_decls k a l ≡ item_decls k b l
 items_stay (Kind.VariableDeclaration variable.Let) a b l s = ap (all_so (waiting false)) (same_bound s)
 items_stay (Kind.VariableDeclaration variable.Const) a b l s = ap (all_so (waiting true)) (same_bound s)
 items_stay (Kind.VariableDeclaration variable.Var) a b l s = refl
@@ -123,53 +155,56 @@ items_stay (Kind.ImportDeclaration source) a b l s = same_imports source s
 items_stay (Kind.ExportNamedDeclaration None) a b l s = refl
 items_stay k a b l s = refl
 
-pub same_lexical : {us : Purposes} {t u : Forest} → Local us t u → lexical t ≡ lexical u
+pub same_lexical : {us : Purposes} {o : Row} {t u : Forest} → Local us o t u → lexical t ≡ lexical u
 same_lexical (at_place {k = k} {l = l} {a = a} {b = b} {r = r} c p) = ap (λ v. v ++ lexical r) (items_of k a (lexical a) (old_node c) ∙ sym (items_of l b (lexical b) (new_node c)))
+same_lexical (behind_jump {k = k} {a = a} j c) = ap (λ v. item_decls k a (lexical a) ++ v) (cut_lexical c)
 same_lexical (in_below {k = k} {a = a} {b = b} {r = r} q s) = ap (λ v. v ++ lexical r) (ap (item_decls k a) (same_lexical s) ∙ items_stay k a b (lexical b) s)
 same_lexical (in_rest {k = k} {a = a} s) = ap (λ v. item_decls k a (lexical a) ++ v) (same_lexical s)
 same_lexical (in_absent s) = same_lexical s
 
 -- of the first field, and behind it
 
-first_bound : {us : Purposes} {t u : Forest} → Local us t u → bound_names (first_of t) ≡ bound_names (first_of u)
-first_bound (at_place {us = us} {n = n} {m = m} {r = r} c p) = same_bound (at_place {us = all (purpose_here us (is_row r))} {n = n} {m = m} {r = nothing} c p)
-first_bound (in_below {us = us} {n = n} {r = r} q s) = same_bound (in_below {us = all (purpose_here us (is_row r))} {n = n} {r = nothing} q s)
+first_bound : {us : Purposes} {o : Row} {t u : Forest} → Local us o t u → bound_names (first_of t) ≡ bound_names (first_of u)
+first_bound (at_place {us = us} {n = n} {m = m} {r = r} c p) = same_bound {o = fields} (at_place {us = all (purpose_here us (is_row r))} {n = n} {m = m} {r = nothing} c p)
+first_bound (in_below {us = us} {n = n} {r = r} q s) = same_bound {o = fields} (in_below {us = all (purpose_here us (is_row r))} {n = n} {r = nothing} q s)
+first_bound (behind_jump j c) = refl
 first_bound (in_rest s) = refl
 first_bound (in_absent s) = refl
 
-first_lexical : {us : Purposes} {t u : Forest} → Local us t u → lexical (first_of t) ≡ lexical (first_of u)
-first_lexical (at_place {us = us} {n = n} {m = m} {r = r} c p) = same_lexical (at_place {us = all (purpose_here us (is_row r))} {n = n} {m = m} {r = nothing} c p)
-first_lexical (in_below {us = us} {n = n} {r = r} q s) = same_lexical (in_below {us = all (purpose_here us (is_row r))} {n = n} {r = nothing} q s)
+first_lexical : {us : Purposes} {o : Row} {t u : Forest} → Local us o t u → lexical (first_of t) ≡ lexical (first_of u)
+first_lexical (at_place {us = us} {n = n} {m = m} {r = r} c p) = same_lexical {o = fields} (at_place {us = all (purpose_here us (is_row r))} {n = n} {m = m} {r = nothing} c p)
+first_lexical (in_below {us = us} {n = n} {r = r} q s) = same_lexical {o = fields} (in_below {us = all (purpose_here us (is_row r))} {n = n} {r = nothing} q s)
+first_lexical (behind_jump j c) = refl
 first_lexical (in_rest s) = refl
 first_lexical (in_absent s) = refl
 
--- whatever is read off a row that stays is read off what stands behind
-behind_same : {A : Type 0} (f : Forest → A) → ((us : Purposes) (t u : Forest) → Local us t u → f t ≡ f u) → (us : Purposes) (t u : Forest) → Local us t u → f (behind t) ≡ f (behind u)
+-- whatever is read off a row of fields that stays is read off what stands behind
+behind_same : {A : Type 0} (f : Forest → A) → ((us : Purposes) (t u : Forest) → Local us fields t u → f t ≡ f u) → (us : Purposes) (t u : Forest) → Local us fields t u → f (behind t) ≡ f (behind u)
 behind_same f g _ _ _ (at_place c p) = refl
 behind_same f g _ _ _ (in_below q s) = refl
 behind_same f g _ _ _ (in_rest s) = g _ _ _ s
 behind_same f g _ _ _ (in_absent s) = g _ _ _ s
 
-vars_both : (us : Purposes) (t u : Forest) → Local us t u → var_names t ≡ var_names u
+vars_both : (us : Purposes) (t u : Forest) → Local us fields t u → var_names t ≡ var_names u
 vars_both us t u s = same_vars s
 
-lexical_both : (us : Purposes) (t u : Forest) → Local us t u → lexical t ≡ lexical u
+lexical_both : (us : Purposes) (t u : Forest) → Local us fields t u → lexical t ≡ lexical u
 lexical_both us t u s = same_lexical s
 
-bound_both : (us : Purposes) (t u : Forest) → Local us t u → bound_names (first_of t) ≡ bound_names (first_of u)
+bound_both : (us : Purposes) (t u : Forest) → Local us fields t u → bound_names (first_of t) ≡ bound_names (first_of u)
 bound_both us t u s = first_bound s
 
 code_decls : FunctionKind → List Text → List Text → List Decl → List Decl
 code_decls f vs bs ds = receiver_decls f ++ all_so ready vs ++ all_so ready bs ++ ds
 
-decls_stay : {us : Purposes} (f : FunctionKind) {t u : Forest} → Local us t u → function_decls f t ≡ function_decls f u
+decls_stay : {us : Purposes} (f : FunctionKind) {t u : Forest} → Local us fields t u → function_decls f t ≡ function_decls f u
 unfolding code_decls
 decls_stay {us = us} f {t} {u} s =
     ap (λ vs. code_decls f vs (bound_names (first_of (behind t))) (lexical (behind (behind t)))) (behind_same (λ x. var_names (behind x)) (behind_same var_names vars_both) us t u s)
     ∙ ap (λ bs. code_decls f (var_names (behind (behind u))) bs (lexical (behind (behind t)))) (behind_same (λ x. bound_names (first_of x)) bound_both us t u s)
     ∙ ap (λ ds. code_decls f (var_names (behind (behind u))) (bound_names (first_of (behind u))) ds) (behind_same (λ x. lexical (behind x)) (behind_same lexical lexical_both) us t u s)
 
-declared_stay : {us : Purposes} (k : Kind) {a b : Forest} → Local us a b → declared k a ≡ declared k b
+declared_stay : {us : Purposes} {o : Row} (k : Kind) {a b : Forest} → Local us o a b → declared k a ≡ declared k b
 declared_stay Kind.BlockStatement s = same_lexical s
 declared_stay Kind.Cases s = same_lexical s
 declared_stay Kind.ForStatement s = first_lexical s
@@ -185,7 +220,7 @@ fits_as_field p st (Kind.Function f pure) b true h y = y
 fits_as_field p st Kind.Cases b true h y = absurd (true_false (sym h))
 fits_as_field p st l b true h y = y
 
-heads_stay : {us : Purposes} (k : Kind) (t : Names) (a b : Forest) → ReadsSame k a b → Local us a b → Heads k t a b
+heads_stay : {us : Purposes} {o : Row} (k : Kind) (t : Names) (a b : Forest) → ReadsSame k a b → Local us o a b → Heads k t a b
 heads_stay Kind.ForStatement t a b q s = subst (Copied t (lexical (first_of a))) (first_lexical s) (same_copied t (lexical (first_of a)))
 heads_stay Kind.ObjectExpression t a b q s = q
 heads_stay k t a b q s = tt
@@ -193,18 +228,19 @@ heads_stay k t a b q s = tt
 decls_from : {ds es : List Decl} (st : Names) → ds ≡ es → Decls st ds es (names_after st es)
 decls_from {ds = ds} {es = es} st e = subst (λ l. Decls st l es (names_after st es)) (sym e) (same_decls st es)
 
-rows_stay : {us : Purposes} {t u : Forest} → Local us t u → is_row t ≡ is_row u
+rows_stay : {us : Purposes} {o : Row} {t u : Forest} → Local us o t u → is_row t ≡ is_row u
 rows_stay (at_place c p) = refl
+rows_stay (behind_jump j c) = refl
 rows_stay (in_below q s) = refl
 rows_stay (in_rest s) = refl
 rows_stay (in_absent s) = refl
 
-code_stays : {us : Purposes} (st : Names) (f : FunctionKind) (a b : Forest) → Local us a b → FunctionOk st f b → Near for_values fields (within_code st f b) (behind a) (behind b) → Code (around_code st f b) f a b
+code_stays : {us : Purposes} (st : Names) (f : FunctionKind) (a b : Forest) → Local us fields a b → FunctionOk st f b → Near for_values fields (within_code st f b) (behind a) (behind b) → Code (around_code st f b) f a b
 code_stays st function_kind.Declaration a b s y n = near_code (decls_from _ (decls_stay function_kind.Declaration s)) y.1 (rows_stay s) n
 code_stays st function_kind.Expression a b s y n = near_code (decls_from _ (decls_stay function_kind.Expression s)) y.1 (rows_stay s) n
 code_stays st function_kind.Arrow a b s y n = near_code (decls_from _ (decls_stay function_kind.Arrow s)) y.1 (rows_stay s) n
 
-inside : {us : Purposes} {p : Row} {st : Names} {n : Note} {a b r : Forest} (k : Kind) (core : Bool) → is_core k ≡ core → ReadsSame k a b → Local (wanted_below (purpose_here us (is_row r)) k) a b → IfCore core (NodeFits p st k b (λ q e t. Near (purposes_of q (wanted_below (purpose_here us (is_row r)) k)) e t (part_of q a) (part_of q b))) → Near (purposes_behind us) p st r r → Near us p st (node k n a r) (node k n b r)
+inside : {us : Purposes} {p : Row} {st : Names} {n : Note} {a b r : Forest} (k : Kind) (core : Bool) → is_core k ≡ core → ReadsSame k a b → Local (wanted_below (purpose_here us (is_row r)) k) (row_below k) a b → IfCore core (NodeFits p st k b (λ q e t. Near (purposes_of q (wanted_below (purpose_here us (is_row r)) k)) e t (part_of q a) (part_of q b))) → Near (purposes_behind us) p st r r → Near us p st (node k n a r) (node k n b r)
 inside k false e q s y o = near_uncovered e o
 inside {st = st} {a = a} {b = b} (Kind.Function function_kind.Declaration pure) true e q s y o = near_hoisted (same_name s) (subst (FillableIf st) (sym (same_name s)) y.0.0) (code_stays st function_kind.Declaration a b s y.0 y.1) o
 inside {st = st} {a = a} {b = b} (Kind.Function function_kind.Expression pure) true e q s y o =
@@ -212,10 +248,12 @@ inside {st = st} {a = a} {b = b} (Kind.Function function_kind.Expression pure) t
 inside {st = st} {a = a} {b = b} (Kind.Function function_kind.Arrow pure) true e q s y o = near_closure tt refl (same_decls st []) y.0.0 (code_stays st function_kind.Arrow a b s y.0 y.1) o
 inside {st = st} {a = a} {b = b} k true e q s y o = near_node y.0 (decls_from st (declared_stay k s)) (heads_stay k (names_after st (declared k b)) a b q s) y.1 o
 
-fits_with : {F G : Part → Row → Names → Type 0} (p : Row) (st : Names) (k : Kind) (b : Forest) (core : Bool) → ((q : Part) (r : Row) (t : Names) → F q r t → G q r t) → IfCore core (NodeFits p st k b F) → IfCore core (NodeFits p st k b G)
-fits_with p st k b false g y = tt
-fits_with p st (Kind.Function f pure) b true g y = (y.0, g _ _ _ y.1)
-fits_with p st k b true g y = (y.0, g _ _ _ y.1)
+-- what lies below stays by its row; behind a function's name, by its fields
+fits_with : (G : Part → Row → Names → Type 0) (p : Row) (st : Names) (k : Kind) (b : Forest) (core : Bool) → ((t : Names) → Fits whole (row_below k) t b → G whole (row_below k) t) → ((t : Names) → row_below k ≡ fields → Fits others fields t b → G others fields t)
+    → IfCore core (NodeFits p st k b (λ q r t. Fits q r t b)) → IfCore core (NodeFits p st k b G)
+fits_with G p st k b false g h y = tt
+fits_with G p st (Kind.Function f pure) b true g h y = (y.0, h _ refl y.1)
+fits_with G p st k b true g h y = (y.0, g _ y.1)
 
 -- a place of change
 stands_near : {us : Purposes} {k l : Kind} {a b : Forest} (p : Row) (st : Names) (n m : Note) (r : Forest) → Stands (purpose_here us (is_row r)) k a l b → NodeStays p st l b → Fits whole p st r → Near us p st (node k n a r) (node l m b r)
@@ -226,15 +264,21 @@ stands_near p st n m r (for_sides {b = b} g c) y f = one_sided g (c st) (fit who
 stands_near p st n m r (for_sequence {b = b} c) y f = shorter (c st) (fit whole fields st b y.1.0.1) (fit whole p st r f)
 
 -- the old row is near the new one where the new one stays near itself
-pub local_near : {us : Purposes} (q : Part) (p : Row) (st : Names) {t u : Forest} → Local us t u → Fits q p st u → Near (purposes_of q us) p st (part_of q t) (part_of q u)
-local_near whole p st (at_place {n = n} {m = m} {r = r} c z) f = stands_near p st n m r c f.0 f.1
-local_near whole p st (in_below {k = k} {n = n} {a = a} {b = b} {r = r} q s) f = inside k (is_core k) refl q s (fits_with p st k b (is_core k) (λ q r t z. local_near q r t s z) f.0) (fit whole p st r f.1)
-local_near whole p st (in_rest {k = k} {n = n} {a = a} s) f = node_stays p st k n a f.0 (local_near whole p st s f.1)
-local_near whole p st (in_absent s) f = near_absent (local_near whole p st s f)
-local_near others p st (at_place {r = r} c z) f = fit whole p st r f
-local_near others p st (in_below {r = r} q s) f = fit whole p st r f
-local_near others p st (in_rest s) f = local_near whole p st s f
-local_near others p st (in_absent s) f = local_near whole p st s f
+mutual
+  pub local_near : {us : Purposes} (p : Row) (st : Names) {t u : Forest} → Local us p t u → Fits whole p st u → Near us p st t u
+  local_near p st (at_place {n = n} {m = m} {r = r} c z) f = stands_near p st n m r c f.0 f.1
+  local_near p st (behind_jump {k = k} {n = n} {a = a} {s = s} j c) f = near.behind_jump j (cut_unreached c) (fit whole items st (node k n a s) f)
+  local_near p st (in_below {us = us} {k = k} {n = n} {a = a} {b = b} {r = r} q s) f =
+      inside k (is_core k) refl q s (fits_with (λ q e t. Near (purposes_of q (wanted_below (purpose_here us (is_row r)) k)) e t (part_of q a) (part_of q b)) p st k b (is_core k) (λ t z. local_near (row_below k) t s z) (λ t e z. local_behind (row_below k) t s e z) f.0) (fit whole p st r f.1)
+  local_near p st (in_rest {k = k} {n = n} {a = a} s) f = node_stays p st k n a f.0 (local_near p st s f.1)
+  local_near p st (in_absent s) f = near_absent (local_near p st s f)
 
-pub module_decls_stay : {us : Purposes} {t u : Forest} → Local us t u → module_decls t ≡ module_decls u
+  local_behind : {us : Purposes} (p : Row) (st : Names) {t u : Forest} → Local us p t u → p ≡ fields → Fits others fields st u → Near (purposes_behind us) fields st (behind t) (behind u)
+  local_behind p st (at_place {r = r} c z) e f = fit whole fields st r f
+  local_behind p st (behind_jump j c) e f = cc
+  local_behind p st (in_below {r = r} q s) e f = fit whole fields st r f
+  local_behind p st (in_rest {us = us} {r = r} {s = s} x) e f = subst (λ o. Near (purposes_behind us) o st r s) e (local_near p st x (subst (λ o. Fits whole o st s) (sym e) f))
+  local_behind p st (in_absent {us = us} {r = r} {s = s} x) e f = subst (λ o. Near (purposes_behind us) o st r s) e (local_near p st x (subst (λ o. Fits whole o st s) (sym e) f))
+
+pub module_decls_stay : {us : Purposes} {o : Row} {t u : Forest} → Local us o t u → module_decls t ≡ module_decls u
 module_decls_stay s = ap₂ (λ (v : List Text) (w : List Decl). decl this_name ready ∷ all_so ready v ++ w) (same_vars s) (same_lexical s)

@@ -16,7 +16,7 @@ use Rattle.js_meaning.specs.Expression.{receiver_of, fill_own, function_value, w
 use Rattle.js_meaning.specs.Statement.{for_does, catch_does}
 use Rattle.js_meaning.specs.Meaning.{default_does, does}
 use Rattle.js_meaning_near.specs.Names.{known, silent_function, unread, Names, Fillable, FillableIf, Decls, Copied, declared, names_below}
-use Rattle.js_meaning_near.specs.Near.{Idle, idle_empty, idle_expression, idle_no_expression, idle_function, idle_declarator, idle_bare_declarator, idle_cut_declarator, idle_declaration, statement_emptied, no_statement_emptied, value_read, SilentCode, near_silent, Row, fields, switch_fields, items, row_below, HoldsCases, Okay, key_of, keys, Heads, IsClosure, hoists_nothing, Near, wastes_more, one_sided, shorter, comes_to, near_nothing, near_absent, near_node, near_closure, near_hoisted, near_unread, near_known, near_uncovered, changed, same_effects, leaves, Code, sign_applied}
+use Rattle.js_meaning_near.specs.Near.{Idle, idle_empty, idle_expression, idle_no_expression, idle_function, idle_declarator, idle_bare_declarator, idle_cut_declarator, idle_declaration, statement_emptied, no_statement_emptied, value_read, SilentCode, near_silent, Row, fields, switch_fields, items, row_below, HoldsCases, Okay, key_of, keys, Heads, IsClosure, hoists_nothing, Unreached, goes_here, goes_behind, goes_behind_none, Near, behind_jump, wastes_more, one_sided, shorter, comes_to, near_nothing, near_absent, near_node, near_closure, near_hoisted, near_unread, near_known, near_uncovered, changed, same_effects, leaves, Code, sign_applied}
 use Rattle.js_meaning_near.specs.Purpose.{Purpose, for_value, for_effect, ForEffect, Purposes, for_values, loop_purposes, wanted_below}
 use Rattle.js_meaning_near.proofs.Worlds.{World}
 use Rattle.js_meaning_near.proofs.Relations.{At, Envs, Same, same_plain, same_closure, same_object, same_array, SameContent, same_empty, same_element, same_property, SameAll, all_nil, all_cons, same_gives, same_refers, same_at_member, same_breaks, same_continues, same_returns, same_throws, SameAsk, ActsForEffect, same_run, same_value, same_place, same_take, same_take_all, same_declares, same_collect, same_entry, same_matches, Acts, Means, same_turn, Enters, envs_later, same_later, all_later}
@@ -126,6 +126,12 @@ idle_starts (idle_declarator d q) r x = x
 idle_starts (idle_bare_declarator d) r x = x
 idle_starts (idle_declaration q) r x = x
 
+unreached_starts : {c e : Forest} (env : Env) (m : M) → Unreached c e → start c env m ≡ start e env m
+unfolding start
+unreached_starts env m (goes_here {k = k} {a = a} {r = r} h) = starts_nothing k a (start a env) env (start r env m) h
+unreached_starts env m (goes_behind {k = k} {a = a} u) = ap (λ x. start_item k a (start a env) env x) (unreached_starts env m u)
+unreached_starts env m (goes_behind_none u) = unreached_starts env m u
+
 pub start_acts : {us : Purposes} {p : Row} {st : Names} {a b : Forest} {w : World} {e f : Env} {m k : M} → Starts p → Near us p st a b → Envs w st e f → Acts w m k → Acts w (start a e m) (start b f k)
 unfolding start
 start_acts s near_nothing r x = x
@@ -163,6 +169,7 @@ start_acts {e = e} {f = f} {m = m} {k = k} s (wastes_more {k = g} {l = l} {a = a
 start_acts s (one_sided h q t u) r x = start_acts s u r x
 start_acts s (shorter q t u) r x = start_acts s u r x
 start_acts s (leaves i c) r x = idle_starts i r (start_acts s c r x)
+start_acts {b = b} {w = w} {e = e} {f = f} {m = m} {k = k} s (behind_jump {k = g} {n = i} {a = o} j u t) r x = subst (λ z. Acts w z (start b f k)) (sym (unreached_starts e m (goes_behind {k = g} {n = i} {a = o} u))) (start_acts s t r x)
 
 -- what a node is asked that may be a statement or an expression
 

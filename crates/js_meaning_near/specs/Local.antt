@@ -1,5 +1,5 @@
 -- A node that another stands for, anywhere in a row.
-use Rattle.std.specs.Prelude.{◌≡◌}
+use Rattle.std.specs.Prelude.{◌≡◌, [], true}
 use Rattle.js_syntax.specs.declared.node_kind.NodeKind.{NodeKind as Kind}
 use Rattle.js_syntax.specs.declared.operator.LogicalOperator.{LogicalOperator}
 use Rattle.js_syntax.specs.Node.{Note, Forest, nothing, node, absent, below_of}
@@ -8,7 +8,7 @@ use Rattle.js_meaning.specs.Scope.{names_of, bound_names, vars_of, var_names, sp
 use Rattle.js_meaning.specs.Module.{specifier_of}
 use Rattle.js_meaning_near.specs.Names.{Names}
 use Rattle.js_meaning_near.specs.Purpose.{Purpose, ForEffect, Purposes, purpose_here, purposes_behind, wanted_below}
-use Rattle.js_meaning_near.specs.Near.{fields, is_row, ComesTo, LessWaste, OneSided, Shorter, keys}
+use Rattle.js_meaning_near.specs.Near.{Row, fields, items, row_below, is_row, hoists_nothing, is_jump, ComesTo, LessWaste, OneSided, Shorter, keys}
 use Rattle.js_meaning_near.specs.Fit.{whole, Fits}
 use Rattle.js_meaning_near.specs.Once.{NodeStays}
 
@@ -17,6 +17,12 @@ pub record Plainly (k : Kind) (a : Forest) (l : Kind) (b : Forest) : Type 0 wher
   pub bound : names_of k (bound_names a) ≡ names_of l (bound_names b)
   pub vars : vars_of k a (var_names a) ≡ vars_of l b (var_names b)
   pub imports : (source : Text) → specifier_decls source k a (import_decls source a) ≡ specifier_decls source l b (import_decls source b)
+
+-- it declares nothing outside
+pub record DeclaresNothing (k : Kind) (a : Forest) : Type 0 where
+  pub bound : names_of k (bound_names a) ≡ []
+  pub vars : vars_of k a (var_names a) ≡ []
+  pub imports : (source : Text) → specifier_decls source k a (import_decls source a) ≡ []
 
 abbrev pub KeysStay : Kind → Forest → Forest → Type 0
 KeysStay Kind.ObjectExpression a b = keys (below_of a) ≡ keys (below_of b)
@@ -36,12 +42,19 @@ pub data Stands (u : Purpose) : Kind → Forest → Kind → Forest → Type 0 w
   for_sides : {o : LogicalOperator} {a b : Forest} → ForEffect u → ((st : Names) → OneSided st o a b) → Stands u Kind.ConditionalExpression a (Kind.LogicalExpression o) b
   for_sequence : {n : Note} {a b : Forest} → ((st : Names) → Shorter st a b) → Stands u Kind.SequenceExpression (node Kind.Expressions n a nothing) Kind.SequenceExpression (node Kind.Expressions n b nothing)
 
--- By what the expressions of the rows are evaluated for.
-pub data Local : Purposes → Forest → Forest → Type 0 where
-  at_place : {us : Purposes} {k l : Kind} {n m : Note} {a b r : Forest} → Stands (purpose_here us (is_row r)) k a l b → Plainly k a l b → Local us (node k n a r) (node l m b r)
-  in_below : {us : Purposes} {k : Kind} {n : Note} {a b r : Forest} → ReadsSame k a b → Local (wanted_below (purpose_here us (is_row r)) k) a b → Local us (node k n a r) (node k n b r)
-  in_rest : {us : Purposes} {k : Kind} {n : Note} {a r s : Forest} → Local (purposes_behind us) r s → Local us (node k n a r) (node k n a s)
-  in_absent : {us : Purposes} {r s : Forest} → Local (purposes_behind us) r s → Local us (absent r) (absent s)
+-- what stands behind a jump, and the same without a node that starts nothing and declares nothing
+pub data Cut : Forest → Forest → Type 0 where
+  node_cut : {k : Kind} {n : Note} {a r : Forest} → hoists_nothing k ≡ true → DeclaresNothing k a → Cut (node k n a r) r
+  cut_behind : {k : Kind} {n : Note} {a r s : Forest} → Cut r s → Cut (node k n a r) (node k n a s)
+  cut_behind_none : {r s : Forest} → Cut r s → Cut (absent r) (absent s)
+
+-- By what the expressions of the rows are evaluated for, and how their nodes stand.
+pub data Local : Purposes → Row → Forest → Forest → Type 0 where
+  at_place : {us : Purposes} {p : Row} {k l : Kind} {n m : Note} {a b r : Forest} → Stands (purpose_here us (is_row r)) k a l b → Plainly k a l b → Local us p (node k n a r) (node l m b r)
+  behind_jump : {us : Purposes} {k : Kind} {n : Note} {a r s : Forest} → is_jump k ≡ true → Cut r s → Local us items (node k n a r) (node k n a s)
+  in_below : {us : Purposes} {p : Row} {k : Kind} {n : Note} {a b r : Forest} → ReadsSame k a b → Local (wanted_below (purpose_here us (is_row r)) k) (row_below k) a b → Local us p (node k n a r) (node k n b r)
+  in_rest : {us : Purposes} {p : Row} {k : Kind} {n : Note} {a r s : Forest} → Local (purposes_behind us) p r s → Local us p (node k n a r) (node k n a s)
+  in_absent : {us : Purposes} {p : Row} {r s : Forest} → Local (purposes_behind us) p r s → Local us p (absent r) (absent s)
 
 -- a field, or none in its place
 abbrev pub IsField : Forest → Type 0

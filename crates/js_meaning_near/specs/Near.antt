@@ -150,6 +150,20 @@ pub data Shorter (st : Names) : Forest → Forest → Type 0 where
   one_stays : {k : Kind} {n : Note} {a r s : Forest} → Shorter st r s → Shorter st (node k n a r) (node k n a s)
   one_leaves : {k : Kind} {n : Note} {a r s : Forest} → Silent st k a → Shorter st r s → Shorter st (node k n a r) s
 
+-- statements behind which nothing of their list runs (14.8, 14.9, 14.10, 14.14)
+abbrev pub is_jump : Kind → Bool
+is_jump (Kind.BreakStatement l) = true
+is_jump (Kind.ContinueStatement l) = true
+is_jump Kind.ReturnStatement = true
+is_jump Kind.ThrowStatement = true
+is_jump k = false
+
+-- what stands behind one, and the same without a node that starts nothing where its scope is entered
+pub data Unreached : Forest → Forest → Type 0 where
+  goes_here : {k : Kind} {n : Note} {a r : Forest} → hoists_nothing k ≡ true → Unreached (node k n a r) r
+  goes_behind : {k : Kind} {n : Note} {a r s : Forest} → Unreached r s → Unreached (node k n a r) (node k n a s)
+  goes_behind_none : {r s : Forest} → Unreached r s → Unreached (absent r) (absent s)
+
 -- How the nodes of a row stand: in a field each; in the fields of a switch; or in a list that items may leave.
 pub data Row : Type 0 where
   fields switch_fields items : Row
@@ -246,6 +260,8 @@ mutual
         → Near us p st (node Kind.SequenceExpression n (node Kind.Expressions i a nothing) c) (node Kind.SequenceExpression m (node Kind.Expressions j b nothing) d)
     -- an item that the new list doesn't have
     leaves : {us : Purposes} {st : Names} {k : Kind} {n : Note} {a c d : Forest} → Idle st k a → Near us items st c d → Near us items st (node k n a c) d
+    -- an item behind a jump, which never runs
+    behind_jump : {us : Purposes} {st : Names} {k : Kind} {n : Note} {a c d e : Forest} → is_jump k ≡ true → Unreached c e → Near us items st (node k n a e) d → Near us items st (node k n a c) d
 
   -- what lies below a function, by the names around it
   pub data Code : Names → FunctionKind → Forest → Forest → Type 0 where

@@ -10,7 +10,8 @@
 //! For rewritings to come: `specs/Purpose.antt` tells of each expression what it is evaluated for, and of which nobody takes
 //! the value. A node may come to another (`ComesTo`, `specs/Local.antt`) as far as is asked for at its place; so an expression
 //! may come out bare (`specs/Bare.antt`). A statement may come to the parts of its expression that act (`SameEffects`,
-//! `specs/Wasted.antt`), and so may an expression whose value nobody takes (`LessWaste`, `OneSided`, `Shorter`). Rows may change
+//! `specs/Wasted.antt`), and so may an expression whose value nobody takes (`LessWaste`, `OneSided`, `Shorter`). What stands behind
+//! a jump in its list never runs (`Unreached`): a statement there that declares nothing may leave. Rows may change
 //! at any number of places by what is known of a name (`specs/Rewritten.antt`, `specs/Known.antt`). A name that is `loose` says
 //! that the new module may make fewer entries.
 //!

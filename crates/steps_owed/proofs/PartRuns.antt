@@ -12,10 +12,10 @@ use Rattle.js_meaning.specs.Module.{specifier_of}
 use Rattle.js_meaning.proofs.Kept.{refined_joined}
 use Rattle.js_meaning_near.specs.Names.{no_names}
 use Rattle.js_meaning_near.specs.Purpose.{Purpose, Purposes, for_values, purpose_here, purposes_behind, wanted_below}
-use Rattle.js_meaning_near.specs.Near.{is_calm, hoists_nothing, is_row, items, key_of, keys, module_of}
+use Rattle.js_meaning_near.specs.Near.{is_calm, hoists_nothing, is_row, Row as NearRow, fields, items, row_below as near_row_below, key_of, keys, module_of}
 use Rattle.js_meaning_near.specs.Fit.{whole}
 use Rattle.js_meaning_near.specs.Avoid.{InPlace}
-use Rattle.js_meaning_near.specs.Local.{ReadsSame, Stands, for_part, for_waste, for_sides, for_sequence, Local, at_place, in_below, in_rest, in_absent}
+use Rattle.js_meaning_near.specs.Local.{ReadsSame, Stands, for_part, for_waste, for_sides, for_sequence, Local, at_place, behind_jump, in_below, in_rest, in_absent}
 use Rattle.js_meaning_near.proofs.Alike.{same_alike, place_alike}
 use Rattle.js_meaning_near.proofs.Instances.{local_change}
 use Rattle.js_meaning_near.proofs.Local.{old_node}
@@ -42,7 +42,7 @@ no_key : (k : Kind) → hoists_nothing k ≡ true → key_of k ≡ None
 no_key (Kind.Property how method key) h = absurd (true≢false (sym h))
 no_key k h = refl
 
-calm_hoists : (k : Kind) → is_calm k ≡ true → hoists_nothing k ≡ true
+pub calm_hoists : (k : Kind) → is_calm k ≡ true → hoists_nothing k ≡ true
 calm_hoists (Kind.ReferenceName x) h = refl
 calm_hoists (Kind.MemberExpression key optional) h = refl
 calm_hoists Kind.ParenthesizedExpression h = refl
@@ -100,16 +100,16 @@ module _ (place : Around) (x y : Tree) (c : Comes place x y) where
   reads_same (Kind.ExportSpecifier exported) a made = exported_name exported a (made refl)
   reads_same k a made = tt
 
-  local_as_planned : (us : Purposes) (a : Around) → wanted_in us a ≡ wanted_at place → (plan : Plan) → plan_passes is_sound plan ≡ true → Stand plan (plug a (Some x)) → Local us (plug a (Some x)) (plug a (Some what_comes))
-  local_as_planned us (first rest) e plan h st = at_place (subst (λ u. Stands u x.kind x.below what_comes.kind what_comes.below) (sym e) c.stands) c.plainly
-  local_as_planned us (behind k n below a) e plan h st = in_rest (local_as_planned (purposes_behind us) a e (shape.behind plan k) (behind_passes is_sound plan k h) st.1)
-  local_as_planned us (behind_none a) e plan h st = in_absent (local_as_planned (purposes_behind us) a e (shape.behind plan Kind.Hole) (behind_passes is_sound plan Kind.Hole h) st.1)
-  local_as_planned us (under k n a rest) e plan h st =
+  local_as_planned : (us : Purposes) (o : NearRow) (a : Around) → wanted_in us a ≡ wanted_at place → (plan : Plan) → plan_passes is_sound plan ≡ true → Stand plan (plug a (Some x)) → Local us o (plug a (Some x)) (plug a (Some what_comes))
+  local_as_planned us o (first rest) e plan h st = at_place (subst (λ u. Stands u x.kind x.below what_comes.kind what_comes.below) (sym e) c.stands) c.plainly
+  local_as_planned us o (behind k n below a) e plan h st = in_rest (local_as_planned (purposes_behind us) o a e (shape.behind plan k) (behind_passes is_sound plan k h) st.1)
+  local_as_planned us o (behind_none a) e plan h st = in_absent (local_as_planned (purposes_behind us) o a e (shape.behind plan Kind.Hole) (behind_passes is_sound plan Kind.Hole h) st.1)
+  local_as_planned us o (under k n a rest) e plan h st =
       let planned = planned_below (plug a (Some x)) (first_place plan) k st.0 in
-      in_below (reads_same k a (λ single. made_at (plug a (Some x)) k single (first_place plan) (first_passes is_sound plan refl h) st.0)) (local_as_planned (wanted_below (purpose_here us (is_row rest)) k) a e planned.0 planned.1 planned.2)
+      in_below (reads_same k a (λ single. made_at (plug a (Some x)) k single (first_place plan) (first_passes is_sound plan refl h) st.0)) (local_as_planned (wanted_below (purpose_here us (is_row rest)) k) (near_row_below k) a e planned.0 planned.1 planned.2)
 
-pub part_is_local : (a : Around) (x y : Tree) (c : Comes a x y) → Fits root (plug a (Some x)) → Local for_values (plug a (Some x)) (plug a (Some (what_comes a x y c)))
-part_is_local a x y c fits = local_as_planned a x y c for_values a refl (these (one root ∷ [])) refl fits
+pub part_is_local : (a : Around) (x y : Tree) (c : Comes a x y) → Fits root (plug a (Some x)) → Local for_values fields (plug a (Some x)) (plug a (Some (what_comes a x y c)))
+part_is_local a x y c fits = local_as_planned a x y c for_values fields a refl (these (one root ∷ [])) refl fits
 
 -- ---- modules
 
@@ -125,19 +125,20 @@ pub record StillModule (n m : Note) (b u : Forest) : Type 0 where
   pub changed : Forest
   pub is : u ≡ module_of n m changed
   pub between : Forest
-  pub local : Local for_values b between
+  pub local : Local for_values items b between
   pub same : bare between ≡ bare changed
 
-not_of_nothing : {us : Purposes} {t u : Forest} → Local us t u → t ≡ nothing → ⊥
+not_of_nothing : {us : Purposes} {o : NearRow} {t u : Forest} → Local us o t u → t ≡ nothing → ⊥
 not_of_nothing (at_place c p) e = cc
+not_of_nothing (behind_jump j c) e = cc
 not_of_nothing (in_below q s) e = cc
 not_of_nothing (in_rest s) e = cc
 not_of_nothing (in_absent s) e = cc
 
-items_change : (n m : Note) (b c u : Forest) → u ≡ module_of n m c → Local for_values (module_of n m b) u → Local for_values b c
+pub items_change : (n m : Note) (b c u : Forest) → u ≡ module_of n m c → Local for_values fields (module_of n m b) u → Local for_values items b c
 items_change n m b c _ e (at_place s p) = absurd (true≢false (sym (old_node s)))
 items_change n m b c _ e (in_below q (at_place s p)) = absurd (true≢false (sym (old_node s)))
-items_change n m b c _ e (in_below q (in_below {b = d} r s)) = subst (Local for_values b) (same_items e) s
+items_change n m b c _ e (in_below q (in_below {b = d} r s)) = subst (Local for_values items b) (same_items e) s
   where
     same_items : {d : Forest} → module_of n m d ≡ module_of n m c → d ≡ c
     same_items e = cc
@@ -198,11 +199,11 @@ parts_stay_modules n m b a x y is c fits =
       changed = plug there.inside (Some y);
       is = there.is y;
       between = plug there.inside (Some z);
-      local = items_change n m b (plug there.inside (Some z)) (plug a (Some z)) (there.is z) (subst (λ t. Local for_values t (plug a (Some z))) is (part_is_local a x y c (subst (Fits root) (sym is) fits)));
+      local = items_change n m b (plug there.inside (Some z)) (plug a (Some z)) (there.is z) (subst (λ t. Local for_values fields t (plug a (Some z))) is (part_is_local a x y c (subst (Fits root) (sym is) fits)));
       same = other_notes there.inside y.kind y.note c.inner y.below c.same;
     }
 
-module_refines : (n m : Note) (b u : Forest) → StillModule n m b u → Fits root u → IsWellFormed u → all_core u ≡ true → Refined (module_of n m b) u
+pub module_refines : (n m : Note) (b u : Forest) → StillModule n m b u → Fits root u → IsWellFormed u → all_core u ≡ true → Refined (module_of n m b) u
 module_refines n m b u new fits form core =
     let changed = module_in_place n m new.changed (subst (Fits root) new.is fits) (subst IsWellFormed new.is form) (subst (λ t. all_core t ≡ true) new.is core) in
     let place = place_alike whole items (same_alike new.changed new.between (sym new.same)) changed in
