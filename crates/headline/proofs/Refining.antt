@@ -18,9 +18,10 @@ use Rattle.steps_fit.specs.Sensible.{IsSensible, IsSensibleModule}
 use Rattle.steps_fit.proofs.Sensible.{of_module, module_renoted}
 use Rattle.steps_owed.specs.Comes.{Comes}
 use Rattle.steps_owed.specs.Good.{Good}
-use Rattle.steps_owed.specs.Owed.{SameRuns, by_step, by_coming}
+use Rattle.steps_owed.specs.Owed.{LeavesRuns, by_going, by_jump, SameRuns, by_step, by_coming}
 use Rattle.steps_owed.proofs.Edited.{edit_sensible}
 use Rattle.steps_owed.proofs.Here.{good_module}
+use Rattle.steps_owed.proofs.JumpRuns.{core_left, still_module, cut_refines}
 use Rattle.steps_owed.proofs.Owed.{leaving, becoming}
 use Rattle.steps_owed.proofs.PartRuns.{core_stays, parts_stay_modules, comes_refines}
 use Rattle.headline.proofs.Sound.{Refines, step_refines, refines_joined}
@@ -57,8 +58,21 @@ becomes_refines a x y (by_step step) h g = stepped (plug a (Some x)) (plug a (So
 becomes_refines a x y (by_coming comes) h g =
     come a x y (comes h.note h.list_note h.items h.is (subst (Fits root) h.is h.sensible.fits) (subst IsWellFormed h.is h.sensible.well_formed) (subst (λ t. all_core t ≡ true) h.is h.core)) h g
 
+-- an item that leaves
+leaves_refines : (a : Around) (x : Tree) → LeavesRuns a x → IsSensibleModule (plug a (Some x)) → IsSensible (without a) → Refines (plug a (Some x)) (without a)
+leaves_refines a x (by_going step) h g = stepped (plug a (Some x)) (without a) step h g
+leaves_refines a x (by_jump unreached calm declares) h g =
+    let fits = subst (Fits root) h.is h.sensible.fits in
+    let core = subst (λ t. all_core t ≡ true) h.is h.core in
+    let nothing_declared = declares h.note h.list_note h.items h.is fits (subst IsWellFormed h.is h.sensible.well_formed) core in
+    let still = still_module h.note h.list_note h.items a x h.is unreached calm nothing_declared fits in
+    record {
+      left = of_module (without a) (record { note = h.note; list_note = h.list_note; items = still.changed; is = still.is }) (core_left x a h.core) g;
+      refined = subst (λ t. Refined t (without a)) (sym h.is) (cut_refines h.note h.list_note h.items a x h.is unreached calm nothing_declared fits core g.fits g.well_formed);
+    }
+
 edit_refines : (t u : Forest) → Edit t u → IsSensibleModule t → Refines t u
-edit_refines t u (leaves a x c) h = stepped (plug a (Some x)) (without a) (leaving a x c).step h (edit_sensible t u (leaves a x c) h.sensible)
+edit_refines t u (leaves a x c) h = leaves_refines a x (leaving a x c).runs h (edit_sensible t u (leaves a x c) h.sensible)
 edit_refines t u (becomes a x y c) h = becomes_refines a x y (becoming a x y c).runs h (edit_sensible t u (becomes a x y c) h.sensible)
 
 -- ---- one after the other

@@ -1,5 +1,5 @@
 -- The definitions, tried on small programs.
-use Rattle.std.proofs.Common.{◌≡◌, ◌∙◌, ℕ, Some, None, [], ◌∷◌, pos, Bool, true, false, true≢false, codes, inl, inr, refl, sym, ap}
+use Rattle.std.proofs.Common.{◌≡◌, ◌∙◌, ℕ, Some, None, List, [], ◌∷◌, pos, Bool, true, false, true≢false, codes, inl, inr, refl, sym, ap}
 use Rattle.js_syntax.specs.declared.node_kind.NodeKind.{NodeKind as Kind}
 use Rattle.js_syntax.specs.declared.kind.VariableKind.TheVariants as variable
 use Rattle.js_syntax.specs.declared.operator.BinaryOperator.TheVariants as binary
@@ -24,6 +24,7 @@ use Rattle.steps_allowed.specs.UnusedDeclaration.{a_declaration, SilentDeclarati
 use Rattle.steps_allowed.specs.KnownConditional.{a_conditional, KnownConditional, consequent_is_taken, alternate_is_taken}
 use Rattle.steps_allowed.specs.KnownSide.{right_side_counts, left_side_decides}
 use Rattle.steps_allowed.specs.KnownIf.{an_if, KnownIf, consequent_is_run, alternate_is_run}
+use Rattle.steps_allowed.specs.Unreached.{Unreached, never_runs}
 use Rattle.steps_allowed.specs.DeadIf.{DeadIf, nothing_is_run}
 use Rattle.steps_allowed.specs.UnusedOperation.{needed_at, one_operand_acts}
 use Rattle.steps_allowed.specs.UnusedList.{list_becomes, acting_parts_stay}
@@ -33,8 +34,8 @@ use Rattle.steps_allowed.specs.IdleParts.{idle_parts_leave}
 use Rattle.steps_allowed.specs.TwoSides.{both_sides_act}
 use Rattle.steps_allowed.specs.UnusedObject.{acting_values_stay}
 use Rattle.steps_allowed.specs.KnownOperation.{known_literal, value_is_known}
-use Rattle.steps_allowed.specs.Edits.{Edit, leaves, becomes, empty_statement, silent_statement, unused_function, unused_declaration, known_conditional, known_side, known_if, dead_if, unused_operation, unused_list, indirect_choice, one_sided_choice, idle_parts, two_sides, unused_object, known_operation}
-use Rattle.steps_allowed.specs.Rows.{in_list, before, call_of_a, null, if_one, if_null, either_way, conditional, logical, may_be_named, o_f, parenthesized, in_statement, called, called_in_parentheses, called_in_with, argument, operand, applied, equals, assigned, statement, ComesOut, Stays, StaysUnused, array, spread, hole, sequence, ListStays, ChoiceStays, PartsStay, SidesStay, object, a_is, b_is, getter_of_a, ObjectStays, literal, operation, OperationStays, behind_zero, placed, StaysDirect, with_a, in_with_a, empty, a_is_read, a_is_exported}
+use Rattle.steps_allowed.specs.Edits.{Edit, leaves, becomes, empty_statement, silent_statement, unused_function, unused_declaration, unreached, known_conditional, known_side, known_if, dead_if, unused_operation, unused_list, indirect_choice, one_sided_choice, idle_parts, two_sides, unused_object, known_operation}
+use Rattle.steps_allowed.specs.Rows.{in_list, before, throws, behind_throw, call_of_a, null, if_one, if_null, either_way, conditional, logical, may_be_named, o_f, parenthesized, in_statement, called, called_in_parentheses, called_in_with, argument, operand, applied, equals, assigned, statement, ComesOut, Stays, StaysUnused, array, spread, hole, sequence, ListStays, ChoiceStays, PartsStay, SidesStay, object, a_is, b_is, getter_of_a, ObjectStays, literal, operation, OperationStays, behind_zero, placed, StaysDirect, with_a, in_with_a, empty, a_is_read, a_is_exported}
 
 pub empties_in_list : Edit (a_module (does one ∷ [])) (a_module (empty ∷ []))
 empties_in_list = becomes (before []) _ _ (silent_statement (silent_statement_empties nowhere nowhere nowhere _ nothing (inl refl, tt)))
@@ -437,3 +438,18 @@ text_and_number_stay _ (value_is_known i v _ is) = no_literal is
 
 pub type_of_name_stays : OperationStays argument (applied unary.Typeof (reads a))
 type_of_name_stays _ (value_is_known i v _ is) = no_literal is
+
+pub unreached_call_leaves : Edit (a_module (throws one ∷ does call_of_a ∷ [])) (a_module (throws one ∷ []))
+unreached_call_leaves = leaves behind_throw _ (unreached (never_runs refl refl refl refl))
+
+pub unreached_further_leaves : Edit (a_module (throws one ∷ let_ a ∷ block (does call_of_a ∷ []) ∷ [])) (a_module (throws one ∷ let_ a ∷ []))
+unreached_further_leaves = leaves (in_list (behind Kind.ThrowStatement nowhere one (behind (Kind.VariableDeclaration variable.Let) nowhere _ (first nothing)))) _ (unreached (never_runs refl refl refl refl))
+
+pub unreached_declaration_stays : (n : Note) (below : Forest) → Unreached behind_throw (record { kind = Kind.VariableDeclaration variable.Let; note = n; below = below }) → ⊥
+unreached_declaration_stays n below (never_runs item jump runs none) = true≢false (sym runs)
+
+pub unreached_declares_stays : (n : Note) → Unreached behind_throw (record { kind = Kind.BlockStatement; note = n; below = listed Kind.Statements (var_ a ∷ []) }) → ⊥
+unreached_declares_stays n (never_runs item jump runs none) = true≢false (sym none)
+
+pub front_stays : (items : List Forest) (x : Tree) → Unreached (before items) x → ⊥
+front_stays items x (never_runs item jump runs none) = true≢false (sym jump)

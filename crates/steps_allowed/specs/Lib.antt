@@ -24,6 +24,7 @@ pub mod UnusedObject
 pub mod KnownOperation
 pub mod KnownIf
 pub mod DeadIf
+pub mod Unreached
 pub mod Edits
 pub mod Arranged
 pub mod Rows

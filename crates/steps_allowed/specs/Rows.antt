@@ -35,6 +35,13 @@ in_list place = under (Kind.Program source_type.Module) nowhere (under Kind.Stat
 abbrev pub before : List Forest → Around
 before items = in_list (first (row items))
 
+abbrev pub throws : Forest → Forest
+throws e = over Kind.ThrowStatement e
+
+-- behind a `throw`
+abbrev pub behind_throw : Around
+behind_throw = in_list (behind Kind.ThrowStatement nowhere one (first nothing))
+
 -- behind this node
 abbrev pub past : Forest → Around → Around
 past (node k n below rest) place = behind k n below place

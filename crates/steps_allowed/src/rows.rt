@@ -1,12 +1,12 @@
 // Small programs that the definitions are tried on.
-ghost use Rattle.std.specs.Prelude.{pos, [], ◌∷◌, true, false, ◌≡◌, codes};
+ghost use Rattle.std.specs.Prelude.{pos, List, [], ◌∷◌, true, false, ◌≡◌, codes};
 ghost use Rattle.js_syntax.specs.declared.kind.VariableKind.TheVariants as variable;
 ghost use Rattle.js_syntax.specs.declared.node_kind.NodeKind.{NodeKind as Kind};
 ghost use Rattle.js_syntax.specs.declared.operator.BinaryOperator.TheVariants as binary;
 ghost use Rattle.js_syntax.specs.declared.operator.LogicalOperator.TheVariants as operator;
 ghost use Rattle.js_syntax.specs.declared.operator.UnaryOperator.TheVariants as unary;
 ghost use Rattle.js_syntax.specs.declared.value.LiteralValue.TheVariants as value;
-ghost use Rattle.js_syntax.specs.Node.{Tree, nothing, nowhere, joined};
+ghost use Rattle.js_syntax.specs.Node.{Tree, Note, Forest, nothing, nowhere, joined};
 ghost use Rattle.form_rules.specs.Samples.{a_module, a, binds, reads, listed, no, one, does, declares, let_, var_, function_a, block};
 ghost use Rattle.scope_rules.specs.Context.{body_of};
 ghost use Rattle.scope_rules.specs.Binding.{named_in};
@@ -18,8 +18,9 @@ ghost use Rattle.steps_allowed.specs.UnusedDeclaration.{a_declaration, SilentDec
 ghost use Rattle.steps_allowed.specs.KnownConditional.{a_conditional, KnownConditional};
 ghost use Rattle.steps_allowed.specs.KnownIf.{an_if, KnownIf};
 ghost use Rattle.steps_allowed.specs.DeadIf.{DeadIf};
+ghost use Rattle.steps_allowed.specs.Unreached.{Unreached};
 ghost use Rattle.steps_allowed.specs.Edits.{Edit};
-ghost use Rattle.steps_allowed.specs.Rows.{before, call_of_a, null, if_one, if_null, either_way, conditional, logical, may_be_named, o_f, parenthesized, called, called_in_parentheses, called_in_with, argument, operand, applied, equals, assigned, statement, ComesOut, Stays, StaysUnused, array, spread, hole, sequence, ListStays, ChoiceStays, PartsStay, SidesStay, object, a_is, b_is, getter_of_a, ObjectStays, literal, operation, OperationStays, behind_zero, placed, StaysDirect, with_a, in_with_a, empty, a_is_read, a_is_exported};
+ghost use Rattle.steps_allowed.specs.Rows.{before, throws, behind_throw, call_of_a, null, if_one, if_null, either_way, conditional, logical, may_be_named, o_f, parenthesized, called, called_in_parentheses, called_in_with, argument, operand, applied, equals, assigned, statement, ComesOut, Stays, StaysUnused, array, spread, hole, sequence, ListStays, ChoiceStays, PartsStay, SidesStay, object, a_is, b_is, getter_of_a, ObjectStays, literal, operation, OperationStays, behind_zero, placed, StaysDirect, with_a, in_with_a, empty, a_is_read, a_is_exported};
 
 /// A statement of a literal becomes empty, in a list and alone, and leaves the list then.
 pub fn silent_statements_go()
@@ -75,6 +76,16 @@ pub fn dead_ifs_become_empty()
     ensures with_var { (y : Tree) → DeadIf (an_if nowhere (Kind.Literal value.Null) nowhere nothing (joined (block (var_ a ∷ [])) no)) y → ⊥ }
     ensures function { (y : Tree) → DeadIf (an_if nowhere (Kind.Literal value.Null) nowhere nothing (joined (block (function_a [] [] ∷ [])) no)) y → ⊥ }
     ensures acting { (y : Tree) → DeadIf (an_if nowhere (Kind.UnaryExpression unary.LogicalNot) nowhere (array (call_of_a ∷ [])) (joined (does call_of_a) no)) y → ⊥ }
+{}
+
+/// A statement behind a jump leaves its list, whatever stands between, unless it declares a name around it. Declarations stay, and so
+/// does what stands in front of a jump or in no list with one.
+pub fn what_never_runs_leaves()
+    ensures call { Edit (a_module (throws one ∷ does call_of_a ∷ [])) (a_module (throws one ∷ [])) }
+    ensures further { Edit (a_module (throws one ∷ let_ a ∷ block (does call_of_a ∷ []) ∷ [])) (a_module (throws one ∷ let_ a ∷ [])) }
+    ensures declaration { (n : Note) (below : Forest) → Unreached behind_throw (record { kind = Kind.VariableDeclaration variable.Let; note = n; below = below }) → ⊥ }
+    ensures declares { (n : Note) → Unreached behind_throw (record { kind = Kind.BlockStatement; note = n; below = listed Kind.Statements (var_ a ∷ []) }) → ⊥ }
+    ensures front { (items : List Forest) (x : Tree) → Unreached (before items) x → ⊥ }
 {}
 
 /// A branch that declares a function isn't left out, in a block either: in code that isn't strict its name is one of the

@@ -26,8 +26,9 @@ use Rattle.steps_allowed.specs.UnusedDeclarator.{SilentDeclarator, unused_declar
 use Rattle.steps_allowed.specs.UnusedDeclaration.{SilentDeclaration, one_declarator, unused_declaration_leaves}
 use Rattle.steps_allowed.specs.SilentStatement.{SilentStatement, silent_statement_empties}
 use Rattle.steps_allowed.specs.Branches.{declares_none}
+use Rattle.steps_allowed.specs.Unreached.{only_runs, never_runs}
 use Rattle.steps_allowed.specs.DeadIf.{DeadIf, nothing_is_run}
-use Rattle.steps_allowed.specs.Edits.{Leaves, empty_statement, unused_function, unused_declarator, unused_declaration, Becomes, silent_statement, known_conditional, known_side, known_if, dead_if, unused_operation, unused_list, indirect_choice, one_sided_choice, idle_parts, two_sides, unused_object, known_operation, Edit, leaves, becomes, TreeEdits, no_tree_edit, one_tree_edit}
+use Rattle.steps_allowed.specs.Edits.{Leaves, empty_statement, unused_function, unused_declarator, unused_declaration, unreached, Becomes, silent_statement, known_conditional, known_side, known_if, dead_if, unused_operation, unused_list, indirect_choice, one_sided_choice, idle_parts, two_sides, unused_object, known_operation, Edit, leaves, becomes, TreeEdits, no_tree_edit, one_tree_edit}
 use Rattle.steps_owed.specs.Kept.{is_program}
 use Rattle.steps_owed.specs.Owed.{ByPart, ByParts}
 use Rattle.steps_owed.specs.Part.{DeclaresNothing}
@@ -80,6 +81,11 @@ dead_declares_nothing a x y (nothing_is_run n m i o tested k d b truth none) fit
     let undeclared = tested_row tested m d branch (expression_declares_none (node tested m d nothing) ((parts_of_if a n below fits).0, tt)) none in
     declares_nothing (forest_of x) (both (declares_none below) true undeclared refl) (enclosed_alone_there a kind.IfStatement n below (fits_enclosed (plug a (Some x)) fits))
 
+-- a statement is no program
+runs_no_program : (k : Kind) (n : Note) (below rest : Forest) → only_runs k ≡ true → is_program (node k n below rest) ≡ false
+runs_no_program (kind.Program source) n below rest h = absurd (true≢false (sym h))
+runs_no_program k n below rest h = refl
+
 module _ (e : BindingSite) (top : e.layer.scope ≡ 0) where
   abbrev ExportedBy : Forest → Type 0
   ExportedBy t = IsMarkedAmong (exported_declarations t) e
@@ -100,7 +106,7 @@ module _ (e : BindingSite) (top : e.layer.scope ≡ 0) where
   parts_settled a x y owed fits h =
       subst ExportedBy (made_plug a y)
       (settled a x (Some y) Anything fits (λ rest. part_no_program x.kind x.note x.below rest (owed.old_unasked fits)) (λ f. absurd (true≢false f)) (anywhere (Some x) false (λ at. outermost) 0 0 a)
-      (λ w c next some any. undeclared_stays e top x y (expression_declares_nothing (forest_of x) (owed.fits_expression fits)) c next some) h)
+      (λ w c next some any. undeclared_stays e top x (Some y) (expression_declares_nothing (forest_of x) (owed.fits_expression fits)) c next some) h)
 
   -- ---- every case
 
@@ -137,6 +143,9 @@ module _ (e : BindingSite) (top : e.layer.scope ≡ 0) where
       settled a (record { kind = k; note = n; below = below }) None (λ w c next. SilentDeclaration t how m l inner w c next × Free t how x w c next) fits (λ rest. refl) lists
       (both_at y (SilentDeclaration t how m l inner) (Free t how x) false (λ at. outermost) 0 0 a silent free)
       (λ w c next some holds. gone_stays e k n below None c next (declaration_gone t e h top w x j value closed c next some how n m l holds.0 holds.1)) h
+  left a x (unreached (never_runs item jump runs none)) l fits h =
+      settled a x None Anything fits (λ rest. runs_no_program x.kind x.note x.below rest runs) l (anywhere (Some x) false (λ at. outermost) 0 0 a)
+      (λ w c next some any. undeclared_stays e top x None (declares_nothing (forest_of x) none (enclosed_alone_there a x.kind x.note x.below (fits_enclosed (plug a (Some x)) fits))) c next some) h
 
   changed : (a : Around) (x y : Tree) → Becomes a x y → Fits root (plug a (Some x)) → Among e (exported_declarations (plug a (Some x))) → ExportedBy (plug a (Some y))
   changed a x y (silent_statement (silent_statement_empties n m l k inner silent)) fits h =
@@ -153,7 +162,7 @@ module _ (e : BindingSite) (top : e.layer.scope ≡ 0) where
   changed a x y (dead_if (nothing_is_run n m i o tested k d b truth none)) fits h =
       subst ExportedBy (made_plug a y)
       (settled a x (Some y) Anything fits (λ rest. refl) (λ f. absurd (true≢false f)) (anywhere (Some x) false (λ at. outermost) 0 0 a)
-      (λ w c next some any. undeclared_stays e top x y (dead_declares_nothing a x y (nothing_is_run n m i o tested k d b truth none) fits) c next some) h)
+      (λ w c next some any. undeclared_stays e top x (Some y) (dead_declares_nothing a x y (nothing_is_run n m i o tested k d b truth none) fits) c next some) h)
   changed a x y (unused_operation c) fits h = part_settled a x y (unused_operation_owes a x y c) fits h
   changed a x y (unused_list c) fits h = parts_settled a x y (unused_list_owes a x y c) fits h
   changed a x y (indirect_choice c) fits h = parts_settled a x y (indirect_choice_owes a x y c) fits h

@@ -253,6 +253,6 @@ part_stays e top x y gives part c next some all a same h =
           | inr f ↦ absurd f
         ]
 
--- what declares nothing may become anything
-pub undeclared_stays : (e : BindingSite) → e.layer.scope ≡ 0 → (x y : Tree) → DeclaresNothing (forest_of x) → (c : Context) (next : ℕ) → 0 < next → Stays e x (Some y) c next
+-- what declares nothing may become anything, or go
+pub undeclared_stays : (e : BindingSite) → e.layer.scope ≡ 0 → (x : Tree) (y : Option Tree) → DeclaresNothing (forest_of x) → (c : Context) (next : ℕ) → 0 < next → Stays e x y c next
 undeclared_stays e top x y none c next some all a same h = absurd (declares_none (forest_of x) none all (λ at. c) 0 next e (Prim.omega (arith, some, top)) h)

@@ -72,12 +72,6 @@ pub record IsLocal (t u : Forest) : Type 0 where
 
 -- ---- every case: a line each
 
-weighs : (a : places.Around) (x : Tree) → Leaves a x → 1 ≤ total weight (alone x.kind x.note x.below)
-weighs a x (edits.empty_statement (empty_statement_leaves n item)) = Prim.omega arith
-weighs a x (edits.unused_function (unused_function_leaves pure n m name rest item own free)) = Prim.omega arith
-weighs a x (edits.unused_declarator (unused_declarator_leaves n m name value item other own silent free)) = Prim.omega arith
-weighs a x (edits.unused_declaration (unused_declaration_leaves how n m l j name value item own silent free)) = Prim.omega arith
-
 by_part : (a : places.Around) (x y : Tree) → ByPart a x y → Fits root (places.plug a (Some x)) → IsLocal (places.plug a (Some x)) (places.plug a (Some y))
 by_part a x y owed fits =
     let part = owed.part fits in
@@ -119,7 +113,7 @@ is_local t u (edits.leaves a x c) fits =
       place = place_of a;
       old = node x.kind x.note x.below (rest_of a);
       new = rest_of a;
-      local = leaves x.kind x.note x.below (rest_of a) (sym (listed_is false a) ∙ tables.in_list a owed.listed) owed.no_directive (weighs a x c);
+      local = leaves x.kind x.note x.below (rest_of a) (sym (listed_is false a) ∙ tables.in_list a owed.listed) owed.no_directive owed.weighs;
       old_is = placed_is a x;
       new_is = without_is a;
     }

@@ -1,5 +1,5 @@
 -- What a node owes that becomes a part of it, it owes as one that becomes another.
-use Rattle.std.proofs.Common.{◌≡◌, ◌∙◌, ◌≤◌, ◌<◌, ◌+◌, ℕ, Some, arith, ap}
+use Rattle.std.proofs.Common.{inl, ◌≡◌, ◌∙◌, ◌≤◌, ◌<◌, ◌+◌, ℕ, Some, arith, ap}
 use Rattle.js_syntax.specs.declared.node_kind.NodeKind.{NodeKind as Kind}
 use Rattle.js_syntax.specs.Facts.{weight}
 use Rattle.js_syntax.specs.Node.{Forest, Tree, Note, nothing, node, absent, joined, total}
@@ -28,6 +28,7 @@ pub by_part : (a : Around) (x y : Tree) → ByPart a x y → Becoming a x y
 by_part a x y owed = record {
   lighter = owed.lighter;
   no_call = owed.no_call;
+  ends = inl owed.ends;
   may_change = owed.may_change;
   fits = λ fits. becoming_fits a x y (owed.takes fits) fits;
   sheds = λ fits. part_sheds a x y (owed.stands fits) owed.comes_out.undeleted fits;

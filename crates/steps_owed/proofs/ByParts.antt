@@ -1,5 +1,5 @@
 -- What an expression owes that is rebuilt of its parts, it owes as a node that becomes another.
-use Rattle.std.proofs.Common.{◌≡◌, ◌∙◌, [], ◌∷◌, Bool, true, false, not, ◌&&◌, ◌||◌, Some, refl, sym, ap}
+use Rattle.std.proofs.Common.{inl, ◌≡◌, ◌∙◌, [], ◌∷◌, Bool, true, false, not, ◌&&◌, ◌||◌, Some, refl, sym, ap}
 use Rattle.js_syntax.specs.Class.{root, expression}
 use Rattle.js_syntax.specs.declared.node_kind.NodeKind.{NodeKind as Kind}
 use Rattle.js_syntax.specs.declared.node_kind.NodeKind.TheVariants.{ReferenceName as reference_name, Hole as hole}
@@ -76,6 +76,7 @@ pub by_parts : (a : Around) (x y : Tree) → ByParts a x y → Becoming a x y
 by_parts a x y owed = record {
   lighter = owed.lighter;
   no_call = owed.no_call;
+  ends = inl owed.ends;
   may_change = owed.may_change;
   fits = λ fits. becoming_fits a x y (owed.takes fits) fits;
   sheds = λ fits. replaced_sheds a x y (replaced_by_parts (rebuilds a x y owed fits)) (old_moves a x y owed fits) owed.comes_out.undeleted fits;

@@ -1,5 +1,5 @@
 -- No edit takes a call out of a program's own list.
-use Rattle.std.proofs.Common.{◌≡◌, ◌≤◌, ◌⊎◌, subst, ◌∙◌, ◌+◌, ℕ, suc, List, Bool, true, false, true≢false, ◌||◌, Option, Some, inl, inr, arith, refl, sym, ap, ap₂}
+use Rattle.std.proofs.Common.{◌≡◌, ◌≤◌, ◌⊎◌, subst, ◌∙◌, ◌+◌, ℕ, suc, List, Bool, true, false, true≢false, ◌||◌, Option, Some, inl, inr, arith, refl, sym, ap, ap₂, if◌then◌else◌}
 use Rattle.js_syntax.specs.declared.node_kind.NodeKind.{NodeKind as Kind}
 use Rattle.js_syntax.specs.declared.node_kind.NodeKind.TheVariants.{Program as program, Statements as statements, ExpressionStatement as expression_statement, CallExpression as call_expression}
 use Rattle.js_syntax.specs.Node.{Forest, Tree, Note, nothing, node, absent, alone, bare}
@@ -13,8 +13,11 @@ use Rattle.scope_laws.specs.Place.{Around, first, behind, behind_none, under, pl
 use Rattle.scope_laws.specs.Lists.{without}
 use Rattle.steps_allowed.specs.Silent.{IsSilentBelow, HoldsThere}
 use Rattle.steps_allowed.specs.Places.{asked_at}
-use Rattle.steps_owed.specs.Owed.{IsOther}
-use Rattle.steps_allowed.specs.Calls.{is_call, begins_with_call, counted, calls_in, of_list, calls_listed, of_program, root_calls}
+use Rattle.steps_owed.specs.Owed.{IsOther, Uncounted}
+use Rattle.steps_allowed.specs.Unreached.{is_behind_jump}
+use Rattle.js_meaning_near.specs.Near.{is_jump}
+use Rattle.std.proofs.lemmas.Bool.{or_cases}
+use Rattle.steps_allowed.specs.Calls.{is_call, begins_with_call, counted, may_end, calls_in, of_list, calls_listed, of_program, root_calls}
 
 zero_plus : (n : ℕ) → 0 + n ≡ n
 zero_plus n = omega arith
@@ -28,7 +31,7 @@ bare_begins (absent rest) = refl
 
 bare_calls : (t : Forest) → calls_in (bare t) ≡ calls_in t
 bare_calls nothing = refl
-bare_calls (node k n below rest) = ap₂ (λ b m. counted k b + m) (bare_begins below) (bare_calls rest)
+bare_calls (node k n below rest) = ap₂ (λ b m. counted k b + (if may_end k then 0 else m)) (bare_begins below) (bare_calls rest)
 bare_calls (absent rest) = bare_calls rest
 
 bare_listed : (t : Forest) → calls_listed (bare t) ≡ calls_listed t
@@ -60,11 +63,23 @@ replaced_below k a x y h = elim (replaced_begins a x y h) [
   | inr e ↦ Prim.omega (arith, ap (counted k) e)
 ]
 
-replaced_calls : (a : Around) (x y : Tree) → IsOther x → calls_in (plug a (Some x)) ≤ calls_in (plug a (Some y))
-replaced_calls (first rest) x y h = Prim.omega (arith, h.counts)
-replaced_calls (behind k n below a) x y h = Prim.omega (arith, replaced_calls a x y h)
-replaced_calls (behind_none a) x y h = replaced_calls a x y h
-replaced_calls (under k n a rest) x y h = Prim.omega (arith, replaced_below k a x y h)
+-- as far as calls are counted
+unless : (b : Bool) (n m : ℕ) → n ≤ m → (if b then 0 else n) ≤ (if b then 0 else m)
+unless true n m h = Prim.omega arith
+unless false n m h = h
+
+-- what doesn't end the calls stands for what may
+ends_earlier : (b c : Bool) (n : ℕ) → (b ≡ true) ⊎ (c ≡ false) → (if b then 0 else n) ≤ (if c then 0 else n)
+ends_earlier true c n h = Prim.omega arith
+ends_earlier false true n (inl e) = absurd (true≢false (sym e))
+ends_earlier false true n (inr e) = absurd (true≢false e)
+ends_earlier false false n h = Prim.omega arith
+
+replaced_calls : (a : Around) (x y : Tree) → IsOther x → (may_end x.kind ≡ true) ⊎ (may_end y.kind ≡ false) → calls_in (plug a (Some x)) ≤ calls_in (plug a (Some y))
+replaced_calls (first rest) x y h e = Prim.omega (arith, h.counts, ends_earlier (may_end x.kind) (may_end y.kind) (calls_in rest) e)
+replaced_calls (behind k n below a) x y h e = Prim.omega (arith, unless (may_end k) (calls_in (plug a (Some x))) (calls_in (plug a (Some y))) (replaced_calls a x y h e))
+replaced_calls (behind_none a) x y h e = replaced_calls a x y h e
+replaced_calls (under k n a rest) x y h e = Prim.omega (arith, replaced_below k a x y h)
 
 list_no_less : (k : Kind) (n m : ℕ) → n ≤ m → of_list k n ≤ of_list k m
 list_no_less statements n m h = h
@@ -74,17 +89,17 @@ program_no_less : (k : Kind) (n m : ℕ) → n ≤ m → of_program k n ≤ of_p
 program_no_less (program source) n m h = h
 program_no_less k n m h = Prim.omega arith
 
-replaced_listed : (a : Around) (x y : Tree) → IsOther x → calls_listed (plug a (Some x)) ≤ calls_listed (plug a (Some y))
-replaced_listed (first rest) x y h = Prim.omega (arith, h.lists (calls_in x.below))
-replaced_listed (behind k n below a) x y h = Prim.omega arith
-replaced_listed (behind_none a) x y h = Prim.omega arith
-replaced_listed (under k n a rest) x y h = list_no_less k _ _ (replaced_calls a x y h)
+replaced_listed : (a : Around) (x y : Tree) → IsOther x → (may_end x.kind ≡ true) ⊎ (may_end y.kind ≡ false) → calls_listed (plug a (Some x)) ≤ calls_listed (plug a (Some y))
+replaced_listed (first rest) x y h e = Prim.omega (arith, h.lists (calls_in x.below))
+replaced_listed (behind k n below a) x y h e = Prim.omega arith
+replaced_listed (behind_none a) x y h e = Prim.omega arith
+replaced_listed (under k n a rest) x y h e = list_no_less k _ _ (replaced_calls a x y h e)
 
-pub replaced_root : (a : Around) (x y : Tree) → IsOther x → root_calls (plug a (Some x)) ≤ root_calls (plug a (Some y))
-replaced_root (first rest) x y h = Prim.omega (arith, h.begins (calls_listed x.below))
-replaced_root (behind k n below a) x y h = Prim.omega arith
-replaced_root (behind_none a) x y h = Prim.omega arith
-replaced_root (under k n a rest) x y h = program_no_less k _ _ (replaced_listed a x y h)
+pub replaced_root : (a : Around) (x y : Tree) → IsOther x → (may_end x.kind ≡ true) ⊎ (may_end y.kind ≡ false) → root_calls (plug a (Some x)) ≤ root_calls (plug a (Some y))
+replaced_root (first rest) x y h e = Prim.omega (arith, h.begins (calls_listed x.below))
+replaced_root (behind k n below a) x y h e = Prim.omega arith
+replaced_root (behind_none a) x y h e = Prim.omega arith
+replaced_root (under k n a rest) x y h e = program_no_less k _ _ (replaced_listed a x y h e)
 
 -- ---- the rows that something leaves
 
@@ -103,32 +118,66 @@ leave_below : (k : Kind) (w : Asked) (a : Around) (x : Tree) → takes (asked_at
 leave_below expression_statement w a x row = ap (counted expression_statement) (leave_begins (asked_below w expression_statement) a x refl row)
 leave_below k w a x row = refl
 
-leave_calls : (w : Asked) (a : Around) (x : Tree) → IsOther x → takes (asked_at w a).row ≡ true → calls_in (plug a (Some x)) ≡ calls_in (without a)
-leave_calls w (first rest) x h row = ap (λ m. m + calls_in rest) h.counts ∙ zero_plus (calls_in rest)
-leave_calls w (behind k n below a) x h row = ap (λ m. counted k (begins_with_call below) + m) (leave_calls w a x h row)
-leave_calls w (behind_none a) x h row = leave_calls w a x h row
-leave_calls w (under k n a rest) x h row = ap (λ m. m + calls_in rest) (leave_below k w a x row)
+jump_ends : (k : Kind) → is_jump k ≡ true → may_end k ≡ true
+jump_ends Kind.ReturnStatement j = refl
+jump_ends Kind.ThrowStatement j = refl
+jump_ends (Kind.BreakStatement l) j = refl
+jump_ends (Kind.ContinueStatement l) j = refl
+jump_ends k j = absurd (true≢false (sym j))
 
-leave_list : (k : Kind) (w : Asked) (a : Around) (x : Tree) → IsOther x → takes (asked_at (asked_below w k) a).row ≡ true → of_list k (calls_in (plug a (Some x))) ≡ of_list k (calls_in (without a))
-leave_list statements w a x h row = leave_calls (asked_below w statements) a x h row
-leave_list k w a x h row = refl
+uncounted_behind : (jumped : Bool) (k : Kind) (n : Note) (below : Forest) (a : Around) (x : Tree) → Uncounted jumped (behind k n below a) x → Uncounted (jumped || is_jump k) a x
+uncounted_behind jumped k n below a x (inl h) = inl h
+uncounted_behind jumped k n below a x (inr e) = inr e
 
-leave_listed : (w : Asked) (a : Around) (x : Tree) → IsOther x → takes w.row ≡ false → takes (asked_at w a).row ≡ true → calls_listed (plug a (Some x)) ≡ calls_listed (without a)
-leave_listed w (first rest) x h no_row row = absurd (true≢false (sym row ∙ no_row))
-leave_listed w (behind k n below a) x h no_row row = refl
-leave_listed w (behind_none a) x h no_row row = refl
-leave_listed w (under k n a rest) x h no_row row = leave_list k w a x h row
+no_more_if : (b : Bool) (n : ℕ) → (if b then 0 else n) ≤ n
+no_more_if true n = Prim.omega arith
+no_more_if false n = Prim.omega arith
 
-leave_program : (k : Kind) (a : Around) (x : Tree) → IsOther x → takes (asked_at (asked_below (asked_of_program true) k) a).row ≡ true
-    → of_program k (calls_listed (plug a (Some x))) ≡ of_program k (calls_listed (without a))
-leave_program (program source_type) a x h row = leave_listed (asked_below (asked_of_program true) (program source_type)) a x h refl row
-leave_program k a x h row = refl
+ended : (b : Bool) (n m : ℕ) → b ≡ true → (if b then 0 else n) ≤ (if b then 0 else m)
+ended true n m e = Prim.omega arith
+ended false n m e = absurd (true≢false (sym e))
 
-pub leave_root : (a : Around) (x : Tree) → IsOther x → takes (asked_at (asked_of_program true) a).row ≡ true → root_calls (plug a (Some x)) ≡ root_calls (without a)
-leave_root (first rest) x h row = absurd (true≢false (sym row))
-leave_root (behind k n below a) x h row = refl
-leave_root (behind_none a) x h row = refl
-leave_root (under k n a rest) x h row = leave_program k a x h row
+-- of a row behind a jump nothing is counted
+leave_calls : (w : Asked) (a : Around) (x : Tree) (jumped : Bool) → Uncounted jumped a x → takes (asked_at w a).row ≡ true → (jumped ≡ true) ⊎ (calls_in (plug a (Some x)) ≤ calls_in (without a))
+leave_calls w (first rest) x jumped (inl h) row = inr (Prim.omega (arith, h.counts, no_more_if (may_end x.kind) (calls_in rest)))
+leave_calls w (first rest) x jumped (inr e) row = inl e
+leave_calls w (behind k n below a) x jumped u row =
+    elim (leave_calls w a x (jumped || is_jump k) (uncounted_behind jumped k n below a x u) row) [
+      | inl e ↦ elim (or_cases jumped (is_jump k) e) [
+        | inl before ↦ inl before
+        | inr jump ↦ inr (Prim.omega (arith, ended (may_end k) (calls_in (plug a (Some x))) (calls_in (without a)) (jump_ends k jump)))
+      ]
+      | inr fewer ↦ inr (Prim.omega (arith, unless (may_end k) (calls_in (plug a (Some x))) (calls_in (without a)) fewer))
+    ]
+leave_calls w (behind_none a) x jumped (inl h) row = leave_calls w a x jumped (inl h) row
+leave_calls w (behind_none a) x jumped (inr e) row = leave_calls w a x jumped (inr e) row
+leave_calls w (under k n a rest) x jumped u row = inr (Prim.omega (arith, ap (λ m. m + (if may_end k then 0 else calls_in rest)) (leave_below k w a x row)))
+
+leave_list : (k : Kind) (w : Asked) (a : Around) (x : Tree) → Uncounted false a x → takes (asked_at (asked_below w k) a).row ≡ true → of_list k (calls_in (plug a (Some x))) ≤ of_list k (calls_in (without a))
+leave_list statements w a x u row = elim (leave_calls (asked_below w statements) a x false u row) [
+  | inl e ↦ absurd (true≢false (sym e))
+  | inr fewer ↦ fewer
+]
+leave_list k w a x u row = Prim.omega arith
+
+leave_listed : (w : Asked) (a : Around) (x : Tree) → Uncounted false a x → takes w.row ≡ false → takes (asked_at w a).row ≡ true → calls_listed (plug a (Some x)) ≤ calls_listed (without a)
+leave_listed w (first rest) x u no_row row = absurd (true≢false (sym row ∙ no_row))
+leave_listed w (behind k n below a) x u no_row row = Prim.omega arith
+leave_listed w (behind_none a) x u no_row row = Prim.omega arith
+leave_listed w (under k n a rest) x (inl h) no_row row = leave_list k w a x (inl h) row
+leave_listed w (under k n a rest) x (inr e) no_row row = leave_list k w a x (inr e) row
+
+leave_program : (k : Kind) (a : Around) (x : Tree) → Uncounted false a x → takes (asked_at (asked_below (asked_of_program true) k) a).row ≡ true
+    → of_program k (calls_listed (plug a (Some x))) ≤ of_program k (calls_listed (without a))
+leave_program (program source_type) a x u row = leave_listed (asked_below (asked_of_program true) (program source_type)) a x u refl row
+leave_program k a x u row = Prim.omega arith
+
+pub leave_root : (a : Around) (x : Tree) → Uncounted false a x → takes (asked_at (asked_of_program true) a).row ≡ true → root_calls (plug a (Some x)) ≤ root_calls (without a)
+leave_root (first rest) x u row = absurd (true≢false (sym row))
+leave_root (behind k n below a) x u row = Prim.omega arith
+leave_root (behind_none a) x u row = Prim.omega arith
+leave_root (under k n a rest) x (inl h) row = leave_program k a x (inl h) row
+leave_root (under k n a rest) x (inr e) row = leave_program k a x (inr e) row
 
 -- ---- no call is silent
 

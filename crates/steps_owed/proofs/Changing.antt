@@ -1,5 +1,6 @@
 -- Where nothing may change, nothing does.
-use Rattle.std.proofs.Common.{◌≡◌, ◌∙◌, ℕ, suc, Bool, true, not, ◌||◌, Some, refl, ap, ap₂}
+use Rattle.std.proofs.Common.{◌≡◌, ◌∙◌, ◌⊎◌, inl, inr, ℕ, suc, Bool, true, false, not, ◌||◌, ◌&&◌, Some, refl, sym, ap, ap₂, true≢false}
+use Rattle.std.proofs.lemmas.Bool.{or_cases}
 use Rattle.js_syntax.specs.declared.node_kind.NodeKind.{NodeKind as Kind}
 use Rattle.js_syntax.specs.declared.node_kind.NodeKind.TheVariants as kind
 use Rattle.js_syntax.specs.declared.kind.FunctionKind.TheVariants as function_kind
@@ -8,32 +9,78 @@ use Rattle.form_rules.specs.Samples.{a}
 use Rattle.min_pass.specs.declared.around.Around.{Around as Asked}
 use Rattle.min_pass.specs.Around.{entered as asked_below, outermost as asked_of_program}
 use Rattle.scope_laws.specs.Place.{Around, first, behind, behind_none, under, plug}
-use Rattle.steps_allowed.specs.Places.{a_node, asked_at}
-use Rattle.steps_owed.specs.Owed.{MayChange}
+use Rattle.steps_allowed.specs.Places.{a_node, asked_at, has_node}
+use Rattle.steps_owed.specs.Owed.{MayChange, IsUnreachedItem}
+use Rattle.js_meaning_near.specs.Near.{is_jump}
+use Rattle.min_pass.specs.declared.around.Row.TheVariants.{Items as items}
+use Rattle.steps_allowed.specs.Unreached.{is_behind_jump}
 use Rattle.steps_owed.proofs.Calling.{bare_begins}
 use Rattle.steps_owed.proofs.ExposedBare.{bare_inside, bare_below, bare_exposed}
 use Rattle.steps_allowed.specs.Exposure.{Exposure, exposed_inside, exposed_of, exposed_at, exposure, evaluates_somewhere}
-use Rattle.steps_allowed.specs.Changing.{may_change_at, may_change, may_change_somewhere}
+use Rattle.steps_allowed.specs.Changing.{holds_items, ends_before, may_change_at, may_change, may_change_somewhere}
 use Rattle.steps_owed.proofs.Calling.{bare_begins}
 use Rattle.steps_owed.proofs.ExposedBare.{bare_inside, bare_below, bare_exposed}
-use Rattle.js_syntax.proofs.Truth.{first_of_either, second_of_either}
+use Rattle.js_syntax.proofs.Truth.{both, first_of_either, second_of_either}
 
 -- ---- a change is one that may be
 
+stands_there : (a : Around) (x : Tree) → has_node (plug a (Some x)) ≡ true
+stands_there (first rest) x = refl
+stands_there (behind k n below a) x = refl
+stands_there (behind_none a) x = stands_there a x
+stands_there (under k n a rest) x = refl
+
 module _ (evaluates : Bool) where
+  abbrev may_here : Asked → (ℕ → Exposure) → ℕ → Kind → Forest → Bool
+  may_here w es at k below = may_change_at evaluates w (es at) k below || may_change evaluates (asked_below w k) (exposed_inside (es at) k below) 0 below
+
+  later_may : (w : Asked) (es : ℕ → Exposure) (at : ℕ) (k : Kind) (below rest : Forest) → may_change evaluates w es (suc at) rest ≡ true
+      → (may_here w es at k below || (ends_before w.row k rest || may_change evaluates w es (suc at) rest)) ≡ true
+  later_may w es at k below rest e =
+      second_of_either (may_here w es at k below) (ends_before w.row k rest || may_change evaluates w es (suc at) rest) (second_of_either (ends_before w.row k rest) (may_change evaluates w es (suc at) rest) e)
+
+  here_may : (w : Asked) (es : ℕ → Exposure) (at : ℕ) (k : Kind) (below rest : Forest) → ends_before w.row k rest ≡ true
+      → (may_here w es at k below || (ends_before w.row k rest || may_change evaluates w es (suc at) rest)) ≡ true
+  here_may w es at k below rest e =
+      second_of_either (may_here w es at k below) (ends_before w.row k rest || may_change evaluates w es (suc at) rest) (first_of_either (ends_before w.row k rest) (may_change evaluates w es (suc at) rest) e)
+
+  inner_may : (w : Asked) (es : ℕ → Exposure) (at : ℕ) (k : Kind) (below rest : Forest) → may_change evaluates (asked_below w k) (exposed_inside (es at) k below) 0 below ≡ true
+      → (may_here w es at k below || (ends_before w.row k rest || may_change evaluates w es (suc at) rest)) ≡ true
+  inner_may w es at k below rest e =
+      first_of_either (may_here w es at k below) (ends_before w.row k rest || may_change evaluates w es (suc at) rest)
+      (second_of_either (may_change_at evaluates w (es at) k below) (may_change evaluates (asked_below w k) (exposed_inside (es at) k below) 0 below) e)
+
   at_place : (w : Asked) (es : ℕ → Exposure) (at : ℕ) (a : Around) (k : Kind) (n : Note) (below : Forest) → may_change_at evaluates (asked_at w a) (exposed_at es at a (a_node k n below)) k below ≡ true
       → may_change evaluates w es at (plug a (a_node k n below)) ≡ true
   at_place w es at (first rest) k n below e =
-      first_of_either (may_change_at evaluates w (es at) k below || may_change evaluates (asked_below w k) (exposed_inside (es at) k below) 0 below) (may_change evaluates w es (suc at) rest)
+      first_of_either (may_change_at evaluates w (es at) k below || may_change evaluates (asked_below w k) (exposed_inside (es at) k below) 0 below) (ends_before w.row k rest || may_change evaluates w es (suc at) rest)
       (first_of_either (may_change_at evaluates w (es at) k below) (may_change evaluates (asked_below w k) (exposed_inside (es at) k below) 0 below) e)
   at_place w es at (behind j m b a) k n below e =
       let x = a_node k n below in
-      second_of_either (may_change_at evaluates w (es at) j b || may_change evaluates (asked_below w j) (exposed_inside (es at) j b) 0 b) (may_change evaluates w es (suc at) (plug a x)) (at_place w es (suc at) a k n below e)
+      later_may w es at j b (plug a x) (at_place w es (suc at) a k n below e)
   at_place w es at (behind_none a) k n below e = at_place w es (suc at) a k n below e
   at_place w es at (under j m a rest) k n below e =
       let p = plug a (a_node k n below) in
-      first_of_either (may_change_at evaluates w (es at) j p || may_change evaluates (asked_below w j) (exposed_inside (es at) j p) 0 p) (may_change evaluates w es (suc at) rest)
-      (second_of_either (may_change_at evaluates w (es at) j p) (may_change evaluates (asked_below w j) (exposed_inside (es at) j p) 0 p) (at_place (asked_below w j) (exposed_inside (es at) j p) 0 a k n below e))
+      inner_may w es at j p rest (at_place (asked_below w j) (exposed_inside (es at) j p) 0 a k n below e)
+
+  -- an item behind a jump, which stands before it in the row or before this part of that
+  jump_there : (w : Asked) (es : ℕ → Exposure) (at : ℕ) (a : Around) (x : Tree) (jumped : Bool) → (asked_at w a).row ≡ items → is_behind_jump jumped a ≡ true
+      → ((jumped ≡ true) × (w.row ≡ items)) ⊎ (may_change evaluates w es at (plug a (Some x)) ≡ true)
+  jump_there w es at (first rest) x jumped item e = inl (e, item)
+  jump_there w es at (behind k n below a) x jumped item e =
+      elim (jump_there w es (suc at) a x (jumped || is_jump k) item e) [
+        | inl found ↦ elim (or_cases jumped (is_jump k) found.0) [
+          | inl before ↦ inl (before, found.1)
+          | inr jump ↦ inr (here_may w es at k below (plug a (Some x)) (both (holds_items w.row) (is_jump k && has_node (plug a (Some x))) (ap holds_items found.1) (both (is_jump k) (has_node (plug a (Some x))) jump (stands_there a x))))
+        ]
+        | inr may ↦ inr (later_may w es at k below (plug a (Some x)) may)
+      ]
+  jump_there w es at (behind_none a) x jumped item e = jump_there w es (suc at) a x jumped item e
+  jump_there w es at (under k n a rest) x jumped item e =
+      elim (jump_there (asked_below w k) (exposed_inside (es at) k (plug a (Some x))) 0 a x false item e) [
+        | inl found ↦ absurd (true≢false (sym found.0))
+        | inr may ↦ inr (inner_may w es at k (plug a (Some x)) rest may)
+      ]
 
 somewhere : (a : Around) (k : Kind) (n : Note) (below : Forest)
     → may_change_at (evaluates_somewhere (plug a (a_node k n below))) (asked_at (asked_of_program true) a) (exposure a (a_node k n below)) k below ≡ true → may_change_somewhere (plug a (a_node k n below)) ≡ true
@@ -43,7 +90,21 @@ somewhere a k n below e = let t = plug a (a_node k n below) in at_place (evaluat
 pub owed_may_change : (a : Around) (x : Tree) → MayChange a x → may_change_somewhere (plug a (Some x)) ≡ true
 owed_may_change a x may = somewhere a x.kind x.note x.below may
 
+pub item_may_change : (a : Around) (x : Tree) → MayChange a x ⊎ IsUnreachedItem a → may_change_somewhere (plug a (Some x)) ≡ true
+item_may_change a x (inl may) = owed_may_change a x may
+item_may_change a x (inr unreached) =
+    let t = plug a (Some x) in
+    elim (jump_there (evaluates_somewhere t) (asked_of_program true) (exposed_of t) 0 a x false unreached.0 unreached.1) [
+      | inl e ↦ absurd (true≢false (sym e.0))
+      | inr may ↦ may
+    ]
+
 -- ---- spans and ids don't tell
+
+bare_has : (t : Forest) → has_node (bare t) ≡ has_node t
+bare_has nothing = refl
+bare_has (node k n below rest) = refl
+bare_has (absent rest) = bare_has rest
 
 bare_at : (evaluates : Bool) (w : Asked) (e : Exposure) (k : Kind) (below : Forest) → may_change_at evaluates w e k (bare below) ≡ may_change_at evaluates w e k below
 bare_at evaluates w e kind.ExpressionStatement below = ap not (bare_begins below)
@@ -57,7 +118,7 @@ bare_row evaluates w es fs at (node k n below rest) s =
     ap₂ (λ b c. b || c)
     (ap₂ (λ b c. b || c) (bare_at evaluates w (es at) k below ∙ ap (λ e. may_change_at evaluates w e k below) (s at))
     (bare_row evaluates (asked_below w k) (exposed_inside (es at) k (bare below)) (exposed_inside (fs at) k below) 0 below (λ i. bare_inside k (es at) below i ∙ ap (λ e. exposed_inside e k below i) (s at))))
-    (bare_row evaluates w es fs (suc at) rest s)
+    (ap₂ (λ b c. b || c) (ap (λ b. holds_items w.row && (is_jump k && b)) (bare_has rest)) (bare_row evaluates w es fs (suc at) rest s))
 
 pub bare_changes : (t : Forest) → may_change_somewhere (bare t) ≡ may_change_somewhere t
 bare_changes t =

@@ -1,5 +1,5 @@
 -- What an `if` owes with no branch to take, which becomes empty.
-use Rattle.std.proofs.Common.{◌≡◌, ◌<◌, [], ◌∷◌, true, false, Some, arith, refl, sym, subst}
+use Rattle.std.proofs.Common.{inl, ◌≡◌, ◌<◌, [], ◌∷◌, true, false, Some, arith, refl, sym, subst}
 use Rattle.js_syntax.specs.Class.{Class, root}
 use Rattle.js_syntax.specs.declared.node_kind.NodeKind.{NodeKind as Kind}
 use Rattle.js_syntax.specs.declared.node_kind.NodeKind.TheVariants.{IfStatement as if_statement, EmptyStatement as empty_statement}
@@ -78,6 +78,7 @@ module _ (a : Around) (n m i o : Note) (t k : Kind) (d b : Forest) (truth : trut
   owes = record {
     lighter = Prim.omega (arith, test_weighs t m d false truth);
     no_call = record { counts = refl; lists = λ j. refl; begins = λ j. refl; calls = refl };
+    ends = inl refl;
     may_change = refl;
     fits = becoming_fits a x y takes;
     sheds = λ fits. emptied_if_sheds a n o below (λ s at. nothing_declared s at (forest_of x) (if_stays_outside s n below) (none_there fits)) fits;

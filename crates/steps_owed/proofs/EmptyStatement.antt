@@ -10,7 +10,7 @@ use Rattle.steps_allowed.specs.Changing.{holds_items}
 use Rattle.steps_allowed.specs.EmptyStatement.{EmptyStatement, empty_statement_leaves}
 use Rattle.steps_keep_form.specs.Sheds.{exports_none}
 use Rattle.steps_keep_form.proofs.ShedNames.{declares_nothing}
-use Rattle.steps_owed.specs.Owed.{IsUnexported, Leaving}
+use Rattle.steps_owed.specs.Owed.{IsUnexported, by_going, Leaving}
 use Rattle.steps_owed.proofs.Focus.{always, follows_there}
 use Rattle.steps_owed.proofs.AsSteps.{empty_step}
 
@@ -21,10 +21,10 @@ empty_statement_owes a x (empty_statement_leaves n item) =
       weighs = Prim.omega arith;
       listed = inl item;
       no_directive = refl;
-      no_call = record { counts = refl; lists = λ m. refl; begins = λ m. refl; calls = refl };
-      may_change = ap holds_items item;
-      unseen = λ e b h. absurd (subst (Among b) (none_there (λ at. outermost) 0 0 a (Some y) refl) h);
+      no_call = inl (record { counts = refl; lists = λ m. refl; begins = λ m. refl; calls = refl });
+      may_change = inl (ap holds_items item);
+      unseen = λ e. inl (λ b h. absurd (subst (Among b) (none_there (λ at. outermost) 0 0 a (Some y) refl) h));
       unexported = follows_there (λ b c i. Unit {0}) (IsUnexported (plug a (Some y)) y) (λ b c i h z within right seeks. ap (exports_none z.exported) (declares_nothing z.sought 0 n nothing)) (Some y) a false (λ at. outermost) 0 0
           (always (Some y) a false (λ at. outermost) 0 0);
-      step = λ w good. empty_step a n w good item;
+      runs = by_going (λ w good. empty_step a n w good item);
     }

@@ -264,6 +264,7 @@ module _ (a : Around) (p i : Note) (parts : Forest) where
       lighter = let h = value_weighs left in let less = counting_lighter parts some in Prim.omega (arith, h, less);
       no_deeper = let h = value_lower (levels_at (λ i. lower expressions i) 0 parts) left (λ g none. counting_lower (λ i. lower expressions i) g none parts 0 0) in Prim.omega (arith, h);
       no_call = record { counts = refl; lists = λ i. refl; begins = λ i. refl; calls = refl };
+      ends = refl;
       may_change = refl;
       fits_expression = λ fits. (sequence_fits i parts (parts_there fits), tt);
       takes = λ fits.

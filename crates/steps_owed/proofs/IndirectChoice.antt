@@ -28,6 +28,7 @@ use Rattle.steps_fit.proofs.Held.{core_below}
 use Rattle.steps_keep_form.specs.Part.{is_asked_for}
 use Rattle.steps_keep_form.proofs.Rules.{first_empty, both_empty}
 use Rattle.steps_owed.specs.Comes.{Comes}
+use Rattle.steps_allowed.specs.Calls.{may_end}
 use Rattle.steps_owed.specs.Owed.{MayChange, IsOther, is_read_name, ByParts, by_coming}
 use Rattle.steps_owed.specs.TakesPlace.{TakesPlace}
 use Rattle.steps_owed.proofs.BehindZero.{consequent_behind_zero, alternate_behind_zero, right_side_behind_zero}
@@ -213,6 +214,11 @@ choice_is_other (consequent_counts o p i j t k l d b c truth) = record { counts 
 choice_is_other (alternate_counts o p i j t k l d b c truth) = record { counts = refl; lists = λ h. refl; begins = λ h. refl; calls = refl }
 choice_is_other (right_side_counts q o p i t k d b goes) = record { counts = refl; lists = λ h. refl; begins = λ h. refl; calls = refl }
 
+choice_ends : {x z : Tree} → Counts x z → may_end x.kind ≡ true
+choice_ends (consequent_counts o p i j t k l d b c truth) = refl
+choice_ends (alternate_counts o p i j t k l d b c truth) = refl
+choice_ends (right_side_counts q o p i t k d b goes) = refl
+
 choice_may_change : (a : Around) {x z : Tree} → Counts x z → MayChange a x
 choice_may_change a (consequent_counts o p i j t k l d b c truth) = refl
 choice_may_change a (alternate_counts o p i j t k l d b c truth) = refl
@@ -236,6 +242,7 @@ counted_owes a n m i {x = x} {z = z} counts =
       lighter = behind_lighter n m i counts;
       no_deeper = behind_no_deeper n m i counts;
       no_call = choice_is_other counts;
+      ends = choice_ends counts;
       may_change = choice_may_change a counts;
       fits_expression = λ fits. (choice_expression a counts fits, tt);
       takes = λ fits. behind_takes n m i counts (counted_expression a counts fits);

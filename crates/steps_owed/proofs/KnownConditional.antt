@@ -152,6 +152,7 @@ known_owes a n t m d branches y known =
     record {
       lighter = conditional_lighter a x y known;
       no_call = record { counts = refl; lists = λ i. refl; begins = λ i. refl; calls = refl };
+      ends = refl;
       may_change = refl;
       takes = λ fits. conditional_takes a x y known (parts_of_conditional a n x.below fits);
       stands = λ fits. conditional_stands a x y known (parts_of_conditional a n x.below fits);

@@ -155,6 +155,7 @@ known_owes n t m d branches a y known =
     record {
       lighter = if_lighter x y known;
       no_call = record { counts = refl; lists = λ i. refl; begins = λ i. refl; calls = refl };
+      ends = refl;
       may_change = refl;
       takes = λ fits. if_takes x y known;
       stands = λ fits. if_stands x y known (parts_of_if a n x.below fits);

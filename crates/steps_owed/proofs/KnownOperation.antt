@@ -310,6 +310,7 @@ module _ (a : Around) (n i : Note) (w : LiteralValue) where
       lighter = Prim.omega (arith, at_most w, operand_weighs o m operand idle some);
       no_deeper = Prim.omega arith;
       no_call = record { counts = refl; lists = λ i. refl; begins = λ i. refl; calls = refl };
+      ends = refl;
       may_change = refl;
       fits_expression = λ fits. ((a_unary_expression, (o, tt), refl, tt, refl, operand_of_unary a o n operand fits), tt);
       takes = λ fits. record { classes = λ (to : Class) f. (as_unary (literal w) nothing to (unary_stood to n operand o f) (literal_expression w), tt); old_told = refl; new_told = refl };
@@ -347,6 +348,7 @@ module _ (a : Around) (n i : Note) (w : LiteralValue) where
       lighter = Prim.omega (arith, at_most w);
       no_deeper = Prim.omega arith;
       no_call = record { counts = refl; lists = λ i. refl; begins = λ i. refl; calls = refl };
+      ends = refl;
       may_change = refl;
       fits_expression = λ fits. ((a_binary_expression, (o, tt), refl, not_in o m sides w is, refl, two_there fits), tt);
       takes = λ fits. record { classes = λ (to : Class) f. (as_binary (literal w) nothing to (binary_stood to n sides o f) (literal_expression w), tt); old_told = refl; new_told = refl };

@@ -154,6 +154,7 @@ known_owes a o n t m d right y known =
     record {
       lighter = side_lighter a x y known;
       no_call = record { counts = refl; lists = λ i. refl; begins = λ i. refl; calls = refl };
+      ends = refl;
       may_change = refl;
       takes = λ fits. side_takes a x y known (sides_of_logical a o n x.below fits);
       stands = λ fits. side_stands a x y known (sides_of_logical a o n x.below fits);

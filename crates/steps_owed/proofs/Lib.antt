@@ -23,6 +23,7 @@ pub mod ExportsStay
 pub mod Made
 pub mod Undeclared
 pub mod PartRuns
+pub mod JumpRuns
 pub mod Calling
 pub mod ExposedBare
 pub mod Changing
@@ -48,6 +49,7 @@ pub mod KnownConditional
 pub mod KnownSide
 pub mod KnownIf
 pub mod DeadIf
+pub mod Unreached
 pub mod SilentAnywhere
 pub mod UnusedPlace
 pub mod UnusedOperation

@@ -163,6 +163,7 @@ module _ (a : Around) (unused : is_unused_at a ≡ true) (p n : Note) (below : F
     lighter = side_lighter p side;
     no_deeper = side_no_deeper p side;
     no_call = record { counts = refl; lists = λ i. refl; begins = λ i. refl; calls = refl };
+    ends = refl;
     may_change = refl;
     fits_expression = λ fits. ((a_conditional_expression, tt, refl, tt, refl, three fits), tt);
     takes = λ fits.

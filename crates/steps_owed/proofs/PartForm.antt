@@ -116,11 +116,11 @@ stays_outside s nothing = true
 stays_outside s (absent r) = stays_outside s r
 stays_outside s (node k n a r) = keeps_outside s k && stays_outside s r
 
-abbrev is_catch : Sought → Bool
+abbrev pub is_catch : Sought → Bool
 is_catch (catch_scope fs) = true
 is_catch s = false
 
-outside_as : (s : Sought) (t : Forest) → is_catch s ≡ false → stays_outside s t ≡ true
+pub outside_as : (s : Sought) (t : Forest) → is_catch s ≡ false → stays_outside s t ≡ true
 outside_as s nothing e = refl
 outside_as s (absent r) e = outside_as s r e
 outside_as s (node k n a r) e = both (keeps_outside s k) (stays_outside s r) (here s k e) (outside_as s r e)

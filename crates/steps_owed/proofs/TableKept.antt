@@ -17,7 +17,7 @@ use Rattle.steps_owed.specs.Kept.{is_program, IsKept}
 use Rattle.steps_owed.specs.Owed.{IsListed, Leaving}
 use Rattle.steps_owed.proofs.Unseen.{unseen_statement}
 use Rattle.steps_owed.proofs.Places.{inside_program}
-use Rattle.steps_owed.proofs.UnseenCounts.{unseen_leaves, unseen_empties}
+use Rattle.steps_owed.proofs.UnseenCounts.{unseen_leaves, idle_leaves, unseen_empties}
 
 -- ---- items and declarators stand in lists
 
@@ -53,7 +53,10 @@ in_list a (inr declarator) = stands_in_list a item_declarators declarator.0 refl
 
 pub leaving_keeps : (a : Around) (x : Tree) → Leaving a x → is_program (plug a (Some x)) ≡ true → is_enclosed (plug a (Some x)) ≡ true → (s : Scoping) → IsKept s (plug a (Some x)) → IsKept s (without a)
 leaving_keeps a x owed e w s kept =
-    unseen_leaves a x (owed.unseen w) e (in_list a owed.listed) s kept
+    elim (owed.unseen w) [
+      | inl unseen ↦ unseen_leaves a x unseen e (in_list a owed.listed) s kept
+      | inr none ↦ idle_leaves a x none e (in_list a owed.listed) s kept
+    ]
 
 pub emptied_keeps : (a : Around) (n m l : Note) (k : Kind) (inner : Forest) → At a (a_statement n l k inner) (SilentStatement (plug a (a_statement n l k inner)) (alone k l inner)) → is_program (plug a (a_statement n l k inner)) ≡ true
     → is_enclosed (plug a (a_statement n l k inner)) ≡ true → (s : Scoping) → IsKept s (plug a (a_statement n l k inner)) → IsKept s (plug a (a_node empty_statement m nothing))

@@ -99,6 +99,7 @@ module _ (a : Around) (unused : is_unused_at a ≡ true) (p n m : Note) (o : Bin
     lighter = Prim.omega arith;
     no_deeper = Prim.omega arith;
     no_call = record { counts = refl; lists = λ i. refl; begins = λ i. refl; calls = refl };
+    ends = refl;
     may_change = refl;
     fits_expression = λ fits. ((a_binary_expression, (o, tt), refl, not_in o comparing, refl, two fits), tt);
     takes = λ fits.

@@ -93,7 +93,7 @@ imported_fits_not imports h f = true≢false h
 imported_fits_not p h f = true≢false (sym f)
 
 -- a place or another, which both lead to none
-neither_leads : (b : Bool) (p q : Place) → lead_to_imports p ≡ false → lead_to_imports q ≡ false → lead_to_imports (if b then p else q) ≡ false
+pub neither_leads : (b : Bool) (p q : Place) → lead_to_imports p ≡ false → lead_to_imports q ≡ false → lead_to_imports (if b then p else q) ≡ false
 neither_leads b p q h g = either (λ r. lead_to_imports r ≡ false) b p q h g
 
 below_leads_not : (p : Place) (k : Kind) (i : ℕ) → lead_to_imports p ≡ false → fits p (sort_of k) ≡ true → lead_to_imports (place_below p k i) ≡ false

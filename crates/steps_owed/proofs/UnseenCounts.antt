@@ -104,6 +104,25 @@ module _ (a : Around) (x : Tree) (is : is_program (plug a (Some x)) ≡ true) wh
       (kept_but_marks p (left whole empty) whole empty s old
       (exact_emptied (unlisted old.table) p x.kind x.note n x.below rest gone scopes (users_leave old.table p whole empty exact) old.table unmarked (left whole empty) (λ r. refl) exact))
 
+  abbrev whole : Forest
+  whole = node x.kind x.note x.below (rest_of a)
+
+  -- it leaves a list
+  gone_leaves : ((s : Scoping) → Exact s (plug a (Some x)) → DeclaresGone (unlisted s) x.kind x.note x.below) → is_listed false a ≡ true → (s : Scoping) → IsKept s (plug a (Some x)) → IsKept s (without a)
+  gone_leaves none listed s kept =
+      let inside = inside_list a listed in
+      let place = is_rooted a x inside is in
+      let p = place.rooted in
+      let rest = rest_of a in
+      let old : IsKept s (program_with p whole) = subst (IsKept s) (place.with_node x) kept in
+      let exact : ExactButMarks old.table unmarked (program_with p whole) = (exact_with p whole old.table).0 old.exact in
+      let gone = none old.table (subst (Exact old.table) (sym (place.with_node x)) old.exact) in
+      let in_it : in_list false (place_in p) ≡ true = sym place.listed ∙ listed in
+      subst (IsKept s) (sym place.with_none)
+      (kept_but_marks p (left whole rest) whole rest s old
+      (exact_without (unlisted old.table) p x.kind x.note x.below rest gone (listed_scopes whole rest (place_in p) false in_it) in_it
+      (users_leave old.table p whole rest exact) old.table unmarked (left whole rest) (λ r. refl) exact))
+
 module _ (a : Around) (x : Tree) (unseen : IsUnseen a (Some x)) (is : is_program (plug a (Some x)) ≡ true) where
   declares_gone : IsInside a → (s : Scoping) → Exact s (plug a (Some x)) → DeclaresGone (unlisted s) x.kind x.note x.below
   declares_gone inside s exact aims d i =
@@ -114,30 +133,22 @@ module _ (a : Around) (x : Tree) (unseen : IsUnseen a (Some x)) (is : is_program
         | inr free ↦ unreferred_unlisted s (plug a (Some x)) exact b.site (stands_there a (Some x) b.site b.stands) free
       ])
 
-  abbrev whole : Forest
-  whole = node x.kind x.note x.below (rest_of a)
-
   -- it leaves a list
   pub unseen_leaves : is_listed false a ≡ true → (s : Scoping) → IsKept s (plug a (Some x)) → IsKept s (without a)
-  unseen_leaves listed s kept =
-      let inside = inside_list a listed in
-      let place = is_rooted a x inside is in
-      let p = place.rooted in
-      let rest = rest_of a in
-      let old : IsKept s (program_with p whole) = subst (IsKept s) (place.with_node x) kept in
-      let exact : ExactButMarks old.table unmarked (program_with p whole) = (exact_with p whole old.table).0 old.exact in
-      let gone = declares_gone inside old.table (subst (Exact old.table) (sym (place.with_node x)) old.exact) in
-      let in_it : in_list false (place_in p) ≡ true = sym place.listed ∙ listed in
-      subst (IsKept s) (sym place.with_none)
-      (kept_but_marks p (left whole rest) whole rest s old
-      (exact_without (unlisted old.table) p x.kind x.note x.below rest gone (listed_scopes whole rest (place_in p) false in_it) in_it
-      (users_leave old.table p whole rest exact) old.table unmarked (left whole rest) (λ r. refl) exact))
+  unseen_leaves listed = gone_leaves a x is (declares_gone (inside_list a listed)) listed
 
   -- an empty statement comes in its place
   pub unseen_empties : IsInside a → (n : Note) (s : Scoping) → IsKept s (plug a (Some x)) → IsKept s (plug a (Some (record { kind = empty_statement; note = n; below = nothing })))
   unseen_empties inside = empties a x is (declares_gone inside) inside
 
+-- what declares nothing declares nothing that isn't gone
+idle_gone : (x : Tree) → DeclaresNothing (forest_of x) → (s : Scoping) → DeclaresGone (unlisted s) x.kind x.note x.below
+idle_gone x none s aims d i = absurd (subst (Among d) (first_empty (named aims x.note x.kind ++ hoisted (aims_inside no_part aims x.kind x.below) 0 x.below) [] (none (λ at. aims) 0)) i)
+
 -- so does one that declares nothing
 pub idle_empties : (a : Around) (x : Tree) → DeclaresNothing (forest_of x) → is_program (plug a (Some x)) ≡ true → IsInside a → (n : Note) (s : Scoping) → IsKept s (plug a (Some x)) → IsKept s (plug a (Some (record { kind = empty_statement; note = n; below = nothing })))
 idle_empties a x none is inside =
-    empties a x is (λ s exact aims d i. absurd (subst (Among d) (first_empty (named aims x.note x.kind ++ hoisted (aims_inside no_part aims x.kind x.below) 0 x.below) [] (none (λ at. aims) 0)) i)) inside
+    empties a x is (λ s exact. idle_gone x none s) inside
+
+pub idle_leaves : (a : Around) (x : Tree) → DeclaresNothing (forest_of x) → is_program (plug a (Some x)) ≡ true → is_listed false a ≡ true → (s : Scoping) → IsKept s (plug a (Some x)) → IsKept s (without a)
+idle_leaves a x none is listed = gone_leaves a x is (λ s exact. idle_gone x none s) listed

@@ -11,7 +11,7 @@ use Rattle.steps_allowed.specs.Changing.{holds_items}
 use Rattle.steps_allowed.specs.Free.{Free}
 use Rattle.steps_allowed.specs.Places.{asked_at}
 use Rattle.steps_allowed.specs.UnusedDeclaration.{SilentDeclaration, one_declarator, UnusedDeclaration, unused_declaration_leaves}
-use Rattle.steps_owed.specs.Owed.{IsUnexported, Leaving}
+use Rattle.steps_owed.specs.Owed.{IsUnexported, by_going, Leaving}
 use Rattle.steps_owed.proofs.Focus.{both_there, follows_there}
 use Rattle.steps_owed.proofs.SilentSought.{silent_declares_nothing}
 use Rattle.steps_owed.proofs.Unseen.{unseen_declaration}
@@ -27,11 +27,11 @@ unused_declaration_owes a x (unused_declaration_leaves how n m l j name value it
       weighs = Prim.omega arith;
       listed = inl item;
       no_directive = refl;
-      no_call = record { counts = refl; lists = λ m. refl; begins = λ m. refl; calls = refl };
-      may_change = and_from (holds_items (asked_at (asked_of_program true) a).row) _ (ap holds_items item) (ap not own);
-      unseen = λ e. unseen_declaration a how n m l j name value e silent free;
+      no_call = inl (record { counts = refl; lists = λ m. refl; begins = λ m. refl; calls = refl });
+      may_change = inl (and_from (holds_items (asked_at (asked_of_program true) a).row) _ (ap holds_items item) (ap not own));
+      unseen = λ e. inl (unseen_declaration a how n m l j name value e silent free);
       unexported = follows_there (λ b c i. SilentDeclaration t how m l inner b c i × Free t how name b c i) (IsUnexported t y)
           (λ b c next h z within right seeks. declaration_out t z.exported c next name z.sought how n m l j value within (λ f p. silent_declares_nothing f (bindings_among (sites_of t)) b _ 1 _ p value h.0.1) h.1 seeks) (Some y) a false (λ at. outermost) 0 0
           (both_there (SilentDeclaration t how m l inner) (Free t how name) (Some y) a false (λ at. outermost) 0 0 silent free);
-      step = λ w good. declaration_step a how n m l j name value w good item silent free;
+      runs = by_going (λ w good. declaration_step a how n m l j name value w good item silent free);
     }

@@ -1,5 +1,5 @@
 -- What a declarator that nothing uses owes, where others stay.
-use Rattle.std.proofs.Common.{inr, arith, refl, ap, Some, true, false, not}
+use Rattle.std.proofs.Common.{inl, inr, arith, refl, ap, Some, true, false, not}
 use Rattle.std.proofs.lemmas.Bool.{and_from}
 use Rattle.js_syntax.specs.declared.node_kind.NodeKind.TheVariants.{VariableDeclarator as variable_declarator, BindingName as binding_name}
 use Rattle.js_syntax.specs.Node.{Tree, nothing, node}
@@ -11,7 +11,7 @@ use Rattle.steps_allowed.specs.Changing.{holds_declarators}
 use Rattle.steps_allowed.specs.Free.{FreeDeclarator}
 use Rattle.steps_allowed.specs.Places.{asked_at}
 use Rattle.steps_allowed.specs.UnusedDeclarator.{SilentDeclarator, UnusedDeclarator, unused_declarator_leaves}
-use Rattle.steps_owed.specs.Owed.{IsUnexported, Leaving}
+use Rattle.steps_owed.specs.Owed.{IsUnexported, by_going, Leaving}
 use Rattle.steps_owed.proofs.Focus.{both_there, follows_there}
 use Rattle.steps_owed.proofs.SilentSought.{silent_declares_nothing}
 use Rattle.steps_owed.proofs.Unseen.{unseen_declarator}
@@ -27,11 +27,11 @@ unused_declarator_owes a x (unused_declarator_leaves n m name value item others 
       weighs = Prim.omega arith;
       listed = inr (item, others);
       no_directive = refl;
-      no_call = record { counts = refl; lists = λ m. refl; begins = λ m. refl; calls = refl };
-      may_change = and_from (holds_declarators (asked_at (asked_of_program true) a).row) _ (ap holds_declarators item) (ap not own);
-      unseen = λ e. unseen_declarator a n m name value e silent free;
+      no_call = inl (record { counts = refl; lists = λ m. refl; begins = λ m. refl; calls = refl });
+      may_change = inl (and_from (holds_declarators (asked_at (asked_of_program true) a).row) _ (ap holds_declarators item) (ap not own));
+      unseen = λ e. inl (unseen_declarator a n m name value e silent free);
       unexported = follows_there (λ b c i. SilentDeclarator t inner b c i × FreeDeclarator t name b c i) (IsUnexported t y)
           (λ b c next h z within right seeks. declarator_out t z.exported c next name z.sought n m value within (λ f p. silent_declares_nothing f (bindings_among (sites_of t)) b _ 1 _ p value h.0.1) h.1 seeks) (Some y) a false (λ at. outermost) 0 0
           (both_there (SilentDeclarator t inner) (FreeDeclarator t name) (Some y) a false (λ at. outermost) 0 0 silent free);
-      step = λ w good. declarator_step a n m name value w good item others silent free;
+      runs = by_going (λ w good. declarator_step a n m name value w good item others silent free);
     }

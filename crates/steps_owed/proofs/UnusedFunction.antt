@@ -12,7 +12,7 @@ use Rattle.steps_allowed.specs.Changing.{holds_items}
 use Rattle.steps_allowed.specs.Free.{Free}
 use Rattle.steps_allowed.specs.Places.{asked_at}
 use Rattle.steps_allowed.specs.UnusedFunction.{UnusedFunction, unused_function_leaves}
-use Rattle.steps_owed.specs.Owed.{IsUnexported, Leaving}
+use Rattle.steps_owed.specs.Owed.{IsUnexported, by_going, Leaving}
 use Rattle.steps_owed.proofs.Focus.{follows_there}
 use Rattle.steps_owed.proofs.Unseen.{unseen_function}
 use Rattle.steps_owed.proofs.Unexported.{function_out}
@@ -26,9 +26,9 @@ unused_function_owes a x (unused_function_leaves pure n m name rest item own fre
       weighs = Prim.omega arith;
       listed = inl item;
       no_directive = refl;
-      no_call = record { counts = refl; lists = λ m. refl; begins = λ m. refl; calls = refl };
-      may_change = and_from (holds_items (asked_at (asked_of_program true) a).row) _ (ap holds_items item) (ap not own);
-      unseen = λ e. unseen_function a pure n m name rest e free;
+      no_call = inl (record { counts = refl; lists = λ m. refl; begins = λ m. refl; calls = refl });
+      may_change = inl (and_from (holds_items (asked_at (asked_of_program true) a).row) _ (ap holds_items item) (ap not own));
+      unseen = λ e. inl (unseen_function a pure n m name rest e free);
       unexported = follows_there (Free t variable.Let name) (IsUnexported t y) (λ b c next h z within right seeks. function_out t z.exported c next name z.sought pure n m rest within right h seeks) (Some y) a false (λ at. outermost) 0 0 free;
-      step = λ w good. function_step a pure n m name rest w good item free;
+      runs = by_going (λ w good. function_step a pure n m name rest w good item free);
     }

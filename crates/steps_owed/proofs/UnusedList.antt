@@ -314,6 +314,7 @@ module _ (a : Around) (unused : is_unused_at a ≡ true) (p n m i : Note) (parts
       lighter = lighter;
       no_deeper = let h = left_lower (levels_at (λ i. lower elements i) 0 parts) left (λ g none. acting_lower (λ i. lower elements i) g none parts 0 0) in Prim.omega (arith, h);
       no_call = record { counts = refl; lists = λ i. refl; begins = λ i. refl; calls = refl };
+      ends = refl;
       may_change = refl;
       fits_expression = λ fits. (array_fits fits, tt);
       takes = λ fits.
@@ -365,6 +366,7 @@ module _ (a : Around) (unused : is_unused_at a ≡ true) (p n m i : Note) (parts
       lighter = lighter;
       no_deeper = let h = left_lower (levels_at (λ i. lower expressions i) 0 parts) left (λ g none. acting_lower (λ i. lower expressions i) g none parts 0 0) in Prim.omega (arith, h);
       no_call = record { counts = refl; lists = λ i. refl; begins = λ i. refl; calls = refl };
+      ends = refl;
       may_change = refl;
       fits_expression = λ fits. (sequence_fits fits, tt);
       takes = λ fits.

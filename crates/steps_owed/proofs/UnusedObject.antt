@@ -200,6 +200,7 @@ module _ (a : Around) (unused : is_unused_at a ≡ true) (p n m i : Note) (es le
     lighter = let h = left_weighs stays_left in let less = plain_less weight plain in Prim.omega (arith, h, less);
     no_deeper = let h = left_lower (levels_at (λ i. lower properties i) 0 es) stays_left (λ g none. plain_lower (λ i. lower properties i) g none plain 0 0) in Prim.omega (arith, h);
     no_call = record { counts = refl; lists = λ i. refl; begins = λ i. refl; calls = refl };
+    ends = refl;
     may_change = refl;
     fits_expression = λ fits. ((an_object_expression, tt, refl, tt, refl, properties_of_object a p object.below fits), tt);
     takes = λ fits.

@@ -180,6 +180,7 @@ module _ (a : Around) (unused : is_unused_at a ≡ true) (n : Note) where
     operand_owes = record {
       lighter = part_lighter (unary_expression o) k n m operand b nothing nothing (Prim.omega arith) refl;
       no_call = record { counts = refl; lists = λ i. refl; begins = λ i. refl; calls = refl };
+      ends = refl;
       may_change = refl;
       takes = λ fits. let one = operand_of_unary a o n operand fits in record { classes = λ (to : Class) f. (as_unary k b to (unary_stood to n operand o f) one.0, tt); old_told = refl; new_told = expression_told k b one.0 };
       stands = λ fits.
@@ -235,6 +236,7 @@ module _ (a : Around) (unused : is_unused_at a ≡ true) (n : Note) where
         first_owes = record {
           lighter = part_lighter (binary_expression o) k n m sides b nothing right (Prim.omega arith) refl;
           no_call = record { counts = refl; lists = λ i. refl; begins = λ i. refl; calls = refl };
+          ends = refl;
           may_change = refl;
           takes = λ fits. let two = sides_there fits in record { classes = λ (to : Class) f. (as_binary k b to (comparison_stood to n sides o comparing f) two.0, tt); old_told = refl; new_told = expression_told k b two.0 };
           stands = λ fits.
@@ -264,6 +266,7 @@ module _ (a : Around) (unused : is_unused_at a ≡ true) (n : Note) where
         second_owes = record {
           lighter = part_lighter (binary_expression o) l n i sides c left nothing (Prim.omega arith) refl;
           no_call = record { counts = refl; lists = λ i. refl; begins = λ i. refl; calls = refl };
+          ends = refl;
           may_change = refl;
           takes = λ fits. let two = sides_there fits in record { classes = λ (to : Class) f. (as_binary l c to (comparison_stood to n sides o comparing f) two.1.0, tt); old_told = refl; new_told = expression_told l c two.1.0 };
           stands = λ fits.
@@ -297,6 +300,7 @@ module _ (a : Around) (unused : is_unused_at a ≡ true) (n : Note) where
       left_owes = record {
         lighter = part_lighter (logical_expression o) k n m sides b nothing right (Prim.omega arith) refl;
         no_call = record { counts = refl; lists = λ i. refl; begins = λ i. refl; calls = refl };
+        ends = refl;
         may_change = refl;
         takes = λ fits. let two = sides_of_logical a o n sides fits in record { classes = λ (to : Class) f. (as_logical k b to (logical_stood to n sides o f) two.0, tt); old_told = refl; new_told = expression_told k b two.0 };
         stands = λ fits.
@@ -336,6 +340,7 @@ module _ (a : Around) (unused : is_unused_at a ≡ true) (n : Note) where
       condition_owes = record {
         lighter = part_lighter conditional_expression k n m choice b nothing branches (Prim.omega arith) refl;
         no_call = record { counts = refl; lists = λ i. refl; begins = λ i. refl; calls = refl };
+        ends = refl;
         may_change = refl;
         takes = λ fits. let three = parts_of_conditional a n choice fits in record { classes = λ (to : Class) f. (as_conditional k b to (conditional_stood to n choice f) three.0, tt); old_told = refl; new_told = expression_told k b three.0 };
         stands = λ fits.

@@ -7,7 +7,8 @@ use Rattle.js_syntax.specs.Facts.{weight}
 use Rattle.js_syntax.specs.Node.{Forest, Tree, Note, alone, total, forest_of}
 use Rattle.js_tree.specs.Count.{levels}
 use Rattle.js_tree.specs.Names.{eval_name}
-use Rattle.js_meaning_near.specs.Near.{module_of}
+use Rattle.js_meaning_near.specs.Near.{is_calm, module_of}
+use Rattle.js_meaning_near.specs.Local as local
 use Rattle.js_rebuilt.specs.Rebuilt.{Rebuilt}
 use Rattle.form_rules.specs.Form.{IsWellFormed}
 use Rattle.form_rules.specs.Rules.{is_bare_name}
@@ -28,14 +29,15 @@ use Rattle.steps_keep_form.specs.Sheds.{exports_none, Sheds}
 use Rattle.steps_fit.specs.Enclosed.{is_enclosed}
 use Rattle.steps_allowed.specs.Uses.{as_callee, as_deleted, use_at}
 use Rattle.steps_allowed.specs.Places.{asked_at, IsItem, IsDeclarator, has_other, At}
-use Rattle.steps_allowed.specs.Calls.{is_call, begins_with_call, counted, of_list, of_program}
+use Rattle.steps_allowed.specs.Calls.{is_call, begins_with_call, counted, may_end, of_list, of_program}
 use Rattle.steps_allowed.specs.Exposure.{exposure, evaluates_somewhere}
 use Rattle.steps_allowed.specs.Changing.{may_change_at}
+use Rattle.steps_allowed.specs.Unreached.{is_behind_jump}
 use Rattle.steps_owed.specs.Comes.{Comes}
 use Rattle.steps_owed.specs.Good.{Good}
 use Rattle.steps_owed.specs.Kept.{IsKept}
 use Rattle.steps_keep_form.specs.Part.{is_asked_for, StandsFor}
-use Rattle.steps_owed.specs.Part.{IsPart}
+use Rattle.steps_owed.specs.Part.{DeclaresNothing, IsPart}
 use Rattle.steps_owed.specs.TakesPlace.{TakesPlace}
 use Rattle.steps_owed.specs.Seeking.{Within, Seeks}
 use Rattle.steps_owed.specs.Unseen.{IsUnseen}
@@ -46,6 +48,14 @@ pub record IsOther (x : Tree) : Type 0 where
   pub lists : (m : ℕ) → of_list x.kind m ≡ 0
   pub begins : (m : ℕ) → of_program x.kind m ≡ 0
   pub calls : is_call x.kind ≡ false
+
+-- an item that counts for nothing, or one behind a jump
+abbrev pub Uncounted : (jumped : Bool) → Around → Tree → Type 0
+Uncounted jumped a x = IsOther x ⊎ (is_behind_jump jumped a ≡ true)
+
+-- an item behind a jump
+abbrev pub IsUnreachedItem : Around → Type 0
+IsUnreachedItem a = IsItem a × (is_behind_jump false a ≡ true)
 
 -- edits of a node of this kind are among those of which `may_change_somewhere` tells
 abbrev pub MayChange : Around → Tree → Type 0
@@ -61,18 +71,24 @@ IsUnexported t x in_with c next =
     (z : shed.Around) → Within t (sites (inside c next x.kind x.below) 0 (next + opens_one x.kind x.below) x.below) → stands_right z.row x.kind x.below ≡ true → Seeks t z.sought z.exported c
     → exports_none z.exported (declared z.sought 0 (alone x.kind x.note x.below)) ≡ true
 
+-- How it is known that a core module does what it did without an item: it is a step, for which runs are kept, or the item stands behind
+-- a jump and neither starts nor declares anything.
+pub data LeavesRuns (a : Around) (x : Tree) : Type 0 where
+  by_going : (is_well_placed (plug a (Some x)) ≡ true → Good (plug a (Some x)) → Step steps.outermost (plug a (Some x)) (without a)) → LeavesRuns a x
+  by_jump : IsUnreachedItem a → is_calm x.kind ≡ true → ((n m : Note) (b : Forest) → plug a (Some x) ≡ module_of n m b → Fits root (module_of n m b) → IsWellFormed (module_of n m b) → all_core (module_of n m b) ≡ true → local.DeclaresNothing x.kind x.below)
+      → LeavesRuns a x
+
 -- An item that leaves its list.
 pub record Leaving (a : Around) (x : Tree) : Type 0 where
   pub weighs : 1 ≤ total weight (forest_of x)
   pub listed : IsListed a
   pub no_directive : is_directive_kind x.kind ≡ false
-  pub no_call : IsOther x
-  pub may_change : MayChange a x
+  pub no_call : Uncounted false a x
+  pub may_change : MayChange a x ⊎ IsUnreachedItem a
   -- no reference that stays is bound to what it declares, and no export is of it
-  pub unseen : is_enclosed (plug a (Some x)) ≡ true → IsUnseen a (Some x)
+  pub unseen : is_enclosed (plug a (Some x)) ≡ true → IsUnseen a (Some x) ⊎ DeclaresNothing (forest_of x)
   pub unexported : At a (Some x) (IsUnexported (plug a (Some x)) x)
-  -- of a core module it is a step, for which it is known that runs are kept
-  pub step : is_well_placed (plug a (Some x)) ≡ true → Good (plug a (Some x)) → Step steps.outermost (plug a (Some x)) (without a)
+  pub runs : LeavesRuns a x
 
 -- How it is known that a core module does what it did: by a step, or since the old node comes to what the new one does.
 pub data SameRuns (a : Around) (x y : Tree) : Type 0 where
@@ -83,6 +99,7 @@ pub data SameRuns (a : Around) (x y : Tree) : Type 0 where
 pub record Becoming (a : Around) (x y : Tree) : Type 0 where
   pub lighter : total weight (forest_of y) < total weight (forest_of x)
   pub no_call : IsOther x
+  pub ends : (may_end x.kind ≡ true) ⊎ (may_end y.kind ≡ false)
   pub may_change : MayChange a x
   -- the table of node types, the rules of form, and the table of scopes, symbols and references
   pub fits : Fits root (plug a (Some x)) → Fits root (plug a (Some y))
@@ -100,6 +117,7 @@ pub record ComesOut (a : Around) (y : Tree) : Type 0 where
 pub record ByPart (a : Around) (x y : Tree) : Type 0 where
   pub lighter : total weight (forest_of y) < total weight (forest_of x)
   pub no_call : IsOther x
+  pub ends : may_end x.kind ≡ true
   pub may_change : MayChange a x
   -- the part may stand where the whole stood, by the table of node types and by the rules of form
   pub takes : Fits root (plug a (Some x)) → TakesPlace x y
@@ -120,6 +138,7 @@ pub record ByParts (a : Around) (x y : Tree) : Type 0 where
   pub lighter : total weight (forest_of y) < total weight (forest_of x)
   pub no_deeper : levels (forest_of y) ≤ levels (forest_of x)
   pub no_call : IsOther x
+  pub ends : may_end x.kind ≡ true
   pub may_change : MayChange a x
   -- it may stand where the old one stood, by the table of node types, and by the rules of form, which ask for neither by its kind
   pub fits_expression : Fits root (plug a (Some x)) → Fits expression (forest_of x)

@@ -33,7 +33,7 @@ pub fn an_edit_leaves_less()
     ensures { (t u : Forest) → Edit t u → total weight u < total weight t }
 {}
 
-/// Law: edits take no call out of a program's own list.
+/// Law: edits take no call out of a program's own list, up to the first statement that may end it: behind that a jump may stand.
 pub fn calls_of_a_program_stay()
     ensures { (t u : Forest) → Edits t u → root_calls t ≤ root_calls u }
 {}

@@ -1,4 +1,4 @@
--- What leaves a list by an edit has no direct call of `eval`.
+-- What leaves a list by an edit has no direct call of `eval`, but behind a jump.
 use Rattle.std.proofs.Common.{◌≡◌, ◌∙◌, ◌≤◌, ◌+◌, ◌==◌, ℕ, zero, suc, Bool, true, false, ◌||◌, true≢false, if◌then◌else◌, is_some, Some, None, bytes_eq, codes, refl, sym, ap, arith}
 use Rattle.std.proofs.lemmas.Bool.{and_parts, eqb-true}
 use Rattle.js_syntax.specs.declared.node_kind.NodeKind.{NodeKind as Kind}
@@ -20,6 +20,7 @@ use Rattle.steps_allowed.specs.EmptyStatement.{empty_statement_leaves}
 use Rattle.steps_allowed.specs.UnusedFunction.{unused_function_leaves}
 use Rattle.steps_allowed.specs.UnusedDeclarator.{unused_declarator_leaves}
 use Rattle.steps_allowed.specs.UnusedDeclaration.{unused_declaration_leaves}
+use Rattle.steps_allowed.specs.Unreached.{is_behind_jump, never_runs}
 use Rattle.steps_allowed.specs.Edits as edits
 use Rattle.steps_allowed.specs.Edits.{Leaves}
 use Rattle.steps_allowed.specs.Exposure.{Exposure, exposed_inside, exposed_at, exposed_of, exposure, evaluates_somewhere, shares}
@@ -103,21 +104,23 @@ unless : (b c : Bool) → (b ≡ true → c ≡ true) → c ≡ false → b ≡ 
 unless true c f e = absurd (true≢false (sym (f refl) ∙ e))
 unless false c f e = refl
 
-no_call : (a : Around) (x : Tree) → Leaves a x → Fits root (places.plug a (Some x)) → has_call x.kind x.below ≡ false
-no_call a x (edits.empty_statement (empty_statement_leaves n item)) fits = refl
-no_call a x (edits.unused_function (unused_function_leaves pure n m name rest item own free)) fits =
+no_call : (a : Around) (x : Tree) → Leaves a x → is_behind_jump false a ≡ false → Fits root (places.plug a (Some x)) → has_call x.kind x.below ≡ false
+no_call a x (edits.empty_statement (empty_statement_leaves n item)) front fits = refl
+no_call a x (edits.unused_function (unused_function_leaves pure n m name rest item own free)) front fits =
     let e = exposure a (Some x) in unless (has_call x.kind x.below) e.evaluates (there a x fits) (second_of_neither e.names_shared e.evaluates (first_of_neither (e.names_shared || e.evaluates) e.in_sloppy_block own))
-no_call a x (edits.unused_declarator (unused_declarator_leaves n m name value item other own silent free)) fits =
+no_call a x (edits.unused_declarator (unused_declarator_leaves n m name value item other own silent free)) front fits =
     unless (has_call x.kind x.below) (evaluates_somewhere (places.plug a (Some x))) (somewhere a x fits) (second_of_neither (exposure a (Some x)).declared_shared (evaluates_somewhere (places.plug a (Some x))) own)
-no_call a x (edits.unused_declaration (unused_declaration_leaves how n m l j name value item own silent free)) fits =
+no_call a x (edits.unused_declaration (unused_declaration_leaves how n m l j name value item own silent free)) front fits =
     unless (has_call x.kind x.below) (evaluates_somewhere (places.plug a (Some x))) (somewhere a x fits) (second_of_neither (shares (exposure a (Some x)) how) (evaluates_somewhere (places.plug a (Some x))) own)
+no_call a x (edits.unreached (never_runs item jump runs none)) front fits = absurd (true≢false (sym jump ∙ front))
 
 -- and it isn't the name that is called
-no_name : (a : Around) (x : Tree) → Leaves a x → (rest : Forest) → is_some (eval_name (node x.kind x.note x.below rest)) ≡ true → false ≡ true
-no_name a x (edits.empty_statement (empty_statement_leaves n item)) rest e = e
-no_name a x (edits.unused_function (unused_function_leaves pure n m name below item own free)) rest e = e
-no_name a x (edits.unused_declarator (unused_declarator_leaves n m name value item other own silent free)) rest e = e
-no_name a x (edits.unused_declaration (unused_declaration_leaves how n m l j name value item own silent free)) rest e = e
+no_name : (a : Around) (x : Tree) → Leaves a x → is_behind_jump false a ≡ false → (rest : Forest) → is_some (eval_name (node x.kind x.note x.below rest)) ≡ true → false ≡ true
+no_name a x (edits.empty_statement (empty_statement_leaves n item)) front rest e = e
+no_name a x (edits.unused_function (unused_function_leaves pure n m name below item own free)) front rest e = e
+no_name a x (edits.unused_declarator (unused_declarator_leaves n m name value item other own silent free)) front rest e = e
+no_name a x (edits.unused_declaration (unused_declaration_leaves how n m l j name value item own silent free)) front rest e = e
+no_name a x (edits.unreached (never_runs item jump runs none)) front rest e = absurd (true≢false (sym jump ∙ front))
 
 none_there : (n : ℕ) (b : Bool) → (1 ≤ n → b ≡ true) → b ≡ false → n ≡ 0
 none_there zero b f e = refl
@@ -151,11 +154,11 @@ module _ (x : Tree) (nameless : (rest : Forest) → is_some (eval_name (node x.k
   evals_stay (places.behind_none a) = evals_stay a
   evals_stay (under k n a rest) = Prim.omega (arith, evals_stay a, calls_stay k a)
 
-pub leaving_keeps_calls : (a : Around) (x : Tree) → Leaves a x → Fits root (places.plug a (Some x)) → evals (without a) ≡ evals (places.plug a (Some x))
-leaving_keeps_calls a x c fits =
-    let none = no_evals x (no_call a x c fits) in
-    Prim.omega (arith, none, evals_stay x (no_name a x c) a, fewer false (places.plug a (Some x)) (without a) (edit_cuts (places.plug a (Some x)) (without a) (edits.leaves a x c) fits))
+pub leaving_keeps_calls : (a : Around) (x : Tree) → Leaves a x → is_behind_jump false a ≡ false → Fits root (places.plug a (Some x)) → evals (without a) ≡ evals (places.plug a (Some x))
+leaving_keeps_calls a x c front fits =
+    let none = no_evals x (no_call a x c front fits) in
+    Prim.omega (arith, none, evals_stay x (no_name a x c front) a, fewer false (places.plug a (Some x)) (without a) (edit_cuts (places.plug a (Some x)) (without a) (edits.leaves a x c) fits))
 
-pub leaving_tells_only : (s : Scoping) (a : Around) (x : Tree) → Leaves a x → Fits root (places.plug a (Some x)) → FlagsTellOnly s (places.plug a (Some x)) → FlagsTellOnly s (without a)
-leaving_tells_only s a x c fits h =
-    edits_told_only s (places.plug a (Some x)) (without a) (edits.one_tree_edit (places.plug a (Some x)) (without a) (without a) (edits.leaves a x c) (edits.no_tree_edit (without a))) fits (leaving_keeps_calls a x c fits) h
+pub leaving_tells_only : (s : Scoping) (a : Around) (x : Tree) → Leaves a x → is_behind_jump false a ≡ false → Fits root (places.plug a (Some x)) → FlagsTellOnly s (places.plug a (Some x)) → FlagsTellOnly s (without a)
+leaving_tells_only s a x c front fits h =
+    edits_told_only s (places.plug a (Some x)) (without a) (edits.one_tree_edit (places.plug a (Some x)) (without a) (without a) (edits.leaves a x c) (edits.no_tree_edit (without a))) fits (leaving_keeps_calls a x c front fits) h

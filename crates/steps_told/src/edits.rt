@@ -1,6 +1,6 @@
 // What the flags of a table tell only, of a program that is edited while its table stays. Each law is a contract, so that the check
 // proves it.
-ghost use Rattle.std.specs.Prelude.{◌≡◌, Some};
+ghost use Rattle.std.specs.Prelude.{◌≡◌, false, Some};
 ghost use Rattle.js_syntax.specs.Class.{root};
 ghost use Rattle.js_syntax.specs.Node.{Forest, Tree};
 ghost use Rattle.json_shape.specs.Shape.{Fits};
@@ -8,6 +8,7 @@ ghost use Rattle.scope_rules.specs.Table.{Scoping};
 ghost use Rattle.scope_laws.specs.Place.{Around, plug};
 ghost use Rattle.scope_laws.specs.Lists.{without};
 ghost use Rattle.steps_allowed.specs.Edits.{Leaves, TreeEdits};
+ghost use Rattle.steps_allowed.specs.Unreached.{is_behind_jump};
 ghost use Rattle.min_context.specs.Edited.{evals};
 ghost use Rattle.steps_told.specs.Nesting.{ScopesNest};
 ghost use Rattle.steps_told.specs.Parts.{FlagsTellOnly, CallsToldOnly, NamesToldOnly};
@@ -34,8 +35,9 @@ pub fn edits_keep_how_scopes_nest()
     ensures { (t u : Forest) → TreeEdits t u → Fits root t → (s : Scoping) → ScopesNest s t → ScopesNest s u }
 {}
 
-/// Law: what leaves a list by an edit holds no direct call of `eval`, since its name would be exposed then: so all stays as it is told.
+/// Law: what leaves a list by an edit holds no direct call of `eval`, since its name would be exposed then, unless it stands behind a
+/// jump: so all stays as it is told.
 pub fn what_leaves_a_list_leaves_calls()
-    ensures calls { (a : Around) (x : Tree) → Leaves a x → Fits root (plug a (Some x)) → evals (without a) ≡ evals (plug a (Some x)) }
-    ensures told { (a : Around) (x : Tree) → Leaves a x → Fits root (plug a (Some x)) → (s : Scoping) → FlagsTellOnly s (plug a (Some x)) → FlagsTellOnly s (without a) }
+    ensures calls { (a : Around) (x : Tree) → Leaves a x → is_behind_jump false a ≡ false → Fits root (plug a (Some x)) → evals (without a) ≡ evals (plug a (Some x)) }
+    ensures told { (a : Around) (x : Tree) → Leaves a x → is_behind_jump false a ≡ false → Fits root (plug a (Some x)) → (s : Scoping) → FlagsTellOnly s (plug a (Some x)) → FlagsTellOnly s (without a) }
 {}

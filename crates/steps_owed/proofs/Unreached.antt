@@ -1,0 +1,86 @@
+-- What a statement behind a jump owes that leaves its list.
+use Rattle.std.proofs.Common.{◌≡◌, ◌∙◌, ◌≤◌, ℕ, ◌==◌, List, [], inl, inr, Bool, true, false, Some, arith, refl, sym, ap, subst, true≢false}
+use Rattle.js_syntax.specs.declared.node_kind.NodeKind.{NodeKind as Kind}
+use Rattle.js_syntax.specs.Facts.{weight}
+use Rattle.js_syntax.specs.Node.{Note, Forest, Tree, nothing, node, alone, forest_of, total}
+use Rattle.js_meaning.specs.Value.{Text}
+use Rattle.js_meaning.specs.Scope.{names_of, bound_names, vars_of, var_names, import_decls}
+use Rattle.js_meaning_near.specs.Near.{is_calm}
+use Rattle.js_meaning_near.specs.Local.{DeclaresNothing}
+use Rattle.js_meaning_near.proofs.Local.{calm_specifier}
+use Rattle.form_rules.specs.declared.sought.Sought.{Sought}
+use Rattle.form_rules.specs.declared.sought.Sought.TheVariants.{CatchScope as catch_scope}
+use Rattle.form_rules.specs.Rules.{Exported}
+use Rattle.json_shape.specs.Shape.{is_directive_kind}
+use Rattle.scope_rules.specs.Context.{Context, outermost}
+use Rattle.scope_laws.specs.Place.{Around, plug}
+use Rattle.steps_allowed.specs.Branches.{declares_none}
+use Rattle.steps_allowed.specs.Unreached.{only_runs, Unreached, never_runs}
+use Rattle.steps_keep_form.specs.Sheds.{exports_none}
+use Rattle.steps_keep_form.proofs.Rules.{first_empty}
+use Rattle.steps_keep_runs.proofs.Lists.{no_vars}
+use Rattle.steps_names.specs.Placed.{Place, declared, cases, others, place_below}
+use Rattle.steps_owed.specs.Owed.{IsUnexported, by_jump, Leaving}
+use Rattle.steps_owed.specs.Seeking.{Seeks}
+use Rattle.steps_owed.proofs.ChoiceRuns.{no_imports_below}
+use Rattle.steps_owed.proofs.Focus.{always, follows_there}
+use Rattle.steps_owed.proofs.Outward.{declares_nothing}
+use Rattle.steps_owed.proofs.PartForm.{is_catch, outside_as, nothing_declared}
+use Rattle.steps_owed.proofs.Undeclared.{no_names, lead_to_imports, neither_leads}
+use Rattle.steps_owed.proofs.Unseen.{enclosed_alone_there}
+
+-- ---- kinds
+
+no_kind : {A : Type 0} → false ≡ true → A
+no_kind e = absurd (true≢false (sym e))
+
+-- what only runs has a weight, is no directive, and starts nothing
+record Runs (k : Kind) : Type 0 where
+  weighs : 1 ≤ weight k
+  no_directive : is_directive_kind k ≡ false
+  calm : is_calm k ≡ true
+  leads : (p : Place) (i : ℕ) → lead_to_imports (place_below p k i) ≡ false
+
+of_kind : (k : Kind) → only_runs k ≡ true → Runs k
+of_kind Kind.ExpressionStatement h = record { weighs = Prim.omega arith; no_directive = refl; calm = refl; leads = λ p i. refl }
+of_kind Kind.BlockStatement h = record { weighs = Prim.omega arith; no_directive = refl; calm = refl; leads = λ p i. refl }
+of_kind (Kind.LabeledStatement l) h = record { weighs = Prim.omega arith; no_directive = refl; calm = refl; leads = λ p i. refl }
+of_kind Kind.IfStatement h = record { weighs = Prim.omega arith; no_directive = refl; calm = refl; leads = λ p i. refl }
+of_kind (Kind.BreakStatement l) h = record { weighs = Prim.omega arith; no_directive = refl; calm = refl; leads = λ p i. refl }
+of_kind (Kind.ContinueStatement l) h = record { weighs = Prim.omega arith; no_directive = refl; calm = refl; leads = λ p i. refl }
+of_kind Kind.ReturnStatement h = record { weighs = Prim.omega arith; no_directive = refl; calm = refl; leads = λ p i. refl }
+of_kind Kind.ThrowStatement h = record { weighs = Prim.omega arith; no_directive = refl; calm = refl; leads = λ p i. refl }
+of_kind Kind.WhileStatement h = record { weighs = Prim.omega arith; no_directive = refl; calm = refl; leads = λ p i. refl }
+of_kind Kind.DoWhileStatement h = record { weighs = Prim.omega arith; no_directive = refl; calm = refl; leads = λ p i. refl }
+of_kind Kind.ForStatement h = record { weighs = Prim.omega arith; no_directive = refl; calm = refl; leads = λ p i. neither_leads (i == 0) declared others refl refl }
+of_kind Kind.SwitchStatement h = record { weighs = Prim.omega arith; no_directive = refl; calm = refl; leads = λ p i. neither_leads (i == 1) cases others refl refl }
+of_kind Kind.TryStatement h = record { weighs = Prim.omega arith; no_directive = refl; calm = refl; leads = λ p i. refl }
+of_kind k h = no_kind h
+
+-- ---- what is sought there
+
+no_catch : (t : Forest) (s : Sought) (es : List Exported) (c : Context) → Seeks t s es c → is_catch s ≡ false
+no_catch t (catch_scope f) es c h = absurd h
+no_catch t s es c h = refl
+
+-- ---- all of it
+
+pub unreached_owes : (a : Around) (x : Tree) → Unreached a x → Leaving a x
+unreached_owes a x (never_runs item jump runs none) =
+    let kind = of_kind x.kind runs in
+    record {
+      weighs = Prim.omega (arith, kind.weighs);
+      listed = inl item;
+      no_directive = kind.no_directive;
+      no_call = inr jump;
+      may_change = inr (item, jump);
+      unseen = λ e. inr (declares_nothing (forest_of x) none (enclosed_alone_there a x.kind x.note x.below e));
+      unexported = follows_there (λ b c i. Unit {0}) (IsUnexported (plug a (Some x)) x)
+          (λ b c i h z within right seeks. ap (exports_none z.exported) (nothing_declared z.sought 0 (forest_of x) (outside_as z.sought (forest_of x) (no_catch (plug a (Some x)) z.sought z.exported c seeks)) none)) (Some x) a false (λ at. outermost) 0 0
+          (always (Some x) a false (λ at. outermost) 0 0);
+      runs = by_jump (item, jump) kind.calm (λ n m b is fits form core. record {
+        bound = first_empty (names_of x.kind (bound_names x.below)) [] (no_names (forest_of x) none);
+        vars = first_empty (vars_of x.kind x.below (var_names x.below)) [] (no_vars (forest_of x) (no_names (forest_of x) none));
+        imports = λ source. calm_specifier source x.kind x.below (import_decls source x.below) kind.calm ∙ no_imports_below n m b a x x is fits form core x.kind refl kind.calm kind.leads source;
+      });
+    }
