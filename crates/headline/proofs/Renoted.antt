@@ -8,9 +8,10 @@ use Rattle.js_syntax.specs.declared.node_kind.NodeKind.TheVariants.{Function as 
 use Rattle.js_syntax.specs.declared.kind.FunctionKind.TheVariants as function_kind
 use Rattle.js_syntax.specs.declared.kind.VariableKind.TheVariants as variable
 use Rattle.js_syntax.specs.declared.operator.UnaryOperator.TheVariants as unary
-use Rattle.js_syntax.specs.Node.{Forest, Tree, Note, nothing, node, absent, nowhere, bare}
+use Rattle.js_syntax.specs.Node.{Forest, Tree, Note, nothing, node, absent, nowhere, bare, forest_of}
 use Rattle.js_effects.specs.Silence.{is_one_name, runs_its_parts}
 use Rattle.js_effects.proofs.Bare.{runs_bare, one_name_bare}
+use Rattle.js_meaning_near.specs.Near.{is_jump}
 use Rattle.min_pass.specs.declared.around.Around.{Around as Asked}
 use Rattle.min_pass.specs.Around.{is_with, entered as asked_below, outermost as asked_of_program}
 use Rattle.min_pass.specs.Pass.{is_given}
@@ -42,17 +43,19 @@ use Rattle.steps_allowed.specs.IdleParts.{sequence_becomes, IdleParts, idle_part
 use Rattle.steps_allowed.specs.TwoSides.{TwoSides, both_sides_act}
 use Rattle.steps_allowed.specs.UnusedObject.{UnusedObject, acting_values_stay}
 use Rattle.steps_allowed.specs.KnownOperation.{KnownOperation, value_is_known}
+use Rattle.steps_allowed.specs.Branches.{declares_none}
 use Rattle.steps_allowed.specs.KnownIf.{KnownIf}
 use Rattle.steps_allowed.specs.DeadIf.{DeadIf}
+use Rattle.steps_allowed.specs.Unreached.{is_behind_jump, Unreached, never_runs}
 use Rattle.steps_owed.proofs.ExposedBare.{bare_inside, bare_below, bare_exposed}
 use Rattle.steps_owed.proofs.Focus.{follows_there}
-use Rattle.headline.specs.Clean.{IsDead, an_empty_statement, a_silent_statement, an_unused_function, an_unused_declarator, a_known_conditional, a_known_side, an_unused_operation, an_unused_list, an_indirect_choice, a_one_sided_choice, idle_parts, two_sides, an_unused_object, a_known_operation, a_known_if, a_dead_if, Clean}
+use Rattle.headline.specs.Clean.{IsDead, an_empty_statement, a_silent_statement, an_unused_function, an_unused_declarator, a_known_conditional, a_known_side, an_unused_operation, an_unused_list, an_indirect_choice, a_one_sided_choice, idle_parts, two_sides, an_unused_object, a_known_operation, a_known_if, a_dead_if, an_unreached_statement, Clean}
 use Rattle.headline.proofs.RenotedUnused.{stands_as, needed_as, child_as, list_as}
 use Rattle.headline.proofs.RenotedChoice.{counts_as}
 use Rattle.headline.proofs.RenotedParts.{side_as, sequence_as}
 use Rattle.headline.proofs.RenotedSides.{two_sides_as, object_as}
 use Rattle.headline.proofs.RenotedKnown.{known_as, truth_as, side_as as known_side_as}
-use Rattle.headline.proofs.RenotedIf.{known_if_as, dead_if_as}
+use Rattle.headline.proofs.RenotedIf.{declares_bare, known_if_as, dead_if_as}
 
 -- ---- sites without ids and spans
 
@@ -280,6 +283,7 @@ record Twin (t : Forest) (a : Around) (k : Kind) (n : Note) (b : Forest) : Type 
   asked : (w : Asked) → asked_at w around ≡ asked_at w a
   used : (us : ℕ → Use) (at : ℕ) → use_there us at around ≡ use_there us at a
   unused : (us : ℕ → Bool) (at : ℕ) → unused_there us at around ≡ unused_there us at a
+  jumped : (j : Bool) → is_behind_jump j around ≡ is_behind_jump j a
   exposed : (es : ℕ → Exposure) (at : ℕ) → exposed_at es at around (a_node k note below) ≡ exposed_at es at a (a_node k n b)
   holds : (P : Bool → Context → ℕ → Type 0) (w : Bool) (cs : ℕ → Context) (at next : ℕ) → HoldsThere w cs at next a (a_node k n b) P → HoldsThere w cs at next around (a_node k note below) P
 
@@ -295,6 +299,7 @@ twin (first rest) k n b (node l m c r) e = record {
   asked = λ w. refl;
   used = λ us at. refl;
   unused = λ us at. refl;
+  jumped = λ q. refl;
   exposed = λ es at. refl;
   holds = λ P w cs at next h. h;
 }
@@ -311,6 +316,7 @@ twin (behind j i d a) k n b (node l m c r) e =
       asked = o.asked;
       used = λ us at. o.used us (suc at);
       unused = λ us at. o.unused us (suc at);
+      jumped = λ q. o.jumped (q || is_jump j);
       exposed = λ es at. o.exposed es (suc at);
       holds = λ P w cs at next h. subst (λ (q : ℕ). HoldsThere w cs (suc at) q o.around (a_node k o.note o.below) P) (sym (place_as next j m i c d (same_below e))) (o.holds P w cs (suc at) (next + scope_count (node j i d nothing)) h);
     }
@@ -327,6 +333,7 @@ twin (behind_none a) k n b (absent r) e =
       asked = o.asked;
       used = λ us at. o.used us (suc at);
       unused = λ us at. o.unused us (suc at);
+      jumped = o.jumped;
       exposed = λ es at. o.exposed es (suc at);
       holds = λ P w cs at next h. o.holds P w cs (suc at) next h;
     }
@@ -346,6 +353,7 @@ twin (under j i a rest) k n b (node l m c r) e =
       asked = λ w. o.asked (asked_below w j);
       used = λ us at. o.used (λ i. use_below (us at) j i) 0;
       unused = λ us at. o.unused (λ i. is_unused_below (us at) j i) 0;
+      jumped = λ q. o.jumped false;
       exposed = λ es at. ap (λ (fs : ℕ → Exposure). exposed_at fs 0 o.around y) (sym (exposed_same (es at) j (plug a x) (plug o.around y) inner)) ∙ o.exposed (exposed_inside (es at) j (plug a x)) 0;
       holds = λ P w cs at next h.
           subst (λ (q : ℕ). HoldsThere (w || is_with j) (inside (cs at) next j (plug o.around y)) 0 (next + q) o.around y P) (opens_same j (plug a x) (plug o.around y) inner)
@@ -646,6 +654,13 @@ module _ (t u : Forest) (e : bare t ≡ bare u) (clean : Clean t) where
       let z = dead_if_as o.note o.below x y o.same dead in
       clean.nothing_is_dead o.around (Some now) o.is (a_dead_if o.around now z.0 z.1)
 
+  no_unreached : (a : Around) (x : Tree) → u ≡ plug a (Some x) → Unreached a x → ⊥
+  no_unreached a x is (never_runs item jump runs none) =
+      let o = other_place a x.kind x.note x.below is in
+      let now : Tree = record { kind = x.kind; note = o.note; below = o.below } in
+      let same = unseen declares_none declares_bare (forest_of now) (forest_of x) (ap (λ b. node x.kind nowhere b nothing) o.same) in
+      clean.nothing_is_dead o.around (Some now) o.is (an_unreached_statement o.around now (never_runs (item_as a o item) (o.jumped false ∙ jump) runs (same ∙ none)))
+
   none_dead : (a : Around) (x : Option Tree) → u ≡ plug a x → IsDead u a x → ⊥
   none_dead a x is (an_empty_statement b n item) = no_empty b n is item
   none_dead a x is (a_silent_statement b n below silent) = no_silent b n below is silent
@@ -663,6 +678,7 @@ module _ (t u : Forest) (e : bare t ≡ bare u) (clean : Clean t) where
   none_dead a x is (a_known_operation b y z known) = no_known b y z is known
   none_dead a x is (a_known_if b y z known) = no_known_if b y z is known
   none_dead a x is (a_dead_if b y z dead) = no_dead_if b y z is dead
+  none_dead a x is (an_unreached_statement b y unreached) = no_unreached b y is unreached
 
 pub clean_as : (t u : Forest) → bare t ≡ bare u → Clean t → Clean u
 clean_as t u e clean = record { nothing_is_dead = none_dead t u e clean }

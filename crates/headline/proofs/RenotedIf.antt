@@ -18,7 +18,7 @@ inside_bare nothing = refl
 inside_bare (absent rest) = inside_bare rest
 inside_bare (node k n below rest) = ap₂ (λ x y. x && y) (ap₂ (λ x y. stays_inside_at k x y) (lets_bare below) (inside_bare below)) (inside_bare rest)
 
-declares_bare : (t : Forest) → declares_none (bare t) ≡ declares_none t
+pub declares_bare : (t : Forest) → declares_none (bare t) ≡ declares_none t
 declares_bare nothing = refl
 declares_bare (absent rest) = declares_bare rest
 declares_bare (node k n below rest) = ap₂ (λ x y. x && y) (ap₂ (λ x y. declares_none_at k x y) (inside_bare below) (declares_bare below)) (declares_bare rest)

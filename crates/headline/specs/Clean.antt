@@ -32,6 +32,8 @@ use Rattle.steps_allowed.specs.KnownOperation.{KnownOperation}
 -- and an `if` on a test that is known, and the branch that runs, or nothing
 use Rattle.steps_allowed.specs.KnownIf.{KnownIf}
 use Rattle.steps_allowed.specs.DeadIf.{DeadIf}
+-- and a statement behind a jump in its list
+use Rattle.steps_allowed.specs.Unreached.{Unreached}
 -- whose names only the tree's references may use
 use Rattle.steps_allowed.specs.Exposure.{IsOwnFunction, IsOwnDeclarator}
 
@@ -79,6 +81,8 @@ pub data IsDead (t : Forest) : Around → Option Tree → Type 0 where
   a_known_if : (a : Around) (x y : Tree) → KnownIf x y → IsDead t a (Some x)
   -- such an `if` with no branch to run, whose only branch declares no name around it: it does nothing
   a_dead_if : (a : Around) (x y : Tree) → DeadIf x y → IsDead t a (Some x)
+  -- a statement behind a jump in its list, which declares no name around it: it never runs
+  an_unreached_statement : (a : Around) (x : Tree) → Unreached a x → IsDead t a (Some x)
 
 -- No part of the program is dead code.
 pub record Clean (t : Forest) : Type 0 where

@@ -3,13 +3,13 @@ use Rattle.std.proofs.Common.{◌≡◌, ◌↔◌, Option}
 use Rattle.js_syntax.specs.Node.{Forest, Tree}
 use Rattle.scope_laws.specs.Place.{Around, plug}
 use Rattle.scope_counts.specs.Scopes.{unmarked}
-use Rattle.headline.specs.Clean.{Clean, IsDead, an_empty_statement, a_silent_statement, an_unused_function, an_unused_declarator, a_known_conditional, a_known_side, an_unused_operation, an_unused_list, an_indirect_choice, a_one_sided_choice, idle_parts, two_sides, an_unused_object, a_known_operation, a_known_if, a_dead_if}
+use Rattle.headline.specs.Clean.{Clean, IsDead, an_empty_statement, a_silent_statement, an_unused_function, an_unused_declarator, a_known_conditional, a_known_side, an_unused_operation, an_unused_list, an_indirect_choice, a_one_sided_choice, idle_parts, two_sides, an_unused_object, a_known_operation, a_known_if, a_dead_if, an_unreached_statement}
 use Rattle.rules_dead_code.specs.Knows.{Knows}
 use Rattle.rules_dead_code.specs.Quiet.{Exactly, IsQuiet}
 use Rattle.rules_dead_code.specs.Rules.{Facts}
 use Rattle.rules_dead_code.proofs.Alive.{no_empty_item, no_silent_statement, no_unused_function, no_unused_declarator}
 use Rattle.rules_expressions.specs.Settled.{IsSettled}
-use Rattle.rules_expressions.proofs.Settled.{no_conditional, no_side, no_unused, no_list, no_indirect, no_one_sided, no_sequence, no_two_sides, no_object, no_known, no_known_if, no_dead_if}
+use Rattle.rules_expressions.proofs.Settled.{no_conditional, no_side, no_unused, no_list, no_indirect, no_one_sided, no_sequence, no_two_sides, no_object, no_known, no_known_if, no_dead_if, no_unreached}
 use Rattle.rules_clean.proofs.Deciding.{expressions_rest}
 use Rattle.rules_clean.proofs.Dying.{rules_rest}
 
@@ -32,6 +32,7 @@ module _ (f : Facts) (t : Forest) (known : Knows f unmarked t) (exactly : Exactl
     none_dead a x is (a_known_operation b y z known) = no_known t settled a y z is known
     none_dead a x is (a_known_if b y z known) = no_known_if t settled a y z is known
     none_dead a x is (a_dead_if b y z known) = no_dead_if t settled a y z is known
+    none_dead a x is (an_unreached_statement b y unreached) = no_unreached t settled b y is unreached
 
     pub clean : Clean t
     clean = record { nothing_is_dead = none_dead }

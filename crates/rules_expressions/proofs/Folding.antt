@@ -2,7 +2,7 @@
 use Rattle.std.proofs.Common.{◌∙◌, ap}
 use Rattle.js_syntax.specs.Node.{Forest, Tree}
 use Rattle.scope_counts.specs.Edits.{Around, plug}
-use Rattle.steps_allowed.specs.Edits.{Edit}
+use Rattle.steps_allowed.specs.Edits.{Edit, TreeEdits, no_tree_edit, one_tree_edit}
 use Rattle.min_options.specs.declared.options.CompressOptions.{CompressOptions}
 use Rattle.min_traverse.specs.Edits.{Edits, no_edit, one_edit}
 use Rattle.min_traverse.specs.Lawful.{Lawful}
@@ -20,6 +20,8 @@ use Rattle.rules_expressions.specs.TwoSides.{two_sides_become, fold_two_sides}
 use Rattle.rules_expressions.specs.Objects.{object_left, fold_object}
 use Rattle.rules_expressions.specs.Operations.{fold_known}
 use Rattle.rules_expressions.specs.Ifs.{fold_if}
+use Rattle.rules_expressions.specs.Jumps.{cut_list}
+use Rattle.rules_expressions.proofs.Jumps.{list_edits, cut_is_less}
 use Rattle.rules_expressions.proofs.Becoming.{branch, branch_is_less, side, side_is_less}
 use Rattle.rules_expressions.proofs.Unused.{left_part, left_is_less, unused_edits_there}
 use Rattle.rules_expressions.proofs.Lists.{list_is_less, list_edits_there}
@@ -113,6 +115,17 @@ module _ (E : CompressOptions → Forest → Forest → Type 0) (makes : (o : Co
     edits = λ c a x y r h at e. one_edit (makes c.options (plug a (before x r)) (plug a (before y r)) (if_edit a x y r (if_edits x y e))) no_edit;
     thins = λ c x y e. (if_is_less x y e).thins;
     lighter = λ c x y e. (if_is_less x y e).lighter;
+  }
+
+  made_by : (o : CompressOptions) {t u : Forest} → TreeEdits t u → Edits (E o) t u
+  made_by o (no_tree_edit t) = no_edit
+  made_by o (one_tree_edit t u v e more) = one_edit (makes o t u e) (made_by o more)
+
+  pub jumps_cut : Lawful E cut_list
+  jumps_cut = record {
+    edits = λ c a x y r h at e. made_by c.options (list_edits a x y r e);
+    thins = λ c x y e. (cut_is_less x y e).thins;
+    lighter = λ c x y e. (cut_is_less x y e).lighter;
   }
 
   pub expressions_fold : Lawful E at_expression_end

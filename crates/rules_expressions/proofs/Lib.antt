@@ -9,6 +9,7 @@ pub mod TwoSides
 pub mod Objects
 pub mod Operations
 pub mod Ifs
+pub mod Jumps
 pub mod Editing
 pub mod Folding
 pub mod Settled

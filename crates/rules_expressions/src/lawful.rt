@@ -13,6 +13,7 @@ ghost use Rattle.rules_expressions.specs.TwoSides.{fold_two_sides};
 ghost use Rattle.rules_expressions.specs.Objects.{fold_object};
 ghost use Rattle.rules_expressions.specs.Operations.{fold_known};
 ghost use Rattle.rules_expressions.specs.Ifs.{fold_if};
+ghost use Rattle.rules_expressions.specs.Jumps.{cut_list};
 
 use min_traverse::Traverse;
 
@@ -29,5 +30,6 @@ pub fn rules_are_lawful<T: Traverse>()
     ensures object { ((o : CompressOptions) (t u : Forest) → Edit t u → T.edit o t u) → Lawful T.edit fold_object }
     ensures known { ((o : CompressOptions) (t u : Forest) → Edit t u → T.edit o t u) → Lawful T.edit fold_known }
     ensures statement { ((o : CompressOptions) (t u : Forest) → Edit t u → T.edit o t u) → Lawful T.edit fold_if }
+    ensures jumps { ((o : CompressOptions) (t u : Forest) → Edit t u → T.edit o t u) → Lawful T.edit cut_list }
     ensures all { ((o : CompressOptions) (t u : Forest) → Edit t u → T.edit o t u) → Lawful T.edit at_expression_end }
 {}

@@ -1,10 +1,10 @@
 // Why the rules may do what they do. Each law is a contract, so that the check proves it.
 ghost use Rattle.std.specs.Prelude.{◌≡◌, ◌⊎◌, Some, true};
-ghost use Rattle.js_syntax.specs.Node.{Forest, Tree, bare, forest_of};
+ghost use Rattle.js_syntax.specs.Node.{Forest, Tree, node, bare, forest_of};
 ghost use Rattle.min_context.specs.Place.{place_at};
 ghost use Rattle.min_pass.specs.Around.{outermost};
 ghost use Rattle.scope_laws.specs.Place as places;
-ghost use Rattle.scope_counts.specs.Edits.{Around};
+ghost use Rattle.scope_counts.specs.Edits.{Around, plug};
 ghost use Rattle.steps_allowed.specs.KnownConditional.{KnownConditional};
 ghost use Rattle.steps_allowed.specs.KnownSide.{KnownSide};
 ghost use Rattle.steps_allowed.specs.Places.{asked_at};
@@ -19,6 +19,8 @@ ghost use Rattle.steps_allowed.specs.UnusedObject.{UnusedObject};
 ghost use Rattle.steps_allowed.specs.KnownOperation.{KnownOperation};
 ghost use Rattle.steps_allowed.specs.KnownIf.{KnownIf};
 ghost use Rattle.steps_allowed.specs.DeadIf.{DeadIf};
+ghost use Rattle.steps_allowed.specs.Unreached.{Unreached};
+ghost use Rattle.steps_allowed.specs.Edits.{TreeEdits};
 ghost use Rattle.steps_allowed.specs.Uses.{use_at};
 ghost use Rattle.rules_dead_code.specs.Before.{before};
 ghost use Rattle.rules_expressions.specs.Uses.{spot_of};
@@ -32,6 +34,7 @@ ghost use Rattle.rules_expressions.specs.TwoSides.{two_sides_become};
 ghost use Rattle.rules_expressions.specs.Objects.{object_left};
 ghost use Rattle.rules_expressions.specs.Operations.{known_becomes};
 ghost use Rattle.rules_expressions.specs.Ifs.{if_becomes};
+ghost use Rattle.rules_expressions.specs.Jumps.{list_reached};
 ghost use Rattle.rules_expressions.specs.Settled.{IsSettled};
 
 /// Law: the context of a walk tells what an expression is used for, whether a `with` statement is around, and whether nobody takes
@@ -57,6 +60,7 @@ pub fn answers_are_edits()
     ensures object { (a : Around) (x y : Tree) (rest : Forest) → object_left (spot_of (place_at a)) x.note x.kind x.below ≡ Some y → UnusedObject (before a rest) x y }
     ensures known { (a : Around) (x y : Tree) (rest : Forest) → known_becomes x.note x.kind x.below ≡ Some y → KnownOperation (before a rest) x y }
     ensures statement { (x y : Tree) → if_becomes x.note x.kind x.below ≡ Some y → KnownIf x y ⊎ DeadIf x y }
+    ensures items { (a : Around) (x y : Tree) (rest : Forest) → list_reached x.note x.kind x.below ≡ Some y → TreeEdits (plug a (node x.kind x.note x.below rest)) (plug a (node y.kind y.note y.below rest)) }
 {}
 
 /// Law: and where such an edit applies the rule answers what it leaves, or what more of them leave of that. Of a list, of what goes
@@ -91,6 +95,7 @@ pub fn what_is_settled_has_no_edits()
     ensures known { (t : Forest) → IsSettled t → (a : places.Around) (x y : Tree) → t ≡ places.plug a (Some x) → KnownOperation a x y → ⊥ }
     ensures known_if { (t : Forest) → IsSettled t → (a : places.Around) (x y : Tree) → t ≡ places.plug a (Some x) → KnownIf x y → ⊥ }
     ensures dead_if { (t : Forest) → IsSettled t → (a : places.Around) (x y : Tree) → t ≡ places.plug a (Some x) → DeadIf x y → ⊥ }
+    ensures unreached { (t : Forest) → IsSettled t → (a : places.Around) (x : Tree) → t ≡ places.plug a (Some x) → Unreached a x → ⊥ }
     ensures settled { (t : Forest)
         → ((a : places.Around) (x y : Tree) → t ≡ places.plug a (Some x) → KnownConditional a x y → ⊥)
         → ((a : places.Around) (x y : Tree) → t ≡ places.plug a (Some x) → KnownSide a x y → ⊥)
@@ -104,5 +109,6 @@ pub fn what_is_settled_has_no_edits()
         → ((a : places.Around) (x y : Tree) → t ≡ places.plug a (Some x) → KnownOperation a x y → ⊥)
         → ((a : places.Around) (x y : Tree) → t ≡ places.plug a (Some x) → KnownIf x y → ⊥)
         → ((a : places.Around) (x y : Tree) → t ≡ places.plug a (Some x) → DeadIf x y → ⊥)
+        → ((a : places.Around) (x : Tree) → t ≡ places.plug a (Some x) → Unreached a x → ⊥)
         → IsSettled t }
 {}

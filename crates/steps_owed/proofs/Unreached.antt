@@ -57,6 +57,9 @@ of_kind Kind.SwitchStatement h = record { weighs = Prim.omega arith; no_directiv
 of_kind Kind.TryStatement h = record { weighs = Prim.omega arith; no_directive = refl; calm = refl; leads = λ p i. refl }
 of_kind k h = no_kind h
 
+pub runs_weigh : (k : Kind) → only_runs k ≡ true → 1 ≤ weight k
+runs_weigh k h = (of_kind k h).weighs
+
 -- ---- what is sought there
 
 no_catch : (t : Forest) (s : Sought) (es : List Exported) (c : Context) → Seeks t s es c → is_catch s ≡ false

@@ -36,8 +36,9 @@ use Rattle.steps_allowed.specs.UnusedObject.{object_becomes, acting_values_stay}
 use Rattle.steps_allowed.specs.KnownOperation.{known_literal, value_is_known}
 use Rattle.steps_allowed.specs.KnownIf.{consequent_is_run, alternate_is_run}
 use Rattle.steps_allowed.specs.DeadIf.{nothing_is_run}
+use Rattle.steps_allowed.specs.Unreached.{only_runs, never_runs}
 use Rattle.steps_allowed.specs.Uses.{Use}
-use Rattle.headline.specs.Clean.{IsDead, an_empty_statement, a_silent_statement, an_unused_function, an_unused_declarator, a_known_conditional, a_known_side, an_unused_operation, an_unused_list, an_indirect_choice, a_one_sided_choice, idle_parts, two_sides, an_unused_object, a_known_operation, a_known_if, a_dead_if, Clean}
+use Rattle.headline.specs.Clean.{IsDead, an_empty_statement, a_silent_statement, an_unused_function, an_unused_declarator, a_known_conditional, a_known_side, an_unused_operation, an_unused_list, an_indirect_choice, a_one_sided_choice, idle_parts, two_sides, an_unused_object, a_known_operation, a_known_if, a_dead_if, an_unreached_statement, Clean}
 use Rattle.min_peephole.specs.Quiet.{is_quiet}
 use Rattle.min_peephole.proofs.Quieted.{quiet_clean}
 use Rattle.test_headline.specs.Rows as row
@@ -522,7 +523,7 @@ is_suspect (Kind.BinaryExpression o) = true
 is_suspect Kind.ArrayExpression = true
 is_suspect Kind.SequenceExpression = true
 is_suspect Kind.ObjectExpression = true
-is_suspect k = false
+is_suspect k = only_runs k
 
 abbrev has_suspect : Forest → Bool
 has_suspect nothing = false
@@ -573,6 +574,21 @@ known_suspect (Kind.UnaryExpression o) n below v h = refl
 known_suspect (Kind.BinaryExpression o) n below v h = refl
 known_suspect k n below v h = absurd Prim.cc
 
+runs_suspect : (k : Kind) → only_runs k ≡ true → is_suspect k ≡ true
+runs_suspect Kind.EmptyStatement h = refl
+runs_suspect Kind.ExpressionStatement h = refl
+runs_suspect Kind.IfStatement h = refl
+runs_suspect (Kind.Function how pure) h = refl
+runs_suspect Kind.VariableDeclarator h = refl
+runs_suspect Kind.ConditionalExpression h = refl
+runs_suspect (Kind.LogicalExpression o) h = refl
+runs_suspect (Kind.UnaryExpression o) h = refl
+runs_suspect (Kind.BinaryExpression o) h = refl
+runs_suspect Kind.ArrayExpression h = refl
+runs_suspect Kind.SequenceExpression h = refl
+runs_suspect Kind.ObjectExpression h = refl
+runs_suspect k h = h
+
 dead_suspect : (t : Forest) (a : Around) (x : Option Tree) → t ≡ plug a x → IsDead t a x → has_suspect t ≡ true
 dead_suspect t a x is (an_empty_statement b n item) = ap has_suspect is ∙ suspect_there b _ refl
 dead_suspect t a x is (a_silent_statement b n below silent) = ap has_suspect is ∙ suspect_there b _ refl
@@ -593,6 +609,7 @@ dead_suspect t a x is (a_known_operation b _ _ (value_is_known i v y known)) = a
 dead_suspect t a x is (a_known_if b y z (consequent_is_run n m i v k c d e truth branch field none)) = ap has_suspect is ∙ suspect_there b _ refl
 dead_suspect t a x is (a_known_if b y z (alternate_is_run n m i j v k l c d e truth branch none)) = ap has_suspect is ∙ suspect_there b _ refl
 dead_suspect t a x is (a_dead_if b y z (nothing_is_run n m i j v k c d truth none)) = ap has_suspect is ∙ suspect_there b _ refl
+dead_suspect t a x is (an_unreached_statement b y (never_runs item jump runs none)) = ap has_suspect is ∙ suspect_there b y (runs_suspect y.kind runs)
 
 -- A declaration goes with the last of its declarators, and stays where it has none.
 pub nothing_declared_is_clean : Clean row.declares_nothing

@@ -1,0 +1,45 @@
+-- What is left of a list of statements in which something stands behind a jump.
+use Rattle.std.specs.Prelude.{Bool, true, false, ◌&&◌, ◌||◌, Option, None, Some, if◌then◌else◌}
+use Rattle.js_syntax.specs.declared.node_kind.NodeKind.{NodeKind as Kind}
+use Rattle.js_syntax.specs.declared.node_kind.NodeKind.TheVariants.{Statements as statements, EmptyStatement as empty_statement}
+use Rattle.js_syntax.specs.Node.{Forest, Tree, Note, nothing, node, absent}
+use Rattle.js_meaning_near.specs.Near.{is_jump}
+use Rattle.min_traverse.specs.Lawful.{Rule}
+use Rattle.steps_allowed.specs.Branches.{stays_inside, declares_none_at, declares_none}
+use Rattle.steps_allowed.specs.Unreached.{only_runs}
+use Rattle.rules_expressions.specs.Lists.{new_note}
+
+-- an item; `jumped` says whether a jump stands before it
+abbrev pub is_unreached : (jumped : Bool) → Kind → (below : Forest) → Bool
+is_unreached jumped k below = jumped && (only_runs k && declares_none_at k (stays_inside below) (declares_none below))
+
+-- the items that stay
+abbrev pub reached : (jumped : Bool) → Forest → Forest
+reached jumped nothing = nothing
+reached jumped (absent rest) = absent (reached jumped rest)
+reached jumped (node k n below rest) = if is_unreached jumped k below then reached jumped rest else node k n below (reached (jumped || is_jump k) rest)
+
+-- the same, with an empty statement for each of the others, which then leaves the list as any does
+abbrev pub emptied_behind : (jumped : Bool) → Forest → Forest
+emptied_behind jumped nothing = nothing
+emptied_behind jumped (absent rest) = absent (emptied_behind jumped rest)
+emptied_behind jumped (node k n below rest) =
+    if is_unreached jumped k below then node empty_statement (new_note n) nothing (emptied_behind jumped rest) else node k n below (emptied_behind (jumped || is_jump k) rest)
+
+-- whether one goes
+abbrev pub has_unreached : (jumped : Bool) → Forest → Bool
+has_unreached jumped nothing = false
+has_unreached jumped (absent rest) = has_unreached jumped rest
+has_unreached jumped (node k n below rest) = is_unreached jumped k below || has_unreached (jumped || is_jump k) rest
+
+abbrev pub left_if : Bool → Note → (below : Forest) → Option Tree
+left_if goes n below = if goes then Some (record { kind = statements; note = n; below = reached false below }) else None
+
+abbrev pub list_reached : Note → Kind → (below : Forest) → Option Tree
+list_reached n statements below = left_if (has_unreached false below) n below
+list_reached n k below = None
+
+-- ---- as a rule of a walk
+
+abbrev pub cut_list : Rule
+cut_list c x = list_reached x.note x.kind x.below
