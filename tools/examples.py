@@ -30,7 +30,7 @@ cases={}
 cases['statements']=[
  N('ExpressionStatement',expression=L('use strict'),directive='use strict'),
  B(N('DebuggerStatement')), N('IfStatement',test=a,consequent=N('EmptyStatement'),alternate=ES(b)), prog([N('WithStatement',object=a,body=B())],'script'),
- N('LabeledStatement',label=I('l'),body=N('WhileStatement',test=a,body=B(N('BreakStatement',label=I('l')),N('ContinueStatement',label=None)))),
+ N('LabeledStatement',label=I('l'),body=N('WhileStatement',test=a,body=B(N('IfStatement',test=b,consequent=N('BreakStatement',label=I('l')),alternate=None),N('ContinueStatement',label=None)))),
  N('IfStatement',test=a,consequent=ES(b),alternate=None), N('IfStatement',test=a,consequent=ES(b),alternate=ES(c)),
  N('SwitchStatement',discriminant=a,cases=[N('SwitchCase',test=L(1),consequent=[ES(b)]),N('SwitchCase',test=None,consequent=[])]),
  N('ThrowStatement',argument=a), N('TryStatement',block=B(),handler=N('CatchClause',param=I('e'),body=B()),finalizer=None),
@@ -38,7 +38,7 @@ cases['statements']=[
  N('DoWhileStatement',body=B(),test=a),
  N('ForStatement',init=var('let',(a,L(0))),test=None,update=None,body=B()), N('ForStatement',init=asg('=',a,L(1)),test=a,update=N('UpdateExpression',operator='++',prefix=False,argument=a),body=B()),
  N('ForInStatement',left=var('const',(a,None)),right=b,body=B()), N('ForOfStatement',left=mem(a,b),right=b,body=B(),**{'await':False}),
- prog([fn('FunctionDeclaration',f,[a,N('AssignmentPattern',left=b,right=L(1)),N('RestElement',argument=N('ArrayPattern',elements=[None,c]))],B(N('ExpressionStatement',expression=L('d'),directive='d'),N('ReturnStatement',argument=a),N('ReturnStatement',argument=None)))],'script'),
+ prog([fn('FunctionDeclaration',f,[a,N('AssignmentPattern',left=b,right=L(1)),N('RestElement',argument=N('ArrayPattern',elements=[None,c]))],B(N('ExpressionStatement',expression=L('d'),directive='d'),N('IfStatement',test=a,consequent=N('ReturnStatement',argument=a),alternate=None),N('ReturnStatement',argument=None)))],'script'),
 ]
 SILENT=('Literal','ArrowFunctionExpression','FunctionExpression','UnaryExpression')
 cases['expressions']=[N('ThrowStatement',argument=e) if e['type'] in SILENT else ES(e) for e in [
@@ -283,6 +283,15 @@ S('if (f()) g(); if (!f()) g(); if ([f()]) g(); whose tests act',[WHEN(call(f),d
 S('function h() {} if (0) h();',[F_('h',[]),WHEN(L(0),do('h'))],[],2,0)
 S('export function h() { if (0) return 1; return 2; }',[export(F_('h',[],WHEN(L(0),RETURN(L(1))),RETURN(L(2))))],[export(F_('h',[],RETURN(L(2))))],1,0)
 S('if (0) f(); in a script',[WHEN(L(0),do('f'))],[],1,0,'script')
+BREAK=lambda l=None: N('BreakStatement',label=l)
+EACH=lambda *body: N('ForStatement',init=None,test=None,update=None,body=B(*body))
+CLASS=lambda name: N('ClassDeclaration',id=I(name),superClass=None,body=N('ClassBody',body=[]))
+S('export function h() { if (a) { return 1; g(); } return f(); g(); for (;;) { g(); } { g(); } }',[export(F_('h',[],WHEN(a,B(RETURN(L(1)),do('g'))),RETURN(call(f)),do('g'),EACH(do('g')),B(do('g'))))],[export(F_('h',[],WHEN(a,B(RETURN(L(1)))),RETURN(call(f))))],1,0)
+S('l: for (;;) { break l; f(); let x = g(); h(); } for (;;) { if (a) continue; else break; f(); }',[LABEL('l',EACH(BREAK(I('l')),do('f'),x_is(call(g)),do('h'))),EACH(WHEN(a,N('ContinueStatement',label=None),BREAK()),do('f'))],[LABEL('l',EACH(BREAK(I('l')),x_is(call(g)))),EACH(WHEN(a,N('ContinueStatement',label=None),BREAK()),do('f'))],1,0)
+S('export function h() { return k(); function k() {} var y = 1; { var z; } use(y, z); class c {} }',[export(F_('h',[],RETURN(call(I('k'))),F_('k',[]),var('var',(I('y'),L(1))),B(var('var',(I('z'),None))),ES(call(I('use'),I('y'),I('z'))),CLASS('c')))],[export(F_('h',[],RETURN(call(I('k'))),F_('k',[]),CLASS('c')))],2,1)
+S('throw f(); g(); export let x = 1; behind a jump of a module',[N('ThrowStatement',argument=call(f)),do('g'),export(x_is(L(1)))],[N('ThrowStatement',argument=call(f)),export(x_is(L(1)))],1,0)
+S("function h() {} export function k() { let x = 1; return; h(); eval('x'); }",[F_('h',[]),export(F_('k',[],x_is(L(1)),RETURN(None),do('h'),do('eval',L('x'))))],[export(F_('k',[],RETURN(None)))],2,0)
+S('switch (a) { case 1: f(); break; g(); default: throw a; { let x = g(); } } in a script',[N('SwitchStatement',discriminant=a,cases=[N('SwitchCase',test=L(1),consequent=[do('f'),BREAK(),do('g')]),N('SwitchCase',test=None,consequent=[N('ThrowStatement',argument=a),B(x_is(call(g)))])])],[N('SwitchStatement',discriminant=a,cases=[N('SwitchCase',test=L(1),consequent=[do('f'),BREAK()]),N('SwitchCase',test=None,consequent=[N('ThrowStatement',argument=a)])])],1,0,'script')
 S('export default true ? a : b;',[N('ExportDefaultDeclaration',declaration=COND(L(True),a,b))],[N('ExportDefaultDeclaration',declaration=a)],1,0)
 S('let x = 1; export function h() { return 1 ? x : 0; }',[x_is(L(1)),export(F_('h',[],RETURN(COND(L(1),x,L(0)))))],[x_is(L(1)),export(F_('h',[],RETURN(x)))],1,1)
 

@@ -21,6 +21,7 @@ use Rattle.rules_expressions.specs.TwoSides.{two_sides_become}
 use Rattle.rules_expressions.specs.Objects.{object_left}
 use Rattle.rules_expressions.specs.Operations.{known_becomes}
 use Rattle.rules_expressions.specs.Ifs.{if_becomes}
+use Rattle.rules_expressions.specs.Jumps.{list_reached}
 
 -- what the first pass knows
 abbrev pub first_facts : Forest → Facts
@@ -45,7 +46,7 @@ keeps_parts p n k inner = not (is_some (sequence_left (spot_of p) n k inner)) &&
 
 -- and is no operation that comes to its value, nor an `if` that comes to a branch or becomes empty
 abbrev pub computes_none : Note → Kind → (inner : Forest) → Bool
-computes_none n k inner = not (is_some (known_becomes n k inner)) && not (is_some (if_becomes n k inner))
+computes_none n k inner = not (is_some (known_becomes n k inner)) && (not (is_some (if_becomes n k inner)) && not (is_some (list_reached n k inner)))
 
 -- a node at a place: no item of a list goes, no statement becomes empty, and no expression comes to its parts or its value
 abbrev pub stays : Facts → Place → Note → Kind → (inner : Forest) → Bool

@@ -26,12 +26,12 @@ use Rattle.min_traverse.specs.declared.slot.Outer.{Outer}
 use Rattle.min_traverse.specs.declared.slot.Outer.TheVariants as outer
 use Rattle.min_traverse.proofs.Joining.{does_some, does_none, held_moves, unchanged_moves}
 use Rattle.rules_dead_code.specs.Knows.{Knows}
-use Rattle.rules_dead_code.specs.Rules.{Facts, Where, where_of, has_dead, trimmed, is_silent_statement, emptied}
+use Rattle.rules_dead_code.specs.Rules.{Facts, Where, where_of, trimmed, is_silent_statement, emptied}
+use Rattle.rules_expressions.specs.Jumps.{emptied_behind}
 use Rattle.rules_dead_code.proofs.Keeping.{keeps}
 use Rattle.rules_dead_code.proofs.Emptying.{statement_empties_there}
-use Rattle.rules_dead_code.proofs.Trimming.{list_trims}
-use Rattle.rules_dead_code.proofs.Lighter.{trimmed_is_lighter, trimmed_sheds, emptied_is_lighter, emptied_sheds}
-use Rattle.min_statements.specs.Acts.{trim, empty}
+use Rattle.rules_dead_code.proofs.Lighter.{emptied_is_lighter, emptied_sheds}
+use Rattle.min_statements.specs.Acts.{has_gone, shorter, trim, empty}
 use Rattle.json_shape.specs.Shape.{Fits}
 use Rattle.js_syntax.specs.Class.{root}
 use Rattle.steps_told.proofs.Edited.{joined_only, calls_of, edits_names, edits_told_only}
@@ -41,9 +41,10 @@ use Rattle.min_statements.specs.Own.{AnyEdit, ExportedOnly, Own, IsToldOnly, Fou
 use Rattle.min_statements.proofs.Calls.{is_no_name, silent_is_no_name, evals_kept, CallsStay, none_dropped}
 use Rattle.steps_allowed.specs.Uses.{use_at, stands_bare}
 use Rattle.rules_dead_code.specs.Before as in_row
-use Rattle.min_statements.specs.Shed.{shed}
+use Rattle.min_statements.specs.Shed.{shed, unreached_shed, list_shed}
 use Rattle.min_statements.specs.Walker.{Names, facts_of}
-use Rattle.min_statements.proofs.Shed.{LeavesBy, facts_still, edited, splits, ids_add, evals_add}
+use Rattle.min_statements.proofs.Shed.{LeavesBy, facts_still, leaves_more, edited}
+use Rattle.min_statements.proofs.Gone.{shorter_sheds, shorter_is_lighter, list_shortens, ids_split, evals_split}
 
 -- ---- what the calls do
 
@@ -59,21 +60,21 @@ trim_ids r n b u s h = Prim.omega (arith, h)
 trim_evals : (n : Note) (b u : Forest) (s : ℕ) → evals b ≡ s + evals u → evals (node statements n b nothing) ≡ s + evals (node statements n u nothing)
 trim_evals n b u s h = Prim.omega (arith, h)
 
-trim_does : (names : Names) (c k d : Seen) (x y : Tree) → x.kind ≡ statements → has_dead (facts_of names c) (where_of c.place) x.below ≡ true → k ≡ record c { requested = true } → LeavesBy (λ m f t. shed m f (where_of c.place) t) names k x.below d
-    → y ≡ record x { below = trimmed (facts_of names c) (where_of c.place) x.below } → Does (trim names) c x true d y
+trim_does : (names : Names) (c k d : Seen) (x y : Tree) → x.kind ≡ statements → has_gone (facts_of names c) (where_of c.place) x.below ≡ true → k ≡ record c { requested = true } → LeavesBy (λ m f t. list_shed m f (where_of c.place) t) names k x.below d
+    → y ≡ record x { below = shorter (facts_of names c) (where_of c.place) x.below } → Does (trim names) c x true d y
 trim_does names c k d x y list dead asked leaves tree =
     let f = facts_of names c in
     let w = where_of c.place in
     let z : Tree = record { kind = statements; note = x.note; below = x.below } in
-    let v : Tree = record { kind = statements; note = x.note; below = trimmed f w x.below } in
+    let v : Tree = record { kind = statements; note = x.note; below = shorter f w x.below } in
     let is : x ≡ z = ap {A = Kind} {B = Tree} (λ q. record { kind = q; note = x.note; below = x.below }) list in
-    let left_is : y ≡ v = tree ∙ ap {A = Kind} {B = Tree} (λ q. record { kind = q; note = x.note; below = trimmed f w x.below }) list in
-    let now : LeavesBy (λ m g t. shed m g w t) names (record c { requested = true }) x.below d = subst (λ q. LeavesBy (λ m g t. shed m g w t) names q x.below d) asked leaves in
-    let e : Edited c z v true d = edited z v refl now (λ r. trim_ids r x.note x.below (trimmed f w x.below) (shed (ids r) f w x.below) (splits (ids r) (ids_add r) f w x.below)) (trim_evals x.note x.below (trimmed f w x.below) (shed evals f w x.below) (splits evals evals_add f w x.below)) in
-    does_some (trim names) c x y (some_left (record x { below = trimmed f w x.below }) dead ∙ ap Some (sym tree)) (subst (λ q. Edited c x q true d) (sym left_is) (subst (λ q. Edited c q v true d) (sym is) e))
+    let left_is : y ≡ v = tree ∙ ap {A = Kind} {B = Tree} (λ q. record { kind = q; note = x.note; below = shorter f w x.below }) list in
+    let now : LeavesBy (λ m g t. list_shed m g w t) names (record c { requested = true }) x.below d = subst (λ q. LeavesBy (λ m g t. list_shed m g w t) names q x.below d) asked leaves in
+    let e : Edited c z v true d = edited z v refl now (λ r. trim_ids r x.note x.below (shorter f w x.below) (list_shed (ids r) f w x.below) (ids_split r f w x.below)) (trim_evals x.note x.below (shorter f w x.below) (list_shed evals f w x.below) (evals_split f w x.below)) in
+    does_some (trim names) c x y (some_left (record x { below = shorter f w x.below }) dead ∙ ap Some (sym tree)) (subst (λ q. Edited c x q true d) (sym left_is) (subst (λ q. Edited c q v true d) (sym is) e))
 
-trim_does_none : (names : Names) (c : Seen) (x : Tree) → has_dead (facts_of names c) (where_of c.place) x.below ≡ false → Does (trim names) c x false c x
-trim_does_none names c x e = does_none (trim names) c x (none_left (record x { below = trimmed (facts_of names c) (where_of c.place) x.below }) e)
+trim_does_none : (names : Names) (c : Seen) (x : Tree) → has_gone (facts_of names c) (where_of c.place) x.below ≡ false → Does (trim names) c x false c x
+trim_does_none names c x e = does_none (trim names) c x (none_left (record x { below = shorter (facts_of names c) (where_of c.place) x.below }) e)
 
 pub empty_edited : (c d : Seen) (x y : Tree) → y ≡ record { kind = empty_statement; note = unmarked x.note; below = nothing } → DropsNode c x d → Edited c x y true d
 empty_edited c d x y tree drops =
@@ -94,18 +95,29 @@ empty_does_none names c x e = does_none (empty names) c x (none_left (record { k
 asked_so : (q : Facts → Where → Forest → Bool) (f g : Facts) (w v : Where) (t u : Forest) (b : Bool) → b ≡ q f w t → f ≡ g → w ≡ v → t ≡ u → q g v u ≡ b
 asked_so q f g w v t u b e facts at row = sym (e ∙ ap (λ x. q x w t) facts ∙ ap (λ x. q g x t) at ∙ ap (λ x. q g v x) row)
 
-pub trims : (names : Names) (c k d : Seen) (x y : Tree) (f g : Facts) (w : Where) (t u : Forest) → x.kind ≡ statements → w ≡ where_of c.place → f ≡ facts_of names c → t ≡ x.below → true ≡ has_dead f w t
-    → k ≡ record c { requested = true } → u ≡ x.below → LeavesBy (λ m q r. shed m q w r) names k u d → g ≡ facts_of names d → y ≡ record x { below = trimmed g w x.below } → Does (trim names) c x true d y
-trims names c k d x y f g w t u list at facts first dead asked row leaves later tree =
-    let is_dead : has_dead (facts_of names c) (where_of c.place) x.below ≡ true = asked_so has_dead f (facts_of names c) w (where_of c.place) t x.below true dead facts at first in
-    let left_row : LeavesBy (λ m q r. shed m q w r) names k x.below d = subst (λ z. LeavesBy (λ m q r. shed m q w r) names k z d) row leaves in
-    let left_there : LeavesBy (λ m q r. shed m q (where_of c.place) r) names k x.below d = subst (λ z. LeavesBy (λ m q r. shed m q z r) names k x.below d) at left_row in
-    let same_facts : g ≡ facts_of names c = later ∙ facts_still names leaves ∙ ap {A = Seen} (λ z. facts_of names z) asked in
-    trim_does names c k d x y list is_dead asked left_there
-    (tree ∙ ap {A = Facts} {B = Tree} (λ q. record x { below = trimmed q w x.below }) same_facts ∙ ap {A = Where} {B = Tree} (λ z. record x { below = trimmed (facts_of names c) z x.below }) at)
+-- what never runs left, and then the rest
+left_both : {k l d : Seen} (names : Names) (w : Where) (t : Forest) → Leaves k (λ r. unreached_shed (ids r) false t) (unreached_shed evals false t) l → LeavesBy (λ m q r. shed m q w r) names l (emptied_behind false t) d → LeavesBy (λ m q r. list_shed m q w r) names k t d
+left_both {k = k} {l = l} {d = d} names w t first second =
+    let f = facts_of names k in
+    let same : Leaves l (λ r. shed (ids r) f w (emptied_behind false t)) (shed evals f w (emptied_behind false t)) d = subst (λ g. Leaves l (λ r. shed (ids r) g w (emptied_behind false t)) (shed evals g w (emptied_behind false t)) d) (facts_still names first) second in
+    leaves_more first same (λ r. refl) refl
 
-pub trims_none : (names : Names) (c : Seen) (x : Tree) (f : Facts) (w : Where) (t : Forest) → w ≡ where_of c.place → f ≡ facts_of names c → t ≡ x.below → false ≡ has_dead f w t → Does (trim names) c x false c x
-trims_none names c x f w t at facts first dead = trim_does_none names c x (asked_so has_dead f (facts_of names c) w (where_of c.place) t x.below false dead facts at first)
+pub trims : (names : Names) (c k l d : Seen) (x v y : Tree) (f g : Facts) (w : Where) (t u s : Forest) → x.kind ≡ statements → w ≡ where_of c.place → f ≡ facts_of names c → t ≡ x.below → true ≡ has_gone f w t
+    → k ≡ record c { requested = true } → u ≡ x.below → Leaves k (λ r. unreached_shed (ids r) false u) (unreached_shed evals false u) l → v ≡ record x { below = emptied_behind false x.below } → s ≡ v.below
+    → LeavesBy (λ m q r. shed m q w r) names l s d → g ≡ facts_of names d → y ≡ record v { below = trimmed g w v.below } → Does (trim names) c x true d y
+trims names c k l d x v y f g w t u s list at facts first dead asked row unreached emptied_is middle leaves later tree =
+    let is_gone : has_gone (facts_of names c) (where_of c.place) x.below ≡ true = asked_so has_gone f (facts_of names c) w (where_of c.place) t x.below true dead facts at first in
+    let one_there : Leaves k (λ r. unreached_shed (ids r) false x.below) (unreached_shed evals false x.below) l = subst (λ z. Leaves k (λ r. unreached_shed (ids r) false z) (unreached_shed evals false z) l) row unreached in
+    let middle_is : s ≡ emptied_behind false x.below = middle ∙ ap {A = Tree} (λ z. z.below) emptied_is in
+    let two_there : LeavesBy (λ m q r. shed m q w r) names l (emptied_behind false x.below) d = subst (λ z. LeavesBy (λ m q r. shed m q w r) names l z d) middle_is leaves in
+    let all_there : LeavesBy (λ m q r. list_shed m q w r) names k x.below d = left_both names w x.below one_there two_there in
+    let left_there : LeavesBy (λ m q r. list_shed m q (where_of c.place) r) names k x.below d = subst (λ z. LeavesBy (λ m q r. list_shed m q z r) names k x.below d) at all_there in
+    let same_facts : g ≡ facts_of names c = later ∙ facts_still names two_there ∙ facts_still names one_there ∙ ap {A = Seen} (λ z. facts_of names z) asked in
+    trim_does names c k d x y list is_gone asked left_there
+    (tree ∙ ap {A = Tree} {B = Tree} (λ z. record z { below = trimmed g w z.below }) emptied_is ∙ ap {A = Facts} {B = Tree} (λ q. record x { below = shorter q w x.below }) same_facts ∙ ap {A = Where} {B = Tree} (λ z. record x { below = shorter (facts_of names c) z x.below }) at)
+
+pub trims_none : (names : Names) (c : Seen) (x : Tree) (f : Facts) (w : Where) (t : Forest) → w ≡ where_of c.place → f ≡ facts_of names c → t ≡ x.below → false ≡ has_gone f w t → Does (trim names) c x false c x
+trims_none names c x f w t at facts first dead = trim_does_none names c x (asked_so has_gone f (facts_of names c) w (where_of c.place) t x.below false dead facts at first)
 
 pub new_empty : (z : Tree) (n : Note) (s : Span) (items : List (Option Tree)) → z ≡ record { kind = empty_statement; note = record { span = s; id = None }; below = row items } → s ≡ n.span → items ≡ [] → z ≡ record { kind = empty_statement; note = unmarked n; below = nothing }
 new_empty z n s items new span none =
@@ -185,9 +197,9 @@ one {t = t} {u = u} e = one_tree_edit t u u e (no_tree_edit u)
 list_calls : (k : Kind) (n : Note) (b : Forest) → k ≡ statements → evals (node k n b nothing) ≡ evals b
 list_calls k n b e = subst (λ q. evals (node q n b nothing) ≡ evals b) (sym e) (Prim.omega arith)
 
-trim_calls : (f : Facts) (w : Where) (x y : Tree) → x.kind ≡ statements → y ≡ record x { below = trimmed f w x.below } → evals (forest_of y) ≤ evals (forest_of x)
+trim_calls : (f : Facts) (w : Where) (x y : Tree) → x.kind ≡ statements → y ≡ record x { below = shorter f w x.below } → evals (forest_of y) ≤ evals (forest_of x)
 trim_calls f w x y list tree =
-    Prim.omega (arith, ap (λ q. evals (forest_of q)) tree, list_calls x.kind x.note x.below list, list_calls x.kind x.note (trimmed f w x.below) list, splits evals evals_add f w x.below)
+    Prim.omega (arith, ap (λ q. evals (forest_of q)) tree, list_calls x.kind x.note x.below list, list_calls x.kind x.note (shorter f w x.below) list, evals_split f w x.below)
 
 module _ (stays : Stays AnyEdit) (names : Names) where
   noted : {c d : Seen} {x y : Tree} → ((a : Around) (r : Forest) → IsHere c a → CallsStay (in_row.before a r) x y) → Edited c x y true d → (a : Around) (r : Forest) → IsHere c a → Noted (still c) (still d) (plug a (before x r)) (plug a (before y r))
@@ -203,10 +215,10 @@ module _ (stays : Stays AnyEdit) (names : Names) where
       held_moves stays (λ a r p h. as_edits (edits a r p h)) fewer lighter (λ q. absurd (true≢false q)) e
       (λ a r p m h. known_still names (still c) (still d) (plug a (before x r)) (plug a (before y r)) (edits a r p h) m (noted calls e a r p) h)
 
-  trim_edits : (f : Facts) (m : ℕ → Bool) (p : Place) (k : Kind) (n : Note) (b : Forest) → k ≡ statements → (a : Around) (r : Forest) → place_at a ≡ p → Knows f m (plug a (node k n b r)) → TreeEdits (plug a (node k n b r)) (plug a (node k n (trimmed f (where_of p) b) r))
+  trim_edits : (f : Facts) (m : ℕ → Bool) (p : Place) (k : Kind) (n : Note) (b : Forest) → k ≡ statements → (a : Around) (r : Forest) → place_at a ≡ p → Knows f m (plug a (node k n b r)) → TreeEdits (plug a (node k n b r)) (plug a (node k n (shorter f (where_of p) b) r))
   trim_edits f m p k n b list a r at =
-      subst (λ q. Knows f m (plug a (node q n b r)) → TreeEdits (plug a (node q n b r)) (plug a (node q n (trimmed f (where_of p) b) r))) (sym list)
-      (λ h. subst (λ q. TreeEdits (plug a (node statements n b r)) (plug a (node statements n (trimmed f (where_of q) b) r))) at (list_trims f m a n b r h))
+      subst (λ q. Knows f m (plug a (node q n b r)) → TreeEdits (plug a (node q n b r)) (plug a (node q n (shorter f (where_of p) b) r))) (sym list)
+      (λ h. subst (λ q. TreeEdits (plug a (node statements n b r)) (plug a (node statements n (shorter f (where_of q) b) r))) at (list_shortens f m a n b r h))
 
   pub stayed : {c d : Seen} {x y : Tree} → y ≡ x → d ≡ c → NodeMoves Names AnyEdit (Holds Own) names c x names d y
   stayed {c = c} {d = d} {x = x} {y = y} tree context =
@@ -214,18 +226,18 @@ module _ (stays : Stays AnyEdit) (names : Names) where
       subst (λ q. NodeMoves Names AnyEdit (Holds Own) names c x names d q) (sym tree) (subst (λ q. NodeMoves Names AnyEdit (Holds Own) names c x names q x) (sym context) same)
 
   pub trim_moves : {c d : Seen} {x y : Tree} {answer : Bool} → x.kind ≡ statements → Does (trim names) c x answer d y → NodeMoves Names AnyEdit (Holds Own) names c x names d y
-  trim_moves {c = c} {d = d} {x = x} {y = y} list does = go (has_dead (facts_of names c) (where_of c.place) x.below) refl
+  trim_moves {c = c} {d = d} {x = x} {y = y} list does = go (has_gone (facts_of names c) (where_of c.place) x.below) refl
     where
-      go : (v : Bool) → has_dead (facts_of names c) (where_of c.place) x.below ≡ v → NodeMoves Names AnyEdit (Holds Own) names c x names d y
+      go : (v : Bool) → has_gone (facts_of names c) (where_of c.place) x.below ≡ v → NodeMoves Names AnyEdit (Holds Own) names c x names d y
       go true dead =
-          let z : Tree = record x { below = trimmed (facts_of names c) (where_of c.place) x.below } in
+          let z : Tree = record x { below = shorter (facts_of names c) (where_of c.place) x.below } in
           let is : trim names c x ≡ Some z = some_left z dead in
           let tree : y ≡ z = does.tree ∙ ap (or_same x) is in
           let e : Edited c x y true d = subst (λ o. Edited c x y (is_some o) d) is does.edited in
           moves
           (λ a r p h. subst (λ q. TreeEdits (plug a (before x r)) (plug a (before q r))) (sym tree) (trim_edits (facts_of names c) (has c.marked) c.place x.kind x.note x.below list a r p (known names (still c) (plug a (before x r)) h)))
-          (λ i. Prim.omega (arith, ap (λ q. ids i (forest_of q)) tree, trimmed_sheds (facts_of names c) (where_of c.place) x.below i))
-          (Prim.omega (arith, ap (λ q. total weight (forest_of q)) tree, trimmed_is_lighter (facts_of names c) (where_of c.place) x.below dead))
+          (λ i. Prim.omega (arith, ap (λ q. ids i (forest_of q)) tree, shorter_sheds (facts_of names c) (where_of c.place) x.below i))
+          (Prim.omega (arith, ap (λ q. total weight (forest_of q)) tree, shorter_is_lighter (facts_of names c) (where_of c.place) x.below dead))
           (λ a r p. record {
             fewer = trim_calls (facts_of names c) (where_of c.place) x y list tree;
             old = ap is_no_name list;
@@ -234,7 +246,7 @@ module _ (stays : Stays AnyEdit) (names : Names) where
           })
           e
       go false dead =
-          let is : trim names c x ≡ None = none_left (record x { below = trimmed (facts_of names c) (where_of c.place) x.below }) dead in
+          let is : trim names c x ≡ None = none_left (record x { below = shorter (facts_of names c) (where_of c.place) x.below }) dead in
           let tree : y ≡ x = does.tree ∙ ap (or_same x) is in
           let e : Edited c x y false d = subst (λ o. Edited c x y (is_some o) d) is does.edited in
           stayed tree (e.none refl)
@@ -273,16 +285,16 @@ asked_true true e = absurd (true≢false e)
 asked_true false e = absurd (true≢false e)
 
 module _ (names : Names) {c d : Seen} {x y : Tree} {answer : Bool} (quiet : d.requested ≡ false) where
-  pub trim_visits : Does (trim names) c x answer d y → Found (has_dead (facts_of names c) (where_of c.place) x.below) names c names d
-  trim_visits does = go (has_dead (facts_of names c) (where_of c.place) x.below) refl
+  pub trim_visits : Does (trim names) c x answer d y → Found (has_gone (facts_of names c) (where_of c.place) x.below) names c names d
+  trim_visits does = go (has_gone (facts_of names c) (where_of c.place) x.below) refl
     where
-      go : (v : Bool) → has_dead (facts_of names c) (where_of c.place) x.below ≡ v → Found (has_dead (facts_of names c) (where_of c.place) x.below) names c names d
+      go : (v : Bool) → has_gone (facts_of names c) (where_of c.place) x.below ≡ v → Found (has_gone (facts_of names c) (where_of c.place) x.below) names c names d
       go true dead =
-          let z : Tree = record x { below = trimmed (facts_of names c) (where_of c.place) x.below } in
+          let z : Tree = record x { below = shorter (facts_of names c) (where_of c.place) x.below } in
           let e : Edited c x y true d = subst (λ o. Edited c x y (is_some o) d) (some_left z dead) does.edited in
           asked_true c.requested (sym e.asked ∙ quiet)
       go false dead =
-          let z : Tree = record x { below = trimmed (facts_of names c) (where_of c.place) x.below } in
+          let z : Tree = record x { below = shorter (facts_of names c) (where_of c.place) x.below } in
           let e : Edited c x y false d = subst (λ o. Edited c x y (is_some o) d) (none_left z dead) does.edited in
           record { names_same = refl; context_same = e.none refl; none = dead }
 

@@ -2,9 +2,11 @@ mod Named
 mod Each
 mod Kept
 mod Shed
+mod Gone
 mod Calls
 mod Acting
 mod Expressions
 mod Branches
 mod Ending
 mod Seeing
+mod Emptying

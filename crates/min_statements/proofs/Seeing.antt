@@ -18,6 +18,8 @@ use Rattle.min_traverse.specs.declared.slot.Middle.TheVariants as middle
 use Rattle.min_traverse.specs.declared.slot.Inner.{Inner}
 use Rattle.min_traverse.specs.declared.slot.Inner.TheVariants as inner
 use Rattle.rules_dead_code.specs.Rules.{Facts, Where, where_of, has_dead, is_silent_statement}
+use Rattle.rules_expressions.specs.Jumps.{has_unreached, left_if, list_reached}
+use Rattle.min_statements.specs.Acts.{has_gone}
 use Rattle.min_statements.specs.Own.{Visited, is_written}
 use Rattle.rules_dead_code.specs.Quiet.{EachNode, IsQuietAt, IsQuiet}
 use Rattle.rules_dead_code.proofs.Walked.{each_both, quiet_nodes}
@@ -50,7 +52,7 @@ becomes p x = becomes_so (spot_of p) x.note x.kind x.below
 
 -- of a list of statements, of a statement and of an expression that has its own slot
 record IsAlive (f : Facts) (p : Place) (x : Tree) : Type 0 where
-  list : outer_slot (above_place p) x.kind ≡ outer.Statements → has_dead f (where_of p) x.below ≡ false
+  list : outer_slot (above_place p) x.kind ≡ outer.Statements → has_gone f (where_of p) x.below ≡ false
   statement : outer_slot (above_place p) x.kind ≡ outer.Statement → is_silent_statement f (where_of p) x.kind x.below || is_some (if_becomes x.note x.kind x.below) ≡ false
   expression : middle_slot (above_place p) x.kind ≡ middle.Expression → is_some (becomes p x) ≡ false
 
@@ -97,7 +99,7 @@ module _ (s : Names) (k : Seen) (x : Tree) (s' : Names) (k' : Seen) where
 
   record Left (o : Outer) : Type 0 where
     same : Same s k s' k'
-    list : o ≡ outer.Statements → has_dead (facts_of s k) (where_of k.place) x.below ≡ false
+    list : o ≡ outer.Statements → has_gone (facts_of s k) (where_of k.place) x.below ≡ false
     statement : o ≡ outer.Statement → is_silent_statement (facts_of s k) (where_of k.place) x.kind x.below || is_some (if_becomes x.note x.kind x.below) ≡ false
 
   left_outer : (o : Outer) → Called Visited is_written (exit_outer o) s k x s' k' → Left o
@@ -142,7 +144,7 @@ at_node p x s k s' k' at v inside =
       sym f.same.0 ∙ names_2,
       sym f.same.1 ∙ context_2,
       record {
-        list = λ q. subst (λ g. has_dead g (where_of p) x.below ≡ false) facts_2 (subst (λ z. has_dead (facts_of v.exits.s2 v.exits.k2) (where_of z) x.below ≡ false) place_2 (f.list q));
+        list = λ q. subst (λ g. has_gone g (where_of p) x.below ≡ false) facts_2 (subst (λ z. has_gone (facts_of v.exits.s2 v.exits.k2) (where_of z) x.below ≡ false) place_2 (f.list q));
         statement = λ q.
             subst (λ g. is_silent_statement g (where_of p) x.kind x.below || is_some (if_becomes x.note x.kind x.below) ≡ false) facts_2
             (subst (λ z. is_silent_statement (facts_of v.exits.s2 v.exits.k2) (where_of z) x.kind x.below || is_some (if_becomes x.note x.kind x.below) ≡ false) place_2 (f.statement q));
@@ -206,7 +208,7 @@ not_known f w n k b h = refl
 
 quiet_at : (f : Facts) (p : Place) (x : Tree) → IsAlive f p x → HasSlots p x → IsQuietAt f p x
 quiet_at f p x h slots = record {
-  list = λ e. h.list (slots.list e);
+  list = λ e. (neither (has_unreached false x.below) (has_dead f (where_of p) x.below) (h.list (slots.list e))).1;
   statement = none_left (record { kind = empty_statement; note = unmarked x.note; below = nothing }) (not_silent f (where_of p) x.note x.kind x.below (λ e. h.statement (slots.statement e)));
 }
 
@@ -293,10 +295,15 @@ settled_kind s n object_expression b h =
     (refl, refl, none_either_way s.is_unused, none_either_way s.is_unused, refl, none_either_way s.is_unused, refl, none_either_way s.is_unused, v.2, refl)
 settled_kind s n k b h = (refl, refl, none_either_way s.is_unused, none_either_way s.is_unused, refl, none_either_way s.is_unused, refl, none_either_way s.is_unused, none_either_way s.is_unused, refl)
 
+-- nothing stands behind a jump
+none_behind : (f : Facts) (w : Where) (n : Note) (k : Kind) (b : Forest) → (k ≡ Kind.Statements → has_gone f w b ≡ false) → list_reached n k b ≡ None
+none_behind f w n Kind.Statements b h = ap (λ c. left_if c n b) (neither (has_unreached false b) (has_dead f w b) (h refl)).0
+none_behind f w n k b h = refl
+
 settled_at : (f : Facts) (p : Place) (x : Tree) → IsAlive f p x → HasSlots p x → IsSettledAt p x
 settled_at f p x h slots =
     let e = settled_kind (spot_of p) x.note x.kind x.below (λ e. h.expression (slots.expression e)) in
-    record { conditional = e.0; logical = e.1; unused = e.2; list = e.3; indirect = e.4; one_sided = e.5; sequence = e.6; two_sides = e.7; object = e.8; known = e.9; statement = not_known f (where_of p) x.note x.kind x.below (λ e. h.statement (slots.statement e)) }
+    record { conditional = e.0; logical = e.1; unused = e.2; list = e.3; indirect = e.4; one_sided = e.5; sequence = e.6; two_sides = e.7; object = e.8; known = e.9; statement = not_known f (where_of p) x.note x.kind x.below (λ e. h.statement (slots.statement e)); jumps = none_behind f (where_of p) x.note x.kind x.below (λ e. h.list (slots.list e)) }
 
 -- Nothing of a program goes by what is known that a walk found as it is, and no expression of it comes to its parts or its value.
 pub none_goes : (s s' : Names) (k k' : Seen) (x y : Tree) → k.place ≡ outside → y ≡ x → Fits root (forest_of y) → Visits Visited is_written top (forest_of x) s k s' k' → IsQuiet (facts_of s' k') (forest_of y)

@@ -1,12 +1,20 @@
 -- What the walker does to a list of statements and to a statement.
-use Rattle.std.specs.Prelude.{Option, Some, None, if◌then◌else◌}
-use Rattle.js_syntax.specs.Node.{Tree}
+use Rattle.std.specs.Prelude.{Bool, false, ◌||◌, Option, Some, None, if◌then◌else◌}
+use Rattle.js_syntax.specs.Node.{Forest, Tree}
 use Rattle.min_context.specs.Seen.{Seen}
 use Rattle.rules_dead_code.specs.Rules.{Facts, Where, where_of, has_dead, trimmed, emptied}
+use Rattle.rules_expressions.specs.Jumps.{has_unreached, emptied_behind}
 use Rattle.min_statements.specs.Walker.{Names, facts_of}
 
+-- whether anything of a list goes, and what is left: what stands behind a jump becomes empty, and so goes too
+abbrev pub has_gone : Facts → Where → Forest → Bool
+has_gone f w t = has_unreached false t || has_dead f w t
+
+abbrev pub shorter : Facts → Where → Forest → Forest
+shorter f w t = trimmed f w (emptied_behind false t)
+
 abbrev pub list_left : Facts → Where → Tree → Option Tree
-list_left f w x = if has_dead f w x.below then Some (record { kind = x.kind; note = x.note; below = trimmed f w x.below }) else None
+list_left f w x = if has_gone f w x.below then Some (record { kind = x.kind; note = x.note; below = shorter f w x.below }) else None
 
 -- of a list, what goes of it leaves
 abbrev pub trim : Names → Seen → Tree → Option Tree

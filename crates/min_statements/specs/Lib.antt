@@ -4,3 +4,4 @@ pub mod Shed
 pub mod Acts
 pub mod Ifs
 pub mod Own
+pub mod Behind

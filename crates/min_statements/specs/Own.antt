@@ -14,9 +14,10 @@ use Rattle.steps_told.specs.Parts.{CallsToldOnly, NamesToldOnly}
 use Rattle.js_effects.specs.Silence.{is_marked}
 use Rattle.rules_dead_code.specs.Quiet.{IsExported}
 use Rattle.rules_dead_code.specs.Knows.{TellsBound, TellsExported}
-use Rattle.rules_dead_code.specs.Rules.{where_of, has_dead, is_silent_statement}
+use Rattle.rules_dead_code.specs.Rules.{where_of, is_silent_statement}
 use Rattle.rules_expressions.specs.Ifs.{if_becomes}
 use Rattle.rules_expressions.specs.Known.{at_expression_end}
+use Rattle.min_statements.specs.Acts.{has_gone}
 use Rattle.min_statements.specs.Walker.{Names, facts_of}
 
 -- an edit of a program, by whatever options
@@ -58,7 +59,7 @@ pub record Found (dead : Bool) (names : Names) (c : Seen) (later : Names) (d : S
   pub none : dead ≡ false
 
 abbrev pub Visited : Hook → Names → Seen → Tree → Names → Seen → Type 0
-Visited hook.ExitStatements names c x later d = Found (has_dead (facts_of names c) (where_of c.place) x.below) names c later d
+Visited hook.ExitStatements names c x later d = Found (has_gone (facts_of names c) (where_of c.place) x.below) names c later d
 Visited hook.ExitStatement names c x later d = Found (is_silent_statement (facts_of names c) (where_of c.place) x.kind x.below || is_some (if_becomes x.note x.kind x.below)) names c later d
 Visited hook.ExitExpression names c x later d = Found (is_some (at_expression_end c x)) names c later d
 Visited h names c x later d = Unit {0}

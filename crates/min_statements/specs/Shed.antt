@@ -1,10 +1,12 @@
 -- What leaves a list of statements, counted.
-use Rattle.std.specs.Prelude.{ℕ, ◌+◌, Bool, false, Option, Some, None, if◌then◌else◌}
+use Rattle.std.specs.Prelude.{ℕ, ◌+◌, Bool, false, ◌||◌, Option, Some, None, if◌then◌else◌}
 use Rattle.js_syntax.specs.declared.node_kind.NodeKind.{NodeKind as Kind}
 use Rattle.js_syntax.specs.declared.node_kind.NodeKind.TheVariants.{VariableDeclaration as variable_declaration, Declarators as declarators}
 use Rattle.js_syntax.specs.declared.kind.VariableKind.{VariableKind}
 use Rattle.js_syntax.specs.Node.{Forest, Tree, nothing, node, absent, alone}
+use Rattle.js_meaning_near.specs.Near.{is_jump}
 use Rattle.rules_dead_code.specs.Rules.{Facts, Where, declarator_goes, item_goes, item_left}
+use Rattle.rules_expressions.specs.Jumps.{is_unreached, emptied_behind}
 
 -- `m` says what a row counts
 module _ (m : Forest → ℕ) (f : Facts) (w : Where) where
@@ -51,3 +53,16 @@ module _ (f : Facts) (w : Where) where
   abbrev pub left_of : Option Tree → Option Tree
   left_of None = None
   left_of (Some x) = Some (record { kind = x.kind; note = x.note; below = item_left f w x.kind x.below })
+
+-- ---- what never runs
+
+module _ (m : Forest → ℕ) where
+  abbrev pub unreached_shed : (jumped : Bool) → Forest → ℕ
+  unreached_shed jumped nothing = 0
+  unreached_shed jumped (absent rest) = unreached_shed jumped rest
+  unreached_shed jumped (node k n below rest) = if is_unreached jumped k below then m (alone k n below) + unreached_shed jumped rest else unreached_shed (jumped || is_jump k) rest
+
+-- all that leaves a list
+module _ (m : Forest → ℕ) (f : Facts) (w : Where) where
+  abbrev pub list_shed : Forest → ℕ
+  list_shed t = unreached_shed m false t + shed m f w (emptied_behind false t)

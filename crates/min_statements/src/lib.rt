@@ -1,6 +1,7 @@
 //! What takes dead code out of a program, node by node?
 //!
-//! `Statements` is the walker (min_traverse): behind a list it takes out what rules_dead_code says goes of it (`trim_statements`),
+//! `Statements` is the walker (min_traverse): behind a list it takes out what stands behind a jump there and declares nothing around it,
+//! and what rules_dead_code says goes of it (`trim_statements`),
 //! behind a silent statement elsewhere it leaves an empty one (`empty_statement`), behind an `if` on a test that is known the branch that
 //! runs, or an empty statement (`try_fold_if`), behind an expression that a known test decides
 //! the part that counts, alone or behind a zero, behind an operation of which nobody takes the value the operands that act, behind such
@@ -19,6 +20,7 @@ mod inside;
 mod names;
 mod statements;
 mod trimmed;
+mod unreached;
 mod walk;
 
 pub use emptied::empty_statement;

@@ -1,0 +1,147 @@
+// What stands behind a jump in its list, and declares no name around it, never runs.
+ghost use Rattle.std.specs.Prelude.{◌≡◌, true, false};
+ghost use Rattle.js_syntax.specs.declared.node_kind.NodeKind.TheVariants.{EmptyStatement as empty_statement};
+ghost use Rattle.js_syntax.specs.Node.{nothing, row};
+ghost use Rattle.js_meaning_near.specs.Near.{is_jump};
+ghost use Rattle.scope_counts.specs.Counts.{ids};
+ghost use Rattle.min_context.specs.Edited.{evals, Leaves};
+ghost use Rattle.steps_allowed.specs.Unreached.{only_runs};
+ghost use Rattle.rules_expressions.specs.Lists.{new_note};
+ghost use Rattle.rules_expressions.specs.Jumps.{is_unreached, emptied_behind, has_unreached};
+ghost use Rattle.min_statements.specs.Shed.{unreached_shed};
+ghost use Rattle.min_statements.specs.Behind.{jumped_behind, empty_if_unreached};
+
+use crate::inside::declares_no_name;
+use js_syntax::NodeKind;
+use js_tree::Node;
+use min_context::MinifierTraverseCtx;
+use std::alloc::Global;
+
+// ---- one statement
+
+fn is_jump(kind: &NodeKind) -> bool
+    ensures { result ≡ is_jump kind.now }
+{
+    match kind {
+        NodeKind::BreakStatement(_)
+        | NodeKind::ContinueStatement(_)
+        | NodeKind::ReturnStatement
+        | NodeKind::ThrowStatement => true,
+        _ => false,
+    }
+}
+
+// A statement that is no declaration.
+fn only_runs(kind: &NodeKind) -> bool
+    ensures { result ≡ only_runs kind.now }
+{
+    match kind {
+        NodeKind::ExpressionStatement
+        | NodeKind::BlockStatement
+        | NodeKind::LabeledStatement(_)
+        | NodeKind::IfStatement
+        | NodeKind::BreakStatement(_)
+        | NodeKind::ContinueStatement(_)
+        | NodeKind::ReturnStatement
+        | NodeKind::ThrowStatement
+        | NodeKind::WhileStatement
+        | NodeKind::DoWhileStatement
+        | NodeKind::ForStatement
+        | NodeKind::SwitchStatement
+        | NodeKind::TryStatement => true,
+        _ => false,
+    }
+}
+
+// `jumped` says whether a jump stands before it in its list.
+fn is_unreached(jumped: bool, node: &Node) -> bool
+    ensures { result ≡ is_unreached jumped node.now.kind node.now.below }
+{
+    jumped && only_runs(node.kind()) && declares_no_name(node)
+}
+
+// ---- a list
+
+/// Whether anything of a list of statements never runs for a jump before it.
+pub(crate) fn has_unreached(children: &[Option<Node>]) -> bool
+    ensures { result ≡ has_unreached false (row children.now) }
+{
+    let mut jumped = false;
+    let mut rest = children;
+    while let [first, others @ ..] = rest {
+        if let Some(node) = first {
+            if is_unreached(jumped, node) {
+                return true;
+            }
+            jumped = jumped || is_jump(node.kind());
+        }
+        rest = others;
+    }
+    false
+}
+
+/// Tells the context of all that never runs.
+pub(crate) fn drop_unreached(items: &[Option<Node>], ctx: &mut MinifierTraverseCtx)
+    requires asked { ctx.old.requested ≡ true }
+    ensures left { Leaves ctx.old (λ r. unreached_shed (ids r) false (row items.now)) (unreached_shed evals false (row items.now)) ctx.new }
+{
+    let mut jumped = false;
+    let mut rest = items;
+    while let [first, others @ ..] = rest {
+        if let Some(node) = first {
+            if is_unreached(jumped, node) {
+                ctx.drop_statement(node);
+            } else {
+                jumped = jumped || is_jump(node.kind());
+            }
+        }
+        rest = others;
+    }
+}
+
+// ---- and then it is let go
+
+fn jumped_behind(jumped: bool, child: &Option<Node>) -> bool
+    ensures { result ≡ jumped_behind jumped child.now }
+{
+    match child {
+        Some(node) => jumped || is_jump(node.kind()),
+        None => jumped,
+    }
+}
+
+fn empty(alloc: Global, node: &mut Node)
+    ensures { node.new ≡ record { kind = empty_statement; note = new_note node.old.note; below = nothing } }
+{
+    *node = Node::new(NodeKind::EmptyStatement, node.span(), Vec::new(alloc));
+}
+
+fn empty_child(alloc: Global, jumped: bool, child: &mut Option<Node>)
+    ensures { child.new ≡ empty_if_unreached jumped child.old }
+{
+    if let Some(node) = child {
+        if is_unreached(jumped, node) {
+            empty(alloc, node);
+        }
+    }
+}
+
+fn empty_each(alloc: Global, items: &mut [Option<Node>])
+    ensures { row items.new ≡ emptied_behind false (row items.old) }
+{
+    let mut jumped = false;
+    for item in items.iter_mut() {
+        let behind = jumped_behind(jumped, item);
+        empty_child(alloc, jumped, item);
+        jumped = behind;
+    }
+}
+
+/// An empty statement comes in the place of each that never runs.
+pub(crate) fn empty_unreached(alloc: Global, node: &mut Node)
+    ensures { node.new ≡ record node.old { below = emptied_behind false node.old.below } }
+{
+    let mut items = node.replace_children(Vec::new(alloc));
+    empty_each(alloc, items.as_mut_slice());
+    node.replace_children(items);
+}
