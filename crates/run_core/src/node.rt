@@ -9,9 +9,9 @@ ghost use Rattle.run_world.specs.World.{at, values_of};
 ghost use Rattle.run_plan.specs.Ask.{ask_of};
 ghost use Rattle.run_plan.specs.Frame.{meaning, plans};
 
-use crate::covered::is_core;
 use js_syntax::{NodeKind, VariableKind};
 use js_tree::Node;
+use run_covered::is_core;
 use run_expression::{enter_collection, enter_entry, enter_place, enter_value};
 use run_plan::{Ask, Plan, declare_each, discard_ask, give_each, uncovered};
 use run_statement::{

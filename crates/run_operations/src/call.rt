@@ -28,7 +28,11 @@ fn call_host<'a>(
     let shown_callee = world.show(alloc, &callee)?;
     let shown_this = world.show(alloc, this)?;
     let shown_arguments = world.show_all(alloc, arguments)?;
-    let act = Act::Call(shown_callee, shown_this, shown_arguments);
+    let act = Act::Call {
+        callee: shown_callee,
+        this: shown_this,
+        arguments: shown_arguments,
+    };
     consults(world, alloc, act)
 }
 
@@ -95,7 +99,14 @@ fn construct_shown<'a>(
 {
     let shown_callee = world.show(alloc, callee)?;
     let shown_arguments = world.show_all(alloc, arguments)?;
-    let plan = consults(world, alloc, Act::Construct(shown_callee, shown_arguments))?;
+    let plan = consults(
+        world,
+        alloc,
+        Act::Construct {
+            callee: shown_callee,
+            arguments: shown_arguments,
+        },
+    )?;
     then_operand(alloc, plan, AfterOperand::OnlyObject)
 }
 

@@ -229,35 +229,43 @@ fn make_move<'a>(
     ensures does { IfOk result (λ n. (E : Enter) → at world.old (play E awaited (move_of first.now ∷ moves_of others.now)) ≡ at world.new (made E awaited (moves_of others.now) n)) }
 {
     match first {
-        Move::CallOwn(number, this, arguments) => {
+        Move::CallOwn {
+            callee,
+            this,
+            arguments,
+        } => {
             world.set_moves(others);
-            let next = call_own(world, alloc, awaited, *number, this, arguments.as_slice())?;
+            let next = call_own(world, alloc, awaited, *callee, this, arguments.as_slice())?;
             Ok(Some(next))
         }
-        Move::SetGlobal(name, value) => {
+        Move::SetGlobal { name, value } => {
             if set_global_to(world, name, value)? {
                 Ok(None)
             } else {
                 Ok(Some(Next::Replies(stopped())))
             }
         }
-        Move::RemoveGlobal(name) => {
+        Move::RemoveGlobal { name } => {
             let name = name.clone()?;
             world.set_global(name, None)?;
             Ok(None)
         }
-        Move::SetImport(source, name, value) => {
+        Move::SetImport {
+            source,
+            name,
+            value,
+        } => {
             if set_import_to(world, source, name, value)? {
                 Ok(None)
             } else {
                 Ok(Some(Next::Replies(stopped())))
             }
         }
-        Move::Answer(value) => {
+        Move::Answer { value } => {
             let value = take_answer(world, value, others)?;
             Ok(answered(awaited, value))
         }
-        Move::Refuse(value) => {
+        Move::Refuse { value } => {
             let value = take_answer(world, value, others)?;
             Ok(refused(awaited, value))
         }

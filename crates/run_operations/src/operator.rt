@@ -51,7 +51,7 @@ fn asks_in<'a>(
 {
     let left = world.show(alloc, left)?;
     let right = world.show(alloc, right)?;
-    let plan = consults(world, alloc, Act::In(left, right))?;
+    let plan = consults(world, alloc, Act::In { left, right })?;
     then_operand(alloc, plan, AfterOperand::OnlyBoolean)
 }
 
@@ -65,7 +65,7 @@ fn asks_instanceof<'a>(
 {
     let left = world.show(alloc, left)?;
     let right = world.show(alloc, right)?;
-    let plan = consults(world, alloc, Act::Instanceof(left, right))?;
+    let plan = consults(world, alloc, Act::Instanceof { left, right })?;
     then_operand(alloc, plan, AfterOperand::OnlyBoolean)
 }
 

@@ -28,7 +28,7 @@ fn get_member<'a>(
 {
     let object = world.show(alloc, object)?;
     let key = world.show(alloc, key)?;
-    consults(world, alloc, Act::Get(object, key))
+    consults(world, alloc, Act::Get { object, key })
 }
 
 fn set_member<'a>(
@@ -43,7 +43,15 @@ fn set_member<'a>(
     let object = world.show(alloc, object)?;
     let key = world.show(alloc, key)?;
     let shown = world.show(alloc, &value)?;
-    let plan = consults(world, alloc, Act::Set(object, key, shown))?;
+    let plan = consults(
+        world,
+        alloc,
+        Act::Set {
+            object,
+            key,
+            value: shown,
+        },
+    )?;
     then_operand(alloc, plan, AfterOperand::Given(value))
 }
 

@@ -29,7 +29,7 @@ fn load_first<'a>(
     ensures does { IfOk result (λ p. (E : Enter) → at world.old (with_value (consult E (trace.Act.load first.now)) (λ v. load_all E (texts_of others.entry.items))) ≡ at world.new (plans E p)) }
 {
     let text = String::from_str(alloc, first)?;
-    let plan = consults(world, alloc, Act::Load(text))?;
+    let plan = consults(world, alloc, Act::Load { source: text })?;
     then_statement(alloc, plan, AfterStatement::Load(others))
 }
 
@@ -86,7 +86,7 @@ fn returned<'a>(
     ensures does { IfOk result (λ p. (E : Enter) → at world.old (show (value_of value.now) (λ x. emit (trace.Act.returned x) (host_moves E awaited))) ≡ at world.new (plans E p)) }
 {
     let shown = world.show(alloc, value)?;
-    tells(world, alloc, Act::Returned(shown), awaited)
+    tells(world, alloc, Act::Returned { value: shown }, awaited)
 }
 
 fn threw<'a>(
@@ -98,7 +98,7 @@ fn threw<'a>(
     ensures does { IfOk result (λ p. (E : Enter) → at world.old (show (value_of value.now) (λ x. emit (trace.Act.threw x) (host_moves E awaited))) ≡ at world.new (plans E p)) }
 {
     let shown = world.show(alloc, value)?;
-    tells(world, alloc, Act::Threw(shown), awaited)
+    tells(world, alloc, Act::Threw { value: shown }, awaited)
 }
 
 fn failed<'a>(
@@ -109,7 +109,7 @@ fn failed<'a>(
     ensures does { IfOk result (λ p. (E : Enter) → at world.old (show (value_of value.now) (λ x. emit (trace.Act.failed x) (host_moves E false))) ≡ at world.new (plans E p)) }
 {
     let shown = world.show(alloc, value)?;
-    tells(world, alloc, Act::Failed(shown), false)
+    tells(world, alloc, Act::Failed { thrown: shown }, false)
 }
 
 /// What the host sees of a call that it made.

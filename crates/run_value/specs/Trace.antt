@@ -13,7 +13,7 @@ use Rattle.run_value.specs.declared.event.Act.TheVariants.{Load, Get, Set, In, I
 use Rattle.run_value.specs.declared.event.Event.{Event}
 use Rattle.run_value.specs.declared.event.Ending.{Ending}
 use Rattle.run_value.specs.declared.event.Ending.TheVariants.{Ended, HostStopped, Out, Uncovered}
-use Rattle.run_value.specs.declared.event.Outcome.{Outcome}
+use Rattle.run_value.specs.declared.event.Trace.{Trace}
 use Rattle.run_value.specs.declared.shown.Shown.{Shown}
 use Rattle.run_value.specs.ShownView.{shown_of}
 
@@ -54,5 +54,5 @@ ending_of HostStopped = meant.Ending.host_stopped
 ending_of Out = meant.Ending.out
 ending_of Uncovered = meant.Ending.uncovered
 
-abbrev pub outcome_of : Outcome → meant.Run
-outcome_of o = record { trace = map event_of o.trace.items; ending = ending_of o.ending }
+abbrev pub run_held : Trace → meant.Run
+run_held t = record { trace = map event_of t.events.all.items; ending = ending_of t.ending }

@@ -44,42 +44,84 @@ impl Drop for ShownExports {
 /// What happens where the host can see it.
 pub enum Act {
     /// A module is asked for.
-    Load(String),
-    /// A property is read: object, key.
-    Get(Shown, Shown),
-    /// A property is written: object, key, value.
-    Set(Shown, Shown, Shown),
-    In(Shown, Shown),
-    Instanceof(Shown, Shown),
-    /// `new`: callee, arguments.
-    Construct(Shown, Vec<Shown>),
-    /// A call of an object of the host: callee, receiver, arguments.
-    Call(Shown, Shown, Vec<Shown>),
+    Load {
+        source: String,
+    },
+    /// A property is read.
+    Get {
+        object: Shown,
+        key: Shown,
+    },
+    /// A property is written.
+    Set {
+        object: Shown,
+        key: Shown,
+        value: Shown,
+    },
+    In {
+        left: Shown,
+        right: Shown,
+    },
+    Instanceof {
+        left: Shown,
+        right: Shown,
+    },
+    /// `new`.
+    Construct {
+        callee: Shown,
+        arguments: Vec<Shown>,
+    },
+    /// A call of an object of the host.
+    Call {
+        callee: Shown,
+        this: Shown,
+        arguments: Vec<Shown>,
+    },
     /// A global is written.
-    Write(String, Shown),
+    Write {
+        name: String,
+        value: Shown,
+    },
     /// How a call ended that the host made.
-    Returned(Shown),
-    Threw(Shown),
+    Returned {
+        value: Shown,
+    },
+    Threw {
+        value: Shown,
+    },
     /// How the module's own run ended.
     Finished,
-    Failed(Shown),
+    Failed {
+        thrown: Shown,
+    },
 }
 
 impl Drop for Act {
     fn drop(self) {
         match self {
-            Act::Load(_) => {}
-            Act::Get(_, _) => {}
-            Act::Set(_, _, _) => {}
-            Act::In(_, _) => {}
-            Act::Instanceof(_, _) => {}
-            Act::Construct(_, _) => {}
-            Act::Call(_, _, _) => {}
-            Act::Write(_, _) => {}
-            Act::Returned(_) => {}
-            Act::Threw(_) => {}
+            Act::Load { source: _ } => {}
+            Act::Get { object: _, key: _ } => {}
+            Act::Set {
+                object: _,
+                key: _,
+                value: _,
+            } => {}
+            Act::In { left: _, right: _ } => {}
+            Act::Instanceof { left: _, right: _ } => {}
+            Act::Construct {
+                callee: _,
+                arguments: _,
+            } => {}
+            Act::Call {
+                callee: _,
+                this: _,
+                arguments: _,
+            } => {}
+            Act::Write { name: _, value: _ } => {}
+            Act::Returned { value: _ } => {}
+            Act::Threw { value: _ } => {}
             Act::Finished => {}
-            Act::Failed(_) => {}
+            Act::Failed { thrown: _ } => {}
         }
     }
 }
@@ -116,16 +158,27 @@ impl Drop for Ending {
     }
 }
 
-/// What a run gave.
-pub struct Outcome {
-    pub trace: Vec<Event>,
+/// Events in the order in which they happened.
+pub struct Events {
+    pub all: Vec<Event>,
+}
+
+impl Drop for Events {
+    fn drop(self) {
+        let Events { all: _ } = self;
+    }
+}
+
+/// What a run gave: its events, and how it ended.
+pub struct Trace {
+    pub events: Events,
     pub ending: Ending,
 }
 
-impl Drop for Outcome {
+impl Drop for Trace {
     fn drop(self) {
-        let Outcome {
-            trace: _,
+        let Trace {
+            events: _,
             ending: _,
         } = self;
     }

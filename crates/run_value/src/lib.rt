@@ -18,7 +18,7 @@ mod shown;
 mod value;
 
 pub use env::{Bound, Env, Slot};
-pub use event::{Act, Ending, Event, Outcome, ShownExport, ShownExports};
+pub use event::{Act, Ending, Event, Events, ShownExport, ShownExports, Trace};
 pub use object::Properties;
 pub use operator::{
     binary_of, either_other, goes_right, has_identity, is_boolean, is_object, is_other,

@@ -17,4 +17,4 @@ plain_in [] x = None
 plain_in (g ∷ gs) x = if bytes_eq x (string_bytes g.0.value) then Some (plain_of g.1) else plain_in gs x
 
 abbrev pub script_of : Script → meant.Script
-script_of s = record { globals = plain_in s.globals.items; moves = moves_of s.moves.items }
+script_of s = record { globals = plain_in s.globals.pairs.items; moves = moves_of s.moves.all.items }

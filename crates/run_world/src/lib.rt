@@ -14,5 +14,6 @@ mod world;
 
 pub use reference::{gives, unknown};
 pub use world::{
-    Call, Cell, Completion, Export, Foreign, Move, Named, Next, Place, Reply, Script, Stored, World,
+    Call, Cell, Completion, Export, Foreign, Globals, Move, Moves, Named, Next, Place, Reply,
+    Script, Stored, World,
 };

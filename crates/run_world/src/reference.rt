@@ -260,7 +260,13 @@ impl<'a> World<'a> {
             Some(_) => {
                 let shown = self.show(alloc, &value)?;
                 let text = String::from_str(alloc, name)?;
-                if self.emit(alloc, Act::Write(text, shown))? {
+                if self.emit(
+                    alloc,
+                    Act::Write {
+                        name: text,
+                        value: shown,
+                    },
+                )? {
                     self.put_global(alloc, name, value)
                 } else {
                     Ok(unknown())

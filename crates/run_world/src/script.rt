@@ -3,13 +3,13 @@ ghost use Rattle.std.specs.Prelude.{◌≡◌, [], IfOk};
 ghost use Rattle.js_meaning.specs.Value as meant;
 ghost use Rattle.js_meaning.specs.Run.{as_value, first_state};
 ghost use Rattle.run_value.specs.Plain.{plain_of};
-ghost use Rattle.run_value.specs.Trace.{ending_of, outcome_of};
+ghost use Rattle.run_value.specs.Trace.{ending_of, run_held};
 ghost use Rattle.run_world.specs.World.{state_of, trace_of, named_in};
 ghost use Rattle.run_world.specs.Script.{plain_in, script_of};
 
 use crate::acts::put_first;
 use crate::world::{Named, Script, World};
-use run_value::{Ending, Outcome, Plain, Value};
+use run_value::{Ending, Events, Plain, Trace, Value};
 use std::alloc::{AllocError, Global};
 use std::rc::Rc;
 
@@ -38,7 +38,7 @@ impl<'a> World<'a> {
         ensures state { IfOk result (λ w. state_of w ≡ first_state (script_of script.now) bound) }
         ensures trace { IfOk result (λ w. trace_of w ≡ []) }
     {
-        let globals = named_from(alloc, script.globals.as_slice())?;
+        let globals = named_from(alloc, script.globals.pairs.as_slice())?;
         Ok(World {
             budget: bound,
             fresh: 0,
@@ -46,7 +46,7 @@ impl<'a> World<'a> {
             globals,
             imports: Vec::new(alloc),
             seen: Vec::new(alloc),
-            moves: script.moves.as_slice(),
+            moves: script.moves.all.as_slice(),
             exports: Vec::new(alloc),
             stars: Vec::new(alloc),
             trace: Vec::new(alloc),
@@ -54,10 +54,12 @@ impl<'a> World<'a> {
     }
 
     /// What a run gave that ends in this state.
-    pub fn into_outcome(self, ending: Ending) -> Outcome
-        ensures { outcome_of result ≡ record { trace = trace_of self.entry; ending = ending_of ending } }
+    pub fn into_trace(self, ending: Ending) -> Trace
+        ensures { run_held result ≡ record { trace = trace_of self.entry; ending = ending_of ending } }
     {
-        let trace = self.into_trace();
-        Outcome { trace, ending }
+        let events = Events {
+            all: self.into_events(),
+        };
+        Trace { events, ending }
     }
 }

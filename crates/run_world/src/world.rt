@@ -81,25 +81,51 @@ pub struct Export<'a> {
 
 /// What the host does.
 pub enum Move {
-    /// Calls an own object with a receiver and arguments.
-    CallOwn(usize, Given, Vec<Given>),
-    SetGlobal(Rc<String>, Given),
-    RemoveGlobal(Rc<String>),
-    /// Sets what a source exports under a name, or makes it uninitialised.
-    SetImport(Rc<String>, Rc<String>, Option<Given>),
-    Answer(Given),
-    Refuse(Given),
+    /// Calls an own object, by the number under which it was shown.
+    CallOwn {
+        callee: usize,
+        this: Given,
+        arguments: Vec<Given>,
+    },
+    SetGlobal {
+        name: Rc<String>,
+        value: Given,
+    },
+    RemoveGlobal {
+        name: Rc<String>,
+    },
+    /// Sets what a source exports under a name, or makes it uninitialised where there is no value.
+    SetImport {
+        source: Rc<String>,
+        name: Rc<String>,
+        value: Option<Given>,
+    },
+    Answer {
+        value: Given,
+    },
+    /// Throws.
+    Refuse {
+        value: Given,
+    },
 }
 
 impl Drop for Move {
     fn drop(self) {
         match self {
-            Move::CallOwn(_, _, _) => {}
-            Move::SetGlobal(_, _) => {}
-            Move::RemoveGlobal(_) => {}
-            Move::SetImport(_, _, _) => {}
-            Move::Answer(_) => {}
-            Move::Refuse(_) => {}
+            Move::CallOwn {
+                callee: _,
+                this: _,
+                arguments: _,
+            } => {}
+            Move::SetGlobal { name: _, value: _ } => {}
+            Move::RemoveGlobal { name: _ } => {}
+            Move::SetImport {
+                source: _,
+                name: _,
+                value: _,
+            } => {}
+            Move::Answer { value: _ } => {}
+            Move::Refuse { value: _ } => {}
         }
     }
 }
@@ -155,10 +181,32 @@ pub enum Next<'a> {
     CallsBack(bool, Call<'a>),
 }
 
+/// The globals at the start of a run: names and values. Of a name that comes twice the first counts.
+pub struct Globals {
+    pub pairs: Vec<(Rc<String>, Plain)>,
+}
+
+impl Drop for Globals {
+    fn drop(self) {
+        let Globals { pairs: _ } = self;
+    }
+}
+
+/// What the host does, in order.
+pub struct Moves {
+    pub all: Vec<Move>,
+}
+
+impl Drop for Moves {
+    fn drop(self) {
+        let Moves { all: _ } = self;
+    }
+}
+
 /// What a run is given: the globals at its start, and what the host does.
 pub struct Script {
-    pub globals: Vec<(Rc<String>, Plain)>,
-    pub moves: Vec<Move>,
+    pub globals: Globals,
+    pub moves: Moves,
 }
 
 impl Drop for Script {
@@ -210,7 +258,7 @@ impl<'a> Drop for World<'a> {
 
 impl<'a> World<'a> {
     // The events alone.
-    pub(crate) fn into_trace(self) -> Vec<Event>
+    pub(crate) fn into_events(self) -> Vec<Event>
         ensures { result ≡ self.entry.trace }
     {
         let World {

@@ -24,16 +24,16 @@ use shake_streams::{StdSink, StdSource, read_all, write_all};
 use std::alloc::{AllocError, Global};
 use std::io;
 use std::process::ExitCode;
-use trace::print_outcome;
+use trace::print_trace;
 
 fn trace_with(
     alloc: Global,
     program: &Program,
     script: &Script,
-    bound: u64,
+    bound: u32,
 ) -> Result<String, AllocError> {
-    let outcome = run(alloc, program, script, bound)?;
-    print_outcome(alloc, &outcome)
+    let trace = run(alloc, program, script, bound)?;
+    print_trace(alloc, &trace)
 }
 
 fn trace_of(alloc: Global, program: &Program, host: &str) -> Result<String, Fault> {

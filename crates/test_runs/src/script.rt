@@ -1,7 +1,7 @@
 // Hosts as rows write them: how many entries there may be, and then the host's moves, each behind a space.
 use crate::fault::Fault;
 use run_value::{Given, Plain, PrimitiveKind};
-use run_world::{Move, Script};
+use run_world::{Globals, Move, Moves, Script};
 use std::alloc::{AllocError, Global};
 use std::rc::Rc;
 
@@ -101,7 +101,12 @@ fn parts(words: &str) -> Result<(&str, &str), Fault> {
 
 fn call_with(alloc: Global, callee: usize, this: &str, others: &str) -> Result<Move, Fault> {
     let arguments = arguments(alloc, others)?;
-    Ok(Move::CallOwn(callee, given(alloc, this)?, arguments))
+    let this = given(alloc, this)?;
+    Ok(Move::CallOwn {
+        callee,
+        this,
+        arguments,
+    })
 }
 
 // An own object is called with a receiver, and with the arguments that may stand behind it.
@@ -110,14 +115,19 @@ fn call(alloc: Global, words: &str) -> Result<Move, Fault> {
     let callee = number(callee)?;
     match rest.split_once(':') {
         Some((this, others)) => call_with(alloc, callee, this, others),
-        None => Ok(Move::CallOwn(callee, given(alloc, rest)?, Vec::new(alloc))),
+        None => Ok(Move::CallOwn {
+            callee,
+            this: given(alloc, rest)?,
+            arguments: Vec::new(alloc),
+        }),
     }
 }
 
 fn set_global(alloc: Global, words: &str) -> Result<Move, Fault> {
     let (name, value) = parts(words)?;
     let name = shared(alloc, name)?;
-    Ok(Move::SetGlobal(name, given(alloc, value)?))
+    let value = given(alloc, value)?;
+    Ok(Move::SetGlobal { name, value })
 }
 
 fn set_import(alloc: Global, words: &str) -> Result<Move, Fault> {
@@ -125,21 +135,37 @@ fn set_import(alloc: Global, words: &str) -> Result<Move, Fault> {
     let (name, value) = parts(rest)?;
     let source = shared(alloc, source)?;
     let name = shared(alloc, name)?;
-    Ok(Move::SetImport(source, name, Some(given(alloc, value)?)))
+    let value = Some(given(alloc, value)?);
+    Ok(Move::SetImport {
+        source,
+        name,
+        value,
+    })
 }
 
 fn unset_import(alloc: Global, words: &str) -> Result<Move, Fault> {
     let (source, name) = parts(words)?;
     let source = shared(alloc, source)?;
-    Ok(Move::SetImport(source, shared(alloc, name)?, None))
+    let name = shared(alloc, name)?;
+    Ok(Move::SetImport {
+        source,
+        name,
+        value: None,
+    })
 }
 
 fn move_of(alloc: Global, word: &str) -> Result<Move, Fault> {
     let (verb, rest) = word.split_once(':').unwrap_or((word, ""));
     match verb {
-        "fine" => Ok(Move::Answer(Given::Plain(Plain::Undefined))),
-        "answer" => Ok(Move::Answer(given(alloc, rest)?)),
-        "throw" => Ok(Move::Refuse(given(alloc, rest)?)),
+        "fine" => Ok(Move::Answer {
+            value: Given::Plain(Plain::Undefined),
+        }),
+        "answer" => Ok(Move::Answer {
+            value: given(alloc, rest)?,
+        }),
+        "throw" => Ok(Move::Refuse {
+            value: given(alloc, rest)?,
+        }),
         "call" => call(alloc, rest),
         _ => changing_move(alloc, verb, rest),
     }
@@ -149,7 +175,9 @@ fn move_of(alloc: Global, word: &str) -> Result<Move, Fault> {
 fn changing_move(alloc: Global, verb: &str, rest: &str) -> Result<Move, Fault> {
     match verb {
         "set" => set_global(alloc, rest),
-        "remove" => Ok(Move::RemoveGlobal(shared(alloc, rest)?)),
+        "remove" => Ok(Move::RemoveGlobal {
+            name: shared(alloc, rest)?,
+        }),
         "import" => set_import(alloc, rest),
         "unset" => unset_import(alloc, rest),
         _ => Err(Fault("no move has this word")),
@@ -157,9 +185,9 @@ fn changing_move(alloc: Global, verb: &str, rest: &str) -> Result<Move, Fault> {
 }
 
 /// How many entries there may be.
-pub(crate) fn read_bound(host: &str) -> Result<u64, Fault> {
+pub(crate) fn read_bound(host: &str) -> Result<u32, Fault> {
     let bound = host.split(' ').next().unwrap_or("");
-    bound.parse::<u64>().ok().ok_or(Fault("no bound"))
+    bound.parse::<u32>().ok().ok_or(Fault("no bound"))
 }
 
 fn global(alloc: Global, name: &str, value: &str) -> Result<(Rc<String>, Plain), Fault> {
@@ -186,7 +214,11 @@ fn moves(alloc: Global, host: &str) -> Result<Vec<Move>, Fault> {
 
 /// What a host is given to do.
 pub(crate) fn read_script(alloc: Global, host: &str) -> Result<Script, Fault> {
-    let globals = globals(alloc)?;
-    let moves = moves(alloc, host)?;
+    let globals = Globals {
+        pairs: globals(alloc)?,
+    };
+    let moves = Moves {
+        all: moves(alloc, host)?,
+    };
     Ok(Script { globals, moves })
 }

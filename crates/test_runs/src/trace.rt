@@ -1,7 +1,6 @@
-// Outcomes as rows write them: the events, each with the exports of that moment, and the ending.
+// Traces as rows write them: the events, each with the exports of that moment, and the ending.
 use run_value::{
-    Act, Ending, Event, Outcome, Parts, Plain, PrimitiveKind, Shown, ShownExport, ShownExports,
-    Sort,
+    Act, Ending, Event, Parts, Plain, PrimitiveKind, Shown, ShownExport, ShownExports, Sort, Trace,
 };
 use std::alloc::{AllocError, Global};
 use std::fmt::Write;
@@ -222,20 +221,24 @@ fn print_write(
 
 fn print_act(alloc: Global, out: &mut String, act: &Act) -> Result<(), AllocError> {
     match act {
-        Act::Load(source) => print_named(out, "load", source.as_str()),
-        Act::Get(object, key) => print_two(alloc, out, "get", object, key),
-        Act::Set(object, key, value) => print_set(alloc, out, object, key, value),
-        Act::In(left, right) => print_two(alloc, out, "in", left, right),
-        Act::Instanceof(left, right) => print_two(alloc, out, "instanceof", left, right),
-        Act::Construct(callee, arguments) => { print_new(alloc, out, callee, arguments.as_slice()) }
-        Act::Call(callee, this, arguments) => {
-            print_call(alloc, out, callee, this, arguments.as_slice())
+        Act::Load { source } => print_named(out, "load", source.as_str()),
+        Act::Get { object, key } => print_two(alloc, out, "get", object, key),
+        Act::Set { object, key, value } => print_set(alloc, out, object, key, value),
+        Act::In { left, right } => print_two(alloc, out, "in", left, right),
+        Act::Instanceof { left, right } => print_two(alloc, out, "instanceof", left, right),
+        Act::Construct { callee, arguments } => {
+            print_new(alloc, out, callee, arguments.as_slice())
         }
-        Act::Write(name, value) => print_write(alloc, out, name.as_str(), value),
-        Act::Returned(value) => print_one(alloc, out, "return", value),
-        Act::Threw(value) => print_one(alloc, out, "throw", value),
+        Act::Call {
+            callee,
+            this,
+            arguments,
+        } => { print_call(alloc, out, callee, this, arguments.as_slice()) }
+        Act::Write { name, value } => print_write(alloc, out, name.as_str(), value),
+        Act::Returned { value } => print_one(alloc, out, "return", value),
+        Act::Threw { value } => print_one(alloc, out, "throw", value),
         Act::Finished => out.push_str("done"),
-        Act::Failed(value) => print_one(alloc, out, "failed", value),
+        Act::Failed { thrown } => print_one(alloc, out, "failed", thrown),
     }
 }
 
@@ -304,11 +307,11 @@ fn print_ending(alloc: Global, out: &mut String, ending: &Ending) -> Result<(), 
 }
 
 /// The events, each with the exports of that moment, and the ending.
-pub(crate) fn print_outcome(alloc: Global, outcome: &Outcome) -> Result<String, AllocError> {
+pub(crate) fn print_trace(alloc: Global, trace: &Trace) -> Result<String, AllocError> {
     let mut out = String::new(alloc);
-    for event in &outcome.trace {
+    for event in &trace.events.all {
         print_event(alloc, &mut out, event)?;
     }
-    print_ending(alloc, &mut out, &outcome.ending)?;
+    print_ending(alloc, &mut out, &trace.ending)?;
     Ok(out)
 }

@@ -10,7 +10,7 @@ use Rattle.run_core.proofs.program.run.Goals as goal
 pub returns : goal.returns
 returns c = record {
   exact =
-      c.into_outcome.ensures
+      c.into_trace.ensures
       ∙ ends_so c.go_on.new.world (ending_of c.in_ok-ending.ending)
       ∙ sym c.in_ok-ending.ensures.does
       ∙ sym (ap seen (c.in_ok-plan.ensures.does enter_fully))

@@ -14,7 +14,7 @@ returns-in_ok-next-in-CallOwn c = record {
   does = λ E.
       ap (λ f. at c.args.world.now (play E c.args.awaited (move_of f ∷ moves_of c.args.others.now))) c.in-CallOwn.is
       ∙ c.set_moves.ensures.does _
-      ∙ ap (λ xs. at c.set_moves.new.self (resolve (given_own c.in-CallOwn.number) (λ f. resolve (given_of c.in-CallOwn.this) (λ this. resolve_all (givens_of xs) (λ vs. call_back E c.args.awaited this vs f))))) (sym c.as_slice.ensures.value)
+      ∙ ap (λ xs. at c.set_moves.new.self (resolve (given_own c.in-CallOwn.callee) (λ f. resolve (given_of c.in-CallOwn.this) (λ this. resolve_all (givens_of xs) (λ vs. call_back E c.args.awaited this vs f))))) (sym c.as_slice.ensures.value)
       ∙ c.in_ok-next-in-CallOwn.ensures E;
 }
 

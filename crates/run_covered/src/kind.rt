@@ -65,7 +65,8 @@ fn is_plain_property(how: PropertyKind, key: &Key) -> bool
     }
 }
 
-pub(crate) fn is_core(kind: &NodeKind) -> bool
+/// Whether runs say something of nodes of this kind.
+pub fn is_core(kind: &NodeKind) -> bool
     ensures { result ≡ is_core kind.now }
 {
     match kind {
