@@ -1,0 +1,6 @@
+use Rattle.json_write.proofs.Appending.{one, ◌then◌}
+use Rattle.run_text.proofs.field.write_text_field.Goals as goal
+
+pub returns : goal.returns
+returns c =
+    one c.in_ok-key.ensures then one c.in_ok-string.ensures

@@ -1,0 +1,6 @@
+use Rattle.json_write.proofs.Appending.{one, ◌then◌}
+use Rattle.run_text.proofs.plain.write_undefined.Goals as goal
+
+pub returns : goal.returns
+returns c =
+    one c.in_ok-begin_object.ensures then c.in_ok-write_flag_field.ensures then one c.in_ok-end_object.ensures
