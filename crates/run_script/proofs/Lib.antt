@@ -1,0 +1,4 @@
+pub mod Globals
+pub mod Lists
+pub mod Members
+pub mod Pairs

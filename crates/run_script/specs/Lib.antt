@@ -1,0 +1,4 @@
+pub mod Field
+pub mod Script
+pub mod Held
+pub mod Answer
