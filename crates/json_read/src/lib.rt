@@ -15,4 +15,4 @@ mod walk;
 
 pub use json_text::TreeError;
 pub use kinds::node_kind;
-pub use program::read_tree;
+pub use program::{read_program, read_tree};

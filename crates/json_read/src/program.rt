@@ -30,6 +30,15 @@ fn program(alloc: Global, value: &Value) -> Result<Program, TreeError>
     Ok(Program::new(root))
 }
 
+/// The program that a JSON value is, as ESTree JSON. Each node of it stands where the table of node types takes it
+/// (`json_shape`). A value that JSON's limit of nesting lets in is never refused for its levels.
+pub fn read_program(alloc: Global, value: &Value) -> Result<Program, TreeError>
+    ensures exact { Gives forest_of result (reading.read_program (view value.now)) }
+    ensures fits { IfOk result (λ p. Fits root (forest_of p)) }
+{
+    program(alloc, value)
+}
+
 /// The program that the bytes are, as ESTree JSON (RFC 8259, read as `serde_json` reads it: of a key
 /// that comes twice the last value counts, and at most 127 arrays and objects nest). Each node of it
 /// stands where the table of node types takes it (`json_shape`).
@@ -39,7 +48,7 @@ pub fn read_tree(alloc: Global, bytes: &[u8]) -> Result<Program, TreeError>
     ensures err { IfErr result (λ e. IsCauseOf e bytes.now) }
 {
     match Value::from_slice(alloc, bytes) {
-        Ok(value) => program(alloc, &value),
+        Ok(value) => read_program(alloc, &value),
         Err(error) if error.classify() == Category::Memory => Err(TreeError::OutOfMemory),
         Err(_) => Err(TreeError::Syntax),
     }

@@ -77,8 +77,8 @@ fn check_form(alloc: Global, program: &Program) -> Result<(), MinifyError>
     }
 }
 
-// Whether a program may be minified.
-fn check(alloc: Global, program: &Program) -> Result<(), MinifyError>
+/// Whether a program is within the limits and breaks no rule of form. Its limits are asked first.
+pub fn check(alloc: Global, program: &Program) -> Result<(), MinifyError>
     ensures within { IfOk result (λ _. IsWithinLimits (forest_of program.now)) }
     ensures well_formed { IfOk result (λ _. IsWellFormed (forest_of program.now)) }
     ensures err { IfErr result (λ e. IsCause e (forest_of program.now)) }
