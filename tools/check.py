@@ -31,6 +31,7 @@ def generated():
         copy = pathlib.Path(folder)
         shutil.copytree(FOLDER, copy / 'crates', ignore=shutil.ignore_patterns('out', 'must-fail'))
         shutil.copytree(TOP / 'tools', copy / 'tools', ignore=shutil.ignore_patterns('__pycache__'))
+        shutil.copytree(TOP / 'docs', copy / 'docs')
         shutil.copy(TOP / 'crates.txt', copy)
         subprocess.run([sys.executable, 'tools/generate.py'], cwd=copy, check=True)
         for fresh in sorted(file for file in (copy / 'crates').rglob('*') if file.is_file()):

@@ -444,9 +444,9 @@ def rows():
     yield 'texts that are no program', [('', p, '%d\nshake: %s\n' % (code, said)) for p, code, said in no_programs]
     yield 'let a; let a; in a script: what is ill formed', [('', prog([var('let', (a, None)), var('let', (a, None))], 'script'), '7\nshake: ill formed: rule 1 at 6\n')]
     yield 'faults of the outside, for an empty module', [(how + ':', prog([]), want) for how, want in outside]
-    yield 'words that are refused, before anything is read', [('unread %s:' % words, prog([]), '1\nshake: usage: shake COMMAND [--tree-only]\n') for words in refused]
+    yield 'words that are refused, before anything is read', [('unread %s:' % words, prog([]), '1\nshake: usage: shake dce [--tree-only], or shake run\n') for words in refused]
     yield 'words that are accepted', [('words any name,dce,:', prog([]), '0\n' + LEFT), ('words shake,dce,--tree-only,:', prog([]), '0\n%s\n' % text(prog([])))]
-    yield 'the codes of all answers', [('codes 0:', '', ''.join('%d\n' % code for code in range(10)))]
+    yield 'the codes of all answers', [('codes 0:', '', ''.join('%d\n' % code for code in [*range(10), 15, 16]))]
     yield 'where a program stands is read, and not written', [('span 0:', '{"type":"Program","start":1,"end":40,"sourceType":"script","body":[{"type":"DebuggerStatement","start":7,"end":4294967296}]}',
                                                                 'at 1 40, children 1\n%s\n' % text(prog([DEBUGGER], 'script')))]
     yield 'the library call: empty statements leave', [('call dce:', prog([EMPTY]), 'passes 0 scopes 1\n%s\n' % text(prog([])))]
@@ -455,9 +455,15 @@ def rows():
     yield 'the scopes are those of what is left: let x; { ; } () => { x; };', [('call dce:', prog([LET_X, B(EMPTY), ES(ARROW(ES(x)))]), 'passes 2 scopes 2\n%s\n' % text(prog([B()])))]
 
 
+def all_rows():
+    import run_rows
+    yield from rows()
+    yield from run_rows.groups()
+
+
 def line(words, p): return '%s%s\n' % (words, p if isinstance(p, str) else text(p))
-def given(): return ''.join('// %s\n%s' % (what, ''.join(line(words, p) for words, p, _ in group)) for what, group in rows())
-def wanted(): return ''.join('// %s\n%s' % (what, ''.join(want for _, _, want in group)) for what, group in rows())
+def given(): return ''.join('// %s\n%s' % (what, ''.join(line(words, p) for words, p, _ in group)) for what, group in all_rows())
+def wanted(): return ''.join('// %s\n%s' % (what, ''.join(want for _, _, want in group)) for what, group in all_rows())
 
 
 FILES = {'test_shake/stdin': given, 'test_shake/stdout': wanted}

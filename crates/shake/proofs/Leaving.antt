@@ -1,5 +1,5 @@
 -- From what the library call leaves of a program that was read to what is written for it.
-use Rattle.std.proofs.Common.{◌≡◌, ◌∙◌, ℕ, List, Option, Some, is_some, ap, subst}
+use Rattle.std.proofs.Common.{◌≡◌, ◌∙◌, ℕ, List, Bool, Option, Some, is_some, ap, subst}
 use Rattle.std.specs.List.{count_by}
 use Rattle.js_syntax.specs.Class.{root}
 use Rattle.js_syntax.specs.Node.{Forest}
@@ -12,9 +12,7 @@ use Rattle.headline_text.proofs.Promise.{text_headline}
 use Rattle.min_driver.specs.Left.{IsShaken}
 use Rattle.min_driver.specs.Minify.{IsCleanBy}
 use Rattle.min_options.specs.declared.options.CompressOptions.{CompressOptions}
-use Rattle.shake_words.specs.declared.answer.Command.{Command}
-use Rattle.shake.specs.Answer.{WasRead}
-use Rattle.shake.specs.Run.{command_output, Shaken, IsOutput, IsInUtf8}
+use Rattle.shake.specs.Run.{WasRead, dce_output, Shaken, IsDceOutput, IsInUtf8}
 
 -- what was read fits the table of node types
 pub read_fits : (t : Forest) → WasRead t → Fits root t
@@ -30,10 +28,10 @@ module _ (t u : Forest) (s : Scoping) (passes : ℕ) (o : Option CompressOptions
     none = left.none (ap is_some asked);
   }
 
-  pub output_for : (command : Command) (references : ℕ) (text : List ℕ) → WasRead t → text ≡ command_output command u passes references → references ≡ count_by (λ r. is_some r.symbol) s.references → IsOutput command t text
-  output_for command references text read is counted = record {
+  pub output_for : (tree_only : Bool) (references : ℕ) (text : List ℕ) → WasRead t → text ≡ dce_output tree_only u passes references → references ≡ count_by (λ r. is_some r.symbol) s.references → IsDceOutput tree_only t text
+  output_for tree_only references text read is counted = record {
     left = u;
     passes = passes;
     shaken = shaken read;
-    is = is ∙ ap (λ (n : ℕ). command_output command u passes n) (counted ∙ left.resolved);
+    is = is ∙ ap (λ (n : ℕ). dce_output tree_only u passes n) (counted ∙ left.resolved);
   }

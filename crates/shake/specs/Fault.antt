@@ -1,51 +1,56 @@
--- The fault that an error of reading is, and the answers for errors.
+-- Why nothing is written for bytes, as code has it: the answer for each error, and its line.
 use Rattle.std.specs.Prelude.{◌≡◌, ◌⊎◌, ℕ, List, string_bytes}
-use Rattle.json_text.specs.Fault.{Fault, too_deep, unknown_node, bad_field, out_of_range}
+use Rattle.json_text.specs.Fault.{unknown_node, bad_field, out_of_range}
 use Rattle.json_text.specs.declared.error.TreeError.{TreeError}
-use Rattle.json_text.specs.declared.error.TreeError.TheVariants as error
+use Rattle.json_text.specs.declared.error.TreeError.TheVariants as tree
 use Rattle.min_driver.specs.declared.error.MinifyError.{MinifyError}
 use Rattle.min_driver.specs.declared.error.MinifyError.TheVariants as minify
-use Rattle.shake.specs.Line.{fault_line, large_line, ill_formed_line, status_line}
+use Rattle.run_module.specs.declared.error.RunError.{RunError}
+use Rattle.run_module.specs.declared.error.RunError.TheVariants.{Tree, Refused, NotCore, Bad, OutOfMemory}
+use Rattle.shake.specs.Line.{fault_line, large_line, ill_formed_line, bad_script_line, not_core_line, status_line}
 use Rattle.shake.specs.declared.status.Status.{Status}
 use Rattle.shake.specs.declared.status.Status.TheVariants as status
 
-abbrev pub fault_of : TreeError → Fault
-fault_of error.Syntax = too_deep
-fault_of (error.UnknownNode kind) = unknown_node (string_bytes kind)
-fault_of (error.BadField kind field) = bad_field kind.now field.now
-fault_of error.NumberOutOfRange = out_of_range
-fault_of error.OutOfMemory = too_deep
+abbrev pub tree_status : TreeError → Status
+tree_status tree.Syntax = status.Syntax
+tree_status tree.OutOfMemory = status.OutOfMemory
+tree_status e = status.Tree
 
-abbrev pub status_of : TreeError → Status
-status_of error.Syntax = status.Syntax
-status_of (error.UnknownNode kind) = status.Tree
-status_of (error.BadField kind field) = status.Tree
-status_of error.NumberOutOfRange = status.Tree
-status_of error.OutOfMemory = status.OutOfMemory
-
--- the answer for an error; memory for its line may be short
-abbrev pub IsAnswerTo : TreeError → Status → Type 0
-IsAnswerTo e s = (s ≡ status_of e) ⊎ (s ≡ status.OutOfMemory)
-
--- the answer for a program that isn't minified, and its line; memory for the line may be short
 abbrev pub minify_status : MinifyError → Status
 minify_status (minify.TooLarge nodes levels) = status.TooLarge
 minify_status (minify.IllFormed rule place) = status.IllFormed
 minify_status minify.OutOfMemory = status.OutOfMemory
 
-abbrev pub IsMinifyAnswer : MinifyError → Status → Type 0
-IsMinifyAnswer e s = (s ≡ minify_status e) ⊎ (s ≡ status.OutOfMemory)
+abbrev pub status_of : RunError → Status
+status_of (Tree e) = tree_status e
+status_of (Refused e) = minify_status e
+status_of (NotCore place) = status.NotCore
+status_of (Bad field) = status.BadScript
+status_of OutOfMemory = status.OutOfMemory
+
+abbrev pub tree_text : TreeError → List ℕ
+tree_text tree.Syntax = status_line status.Syntax
+tree_text (tree.UnknownNode kind) = fault_line (unknown_node (string_bytes kind))
+tree_text (tree.BadField kind field) = fault_line (bad_field kind.now field.now)
+tree_text tree.NumberOutOfRange = fault_line out_of_range
+tree_text tree.OutOfMemory = status_line status.OutOfMemory
 
 abbrev pub minify_text : MinifyError → List ℕ
 minify_text (minify.TooLarge nodes levels) = large_line nodes levels
 minify_text (minify.IllFormed rule place) = ill_formed_line rule place
 minify_text minify.OutOfMemory = status_line status.OutOfMemory
 
-abbrev pub minify_line : MinifyError → Status → List ℕ
-minify_line e status.TooLarge = minify_text e
-minify_line e status.IllFormed = minify_text e
-minify_line e s = status_line s
+abbrev pub refusal_text : RunError → List ℕ
+refusal_text (Tree e) = tree_text e
+refusal_text (Refused e) = minify_text e
+refusal_text (NotCore place) = not_core_line place
+refusal_text (Bad field) = bad_script_line field
+refusal_text OutOfMemory = status_line status.OutOfMemory
 
-abbrev pub refusal_line : TreeError → Status → List ℕ
-refusal_line e status.Tree = fault_line (fault_of e)
-refusal_line e s = status_line s
+-- the answer for an error, and its line; memory for the line may be short
+abbrev pub IsAnswerTo : RunError → Status → Type 0
+IsAnswerTo e s = (s ≡ status_of e) ⊎ (s ≡ status.OutOfMemory)
+
+abbrev pub refusal_line : RunError → Status → List ℕ
+refusal_line e status.OutOfMemory = status_line status.OutOfMemory
+refusal_line e s = refusal_text e

@@ -1,6 +1,6 @@
 pub mod Code
-pub mod Answer
-pub mod Fault
 pub mod Line
 pub mod Run
+pub mod Answer
+pub mod Fault
 pub mod Ran

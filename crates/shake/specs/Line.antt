@@ -1,8 +1,9 @@
 -- What the program says on standard error.
-use Rattle.std.specs.Prelude.{◌≡◌, ◌≢◌, ◌⊎◌, ◌&&◌, ◌||◌, ◌==◌, ℕ, List, [], ◌∷◌, ◌++◌, flat_map, Bool, nat_le, nat_lt, Option, Some, None, Ok, Err, codes, decimal, min, ◌+◌, if◌then◌else◌}
+use Rattle.std.specs.Prelude.{◌≡◌, ◌⊎◌, ◌&&◌, ◌||◌, ◌==◌, ℕ, List, [], ◌∷◌, ◌++◌, flat_map, Bool, nat_le, nat_lt, Option, Some, codes, decimal, min, ◌+◌, if◌then◌else◌}
 use Rattle.shake_streams.specs.Moves.{HasFailed, Known, SendsFront}
 use Rattle.json_text.specs.Fault.{Fault, too_deep, unknown_node, bad_field, out_of_range}
-use Rattle.json_text.specs.Answer.{IsReadAs}
+use Rattle.run_script.specs.Field.{field_name}
+use Rattle.run_script.specs.declared.fault.Field.{Field}
 use Rattle.js_syntax.specs.Node.{Forest}
 use Rattle.js_tree.specs.Count.{node_count, levels}
 use Rattle.form_rules.specs.declared.rule.Break.{Break}
@@ -34,7 +35,7 @@ fault_line too_deep = []
 
 abbrev pub status_line : Status → List ℕ
 status_line status.Ok = []
-status_line status.Usage = codes "shake: usage: shake COMMAND [--tree-only]\n"
+status_line status.Usage = codes "shake: usage: shake dce [--tree-only], or shake run\n"
 status_line status.ReadFault = codes "shake: read fault\n"
 status_line status.InputTooLong = codes "shake: input too long\n"
 status_line status.Syntax = codes "shake: not JSON\n"
@@ -43,6 +44,8 @@ status_line status.TooLarge = []
 status_line status.IllFormed = []
 status_line status.WriteFault = codes "shake: write fault\n"
 status_line status.OutOfMemory = codes "shake: out of memory\n"
+status_line status.BadScript = []
+status_line status.NotCore = []
 
 -- both counts, each capped one past its limit
 abbrev pub large_line : (nodes levels : ℕ) → List ℕ
@@ -58,22 +61,13 @@ ill_formed_line rule place = codes "shake: ill formed: rule " ++ (decimal rule +
 abbrev pub IsBreakLine : Forest → List ℕ → Type 0
 IsBreakLine t line = (b : Break) × (first_broken t ≡ Some b) × (line ≡ ill_formed_line b.rule b.place)
 
--- where the source tells its bytes
-abbrev pub Told : Option (List ℕ) → (List ℕ → Type 0) → Type 0
-Told None P = Unit {0}
-Told (Some bytes) P = P bytes
+-- the field of an input that is at fault
+abbrev pub bad_script_line : Field → List ℕ
+bad_script_line f = codes "shake: bad script: " ++ (field_name f ++ codes "\n")
 
--- the bytes are a JSON value that is no tree, for this fault
-abbrev pub HasFault : Option (List ℕ) → Fault → Type 0
-HasFault left f = (f ≢ too_deep) × Told left (λ bytes. IsReadAs bytes (Err f))
-
--- the line of an answer; that of a tree's fault names it, that of a tree too large counts it, and that of one ill formed has its
--- first break
-abbrev pub IsLineOf : Status → Option (List ℕ) → List ℕ → Type 0
-IsLineOf status.Tree left line = (f : Fault) × (line ≡ fault_line f) × HasFault left f
-IsLineOf status.TooLarge left line = (t : Forest) × (line ≡ too_large_line t) × Told left (λ bytes. IsReadAs bytes (Ok t))
-IsLineOf status.IllFormed left line = (t : Forest) × IsBreakLine t line × Told left (λ bytes. IsReadAs bytes (Ok t))
-IsLineOf s left line = line ≡ status_line s
+-- the least place of a node that is not of the core
+abbrev pub not_core_line : (place : ℕ) → List ℕ
+not_core_line place = codes "shake: not core: place " ++ (decimal place ++ codes "\n")
 
 -- a line went out, or a front of it where a fault came
 abbrev pub Says : (List ℕ → Type 0) → (written now : Option (List ℕ)) → (faults later : ℕ) → Type 0

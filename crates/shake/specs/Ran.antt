@@ -1,18 +1,14 @@
 -- What a run of the program asks of its streams and what they answer, for every source and every sink, the standard streams too.
-use Rattle.std.specs.Prelude.{◌≡◌, ◌≢◌, ◌⊎◌, ◌<◌, ◌≤◌, ℕ, List, false, length, Some, Ok, Err}
+use Rattle.std.specs.Prelude.{◌≡◌, ◌⊎◌, ◌<◌, ◌≤◌, ℕ, List, false, length, Some}
 use Rattle.shake_streams.specs.Past.{Past, with_bytes, with_fault, StopsAtOnce}
 use Rattle.shake_streams.specs.Moves.{TakesFront}
 use Rattle.shake_streams.specs.Reading.{GivesAll}
-use Rattle.js_syntax.specs.Node.{Forest}
-use Rattle.json_text.specs.Answer.{IsReadAs, IsNoJson}
-use Rattle.json_text.specs.Fault.{Fault, too_deep}
 use Rattle.shake_words.specs.Meaning.{command_of, accepts}
 use Rattle.shake_words.specs.declared.answer.Command.{Command}
-use Rattle.min_driver.specs.Limit.{IsTooLarge}
-use Rattle.shake.specs.Answer.{IsLineFor}
+use Rattle.shake.specs.Answer.{Stands}
 use Rattle.shake.specs.Code.{code_of}
 use Rattle.shake.specs.Line.{status_line}
-use Rattle.shake.specs.Run.{max_input, IsSound, IsIllFormed, IsOutput}
+use Rattle.shake.specs.Run.{max_input, IsLineFor}
 use Rattle.shake.specs.declared.status.Status.{Status}
 use Rattle.shake.specs.declared.status.Status.TheVariants as status
 
@@ -22,22 +18,9 @@ Took status.Ok text taken now = now ≡ with_bytes taken text
 Took status.WriteFault text taken now = TakesFront text taken now
 Took s text taken now = now ≡ taken
 
--- of the output for the tree that was read
-abbrev pub TookOutput : Command → Status → Forest → (taken now : Past) → Type 0
-TookOutput command status.Ok t taken now = (text : List ℕ) × IsOutput command t text × Took status.Ok text taken now
-TookOutput command status.WriteFault t taken now = (text : List ℕ) × IsOutput command t text × Took status.WriteFault text taken now
-TookOutput command s t taken now = now ≡ taken
-
 -- what stands behind each answer for the bytes that were read, and what the sink took of the output
 abbrev pub Follows : Command → Status → (bytes : List ℕ) → (taken now : Past) → Type 0
-Follows command status.Ok bytes taken now = (t : Forest) × IsReadAs bytes (Ok t) × IsSound t × TookOutput command status.Ok t taken now
-Follows command status.WriteFault bytes taken now = (t : Forest) × IsReadAs bytes (Ok t) × IsSound t × TookOutput command status.WriteFault t taken now
-Follows command status.Syntax bytes taken now = IsNoJson bytes × (now ≡ taken)
-Follows command status.Tree bytes taken now = (f : Fault) × (f ≢ too_deep) × IsReadAs bytes (Err f) × (now ≡ taken)
-Follows command status.TooLarge bytes taken now = (t : Forest) × IsReadAs bytes (Ok t) × IsTooLarge t × (now ≡ taken)
-Follows command status.IllFormed bytes taken now = (t : Forest) × IsReadAs bytes (Ok t) × IsIllFormed t × (now ≡ taken)
-Follows command status.OutOfMemory bytes taken now = now ≡ taken
-Follows command _ bytes taken now = ⊥
+Follows command s bytes taken now = Stands command s bytes (λ text. now ≡ with_bytes taken text) (λ text. TakesFront text taken now) (now ≡ taken)
 
 -- the words ask for a command, the source gave these bytes, which are within the limit, and then told its end, and the answer follows
 abbrev pub Reads : (words : List (List ℕ)) → Status → (given given_now taken taken_now : Past) → Type 0
@@ -58,14 +41,20 @@ Ran words s given given_now taken taken_now = Reads words s given given_now take
 abbrev pub Tells : (List ℕ → Type 0) → (taken now : Past) → Type 0
 Tells IsLine taken now = (line : List ℕ) × IsLine line × ((now ≡ with_bytes taken line) ⊎ TakesFront line taken now)
 
--- the line of an answer, for the bytes that the source gave
-abbrev pub IsLineGiven : Status → (given given_now : Past) → List ℕ → Type 0
-IsLineGiven status.Tree given given_now line = (bytes : List ℕ) × GivesAll given given_now bytes × IsLineFor status.Tree bytes line
-IsLineGiven status.TooLarge given given_now line = (bytes : List ℕ) × GivesAll given given_now bytes × IsLineFor status.TooLarge bytes line
-IsLineGiven status.IllFormed given given_now line = (bytes : List ℕ) × GivesAll given given_now bytes × IsLineFor status.IllFormed bytes line
-IsLineGiven s given given_now line = line ≡ status_line s
+-- the line of an answer that refuses the bytes which the source gave
+abbrev pub IsSaid : (words : List (List ℕ)) → Status → (given given_now : Past) → List ℕ → Type 0
+IsSaid words s given given_now line = (command : Command) × (command_of words ≡ Some command) × (bytes : List ℕ) × GivesAll given given_now bytes × IsLineFor command s bytes line
+
+-- the line of an answer
+abbrev pub IsLineGiven : (words : List (List ℕ)) → Status → (given given_now : Past) → List ℕ → Type 0
+IsLineGiven words status.Tree given given_now line = IsSaid words status.Tree given given_now line
+IsLineGiven words status.TooLarge given given_now line = IsSaid words status.TooLarge given given_now line
+IsLineGiven words status.IllFormed given given_now line = IsSaid words status.IllFormed given given_now line
+IsLineGiven words status.BadScript given given_now line = IsSaid words status.BadScript given given_now line
+IsLineGiven words status.NotCore given given_now line = IsSaid words status.NotCore given given_now line
+IsLineGiven words s given given_now line = line ≡ status_line s
 
 -- the run has an answer of this code: what the source gave, what the sink of the output took, and what standard error was told
 abbrev pub RanWithCode : (words : List (List ℕ)) (code : ℕ) (given given_now taken taken_now told told_now : Past) → Type 0
 RanWithCode words code given given_now taken taken_now told told_now =
-    (s : Status) × (code ≡ code_of s) × Ran words s given given_now taken taken_now × Tells (IsLineGiven s given given_now) told told_now
+    (s : Status) × (code ≡ code_of s) × Ran words s given given_now taken taken_now × Tells (IsLineGiven words s given given_now) told told_now

@@ -1,21 +1,26 @@
 -- What a run of the program leaves behind.
-use Rattle.std.specs.Prelude.{◌≡◌, ◌⊎◌, ◌+◌, ◌^◌, ◌≤◌, ℕ, List, [], ◌++◌, Bool, true, false, length, Option, Some, Ok, IsUtf8, codes, decimal}
+use Rattle.std.specs.Prelude.{◌≡◌, ◌≢◌, ◌⊎◌, ◌+◌, ◌^◌, ◌≤◌, ℕ, List, [], ◌++◌, Bool, true, false, length, Option, Some, None, Result, Ok, Err, IsUtf8, codes, decimal}
 use Rattle.shake_streams.specs.Moves.{HasFailed, Known, SendsFront}
 use Rattle.js_syntax.specs.Facts.{weight}
 use Rattle.js_syntax.specs.Node.{Forest, bare, total}
 use Rattle.json_text.specs.Answer.{IsReadAs, IsNoJson}
-use Rattle.json_text.specs.Fault.{Fault}
+use Rattle.json_text.specs.Fault.{Fault, too_deep}
+use Rattle.serde_json.specs.Data.{Data}
+use Rattle.run_module.specs.Running.{IsJson, HasProgram, HasRuns, IsRunOf}
+use Rattle.run_module.specs.Answer.{IsBad, IsOutside}
+use Rattle.run_script.specs.Script.{Input, read_script}
+use Rattle.run_script.specs.declared.fault.Field.{Field}
 use Rattle.json_text.specs.Text.{text_of}
-use Rattle.shake_words.specs.Meaning.{command_of}
+use Rattle.shake_words.specs.Meaning.{command_of, accepts}
 use Rattle.shake_words.specs.declared.answer.Command.{Command}
-use Rattle.shake_words.specs.declared.answer.Command.TheVariants.{Dce}
+use Rattle.shake_words.specs.declared.answer.Command.TheVariants.{Dce, Run}
 use Rattle.min_pass.specs.Pass.{cleared}
 use Rattle.headline.specs.Headline.{Headline}
 use Rattle.headline_text.specs.Written.{TextHeadline}
 use Rattle.scope_rules.specs.Binding.{resolved_references}
 use Rattle.form_rules.specs.Form.{IsWellFormed}
 use Rattle.min_driver.specs.Limit.{IsWithinLimits, IsTooLarge}
-use Rattle.shake.specs.Line.{Told, HasFault}
+use Rattle.shake.specs.Line.{fault_line, too_large_line, IsBreakLine, bad_script_line, not_core_line, status_line}
 use Rattle.shake.specs.declared.status.Status.{Status}
 use Rattle.shake.specs.declared.status.Status.TheVariants as status
 
@@ -35,10 +40,10 @@ output_of t passes references = text_of t ++ counts_of passes references
 abbrev pub tree_output_of : Forest → List ℕ
 tree_output_of t = text_of t ++ codes "\n"
 
--- what a command writes for a tree that is left: with `--tree-only` the tree alone
-abbrev pub command_output : Command → Forest → (passes references : ℕ) → List ℕ
-command_output (Dce false) t passes references = output_of t passes references
-command_output (Dce true) t passes references = tree_output_of t
+-- what `dce` writes for a tree that is left: with `--tree-only` the tree alone
+abbrev pub dce_output : (tree_only : Bool) → Forest → (passes references : ℕ) → List ℕ
+dce_output false t passes references = output_of t passes references
+dce_output true t passes references = tree_output_of t
 
 -- the text of a tree is UTF-8
 abbrev pub IsInUtf8 : Forest → Type 0
@@ -55,21 +60,13 @@ pub record Shaken (t u : Forest) (passes : ℕ) : Type 0 where
   pub few : passes + total weight u ≤ total weight t
   pub none : passes ≡ 0 → bare u ≡ bare (cleared t)
 
--- what a command writes for the tree that was read: a program that is left of it, the passes that there were, and how many
--- references of what is left have a binding
-pub record IsOutput (command : Command) (t : Forest) (text : List ℕ) : Type 0 where
+-- what `dce` writes for the tree that was read: a program that is left of it, the passes that there were, and how many references
+-- of what is left have a binding
+pub record IsDceOutput (tree_only : Bool) (t : Forest) (text : List ℕ) : Type 0 where
   pub left : Forest
   pub passes : ℕ
   pub shaken : Shaken t left passes
-  pub is : text ≡ command_output command left passes (resolved_references left)
-
--- it went out whole
-abbrev pub IsSent : Command → Forest → (written written_now : Option (List ℕ)) → Type 0
-IsSent command t written written_now = (text : List ℕ) × IsOutput command t text × Known (λ w. w ++ text) written written_now
-
--- a front of it did
-abbrev pub IsFrontSent : Command → Forest → (written written_now : Option (List ℕ)) → Type 0
-IsFrontSent command t written written_now = (text : List ℕ) × IsOutput command t text × SendsFront text written written_now
+  pub is : text ≡ dce_output tree_only left passes (resolved_references left)
 
 -- a tree that is within the limits, and breaks no rule of form, or does
 pub record IsSound (t : Forest) : Type 0 where
@@ -79,37 +76,87 @@ pub record IsSound (t : Forest) : Type 0 where
 abbrev pub IsIllFormed : Forest → Type 0
 IsIllFormed t = IsWithinLimits t × ¬ IsWellFormed t
 
--- the bytes, which are within the limit, are those of this tree
-abbrev pub IsTreeOf : List ℕ → Forest → Type 0
-IsTreeOf bytes t = (length bytes ≤ max_input) × IsReadAs bytes (Ok t)
+-- some bytes are read as the tree
+abbrev pub WasRead : Forest → Type 0
+WasRead t = (bytes : List ℕ) × IsReadAs bytes (Ok t)
 
--- answer 0: the words ask for a command, the bytes are those of a tree that is within the limits and breaks no rule of form, all
--- of them were read, and the output for what is left of that program went out whole
+-- ---- by command
+
+-- how the tree is read that a command asks for: the bytes are its JSON, and for a run its field `program` is
+abbrev pub IsReadFor : Command → List ℕ → Result Forest Fault → Type 0
+IsReadFor (Dce tree_only) bytes outcome = IsReadAs bytes outcome
+IsReadFor Run bytes outcome = (d : Data) × IsJson bytes d × HasProgram d outcome
+
+-- the text that a command writes for the bytes that were read: what is left of their program without its dead code; or the run
+-- that they ask for, of a core module over a script
+abbrev pub IsOutput : Command → List ℕ → List ℕ → Type 0
+IsOutput (Dce tree_only) bytes text = (t : Forest) × IsReadAs bytes (Ok t) × IsSound t × IsDceOutput tree_only t text
+IsOutput Run bytes text = (d : Data) × IsJson bytes d × IsRunOf d text
+
+-- the first field of an input that is missing or isn't as it must be
+abbrev pub IsBadIn : Command → List ℕ → Field → Type 0
+IsBadIn (Dce tree_only) bytes f = ⊥
+IsBadIn Run bytes f = (d : Data) × IsJson bytes d × IsBad f d
+
+-- the least place of a node that is not of the core of the language
+abbrev pub IsOutsideIn : Command → List ℕ → (place : ℕ) → Type 0
+IsOutsideIn (Dce tree_only) bytes place = ⊥
+IsOutsideIn Run bytes place = (d : Data) × IsJson bytes d × IsOutside place d
+
+-- why a command writes nothing for the bytes
+abbrev pub IsCauseFor : Command → Status → List ℕ → Type 0
+IsCauseFor command status.Syntax bytes = IsNoJson bytes
+IsCauseFor command status.Tree bytes = (f : Fault) × (f ≢ too_deep) × IsReadFor command bytes (Err f)
+IsCauseFor command status.TooLarge bytes = (t : Forest) × IsReadFor command bytes (Ok t) × IsTooLarge t
+IsCauseFor command status.IllFormed bytes = (t : Forest) × IsReadFor command bytes (Ok t) × IsIllFormed t
+IsCauseFor command status.BadScript bytes = (f : Field) × IsBadIn command bytes f
+IsCauseFor command status.NotCore bytes = (place : ℕ) × IsOutsideIn command bytes place
+IsCauseFor command status.OutOfMemory bytes = Unit {0}
+IsCauseFor command _ bytes = ⊥
+
+-- the line that says so
+abbrev pub IsLineFor : Command → Status → List ℕ → List ℕ → Type 0
+IsLineFor command status.Tree bytes line = (f : Fault) × (line ≡ fault_line f) × (f ≢ too_deep) × IsReadFor command bytes (Err f)
+IsLineFor command status.TooLarge bytes line = (t : Forest) × (line ≡ too_large_line t) × IsReadFor command bytes (Ok t)
+IsLineFor command status.IllFormed bytes line = (t : Forest) × IsBreakLine t line × IsReadFor command bytes (Ok t)
+IsLineFor command status.BadScript bytes line = (f : Field) × (line ≡ bad_script_line f) × IsBadIn command bytes f
+IsLineFor command status.NotCore bytes line = (place : ℕ) × (line ≡ not_core_line place) × IsOutsideIn command bytes place
+IsLineFor command s bytes line = line ≡ status_line s
+
+-- ---- of streams that tell their bytes
+
+-- where the source tells its bytes
+abbrev pub Told : Option (List ℕ) → (List ℕ → Type 0) → Type 0
+Told None P = Unit {0}
+Told (Some bytes) P = P bytes
+
+-- The words ask for a command, and this holds of it and the bytes that were read, which are within the limit and those that the
+-- source told.
+abbrev pub Asks : (words : List (List ℕ)) (left : Option (List ℕ)) → (Command → List ℕ → Type 0) → Type 0
+Asks words left P =
+    (command : Command) × (command_of words ≡ Some command) × (bytes : List ℕ) × Told left (λ all. all ≡ bytes) × (length bytes ≤ max_input) × P command bytes
+
+-- answer 0: the words ask for a command, all bytes were read, and what the command writes for them went out whole
 abbrev pub Shakes : (words : List (List ℕ)) (left left_now written written_now : Option (List ℕ)) → Type 0
 Shakes words left left_now written written_now =
-    (command : Command) × (command_of words ≡ Some command) × (t : Forest) × Told left (λ bytes. IsTreeOf bytes t) × IsSound t × Told left (λ _. left_now ≡ Some [])
-    × IsSent command t written written_now
+    Asks words left (λ command bytes. (text : List ℕ) × IsOutput command bytes text × Told left (λ _. left_now ≡ Some []) × Known (λ w. w ++ text) written written_now)
 
 -- a fault of the sink: a front of such an output went out
 abbrev pub ShakesFront : (words : List (List ℕ)) (left written written_now : Option (List ℕ)) → Type 0
-ShakesFront words left written written_now =
-    (command : Command) × (command_of words ≡ Some command) × (t : Forest) × Told left (λ bytes. IsTreeOf bytes t) × IsSound t × IsFrontSent command t written written_now
+ShakesFront words left written written_now = Asks words left (λ command bytes. (text : List ℕ) × IsOutput command bytes text × SendsFront text written written_now)
 
--- the bytes, which are within the limit, are no JSON
-abbrev pub IsBadJson : Option (List ℕ) → Type 0
-IsBadJson left = Told left (λ bytes. (length bytes ≤ max_input) × IsNoJson bytes)
+-- an answer that refuses the bytes has its cause in them
+abbrev pub IsRefused : Status → (words : List (List ℕ)) (left : Option (List ℕ)) → Type 0
+IsRefused s words left = Asks words left (λ command bytes. IsCauseFor command s bytes)
 
--- the bytes, which are within the limit, are the JSON of no tree
-abbrev pub IsBadTree : Option (List ℕ) → Type 0
-IsBadTree left = (f : Fault) × HasFault left f × Told left (λ bytes. length bytes ≤ max_input)
-
--- the bytes, which are within the limit, are those of a tree that is too large
-abbrev pub IsLargeTree : Option (List ℕ) → Type 0
-IsLargeTree left = (t : Forest) × IsTooLarge t × Told left (λ bytes. IsTreeOf bytes t)
-
--- the bytes, which are within the limit, are those of a tree that is within its limits, and breaks a rule of form
-abbrev pub IsBrokenTree : Option (List ℕ) → Type 0
-IsBrokenTree left = (t : Forest) × IsIllFormed t × Told left (λ bytes. IsTreeOf bytes t)
+-- the line of an answer; that of bytes that are refused says why
+abbrev pub IsLineOf : Status → (words : List (List ℕ)) (left : Option (List ℕ)) → List ℕ → Type 0
+IsLineOf status.Tree words left line = Asks words left (λ command bytes. IsLineFor command status.Tree bytes line)
+IsLineOf status.TooLarge words left line = Asks words left (λ command bytes. IsLineFor command status.TooLarge bytes line)
+IsLineOf status.IllFormed words left line = Asks words left (λ command bytes. IsLineFor command status.IllFormed bytes line)
+IsLineOf status.BadScript words left line = Asks words left (λ command bytes. IsLineFor command status.BadScript bytes line)
+IsLineOf status.NotCore words left line = Asks words left (λ command bytes. IsLineFor command status.NotCore bytes line)
+IsLineOf s words left line = line ≡ status_line s
 
 -- Only with these two answers is anything written.
 abbrev pub writes : Status → Bool
@@ -117,8 +164,15 @@ writes status.Ok = true
 writes status.WriteFault = true
 writes _ = false
 
--- where the words are accepted, the bytes are those of a tree that is within the limits and well formed, and nothing fails, the answer is 0, unless memory is short
-abbrev pub Completes : (accepted : Bool) (left : Option (List ℕ)) (source_faults source_later out_faults out_later : ℕ) → Status → Type 0
-Completes accepted left source_faults source_later out_faults out_later s =
-    accepted ≡ true → (bytes : List ℕ) → left ≡ Some bytes → (t : Forest) → IsTreeOf bytes t → IsSound t → ¬ HasFailed source_faults source_later → ¬ HasFailed out_faults out_later
-    → (s ≡ status.Ok) ⊎ (s ≡ status.OutOfMemory)
+-- nothing in the bytes stands in the way of a command: their tree is within the limits and well formed, and for a run it is a core
+-- module, and the script is one
+abbrev pub CanAnswer : Command → List ℕ → Type 0
+CanAnswer (Dce tree_only) bytes = (t : Forest) × IsReadAs bytes (Ok t) × IsSound t
+CanAnswer Run bytes = (d : Data) × IsJson bytes d × (t : Forest) × HasProgram d (Ok t) × HasRuns t × (i : Input) × (read_script d ≡ Ok i)
+
+-- where the words ask for a command, nothing in the bytes stands in its way, and nothing fails, the answer is 0, unless memory is
+-- short
+abbrev pub Completes : (words : List (List ℕ)) (left : Option (List ℕ)) (source_faults source_later out_faults out_later : ℕ) → Status → Type 0
+Completes words left source_faults source_later out_faults out_later s =
+    (command : Command) → command_of words ≡ Some command → accepts words ≡ true → (bytes : List ℕ) → left ≡ Some bytes → length bytes ≤ max_input → CanAnswer command bytes
+    → ¬ HasFailed source_faults source_later → ¬ HasFailed out_faults out_later → (s ≡ status.Ok) ⊎ (s ≡ status.OutOfMemory)

@@ -2,12 +2,13 @@
 ghost use Rattle.std.specs.Prelude.{◌≡◌, ◌≤◌, ◌++◌, IfOk, OnOk, string_bytes};
 ghost use Rattle.json_text.specs.Fault.{unknown_node, bad_field};
 ghost use Rattle.shake.specs.Line as spec;
-ghost use Rattle.shake.specs.Line.{Says, shown, fault_line};
-ghost use Rattle.shake.specs.Fault.{fault_of, minify_text};
+ghost use Rattle.shake.specs.Line.{Says, shown, fault_line, bad_script_line, not_core_line};
+ghost use Rattle.shake.specs.Fault.{tree_text, minify_text, refusal_text};
 ghost use Rattle.shake.specs.Ran.{Tells};
 
 use json_text::TreeError;
 use min_driver::MinifyError;
+use run_module::{Field, RunError};
 use shake_streams::{Sink, write_all};
 use std::alloc::{AllocError, Global};
 
@@ -77,8 +78,8 @@ fn field_line(alloc: Global, kind: &str, field: &str) -> Result<String, AllocErr
     format!(in alloc; "shake: bad field {field} in {kind}\n")
 }
 
-/// The line of a program that isn't minified: both counts, or the rule and the place of its first break.
-pub fn minify_text(alloc: Global, error: MinifyError) -> Result<String, AllocError>
+// The line of a program that isn't minified: both counts, or the rule and the place of its first break.
+fn minify_text(alloc: Global, error: MinifyError) -> Result<String, AllocError>
     ensures { IfOk result (λ s. string_bytes s ≡ minify_text error) }
 {
     match error {
@@ -92,14 +93,41 @@ pub fn minify_text(alloc: Global, error: MinifyError) -> Result<String, AllocErr
     }
 }
 
-/// The line of a fault of a tree, or none where there is no such line.
-pub fn fault_text(alloc: Global, error: &TreeError) -> Result<String, AllocError>
-    ensures { IfOk result (λ s. string_bytes s ≡ fault_line (fault_of error.now)) }
+// The line of bytes that are no tree.
+fn tree_text(alloc: Global, error: &TreeError) -> Result<String, AllocError>
+    ensures { IfOk result (λ s. string_bytes s ≡ tree_text error.now) }
 {
     match error {
+        TreeError::Syntax => String::from_str(alloc, "shake: not JSON\n"),
         TreeError::UnknownNode { kind } => unknown_line(alloc, kind.as_str()),
         TreeError::BadField { kind, field } => field_line(alloc, kind, field),
         TreeError::NumberOutOfRange => String::from_str(alloc, "shake: number out of range\n"),
-        TreeError::Syntax | TreeError::OutOfMemory => Ok(String::new(alloc)),
+        TreeError::OutOfMemory => String::from_str(alloc, "shake: out of memory\n"),
+    }
+}
+
+fn bad_script_text(alloc: Global, field: Field) -> Result<String, AllocError>
+    ensures { IfOk result (λ s. string_bytes s ≡ bad_script_line field) }
+{
+    let name = field.name();
+    format!(in alloc; "shake: bad script: {name}\n")
+}
+
+fn not_core_text(alloc: Global, place: u32) -> Result<String, AllocError>
+    ensures { IfOk result (λ s. string_bytes s ≡ not_core_line place) }
+{
+    format!(in alloc; "shake: not core: place {place}\n")
+}
+
+/// The line that says why nothing is written for the bytes.
+pub fn refusal_text(alloc: Global, error: &RunError) -> Result<String, AllocError>
+    ensures { IfOk result (λ s. string_bytes s ≡ refusal_text error.now) }
+{
+    match error {
+        RunError::Tree(error) => tree_text(alloc, error),
+        RunError::Refused(error) => minify_text(alloc, *error),
+        RunError::NotCore { place } => not_core_text(alloc, *place),
+        RunError::Bad { field } => bad_script_text(alloc, *field),
+        RunError::OutOfMemory => String::from_str(alloc, "shake: out of memory\n"),
     }
 }

@@ -1,11 +1,10 @@
 // The text that the program writes.
 ghost use Rattle.std.specs.Prelude.{◌≡◌, ◌++◌, IfOk, codes, string_bytes};
 ghost use Rattle.js_syntax.specs.Node.{forest_of};
-ghost use Rattle.shake.specs.Run.{command_output, counts_of, IsInUtf8};
+ghost use Rattle.shake.specs.Run.{dce_output, counts_of, IsInUtf8};
 
 use js_tree::Program;
 use json_write::write_tree;
-use shake_words::Command;
 use std::alloc::{AllocError, Global};
 
 // The text, and behind it a newline.
@@ -27,17 +26,18 @@ fn with_counts(mut text: String, passes: u64, references: u64) -> Result<String,
 /// The program's tree as JSON, and then the line of counts, unless the tree alone is asked for.
 pub fn output(
     alloc: Global,
-    command: Command,
+    tree_only: bool,
     program: &Program,
     passes: u64,
     references: u64,
 ) -> Result<String, AllocError>
-    ensures output { IfOk result (λ s. string_bytes s ≡ command_output command (forest_of program.now) passes references) }
+    ensures output { IfOk result (λ s. string_bytes s ≡ dce_output tree_only (forest_of program.now) passes references) }
     ensures utf8 { IfOk result (λ _. IsInUtf8 (forest_of program.now)) }
 {
     let text = write_tree(alloc, program)?.into_string();
-    match command {
-        Command::Dce { tree_only: true } => with_newline(text),
-        Command::Dce { tree_only: false } => with_counts(text, passes, references),
+    if tree_only {
+        with_newline(text)
+    } else {
+        with_counts(text, passes, references)
     }
 }

@@ -24,6 +24,10 @@ pub enum Status {
     /// The output could not be written.
     WriteFault,
     OutOfMemory,
+    /// The script of a run, or what stands beside it, is missing or isn't as it must be.
+    BadScript,
+    /// The program of a run is no module of the core of the language.
+    NotCore,
 }
 
 impl Status {
@@ -42,6 +46,8 @@ impl Status {
             Status::IllFormed => 7,
             Status::WriteFault => 8,
             Status::OutOfMemory => 9,
+            Status::BadScript => 15,
+            Status::NotCore => 16,
         }
     }
 }

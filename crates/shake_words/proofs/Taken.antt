@@ -94,7 +94,7 @@ named_among (s ∷ rest) p known =
 
 -- each command of the set
 all_known : AreKnown (built program).subs
-all_known = ((λ rows. refl), tt)
+all_known = ((λ rows. refl), ((λ rows. refl), tt))
 
 named : (stop : Option (Text × List Text)) → IsNamed (entered (built program) stop)
 named None = λ is. cc

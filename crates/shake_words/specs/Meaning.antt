@@ -9,7 +9,7 @@ use Rattle.clap.specs.Kinds.{Kinds}
 use Rattle.clap.specs.Faults.{fault_of}
 use Rattle.shake_words.specs.Program.{program}
 use Rattle.shake_words.specs.declared.answer.Command.{Command}
-use Rattle.shake_words.specs.declared.answer.Command.TheVariants.{Dce}
+use Rattle.shake_words.specs.declared.answer.Command.TheVariants.{Dce, Run}
 
 -- there is no kind of fault
 abbrev pub is_none : Kinds → Bool
@@ -27,7 +27,7 @@ is_set flag rows = option_map_or (λ value. bytes_eq value (codes "true")) (one_
 -- the command of this name, with the flags that were found
 abbrev pub command_named : Text → List Row → Option Command
 command_named name rows =
-    if bytes_eq name (codes "dce") then Some (Dce (is_set (codes "tree-only") rows)) else None
+    if bytes_eq name (codes "dce") then Some (Dce (is_set (codes "tree-only") rows)) else (if bytes_eq name (codes "run") then Some Run else None)
 
 abbrev pub command_met : Option (Text × List Row) → Option Command
 command_met = option_and_then (λ met. command_named met.0 met.1)

@@ -25,4 +25,4 @@ wants_command = on_top (λ top. record top {
 
 -- the program, and its commands in turn
 abbrev pub program : App
-program = with_subcommand (wants_command (new_app (codes "shake"))) (with_tree_only (codes "dce")).top
+program = with_subcommand (with_subcommand (wants_command (new_app (codes "shake"))) (with_tree_only (codes "dce")).top) (new_app (codes "run")).top

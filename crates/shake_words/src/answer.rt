@@ -10,13 +10,15 @@ use thiserror::Error;
 pub enum Command {
     /// Dead code elimination. `tree_only` leaves the line of counts out of the output.
     Dce { tree_only: bool },
+    /// The run of a module over a script.
+    Run,
 }
 
 /// Why words give no command.
 #[derive(Clone, Copy, Debug, PartialEq, Eq, Error)]
 pub enum WordsError {
     /// The words aren't accepted.
-    #[error("usage: shake COMMAND [--tree-only]")]
+    #[error("usage: shake dce [--tree-only], or shake run")]
     Usage,
     #[error("out of memory")]
     OutOfMemory,

@@ -9,7 +9,7 @@
 //! - `parse` gives a command only for accepted words, and then the one that they ask for. It
 //!   answers `Usage` only for words that aren't accepted. The program offers no help and no version,
 //!   so a call for either is a word that it doesn't know.
-//! - `takes_dce`, `takes_dce_with_tree_only` and `refuses_help` are laws: whatever name the program
+//! - `takes_dce`, `takes_dce_with_tree_only`, `takes_run` and `refuses_help` are laws: whatever name the program
 //!   is called by, these words are accepted and mean what they say, and calls for help are refused.
 //!
 //! A further command is a line in `program`, in `command_named`, in both their definitions, and a
@@ -22,5 +22,5 @@ mod program;
 mod read;
 
 pub use answer::{Command, WordsError};
-pub use law::{refuses_help, takes_dce, takes_dce_with_tree_only};
+pub use law::{refuses_help, takes_dce, takes_dce_with_tree_only, takes_run};
 pub use read::parse;

@@ -28,6 +28,7 @@ pub fn program<'a>(alloc: Global) -> Result<Command<'a>, AllocError>
         .disable_help_flag(true)
         .disable_help_subcommand(true);
     let dce = with_tree_only(alloc, "dce")?;
-    let whole = bare.subcommand(dce)?;
+    let with_dce = bare.subcommand(dce)?;
+    let whole = with_dce.subcommand(Command::new(alloc, "run"))?;
     Ok(whole)
 }

@@ -26,6 +26,7 @@ fn command_named(name: &str, matches: &ArgMatches<'_>) -> Option<Command>
         "dce" => Some(Command::Dce {
             tree_only: is_set(matches, "tree-only"),
         }),
+        "run" => Some(Command::Run),
         _ => None,
     }
 }

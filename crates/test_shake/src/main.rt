@@ -12,7 +12,7 @@
 //! - `span 0`: where the program stands, how many children its root has, and how it is written
 //! - `codes 0`: the codes of all answers
 //!
-//! The rows, with all that must be printed for them, are written by `tools/examples.py` into `stdin` and `stdout`,
+//! The rows, with all that must be printed for them, are written by `tools/examples.py` and `tools/run_rows.py` into `stdin` and `stdout`,
 //! which the gate compares. Rows that are data cost no proof.
 #![tactic(auto)]
 

@@ -14,7 +14,7 @@ fn append_other(
     match word {
         "call" => append_call(alloc, about, text, printed),
         "span" => append_span(alloc, text, printed),
-        _ => append_codes(printed),
+        _ => append_codes(alloc, printed),
     }
 }
 

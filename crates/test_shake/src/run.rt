@@ -68,7 +68,7 @@ fn append_run_of(
     let mut out = MemSink::new(alloc, run.room, &[run.failing_write])?;
     let mut err = MemSink::new(alloc, 1000, &[])?;
     let status = shake(alloc, words, &mut source, &mut out, &mut err);
-    append_outcome(status, &out, &err, printed)
+    append_outcome(alloc, status, &out, &err, printed)
 }
 
 /// Appends what a run on these bytes answers, writes and says.
@@ -82,19 +82,21 @@ pub(crate) fn append_run(
     append_run_of(alloc, words.as_slice(), run, bytes, printed)
 }
 
-fn append_code(status: Status, printed: &mut Vec<u8>) -> Result<(), AllocError> {
-    printed.push(b'0'.wrapping_add(status.code()))?;
-    printed.push(b'\n')?;
+fn append_code(alloc: Global, status: Status, printed: &mut Vec<u8>) -> Result<(), AllocError> {
+    let code = status.code();
+    let line = format!(in alloc; "{code}\n")?;
+    printed.extend_from_slice(line.as_bytes())?;
     Ok(())
 }
 
 fn append_outcome(
+    alloc: Global,
     status: Status,
     out: &MemSink,
     err: &MemSink,
     printed: &mut Vec<u8>,
 ) -> Result<(), AllocError> {
-    append_code(status, printed)?;
+    append_code(alloc, status, printed)?;
     printed.extend_from_slice(out.written())?;
     if !out.written().ends_with(b"\n") && !out.written().is_empty() {
         printed.push(b'\n')?;
@@ -103,7 +105,7 @@ fn append_outcome(
     Ok(())
 }
 
-static STATUSES: [Status; 10] = [
+static STATUSES: [Status; 12] = [
     Status::Ok,
     Status::Usage,
     Status::ReadFault,
@@ -114,12 +116,14 @@ static STATUSES: [Status; 10] = [
     Status::IllFormed,
     Status::WriteFault,
     Status::OutOfMemory,
+    Status::BadScript,
+    Status::NotCore,
 ];
 
 /// Appends the codes of all answers.
-pub(crate) fn append_codes(printed: &mut Vec<u8>) -> Result<(), AllocError> {
+pub(crate) fn append_codes(alloc: Global, printed: &mut Vec<u8>) -> Result<(), AllocError> {
     for status in STATUSES.as_slice() {
-        append_code(*status, printed)?;
+        append_code(alloc, *status, printed)?;
     }
     Ok(())
 }

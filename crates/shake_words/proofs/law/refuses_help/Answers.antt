@@ -10,3 +10,7 @@ returns-clause-alone c = λ name. λ rest. refl
 pub returns-clause-behind : goal.returns-clause-behind
 unfolding accepts clap_on_literals
 returns-clause-behind c = λ name. refl
+
+pub returns-clause-behind_run : goal.returns-clause-behind_run
+unfolding accepts clap_on_literals
+returns-clause-behind_run c = λ name. refl
