@@ -84,7 +84,7 @@ def text():
         'Of %d crates the program runs %d, and its proof stands on %d more; %d stand beside it. A crate stands below the one through which alone those above reach it, and may know only what crates.txt names for it.' % (len(CRATES), len(runs), len(carries), len(beside)),
         'What the program runs:', '```\n%s\n```' % tree_of(runs, run_uses),
         'Definitions and laws that carry its proof:', '```\n%s\n```' % tree_of(carries, used_by),
-        'Beside the program: tests and rows, measurements, the machine that runs programs, and calls for other programs:', '```\n%s\n```' % tree_of(beside, used_by),
+        'Beside the program: tests and rows, measurements, and calls for other programs:', '```\n%s\n```' % tree_of(beside, used_by),
         '| Crate | Stands on | Is known for |\n|---|---|---|\n' + '\n'.join(row_of(crate) for crate in reversed(in_order(CRATES))),
     ]
     return '\n\n'.join(parts)
