@@ -23,7 +23,7 @@ use Rattle.scope_rules.specs.Binding.{Binding, named_in, declared_by, binding_of
 use Rattle.scope_laws.specs.Exact.{Among}
 use Rattle.scope_laws.specs.Place.{Around, first, behind, behind_none, under, plug}
 use Rattle.steps_names.specs.Standing.{exported_declarations}
-use Rattle.steps_allowed.specs.Rows.{in_list, in_statement, past, statement, called, argument, before, sequence, applied, call_of_a, call_of_eval, exports_declaration, empty}
+use Rattle.steps_allowed.specs.Rows.{in_list, in_statement, past, throws, statement, called, argument, before, sequence, applied, call_of_a, call_of_eval, exports_declaration, empty}
 use Rattle.steps_allowed.specs.KnownConditional.{consequent_is_taken, alternate_is_taken}
 use Rattle.steps_allowed.specs.KnownSide.{right_side_counts, left_side_decides}
 use Rattle.steps_allowed.specs.UnusedOperation.{needed_at, one_operand_acts}
@@ -140,6 +140,13 @@ if_holds_is_dead c =
 pub if_fails_is_dead : Clean row.runs_no_branch → ⊥
 if_fails_is_dead c =
     c.nothing_is_dead (before []) _ refl (a_dead_if (before []) _ _ (nothing_is_run nowhere nowhere nowhere nowhere (Kind.Literal Literal.Null) Kind.ExpressionStatement nothing call_of_a refl refl))
+
+-- throw 1; a();
+abbrev behind_throw : Around
+behind_throw = in_list (past (throws one) (first nothing))
+
+pub unreached_is_dead : Clean row.calls_behind_throw → ⊥
+unreached_is_dead c = c.nothing_is_dead behind_throw _ refl (an_unreached_statement behind_throw _ (never_runs refl refl refl refl))
 
 -- ---- what has none
 

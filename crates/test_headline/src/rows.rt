@@ -58,7 +58,8 @@ pub fn what_others_may_use_stays()
 
 /// `1;` doesn't stay, nor does the conditional of `a(true ? a : b);`, of `(1 ? o.g : null)();` or of `a ? b() : 1;`, what stands right in
 /// `null && a();`, what of `!(a() === 1);`, of `[a(), 1];` and of `({ a: a() });` is no call, the `1` of `use((1, a));`, the comparison
-/// of `a() === b();`, the negation of `use(!0);`, or the `if` of `if (1) a(); else b();` and of `if (null) a();`.
+/// of `a() === b();`, the negation of `use(!0);`, the `if` of `if (1) a(); else b();` and of `if (null) a();`, or the call
+/// of `throw 1; a();`.
 pub fn dead_code_goes()
     ensures number { Headline row.dead row.dead → ⊥ }
     ensures conditional { Headline row.takes_branch row.takes_branch → ⊥ }
@@ -73,6 +74,7 @@ pub fn dead_code_goes()
     ensures known { Headline row.uses_negation row.uses_negation → ⊥ }
     ensures if_holds { Headline row.runs_one_branch row.runs_one_branch → ⊥ }
     ensures if_fails { Headline row.runs_no_branch row.runs_no_branch → ⊥ }
+    ensures unreached { Headline row.calls_behind_throw row.calls_behind_throw → ⊥ }
 {}
 
 /// `1;` is dead code, and so are `{ ; }`'s empty statement, a function that nothing calls, one of two declarators, a conditional on a
@@ -82,8 +84,8 @@ pub fn dead_code_goes()
 /// `(1 ? o.g : null)();`, a conditional of which nobody takes the value and one branch alone acts: `a ? b() : 1;`, a sequence that is
 /// used for its value, of which a part before the last doesn't act: `use((1, a));`, a comparison of which nobody takes the value, though
 /// both sides act: `a() === b();`, an object literal of which nobody takes the value, that holds a call: `({ a: a() });`, an operation
-/// on a literal, of which the value is known: `use(!0);`, and an `if` on a literal, whether a branch of it runs: `if (1) a(); else b();`, or
-/// none: `if (null) a();`.
+/// on a literal, of which the value is known: `use(!0);`, an `if` on a literal, whether a branch of it runs: `if (1) a(); else b();`, or
+/// none: `if (null) a();`, and a statement behind a jump: `throw 1; a();`.
 pub fn dead_code_is_told()
     ensures number { Clean (a_module (does one ∷ [])) → ⊥ }
     ensures empty { Clean (a_module (block (empty ∷ []) ∷ [])) → ⊥ }
@@ -102,6 +104,7 @@ pub fn dead_code_is_told()
     ensures known { Clean row.uses_negation → ⊥ }
     ensures if_holds { Clean row.runs_one_branch → ⊥ }
     ensures if_fails { Clean row.runs_no_branch → ⊥ }
+    ensures unreached { Clean row.calls_behind_throw → ⊥ }
 {}
 
 /// A call is none, nor a function that is exported, a variable beside a direct call of `eval`, a function of a script, a
