@@ -9,14 +9,15 @@ use Rattle.js_meaning.specs.Value.{Text, this_name}
 use Rattle.js_meaning.specs.Scope.{Decl, decl, ready, all_so, behind, var_names, lexical, function_decls, module_decls}
 use Rattle.js_meaning.specs.Module.{names_in}
 use Rattle.js_meaning_near.specs.Near.{module_of}
-use Rattle.js_meaning_near.specs.Avoid.{declares, Dropped, dropped_here, dropped_later, HasCells}
+use Rattle.js_meaning_near.specs.Avoid.{declares, Dropped, HasCells}
 use Rattle.js_meaning_near.proofs.Avoid.{itself}
 use Rattle.steps.specs.Names.{is_among}
-use Rattle.steps.specs.Steps.{Around, entered, outermost, Step, leaves, empties, inside, behind_node, behind_absent}
+use Rattle.steps.specs.Steps.{Around, entered, outermost, Step, leaves, empties, unbinds, inside, behind_node, behind_absent}
 use Rattle.steps_keep_runs.specs.Formed.{holds_well, heads, is_formed}
 use Rattle.steps_keep_runs.specs.Drop.{Drop, no_drop, of_block, of_function, dropped}
 use Rattle.steps_keep_runs.specs.Once.{OnceAt, OnceIn, Once}
 use Rattle.steps_keep_runs.proofs.Calm.{form_holds, form_heads, form_below, form_behind}
+use Rattle.steps_keep_runs.proofs.Unbound.{dropped_among}
 use Rattle.steps_keep_runs.proofs.Lists.{Less, less_here, less_later, VarsChange, LexicalChange, vars_step, lexical_step}
 use Rattle.steps_keep_runs.proofs.Names.{declares_among, passing_free}
 use Rattle.steps_keep_runs.proofs.Scopes.{DeclsChange, BodyChange, body_change, function_change}
@@ -35,10 +36,6 @@ use Rattle.js_syntax.proofs.Truth.{second_of_either}
 less_among : {x : Text} {xs ys : List Text} → Less x xs ys → is_among xs x ≡ true
 less_among {x} (less_here {xs = xs}) = or_left (bytes_eq x x) (is_among xs x) (itself x)
 less_among {x} (less_later {y = y} {xs = xs} l) = second_of_either (bytes_eq y x) (is_among xs x) (less_among l)
-
-dropped_among : {x : Text} {ds es : List Decl} → Dropped x ds es → is_among (names_in ds) x ≡ true
-dropped_among {x} (dropped_here {ds = ds} f) = or_left (bytes_eq x x) (is_among (names_in ds) x) (itself x)
-dropped_among {x} (dropped_later {d = decl y way} {ds = ds} l) = second_of_either (bytes_eq y x) (is_among (names_in ds) x) (dropped_among l)
 
 abbrev AmongIf : Drop → List Text → Type 0
 AmongIf no_drop xs = Unit {0}
@@ -91,6 +88,7 @@ once_at w k s d e m g f p i o u c = tt
 once_step : {w : Around} {t u : Forest} (s : Step w t u) (places : ℕ → Place) (at : ℕ) → is_formed t ≡ true → well_placed places at u ≡ true → has_plain_values u ≡ true → Clear t → Once s
 once_step (leaves g) places at f o v c = tt
 once_step (empties h) places at f o v c = tt
+once_step (unbinds i u h) places at f o v c = tt
 once_step (inside {w = w} {k = k} {n = n} {a = a} {b = b} {r = r} s) places at f o v c =
     let i = and_parts (fits (places at) (sort_of k)) _ o in
     let j = and_parts (well_placed (place_below (places at) k) 0 b) _ i.1 in

@@ -28,11 +28,14 @@ use Rattle.steps_allowed.specs.Silent.{read_in, IsFound, IsSilentNode, IsSilent,
 use Rattle.steps_allowed.specs.Exposure.{Exposure, exposed_inside, exposed_of, exposed_at, exposure, function_is_exposed, evaluates_somewhere, IsOwnFunction, IsOwnDeclarator}
 use Rattle.steps_allowed.specs.Uses.{Use, use_below, use_there, use_at, matters, stands_bare}
 use Rattle.steps_allowed.specs.Unused.{is_unused_below, unused_there}
+use Rattle.steps.specs.Steps.{binds_import}
+use Rattle.steps_allowed.specs.Imports.{ImportRow, elsewhere, import_row_below, import_row, IsImported}
 use Rattle.steps_allowed.specs.Places.{a_node, asked_at, IsItem, IsDeclarator, At, MayStandBare}
 use Rattle.steps_allowed.specs.Free.{IsFree, Free, FreeDeclarator}
 use Rattle.steps_allowed.specs.SilentStatement.{SilentStatement}
 use Rattle.steps_allowed.specs.UnusedFunction.{a_function}
 use Rattle.steps_allowed.specs.UnusedDeclarator.{a_declarator, SilentDeclarator}
+use Rattle.steps_allowed.specs.UnusedImport.{an_imported}
 use Rattle.steps_allowed.specs.KnownConditional.{KnownConditional, consequent_is_taken, alternate_is_taken}
 use Rattle.steps_allowed.specs.KnownSide.{KnownSide, right_side_counts, left_side_decides}
 use Rattle.steps_allowed.specs.UnusedOperation.{UnusedOperation, one_operand_acts}
@@ -49,7 +52,7 @@ use Rattle.steps_allowed.specs.DeadIf.{DeadIf}
 use Rattle.steps_allowed.specs.Unreached.{is_behind_jump, Unreached, never_runs}
 use Rattle.steps_owed.proofs.ExposedBare.{bare_inside, bare_below, bare_exposed}
 use Rattle.steps_owed.proofs.Focus.{follows_there}
-use Rattle.headline.specs.Clean.{IsDead, an_empty_statement, a_silent_statement, an_unused_function, an_unused_declarator, a_known_conditional, a_known_side, an_unused_operation, an_unused_list, an_indirect_choice, a_one_sided_choice, idle_parts, two_sides, an_unused_object, a_known_operation, a_known_if, a_dead_if, an_unreached_statement, Clean}
+use Rattle.headline.specs.Clean.{IsDead, an_empty_statement, a_silent_statement, an_unused_function, an_unused_declarator, an_unused_import, a_known_conditional, a_known_side, an_unused_operation, an_unused_list, an_indirect_choice, a_one_sided_choice, idle_parts, two_sides, an_unused_object, a_known_operation, a_known_if, a_dead_if, an_unreached_statement, Clean}
 use Rattle.headline.proofs.RenotedUnused.{stands_as, needed_as, child_as, list_as}
 use Rattle.headline.proofs.RenotedChoice.{counts_as}
 use Rattle.headline.proofs.RenotedParts.{side_as, sequence_as}
@@ -284,6 +287,7 @@ record Twin (t : Forest) (a : Around) (k : Kind) (n : Note) (b : Forest) : Type 
   used : (us : ℕ → Use) (at : ℕ) → use_there us at around ≡ use_there us at a
   unused : (us : ℕ → Bool) (at : ℕ) → unused_there us at around ≡ unused_there us at a
   jumped : (j : Bool) → is_behind_jump j around ≡ is_behind_jump j a
+  imported : (r : ImportRow) → import_row r around ≡ import_row r a
   exposed : (es : ℕ → Exposure) (at : ℕ) → exposed_at es at around (a_node k note below) ≡ exposed_at es at a (a_node k n b)
   holds : (P : Bool → Context → ℕ → Type 0) (w : Bool) (cs : ℕ → Context) (at next : ℕ) → HoldsThere w cs at next a (a_node k n b) P → HoldsThere w cs at next around (a_node k note below) P
 
@@ -300,6 +304,7 @@ twin (first rest) k n b (node l m c r) e = record {
   used = λ us at. refl;
   unused = λ us at. refl;
   jumped = λ q. refl;
+  imported = λ r. refl;
   exposed = λ es at. refl;
   holds = λ P w cs at next h. h;
 }
@@ -317,6 +322,7 @@ twin (behind j i d a) k n b (node l m c r) e =
       used = λ us at. o.used us (suc at);
       unused = λ us at. o.unused us (suc at);
       jumped = λ q. o.jumped (q || is_jump j);
+      imported = o.imported;
       exposed = λ es at. o.exposed es (suc at);
       holds = λ P w cs at next h. subst (λ (q : ℕ). HoldsThere w cs (suc at) q o.around (a_node k o.note o.below) P) (sym (place_as next j m i c d (same_below e))) (o.holds P w cs (suc at) (next + scope_count (node j i d nothing)) h);
     }
@@ -334,6 +340,7 @@ twin (behind_none a) k n b (absent r) e =
       used = λ us at. o.used us (suc at);
       unused = λ us at. o.unused us (suc at);
       jumped = o.jumped;
+      imported = o.imported;
       exposed = λ es at. o.exposed es (suc at);
       holds = λ P w cs at next h. o.holds P w cs (suc at) next h;
     }
@@ -354,6 +361,7 @@ twin (under j i a rest) k n b (node l m c r) e =
       used = λ us at. o.used (λ i. use_below (us at) j i) 0;
       unused = λ us at. o.unused (λ i. is_unused_below (us at) j i) 0;
       jumped = λ q. o.jumped false;
+      imported = λ r. o.imported (import_row_below r j);
       exposed = λ es at. ap (λ (fs : ℕ → Exposure). exposed_at fs 0 o.around y) (sym (exposed_same (es at) j (plug a x) (plug o.around y) inner)) ∙ o.exposed (exposed_inside (es at) j (plug a x)) 0;
       holds = λ P w cs at next h.
           subst (λ (q : ℕ). HoldsThere (w || is_with j) (inside (cs at) next j (plug o.around y)) 0 (next + q) o.around y P) (opens_same j (plug a x) (plug o.around y) inner)
@@ -553,6 +561,23 @@ module _ (t u : Forest) (e : bare t ≡ bare u) (clean : Clean t) where
       clean.nothing_is_dead o.around (a_declarator o.note f.note x f.rest_now) there.0
       (an_unused_declarator o.around o.note f.note x f.rest_now (declares_as a o declares) there.1 there.2 there.3)
 
+  no_import : (a : Around) (k : Kind) (n m : Note) (x : List ℕ) → u ≡ plug a (an_imported k n m x) → binds_import k ≡ true → IsImported a → IsOwnDeclarator a (an_imported k n m x) → At a (an_imported k n m x) (FreeDeclarator u x) → ⊥
+  no_import a k n m x is binds imported own free =
+      let b = node (binding_name x) m nothing nothing in
+      let o = other_place a k n b is in
+      let f = begins o.below x m nothing o.same in
+      let below : o.below ≡ node (binding_name x) f.note nothing nothing = f.is ∙ ap (λ r. node (binding_name x) f.note nothing r) (nothing_bare f.rest_now (sym f.same)) in
+      let now : (t ≡ plug o.around (a_node k o.note o.below)) × ((exposure o.around (a_node k o.note o.below)).declared_shared || evaluates_somewhere (plug o.around (a_node k o.note o.below)) ≡ false)
+      × At o.around (a_node k o.note o.below) (FreeDeclarator t x) = (
+        o.is,
+        ap₂ (λ (q : Exposure) v. q.declared_shared || v) (exposure_as a o is) (evaluates_as a o is) ∙ own,
+        follows_there (FreeDeclarator u x) (FreeDeclarator t x) (λ v c i h. free_as t u e (named_in x c.declaring.layer) h) (a_node k o.note o.below) o.around false (λ at. outermost) 0 0
+            (o.holds (FreeDeclarator u x) false (λ at. outermost) 0 0 free),
+      ) in
+      let there = subst (λ d. (t ≡ plug o.around (a_node k o.note d)) × ((exposure o.around (a_node k o.note d)).declared_shared || evaluates_somewhere (plug o.around (a_node k o.note d)) ≡ false)
+      × At o.around (a_node k o.note d) (FreeDeclarator t x)) below now in
+      clean.nothing_is_dead o.around (an_imported k o.note f.note x) there.0 (an_unused_import o.around k o.note f.note x binds (o.imported elsewhere ∙ imported) there.1 there.2)
+
   bare_as : {k : Kind} {n : Note} {b : Forest} (a : Around) (o : Twin t a k n b) (j : Kind) (c d : Forest) → bare c ≡ bare d → MayStandBare a j d → MayStandBare o.around j c
   bare_as a o j c d same may =
       stands_as (use_at o.around) (asked_at (asked_of_program true) o.around).in_with j c d same
@@ -666,6 +691,7 @@ module _ (t u : Forest) (e : bare t ≡ bare u) (clean : Clean t) where
   none_dead a x is (a_silent_statement b n below silent) = no_silent b n below is silent
   none_dead a x is (an_unused_function b pure n m y rest item own free) = no_function b pure n m y rest is item own free
   none_dead a x is (an_unused_declarator b n m y value item own silent free) = no_declarator b n m y value is item own silent free
+  none_dead a x is (an_unused_import b k n m y binds imported own free) = no_import b k n m y is binds imported own free
   none_dead a x is (a_known_conditional b y z known) = no_conditional b y z is known
   none_dead a x is (a_known_side b y z known) = no_side b y z is known
   none_dead a x is (an_unused_operation b y z unused) = no_operation b y z is unused

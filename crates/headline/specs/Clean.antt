@@ -1,15 +1,19 @@
 -- What a program without dead code is: read off its tree alone, by the bindings of its names.
-use Rattle.std.specs.Prelude.{◌≡◌, ℕ, List, Bool, Option, Some}
+use Rattle.std.specs.Prelude.{◌≡◌, ℕ, List, Bool, true, Option, Some}
+use Rattle.js_syntax.specs.declared.node_kind.NodeKind.{NodeKind as Kind}
 use Rattle.js_syntax.specs.declared.node_kind.NodeKind.TheVariants.{EmptyStatement as empty_statement, ExpressionStatement as expression_statement, BindingName as binding_name}
 use Rattle.js_syntax.specs.declared.kind.VariableKind.TheVariants as variable
 use Rattle.js_syntax.specs.Node.{Forest, Tree, Note, nothing, node}
 use Rattle.scope_laws.specs.Place.{Around, plug}
 -- where a node stands; what is silent there; which binding no reference has and no export is of
+use Rattle.steps.specs.Steps.{binds_import}
+use Rattle.steps_allowed.specs.Imports.{IsImported}
 use Rattle.steps_allowed.specs.Places.{a_node, IsItem, IsDeclarator, At}
 use Rattle.steps_allowed.specs.Free.{Free, FreeDeclarator}
 use Rattle.steps_allowed.specs.SilentStatement.{SilentStatement}
 use Rattle.steps_allowed.specs.UnusedFunction.{a_function}
 use Rattle.steps_allowed.specs.UnusedDeclarator.{a_declarator, SilentDeclarator}
+use Rattle.steps_allowed.specs.UnusedImport.{an_imported}
 -- what is decided by what is known, and the part that counts, which may stand in its place
 use Rattle.steps_allowed.specs.KnownConditional.{KnownConditional}
 use Rattle.steps_allowed.specs.KnownSide.{KnownSide}
@@ -50,6 +54,9 @@ pub data IsDead (t : Forest) : Around → Option Tree → Type 0 where
   -- or none
   an_unused_declarator : (a : Around) (n m : Note) (x : List ℕ) (value : Forest) → IsDeclarator a → IsOwnDeclarator a (a_declarator n m x value)
       → At a (a_declarator n m x value) (SilentDeclarator t (node (binding_name x) m nothing value)) → At a (a_declarator n m x value) (FreeDeclarator t x) → IsDead t a (a_declarator n m x value)
+  -- a name of an import that nothing refers to, no export is of and no other code may use: the import itself stays, for its module is
+  -- loaded
+  an_unused_import : (a : Around) (k : Kind) (n m : Note) (x : List ℕ) → binds_import k ≡ true → IsImported a → IsOwnDeclarator a (an_imported k n m x) → At a (an_imported k n m x) (FreeDeclarator t x) → IsDead t a (an_imported k n m x)
   -- a conditional whose condition does nothing but give a value, of which its form tells whether it is true, if the branch that is
   -- taken may stand in its place: the other is never evaluated
   a_known_conditional : (a : Around) (x y : Tree) → KnownConditional a x y → IsDead t a (Some x)

@@ -21,7 +21,7 @@ use Rattle.js_meaning.specs.Meaning.{does, if_core, eval, take_this, run_code, e
 use Rattle.js_meaning.specs.Run.{finish, finally, module_does, as_value, first_state, seen, run_within, run}
 use Rattle.js_meaning.specs.Kept.{keeps, Keeps, Kept, refines, Refines, Refined}
 use Rattle.js_meaning_near.specs.Names.{Status, known, exactly, Decls, Names, Usable}
-use Rattle.js_meaning_near.specs.Near.{Permits, ComesTo, comes_to, behind_jump, meaning, Silent, NoField, Change, statement_emptied, no_statement_emptied, near_silent, same_effects, wastes_more, one_sided, shorter, LooseModule, loose_module, value_read, Row, fields, items, ReceiverOk, is_row, Near, near_nothing, near_absent, near_node, near_closure, near_hoisted, near_unread, near_known, near_uncovered, changed, leaves, Code, near_code, ExportsOk, NearModule, near_module, module_of, sign_applied}
+use Rattle.js_meaning_near.specs.Near.{Permits, ComesTo, comes_to, behind_jump, meaning, Silent, NoField, Change, statement_emptied, no_statement_emptied, near_silent, same_effects, wastes_more, one_sided, shorter, LooseModule, loose_module, value_read, Row, fields, items, ReceiverOk, is_row, Near, near_nothing, near_absent, near_node, near_closure, near_hoisted, near_unread, near_known, near_uncovered, near_import, changed, leaves, Code, near_code, ExportsOk, NearModule, near_module, module_of, sign_applied}
 use Rattle.js_meaning_near.proofs.Worlds.{any_value, only_value, both, slack, In, here, Links, Rule, World, same, no_links, slack_links, no_both, not_in}
 use Rattle.js_meaning_near.proofs.Relations.{HoldsCell, SameSlot, same_local, same_import, as_many, CallEnds, call_gives, call_uncovered, call_out, At, at_nowhere, at_loose, at_live, at_known, at_dead, at_unread, Envs, Same, same_plain, SameOpt, same_none, same_some, SameAll, all_nil, SameCompletion, same_normal, same_gives, same_gives_all, same_refers, same_breaks, same_continues, same_returns, same_throws, SameExports, no_exports, an_export, SameAsk, same_run, same_value, same_place, same_take, same_take_all, same_declares, same_collect, same_entry, same_matches, States, Follows, both_go, both_stop, old_stops, old_out, Acts, Means, Tasks, same_body, same_turn, same_back, Enters, same_later, all_later}
 use Rattle.js_meaning_near.proofs.Acts.{bind_acts, give_both, stop_acts, unknown_acts, normal_acts, value_acts, seq_acts, set_exports_acts, spend_acts, give_acts, give_right}
@@ -83,6 +83,11 @@ no_statement_acts : {w : World} {u : Purpose} {q z : Ask} (E : Enter) (e f : Env
 no_statement_acts E e f a b x same_run = alone_nothing (no_expression E a _ x)
 no_statement_acts E e f a b x _ = unknown_acts
 
+-- an import does nothing where it stands
+import_acts : {w : World} {u : Purpose} {q z : Ask} (E : Enter) (source : Text) (e f : Env) (a b : Forest) → SameAsk w u q z → Acts w (meaning E (Kind.ImportDeclaration source) a q e) (meaning E (Kind.ImportDeclaration source) b z f)
+import_acts E source e f a b same_run = normal_acts
+import_acts E source e f a b _ = unknown_acts
+
 change_means : {u : Purpose} {st : Names} {k l : Kind} {a b : Forest} (E : Enter) → Change st k a l b → Means u st (meaning E k a) (meaning E l b)
 change_means E (value_read {x = x} {v = v} {a = a} {b = b} y g) = any_means (λ w e f q z o r s. read_acts x v e f E a b (subst (λ t. At w t (look e x) (look f x)) y (r.at x)) g s)
 change_means E (sign_applied {i = i} {m = m} {a = a} {b = b} {r = c} y) = any_means (λ w e f q z o r s. sign_acts i E e f m a b c y s)
@@ -142,6 +147,7 @@ near_rows E n (near_silent {us = us} {p = p} {pure = pure} {a = a} {b = b} {c = 
 near_rows E n (near_known {us = us} {q = q} {x = x} {v = v} {i = i} {j = j} {k = k} {l = l} {a = a} {b = b} {e = c1} {f = d1} {r = r1} {s = s1} {c = c} {d = d} y g t) =
     rows_with E q us c d (part (any_means (λ w e f ask fellow u r s. known_does x v e f E i j k l a b c1 d1 r1 s1 (subst (λ t. At w t (look e x) (look f x)) y (r.at x)) g s))) (near_rows E n t)
 near_rows E n (near_uncovered {us = us} {p = p} {k = k} {a = a} {b = b} {c = c} {d = d} y t) = rows_with E p us c d (part (uncovered_means (does E k a (eval E a)) (does E k b (eval E b)) (is_core k) y)) (near_rows E n t)
+near_rows E n (near_import {us = us} {p = p} {source = source} {a = a} {b = b} {c = c} {d = d} t) = rows_with E p us c d (part (any_means (λ w e f ask fellow u r s. import_acts E source e f a b s))) (near_rows E n t)
 near_rows E n (changed {us = us} {p = p} {c = c} {d = d} q t) = rows_with E p us c d (part (change_means E q)) (near_rows E n t)
 near_rows E n (same_effects {us = us} {p = p} {a = a} {b = b} {c = c} {d = d} {ps = ps} {qs = qs} q o t) = rows_with E p us c d (part (any_means (λ w e f ask fellow u r s. statement_acts E n a b ps qs q (near_rows E n o) r s))) (near_rows E n t)
 near_rows E n (comes_to {us = us} {p = p} {l = l} {i = i} {j = j} {b = b} {c = c} {d = d} q o t) = rows_with E p us c d (part (comes_means E q (part_means E l i j b (near_rows E n o)))) (near_rows E n t)
@@ -163,6 +169,7 @@ near_behind (near_unread q g h c) = c
 near_behind (near_silent q g h u d c) = c
 near_behind (near_known q v c) = c
 near_behind (near_uncovered y c) = c
+near_behind (near_import c) = c
 near_behind (changed q c) = c
 near_behind (same_effects q t c) = c
 near_behind (comes_to q t c) = c

@@ -16,7 +16,7 @@ use Rattle.js_meaning.specs.Expression.{receiver_of, fill_own, function_value, w
 use Rattle.js_meaning.specs.Statement.{for_does, catch_does}
 use Rattle.js_meaning.specs.Meaning.{default_does, does}
 use Rattle.js_meaning_near.specs.Names.{known, silent_function, unread, Names, Fillable, FillableIf, Decls, Copied, declared, names_below}
-use Rattle.js_meaning_near.specs.Near.{Idle, idle_empty, idle_expression, idle_no_expression, idle_function, idle_declarator, idle_bare_declarator, idle_cut_declarator, idle_declaration, statement_emptied, no_statement_emptied, value_read, SilentCode, near_silent, Row, fields, switch_fields, items, row_below, HoldsCases, Okay, key_of, keys, Heads, IsClosure, hoists_nothing, Unreached, goes_here, goes_behind, goes_behind_none, Near, behind_jump, wastes_more, one_sided, shorter, comes_to, near_nothing, near_absent, near_node, near_closure, near_hoisted, near_unread, near_known, near_uncovered, changed, same_effects, leaves, Code, sign_applied}
+use Rattle.js_meaning_near.specs.Near.{Idle, idle_empty, idle_expression, idle_no_expression, idle_function, idle_declarator, idle_bare_declarator, idle_cut_declarator, idle_declaration, statement_emptied, no_statement_emptied, value_read, SilentCode, near_silent, Row, fields, switch_fields, items, row_below, HoldsCases, Okay, key_of, keys, Heads, IsClosure, hoists_nothing, Unreached, goes_here, goes_behind, goes_behind_none, Near, behind_jump, wastes_more, one_sided, shorter, comes_to, near_nothing, near_absent, near_node, near_closure, near_hoisted, near_unread, near_known, near_uncovered, near_import, changed, same_effects, leaves, Code, sign_applied}
 use Rattle.js_meaning_near.specs.Purpose.{Purpose, for_value, for_effect, ForEffect, Purposes, for_values, loop_purposes, wanted_below}
 use Rattle.js_meaning_near.proofs.Worlds.{World}
 use Rattle.js_meaning_near.proofs.Relations.{At, Envs, Same, same_plain, same_closure, same_object, same_array, SameContent, same_empty, same_element, same_property, SameAll, all_nil, all_cons, same_gives, same_refers, same_at_member, same_breaks, same_continues, same_returns, same_throws, SameAsk, ActsForEffect, same_run, same_value, same_place, same_take, same_take_all, same_declares, same_collect, same_entry, same_matches, Acts, Means, same_turn, Enters, envs_later, same_later, all_later}
@@ -96,6 +96,7 @@ default_starts i j (near_uncovered {k = Kind.Function function_kind.Declaration 
 default_starts i j (near_uncovered {k = Kind.Function function_kind.Expression pure} o c) y r x z = absurd (true_false o)
 default_starts i j (near_uncovered {k = Kind.Function function_kind.Arrow pure} o c) y r x z = absurd (true_false o)
 default_starts i j (near_uncovered o c) y r x z = x
+default_starts i j (near_import c) y r x z = x
 default_starts i j (changed (statement_emptied q) c) y r x z = x
 default_starts i j (changed (no_statement_emptied q) c) y r x z = x
 default_starts i j (changed (value_read q v) c) y r x z = x
@@ -159,6 +160,7 @@ start_acts s (near_uncovered {k = Kind.ExportDefaultDeclaration} y c) r x = absu
 start_acts s (near_uncovered {k = Kind.Cases} y c) r x = absurd (true_false y)
 start_acts s (near_uncovered {k = Kind.Function function_kind.Declaration pure} y c) r x = absurd (true_false y)
 start_acts s (near_uncovered y c) r x = start_acts s c r x
+start_acts s (near_import c) r x = start_acts s c r x
 start_acts s (changed (statement_emptied q) c) r x = start_acts s c r x
 start_acts s (changed (no_statement_emptied q) c) r x = start_acts s c r x
 start_acts s (changed (value_read q v) c) r x = start_acts s c r x
@@ -187,6 +189,7 @@ first_ask_same (near_unread q g h c) = same_now
 first_ask_same (near_silent q g h u d c) = same_now
 first_ask_same (near_known q v c) = same_now
 first_ask_same (near_uncovered {k = k} y c) = ask_by_same (is_statement k)
+first_ask_same (near_import c) = same_now
 first_ask_same (changed (statement_emptied q) c) = same_now
 first_ask_same (changed (no_statement_emptied q) c) = same_now
 first_ask_same (changed (value_read q v) c) = same_now
@@ -297,6 +300,7 @@ default_acts (near_uncovered {k = Kind.Function function_kind.Declaration pure} 
 default_acts (near_uncovered {k = Kind.Function function_kind.Expression pure} o c) y x r = absurd (true_false o)
 default_acts (near_uncovered {k = Kind.Function function_kind.Arrow pure} o c) y x r = absurd (true_false o)
 default_acts (near_uncovered o c) y x r = default_value y x r
+default_acts (near_import c) y x r = default_value y x r
 default_acts (changed (statement_emptied q) c) y x r = default_value y x r
 default_acts (changed (no_statement_emptied q) c) y x r = default_value y x r
 default_acts (changed (value_read q v) c) y x r = default_value y x r

@@ -243,6 +243,8 @@ mutual
         → Code st function_kind.Declaration a b → Near (purposes_behind us) p st c d → Near us p st (node (Kind.Function function_kind.Declaration pure) n a c) (node (Kind.Function function_kind.Declaration pure) m b d)
     -- nothing is said of what a node does that isn't core
     near_uncovered : {us : Purposes} {p : Row} {st : Names} {k : Kind} {n m : Note} {a b c d : Forest} → is_core k ≡ false → Near (purposes_behind us) p st c d → Near us p st (node k n a c) (node k m b d)
+    -- an import, whatever names it binds: what it does is done where the module is linked
+    near_import : {us : Purposes} {p : Row} {st : Names} {source : Text} {n m : Note} {a b c d : Forest} → Near (purposes_behind us) p st c d → Near us p st (node (Kind.ImportDeclaration source) n a c) (node (Kind.ImportDeclaration source) m b d)
     -- a node for another
     changed : {us : Purposes} {p : Row} {st : Names} {k l : Kind} {n m : Note} {a b c d : Forest} → Change st k a l b → Near (purposes_behind us) p st c d → Near us p st (node k n a c) (node l m b d)
     -- a part for the expression that comes to it, as far as is wanted there

@@ -26,6 +26,7 @@ use Rattle.steps_told.proofs.Nested.{parents_alone}
 use Rattle.steps_told.proofs.Refreshed.{refreshed_tells_only, refreshed_nests}
 use Rattle.rules_dead_code.specs.Knows.{Knows}
 use Rattle.rules_dead_code.specs.Quiet.{IsQuiet}
+use Rattle.rules_imports.specs.Quiet.{ImportsUsed}
 use Rattle.rules_expressions.specs.Settled.{IsSettled}
 use Rattle.min_context.specs.Completing.{table_anew, completed}
 use Rattle.min_context.specs.IsTrue.{IsTrue}
@@ -76,10 +77,10 @@ module _ (names : Names) (c : Seen) (t : Forest) (b : BetweenPasses names c t) w
   exact = pruned_exact t b.holds.fits unmarked c.scoping c.scoping (none_pruned c.scoping) (exact_by c.scoping (has c.marked) unmarked t (none_has c b.marks) b.holds.lists)
 
   -- where nothing goes, and no expression comes to its parts
-  pub no_dead_code : IsQuiet (facts_of names c) t → IsSettled t → Clean t
-  no_dead_code quiet settled =
+  pub no_dead_code : IsQuiet (facts_of names c) t → ImportsUsed (facts_of names c) t → IsSettled t → Clean t
+  no_dead_code quiet used settled =
       let k : Knows (facts_of names c) unmarked t = record { fits = b.holds.fits; exact = exact_by c.scoping (has c.marked) unmarked t (none_has c b.marks) b.holds.lists; flags = b.flags; outermost = b.outermost; bound = b.bound; exported = b.exported; script = b.source } in
-      clean (facts_of names c) t k (record { flags = b.flags_only; exported = b.exported_only }) quiet settled
+      clean (facts_of names c) t k (record { flags = b.flags_only; exported = b.exported_only }) quiet used settled
 
 -- ---- behind a walk
 

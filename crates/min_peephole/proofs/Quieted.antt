@@ -17,6 +17,9 @@ use Rattle.exported_names.proofs.New.{known, only}
 use Rattle.rules_dead_code.specs.Quiet.{EachNode, IsQuietAt}
 use Rattle.rules_dead_code.specs.Rules.{Facts, where_of, is_silent_statement, has_dead}
 use Rattle.rules_dead_code.proofs.Walked.{quiet_nodes}
+use Rattle.rules_imports.specs.Rules.{pruned}
+use Rattle.rules_imports.specs.Quiet.{IsUsedAt}
+use Rattle.rules_imports.proofs.Walked.{imports_used}
 use Rattle.rules_expressions.specs.Uses.{spot_of}
 use Rattle.rules_expressions.specs.Known.{conditional_becomes, logical_becomes}
 use Rattle.rules_expressions.specs.Unused.{unused_becomes}
@@ -31,7 +34,7 @@ use Rattle.rules_expressions.specs.Ifs.{if_becomes}
 use Rattle.rules_expressions.specs.Jumps.{list_reached}
 use Rattle.rules_expressions.specs.Settled.{IsSettledAt}
 use Rattle.rules_expressions.proofs.Walked.{settled_nodes}
-use Rattle.min_peephole.specs.Quiet.{first_facts, is_row, decides_none, wastes_none, keeps_parts, computes_none, stays, all_stay, is_quiet}
+use Rattle.min_peephole.specs.Quiet.{first_facts, is_row, uses_names, decides_none, wastes_none, keeps_parts, computes_none, stays, all_stay, is_quiet}
 use Rattle.rules_clean.proofs.Cleaned.{clean}
 
 list_stays : (k : Kind) (dead : Bool) → not (is_row k && dead) ≡ true → k ≡ statements → dead ≡ false
@@ -56,14 +59,23 @@ module _ (f : Facts) (p : Place) (n : Note) (k : Kind) (inner : Forest) (h : sta
   abbrev is_settled : Bool
   is_settled = decides_none p n k inner && (wastes_none p n k inner && (keeps_parts p n k inner && computes_none n k inner))
 
-  at_node : (not one_goes ≡ true) × (not is_silent && is_settled ≡ true)
-  at_node = and_parts (not one_goes) (not is_silent && is_settled) h
+  abbrev uses_all : Bool
+  uses_all = uses_names f p n k inner
+
+  at_node : (not one_goes ≡ true) × (not is_silent && (uses_all && is_settled) ≡ true)
+  at_node = and_parts (not one_goes) (not is_silent && (uses_all && is_settled)) h
+
+  at_statement : (not is_silent ≡ true) × (uses_all && is_settled ≡ true)
+  at_statement = and_parts (not is_silent) (uses_all && is_settled) at_node.1
+
+  at_import : (uses_all ≡ true) × (is_settled ≡ true)
+  at_import = and_parts uses_all is_settled at_statement.1
 
   abbrev keeps_all : Bool
   keeps_all = keeps_parts p n k inner && computes_none n k inner
 
   at_expression : (decides_none p n k inner ≡ true) × (wastes_none p n k inner && keeps_all ≡ true)
-  at_expression = and_parts (decides_none p n k inner) (wastes_none p n k inner && keeps_all) (and_parts (not is_silent) is_settled at_node.1).1
+  at_expression = and_parts (decides_none p n k inner) (wastes_none p n k inner && keeps_all) at_import.1
 
   at_parts : (wastes_none p n k inner ≡ true) × (keeps_all ≡ true)
   at_parts = and_parts (wastes_none p n k inner) keeps_all at_expression.1
@@ -72,7 +84,10 @@ module _ (f : Facts) (p : Place) (n : Note) (k : Kind) (inner : Forest) (h : sta
   at_values = and_parts (keeps_parts p n k inner) (computes_none n k inner) at_parts.1
 
   quiet_here : IsQuietAt f p (record { kind = k; note = n; below = inner })
-  quiet_here = record { list = list_stays k (has_dead f (where_of p) inner) at_node.0; statement = none_empty is_silent _ (and_parts (not is_silent) is_settled at_node.1).0 }
+  quiet_here = record { list = list_stays k (has_dead f (where_of p) inner) at_node.0; statement = none_empty is_silent _ at_statement.0 }
+
+  used_here : IsUsedAt f p (record { kind = k; note = n; below = inner })
+  used_here = none_there (pruned f (where_of p) (record { kind = k; note = n; below = inner })) at_import.0
 
   settled_here : IsSettledAt p (record { kind = k; note = n; below = inner })
   settled_here =
@@ -120,4 +135,4 @@ quiet_clean t fits quiet =
     let f = first_facts t in
     clean_as (numbered t) t (numbered_same t)
     (clean f (numbered t) (known t fits) (record { flags = new_told_only t fits; exported = only t }) (quiet_nodes f (numbered t) (each_stays (IsQuietAt f) f (quiet_here f) top (numbered t) quiet))
-    (settled_nodes (numbered t) (each_stays IsSettledAt f (settled_here f) top (numbered t) quiet)))
+    (imports_used f (numbered t) (each_stays (IsUsedAt f) f (used_here f) top (numbered t) quiet)) (settled_nodes (numbered t) (each_stays IsSettledAt f (settled_here f) top (numbered t) quiet)))

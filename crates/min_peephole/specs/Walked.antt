@@ -6,6 +6,7 @@ use Rattle.symbol_sets.specs.Numbers.{has}
 use Rattle.steps_allowed.specs.Edits.{TreeEdits}
 use Rattle.rules_dead_code.specs.Knows.{Knows}
 use Rattle.rules_dead_code.specs.Quiet.{IsQuiet}
+use Rattle.rules_imports.specs.Quiet.{ImportsUsed}
 use Rattle.rules_expressions.specs.Settled.{IsSettled}
 use Rattle.min_context.specs.IsTrue.{IsTrue}
 use Rattle.min_context.specs.Place.{outside}
@@ -26,4 +27,5 @@ pub record Walked (names : Names) (c : Seen) (t : Forest) (later : Names) (d : S
   pub names_same : d.requested ≡ false → later ≡ names
   pub context_same : d.requested ≡ false → d ≡ c
   pub quiet : d.requested ≡ false → IsQuiet (facts_of later d) u
+  pub uses_imports : d.requested ≡ false → ImportsUsed (facts_of later d) u
   pub settled : d.requested ≡ false → IsSettled u

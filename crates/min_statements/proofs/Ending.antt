@@ -1,4 +1,4 @@
--- What the hook of statements does: a silent one becomes empty, or else an `if` what is known of it.
+-- What the hook of statements does: a silent one becomes empty, or else an `if` what is known of it, or else names leave an import.
 use Rattle.std.proofs.Common.{◌≡◌, ◌∙◌, Bool, true, false, ◌||◌, Option, Some, None, is_some, if◌then◌else◌, refl, sym, ap, subst, true≢false}
 use Rattle.js_syntax.specs.Node.{Forest, Tree}
 use Rattle.scope_counts.specs.Edits.{Around}
@@ -7,16 +7,18 @@ use Rattle.min_context.specs.Seen.{Seen}
 use Rattle.min_traverse.specs.Lawful.{Rule, Stays, Does, or_same}
 use Rattle.min_traverse.specs.Moves.{Holds, IsHere, NodeMoves}
 use Rattle.rules_dead_code.specs.Before.{before}
-use Rattle.rules_dead_code.specs.Rules.{where_of, is_silent_statement, emptied}
+use Rattle.rules_dead_code.specs.Rules.{where_of, is_silent_statement}
 use Rattle.rules_expressions.specs.Ifs.{if_becomes, fold_if}
+use Rattle.rules_imports.specs.Rules.{pruned}
 use Rattle.rules_expressions.proofs.Folding.{ifs_fold}
-use Rattle.min_statements.specs.Acts.{empty}
-use Rattle.min_statements.specs.Own.{AnyEdit, Own, Found}
+use Rattle.min_statements.specs.Acts.{empty, prune}
+use Rattle.min_statements.specs.Own.{AnyEdit, Own, Found, statement_changes}
 use Rattle.min_statements.specs.Walker.{Names, facts_of}
-use Rattle.min_statements.proofs.Acting.{asked_true, empty_moves}
+use Rattle.min_statements.proofs.Acting.{asked_true}
 use Rattle.min_statements.proofs.Calls.{CallsStay}
 use Rattle.min_statements.proofs.Expressions.{rule_moves, rule_visits}
 use Rattle.min_statements.proofs.Branches.{if_calls}
+use Rattle.min_statements.proofs.Pruning.{prune_moves}
 
 -- a call that did nothing
 record Stayed (c : Seen) (x : Tree) (d : Seen) (y : Tree) : Type 0 where
@@ -29,6 +31,13 @@ none_is (Some y) e = absurd (true≢false (sym e))
 
 nothing_done : {c d : Seen} {x y : Tree} (rule : Rule) → Does rule c x false d y → Stayed c x d y
 nothing_done {c = c} {x = x} rule does = record { tree = does.tree ∙ ap (or_same x) (none_is (rule c x) (sym (sym does.answers))); context = does.edited.none (sym does.answers) }
+
+-- the next call finds what it left as it was
+after_nothing : {c k d : Seen} {x z y : Tree} {answer : Bool} (rule next : Rule) → Does rule c x false k z → Does next k z answer d y → Does next c x answer d y
+after_nothing {c = c} {k = k} {d = d} {x = x} {z = z} {y = y} {answer = answer} rule next first second =
+    let same = nothing_done rule first in
+    let here : Does next c z answer d y = subst (λ q. Does next q z answer d y) same.context second in
+    subst (λ q. Does next c q answer d y) same.tree here
 
 -- and one that did something asked for another pass
 done_asks : {P : Type 0} {c d : Seen} {x y : Tree} (rule : Rule) → Does rule c x true d y → d.requested ≡ false → P
@@ -45,28 +54,32 @@ if_calls_stay : (c : Seen) (a : Around) (x y : Tree) (r : Forest) → IsHere c a
 if_calls_stay c a x y r here found = if_calls (before a r) x y found
 
 module _ (stays : Stays AnyEdit) (names : Names) where
-  if_moves : {c d : Seen} {x y : Tree} {answer : Bool} → Does fold_if c x answer d y → NodeMoves Names AnyEdit (Holds Own) names c x names d y
-  if_moves does = rule_moves stays names fold_if (ifs_fold AnyEdit (λ o t u e. e)) if_calls_stay does
+  pub fold_moves : {c k d : Seen} {x z y : Tree} {answer : Bool} → Does (empty names) c x false k z → Does fold_if k z answer d y → NodeMoves Names AnyEdit (Holds Own) names c x names d y
+  fold_moves first second = rule_moves stays names fold_if (ifs_fold AnyEdit (λ o t u e. e)) if_calls_stay (after_nothing (empty names) fold_if first second)
 
-  -- the second call finds what the first one left as it was
-  pub statement_moves : {c k d : Seen} {x z y : Tree} {answer : Bool} → Does (empty names) c x false k z → Does fold_if k z answer d y → NodeMoves Names AnyEdit (Holds Own) names c x names d y
-  statement_moves {c = c} {k = k} {d = d} {x = x} {z = z} {y = y} {answer = answer} first second =
-      let same = nothing_done (empty names) first in
-      let here : Does fold_if c z answer d y = subst (λ q. Does fold_if q z answer d y) same.context second in
-      if_moves (subst (λ q. Does fold_if c q answer d y) same.tree here)
+  pub statement_moves : {c k l d : Seen} {x z v y : Tree} {answer : Bool} → Does (empty names) c x false k z → Does fold_if k z false l v → Does (prune names) l v answer d y → NodeMoves Names AnyEdit (Holds Own) names c x names d y
+  statement_moves first second third = prune_moves stays names (after_nothing (empty names) (prune names) first (after_nothing fold_if (prune names) second third))
 
 -- nothing becomes of it
 abbrev FoundNothing : Names → Seen → Tree → Seen → Type 0
-FoundNothing names c x d = Found (is_silent_statement (facts_of names c) (where_of c.place) x.kind x.below || is_some (if_becomes x.note x.kind x.below)) names c names d
+FoundNothing names c x d = Found (statement_changes (facts_of names c) (where_of c.place) x) names c names d
 
 module _ (names : Names) {d : Seen} (quiet : d.requested ≡ false) where
   pub emptied_visits : {c : Seen} {x y : Tree} → Does (empty names) c x true d y → FoundNothing names c x d
   emptied_visits does = done_asks (empty names) does quiet
 
-  pub statement_visits : {c k : Seen} {x z y : Tree} {answer : Bool} → Does (empty names) c x false k z → Does fold_if k z answer d y → FoundNothing names c x d
-  statement_visits {c = c} {k = k} {x = x} {z = z} {y = y} {answer = answer} first second =
-      let same = nothing_done (empty names) first in
-      let here : Does fold_if c z answer d y = subst (λ q. Does fold_if q z answer d y) same.context second in
-      let found = rule_visits names quiet fold_if (subst (λ q. Does fold_if c q answer d y) same.tree here) in
-      let silent = none_silent (is_silent_statement (facts_of names c) (where_of c.place) x.kind x.below) _ first.answers in
-      record { names_same = found.names_same; context_same = found.context_same; none = ap (λ b. b || is_some (if_becomes x.note x.kind x.below)) silent ∙ found.none }
+  pub fold_visits : {c k : Seen} {x z y : Tree} → Does (empty names) c x false k z → Does fold_if k z true d y → FoundNothing names c x d
+  fold_visits first second = done_asks fold_if (after_nothing (empty names) fold_if first second) quiet
+
+  pub statement_visits : {c k l : Seen} {x z v y : Tree} {answer : Bool} → Does (empty names) c x false k z → Does fold_if k z false l v → Does (prune names) l v answer d y → FoundNothing names c x d
+  statement_visits {c = c} {x = x} first second third =
+      let f = facts_of names c in
+      let w = where_of c.place in
+      let folds = after_nothing (empty names) fold_if first second in
+      let found = rule_visits names quiet (prune names) (after_nothing (empty names) (prune names) first (after_nothing fold_if (prune names) second third)) in
+      let silent = none_silent (is_silent_statement f w x.kind x.below) _ first.answers in
+      record {
+        names_same = found.names_same;
+        context_same = found.context_same;
+        none = ap (λ b. b || is_some (if_becomes x.note x.kind x.below) || is_some (pruned f w x)) silent ∙ ap (λ b. b || is_some (pruned f w x)) (sym folds.answers) ∙ found.none;
+      }

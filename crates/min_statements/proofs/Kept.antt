@@ -3,11 +3,12 @@ use Rattle.std.proofs.Common.{◌≡◌, ◌∙◌, ◌<◌, ◌≤◌, ◌+◌,
 use Rattle.std.specs.Prelude.{filter}
 use Rattle.std.proofs.lemmas.List.{take-append-le, take_all}
 use Rattle.js_syntax.specs.declared.node_kind.NodeKind.{NodeKind as Kind}
-use Rattle.js_syntax.specs.declared.node_kind.NodeKind.TheVariants.{Declarators as declarators}
+use Rattle.js_syntax.specs.declared.node_kind.NodeKind.TheVariants.{Declarators as declarators, Specifiers as specifiers}
 use Rattle.js_syntax.specs.declared.kind.VariableKind.{VariableKind}
 use Rattle.js_syntax.specs.Node.{Forest, Tree, Note, nothing, node, absent, alone, joined, row}
 use Rattle.rules_dead_code.specs.Rules.{Facts, Where, declarator_goes, declarators_left, item_goes, declaration_left, item_left, trimmed}
-use Rattle.min_statements.specs.Shed.{is_dead_declarator, is_dead_item, kept_items, each_left, left_of}
+use Rattle.rules_imports.specs.Rules.{specifier_goes, names_left, import_left}
+use Rattle.min_statements.specs.Shed.{is_dead_declarator, is_dead_item, is_unused_specifier, kept_items, each_left, left_of}
 
 -- ---- those that stay
 
@@ -24,6 +25,11 @@ pub items_kept : (f : Facts) (w : Where) (ts : List (Option Tree)) → row (filt
 items_kept f w [] = refl
 items_kept f w (None ∷ ts) = ap absent (items_kept f w ts)
 items_kept f w (Some t ∷ ts) = kept (item_goes f w t.kind t.below) t (filter (λ x. not (is_dead_item f w x)) ts) (kept_items f w (row ts)) (items_kept f w ts)
+
+pub specifiers_kept : (f : Facts) (w : Where) (ts : List (Option Tree)) → row (filter (λ x. not (is_unused_specifier f w x)) ts) ≡ names_left f w (row ts)
+specifiers_kept f w [] = refl
+specifiers_kept f w (None ∷ ts) = ap absent (specifiers_kept f w ts)
+specifiers_kept f w (Some t ∷ ts) = kept (specifier_goes f w t.kind t.below) t (filter (λ x. not (is_unused_specifier f w x)) ts) (names_left f w (row ts)) (specifiers_kept f w ts)
 
 one_left : (f : Facts) (w : Where) (g : Bool) (k : Kind) (n : Note) (b r l : Forest) → each_left f w r ≡ l → each_left f w (if g then r else node k n b r) ≡ (if g then l else node k n (item_left f w k b) l)
 one_left f w true k n b r l e = e
@@ -86,6 +92,24 @@ first_left f w how (z ∷ zs) x y l e = joined_one y zs ∙ ap (λ t. joined t (
 pub none_left : (f : Facts) (w : Where) (how : VariableKind) (xs : List (Option Tree)) → length xs ≡ 0 → row xs ≡ declaration_left f w how (row xs)
 none_left f w how [] e = refl
 none_left f w how (x ∷ xs) e = absurd (Prim.omega (arith, e))
+
+-- ---- the list that an import has
+
+pub only_left : (f : Facts) (w : Where) (xs : List (Option Tree)) (x y : Option Tree) → length xs ≡ 1 → row (y ∷ []) ≡ import_left f w (row (get_or xs 0 x ∷ [])) → row (set xs 0 y) ≡ import_left f w (row xs)
+only_left f w [] x y l e = absurd (Prim.omega (arith, l))
+only_left f w (z ∷ []) x y l e = e
+only_left f w (z ∷ v ∷ zs) x y l e = absurd (Prim.omega (arith, l))
+
+others_stay : (f : Facts) (w : Where) (k : Kind) (n : Note) (b : Forest) (x : Option Tree) (xs : List (Option Tree)) → node k n b (row (x ∷ xs)) ≡ import_left f w (node k n b (row (x ∷ xs)))
+others_stay f w specifiers n b None xs = refl
+others_stay f w specifiers n b (Some x) xs = refl
+others_stay f w k n b x xs = refl
+
+pub no_list : (f : Facts) (w : Where) (xs : List (Option Tree)) → (length xs ≡ 1 → ⊥) → row xs ≡ import_left f w (row xs)
+no_list f w [] l = refl
+no_list f w (x ∷ []) l = absurd (l (Prim.omega arith))
+no_list f w (None ∷ y ∷ xs) l = refl
+no_list f w (Some x ∷ y ∷ xs) l = others_stay f w x.kind x.note x.below y xs
 
 -- ---- a node with other children
 

@@ -7,6 +7,7 @@ mod Calls
 mod Acting
 mod Expressions
 mod Branches
+mod Pruning
 mod Ending
 mod Seeing
 mod Emptying

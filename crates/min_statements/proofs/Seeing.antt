@@ -2,7 +2,7 @@
 use Rattle.std.proofs.Common.{◌≡◌, ◌∙◌, Bool, false, true, ◌||◌, if◌then◌else◌, Option, Some, None, is_some, refl, sym, ap, subst, true≢false}
 use Rattle.js_syntax.specs.Class.{root}
 use Rattle.js_syntax.specs.declared.node_kind.NodeKind.{NodeKind as Kind}
-use Rattle.js_syntax.specs.declared.node_kind.NodeKind.TheVariants.{ExpressionStatement as expression_statement, EmptyStatement as empty_statement, IfStatement as if_statement, ArrayExpression as array_expression, ObjectExpression as object_expression, UnaryExpression as unary_expression, BinaryExpression as binary_expression, SequenceExpression as sequence_expression, ConditionalExpression as conditional_expression, LogicalExpression as logical_expression}
+use Rattle.js_syntax.specs.declared.node_kind.NodeKind.TheVariants.{ExpressionStatement as expression_statement, EmptyStatement as empty_statement, IfStatement as if_statement, ImportDeclaration as import_declaration, ArrayExpression as array_expression, ObjectExpression as object_expression, UnaryExpression as unary_expression, BinaryExpression as binary_expression, SequenceExpression as sequence_expression, ConditionalExpression as conditional_expression, LogicalExpression as logical_expression}
 use Rattle.json_shape.specs.Shape.{Fits}
 use Rattle.min_pass.specs.Pass.{unmarked}
 use Rattle.js_syntax.specs.Node.{Forest, Tree, Note, nothing, node, absent, forest_of}
@@ -20,7 +20,7 @@ use Rattle.min_traverse.specs.declared.slot.Inner.TheVariants as inner
 use Rattle.rules_dead_code.specs.Rules.{Facts, Where, where_of, has_dead, is_silent_statement}
 use Rattle.rules_expressions.specs.Jumps.{has_unreached, left_if, list_reached}
 use Rattle.min_statements.specs.Acts.{has_gone}
-use Rattle.min_statements.specs.Own.{Visited, is_written}
+use Rattle.min_statements.specs.Own.{Visited, is_written, statement_changes}
 use Rattle.rules_dead_code.specs.Quiet.{EachNode, IsQuietAt, IsQuiet}
 use Rattle.rules_dead_code.proofs.Walked.{each_both, quiet_nodes}
 use Rattle.min_traverse.specs.Lawful.{or_else}
@@ -37,6 +37,9 @@ use Rattle.rules_expressions.specs.Operations.{known_becomes}
 use Rattle.rules_expressions.specs.Ifs.{if_becomes}
 use Rattle.rules_expressions.specs.Settled.{IsSettledAt, IsSettled}
 use Rattle.rules_expressions.proofs.Walked.{settled_nodes}
+use Rattle.rules_imports.specs.Rules.{pruned}
+use Rattle.rules_imports.specs.Quiet.{IsUsedAt, ImportsUsed}
+use Rattle.rules_imports.proofs.Walked.{imports_used}
 use Rattle.slots_fit.specs.Had.{is_always_statement, is_always_expression, HasSlots}
 use Rattle.slots_fit.proofs.Had.{slots_had}
 use Rattle.min_statements.specs.Walker.{Names, facts_of}
@@ -53,7 +56,7 @@ becomes p x = becomes_so (spot_of p) x.note x.kind x.below
 -- of a list of statements, of a statement and of an expression that has its own slot
 record IsAlive (f : Facts) (p : Place) (x : Tree) : Type 0 where
   list : outer_slot (above_place p) x.kind ≡ outer.Statements → has_gone f (where_of p) x.below ≡ false
-  statement : outer_slot (above_place p) x.kind ≡ outer.Statement → is_silent_statement f (where_of p) x.kind x.below || is_some (if_becomes x.note x.kind x.below) ≡ false
+  statement : outer_slot (above_place p) x.kind ≡ outer.Statement → statement_changes f (where_of p) x ≡ false
   expression : middle_slot (above_place p) x.kind ≡ middle.Expression → is_some (becomes p x) ≡ false
 
 abbrev Same : Names → Seen → Names → Seen → Type 0
@@ -100,7 +103,7 @@ module _ (s : Names) (k : Seen) (x : Tree) (s' : Names) (k' : Seen) where
   record Left (o : Outer) : Type 0 where
     same : Same s k s' k'
     list : o ≡ outer.Statements → has_gone (facts_of s k) (where_of k.place) x.below ≡ false
-    statement : o ≡ outer.Statement → is_silent_statement (facts_of s k) (where_of k.place) x.kind x.below || is_some (if_becomes x.note x.kind x.below) ≡ false
+    statement : o ≡ outer.Statement → statement_changes (facts_of s k) (where_of k.place) x ≡ false
 
   left_outer : (o : Outer) → Called Visited is_written (exit_outer o) s k x s' k' → Left o
   left_outer outer.Statements h = record { same = (sym h.names_same, sym h.context_same); list = λ e. h.none; statement = λ e. absurd Prim.cc }
@@ -146,8 +149,7 @@ at_node p x s k s' k' at v inside =
       record {
         list = λ q. subst (λ g. has_gone g (where_of p) x.below ≡ false) facts_2 (subst (λ z. has_gone (facts_of v.exits.s2 v.exits.k2) (where_of z) x.below ≡ false) place_2 (f.list q));
         statement = λ q.
-            subst (λ g. is_silent_statement g (where_of p) x.kind x.below || is_some (if_becomes x.note x.kind x.below) ≡ false) facts_2
-            (subst (λ z. is_silent_statement (facts_of v.exits.s2 v.exits.k2) (where_of z) x.kind x.below || is_some (if_becomes x.note x.kind x.below) ≡ false) place_2 (f.statement q));
+            subst (λ g. statement_changes g (where_of p) x ≡ false) facts_2 (subst (λ z. statement_changes (facts_of v.exits.s2 v.exits.k2) (where_of z) x ≡ false) place_2 (f.statement q));
         expression = λ q. subst (λ z. is_some (becomes z x) ≡ false) place_1 (e.expression q);
       },
       subst (λ g. EachNode (IsAlive g) (below p (above_of x.kind x.note)) x.below) facts_1 inside.each,
@@ -194,17 +196,28 @@ neither : (a b : Bool) → a || b ≡ false → (a ≡ false) × (b ≡ false)
 neither true b e = absurd (true≢false e)
 neither false b e = (refl, e)
 
-not_silent : (f : Facts) (w : Where) (n : Note) (k : Kind) (b : Forest) → (is_always_statement k ≡ true → is_silent_statement f w k b || is_some (if_becomes n k b) ≡ false) → is_silent_statement f w k b ≡ false
-not_silent f w n expression_statement b h = (neither (is_silent_statement f w expression_statement b) false (h refl)).0
+-- where none of the kinds that the hook looks at changes
+abbrev Unchanged : Facts → Where → Note → Kind → Forest → Type 0
+Unchanged f w n k b = is_always_statement k ≡ true → statement_changes f w (record { kind = k; note = n; below = b }) ≡ false
+
+not_silent : (f : Facts) (w : Where) (n : Note) (k : Kind) (b : Forest) → Unchanged f w n k b → is_silent_statement f w k b ≡ false
+not_silent f w n expression_statement b h = let silent = is_silent_statement f w expression_statement b in (neither silent false (neither (silent || false) false (h refl)).0).0
 not_silent f w n k b h = refl
 
-not_known : (f : Facts) (w : Where) (n : Note) (k : Kind) (b : Forest) → (is_always_statement k ≡ true → is_silent_statement f w k b || is_some (if_becomes n k b) ≡ false) → if_becomes n k b ≡ None
-not_known f w n if_statement b h = none_is (if_becomes n if_statement b) (h refl)
-  where
-    none_is : (o : Option Tree) → is_some o ≡ false → o ≡ None
-    none_is None e = refl
-    none_is (Some y) e = absurd (true≢false e)
+none_is : (o : Option Tree) → is_some o ≡ false → o ≡ None
+none_is None e = refl
+none_is (Some y) e = absurd (true≢false e)
+
+not_known : (f : Facts) (w : Where) (n : Note) (k : Kind) (b : Forest) → Unchanged f w n k b → if_becomes n k b ≡ None
+not_known f w n if_statement b h = none_is (if_becomes n if_statement b) (neither (is_some (if_becomes n if_statement b)) false (h refl)).0
 not_known f w n k b h = refl
+
+none_unused : (f : Facts) (w : Where) (n : Note) (k : Kind) (b : Forest) → Unchanged f w n k b → (let x : Tree = record { kind = k; note = n; below = b } in pruned f w x ≡ None)
+none_unused f w n (import_declaration source) b h = none_is (pruned f w (record { kind = import_declaration source; note = n; below = b })) (h refl)
+none_unused f w n k b h = refl
+
+used_at : (f : Facts) (p : Place) (x : Tree) → IsAlive f p x → HasSlots p x → IsUsedAt f p x
+used_at f p x h slots = none_unused f (where_of p) x.note x.kind x.below (λ e. h.statement (slots.statement e))
 
 quiet_at : (f : Facts) (p : Place) (x : Tree) → IsAlive f p x → HasSlots p x → IsQuietAt f p x
 quiet_at f p x h slots = record {
@@ -308,6 +321,9 @@ settled_at f p x h slots =
 -- Nothing of a program goes by what is known that a walk found as it is, and no expression of it comes to its parts or its value.
 pub none_goes : (s s' : Names) (k k' : Seen) (x y : Tree) → k.place ≡ outside → y ≡ x → Fits root (forest_of y) → Visits Visited is_written top (forest_of x) s k s' k' → IsQuiet (facts_of s' k') (forest_of y)
 none_goes s s' k k' x y at same fits v = quiet_nodes (facts_of s' k') (forest_of y) (each_both (quiet_at (facts_of s' k')) top (forest_of y) (alive s s' k k' x y at same v) (slots_had (forest_of y) fits))
+
+pub names_used : (s s' : Names) (k k' : Seen) (x y : Tree) → k.place ≡ outside → y ≡ x → Fits root (forest_of y) → Visits Visited is_written top (forest_of x) s k s' k' → ImportsUsed (facts_of s' k') (forest_of y)
+names_used s s' k k' x y at same fits v = imports_used (facts_of s' k') (forest_of y) (each_both (used_at (facts_of s' k')) top (forest_of y) (alive s s' k k' x y at same v) (slots_had (forest_of y) fits))
 
 pub none_changes : (s s' : Names) (k k' : Seen) (x y : Tree) → k.place ≡ outside → y ≡ x → Fits root (forest_of y) → Visits Visited is_written top (forest_of x) s k s' k' → IsSettled (forest_of y)
 none_changes s s' k k' x y at same fits v = settled_nodes (forest_of y) (each_both (settled_at (facts_of s' k')) top (forest_of y) (alive s s' k k' x y at same v) (slots_had (forest_of y) fits))

@@ -1,9 +1,10 @@
--- What the walker does to a list of statements and to a statement.
+-- What the walker does to a list of statements, to a statement and to an import.
 use Rattle.std.specs.Prelude.{Bool, false, ◌||◌, Option, Some, None, if◌then◌else◌}
 use Rattle.js_syntax.specs.Node.{Forest, Tree}
 use Rattle.min_context.specs.Seen.{Seen}
 use Rattle.rules_dead_code.specs.Rules.{Facts, Where, where_of, has_dead, trimmed, emptied}
 use Rattle.rules_expressions.specs.Jumps.{has_unreached, emptied_behind}
+use Rattle.rules_imports.specs.Rules.{pruned}
 use Rattle.min_statements.specs.Walker.{Names, facts_of}
 
 -- whether anything of a list goes, and what is left: what stands behind a jump becomes empty, and so goes too
@@ -23,3 +24,7 @@ trim names c x = list_left (facts_of names c) (where_of c.place) x
 -- a silent statement becomes empty
 abbrev pub empty : Names → Seen → Tree → Option Tree
 empty names c x = emptied (facts_of names c) (where_of c.place) x
+
+-- of an import, the names leave that nobody uses
+abbrev pub prune : Names → Seen → Tree → Option Tree
+prune names c x = pruned (facts_of names c) (where_of c.place) x

@@ -14,9 +14,10 @@ use Rattle.steps_told.specs.Parts.{CallsToldOnly, NamesToldOnly}
 use Rattle.js_effects.specs.Silence.{is_marked}
 use Rattle.rules_dead_code.specs.Quiet.{IsExported}
 use Rattle.rules_dead_code.specs.Knows.{TellsBound, TellsExported}
-use Rattle.rules_dead_code.specs.Rules.{where_of, is_silent_statement}
+use Rattle.rules_dead_code.specs.Rules.{Facts, Where, where_of, is_silent_statement}
 use Rattle.rules_expressions.specs.Ifs.{if_becomes}
 use Rattle.rules_expressions.specs.Known.{at_expression_end}
+use Rattle.rules_imports.specs.Rules.{pruned}
 use Rattle.min_statements.specs.Acts.{has_gone}
 use Rattle.min_statements.specs.Walker.{Names, facts_of}
 
@@ -52,6 +53,10 @@ is_written hook.ExitStatement = true
 is_written hook.ExitExpression = true
 is_written h = false
 
+-- a statement becomes empty, or comes to a branch of it, or names leave it
+abbrev pub statement_changes : Facts → Where → Tree → Bool
+statement_changes f w x = is_silent_statement f w x.kind x.below || is_some (if_becomes x.note x.kind x.below) || is_some (pruned f w x)
+
 -- nothing changed, and of what the hook looks at nothing goes or becomes another
 pub record Found (dead : Bool) (names : Names) (c : Seen) (later : Names) (d : Seen) : Type 0 where
   pub names_same : later ≡ names
@@ -60,6 +65,6 @@ pub record Found (dead : Bool) (names : Names) (c : Seen) (later : Names) (d : S
 
 abbrev pub Visited : Hook → Names → Seen → Tree → Names → Seen → Type 0
 Visited hook.ExitStatements names c x later d = Found (has_gone (facts_of names c) (where_of c.place) x.below) names c later d
-Visited hook.ExitStatement names c x later d = Found (is_silent_statement (facts_of names c) (where_of c.place) x.kind x.below || is_some (if_becomes x.note x.kind x.below)) names c later d
+Visited hook.ExitStatement names c x later d = Found (statement_changes (facts_of names c) (where_of c.place) x) names c later d
 Visited hook.ExitExpression names c x later d = Found (is_some (at_expression_end c x)) names c later d
 Visited h names c x later d = Unit {0}

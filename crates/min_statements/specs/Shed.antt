@@ -7,6 +7,7 @@ use Rattle.js_syntax.specs.Node.{Forest, Tree, nothing, node, absent, alone}
 use Rattle.js_meaning_near.specs.Near.{is_jump}
 use Rattle.rules_dead_code.specs.Rules.{Facts, Where, declarator_goes, item_goes, item_left}
 use Rattle.rules_expressions.specs.Jumps.{is_unreached, emptied_behind}
+use Rattle.rules_imports.specs.Rules.{specifier_goes}
 
 -- `m` says what a row counts
 module _ (m : Forest → ℕ) (f : Facts) (w : Where) where
@@ -38,6 +39,10 @@ module _ (f : Facts) (w : Where) where
   abbrev pub is_dead_item : Option Tree → Bool
   is_dead_item None = false
   is_dead_item (Some x) = item_goes f w x.kind x.below
+
+  abbrev pub is_unused_specifier : Option Tree → Bool
+  is_unused_specifier None = false
+  is_unused_specifier (Some x) = specifier_goes f w x.kind x.below
 
   -- of the row without those that go, each without what goes of it
   abbrev pub kept_items : Forest → Forest

@@ -6,6 +6,7 @@ ghost use Rattle.min_statements.specs.Walker.{facts_of, names_of};
 use crate::emptied::empty_statement;
 use crate::facts::Facts;
 use crate::ifs::try_fold_if;
+use crate::imports::remove_unused_import_specifiers;
 use crate::trimmed::trim_statements;
 use exported_names::{bound_references, exported_symbols};
 use js_syntax::SourceType;
@@ -17,7 +18,7 @@ use scope_table::Scoping;
 use std::alloc::{AllocError, Global};
 use std::marker::Model;
 
-/// Takes dead code out of lists of statements, empties silent statements elsewhere, and lets expressions and `if`s that known tests
+/// Takes dead code out of lists of statements and unused names out of imports, empties silent statements elsewhere, and lets expressions and `if`s that known tests
 /// decide come to the part that counts, alone or behind a zero, operations, arrays, objects and sequences of which nobody takes the value to
 /// what of them acts, and operations that don't act to their values.
 pub struct Statements {
@@ -103,7 +104,10 @@ impl Traverse for Statements {
         if empty_statement(self, node, ctx) {
             return Ok(());
         }
-        try_fold_if(node, ctx);
+        if try_fold_if(node, ctx) {
+            return Ok(());
+        }
+        remove_unused_import_specifiers(self, node, ctx);
         Ok(())
     }
 

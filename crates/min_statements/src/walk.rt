@@ -12,6 +12,7 @@ ghost use Rattle.min_traverse.specs.Moves.{busy};
 ghost use Rattle.rules_dead_code.specs.Knows.{Knows};
 ghost use Rattle.rules_dead_code.specs.Quiet.{IsQuiet};
 ghost use Rattle.rules_expressions.specs.Settled.{IsSettled};
+ghost use Rattle.rules_imports.specs.Quiet.{ImportsUsed};
 ghost use Rattle.min_statements.specs.Own.{ExportedOnly, IsToldOnly};
 ghost use Rattle.min_statements.specs.Walker.{facts_of};
 
@@ -21,7 +22,7 @@ use min_context::MinifierTraverseCtx;
 use min_traverse::traverse_root;
 use std::alloc::AllocError;
 
-/// Takes dead code out of the lists of statements of a whole program, given by its root, empties silent statements elsewhere, and lets
+/// Takes dead code out of the lists of statements and unused names out of the imports of a whole program, given by its root, empties silent statements elsewhere, and lets
 /// expressions and `if`s that known tests decide come to the part that counts, alone or behind a zero, operations, arrays, objects and sequences
 /// of which nobody takes the value to what of them acts, and operations that don't act to their values: one pass. What is left comes by
 /// edits that a dead code remover may make, exactly what left is marked, and what was known of the program is known of what is left. If
@@ -50,6 +51,7 @@ pub fn walk_statements(
     ensures lighter { OnOk result (total weight (forest_of root.new) + busy ctx.new ≤ total weight (forest_of root.old) + busy ctx.old) }
     ensures quiet { OnOk result (ctx.new.requested ≡ false → root.new ≡ root.old) }
     ensures nothing_goes { OnOk result (ctx.new.requested ≡ false → IsQuiet (facts_of walker.new ctx.new) (forest_of root.new)) }
+    ensures uses_imports { OnOk result (ctx.new.requested ≡ false → ImportsUsed (facts_of walker.new ctx.new) (forest_of root.new)) }
     ensures settled { OnOk result (ctx.new.requested ≡ false → IsSettled (forest_of root.new)) }
     ensures names { OnOk result (ctx.new.requested ≡ false → walker.new ≡ walker.old) }
     ensures context { OnOk result (ctx.new.requested ≡ false → ctx.new ≡ ctx.old) }

@@ -47,7 +47,7 @@ pub record HasDead (t : Forest) : Type 0 where
 pub clean_has_none : (t : Forest) → Clean t → HasDead t → ⊥
 clean_has_none t clean d = clean.nothing_is_dead d.place d.part d.stands d.dead
 
-here_dead : (b : places.Around) (x : Option Tree) → IsDead (places.plug b x) b x → HasDead (places.plug b x)
+pub here_dead : (b : places.Around) (x : Option Tree) → IsDead (places.plug b x) b x → HasDead (places.plug b x)
 here_dead b x dead = record { place = b; part = x; stands = refl; dead = dead }
 
 -- that stands in front of the rest of its row

@@ -8,6 +8,7 @@ use Rattle.scope_counts.specs.Edits.{Around, here, behind, behind_none, under, p
 use Rattle.steps_allowed.specs.Arranged.{is_declarator, are_declarators}
 use Rattle.rules_dead_code.specs.Rules.{Facts, Where, declarator_goes, one_goes, item_has_dead, has_dead}
 use Rattle.rules_dead_code.proofs.Places.{is_row}
+use Rattle.rules_imports.specs.Rules as imports
 
 wrong : {P : Type 0} → false ≡ true → P
 wrong e = absurd (true≢false (sym e))
@@ -49,6 +50,14 @@ module _ (f : Facts) (w : Where) where
   dead_declarator how (node k n below rest) e = elim (or_cases (declarator_goes f w how k below) (one_goes f w how rest) e) [
     | inl h ↦ the_first (declarator_goes f w how) k n below rest h
     | inr h ↦ further (declarator_goes f w how) k n below rest (dead_declarator how rest h)
+  ]
+
+  pub unused_name : (row : Forest) → imports.one_goes f w row ≡ true → OneOf (imports.specifier_goes f w) row
+  unused_name nothing e = wrong e
+  unused_name (absent rest) e = further_none (imports.specifier_goes f w) rest (unused_name rest e)
+  unused_name (node k n below rest) e = elim (or_cases (imports.specifier_goes f w k below) (imports.one_goes f w rest) e) [
+    | inl h ↦ the_first (imports.specifier_goes f w) k n below rest h
+    | inr h ↦ further (imports.specifier_goes f w) k n below rest (unused_name rest h)
   ]
 
 -- each node of a list of declarators is one

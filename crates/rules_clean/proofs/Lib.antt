@@ -1,5 +1,6 @@
 pub mod Finding
 pub mod Dying
+pub mod Importing
 pub mod Deciding
 pub mod Cleaned
 mod Tried

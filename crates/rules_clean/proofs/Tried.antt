@@ -20,6 +20,8 @@ use Rattle.rules_dead_code.specs.Rules.{Facts, where_of, has_dead, emptied}
 use Rattle.rules_dead_code.proofs.New.{new_known}
 use Rattle.rules_dead_code.proofs.Tried.{told_only}
 use Rattle.rules_dead_code.proofs.Walked.{quiet_nodes}
+use Rattle.rules_imports.specs.Quiet.{ImportsUsed}
+use Rattle.rules_imports.proofs.Walked.{imports_used}
 use Rattle.rules_expressions.specs.Uses.{spot_of}
 use Rattle.rules_expressions.specs.Known.{conditional_becomes, logical_becomes}
 use Rattle.rules_expressions.specs.Unused.{unused_becomes}
@@ -69,13 +71,16 @@ script_is_quiet =
     quiet_nodes known_of_the_script a_function_of_a_script
     (still refl refl, (still refl refl, (still refl refl, (still refl refl, tt, (still refl refl, tt, (still refl refl, (still refl refl, tt, tt), tt))), tt), tt), tt)
 
+script_uses_imports : ImportsUsed known_of_the_script a_function_of_a_script
+script_uses_imports = imports_used known_of_the_script a_function_of_a_script (refl, (refl, (refl, (refl, tt, (refl, tt, (refl, (refl, tt, tt), tt))), tt), tt), tt)
+
 script_is_settled : IsSettled a_function_of_a_script
 script_is_settled =
     settled_nodes a_function_of_a_script
     (settles refl refl refl refl refl refl refl refl refl refl refl refl, (settles refl refl refl refl refl refl refl refl refl refl refl refl, (settles refl refl refl refl refl refl refl refl refl refl refl refl, (settles refl refl refl refl refl refl refl refl refl refl refl refl, tt, (settles refl refl refl refl refl refl refl refl refl refl refl refl, tt, (settles refl refl refl refl refl refl refl refl refl refl refl refl, (settles refl refl refl refl refl refl refl refl refl refl refl refl, tt, tt), tt))), tt), tt), tt)
 
 pub script_is_clean : Clean a_function_of_a_script
-script_is_clean = clean known_of_the_script a_function_of_a_script script_is_known script_is_known_exactly script_is_quiet script_is_settled
+script_is_clean = clean known_of_the_script a_function_of_a_script script_is_known script_is_known_exactly script_is_quiet script_uses_imports script_is_settled
 
 pub script_is_not_quiet : IsQuiet taken_for_a_module a_function_of_a_script → ⊥
 script_is_not_quiet q = true≢false (q.lists (under (Kind.Program source_type.Script) (record { span = nowhere.span; id = Some 0 }) here nothing) nowhere _ nothing refl)

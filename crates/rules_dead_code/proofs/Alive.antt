@@ -67,8 +67,8 @@ good_known : (f : Facts) (t : Forest) → Good f t → Known f t
 good_known f t g = record { marked = unmarked; knows = g.knows }
 
 module _ (f : Facts) where
-  only_at : (b : Around) (x : Tree) → Good f (places.plug b (Some x)) → TellsOnly f.scoping (is_script (places.plug b (Some x))) (stand b (Some x))
-  only_at b x g = only_there f.scoping (is_script (places.plug b (Some x))) (stands_of (places.plug b (Some x))) 0 b x g.exactly.flags
+  only_at : (b : Around) (x : Tree) → Exactly f (places.plug b (Some x)) → TellsOnly f.scoping (is_script (places.plug b (Some x))) (stand b (Some x))
+  only_at b x e = only_there f.scoping (is_script (places.plug b (Some x))) (stands_of (places.plug b (Some x))) 0 b x e.flags
 
   not_so : (b c : Bool) → (b ≡ true → c ≡ true) → c ≡ false → b ≡ false
   not_so true c h e = absurd (true≢false (sym (h refl) ∙ e))
@@ -118,7 +118,7 @@ module _ (f : Facts) where
       let here_ = good_row a y rest g in
       let same = items_same f (place_at o) a k n below rest (list_items o m c beside row) (good_known f (plug a (node k n below rest)) here_) in
       let scope : (stand b (Some y)).scope ≡ Some w.scope = ap (λ (q : Stand). q.scope) (stand_to a (first rest) (Some y)) ∙ same.scope in
-      let hidden = function_hidden t (stand b (Some y)) w g.knows.script (only_at b y g) scope (ap function_is_exposed (stand_exposed b (Some y)) ∙ own) in
+      let hidden = function_hidden t (stand b (Some y)) w g.knows.script (only_at b y g.exactly) scope (ap function_is_exposed (stand_exposed b (Some y)) ∙ own) in
       let place = find b (Some y) (Free t variable.Let x) free in
       let fs = inside (place.contexts place.at) place.next k below in
       let d = named_site (fs 0) j x in
@@ -156,12 +156,12 @@ module _ (f : Facts) where
   shares_so script p w only same variable.Let s e = only.names s (same.scope ∙ ap Some e)
   shares_so script p w only same variable.Const s e = only.names s (same.scope ∙ ap Some e)
 
-  program_evaluates : (t : Forest) → first_mark t ≡ Some 0 → ToldOnly f.scoping (is_script t) (stands_of t) 0 t → scope_has f.scoping 0 scope_flag.direct_eval ≡ true → evaluates_somewhere t ≡ true
+  pub program_evaluates : (t : Forest) → first_mark t ≡ Some 0 → ToldOnly f.scoping (is_script t) (stands_of t) 0 t → scope_has f.scoping 0 scope_flag.direct_eval ≡ true → evaluates_somewhere t ≡ true
   program_evaluates nothing e h g = absurd (none_is_some e)
   program_evaluates (absent rest) e h g = absurd (none_is_some e)
   program_evaluates (node k n b rest) e h g = h.0.evaluates 0 e g
 
-  variable_hidden : (t : Forest) (p : Stand) (w : Where) (how : VariableKind) → f.is_script ≡ is_script t → TellsOnly f.scoping (is_script t) p → Same p w → shares p.exposure how ≡ false → (scope_has f.scoping 0 scope_flag.direct_eval ≡ true → evaluates_somewhere t ≡ true)
+  pub variable_hidden : (t : Forest) (p : Stand) (w : Where) (how : VariableKind) → f.is_script ≡ is_script t → TellsOnly f.scoping (is_script t) p → Same p w → shares p.exposure how ≡ false → (scope_has f.scoping 0 scope_flag.direct_eval ≡ true → evaluates_somewhere t ≡ true)
       → evaluates_somewhere t ≡ false → is_global f (scope_of w how) || scope_has f.scoping 0 scope_flag.direct_eval ≡ false
   variable_hidden t p w how script only same shared evaluates none =
       neither (is_global f (scope_of w how)) (scope_has f.scoping 0 scope_flag.direct_eval)
@@ -173,11 +173,11 @@ module _ (f : Facts) where
       (not_so (scope_has f.scoping 0 scope_flag.direct_eval) (evaluates_somewhere t) evaluates none)
 
   -- at the declaration
-  only_item : (a : counts.Around) (k : Kind) (n : Note) (b rest : Forest) → Good f (plug a (node k n b rest)) → TellsOnly f.scoping (is_script (plug a (node k n b rest))) (whole_stand a (node k n b rest))
-  only_item a k n b rest g =
+  pub only_item : (a : counts.Around) (k : Kind) (n : Note) (b rest : Forest) → Exactly f (plug a (node k n b rest)) → TellsOnly f.scoping (is_script (plug a (node k n b rest))) (whole_stand a (node k n b rest))
+  only_item a k n b rest e =
       let x : Tree = record { kind = k; note = n; below = b } in
       subst (λ p. TellsOnly f.scoping (is_script (plug a (node k n b rest))) p) (stand_to a (first rest) (Some x))
-      (subst (λ t. TellsOnly f.scoping (is_script t) (stand (to a (first rest)) (Some x))) (plugged a (first rest) (Some x)) (only_at (to a (first rest)) x (subst (λ t. Good f t) (sym (plugged a (first rest) (Some x))) g)))
+      (subst (λ t. TellsOnly f.scoping (is_script t) (stand (to a (first rest)) (Some x))) (plugged a (first rest) (Some x)) (only_at (to a (first rest)) x (subst (λ t. Exactly f t) (sym (plugged a (first rest) (Some x))) e)))
 
   initialiser_quiet : (b : Around) (i j : Note) (x : List ℕ) (value : Forest) → Good f (places.plug b (a_declarator i j x value)) → (p : Place) → (asked_at (asked_of_program true) b).in_with ≡ has_with p.ancestors
       → At b (a_declarator i j x value) (SilentDeclarator (places.plug b (a_declarator i j x value)) (node (binding_name x) j nothing value)) → is_quiet f (where_of p) value ≡ true
@@ -221,7 +221,7 @@ module _ (f : Facts) where
       let stands_so : stand b (Some y) ≡ q = stand_to a inner (Some y) ∙ stand_along q 0 d more (Some y) drow in
       let shared : shares outer.exposure how ≡ false =
       ap (λ (r : Stand). r.exposure.declared_shared) (sym stands_so) ∙ ap (λ (e : Exposure). e.declared_shared) (stand_exposed b (Some y)) ∙ first_of_neither (exposure b (Some y)).declared_shared (evaluates_somewhere t) own in
-      let only : TellsOnly f.scoping (is_script t) outer = subst (λ v. TellsOnly f.scoping (is_script v) outer) (sym (plugged a inner (Some y))) (only_item a (variable_declaration how) n list rest here_) in
+      let only : TellsOnly f.scoping (is_script t) outer = subst (λ v. TellsOnly f.scoping (is_script v) outer) (sym (plugged a inner (Some y))) (only_item a (variable_declaration how) n list rest here_.exactly) in
       let hidden = variable_hidden t outer w how g.knows.script only same shared (program_evaluates t g.knows.outermost g.exactly.flags) (second_of_neither (exposure b (Some y)).declared_shared (evaluates_somewhere t) own) in
       let place = find b (Some y) (FreeDeclarator t x) free in
       let fs = inside (place.contexts place.at) place.next variable_declarator below in
@@ -234,7 +234,7 @@ module _ (f : Facts) where
 
 -- ---- any place
 
-to_join : (a b : counts.Around) (c : Around) → to (join a b) c ≡ to a (to b c)
+pub to_join : (a b : counts.Around) (c : Around) → to (join a b) c ≡ to a (to b c)
 to_join here b c = refl
 to_join (behind k n d a) b c = ap (λ x. places.behind k n d x) (to_join a b c)
 to_join (behind_none a) b c = ap (λ x. places.behind_none x) (to_join a b c)

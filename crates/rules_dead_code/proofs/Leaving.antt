@@ -115,12 +115,12 @@ silent_behind f v binds w cs at next n m x value all_of e =
           (first_of_neither (may_have_effects f.bound w value) (w && is_given value) e),
     )
 
-record Hidden (f : Facts) (scope : ℕ) (symbol : Option ℕ) (v : Forest) : Type 0 where
-  unlisted : is_unlisted f symbol ≡ true
-  unshared : is_script v && scope == 0 ≡ false
-  no_evals : evaluates_somewhere v ≡ false
+pub record Hidden (f : Facts) (scope : ℕ) (symbol : Option ℕ) (v : Forest) : Type 0 where
+  pub unlisted : is_unlisted f symbol ≡ true
+  pub unshared : is_script v && scope == 0 ≡ false
+  pub no_evals : evaluates_somewhere v ≡ false
 
-hidden : (f : Facts) (marked : ℕ → Bool) (v : Forest) → Knows f marked v → (scope : ℕ) (symbol : Option ℕ) → variable_is_unused f scope symbol ≡ true → Hidden f scope symbol v
+pub hidden : (f : Facts) (marked : ℕ → Bool) (v : Forest) → Knows f marked v → (scope : ℕ) (symbol : Option ℕ) → variable_is_unused f scope symbol ≡ true → Hidden f scope symbol v
 hidden f marked v h scope symbol e =
     let parts = and_parts (is_unlisted f symbol) _ e in
     let none = not_true (is_global f scope || scope_has f.scoping 0 scope_flag.direct_eval) parts.1 in

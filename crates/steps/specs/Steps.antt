@@ -92,11 +92,27 @@ pub data Goes (w : Around) : Kind → (below : Forest) → Type 0 where
   unused_declaration : {how : VariableKind} {x : Text} {m l j : Note} {v : Forest} → w.row ≡ items → is_used w how x ≡ false → Initialiser w.names v
       → Goes w (Kind.VariableDeclaration how) (alone Kind.Declarators m (alone Kind.VariableDeclarator l (node (Kind.BindingName x) j nothing v)))
 
+-- what binds a name of an import (16.2.2)
+abbrev pub binds_import : Kind → Bool
+binds_import (Kind.ImportSpecifier name) = true
+binds_import Kind.ImportDefaultSpecifier = true
+binds_import Kind.ImportNamespaceSpecifier = true
+binds_import k = false
+
+-- What lies below an import, and the same without one of what binds this name.
+pub data Unbinds (x : Text) : (t u : Forest) → Type 0 where
+  unbinds_here : {k : Kind} {n m : Note} {r : Forest} → binds_import k ≡ true → Unbinds x (node k n (node (Kind.BindingName x) m nothing nothing) r) r
+  unbinds_below : {n : Note} {a b r : Forest} → Unbinds x a b → Unbinds x (node Kind.Specifiers n a r) (node Kind.Specifiers n b r)
+  unbinds_behind : {k : Kind} {n : Note} {a r s : Forest} → Unbinds x r s → Unbinds x (node k n a r) (node k n a s)
+  unbinds_behind_absent : {r s : Forest} → Unbinds x r s → Unbinds x (absent r) (absent s)
+
 -- One step, by what stands around the row.
 pub data Step : Around → (t u : Forest) → Type 0 where
   leaves : {w : Around} {k : Kind} {n : Note} {a r : Forest} → Goes w k a → Step w (node k n a r) r
   -- a statement of a silent expression becomes empty, wherever it stands
   empties : {w : Around} {k : Kind} {n m l : Note} {a r : Forest} → Idle w.names k l a → Step w (node Kind.ExpressionStatement n (alone k l a) r) (node Kind.EmptyStatement m nothing r)
+  -- a name that nothing refers to leaves an import, which stays
+  unbinds : {w : Around} {source x : Text} {n : Note} {a b r : Forest} → w.row ≡ items → is_used w variable.Let x ≡ false → Unbinds x a b → Step w (node (Kind.ImportDeclaration source) n a r) (node (Kind.ImportDeclaration source) n b r)
   -- a step further in, or further on
   inside : {w : Around} {k : Kind} {n : Note} {a b r : Forest} → Step (entered w k a) a b → Step w (node k n a r) (node k n b r)
   behind_node : {w : Around} {k : Kind} {n : Note} {a r s : Forest} → Step w r s → Step w (node k n a r) (node k n a s)

@@ -12,6 +12,7 @@ use Rattle.js_syntax.specs.Node.{Forest, Tree, Note, nothing, node, absent, nowh
 use Rattle.form_rules.specs.Samples.{a_module, a, binds, reads, listed, no, one, does, declares, let_, var_, function_a, block}
 use Rattle.scope_rules.specs.Context.{body_of}
 use Rattle.scope_rules.specs.Binding.{named_in}
+use Rattle.scope_rules.specs.Samples.{imports}
 use Rattle.scope_laws.specs.Place.{Around, first, behind, under}
 use Rattle.min_pass.specs.Around.{outermost as asked_of_program}
 use Rattle.steps_allowed.specs.Uses.{Use, use_at, matters, stands_bare}
@@ -20,6 +21,7 @@ use Rattle.steps_allowed.specs.Free.{IsFree}
 use Rattle.steps_allowed.specs.SilentStatement.{SilentStatement, silent_statement_empties}
 use Rattle.steps_allowed.specs.EmptyStatement.{empty_statement_leaves}
 use Rattle.steps_allowed.specs.UnusedFunction.{unused_function_leaves}
+use Rattle.steps_allowed.specs.UnusedImport.{unused_import_leaves}
 use Rattle.steps_allowed.specs.UnusedDeclaration.{a_declaration, SilentDeclaration, unused_declaration_leaves}
 use Rattle.steps_allowed.specs.KnownConditional.{a_conditional, KnownConditional, consequent_is_taken, alternate_is_taken}
 use Rattle.steps_allowed.specs.KnownSide.{right_side_counts, left_side_decides}
@@ -34,8 +36,8 @@ use Rattle.steps_allowed.specs.IdleParts.{idle_parts_leave}
 use Rattle.steps_allowed.specs.TwoSides.{both_sides_act}
 use Rattle.steps_allowed.specs.UnusedObject.{acting_values_stay}
 use Rattle.steps_allowed.specs.KnownOperation.{known_literal, value_is_known}
-use Rattle.steps_allowed.specs.Edits.{Edit, leaves, becomes, empty_statement, silent_statement, unused_function, unused_declaration, unreached, known_conditional, known_side, known_if, dead_if, unused_operation, unused_list, indirect_choice, one_sided_choice, idle_parts, two_sides, unused_object, known_operation}
-use Rattle.steps_allowed.specs.Rows.{in_list, before, throws, behind_throw, call_of_a, null, if_one, if_null, either_way, conditional, logical, may_be_named, o_f, parenthesized, in_statement, called, called_in_parentheses, called_in_with, argument, operand, applied, equals, assigned, statement, ComesOut, Stays, StaysUnused, array, spread, hole, sequence, ListStays, ChoiceStays, PartsStay, SidesStay, object, a_is, b_is, getter_of_a, ObjectStays, literal, operation, OperationStays, behind_zero, placed, StaysDirect, with_a, in_with_a, empty, a_is_read, a_is_exported}
+use Rattle.steps_allowed.specs.Edits.{Edit, leaves, becomes, empty_statement, silent_statement, unused_function, unused_declaration, unused_import, unreached, known_conditional, known_side, known_if, dead_if, unused_operation, unused_list, indirect_choice, one_sided_choice, idle_parts, two_sides, unused_object, known_operation}
+use Rattle.steps_allowed.specs.Rows.{in_list, before, throws, behind_throw, call_of_a, null, if_one, if_null, either_way, conditional, logical, may_be_named, o_f, parenthesized, in_statement, called, called_in_parentheses, called_in_with, argument, operand, applied, equals, assigned, statement, ComesOut, Stays, StaysUnused, array, spread, hole, sequence, ListStays, ChoiceStays, PartsStay, SidesStay, object, a_is, b_is, getter_of_a, ObjectStays, literal, operation, OperationStays, behind_zero, placed, StaysDirect, with_a, in_with_a, empty, a_is_read, a_is_exported, imports_nothing, only_import}
 
 pub empties_in_list : Edit (a_module (does one ∷ [])) (a_module (empty ∷ []))
 empties_in_list = becomes (before []) _ _ (silent_statement (silent_statement_empties nowhere nowhere nowhere _ nothing (inl refl, tt)))
@@ -84,6 +86,12 @@ read_stays h = h.unreferred _ (inl refl) refl
 
 pub exported_stays : IsFree a_is_exported (named_in a (body_of 0)) → ⊥
 exported_stays h = h.unexported _ (inl refl) refl refl
+
+pub import_goes : Edit (a_module (imports a ∷ [])) (a_module (imports_nothing ∷ []))
+import_goes = leaves only_import _ (unused_import (unused_import_leaves Kind.ImportDefaultSpecifier nowhere nowhere a refl refl refl (record { unreferred = λ r h e. h; unexported = λ e h s d. h })))
+
+pub imported_read_stays : IsFree (a_module (imports a ∷ does (reads a) ∷ [])) (named_in a (body_of 0)) → ⊥
+imported_read_stays h = h.unreferred _ (inl refl) refl
 
 -- where the expression of a statement stands
 abbrev there : Around

@@ -8,6 +8,7 @@ use Rattle.steps_allowed.specs.EmptyStatement.{EmptyStatement}
 use Rattle.steps_allowed.specs.UnusedFunction.{UnusedFunction}
 use Rattle.steps_allowed.specs.UnusedDeclarator.{UnusedDeclarator}
 use Rattle.steps_allowed.specs.UnusedDeclaration.{UnusedDeclaration}
+use Rattle.steps_allowed.specs.UnusedImport.{UnusedImport}
 use Rattle.steps_allowed.specs.Unreached.{Unreached}
 use Rattle.steps_allowed.specs.SilentStatement.{SilentStatementEmpties}
 use Rattle.steps_allowed.specs.KnownConditional.{KnownConditional}
@@ -29,6 +30,7 @@ pub data Leaves (a : Around) (x : Tree) : Type 0 where
   unused_function : UnusedFunction a x → Leaves a x
   unused_declarator : UnusedDeclarator a x → Leaves a x
   unused_declaration : UnusedDeclaration a x → Leaves a x
+  unused_import : UnusedImport a x → Leaves a x
   unreached : Unreached a x → Leaves a x
 
 -- which nodes may become others in their places

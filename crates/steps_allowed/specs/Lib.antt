@@ -11,6 +11,8 @@ pub mod EmptyStatement
 pub mod UnusedFunction
 pub mod UnusedDeclarator
 pub mod UnusedDeclaration
+pub mod Imports
+pub mod UnusedImport
 pub mod SilentStatement
 pub mod KnownConditional
 pub mod KnownSide

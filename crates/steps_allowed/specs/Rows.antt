@@ -249,3 +249,11 @@ a_is_read = a_module (let_ a ∷ does (reads a) ∷ [])
 -- export var a; var a = 1;
 abbrev pub a_is_exported : Forest
 a_is_exported = a_module (exports_declaration (var_ a) ∷ declares variable.Var (binds a) one ∷ [])
+
+-- import 'm', and an import that binds nothing has no names
+abbrev pub imports_nothing : Forest
+imports_nothing = over (Kind.ImportDeclaration (codes "m")) (listed Kind.Specifiers [])
+
+-- the place of the only name of a module's only import
+abbrev pub only_import : Around
+only_import = in_list (under (Kind.ImportDeclaration (codes "m")) nowhere (under Kind.Specifiers nowhere (first nothing) nothing) nothing)

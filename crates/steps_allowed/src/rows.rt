@@ -10,6 +10,7 @@ ghost use Rattle.js_syntax.specs.Node.{Tree, Note, Forest, nothing, nowhere, joi
 ghost use Rattle.form_rules.specs.Samples.{a_module, a, binds, reads, listed, no, one, does, declares, let_, var_, function_a, block};
 ghost use Rattle.scope_rules.specs.Context.{body_of};
 ghost use Rattle.scope_rules.specs.Binding.{named_in};
+ghost use Rattle.scope_rules.specs.Samples.{imports};
 ghost use Rattle.scope_laws.specs.Place.{Around};
 ghost use Rattle.steps_allowed.specs.Places.{a_node, At};
 ghost use Rattle.steps_allowed.specs.Free.{IsFree};
@@ -20,7 +21,7 @@ ghost use Rattle.steps_allowed.specs.KnownIf.{an_if, KnownIf};
 ghost use Rattle.steps_allowed.specs.DeadIf.{DeadIf};
 ghost use Rattle.steps_allowed.specs.Unreached.{Unreached};
 ghost use Rattle.steps_allowed.specs.Edits.{Edit};
-ghost use Rattle.steps_allowed.specs.Rows.{before, throws, behind_throw, call_of_a, null, if_one, if_null, either_way, conditional, logical, may_be_named, o_f, parenthesized, called, called_in_parentheses, called_in_with, argument, operand, applied, equals, assigned, statement, ComesOut, Stays, StaysUnused, array, spread, hole, sequence, ListStays, ChoiceStays, PartsStay, SidesStay, object, a_is, b_is, getter_of_a, ObjectStays, literal, operation, OperationStays, behind_zero, placed, StaysDirect, with_a, in_with_a, empty, a_is_read, a_is_exported};
+ghost use Rattle.steps_allowed.specs.Rows.{before, throws, behind_throw, call_of_a, null, if_one, if_null, either_way, conditional, logical, may_be_named, o_f, parenthesized, called, called_in_parentheses, called_in_with, argument, operand, applied, equals, assigned, statement, ComesOut, Stays, StaysUnused, array, spread, hole, sequence, ListStays, ChoiceStays, PartsStay, SidesStay, object, a_is, b_is, getter_of_a, ObjectStays, literal, operation, OperationStays, behind_zero, placed, StaysDirect, with_a, in_with_a, empty, a_is_read, a_is_exported, imports_nothing};
 
 /// A statement of a literal becomes empty, in a list and alone, and leaves the list then.
 pub fn silent_statements_go()
@@ -53,6 +54,12 @@ pub fn what_is_free_goes()
 pub fn what_is_used_stays()
     ensures read { IsFree a_is_read (named_in a (body_of 0)) → ⊥ }
     ensures exported { IsFree a_is_exported (named_in a (body_of 0)) → ⊥ }
+{}
+
+/// A name of an import that nothing refers to goes, and the import stays; one that is read isn't free.
+pub fn unused_names_of_imports_go()
+    ensures unused { Edit (a_module (imports a ∷ [])) (a_module (imports_nothing ∷ [])) }
+    ensures read { IsFree (a_module (imports a ∷ does (reads a) ∷ [])) (named_in a (body_of 0)) → ⊥ }
 {}
 
 /// A conditional and an `if` on a test that is known become the branch that is taken.

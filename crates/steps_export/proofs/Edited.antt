@@ -24,17 +24,19 @@ use Rattle.steps_allowed.specs.EmptyStatement.{empty_statement_leaves}
 use Rattle.steps_allowed.specs.UnusedFunction.{unused_function_leaves}
 use Rattle.steps_allowed.specs.UnusedDeclarator.{SilentDeclarator, unused_declarator_leaves}
 use Rattle.steps_allowed.specs.UnusedDeclaration.{SilentDeclaration, one_declarator, unused_declaration_leaves}
+use Rattle.steps_allowed.specs.UnusedImport.{unused_import_leaves}
 use Rattle.steps_allowed.specs.SilentStatement.{SilentStatement, silent_statement_empties}
 use Rattle.steps_allowed.specs.Branches.{declares_none}
 use Rattle.steps_allowed.specs.Unreached.{only_runs, never_runs}
 use Rattle.steps_allowed.specs.DeadIf.{DeadIf, nothing_is_run}
-use Rattle.steps_allowed.specs.Edits.{Leaves, empty_statement, unused_function, unused_declarator, unused_declaration, unreached, Becomes, silent_statement, known_conditional, known_side, known_if, dead_if, unused_operation, unused_list, indirect_choice, one_sided_choice, idle_parts, two_sides, unused_object, known_operation, Edit, leaves, becomes, TreeEdits, no_tree_edit, one_tree_edit}
+use Rattle.steps_allowed.specs.Edits.{Leaves, empty_statement, unused_function, unused_declarator, unused_declaration, unused_import, unreached, Becomes, silent_statement, known_conditional, known_side, known_if, dead_if, unused_operation, unused_list, indirect_choice, one_sided_choice, idle_parts, two_sides, unused_object, known_operation, Edit, leaves, becomes, TreeEdits, no_tree_edit, one_tree_edit}
 use Rattle.steps_owed.specs.Kept.{is_program}
 use Rattle.steps_owed.specs.Owed.{ByPart, ByParts}
 use Rattle.steps_owed.specs.Part.{DeclaresNothing}
 use Rattle.steps_owed.proofs.ChoiceParts.{parts_of_if}
 use Rattle.steps_owed.proofs.Expressions.{expression_declares_none, expression_declares_nothing}
 use Rattle.steps_owed.proofs.FitsEdits.{edit_fits}
+use Rattle.steps_owed.proofs.ImportFacts.{import_facts}
 use Rattle.steps_owed.proofs.Inside.{enclosed_below, enclosed_rest}
 use Rattle.steps_owed.proofs.KnownConditional.{known_conditional_owes}
 use Rattle.steps_owed.proofs.KnownSide.{known_side_owes}
@@ -56,7 +58,7 @@ use Rattle.steps_marked.proofs.Exposing.{part_no_program}
 use Rattle.steps_marked.proofs.Telling.{no_program}
 use Rattle.steps_marked.proofs.Unexporting.{exports_collected, collected_declared, edits_export}
 use Rattle.rules_dead_code.specs.Quiet.{IsExported}
-use Rattle.steps_export.proofs.Going.{Gone, empty_gone, statement_gone, function_gone, declarator_gone, declaration_gone}
+use Rattle.steps_export.proofs.Going.{Gone, empty_gone, import_gone, statement_gone, function_gone, declarator_gone, declaration_gone}
 use Rattle.steps_export.proofs.Staying.{made, made_without, made_plug, LeavesLists, Stays, whole, part_stays, undeclared_stays}
 
 -- ---- at a place
@@ -143,6 +145,11 @@ module _ (e : BindingSite) (top : e.layer.scope ≡ 0) where
       settled a (record { kind = k; note = n; below = below }) None (λ w c next. SilentDeclaration t how m l inner w c next × Free t how x w c next) fits (λ rest. refl) lists
       (both_at y (SilentDeclaration t how m l inner) (Free t how x) false (λ at. outermost) 0 0 a silent free)
       (λ w c next some holds. gone_stays e k n below None c next (declaration_gone t e h top w x j value closed c next some how n m l holds.0 holds.1)) h
+  left a _ (unused_import (unused_import_leaves k n m x binds imported own free)) l fits h =
+      let below = node (kind.BindingName x) m nothing nothing in
+      let t = plug a (a_node k n below) in
+      settled a (record { kind = k; note = n; below = below }) None (FreeDeclarator t x) fits (import_facts k n below binds).no_root l free
+      (λ w c next some holds. gone_stays e k n below None c next (import_gone t e h top c next some w k n m x binds holds)) h
   left a x (unreached (never_runs item jump runs none)) l fits h =
       settled a x None Anything fits (λ rest. runs_no_program x.kind x.note x.below rest runs) l (anywhere (Some x) false (λ at. outermost) 0 0 a)
       (λ w c next some any. undeclared_stays e top x None (declares_nothing (forest_of x) none (enclosed_alone_there a x.kind x.note x.below (fits_enclosed (plug a (Some x)) fits))) c next some) h

@@ -13,11 +13,13 @@ use Rattle.scope_rules.specs.Site.{BindingSite, own_sites, scope_count, sites, s
 use Rattle.scope_laws.specs.Exact.{Among}
 use Rattle.steps_names.specs.Standing.{exported_declarations}
 use Rattle.steps_names.proofs.Sites.{InThree, in_first, in_second, in_third, binding_in}
+use Rattle.steps.specs.Steps.{binds_import}
 use Rattle.steps_allowed.specs.Free.{IsFree, Free, FreeDeclarator}
 use Rattle.steps_allowed.specs.SilentStatement.{SilentStatement}
 use Rattle.steps_allowed.specs.UnusedDeclarator.{SilentDeclarator}
 use Rattle.steps_allowed.specs.UnusedDeclaration.{SilentDeclaration, one_declarator}
 use Rattle.steps_fit.specs.Enclosed.{is_enclosed_at, is_enclosed}
+use Rattle.steps_owed.proofs.ImportFacts.{declares_name}
 use Rattle.steps_owed.proofs.Inside.{In}
 use Rattle.steps_owed.proofs.FunctionParts.{function_behind}
 use Rattle.steps_owed.proofs.Unseen.{silent_inside, layer_below}
@@ -38,6 +40,9 @@ module _ (v : Forest) (e : BindingSite) (stands : Among e (exported_declarations
   module _ (c : Context) (next : ℕ) (some : 0 < next) where
     pub empty_gone : (n : Note) → Gone e empty_statement n nothing c next
     empty_gone n h = h
+
+    pub import_gone : (w : Bool) (k : Kind) (n m : Note) (x : List ℕ) → binds_import k ≡ true → FreeDeclarator v x w c next → Gone e k n (node (binding_name x) m nothing nothing) c next
+    import_gone w k n m x binds free h = let d = declares_name x m k n binds (λ at. c) 0 next e h in no_free x c.declaring.layer free d.0 d.1
 
     pub statement_gone : (w : Bool) (n : Note) (below : Forest) → is_enclosed below ≡ true → SilentStatement v below w c next → Gone e expression_statement n below c next
     statement_gone w n below closed silent h = by (binding_in e (own_sites c n expression_statement below) (sites (inside c next expression_statement below) 0 (next + 0) below) [] h)

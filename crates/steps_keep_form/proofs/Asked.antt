@@ -14,7 +14,7 @@ use Rattle.form_rules.specs.Context.{has_use_strict, is_strict_list, is_strict_f
 use Rattle.form_rules.specs.Scope.{bound_below, variables_below, scope_below, function_below, sought_below, declared_here}
 use Rattle.form_rules.specs.Rules.{are_names, have_plain_parameters, private_of, first_is_super, is_bare_name, is_name_first, is_rest, is_default, is_constructor, named_by, locals_named, locals_by, exported_by}
 use Rattle.steps_keep_form.specs.Part.{gives_way, is_statement, is_asked_for, asks_further, Replaces, by_part, by_parts}
-use Rattle.steps_keep_form.specs.Sheds.{Row, parts, items, of_item, of_declarators, of_head, other, asked_below, may_empty, Around, may_give_way, sought_inside}
+use Rattle.steps_keep_form.specs.Sheds.{Row, parts, items, of_item, of_declarators, of_head, of_import, of_specifiers, other, asked_below, may_empty, Around, may_give_way, sought_inside}
 use Rattle.js_syntax.proofs.Truth.{not_true, first_of_both, second_of_both}
 
 -- ---- what is seen of such a node in its row
@@ -286,4 +286,6 @@ asked_there items k h = h
 asked_there of_item k h = refl
 asked_there of_declarators k h = h
 asked_there of_head k h = refl
+asked_there of_import k h = h
+asked_there of_specifiers k h = h
 asked_there other k h = h

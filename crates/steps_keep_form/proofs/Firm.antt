@@ -14,7 +14,7 @@ use Rattle.js_syntax.specs.Table.{Row as TableRow, a_program, a_block_statement,
 use Rattle.json_shape.specs.Shape.{Values, kind_in, first_of, Place, one, maybe_one, beyond, key_node, key_apart, key_place, list, list_with_holes, body, item_or_hole, item_of_body, places, Plan, these, all, all_or_holes, all_of_body, first_place, behind, after_body_item, is_directive_kind, IsOf, IsAt, Stand, Fits}
 use Rattle.json_shape.proofs.Choice.{is_list_kind}
 use Rattle.steps_keep_form.specs.Part.{gives_way, is_statement, is_asked_for}
-use Rattle.steps_keep_form.specs.Sheds.{Row, parts, items, of_item, of_declarators, of_head, other, row_below, asked_below, may_empty, may_give_way}
+use Rattle.steps_keep_form.specs.Sheds.{Row, parts, items, of_item, of_declarators, of_head, of_import, of_specifiers, other, row_below, asked_below, may_empty, may_give_way}
 use Rattle.steps_keep_form.proofs.Planned.{takes_statement, is_open}
 use Rattle.js_syntax.proofs.Truth.{first_of_both, second_of_both, both}
 
@@ -150,10 +150,13 @@ made_suits items h a_program vs = refl
 made_suits items h r vs = refl
 made_suits of_declarators h a_program vs = refl
 made_suits of_declarators h r vs = refl
+made_suits of_specifiers h a_program vs = refl
+made_suits of_specifiers h r vs = refl
 made_suits other h a_program vs = refl
 made_suits other h r vs = refl
 made_suits of_item h r vs = absurd cc
 made_suits of_head h r vs = absurd cc
+made_suits of_import h r vs = absurd cc
 
 module _ (row : Row) (asked : Bool) where
   key_suits : (keys : Keys) (private : Bool) (key : Key) → suits_class row asked expression && suits_class row asked private_key ≡ true → suits row asked (key_place keys private key) ≡ true

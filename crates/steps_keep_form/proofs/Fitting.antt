@@ -2,7 +2,7 @@
 use Rattle.std.proofs.Common.{◌≡◌, inl, inr, [], ◌∷◌, Bool, true, false, not, ◌&&◌, ◌||◌, refl, sym, subst, ap, ◌∙◌}
 use Rattle.js_syntax.specs.Class.{Class, root, a_prologue, expression, private_key}
 use Rattle.js_syntax.specs.declared.node_kind.NodeKind.{NodeKind as Kind}
-use Rattle.js_syntax.specs.declared.node_kind.NodeKind.TheVariants.{Program as program, Directive as directive, Hole as hole, Statements as statements, Declarators as declarators, Function as function, ExpressionStatement as expression_statement, ExportNamedDeclaration as export_named_declaration}
+use Rattle.js_syntax.specs.declared.node_kind.NodeKind.TheVariants.{Program as program, Directive as directive, Hole as hole, Statements as statements, Declarators as declarators, Specifiers as specifiers, Function as function, ExpressionStatement as expression_statement, ExportNamedDeclaration as export_named_declaration, ImportDeclaration as import_declaration}
 use Rattle.js_syntax.specs.Hint.{has, is_private}
 use Rattle.js_syntax.specs.Field.{Keys}
 use Rattle.js_syntax.specs.Node.{Note, Forest, nothing, node, absent}
@@ -12,10 +12,10 @@ use Rattle.form_rules.specs.Context.{has_use_strict}
 use Rattle.json_shape.specs.Shape.{kind_in, Place, one, maybe_one, beyond, key_node, key_apart, list, list_with_holes, body, item_or_hole, item_of_body, places, Plan, these, all, all_or_holes, all_of_body, first_place, behind, after_body_item, MayLack, is_directive_kind, IsOf, IsAt, Stand, Fits}
 use Rattle.json_shape.proofs.Choice.{is_list_kind}
 use Rattle.json_shape.proofs.Fitting.{takes_directive, no_directive}
-use Rattle.steps_keep_form.specs.Sheds.{Row, parts, items, of_item, of_declarators, of_head, other, row_below, may_empty}
-use Rattle.steps_keep_form.proofs.Rows.{is_usual, is_other}
+use Rattle.steps_keep_form.specs.Sheds.{Row, parts, items, of_item, of_declarators, of_head, of_import, of_specifiers, other, row_below, may_empty}
+use Rattle.steps_keep_form.proofs.Rows.{is_other}
 use Rattle.steps_keep_form.specs.Layout.{is_declarators, stands_right, is_laid_out, IsLaidOut}
-use Rattle.steps_keep_form.proofs.Planned.{is_prologue, takes_statement, is_ordinary, suits, is_item_of_body, suits_plan, first_suits, behind_suits, is_open, made_suits, places_suit, made_right}
+use Rattle.steps_keep_form.proofs.Planned.{is_prologue, takes_statement, is_quiet, is_ordinary, suits, is_item_of_body, suits_plan, first_suits, behind_suits, is_open, made_suits, places_suit, made_right}
 use Rattle.js_syntax.proofs.Truth.{not_true, first_of_both, second_of_both, both}
 
 -- ---- places by rows
@@ -33,6 +33,8 @@ one_open items c h = (refl, λ t. refl)
 one_open of_item c h = absurd cc
 one_open of_head c h = absurd cc
 one_open of_declarators c h = (refl, λ t. absurd (taken_not (takes_statement c) h t))
+one_open of_import c h = absurd cc
+one_open of_specifiers c h = (refl, λ t. absurd (taken_not (takes_statement c) h t))
 one_open other c h = (refl, λ t. absurd (taken_not (takes_statement c) h t))
 
 maybe_open : (row : Row) (c : Class) → suits row (maybe_one c) ≡ true → MayTake row c
@@ -41,6 +43,8 @@ maybe_open items c h = absurd cc
 maybe_open of_item c h = absurd cc
 maybe_open of_head c h = absurd cc
 maybe_open of_declarators c h = absurd cc
+maybe_open of_import c h = absurd cc
+maybe_open of_specifiers c h = absurd cc
 maybe_open other c h = (refl, λ t. absurd (taken_not (takes_statement c) h t))
 
 hole_open : (row : Row) (c : Class) → suits row (item_or_hole c) ≡ true → MayTake row c
@@ -49,6 +53,8 @@ hole_open items c h = absurd cc
 hole_open of_item c h = absurd cc
 hole_open of_head c h = absurd cc
 hole_open of_declarators c h = absurd cc
+hole_open of_import c h = absurd cc
+hole_open of_specifiers c h = absurd cc
 hole_open other c h = (refl, λ t. absurd (taken_not (takes_statement c) h t))
 
 item_open : (row : Row) (c d : Class) → suits row (item_of_body c) ≡ true → MayTake row d
@@ -57,6 +63,8 @@ item_open items c d h = (refl, λ t. refl)
 item_open of_item c d h = absurd cc
 item_open of_head c d h = absurd cc
 item_open of_declarators c d h = absurd cc
+item_open of_import c d h = absurd cc
+item_open of_specifiers c d h = absurd cc
 item_open other c d h = absurd cc
 
 key_open : (row : Row) (keys : Keys) (private : Bool) (c : Class) → takes_statement c ≡ false → suits row (key_node keys private) ≡ true → MayTake row c
@@ -65,6 +73,8 @@ key_open items keys private c calm h = absurd cc
 key_open of_item keys private c calm h = absurd cc
 key_open of_head keys private c calm h = absurd cc
 key_open of_declarators keys private c calm h = absurd cc
+key_open of_import keys private c calm h = absurd cc
+key_open of_specifiers keys private c calm h = absurd cc
 key_open other keys private c calm h = (refl, λ t. absurd (cc (t, calm)))
 
 -- ---- a node at its place
@@ -75,7 +85,13 @@ ordinary_right row expression_statement a h = absurd cc
 ordinary_right row (program source) a h = absurd cc
 ordinary_right row (export_named_declaration source) a h = absurd cc
 ordinary_right row (function how pure) a h = absurd cc
+ordinary_right row (import_declaration source) a h = absurd cc
 ordinary_right row kind a h = refl
+
+-- such a list stands in no import
+quiet_other : (row : Row) (kind : Kind) → row_below row specifiers ≡ other → is_quiet kind ≡ true → row_below row kind ≡ other
+quiet_other row specifiers apart h = apart
+quiet_other row kind apart h = is_other row kind h
 
 module _ (a : Forest) (below : (row : Row) (plan : Plan) → suits_plan row plan ≡ true → Stand plan a → is_laid_out row a ≡ true) where
   abbrev Good : Row → Kind → Type 0
@@ -83,33 +99,38 @@ module _ (a : Forest) (below : (row : Row) (plan : Plan) → suits_plan row plan
 
   good_of : (row : Row) (k : Kind) (c : Class) → MayTake row c → IsOf k a (λ p. Stand p a) c → Good row k
   good_of row k c may of = (
-    ap (λ x. stands_right row x a) of.4 ∙ made_right row c of.0 of.1 (has is_private a) a may.1 of.2 of.5,
+    ap (λ x. stands_right row x a) of.4 ∙ made_right row c of.0 of.1 (has is_private a) a may.0 may.1 of.2 of.5,
     ap (λ x. is_laid_out (row_below row x) a) of.4
         ∙ below (row_below row (kind_in of.0 of.1)) (these (places (has is_private a) (fields_of of.0) of.1)) (places_suit (row_below row (kind_in of.0 of.1)) (has is_private a) (fields_of of.0) of.1 (made_suits row may.0 of.0 of.1)) of.5,
   )
 
-  ordinary_list : (row : Row) (kind : Kind) (plan : Plan) → is_ordinary kind ≡ true → suits_plan other plan ≡ true → Stand plan a → Good row kind
-  ordinary_list row kind plan usual suit h =
-      (ordinary_right row kind a usual, ap (λ x. is_laid_out x a) (is_other row kind (second_of_both (is_list_kind kind) (is_usual kind) usual)) ∙ below other plan suit h)
+  ordinary_list : (row : Row) (kind : Kind) (plan : Plan) → row_below row specifiers ≡ other → is_ordinary kind ≡ true → suits_plan other plan ≡ true → Stand plan a → Good row kind
+  ordinary_list row kind plan apart ordinary suit h =
+      (ordinary_right row kind a ordinary, ap (λ x. is_laid_out x a) (quiet_other row kind apart (second_of_both (is_list_kind kind) (is_quiet kind) ordinary)) ∙ below other plan suit h)
 
   good_list : (row : Row) (kind : Kind) (c : Class) → suits row (list kind c) ≡ true → Stand (all c) a → Good row kind
   good_list parts statements c h st = (refl, below items (all c) h st)
-  good_list parts kind c h st = ordinary_list parts kind (all c) (first_of_both (is_ordinary kind) (not (takes_statement c)) h) (second_of_both (is_ordinary kind) (not (takes_statement c)) h) st
+  good_list parts kind c h st = ordinary_list parts kind (all c) refl (first_of_both (is_ordinary kind) (not (takes_statement c)) h) (second_of_both (is_ordinary kind) (not (takes_statement c)) h) st
   good_list of_item declarators c h st = (refl, below of_declarators (all c) h st)
   good_list of_item kind c h st = absurd cc
   good_list of_head declarators c h st = (refl, below other (all c) h st)
   good_list of_head kind c h st = absurd cc
+  good_list of_import specifiers c h st = (refl, below of_specifiers (all c) h st)
+  good_list of_import kind c h st = absurd cc
   good_list items kind c h st = absurd cc
   good_list of_declarators kind c h st = absurd cc
-  good_list other kind c h st = ordinary_list other kind (all c) (first_of_both (is_ordinary kind) (not (takes_statement c)) h) (second_of_both (is_ordinary kind) (not (takes_statement c)) h) st
+  good_list of_specifiers kind c h st = absurd cc
+  good_list other kind c h st = ordinary_list other kind (all c) refl (first_of_both (is_ordinary kind) (not (takes_statement c)) h) (second_of_both (is_ordinary kind) (not (takes_statement c)) h) st
 
   good_holes : (row : Row) (kind : Kind) (c : Class) → suits row (list_with_holes kind c) ≡ true → Stand (all_or_holes c) a → Good row kind
-  good_holes parts kind c h st = ordinary_list parts kind (all_or_holes c) (first_of_both (is_ordinary kind) (not (takes_statement c)) h) (second_of_both (is_ordinary kind) (not (takes_statement c)) h) st
-  good_holes other kind c h st = ordinary_list other kind (all_or_holes c) (first_of_both (is_ordinary kind) (not (takes_statement c)) h) (second_of_both (is_ordinary kind) (not (takes_statement c)) h) st
+  good_holes parts kind c h st = ordinary_list parts kind (all_or_holes c) refl (first_of_both (is_ordinary kind) (not (takes_statement c)) h) (second_of_both (is_ordinary kind) (not (takes_statement c)) h) st
+  good_holes other kind c h st = ordinary_list other kind (all_or_holes c) refl (first_of_both (is_ordinary kind) (not (takes_statement c)) h) (second_of_both (is_ordinary kind) (not (takes_statement c)) h) st
   good_holes items kind c h st = absurd cc
   good_holes of_item kind c h st = absurd cc
   good_holes of_head kind c h st = absurd cc
   good_holes of_declarators kind c h st = absurd cc
+  good_holes of_import kind c h st = absurd cc
+  good_holes of_specifiers kind c h st = absurd cc
 
   good_body : (row : Row) (c : Class) → suits row (body c) ≡ true → Stand (all_of_body c) a → Good row statements
   good_body parts c h st = (refl, below items (all_of_body c) (both (not (is_prologue c)) (not (is_prologue c)) h h) st)
@@ -117,6 +138,8 @@ module _ (a : Forest) (below : (row : Row) (plan : Plan) → suits_plan row plan
   good_body of_item c h st = absurd cc
   good_body of_head c h st = absurd cc
   good_body of_declarators c h st = absurd cc
+  good_body of_import c h st = absurd cc
+  good_body of_specifiers c h st = absurd cc
   good_body other c h st = absurd cc
 
   good_hole : (row : Row) → Stand (these []) a → Good row hole
@@ -153,6 +176,8 @@ one_free items c h = free c h
 one_free of_item c h = absurd cc
 one_free of_head c h = absurd cc
 one_free of_declarators c h = calm_free c h
+one_free of_import c h = absurd cc
+one_free of_specifiers c h = calm_free c h
 one_free other c h = calm_free c h
 
 maybe_free : (row : Row) (c : Class) → suits row (maybe_one c) ≡ true → takes_directive (stands c type.ExpressionStatement) ≡ false
@@ -161,6 +186,8 @@ maybe_free items c h = absurd cc
 maybe_free of_item c h = absurd cc
 maybe_free of_head c h = absurd cc
 maybe_free of_declarators c h = absurd cc
+maybe_free of_import c h = absurd cc
+maybe_free of_specifiers c h = absurd cc
 maybe_free other c h = calm_free c h
 
 hole_free : (row : Row) (c : Class) → suits row (item_or_hole c) ≡ true → takes_directive (stands c type.ExpressionStatement) ≡ false
@@ -169,6 +196,8 @@ hole_free items c h = absurd cc
 hole_free of_item c h = absurd cc
 hole_free of_head c h = absurd cc
 hole_free of_declarators c h = absurd cc
+hole_free of_import c h = absurd cc
+hole_free of_specifiers c h = absurd cc
 hole_free other c h = calm_free c h
 
 listed : (row : Row) (kind : Kind) (c : Class) → suits row (list kind c) ≡ true → is_directive_kind kind ≡ false
@@ -177,6 +206,8 @@ listed items (directive written) c h = absurd cc
 listed of_item (directive written) c h = absurd cc
 listed of_head (directive written) c h = absurd cc
 listed of_declarators (directive written) c h = absurd cc
+listed of_import (directive written) c h = absurd cc
+listed of_specifiers (directive written) c h = absurd cc
 listed other (directive written) c h = absurd cc
 listed row kind c h = refl
 
@@ -186,6 +217,8 @@ listed_holes items (directive written) c h = absurd cc
 listed_holes of_item (directive written) c h = absurd cc
 listed_holes of_head (directive written) c h = absurd cc
 listed_holes of_declarators (directive written) c h = absurd cc
+listed_holes of_import (directive written) c h = absurd cc
+listed_holes of_specifiers (directive written) c h = absurd cc
 listed_holes other (directive written) c h = absurd cc
 listed_holes row kind c h = refl
 

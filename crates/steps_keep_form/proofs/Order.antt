@@ -1,7 +1,7 @@
 -- What is left of a tree is laid out as the tree was.
 use Rattle.std.proofs.Common.{◌≡◌, Bool, true, false, not, ◌&&◌, ◌||◌, refl, sym, ap, ◌∙◌}
 use Rattle.js_syntax.specs.declared.node_kind.NodeKind.{NodeKind as Kind}
-use Rattle.js_syntax.specs.declared.node_kind.NodeKind.TheVariants.{Program as program, Directive as directive, Statements as statements, FunctionBody as function_body, ExpressionStatement as expression_statement, BlockStatement as block_statement, StaticBlock as static_block, SwitchCase as switch_case, LabeledStatement as labeled_statement, IfStatement as if_statement, WithStatement as with_statement, WhileStatement as while_statement, DoWhileStatement as do_while_statement, ForStatement as for_statement, ForInStatement as for_in_statement, ForOfStatement as for_of_statement, ConditionalExpression as conditional_expression, UnaryExpression as unary_expression, BinaryExpression as binary_expression, LogicalExpression as logical_expression, Function as function, VariableDeclaration as variable_declaration, Declarators as declarators, BindingName as binding_name, Specifiers as specifiers, ExportNamedDeclaration as export_named_declaration}
+use Rattle.js_syntax.specs.declared.node_kind.NodeKind.TheVariants.{Program as program, Directive as directive, Statements as statements, FunctionBody as function_body, ExpressionStatement as expression_statement, BlockStatement as block_statement, StaticBlock as static_block, SwitchCase as switch_case, LabeledStatement as labeled_statement, IfStatement as if_statement, WithStatement as with_statement, WhileStatement as while_statement, DoWhileStatement as do_while_statement, ForStatement as for_statement, ForInStatement as for_in_statement, ForOfStatement as for_of_statement, ConditionalExpression as conditional_expression, UnaryExpression as unary_expression, BinaryExpression as binary_expression, LogicalExpression as logical_expression, Function as function, VariableDeclaration as variable_declaration, Declarators as declarators, BindingName as binding_name, Specifiers as specifiers, ImportDeclaration as import_declaration, ExportNamedDeclaration as export_named_declaration}
 use Rattle.js_syntax.specs.Node.{Note, Forest, nothing, node, absent, joined}
 use Rattle.form_rules.specs.Context.{has_use_strict}
 use Rattle.json_shape.specs.Shape.{is_directive_kind}
@@ -55,7 +55,9 @@ below_statement row l h may = absurd cc
 pub of_expression : (l : Kind) → is_asked_for l ≡ false → is_statement l ≡ false → is_usual l ≡ true
 of_expression statements h g = absurd cc
 of_expression declarators h g = absurd cc
+of_expression specifiers h g = absurd cc
 of_expression (variable_declaration how) h g = absurd cc
+of_expression (import_declaration source) h g = absurd cc
 of_expression (program source) h g = absurd cc
 of_expression function_body h g = absurd cc
 of_expression block_statement h g = absurd cc
@@ -89,6 +91,7 @@ right_there row expression_statement b h may = may refl
 right_there row (program source) b h may = absurd cc
 right_there row (export_named_declaration source) b h may = absurd cc
 right_there row (function how pure) b h may = absurd cc
+right_there row (import_declaration source) b h may = absurd cc
 right_there row l b h may = refl
 
 laid_part : (row : Row) (before after : Forest) (l : Kind) (n : Note) (b : Forest) → is_laid_out row (joined before (node l n b after)) ≡ true → is_laid_out (row_below row l) b ≡ true

@@ -8,7 +8,7 @@ use Rattle.js_syntax.specs.declared.kind.MethodKind.TheVariants as method_kind
 use Rattle.js_syntax.specs.declared.kind.VariableKind.{VariableKind}
 use Rattle.js_syntax.specs.Node.{Forest, nothing, node}
 use Rattle.form_rules.specs.Rules.{places_of, all_but_first, first_below, length_of, is_default, is_constructor, has_initializer, is_declarator_wrong, counts_right}
-use Rattle.steps_keep_form.specs.Sheds.{Row, parts, items, of_item, of_declarators, of_head, other, row_below, asked_below, may_leave, may_empty, keeps_one, Around, entered, Sheds, ends, keeps_absent, keeps, leaves, empties, empties_if, becomes}
+use Rattle.steps_keep_form.specs.Sheds.{Row, parts, items, of_item, of_declarators, of_head, of_import, of_specifiers, other, row_below, asked_below, may_leave, may_empty, keeps_one, Around, entered, Sheds, ends, keeps_absent, keeps, leaves, empties, empties_if, becomes}
 use Rattle.steps_keep_form.specs.Part.{is_asked_for}
 use Rattle.steps_keep_form.proofs.Asked.{new_unasked, no_default, no_constructor, not_asked}
 use Rattle.steps_keep_form.proofs.Fewer.{Fewer, none, both, more}
@@ -69,18 +69,44 @@ one_constructor p q h = one_of_one (places_fewer is_constructor p q (λ k a b be
 
 -- ---- declarators
 
+-- rows below a declaration
+abbrev pub of_variables : Row → Bool
+of_variables of_item = true
+of_variables of_head = true
+of_variables row = false
+
+pub are_variables : (row : Row) (how : VariableKind) → of_variables (row_below row (variable_declaration how)) ≡ true
+are_variables parts how = refl
+are_variables items how = refl
+are_variables of_item how = refl
+are_variables of_declarators how = refl
+are_variables of_head how = refl
+are_variables of_import how = refl
+are_variables of_specifiers how = refl
+are_variables other how = refl
+
+variables_stay : (row : Row) → of_variables row ≡ true → (may_leave row ≡ false) × (may_empty row ≡ false)
+variables_stay parts h = absurd cc
+variables_stay items h = absurd cc
+variables_stay of_item h = (refl, refl)
+variables_stay of_declarators h = absurd cc
+variables_stay of_head h = (refl, refl)
+variables_stay of_import h = absurd cc
+variables_stay of_specifiers h = absurd cc
+variables_stay other h = absurd cc
+
 -- what lies below a declaration: a list of declarators, which may leave, and else nothing leaves
-below_declaration : (row : Row) (k : Kind) → may_empty row ≡ false → (may_leave (row_below row k) ≡ false) ⊎ (row_below row k ≡ of_declarators)
+below_declaration : (row : Row) (k : Kind) → of_variables row ≡ true → (may_leave (row_below row k) ≡ false) ⊎ (row_below row k ≡ of_declarators)
 below_declaration parts k h = absurd cc
 below_declaration items k h = absurd cc
 below_declaration of_item declarators h = inr refl
 below_declaration of_item k h = inl refl
-below_declaration of_declarators declarators h = inl refl
-below_declaration of_declarators k h = inl refl
+below_declaration of_declarators k h = absurd cc
 below_declaration of_head declarators h = inl refl
 below_declaration of_head k h = inl refl
-below_declaration other declarators h = inl refl
-below_declaration other k h = inl refl
+below_declaration of_import k h = absurd cc
+below_declaration of_specifiers k h = absurd cc
+below_declaration other k h = absurd cc
 
 -- rows in which no statement stands, nor one below their nodes
 abbrev pub is_plain : Row → Bool
@@ -97,6 +123,8 @@ plain_stays of_declarators declarators h = refl
 plain_stays of_declarators k h = refl
 plain_stays of_head declarators h = refl
 plain_stays of_head k h = refl
+plain_stays of_import k h = absurd cc
+plain_stays of_specifiers k h = absurd cc
 plain_stays other declarators h = refl
 plain_stays other k h = refl
 
@@ -106,6 +134,8 @@ plain_empties_not items h e = absurd cc
 plain_empties_not of_item h e = absurd cc
 plain_empties_not of_declarators h e = absurd cc
 plain_empties_not of_head h e = absurd cc
+plain_empties_not of_import h e = absurd cc
+plain_empties_not of_specifiers h e = absurd cc
 plain_empties_not other h e = absurd cc
 
 initializer_same : {w : Around} {t u : Forest} → may_leave w.row ≡ false → Sheds w t u → has_initializer u ≡ has_initializer t
@@ -139,16 +169,16 @@ counts_in : (is_head : Bool) (row : Row) (a b : Forest) → (may_leave row ≡ f
 counts_in is_head row a b (inl stays) one less same right = ap (counts_right is_head) (same stays) ∙ right
 counts_in is_head row a b (inr is) one less same right = counts_fewer is_head (length_of b) (length_of a) less (ap (λ x. keeps_one x a b) (sym is) ∙ one) right
 
-pub counts_stay : (is_head : Bool) {w : Around} {t u : Forest} → may_leave w.row ≡ false → may_empty w.row ≡ false → w.is_asked ≡ true → Sheds w t u
+pub counts_stay : (is_head : Bool) {w : Around} {t u : Forest} → of_variables w.row ≡ true → w.is_asked ≡ true → Sheds w t u
     → counts_right is_head (length_of (first_below t)) ≡ true → counts_right is_head (length_of (first_below u)) ≡ true
-counts_stay is_head stays full asked ends right = right
-counts_stay is_head stays full asked (keeps_absent rest) right = right
-counts_stay is_head stays full asked (keeps {w = w} {k = k} {a = a} {b = b} one below rest) right =
-    counts_in is_head (row_below w.row k) a b (below_declaration w.row k full) one (length_fewer below) (λ d. length_same d below) right
-counts_stay is_head stays full asked (leaves may out strict rest) right = absurd (cc (stays, may))
-counts_stay is_head stays full asked (empties may rest) right = absurd (cc (full, may))
-counts_stay is_head stays full asked (empties_if may unnamed rest) right = absurd (cc (full, may))
-counts_stay is_head stays full asked (becomes {w = w} {k = k} part may bare rest) right = absurd (cc (asked, not_asked w k may))
+counts_stay is_head is asked ends right = right
+counts_stay is_head is asked (keeps_absent rest) right = right
+counts_stay is_head is asked (keeps {w = w} {k = k} {a = a} {b = b} one below rest) right =
+    counts_in is_head (row_below w.row k) a b (below_declaration w.row k is) one (length_fewer below) (λ d. length_same d below) right
+counts_stay is_head {w = w} is asked (leaves may out strict rest) right = absurd (cc (may, (variables_stay w.row is).0))
+counts_stay is_head {w = w} is asked (empties may rest) right = absurd (cc (may, (variables_stay w.row is).1))
+counts_stay is_head {w = w} is asked (empties_if may unnamed rest) right = absurd (cc (may, (variables_stay w.row is).1))
+counts_stay is_head {w = w} is asked (becomes {k = k} part may bare rest) right = absurd (cc (asked, not_asked w k may))
 
 pub below_same : {w : Around} {t u : Forest} → w.row ≡ other → w.is_asked ≡ true → Sheds w t u → length_of (first_below u) ≡ length_of (first_below t)
 below_same is asked ends = refl
@@ -159,28 +189,6 @@ below_same is asked (empties may rest) = absurd (cc (may, ap may_empty is))
 below_same is asked (empties_if may unnamed rest) = absurd (cc (may, ap may_empty is))
 below_same is asked (becomes {w = w} {k = k} part may bare rest) = absurd (cc (asked, not_asked w k may))
 
--- rows below a declaration
-abbrev pub of_variables : Row → Bool
-of_variables of_item = true
-of_variables of_head = true
-of_variables row = false
-
-pub are_variables : (row : Row) (how : VariableKind) → of_variables (row_below row (variable_declaration how)) ≡ true
-are_variables parts how = refl
-are_variables items how = refl
-are_variables of_item how = refl
-are_variables of_declarators how = refl
-are_variables of_head how = refl
-are_variables other how = refl
-
-pub variables_stay : (row : Row) → of_variables row ≡ true → (may_leave row ≡ false) × (may_empty row ≡ false)
-variables_stay parts h = absurd cc
-variables_stay items h = absurd cc
-variables_stay of_item h = (refl, refl)
-variables_stay of_declarators h = absurd cc
-variables_stay of_head h = (refl, refl)
-variables_stay other h = absurd cc
-
 plain_below : (row : Row) (k : Kind) → of_variables row ≡ true → is_plain (row_below row k) ≡ true
 plain_below parts k h = absurd cc
 plain_below items k h = absurd cc
@@ -189,6 +197,8 @@ plain_below of_item k h = refl
 plain_below of_declarators k h = absurd cc
 plain_below of_head declarators h = refl
 plain_below of_head k h = refl
+plain_below of_import k h = absurd cc
+plain_below of_specifiers k h = absurd cc
 plain_below other k h = absurd cc
 
 asked_in_it : (row : Row) (k : Kind) → of_variables row ≡ true → asked_below row k ≡ true
@@ -197,6 +207,8 @@ asked_in_it items k h = absurd cc
 asked_in_it of_item k h = refl
 asked_in_it of_declarators k h = absurd cc
 asked_in_it of_head k h = refl
+asked_in_it of_import k h = absurd cc
+asked_in_it of_specifiers k h = absurd cc
 asked_in_it other k h = absurd cc
 
 -- the declarators of a declaration

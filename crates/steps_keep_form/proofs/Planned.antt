@@ -7,15 +7,15 @@ use Rattle.js_syntax.specs.declared.node_kind.NodeKind.{NodeKind as Kind}
 use Rattle.js_syntax.specs.declared.node_kind.NodeKind.TheVariants.{Statements as statements, Declarators as declarators, Parameters as parameters, Specifiers as specifiers, BindingName as binding_name}
 use Rattle.js_syntax.specs.Field.{Keys, keeps, checks, a_key, child, maybe, each, each_or_hole, a_body, Field, field}
 use Rattle.js_syntax.specs.Node.{Note, Forest, nothing, node, absent}
-use Rattle.js_syntax.specs.Table.{Row as TableRow, a_program, an_expression_statement, a_binding_name, an_export_list, an_export_declaration, an_export_from, a_function_declaration, a_default_function, a_function_expression, an_arrow_function, fields_of, type_of, stands}
+use Rattle.js_syntax.specs.Table.{Row as TableRow, a_program, an_expression_statement, a_binding_name, an_export_list, an_export_declaration, an_export_from, a_function_declaration, a_default_function, a_function_expression, an_arrow_function, an_import_declaration, fields_of, type_of, stands}
 use Rattle.js_syntax.specs.declared.node_type.NodeType.TheVariants as type
 use Rattle.form_rules.specs.Rules as rules
 use Rattle.json_text.specs.Plain.{takes_literal}
 use Rattle.json_shape.specs.Shape.{Values, kind_in, first_of, Place, one, maybe_one, beyond, key_node, key_apart, key_place, list, list_with_holes, body, item_or_hole, item_of_body, places, Plan, these, all, all_or_holes, all_of_body, first_place, behind, after_body_item, is_directive_kind, Stand}
 use Rattle.json_shape.proofs.Choice.{is_list_kind}
-use Rattle.steps_keep_form.specs.Sheds.{Row, parts, items, of_item, of_declarators, of_head, other, row_below, may_empty}
+use Rattle.steps_keep_form.specs.Sheds.{Row, parts, items, of_item, of_declarators, of_head, of_import, of_specifiers, other, row_below, may_empty}
 use Rattle.steps_keep_form.proofs.Rows.{is_usual}
-use Rattle.steps_keep_form.specs.Layout.{is_list_first, are_specifiers_first, binds_none, stands_right}
+use Rattle.steps_keep_form.specs.Layout.{is_of_declaration, is_list_first, are_specifiers_first, binds_none, stands_right}
 use Rattle.js_syntax.proofs.Truth.{first_of_both, second_of_both, both}
 
 -- ---- which places a row may have
@@ -30,8 +30,13 @@ takes_statement module_item = true
 takes_statement statement = true
 takes_statement c = false
 
+-- Lists in no row of their own, where they stand in no import.
+abbrev pub is_quiet : Kind → Bool
+is_quiet specifiers = true
+is_quiet kind = is_usual kind
+
 abbrev pub is_ordinary : Kind → Bool
-is_ordinary kind = is_list_kind kind && is_usual kind
+is_ordinary kind = is_list_kind kind && is_quiet kind
 
 -- where no statement stands, nor a list of them
 abbrev pub is_calm : Place → Bool
@@ -60,6 +65,10 @@ suits of_head (list declarators c) = not (takes_statement c)
 suits of_head p = false
 suits of_declarators (one c) = not (takes_statement c)
 suits of_declarators p = false
+suits of_import (list specifiers c) = not (takes_statement c)
+suits of_import p = false
+suits of_specifiers (one c) = not (takes_statement c)
+suits of_specifiers p = false
 suits other p = is_calm p
 
 abbrev pub is_item_of_body : Place → Bool
@@ -118,6 +127,7 @@ fields_suit row (f ∷ fs) = sort_suits row f && fields_suit row fs
 abbrev pub is_open : Row → Bool
 is_open of_item = false
 is_open of_head = false
+is_open of_import = false
 is_open row = true
 
 pub made_suits : (row : Row) → is_open row ≡ true → (r : TableRow) (vs : Values (fields_of r)) → fields_suit (row_below row (kind_in r vs)) (fields_of r) ≡ true
@@ -127,10 +137,13 @@ made_suits items h a_program vs = refl
 made_suits items h r vs = refl
 made_suits of_declarators h a_program vs = refl
 made_suits of_declarators h r vs = refl
+made_suits of_specifiers h a_program vs = refl
+made_suits of_specifiers h r vs = refl
 made_suits other h a_program vs = refl
 made_suits other h r vs = refl
 made_suits of_item h r vs = absurd cc
 made_suits of_head h r vs = absurd cc
+made_suits of_import h r vs = absurd cc
 
 module _ (row : Row) where
   apart_suits : (x : Bool) → suits row (key_apart true) ≡ true → suits row (key_apart false) ≡ true → suits row (key_apart x) ≡ true
@@ -225,15 +238,21 @@ statement_class module_item h = refl
 statement_class statement h = refl
 statement_class c h = absurd cc
 
-pub made_right : (row : Row) (c : Class) (r : TableRow) (vs : Values (fields_of r)) (private : Bool) (a : Forest) → (takes_statement c ≡ true → may_empty row ≡ true) → stands c (type_of r) ≡ Some (first_of r)
+open_no_declaration : (row : Row) → is_open row ≡ true → not (is_of_declaration row) ≡ true
+open_no_declaration of_item h = absurd cc
+open_no_declaration of_head h = absurd cc
+open_no_declaration row h = refl
+
+pub made_right : (row : Row) (c : Class) (r : TableRow) (vs : Values (fields_of r)) (private : Bool) (a : Forest) → is_open row ≡ true → (takes_statement c ≡ true → may_empty row ≡ true) → stands c (type_of r) ≡ Some (first_of r)
     → Stand (these (places private (fields_of r) vs)) a → stands_right row (kind_in r vs) a ≡ true
-made_right row c a_program vs private a may is h = list_there _ _ a h
-made_right row c an_expression_statement vs private a may is h = may (statement_class c is)
-made_right row c an_export_list vs private a may is h = specifiers_second _ _ _ a h
-made_right row c an_export_declaration vs private a may is h = specifiers_second _ _ _ a h
-made_right row c an_export_from vs private a may is h = specifiers_second _ _ _ a h
-made_right row c a_function_declaration vs private a may is h = parts_bind _ _ function_block a refl h
-made_right row c a_default_function vs private a may is h = parts_bind _ _ function_block a refl h
-made_right row c a_function_expression vs private a may is h = parts_bind _ _ function_block a refl h
-made_right row c an_arrow_function vs private a may is h = parts_bind _ _ arrow_body a refl h
-made_right row c r vs private a may is h = refl
+made_right row c a_program vs private a free may is h = list_there _ _ a h
+made_right row c an_expression_statement vs private a free may is h = may (statement_class c is)
+made_right row c an_export_list vs private a free may is h = specifiers_second _ _ _ a h
+made_right row c an_export_declaration vs private a free may is h = specifiers_second _ _ _ a h
+made_right row c an_export_from vs private a free may is h = specifiers_second _ _ _ a h
+made_right row c a_function_declaration vs private a free may is h = parts_bind _ _ function_block a refl h
+made_right row c a_default_function vs private a free may is h = parts_bind _ _ function_block a refl h
+made_right row c a_function_expression vs private a free may is h = parts_bind _ _ function_block a refl h
+made_right row c an_arrow_function vs private a free may is h = parts_bind _ _ arrow_body a refl h
+made_right row c an_import_declaration vs private a free may is h = open_no_declaration row free
+made_right row c r vs private a free may is h = refl

@@ -1,11 +1,11 @@
 -- Rows of which nothing leaves: what the rules of form see of their nodes is as it was.
 use Rattle.std.proofs.Common.{◌≡◌, suc, Bool, true, false, not, ◌||◌, ◌==◌, if◌then◌else◌, refl, ap}
 use Rattle.js_syntax.specs.declared.node_kind.NodeKind.{NodeKind as Kind}
-use Rattle.js_syntax.specs.declared.node_kind.NodeKind.TheVariants.{Statements as statements, Declarators as declarators, VariableDeclaration as variable_declaration}
+use Rattle.js_syntax.specs.declared.node_kind.NodeKind.TheVariants.{Statements as statements, Declarators as declarators, Specifiers as specifiers, VariableDeclaration as variable_declaration, ImportDeclaration as import_declaration}
 use Rattle.js_syntax.specs.Node.{Forest, nothing, node, absent}
 use Rattle.form_rules.specs.Context.{is_absent, behind_first}
 use Rattle.form_rules.specs.Rules.{behind, length_of}
-use Rattle.steps_keep_form.specs.Sheds.{Row, parts, items, of_item, of_declarators, of_head, other, has_statements, row_below, may_leave, keeps_one, Around, entered, Sheds, ends, keeps_absent, keeps, leaves, empties, empties_if, becomes}
+use Rattle.steps_keep_form.specs.Sheds.{Row, parts, items, of_item, of_declarators, of_head, of_import, of_specifiers, other, has_statements, row_below, may_leave, keeps_one, Around, entered, Sheds, ends, keeps_absent, keeps, leaves, empties, empties_if, becomes}
 
 -- ---- a row is left of itself
 
@@ -27,16 +27,20 @@ itself w (node k n a r) = keeps (keeps_itself (row_below w.row k) a) (itself (en
 abbrev pub is_list : Kind → Bool
 is_list statements = true
 is_list declarators = true
+is_list specifiers = true
 is_list k = false
 
 pub stays_below : (row : Row) (k : Kind) → is_list k ≡ false → may_leave (row_below row k) ≡ false
 stays_below row statements h = absurd cc
 stays_below row declarators h = absurd cc
+stays_below row specifiers h = absurd cc
 stays_below parts k h = refl
 stays_below items k h = refl
 stays_below of_item k h = refl
 stays_below of_declarators k h = refl
 stays_below of_head k h = refl
+stays_below of_import k h = refl
+stays_below of_specifiers k h = refl
 stays_below other k h = refl
 
 -- ---- first nodes
@@ -78,7 +82,9 @@ length_same stays (becomes part may bare rest) = ap (λ n. suc n) (length_same s
 abbrev pub is_usual : Kind → Bool
 is_usual statements = false
 is_usual declarators = false
+is_usual specifiers = false
 is_usual (variable_declaration how) = false
+is_usual (import_declaration source) = false
 is_usual k = not (has_statements k)
 
 usual : (b : Bool) → not b ≡ true → (if b then parts else other) ≡ other
@@ -88,10 +94,14 @@ usual false h = refl
 pub is_other : (row : Row) (k : Kind) → is_usual k ≡ true → row_below row k ≡ other
 is_other row statements h = absurd cc
 is_other row declarators h = absurd cc
+is_other row specifiers h = absurd cc
 is_other row (variable_declaration how) h = absurd cc
+is_other row (import_declaration source) h = absurd cc
 is_other of_item k h = refl
 is_other of_head k h = refl
+is_other of_import k h = refl
 is_other parts k h = usual (has_statements k) h
 is_other items k h = usual (has_statements k) h
 is_other of_declarators k h = usual (has_statements k) h
+is_other of_specifiers k h = usual (has_statements k) h
 is_other other k h = usual (has_statements k) h

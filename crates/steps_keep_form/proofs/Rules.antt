@@ -23,7 +23,7 @@ use Rattle.steps_keep_form.proofs.Rows.{stays_below, is_other, behind_left, abse
 use Rattle.steps_keep_form.proofs.Exports.{exported_first, locals_below_first, locals_anywhere, none_undeclared}
 use Rattle.steps_keep_form.proofs.Asked.{asked_there}
 use Rattle.steps_keep_form.proofs.Seen.{function_same, plain_same, privates_fewer, super_same, bare_kept, rests_last}
-use Rattle.steps_keep_form.proofs.Parts.{one_default, one_constructor, counts_stay, below_same, are_variables, variables_stay, declarators_left}
+use Rattle.steps_keep_form.proofs.Parts.{one_default, one_constructor, counts_stay, below_same, are_variables, declarators_left}
 
 -- ---- lists of breaks
 
@@ -176,11 +176,10 @@ module _ (w : Around) (c : Context) (p q : ℕ) (a b : Forest) where
   parts_kept members h g = each_none 11 (all_but_first (places_of is_constructor p a)) (all_but_first (places_of is_constructor q b)) (one_constructor q p h) g
   parts_kept (variable_declaration how) h g =
       let row = are_variables w.row how in
-      let stays = variables_stay (row_below w.row (variable_declaration how)) row in
       each_kept (unless (counts_right c.is_head (length_of (first_below a))) p 11) (each_breaks 11 (places_of (is_declarator_wrong c.is_head how) (suc p) (first_below a)))
       (unless (counts_right c.is_head (length_of (first_below b))) q 11) (each_breaks 11 (places_of (is_declarator_wrong c.is_head how) (suc q) (first_below b)))
       (unless_if (counts_right c.is_head (length_of (first_below a))) (counts_right c.is_head (length_of (first_below b))) p q 11
-      (counts_stay c.is_head stays.0 stays.1 (asked_there w.row (variable_declaration how) refl) h))
+      (counts_stay c.is_head row (asked_there w.row (variable_declaration how) refl) h))
       (each_none 11 (places_of (is_declarator_wrong c.is_head how) (suc p) (first_below a)) (places_of (is_declarator_wrong c.is_head how) (suc q) (first_below b))
       (declarators_left c.is_head how (suc q) (suc p) row (asked_there w.row (variable_declaration how) refl) h)) g
   parts_kept sequence_expression h g =

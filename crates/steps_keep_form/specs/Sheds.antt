@@ -1,6 +1,6 @@
--- What a program may lose so that no rule of form is broken by it: items of lists of statements, declarators of such items,
--- expressions that are statements, an `if` that declares nothing, and what stands around a part of a node, or around those of an
--- expression.
+-- What a program may lose so that no rule of form is broken by it: items of lists of statements, declarators of such items, names of
+-- imports, expressions that are statements, an `if` that declares nothing, and what stands around a part of a node, or around those
+-- of an expression.
 use Rattle.std.specs.Prelude.{◌≡◌, ℕ, List, [], ◌∷◌, Bool, true, false, not, ◌&&◌, ◌||◌, ◌==◌}
 use Rattle.js_syntax.specs.declared.node_kind.NodeKind.{NodeKind as Kind}
 use Rattle.js_syntax.specs.declared.node_kind.NodeKind.TheVariants.{Program as program, ExpressionStatement as expression_statement, EmptyStatement as empty_statement, IfStatement as if_statement, UnaryExpression as unary_expression, ParenthesizedExpression as parenthesized_expression}
@@ -11,7 +11,7 @@ use Rattle.form_rules.specs.declared.sought.Sought.TheVariants.{Nothing as none,
 use Rattle.form_rules.specs.Context.{has_use_strict}
 use Rattle.form_rules.specs.Scope.{Declared, sought_below, declared}
 use Rattle.form_rules.specs.Rules.{Exported, first_below, length_of, at_top, locals_among, is_exported, is_bare_name}
-pub use Rattle.steps_keep_form.specs.Row.{Row, parts, items, of_item, of_declarators, of_head, other, has_statements, row_below, may_leave, may_empty}
+pub use Rattle.steps_keep_form.specs.Row.{Row, parts, items, of_item, of_declarators, of_head, of_import, of_specifiers, other, has_statements, row_below, may_leave, may_empty}
 use Rattle.steps_keep_form.specs.Part.{is_statement, asks_further, Replaces}
 
 -- whether a rule asks what lies below the nodes of a row

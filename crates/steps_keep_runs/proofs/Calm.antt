@@ -8,7 +8,7 @@ use Rattle.js_syntax.specs.declared.kind.VariableKind.TheVariants as variable
 use Rattle.js_syntax.specs.declared.kind.ClassKind.TheVariants as class_kind
 use Rattle.js_meaning.specs.Scope.{first_of, behind, first_name, names_of, bound_names, vars_of, var_names, item_decls, lexical, waiting, all_so, named_so, or_default}
 use Rattle.js_meaning_near.specs.Near.{is_row}
-use Rattle.steps.specs.Steps.{Row, items, declarators, other, row_below, Around, entered, Goes, empty_statement, unused_function, unused_declarator, unused_declaration, Step, leaves, empties, inside, behind_node, behind_absent}
+use Rattle.steps.specs.Steps.{Row, items, declarators, other, row_below, Around, entered, Goes, empty_statement, unused_function, unused_declarator, unused_declaration, Step, leaves, empties, unbinds, inside, behind_node, behind_absent}
 use Rattle.steps_keep_runs.specs.Formed.{is_plain, still, calm_at, calm, heads, holds_well, is_formed}
 use Rattle.steps_keep_runs.specs.Drop.{no_drop, outside, dropped}
 use Rattle.js_syntax.proofs.Truth.{first_of_both, second_of_both}
@@ -46,11 +46,16 @@ plain_row k a e = refl
 pub other_below : (w : Around) (k : Kind) (a : Forest) → w.row ≡ other → is_plain k ≡ true → (entered w k a).row ≡ other
 other_below w k a h e = entered_row w k a ∙ ap (λ r. row_below r k a) h ∙ plain_row k a e
 
+-- an import stands among items
+pub items_other : {r : Row} → r ≡ items → r ≡ other → ⊥
+items_other i g = cc
+
 -- no step
 
 pub still_stays : {w : Around} {t u : Forest} → Step w t u → w.row ≡ other → still t ≡ true → ⊥
 still_stays (leaves h) g e = leaves_no_other h g
 still_stays (empties h) g e = true≢false (sym e)
+still_stays (unbinds i u h) g e = items_other i g
 still_stays (inside {w = w} {k = k} {a = a} {r = r} s) g e =
     let f = first_of_both (is_plain k && still a) (still r) e in
     still_stays s (other_below w k a g (first_of_both (is_plain k) (still a) f)) (second_of_both (is_plain k) (still a) f)
@@ -68,6 +73,7 @@ pub record Behind {w : Around} {a b : Forest} (s : Step w a b) : Type 0 where
 pub first_stays : {w : Around} {a b : Forest} (s : Step w a b) → w.row ≡ other → still (first_of a) ≡ true → Behind s
 first_stays (leaves h) g e = absurd (leaves_no_other h g)
 first_stays (empties h) g e = absurd (true≢false (sym e))
+first_stays (unbinds i u h) g e = absurd (items_other i g)
 first_stays (inside {n = n} s) g e = absurd (still_stays (inside {n = n} {r = nothing} s) g e)
 first_stays (behind_node s) g e = record { first = refl; name = refl; rows = refl; step = s; drops = refl }
 first_stays (behind_absent s) g e = record { first = refl; name = refl; rows = refl; step = s; drops = refl }
@@ -135,6 +141,7 @@ calm_node_step {w} {n} {a} {b} {r} k s g (inr v) f h = let c = h (g v.0) v.1 in 
 pub calm_step : {w : Around} {t u : Forest} (s : Step w t u) → w.row ≡ other → calm t ≡ true → is_formed t ≡ true → Calmly s
 calm_step (leaves h) g e f = absurd (leaves_no_other h g)
 calm_step (empties h) g e f = absurd (true≢false (sym e))
+calm_step (unbinds i u h) g e f = absurd (items_other i g)
 calm_step (inside {w = w} {k = k} {n = n} {a = a} {b = b} {r = r} s) g e f =
     calm_node_step k s (other_below w k a g) (calm_node k (calm a) (first_of_both (calm_at k (calm a)) (calm r) e)) f (λ i j. calm_step s i j (form_below k a r f))
 calm_step (behind_node {k = k} {a = a} {r = r} s) g e f =

@@ -1,5 +1,6 @@
 pub mod Silent
 pub mod Calm
+pub mod Unbound
 pub mod Lists
 pub mod Names
 pub mod Scopes

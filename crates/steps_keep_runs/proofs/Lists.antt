@@ -9,10 +9,11 @@ use Rattle.js_meaning.specs.Value.{Text}
 use Rattle.js_meaning.specs.Scope.{Way, Decl, first_of, names_of, bound_names, vars_of, var_names, item_decls, lexical, waiting, all_so, named_so, or_default}
 use Rattle.js_meaning_near.specs.Avoid.{Dropped, dropped_here, dropped_later}
 use Rattle.js_meaning_near.proofs.Avoid.{fewer_itself, dropped_first, dropped_second}
-use Rattle.steps.specs.Steps.{Row, items, of_item, declarators, other, is_single, row_below, Around, entered, Initialiser, no_initialiser, silent_initialiser, Goes, empty_statement, unused_function, unused_declarator, unused_declaration, Step, leaves, empties, inside, behind_node, behind_absent}
+use Rattle.steps.specs.Steps.{Row, items, of_item, declarators, other, is_single, row_below, Around, entered, Initialiser, no_initialiser, silent_initialiser, Goes, empty_statement, unused_function, unused_declarator, unused_declaration, Step, leaves, empties, unbinds, inside, behind_node, behind_absent}
 use Rattle.steps_keep_runs.specs.Formed.{holds_statements, is_function, is_cases, is_switch, may_hold, holds_well, is_plain, still, calm_at, calm, heads, is_formed}
 use Rattle.steps_keep_runs.specs.Drop.{Drop, no_drop, of_block, of_function, declared_so, out_of_block, outside, drop_of, dropped}
-use Rattle.steps_keep_runs.proofs.Calm.{leaves_no_other, entered_row, other_below, still_stays, first_stays, form_holds, form_heads, form_below, form_behind, alike_same, alike_absent, alike_node, alike_itself, Calmly, calm_step, calm_inside, same_bounds, same_vars, same_lexical}
+use Rattle.steps_keep_runs.proofs.Unbound.{unbound_decls, unbound_vars}
+use Rattle.steps_keep_runs.proofs.Calm.{items_other, leaves_no_other, entered_row, other_below, still_stays, first_stays, form_holds, form_heads, form_below, form_behind, alike_same, alike_absent, alike_node, alike_itself, Calmly, calm_step, calm_inside, same_bounds, same_vars, same_lexical}
 use Rattle.js_syntax.proofs.Truth.{first_of_both, second_of_both}
 
 -- a list, and the list without one of the names
@@ -173,6 +174,7 @@ decl_step how (leaves {n = n} {r = r} (unused_declarator {x = x} {m = m} {v = v}
     one_gone x (ap (λ d. declared_so d x) (same_kind i h)) (declarator_gone x n m v r (initialiser_bounds z)) (ap (λ l. l ++ var_names r) (no_vars v (initialiser_bounds z)))
 decl_step how (leaves (unused_declaration h u z)) i e f = absurd (item_items i h)
 decl_step how (empties h) i e f = absurd (true≢false (sym e))
+decl_step how (unbinds g u h) i e f = absurd (item_items i g)
 decl_step how (inside {k = k} {a = a} {r = r} s) i e f = decl_inside how k s i (first_of_both (calm_at k (calm a)) (calm r) e) f (λ g c. decl_step how s (inr g) c (form_below k a r f))
 decl_step how (behind_node {k = k} {a = a} {r = r} s) i e f = gone_behind s (decl_step how s i (second_of_both (calm_at k (calm a)) (calm r) e) (form_behind k a r f))
 decl_step how (behind_absent s) i e f = gone_absent s (decl_step how s i e f)
@@ -274,6 +276,7 @@ list_loses (unused_declaration {how = how} {x = x} {m = m} {l = l} {j = j} {v = 
 pub vars_step : {w : Around} {t u : Forest} (s : Step w t u) (above : Kind) → holds_well above t ≡ true → InList w.row → is_formed t ≡ true → VarsChange (dropped s) (var_names t) (var_names u)
 vars_step (leaves {r = r} g) above m i f = vars_back _ [] (drop_of g) (var_names r) (list_loses g i).vars
 vars_step (empties {k = k} {l = n} {a = a} {r = r} h) above m i f = ap (λ l. l ++ var_names r) (no_vars (alone k n a) h.declares)
+vars_step (unbinds {r = r} g u h) above m i f = ap (λ l. l ++ var_names r) (unbound_vars h)
 vars_step (inside {k = k} {a = a} {b = b} {r = r} s) above m i f =
     vars_back _ _ (outside k (dropped s)) (var_names r) (vars_inside _ k s above (first_of_both (may_hold above k) (holds_well above r) m) i (form_heads k a r f) (form_below k a r f) (λ j. vars_step s k (form_holds k a r f) j (form_below k a r f)))
 vars_step (behind_node {k = k} {a = a} {r = r} {s = z} s) above m i f =
@@ -324,6 +327,7 @@ not_block_inside w {a} k s above m g i e f h = h (other_below w k a i refl) refl
 pub not_block : {w : Around} {t u : Forest} (s : Step w t u) (above : Kind) → holds_well above t ≡ true → holds_lists above ≡ false → w.row ≡ other → is_formed t ≡ true → NotBlock (dropped s)
 not_block (leaves h) above m g i f = absurd (leaves_no_other h i)
 not_block (empties h) above m g i f = tt
+not_block (unbinds j u h) above m g i f = absurd (items_other j i)
 not_block (inside {k = k} {a = a} {r = r} s) above m g i f =
     not_block_inside _ k s above (first_of_both (may_hold above k) (holds_well above r) m) g i (form_heads k a r f) (form_below k a r f) (λ j l. not_block s k (form_holds k a r f) l j (form_below k a r f))
 not_block (behind_node {k = k} {a = a} {r = r} s) above m g i f = not_block s above (second_of_both (may_hold above k) (holds_well above r) m) g i (form_behind k a r f)
@@ -374,6 +378,7 @@ lexical_inside w {a} k s above m n i l e f h = lexical_same [] [] (dropped s) (n
 pub lexical_step : {w : Around} {t u : Forest} (s : Step w t u) (above : Kind) → holds_well above t ≡ true → is_switch above ≡ false → InList w.row → is_formed t ≡ true → LexicalChange (dropped s) (lexical t) (lexical u)
 lexical_step (leaves {r = r} g) above m n i f = lexical_back _ [] (drop_of g) (lexical r) (list_loses g i).lexical
 lexical_step (empties h) above m n i f = refl
+lexical_step (unbinds {source = source} {x = x} {r = r} g u h) above m n i f = dropped_first (unbound_decls source h) (fewer_itself x (lexical r))
 lexical_step (inside {k = k} {a = a} {b = b} {r = r} s) above m n i f =
     lexical_back _ _ (outside k (dropped s)) (lexical r) (lexical_inside _ k s above (first_of_both (may_hold above k) (holds_well above r) m) n i (form_holds k a r f) (form_heads k a r f) (form_below k a r f) (λ q j. lexical_step s k (form_holds k a r f) q j (form_below k a r f)))
 lexical_step (behind_node {k = k} {a = a} {r = r} {s = z} s) above m n i f =

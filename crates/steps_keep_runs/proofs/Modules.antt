@@ -17,12 +17,13 @@ use Rattle.js_meaning_near.specs.Fit.{Part, whole, others, IfCore}
 use Rattle.js_meaning_near.specs.Avoid.{Dropped, dropped_later, InPlace, NodeInPlace, ExportsAvoid}
 use Rattle.js_meaning_near.proofs.Avoid.{fewer_itself, dropped_first, dropped_second}
 use Rattle.js_meaning_near.proofs.Contexts.{near_refines}
-use Rattle.steps.specs.Steps.{Around, entered, outermost, Step, leaves, empties, inside, behind_node, behind_absent}
+use Rattle.steps.specs.Steps.{Around, entered, outermost, Step, leaves, empties, unbinds, inside, behind_node, behind_absent}
 use Rattle.steps_keep_runs.specs.Formed.{holds_well, is_formed}
 use Rattle.steps_keep_runs.specs.Drop.{Drop, no_drop, of_block, of_function, dropped}
 use Rattle.steps_keep_runs.specs.Tidy.{ClearModule, TidyAt, Tidy}
 use Rattle.steps_keep_runs.proofs.Silent.{Declare}
 use Rattle.steps_keep_runs.proofs.Calm.{form_holds, form_below}
+use Rattle.steps_keep_runs.proofs.Unbound.{unbound_place}
 use Rattle.steps_keep_runs.proofs.Lists.{LexicalChange, VarsChange, less_dropped, vars_step, lexical_step}
 use Rattle.steps_keep_runs.proofs.Names.{declare_within, Crossed, crossed_plain, crossed_block, crossed_function}
 use Rattle.steps_keep_runs.proofs.Scopes.{DeclsChange}
@@ -107,11 +108,13 @@ others_of_whole p (node k n a r) i = i.1
 pub place_step : {w : Around} {t u : Forest} (q : Part) (p : near.Row) → Step w t u → InPlace q p t → InPlace q p u
 place_step whole p (leaves g) i = i.1
 place_step whole p (empties h) i = ((tt, tt), i.1)
+place_step whole p (unbinds g u h) i = ((i.0.0, unbound_place _ h i.0.1), i.1)
 place_step whole p (inside {k = k} s) i = (place_map p k (is_core k) (λ q r j. place_step q r s j) i.0, i.1)
 place_step whole p (behind_node s) i = (i.0, place_step whole p s i.1)
 place_step whole p (behind_absent s) i = place_step whole p s i
 place_step others p (leaves {r = r} g) i = others_of_whole p r i
 place_step others p (empties h) i = i
+place_step others p (unbinds g u h) i = i
 place_step others p (inside s) i = i
 place_step others p (behind_node s) i = place_step whole p s i
 place_step others p (behind_absent s) i = place_step whole p s i

@@ -13,18 +13,19 @@ use Rattle.js_meaning_near.specs.Near.{fields}
 use Rattle.js_meaning_near.specs.Fit.{Part, whole, others, part_of}
 use Rattle.js_meaning_near.specs.Avoid.{declares, HasCells, InPlace, NodeInPlace}
 use Rattle.steps.specs.Names.{is_among, refers_at, refers}
-use Rattle.steps.specs.Steps.{Around, entered, Goes, empty_statement, unused_function, unused_declarator, unused_declaration, Step, leaves, empties, inside, behind_node, behind_absent, all_core}
+use Rattle.steps.specs.Steps.{Around, entered, Goes, empty_statement, unused_function, unused_declarator, unused_declaration, Unbinds, unbinds_here, unbinds_below, unbinds_behind, unbinds_behind_absent, Step, leaves, empties, unbinds, inside, behind_node, behind_absent, all_core}
 use Rattle.steps_keep_runs.specs.Formed.{may_hold, holds_well, heads, is_free_name, is_formed, still}
 use Rattle.steps_keep_runs.specs.Drop.{Drop, no_drop, of_block, of_function, declared_so, out_of_block, outside, drop_of, dropped}
 use Rattle.steps_keep_runs.specs.Tidy.{Clear, TidyAt, Tidy}
 use Rattle.steps_keep_runs.specs.Once.{binds, OnceIn, Once}
 use Rattle.steps_keep_runs.proofs.Calm.{form_holds, form_heads, form_below, form_behind, first_stays, calm_step, still_stays}
+use Rattle.steps_keep_runs.proofs.Unbound.{unbound_refers}
 use Rattle.steps_keep_runs.proofs.Lists.{LexicalChange, lexical_step}
 use Rattle.steps_keep_runs.proofs.Names.{block_free, variables_free}
 use Rattle.steps_keep_runs.proofs.Scopes.{if_core, for_first}
 use Rattle.steps_keep_runs.proofs.Refine.{OthersOk}
 use Rattle.steps_keep_runs.proofs.Avoids.{IsFree, row_avoids, refers_behind}
-use Rattle.js_syntax.proofs.Truth.{not_true, first_of_both, second_of_both, first_of_neither, second_of_neither}
+use Rattle.js_syntax.proofs.Truth.{not_true, first_of_both, second_of_both, first_of_neither, second_of_neither, neither}
 
 -- that the declaration of this name goes
 
@@ -79,9 +80,16 @@ leaves_free (unused_declaration {how = how} {x = y} {l = l} {j = j} {v = v} h u 
     let n : Forest = node (Kind.BindingName y) j nothing v in
     subst IsFree (same_name how y x e) (named_free y j v (form_below Kind.VariableDeclarator n nothing (form_below Kind.Declarators (alone Kind.VariableDeclarator l n) nothing f)))
 
+unbound_free : {x : Text} {t u : Forest} → Unbinds x t u → is_formed t ≡ true → IsFree x
+unbound_free {x} (unbinds_here {k = k} {m = m} {r = r} b) f = named_free x m nothing (form_below k (node (Kind.BindingName x) m nothing nothing) r f)
+unbound_free (unbinds_below {a = a} {r = r} h) f = unbound_free h (form_below Kind.Specifiers a r f)
+unbound_free (unbinds_behind {k = k} {a = a} {r = r} h) f = unbound_free h (form_behind k a r f)
+unbound_free (unbinds_behind_absent h) f = unbound_free h f
+
 pub name_free : {w : Around} {t u : Forest} (s : Step w t u) (x : Text) → Drops x (dropped s) → is_formed t ≡ true → IsFree x
 name_free (leaves {k = k} {a = a} {r = r} g) x e f = leaves_free g x e (form_below k a r f)
 name_free (empties h) x e f = absurd (drops_none x e)
+name_free (unbinds {source = source} {x = y} {a = a} {r = r} i u h) x e f = subst IsFree (same_name variable.Let y x e) (unbound_free h (form_below (Kind.ImportDeclaration source) a r f))
 name_free (inside {k = k} {a = a} {r = r} s) x e f = name_free s x (drops_inside x k (dropped s) e) (form_below k a r f)
 name_free (behind_node {k = k} {a = a} {r = r} s) x e f = name_free s x e (form_behind k a r f)
 name_free (behind_absent s) x e f = name_free s x e f
@@ -124,6 +132,7 @@ refers_rest x k n a r e = second_of_neither (refers_at x k a (refers x a)) (refe
 pub refers_step : {w : Around} {t u : Forest} (s : Step w t u) (x : Text) → Drops x (dropped s) → is_formed t ≡ true → refers x t ≡ false → refers x u ≡ false
 refers_step (leaves {k = k} {n = n} {a = a} {r = r} h) x g f e = refers_rest x k n a r e
 refers_step (empties h) x g f e = absurd (drops_none x g)
+refers_step (unbinds {a = a} {b = b} {r = r} i u h) x g f e = neither (refers x b) (refers x r) (unbound_refers x h (first_of_neither (refers x a) (refers x r) e)) (second_of_neither (refers x a) (refers x r) e)
 refers_step (inside {w = w} {k = k} {a = a} {b = b} {r = r} s) x g f e =
     let i = refers_inside w k s x g (form_holds k a r f) (form_heads k a r f) (form_below k a r f) (first_of_neither (refers_at x k a (refers x a)) (refers x r) e) (λ j. refers_step s x (drops_inside x k (dropped s) g) (form_below k a r f) j) in
     ap₂ (λ (p q : Bool). p || q) i (second_of_neither (refers_at x k a (refers x a)) (refers x r) e)
@@ -165,6 +174,7 @@ core_behind k n a r e = second_of_both (all_core a) (all_core r) (second_of_both
 pub once_tidy : {w : Around} {t u : Forest} (q : Part) (p : near.Row) (s : Step w t u) (above : Kind) → holds_well above t ≡ true → is_formed t ≡ true → is_formed u ≡ true → all_core u ≡ true → OthersOk q w.row t → InPlace q p u → Once s → Tidy s
 once_tidy q p (leaves h) above m f g c i j o = tt
 once_tidy q p (empties h) above m f g c i j o = tt
+once_tidy q p (unbinds i u h) above m f g c l j o = tt
 once_tidy others p (inside {n = n} s) above m f g c i j o = absurd (still_stays (inside {n = n} {r = nothing} s) i.0 i.1)
 once_tidy whole p (inside {w = w} {k = k} {n = n} {a = a} {b = b} {r = r} s) above m f g c i j o =
     let place : NodeInPlace p k (λ q r. InPlace q r b) = if_core (is_core k) (core_kind k n b r c) j.0 in (

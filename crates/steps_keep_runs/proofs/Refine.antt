@@ -10,7 +10,7 @@ use Rattle.js_meaning.specs.Module.{names_in}
 use Rattle.js_meaning_near.specs.Purpose.{Purpose, Purposes, purpose_here, purposes_behind, wanted_below}
 use Rattle.js_meaning_near.specs.Names.{Names, Lone, FillableIf, Decls, no_decls, Copied, declared}
 use Rattle.js_meaning_near.specs.Near as near
-use Rattle.js_meaning_near.specs.Near.{fields, Idle, idle_empty, idle_function, idle_declarator, idle_bare_declarator, idle_declaration, all_idle, one_idle, statement_emptied, Near, near_absent, near_node, near_closure, near_hoisted, near_uncovered, changed, near_code}
+use Rattle.js_meaning_near.specs.Near.{fields, Idle, idle_empty, idle_function, idle_declarator, idle_bare_declarator, idle_declaration, all_idle, one_idle, statement_emptied, Near, near_absent, near_node, near_closure, near_hoisted, near_uncovered, near_import, changed, near_code}
 use Rattle.js_meaning_near.specs.Fit.{names_after, Part, whole, others, part_of, purposes_of, NodeFits, Fits}
 use Rattle.js_meaning_near.specs.Avoid.{declares}
 use Rattle.js_meaning_near.proofs.Avoid.{after_plain}
@@ -18,12 +18,12 @@ use Rattle.js_meaning_near.proofs.Fit.{decls_to, same_copied, fit}
 use Rattle.js_meaning_near.proofs.Once.{node_stays}
 use Rattle.steps.specs.Names.{is_among, names_declared}
 use Rattle.steps.specs.Steps as steps
-use Rattle.steps.specs.Steps.{items, of_item, declarators, other, row_below, Around, entered, Initialiser, no_initialiser, silent_initialiser, Goes, empty_statement, unused_function, unused_declarator, unused_declaration, Step, leaves, empties, inside, behind_node, behind_absent}
+use Rattle.steps.specs.Steps.{items, of_item, declarators, other, row_below, Around, entered, Initialiser, no_initialiser, silent_initialiser, Goes, empty_statement, unused_function, unused_declarator, unused_declaration, Step, leaves, empties, unbinds, inside, behind_node, behind_absent}
 use Rattle.steps_keep_runs.specs.Formed.{may_hold, holds_well, still, is_formed}
 use Rattle.steps_keep_runs.specs.Drop.{Drop, no_drop, of_block, of_function, out_of_block, outside, drop_of, dropped}
 use Rattle.steps_keep_runs.specs.Tidy.{TidyAt, Tidy}
 use Rattle.steps_keep_runs.proofs.Silent.{Declare, silent}
-use Rattle.steps_keep_runs.proofs.Calm.{is_list, leaves_list, leaves_no_other, entered_row, still_stays, first_stays, form_holds, form_heads, form_below, form_behind}
+use Rattle.steps_keep_runs.proofs.Calm.{items_other, is_list, leaves_list, leaves_no_other, entered_row, still_stays, first_stays, form_holds, form_heads, form_below, form_behind}
 use Rattle.steps_keep_runs.proofs.Lists.{LexicalChange, lexical_step, lexical_same, not_block, NotBlock}
 use Rattle.steps_keep_runs.proofs.Names.{names_all_so, declare_within, Stays, stays_fits, stays_lone, stays_behind, stays_absent, stays_others, stays_others_absent, Crossed, inner_free, inner_front, declare_code, through}
 use Rattle.steps_keep_runs.proofs.Scopes.{if_core, function_change, Entered, enter_code, enter_block, outer, IsBlock, is_block, is_cases, is_for, is_catch, InTidy, stays_below, for_first, object_keys}
@@ -176,6 +176,7 @@ pub near_step : {w : Around} {t u : Forest} (q : Part) (s : Step w t u) (us : Pu
 near_step whole (leaves {r = r} h) us above p st m f i o d g t = leave h i d g (fit whole p st r (stays_fits (drop_of h) whole st p r g))
 near_step whole (empties {w = w} {k = k} {m = n} {l = l} {a = a} {r = r} h) us above p st m f i o d g t =
     changed (statement_emptied (silent w.names k l a d h.silent)) (fit whole p st r (stays_fits no_drop whole st p (node Kind.EmptyStatement n nothing r) g).1)
+near_step whole (unbinds {source = source} {x = x} {n = n} {b = b} {r = r} j u h) us above p st m f i o d g t = near_import (fit whole p st r (stays_fits (of_block x) whole st p (node (Kind.ImportDeclaration source) n b r) g).1)
 near_step whole (inside {w = w} {k = k} {a = a} {r = r} s) us above p st m f i o d g t =
     inside_core w k s above p st (is_core k) refl (first_of_both (may_hold above k) (holds_well above r) m) f d g t.0 (λ q p st i o d g. near_step q s (wanted_below (purpose_here us (near.is_row r)) k) k p st (form_holds k a r f) (form_below k a r f) i o d g t.1)
 near_step whole (behind_node {k = k} {n = n} {a = a} {r = r} {s = z} s) us above p st m f i o d g t =
@@ -183,6 +184,7 @@ near_step whole (behind_node {k = k} {n = n} {a = a} {r = r} {s = z} s) us above
 near_step whole (behind_absent {s = z} s) us above p st m f i o d g t = near_absent (near_step whole s (purposes_behind us) above p st m f i tt d (stays_absent (dropped s) st p z g) t)
 near_step others (leaves h) us above p st m f i o d g t = absurd (leaves_no_other h o.0)
 near_step others (empties h) us above p st m f i o d g t = absurd (true≢false (sym o.1))
+near_step others (unbinds j u h) us above p st m f i o d g t = absurd (items_other j o.0)
 near_step others (inside {n = n} s) us above p st m f i o d g t = absurd (still_stays (inside {n = n} {r = nothing} s) o.0 o.1)
 near_step others (behind_node {k = k} {n = n} {a = a} {r = r} {s = z} s) us above p st m f i o d g t =
     near_step whole s (purposes_behind us) above p st (second_of_both (may_hold above k) (holds_well above r) m) (form_behind k a r f) i tt d (stays_others (dropped s) st p k n a z g) t

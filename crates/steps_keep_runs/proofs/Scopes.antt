@@ -12,11 +12,11 @@ use Rattle.js_meaning_near.specs.Near.{Row, fields, row_below, ReceiverOk, keys,
 use Rattle.js_meaning_near.specs.Fit.{whole, others, IfCore}
 use Rattle.js_meaning_near.specs.Avoid.{declares, Dropped, NodeInPlace, InPlace, NodeAvoids, Avoids, Unless}
 use Rattle.js_meaning_near.proofs.Avoid.{fewer_itself, dropped_first, dropped_second}
-use Rattle.steps.specs.Steps.{other, Around, Step, leaves, empties, inside, behind_node, behind_absent}
+use Rattle.steps.specs.Steps.{other, Around, Step, leaves, empties, unbinds, inside, behind_node, behind_absent}
 use Rattle.steps_keep_runs.specs.Formed.{may_hold, holds_well, still, calm, heads, is_formed}
 use Rattle.steps_keep_runs.specs.Drop.{Drop, no_drop, of_block, of_function, out_of_block, dropped}
 use Rattle.steps_keep_runs.specs.Tidy.{Clear, TidyAt}
-use Rattle.steps_keep_runs.proofs.Calm.{leaves_no_other, first_stays, form_below, form_behind, Alike, alike_nothing, alike_absent, alike_same, alike_node, alike_function, calm_step, same_lexical}
+use Rattle.steps_keep_runs.proofs.Calm.{items_other, leaves_no_other, first_stays, form_below, form_behind, Alike, alike_nothing, alike_absent, alike_same, alike_node, alike_function, calm_step, same_lexical}
 use Rattle.steps_keep_runs.proofs.Lists.{LexicalChange, VarsChange, vars_step, lexical_step, less_dropped}
 use Rattle.steps_keep_runs.proofs.Names.{Stays, StaysBut, Crossed, crossed_plain, crossed_block, crossed_function, crossed_through}
 use Rattle.js_syntax.proofs.Truth.{first_of_both, second_of_both, both}
@@ -192,6 +192,7 @@ formed_alone k a r e =
 pub for_first : {w : Around} {a b : Forest} → Step w a b → w.row ≡ other → calm (first_of a) ≡ true → is_formed a ≡ true → lexical (first_of a) ≡ lexical (first_of b)
 for_first (leaves h) g c e = absurd (leaves_no_other h g)
 for_first (empties h) g c e = refl
+for_first (unbinds i u h) g c e = absurd (items_other i g)
 for_first (inside {k = k} {n = n} {a = a} {r = r} s) g c e = same_lexical (calm_step (inside {n = n} {r = nothing} s) g c (formed_alone k a r e)).alike
 for_first (behind_node s) g c e = refl
 for_first (behind_absent s) g c e = refl

@@ -20,7 +20,7 @@ use Rattle.scope_rules.specs.Context.{Context, inside, body_of, in_body, below_i
 use Rattle.scope_rules.specs.Site.{BindingSite, ReferenceSite, own_sites, opens_one, scope_count, sites, bindings_among, references_among}
 use Rattle.scope_rules.specs.Binding.{same_part, same_layer, is_declared, named_in, declared_by}
 use Rattle.scope_laws.specs.Exact.{Among}
-use Rattle.steps_names.specs.Placed.{Sort, Place, a_declaration, a_declarator, program_list, others, sort_of, place_below, well_placed, is_well_placed}
+use Rattle.steps_names.specs.Placed.{Sort, Place, a_declaration, an_import, a_declarator, program_list, others, sort_of, place_below, well_placed, is_well_placed}
 use Rattle.steps_names.specs.Agreeing.{Agrees}
 use Rattle.scope_laws.proofs.Bindings.{Declares}
 use Rattle.steps_names.proofs.Exporting.{no_exports, program_exports}
@@ -243,3 +243,8 @@ declaration_unused t w cs at next how x n m l j a v b r placed stands u =
     (subst (λ y. is_declared (declarations_of t) y x ≡ true) (layer_below (cs at) how)
     (declared (declarations_of t) (named_site (below_it (in_variables (cs at) how)) j x) (f.declarations _ (first_site fs (next + 0 + 0 + 0) x j a v))))
     u
+
+-- the scope around an import has the name
+pub import_unused : (t : Forest) (w : Around) (cs : ℕ → Context) (at next : ℕ) (source x : Text) (n : Note) (a r : Forest) → is_well_placed t ≡ true → Stands t w cs at next (node (Kind.ImportDeclaration source) n a r)
+    → is_declared (declarations_of t) (cs at).block x ≡ true → IsUnused t w (cs at) variable.Let x → is_used w variable.Let x ≡ false
+import_unused t w cs at next source x n a r placed stands e u = let h = holds t w cs at next _ placed stands in unused_so t w (cs at) variable.Let x an_import h.settled.0 refl refl e u

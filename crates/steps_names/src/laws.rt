@@ -7,6 +7,7 @@ ghost use Rattle.js_syntax.specs.declared.kind.VariableKind.TheVariants as varia
 ghost use Rattle.js_syntax.specs.declared.kind.FunctionKind.TheVariants as function_kind;
 ghost use Rattle.js_meaning.specs.Value.{Text};
 ghost use Rattle.steps.specs.Steps.{Around, declarators, is_used};
+ghost use Rattle.scope_rules.specs.Binding.{is_declared};
 ghost use Rattle.scope_rules.specs.Context.{Context};
 ghost use Rattle.scope_rules.specs.Site.{sites_of, bindings_among};
 ghost use Rattle.steps_names.specs.Placed.{is_well_placed};
@@ -37,4 +38,11 @@ pub fn declarators_without_references_are_unused()
     ensures { (t : Forest) (w : Around) (contexts : ℕ → Context) (at next : ℕ) (how : VariableKind) (x : Text) (n m : Note) (a v r : Forest) → is_well_placed t ≡ true → w.row ≡ declarators how
         → Stands t w contexts at next (node Kind.VariableDeclarator n (node (Kind.BindingName x) m a v) r)
         → IsUnused t w (contexts at) how x → is_used w how x ≡ false }
+{}
+
+/// So is a name that an import declares in the scope around it.
+pub fn imported_names_without_references_are_unused()
+    ensures { (t : Forest) (w : Around) (contexts : ℕ → Context) (at next : ℕ) (source x : Text) (n : Note) (a r : Forest) → is_well_placed t ≡ true
+        → Stands t w contexts at next (node (Kind.ImportDeclaration source) n a r) → is_declared (bindings_among (sites_of t)) (contexts at).block x ≡ true
+        → IsUnused t w (contexts at) variable.Let x → is_used w variable.Let x ≡ false }
 {}

@@ -43,7 +43,7 @@ use Rattle.steps_owed.proofs.SilentActs.{silent_row, no_names, initialiser}
 first_among : (x : Text) (xs : List Text) → is_among (x ∷ xs) x ≡ true
 first_among x xs = or_left (bytes_eq x x) (is_among xs x) ((bytes_eq-Decides x x).1 refl)
 
-of_list : (row : Row) (w : Around) (f : Forest) → row ≡ items → RowApart row w f → ListApart w f
+pub of_list : (row : Row) (w : Around) (f : Forest) → row ≡ items → RowApart row w f → ListApart w f
 of_list row w f e h = subst (λ r. RowApart r w f) e h
 
 function_seen : (w : Around) (pure : Bool) (x : Text) (n m : Note) (rest r : Forest) → w.row ≡ items → RowApart w.row w (node (Kind.Function function_kind.Declaration pure) n (node (Kind.BindingName x) m nothing rest) r) → is_crossed w variable.Let x ≡ false

@@ -12,6 +12,7 @@ use Rattle.scope_rules.specs.Site.{BindingSite, opens_one, scope_count}
 use Rattle.scope_laws.specs.Place.{Around, first, behind, behind_none, under, plug}
 use Rattle.scope_laws.specs.Lists.{without}
 use Rattle.steps_allowed.specs.Silent.{IsSilentBelow, HoldsThere}
+use Rattle.steps_allowed.specs.Imports.{ImportRow, in_names, elsewhere, import_row_below, import_row}
 use Rattle.steps_allowed.specs.Places.{asked_at}
 use Rattle.steps_owed.specs.Owed.{IsOther, Uncounted}
 use Rattle.steps_allowed.specs.Unreached.{is_behind_jump}
@@ -108,15 +109,23 @@ takes items = true
 takes item_declarators = true
 takes row = false
 
-leave_begins : (w : Asked) (a : Around) (x : Tree) → takes w.row ≡ false → takes (asked_at w a).row ≡ true → begins_with_call (plug a (Some x)) ≡ begins_with_call (without a)
-leave_begins w (first rest) x no_row row = absurd (true≢false (sym row ∙ no_row))
+-- a list of statements or of declarators, or an import's names
+abbrev pub Takes : Asked → ImportRow → Around → Type 0
+Takes w r a = (takes (asked_at w a).row ≡ true) ⊎ (import_row r a ≡ in_names)
+
+no_names : in_names ≡ elsewhere → ⊥
+no_names e = cc
+
+leave_begins : (w : Asked) (a : Around) (x : Tree) → takes w.row ≡ false → Takes w elsewhere a → begins_with_call (plug a (Some x)) ≡ begins_with_call (without a)
+leave_begins w (first rest) x no_row (inl row) = absurd (true≢false (sym row ∙ no_row))
+leave_begins w (first rest) x no_row (inr row) = absurd (no_names (sym row))
 leave_begins w (behind k n below a) x no_row row = refl
 leave_begins w (behind_none a) x no_row row = refl
 leave_begins w (under k n a rest) x no_row row = refl
 
-leave_below : (k : Kind) (w : Asked) (a : Around) (x : Tree) → takes (asked_at (asked_below w k) a).row ≡ true → counted k (begins_with_call (plug a (Some x))) ≡ counted k (begins_with_call (without a))
-leave_below expression_statement w a x row = ap (counted expression_statement) (leave_begins (asked_below w expression_statement) a x refl row)
-leave_below k w a x row = refl
+leave_below : (k : Kind) (w : Asked) (r : ImportRow) (a : Around) (x : Tree) → Takes (asked_below w k) (import_row_below r k) a → counted k (begins_with_call (plug a (Some x))) ≡ counted k (begins_with_call (without a))
+leave_below expression_statement w r a x row = ap (counted expression_statement) (leave_begins (asked_below w expression_statement) a x refl row)
+leave_below k w r a x row = refl
 
 jump_ends : (k : Kind) → is_jump k ≡ true → may_end k ≡ true
 jump_ends Kind.ReturnStatement j = refl
@@ -138,42 +147,44 @@ ended true n m e = Prim.omega arith
 ended false n m e = absurd (true≢false (sym e))
 
 -- of a row behind a jump nothing is counted
-leave_calls : (w : Asked) (a : Around) (x : Tree) (jumped : Bool) → Uncounted jumped a x → takes (asked_at w a).row ≡ true → (jumped ≡ true) ⊎ (calls_in (plug a (Some x)) ≤ calls_in (without a))
-leave_calls w (first rest) x jumped (inl h) row = inr (Prim.omega (arith, h.counts, no_more_if (may_end x.kind) (calls_in rest)))
-leave_calls w (first rest) x jumped (inr e) row = inl e
-leave_calls w (behind k n below a) x jumped u row =
-    elim (leave_calls w a x (jumped || is_jump k) (uncounted_behind jumped k n below a x u) row) [
+leave_calls : (w : Asked) (r : ImportRow) (a : Around) (x : Tree) (jumped : Bool) → Uncounted jumped a x → Takes w r a → (jumped ≡ true) ⊎ (calls_in (plug a (Some x)) ≤ calls_in (without a))
+leave_calls w r (first rest) x jumped (inl h) row = inr (Prim.omega (arith, h.counts, no_more_if (may_end x.kind) (calls_in rest)))
+leave_calls w r (first rest) x jumped (inr e) row = inl e
+leave_calls w r (behind k n below a) x jumped u row =
+    elim (leave_calls w r a x (jumped || is_jump k) (uncounted_behind jumped k n below a x u) row) [
       | inl e ↦ elim (or_cases jumped (is_jump k) e) [
         | inl before ↦ inl before
         | inr jump ↦ inr (Prim.omega (arith, ended (may_end k) (calls_in (plug a (Some x))) (calls_in (without a)) (jump_ends k jump)))
       ]
       | inr fewer ↦ inr (Prim.omega (arith, unless (may_end k) (calls_in (plug a (Some x))) (calls_in (without a)) fewer))
     ]
-leave_calls w (behind_none a) x jumped (inl h) row = leave_calls w a x jumped (inl h) row
-leave_calls w (behind_none a) x jumped (inr e) row = leave_calls w a x jumped (inr e) row
-leave_calls w (under k n a rest) x jumped u row = inr (Prim.omega (arith, ap (λ m. m + (if may_end k then 0 else calls_in rest)) (leave_below k w a x row)))
+leave_calls w r (behind_none a) x jumped (inl h) row = leave_calls w r a x jumped (inl h) row
+leave_calls w r (behind_none a) x jumped (inr e) row = leave_calls w r a x jumped (inr e) row
+leave_calls w r (under k n a rest) x jumped u row = inr (Prim.omega (arith, ap (λ m. m + (if may_end k then 0 else calls_in rest)) (leave_below k w r a x row)))
 
-leave_list : (k : Kind) (w : Asked) (a : Around) (x : Tree) → Uncounted false a x → takes (asked_at (asked_below w k) a).row ≡ true → of_list k (calls_in (plug a (Some x))) ≤ of_list k (calls_in (without a))
-leave_list statements w a x u row = elim (leave_calls (asked_below w statements) a x false u row) [
+leave_list : (k : Kind) (w : Asked) (r : ImportRow) (a : Around) (x : Tree) → Uncounted false a x → Takes (asked_below w k) (import_row_below r k) a → of_list k (calls_in (plug a (Some x))) ≤ of_list k (calls_in (without a))
+leave_list statements w r a x u row = elim (leave_calls (asked_below w statements) (import_row_below r statements) a x false u row) [
   | inl e ↦ absurd (true≢false (sym e))
   | inr fewer ↦ fewer
 ]
-leave_list k w a x u row = Prim.omega arith
+leave_list k w r a x u row = Prim.omega arith
 
-leave_listed : (w : Asked) (a : Around) (x : Tree) → Uncounted false a x → takes w.row ≡ false → takes (asked_at w a).row ≡ true → calls_listed (plug a (Some x)) ≤ calls_listed (without a)
-leave_listed w (first rest) x u no_row row = absurd (true≢false (sym row ∙ no_row))
+leave_listed : (w : Asked) (a : Around) (x : Tree) → Uncounted false a x → takes w.row ≡ false → Takes w elsewhere a → calls_listed (plug a (Some x)) ≤ calls_listed (without a)
+leave_listed w (first rest) x u no_row (inl row) = absurd (true≢false (sym row ∙ no_row))
+leave_listed w (first rest) x u no_row (inr row) = absurd (no_names (sym row))
 leave_listed w (behind k n below a) x u no_row row = Prim.omega arith
 leave_listed w (behind_none a) x u no_row row = Prim.omega arith
-leave_listed w (under k n a rest) x (inl h) no_row row = leave_list k w a x (inl h) row
-leave_listed w (under k n a rest) x (inr e) no_row row = leave_list k w a x (inr e) row
+leave_listed w (under k n a rest) x (inl h) no_row row = leave_list k w elsewhere a x (inl h) row
+leave_listed w (under k n a rest) x (inr e) no_row row = leave_list k w elsewhere a x (inr e) row
 
-leave_program : (k : Kind) (a : Around) (x : Tree) → Uncounted false a x → takes (asked_at (asked_below (asked_of_program true) k) a).row ≡ true
+leave_program : (k : Kind) (a : Around) (x : Tree) → Uncounted false a x → Takes (asked_below (asked_of_program true) k) (import_row_below elsewhere k) a
     → of_program k (calls_listed (plug a (Some x))) ≤ of_program k (calls_listed (without a))
 leave_program (program source_type) a x u row = leave_listed (asked_below (asked_of_program true) (program source_type)) a x u refl row
 leave_program k a x u row = Prim.omega arith
 
-pub leave_root : (a : Around) (x : Tree) → Uncounted false a x → takes (asked_at (asked_of_program true) a).row ≡ true → root_calls (plug a (Some x)) ≤ root_calls (without a)
-leave_root (first rest) x u row = absurd (true≢false (sym row))
+pub leave_root : (a : Around) (x : Tree) → Uncounted false a x → Takes (asked_of_program true) elsewhere a → root_calls (plug a (Some x)) ≤ root_calls (without a)
+leave_root (first rest) x u (inl row) = absurd (true≢false (sym row))
+leave_root (first rest) x u (inr row) = absurd (no_names (sym row))
 leave_root (behind k n below a) x u row = Prim.omega arith
 leave_root (behind_none a) x u row = Prim.omega arith
 leave_root (under k n a rest) x (inl h) row = leave_program k a x (inl h) row

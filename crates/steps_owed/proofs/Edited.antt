@@ -74,8 +74,9 @@ edit_calls t u (leaves a x c) =
     Prim.omega (
       arith,
       leave_root a x owed.no_call (elim owed.listed [
-        | inl e ↦ ap takes e
-        | inr e ↦ ap takes e.0
+        | inl item ↦ inl (ap takes item)
+        | inr (inl declarator) ↦ inl (ap takes declarator.0)
+        | inr (inr imported) ↦ inr imported
       ]),
     )
 edit_calls t u (becomes a x y c) = replaced_root a x y (becoming a x y c).no_call (becoming a x y c).ends

@@ -181,17 +181,17 @@ abbrev pub is_program : Kind → Bool
 is_program (Kind.Program source) = true
 is_program k = false
 
-not_alone : (k : Kind) (n : Note) (b rest : Forest) → is_program k ≡ false → is_well_placed (node k n b rest) ≡ true → ⊥
+pub not_alone : (k : Kind) (n : Note) (b rest : Forest) → is_program k ≡ false → is_well_placed (node k n b rest) ≡ true → ⊥
 not_alone (Kind.Program source) n b rest e w = true≢false e
 not_alone k n b rest e w = true≢false (sym w)
 
-nothing_behind : (k : Kind) (n : Note) (b r : Forest) → is_well_placed (node k n b r) ≡ true → r ≡ nothing
+pub nothing_behind : (k : Kind) (n : Note) (b r : Forest) → is_well_placed (node k n b r) ≡ true → r ≡ nothing
 nothing_behind (Kind.Program source) n b nothing w = refl
 nothing_behind (Kind.Program source) n b (absent r) w = absurd (true≢false (sym w))
 nothing_behind (Kind.Program source) n b (node j m c r) w = absurd (true≢false (sym w))
 nothing_behind k n b r w = absurd (true≢false (sym w))
 
-something : (a : Place) (x : Tree) → plug a (Some x) ≡ nothing → ⊥
+pub something : (a : Place) (x : Tree) → plug a (Some x) ≡ nothing → ⊥
 something (first rest) x e = absurd cc
 something (behind k n b a) x e = absurd cc
 something (behind_none a) x e = absurd cc

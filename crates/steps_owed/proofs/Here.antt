@@ -21,6 +21,7 @@ use Rattle.steps_names.proofs.Standing.{declarations_of}
 use Rattle.steps_fit.specs.Plain.{is_plain_statement, has_plain_statements}
 use Rattle.steps_fit.specs.Sensible.{IsSensibleModule}
 use Rattle.steps_owed.specs.Good.{Good}
+use Rattle.steps_owed.proofs.ItemRows.{Rows, rows_below, rows_program}
 use Rattle.steps_owed.proofs.KnownNames.{none_known, scope_known, AllKnown, all_known, known_below}
 use Rattle.steps_owed.proofs.Separate.{variables_below, ListApart, leads, statements_lead, lists_below, RowApart, apart_absent, apart_behind, apart_below}
 use Rattle.steps_names.proofs.Unused.{entered_row}
@@ -61,6 +62,7 @@ pub record Here (t : Forest) (w : Around) (cs : ℕ → Context) (at next : ℕ)
   pub good : Good row
   pub places : ℕ → Place
   pub placed : well_placed places at row ≡ true
+  pub rows : Rows places w
   pub agreed : Agrees (declarations_of t) next row
   pub known : AllKnown (declarations_of t) w cs at row
   -- no scope further in than the function declares a name of `var` that stands here
@@ -77,6 +79,7 @@ here_program source n a w good = record {
   good = good;
   places = λ i. program_list;
   placed = (and_parts (well_placed (place_below others (Kind.Program source)) 0 a) (has_plain_values a) w).0;
+  rows = rows_program (entered outermost (Kind.Program source) a);
   agreed = agreed.1;
   known = all_known (declarations_of t) (entered outermost (Kind.Program source) a) (inside outermost_context 0 (Kind.Program source) a) 0 a
       (λ i. scope_known (declarations_of t) (names_declared (Kind.Program source) a) [] 0 [] (λ x d. agreed.0 refl (body_of 0) x refl d) (none_known (declarations_of t) []));
@@ -99,6 +102,7 @@ here_below t w cs at next k n a r h = record {
   good = good_below k n a r h.good;
   places = place_below (h.places at) k;
   placed = inner;
+  rows = rows_below (h.places at) w k a;
   agreed = h.agreed.1;
   known = known_below (declarations_of t) w (h.places at) (cs at) next k a placed inner h.agreed.0 h.known.0;
   variables = variables_below w (h.places at) k n a r placed inner (good_below k n a r h.good).values h.good.clear.0 h.variables;
@@ -120,6 +124,7 @@ here_behind t w cs at next k n a r h = record {
   good = good_behind k n a r h.good;
   places = h.places;
   placed = placed_behind h.places at k n a r h.placed;
+  rows = h.rows;
   agreed = h.agreed.2;
   known = h.known.1;
   variables = λ x e. h.variables x (in_right (vars_of k a (var_names a)) (var_names r) x e);
@@ -133,6 +138,7 @@ here_absent t w cs at next r h = record {
   good = good_absent r h.good;
   places = h.places;
   placed = h.placed;
+  rows = h.rows;
   agreed = h.agreed;
   known = h.known;
   variables = h.variables;

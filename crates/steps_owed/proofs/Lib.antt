@@ -16,6 +16,10 @@ pub mod EmptyStatement
 pub mod UnusedFunction
 pub mod UnusedDeclarator
 pub mod UnusedDeclaration
+pub mod ItemRows
+pub mod ImportFacts
+pub mod ImportSteps
+pub mod UnusedImport
 pub mod Owed
 pub mod TableKept
 pub mod PartForm

@@ -30,7 +30,7 @@ no_names : (es : List Exported) (ds : List Declared) → ds ≡ [] → exports_n
 no_names es ds h = ap (exports_none es) h
 
 -- the first of a row is a name, which is declared as its context says
-name_stands : (t : Forest) (cs : ℕ → Context) (next : ℕ) (x : List ℕ) (m : Note) (r : Forest) → Within t (sites cs 0 next (node (binding_name x) m nothing r)) → Declares t x (cs 0).declaring.layer
+pub name_stands : (t : Forest) (cs : ℕ → Context) (next : ℕ) (x : List ℕ) (m : Note) (r : Forest) → Within t (sites cs 0 next (node (binding_name x) m nothing r)) → Declares t x (cs 0).declaring.layer
 name_stands t cs next x m r within =
     let b : BindingSite = record { id = m.id; name = x; layer = (cs 0).declaring.layer; flags = (cs 0).declaring.flags; is_pure = (cs 0).declaring.is_pure; span = m.span } in
     let own = own_sites (cs 0) m (binding_name x) nothing in

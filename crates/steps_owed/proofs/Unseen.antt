@@ -56,7 +56,7 @@ both_at x p q in_with cs at next (under k n a rest) h g = both_at x p q (in_with
 abbrev Fine : Forest → ℕ → ℕ → BindingSite → Type 0
 Fine v count next b = In next (next + count) b.layer ⊎ IsUnreferred v b
 
-unseen_there : (a : Around) (x : Option Tree) (holds : Bool → Context → ℕ → Type 0) → At a x holds
+pub unseen_there : (a : Around) (x : Option Tree) (holds : Bool → Context → ℕ → Type 0) → At a x holds
     → ((b : BindingSite) (w : Bool) (ds : ℕ → Context) (place next : ℕ) → holds w (ds place) next → Among b (bindings_among (sites ds place next (one_place x))) → Fine (plug a x) (scope_count (one_place x)) next b) → IsUnseen a x
 unseen_there a x holds h by b g = elim (there_declared x holds (Fine (plug a x) (scope_count (one_place x))) b (by b) false (λ at. outermost) 0 0 a h g) [
   | inl i ↦ inl (record { from = Prim.omega (arith, i.from); to = Prim.omega (arith, i.to) })
@@ -179,7 +179,7 @@ unseen_statement a n l k inner e h = unseen_there a x (SilentStatement v (alone 
         of_three (in_third f) = absurd f
 
 -- a name that has this binding is unreferred where it is free
-free_unreferred : (v : Forest) (b : BindingSite) (x : List ℕ) (l : Layer) → b.name ≡ x → b.layer ≡ l → IsFree v (named_in x l) → IsUnreferred v b
+pub free_unreferred : (v : Forest) (b : BindingSite) (x : List ℕ) (l : Layer) → b.name ≡ x → b.layer ≡ l → IsFree v (named_in x l) → IsUnreferred v b
 free_unreferred v b x l e g free r h k =
     let same : declared_by b ≡ named_in x l = ap (λ y. named_in y b.layer) e ∙ ap (named_in x) g in
     free.unreferred r h (k ∙ ap Some same)

@@ -25,7 +25,7 @@ unused_declarator_owes a x (unused_declarator_leaves n m name value item others 
     let t = plug a (Some y) in
     record {
       weighs = Prim.omega arith;
-      listed = inr (item, others);
+      listed = inr (inl (item, others));
       no_directive = refl;
       no_call = inl (record { counts = refl; lists = λ m. refl; begins = λ m. refl; calls = refl });
       may_change = inl (and_from (holds_declarators (asked_at (asked_of_program true) a).row) _ (ap holds_declarators item) (ap not own));

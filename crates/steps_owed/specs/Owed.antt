@@ -28,6 +28,7 @@ use Rattle.steps_keep_form.specs.Sheds as shed
 use Rattle.steps_keep_form.specs.Sheds.{exports_none, Sheds}
 use Rattle.steps_fit.specs.Enclosed.{is_enclosed}
 use Rattle.steps_allowed.specs.Uses.{as_callee, as_deleted, use_at}
+use Rattle.steps_allowed.specs.Imports.{IsImported}
 use Rattle.steps_allowed.specs.Places.{asked_at, IsItem, IsDeclarator, has_other, At}
 use Rattle.steps_allowed.specs.Calls.{is_call, begins_with_call, counted, may_end, of_list, of_program}
 use Rattle.steps_allowed.specs.Exposure.{exposure, evaluates_somewhere}
@@ -61,9 +62,9 @@ IsUnreachedItem a = IsItem a × (is_behind_jump false a ≡ true)
 abbrev pub MayChange : Around → Tree → Type 0
 MayChange a x = may_change_at (evaluates_somewhere (plug a (Some x))) (asked_at (asked_of_program true) a) (exposure a (Some x)) x.kind x.below ≡ true
 
--- an item of a list of statements, or a declarator of one where another stays
+-- an item of a list of statements, a declarator of one where another stays, or a name of an import
 abbrev pub IsListed : Around → Type 0
-IsListed a = IsItem a ⊎ (IsDeclarator a × (has_other false a ≡ true))
+IsListed a = IsItem a ⊎ ((IsDeclarator a × (has_other false a ≡ true)) ⊎ IsImported a)
 
 -- what stands there declares no name that the program exports without declaring it at its top
 abbrev pub IsUnexported : Forest → Tree → Bool → Context → ℕ → Type 0

@@ -20,11 +20,13 @@ use Rattle.steps_allowed.specs.EmptyStatement.{empty_statement_leaves}
 use Rattle.steps_allowed.specs.UnusedFunction.{unused_function_leaves}
 use Rattle.steps_allowed.specs.UnusedDeclarator.{unused_declarator_leaves}
 use Rattle.steps_allowed.specs.UnusedDeclaration.{unused_declaration_leaves}
+use Rattle.steps_allowed.specs.UnusedImport.{unused_import_leaves}
 use Rattle.steps_allowed.specs.Unreached.{is_behind_jump, never_runs}
 use Rattle.steps_allowed.specs.Edits as edits
 use Rattle.steps_allowed.specs.Edits.{Leaves}
 use Rattle.steps_allowed.specs.Exposure.{Exposure, exposed_inside, exposed_at, exposed_of, exposure, evaluates_somewhere, shares}
 use Rattle.steps_owed.specs.Kept.{is_program}
+use Rattle.steps_owed.proofs.ImportFacts.{import_facts}
 use Rattle.steps_marked.specs.Flags.{is_within}
 use Rattle.steps_marked.proofs.Cuts.{edit_cuts}
 use Rattle.steps_marked.proofs.Exposing.{Only, never}
@@ -112,6 +114,7 @@ no_call a x (edits.unused_declarator (unused_declarator_leaves n m name value it
     unless (has_call x.kind x.below) (evaluates_somewhere (places.plug a (Some x))) (somewhere a x fits) (second_of_neither (exposure a (Some x)).declared_shared (evaluates_somewhere (places.plug a (Some x))) own)
 no_call a x (edits.unused_declaration (unused_declaration_leaves how n m l j name value item own silent free)) front fits =
     unless (has_call x.kind x.below) (evaluates_somewhere (places.plug a (Some x))) (somewhere a x fits) (second_of_neither (shares (exposure a (Some x)) how) (evaluates_somewhere (places.plug a (Some x))) own)
+no_call a x (edits.unused_import (unused_import_leaves k n m name binds imported own free)) front fits = ap (λ o. is_some o || has_eval x.below) (import_facts k n x.below binds).no_call
 no_call a x (edits.unreached (never_runs item jump runs none)) front fits = absurd (true≢false (sym jump ∙ front))
 
 -- and it isn't the name that is called
@@ -120,6 +123,7 @@ no_name a x (edits.empty_statement (empty_statement_leaves n item)) front rest e
 no_name a x (edits.unused_function (unused_function_leaves pure n m name below item own free)) front rest e = e
 no_name a x (edits.unused_declarator (unused_declarator_leaves n m name value item other own silent free)) front rest e = e
 no_name a x (edits.unused_declaration (unused_declaration_leaves how n m l j name value item own silent free)) front rest e = e
+no_name a x (edits.unused_import (unused_import_leaves k n m name binds imported own free)) front rest e = sym (ap is_some ((import_facts k n x.below binds).no_name rest)) ∙ e
 no_name a x (edits.unreached (never_runs item jump runs none)) front rest e = absurd (true≢false (sym jump ∙ front))
 
 none_there : (n : ℕ) (b : Bool) → (1 ≤ n → b ≡ true) → b ≡ false → n ≡ 0

@@ -19,11 +19,13 @@ use Rattle.js_meaning.specs.Examples.{g, o}
 use Rattle.json_shape.specs.Shape.{one as one_of, key_apart, list, these, all, Stand, Fits}
 use Rattle.scope_rules.specs.Context.{body_of}
 use Rattle.scope_rules.specs.Site.{BindingSite, ReferenceSite, sites_of, bindings_among, references_among}
+use Rattle.scope_rules.specs.Samples.{imports}
 use Rattle.scope_rules.specs.Binding.{Binding, named_in, declared_by, binding_of}
 use Rattle.scope_laws.specs.Exact.{Among}
 use Rattle.scope_laws.specs.Place.{Around, first, behind, behind_none, under, plug}
 use Rattle.steps_names.specs.Standing.{exported_declarations}
-use Rattle.steps_allowed.specs.Rows.{in_list, in_statement, past, throws, statement, called, argument, before, sequence, applied, call_of_a, call_of_eval, exports_declaration, empty}
+use Rattle.steps.specs.Steps.{binds_import}
+use Rattle.steps_allowed.specs.Rows.{in_list, in_statement, past, throws, statement, called, argument, before, sequence, applied, call_of_a, call_of_eval, exports_declaration, empty, only_import}
 use Rattle.steps_allowed.specs.KnownConditional.{consequent_is_taken, alternate_is_taken}
 use Rattle.steps_allowed.specs.KnownSide.{right_side_counts, left_side_decides}
 use Rattle.steps_allowed.specs.UnusedOperation.{needed_at, one_operand_acts}
@@ -38,7 +40,7 @@ use Rattle.steps_allowed.specs.KnownIf.{consequent_is_run, alternate_is_run}
 use Rattle.steps_allowed.specs.DeadIf.{nothing_is_run}
 use Rattle.steps_allowed.specs.Unreached.{only_runs, never_runs}
 use Rattle.steps_allowed.specs.Uses.{Use}
-use Rattle.headline.specs.Clean.{IsDead, an_empty_statement, a_silent_statement, an_unused_function, an_unused_declarator, a_known_conditional, a_known_side, an_unused_operation, an_unused_list, an_indirect_choice, a_one_sided_choice, idle_parts, two_sides, an_unused_object, a_known_operation, a_known_if, a_dead_if, an_unreached_statement, Clean}
+use Rattle.headline.specs.Clean.{IsDead, an_empty_statement, a_silent_statement, an_unused_function, an_unused_declarator, an_unused_import, a_known_conditional, a_known_side, an_unused_operation, an_unused_list, an_indirect_choice, a_one_sided_choice, idle_parts, two_sides, an_unused_object, a_known_operation, a_known_if, a_dead_if, an_unreached_statement, Clean}
 use Rattle.min_peephole.specs.Quiet.{is_quiet}
 use Rattle.min_peephole.proofs.Quieted.{quiet_clean}
 use Rattle.test_headline.specs.Rows as row
@@ -58,6 +60,10 @@ empty_is_dead c =
 -- function a() {}
 pub function_is_dead : Clean (a_module (function_a [] [] ∷ [])) → ⊥
 function_is_dead c = c.nothing_is_dead (before []) _ refl (an_unused_function (before []) false nowhere nowhere a _ refl refl (record { unreferred = λ r h e. h; unexported = λ e h s d. h }))
+
+-- import a from 'm';
+pub import_is_dead : Clean (a_module (imports a ∷ [])) → ⊥
+import_is_dead c = c.nothing_is_dead only_import _ refl (an_unused_import only_import Kind.ImportDefaultSpecifier nowhere nowhere a refl refl refl (record { unreferred = λ r h e. h; unexported = λ e h s d. h }))
 
 -- behind the first of them
 abbrev second_declarator : Around
@@ -530,6 +536,9 @@ is_suspect (Kind.BinaryExpression o) = true
 is_suspect Kind.ArrayExpression = true
 is_suspect Kind.SequenceExpression = true
 is_suspect Kind.ObjectExpression = true
+is_suspect (Kind.ImportSpecifier name) = true
+is_suspect Kind.ImportDefaultSpecifier = true
+is_suspect Kind.ImportNamespaceSpecifier = true
 is_suspect k = only_runs k
 
 abbrev has_suspect : Forest → Bool
@@ -594,13 +603,23 @@ runs_suspect (Kind.BinaryExpression o) h = refl
 runs_suspect Kind.ArrayExpression h = refl
 runs_suspect Kind.SequenceExpression h = refl
 runs_suspect Kind.ObjectExpression h = refl
+runs_suspect (Kind.ImportSpecifier name) h = refl
+runs_suspect Kind.ImportDefaultSpecifier h = refl
+runs_suspect Kind.ImportNamespaceSpecifier h = refl
 runs_suspect k h = h
+
+import_suspect : (k : Kind) → binds_import k ≡ true → is_suspect k ≡ true
+import_suspect (Kind.ImportSpecifier name) h = refl
+import_suspect Kind.ImportDefaultSpecifier h = refl
+import_suspect Kind.ImportNamespaceSpecifier h = refl
+import_suspect k h = absurd Prim.cc
 
 dead_suspect : (t : Forest) (a : Around) (x : Option Tree) → t ≡ plug a x → IsDead t a x → has_suspect t ≡ true
 dead_suspect t a x is (an_empty_statement b n item) = ap has_suspect is ∙ suspect_there b _ refl
 dead_suspect t a x is (a_silent_statement b n below silent) = ap has_suspect is ∙ suspect_there b _ refl
 dead_suspect t a x is (an_unused_function b pure n m y rest item own free) = ap has_suspect is ∙ suspect_there b _ refl
 dead_suspect t a x is (an_unused_declarator b n m y value item own silent free) = ap has_suspect is ∙ suspect_there b _ refl
+dead_suspect t a x is (an_unused_import b k n m y binds imported own free) = ap has_suspect is ∙ suspect_there b _ (import_suspect k binds)
 dead_suspect t a x is (a_known_conditional b y z (consequent_is_taken n m i j v k l c d e truth may)) = ap has_suspect is ∙ suspect_there b _ refl
 dead_suspect t a x is (a_known_conditional b y z (alternate_is_taken n m i j v k l c d e truth may)) = ap has_suspect is ∙ suspect_there b _ refl
 dead_suspect t a x is (a_known_side b y z (right_side_counts o n m i v k d e goes may)) = ap has_suspect is ∙ suspect_there b _ refl

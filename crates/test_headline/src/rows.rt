@@ -5,6 +5,7 @@ ghost use Rattle.js_syntax.specs.declared.kind.VariableKind.TheVariants as varia
 ghost use Rattle.js_meaning.specs.Kept.{Kept, KeptBack};
 ghost use Rattle.form_rules.specs.Samples.{a_module, a_script, a, binds, one, does, declares, function_a, block};
 ghost use Rattle.json_shape.specs.Shape.{Fits};
+ghost use Rattle.scope_rules.specs.Samples.{imports};
 ghost use Rattle.headline.specs.Clean.{Clean};
 ghost use Rattle.headline.specs.Headline.{Edits, Headline};
 ghost use Rattle.headline_text.specs.Written.{written};
@@ -77,8 +78,8 @@ pub fn dead_code_goes()
     ensures unreached { Headline row.calls_behind_throw row.calls_behind_throw → ⊥ }
 {}
 
-/// `1;` is dead code, and so are `{ ; }`'s empty statement, a function that nothing calls, one of two declarators, a conditional on a
-/// literal, or on an array: `a([] ? a : b);`, a logical expression with a literal on its left, an operation of which nobody takes the
+/// `1;` is dead code, and so are `{ ; }`'s empty statement, a function that nothing calls, one of two declarators, a
+/// name of an import that nothing refers to: `import a from 'm';`, a conditional on a literal, or on an array: `a([] ? a : b);`, a logical expression with a literal on its left, an operation of which nobody takes the
 /// value, where one operand alone acts, an array of which nobody takes the value, a conditional on a literal that is called so that what
 /// it gives has no receiver:
 /// `(1 ? o.g : null)();`, a conditional of which nobody takes the value and one branch alone acts: `a ? b() : 1;`, a sequence that is
@@ -91,6 +92,7 @@ pub fn dead_code_is_told()
     ensures empty { Clean (a_module (block (empty ∷ []) ∷ [])) → ⊥ }
     ensures function { Clean (a_module (function_a [] [] ∷ [])) → ⊥ }
     ensures declarator { Clean row.of_two → ⊥ }
+    ensures import_name { Clean (a_module (imports a ∷ [])) → ⊥ }
     ensures conditional { Clean row.takes_branch → ⊥ }
     ensures tested_object { Clean row.takes_by_object → ⊥ }
     ensures side { Clean row.never_calls → ⊥ }

@@ -40,5 +40,5 @@ returns-else-needs_another_pass c =
       lighter = λ e. absurd (true≢false (sym e ∙ c.if-needs_another_pass.false));
       quiet = λ _. c.in_ok-walk.ensures.quiet none;
       same = λ _. w.context_same none;
-      clean = λ _. no_dead_code c.walk.new.statements c.walk.new.ctx u b (w.quiet none) (w.settled none);
+      clean = λ _. no_dead_code c.walk.new.statements c.walk.new.ctx u b (w.quiet none) (w.uses_imports none) (w.settled none);
     }

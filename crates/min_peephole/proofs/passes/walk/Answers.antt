@@ -34,6 +34,7 @@ returns c =
       names_same = e.names;
       context_same = e.context;
       quiet = e.nothing_goes;
+      uses_imports = e.uses_imports;
       settled = e.settled;
     } in
     record {

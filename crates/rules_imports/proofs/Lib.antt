@@ -1,0 +1,9 @@
+pub mod Pruned
+pub mod Lighter
+pub mod Places
+pub mod LaidOut
+pub mod Splitting
+pub mod Leaving
+pub mod Pruning
+pub mod Used
+pub mod Walked

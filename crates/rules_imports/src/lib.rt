@@ -1,0 +1,13 @@
+//! Which names of imports does the pass over dead code take out, and why may it?
+//!
+//! `specs/Rules.antt` has the rule: of an import the names leave that nobody uses, and the import itself stays, even with an empty list,
+//! so that its module is loaded where it was (ECMA-262 16.2.1.3). `laws` states that by what is to be known of the program (`Knows` of
+//! rules_dead_code) they leave by edits that a dead code remover may make (steps_allowed), one after the other, that what is left
+//! weighs less and has the same references and calls, and that a program of which none goes (`specs/Quiet.antt`) has no name of an
+//! import that is dead code, as it is read off the tree alone. `rows` are small programs and what is left of their imports, by computing.
+//!
+//! The code is empty: each function's contract is a law.
+#![tactic(auto)]
+
+pub mod laws;
+pub mod rows;
