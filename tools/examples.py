@@ -63,7 +63,7 @@ cases['classes']=[
  ES(N('ClassExpression',id=None,superClass=None,body=N('ClassBody',body=[]))),
 ]
 cases['modules']=[
- N('ImportDeclaration',specifiers=[N('ImportSpecifier',imported=L('a b'),local=a),N('ImportDefaultSpecifier',local=b),N('ImportNamespaceSpecifier',local=c)],source=L('m')),
+ prog([N('ImportDeclaration',specifiers=[N('ImportSpecifier',imported=L('a b'),local=a),N('ImportDefaultSpecifier',local=b),N('ImportNamespaceSpecifier',local=c)],source=L('m')),ES(call(a,b,c))]),
  N('ExportNamedDeclaration',declaration=var('var',(N('ObjectPattern',properties=[prop(a,b),prop(c,N('AssignmentPattern',left=c,right=L(1)),shorthand=True)]),a)),specifiers=[],source=None),
  prog([var('let',(a,None)),N('ExportNamedDeclaration',declaration=None,specifiers=[N('ExportSpecifier',local=a,exported=L('x y'))],source=None)]),
  N('ExportNamedDeclaration',declaration=None,specifiers=[N('ExportSpecifier',local=I('default'),exported=b)],source=L('m')),
@@ -361,6 +361,22 @@ S('use(![a]); use(!(f(), 1)); use(1 + -3); use(typeof null); use(-(1)); use(-x);
 S('(p?.()); (1, p)?.(); of a chain what is called',[ES(PAREN(N('ChainExpression',expression=call(I('p'),optional=True)))),ES(N('ChainExpression',expression=call(SEQ(L(1),I('p')),optional=True)))],[ES(PAREN(N('ChainExpression',expression=call(I('p'),optional=True)))),ES(N('ChainExpression',expression=call(I('p'),optional=True)))],1,0)
 S("use(-1); use(0 * -1); use(1 / 2); use(1 / 0); use(9007199254740991 + 1); use('a' + 1); use(void 0);",[use(un('-',L(1))),use(SAME(L(0),un('-',L(1)),'*')),use(SAME(L(1),L(2),'/')),use(SAME(L(1),L(0),'/')),use(SAME(L(9007199254740991),L(1),'+')),use(SAME(L('a'),L(1),'+')),use(un('void',L(0)))],None,0,0)
 S('(1 < 2 ? a : b)(); use(!1 || a);',[ES(call(COND(SAME(L(1),L(2),'<'),a,b))),use(OR(NOT(L(1)),a))],[do('a'),use(a)],1,0)
+
+NAMED=lambda local,imported=None: N('ImportSpecifier',imported=I(imported or local),local=I(local))
+DEFAULT=lambda local: N('ImportDefaultSpecifier',local=I(local))
+ALL=lambda local: N('ImportNamespaceSpecifier',local=I(local))
+IMPORT=lambda source,*names: N('ImportDeclaration',specifiers=list(names),source=L(source))
+S("import { a, b } from 'm'; use(a);",[IMPORT('m',NAMED('a'),NAMED('b')),use(a)],[IMPORT('m',NAMED('a')),use(a)],1,1)
+S("import { a, b as c, d } from 'm'; use(c); whose names stand in order",[IMPORT('m',NAMED('a'),NAMED('c','b'),NAMED('d')),use(c)],[IMPORT('m',NAMED('c','b')),use(c)],1,1)
+S("import a, { b } from 'm'; import c, * as o from 'n'; use(b); use(o);",[IMPORT('m',DEFAULT('a'),NAMED('b')),IMPORT('n',DEFAULT('c'),ALL('o')),use(b),use(o)],[IMPORT('m',NAMED('b')),IMPORT('n',ALL('o')),use(b),use(o)],1,2)
+S("import a from 'm'; import * as b from 'n'; import {} from 'o'; whose modules are loaded as before",[IMPORT('m',DEFAULT('a')),IMPORT('n',ALL('b')),IMPORT('o')],[IMPORT('m'),IMPORT('n'),IMPORT('o')],1,0)
+S("import { a, b } from 'm'; export { a }; export * from 'n';",[IMPORT('m',NAMED('a'),NAMED('b')),exports('a'),N('ExportAllDeclaration',exported=None,source=L('n'))],[IMPORT('m',NAMED('a')),exports('a'),N('ExportAllDeclaration',exported=None,source=L('n'))],1,1)
+S("import { a, b } from 'm'; export { b } from 'm'; which exports what it names of the other module",[IMPORT('m',NAMED('a'),NAMED('b')),N('ExportNamedDeclaration',declaration=None,specifiers=[N('ExportSpecifier',local=b,exported=b)],source=L('m'))],[IMPORT('m'),N('ExportNamedDeclaration',declaration=None,specifiers=[N('ExportSpecifier',local=b,exported=b)],source=L('m'))],1,0)
+S("import { a } from 'm'; eval('a'); which may use each name",[IMPORT('m',NAMED('a')),do('eval',L('a'))],None,0,0)
+S("import { a } from 'm'; use(typeof a); export function h() { return a; } a; of which two uses stay",[IMPORT('m',NAMED('a')),use(un('typeof',a)),export(F_('h',[],RETURN(a))),ES(a)],[IMPORT('m',NAMED('a')),use(un('typeof',a)),export(F_('h',[],RETURN(a)))],1,2)
+S("import { a } from 'm'; export function h(a) { return a; } whose a is another",[IMPORT('m',NAMED('a')),export(F_('h',['a'],RETURN(a)))],[IMPORT('m'),export(F_('h',['a'],RETURN(a)))],1,1)
+S("import { a } from 'm'; use(0 && a); import { b } from 'n'; whose use goes first",[IMPORT('m',NAMED('a')),use(AND(L(0),a)),IMPORT('n',NAMED('b'))],[IMPORT('m'),use(L(0)),IMPORT('n')],2,0)
+S("import { a, b } from 'm'; function h() { a(); } export function k() { return b; h(); }",[IMPORT('m',NAMED('a'),NAMED('b')),F_('h',[],do('a')),export(F_('k',[],RETURN(b),do('h')))],[IMPORT('m',NAMED('b')),export(F_('k',[],RETURN(b)))],3,1)
 
 
 def text(tree): return json.dumps(tree, sort_keys=True, separators=(',', ':'))
