@@ -216,6 +216,7 @@ S('function f() { function g() {} { function h() {} } } in a script',[F_('f',[],
 S("function f() { 'use strict'; { function h() {} } } in a script",[F_('f',[],STRICT,B(F_('h',[])))],[F_('f',[],STRICT,B())],1,0,'script')
 S('function f(o) { with (o) { var x = 1; var y; } } in a script',[F_('f',['o'],N('WithStatement',object=I('o'),body=B(x_is(L(1),'var'),var('var',(I('y'),None)))))],[F_('f',['o'],N('WithStatement',object=I('o'),body=B(x_is(L(1),'var'))))],1,1,'script')
 S('var x = 1; in a script',[x_is(L(1),'var')],None,0,0,'script')
+S('let x = 1; return; in a CommonJS module',[x_is(L(1)),RETURN(None)],[RETURN(None)],1,0,'commonjs')
 S('var x = 1; in a CommonJS module',[x_is(L(1),'var')],[],1,0,'commonjs')
 S('export let x = 1; export function f() { let y; }',[export(x_is(L(1))),export(F_('f',[],var('let',(I('y'),None))))],[export(x_is(L(1))),export(F_('f',[]))],1,0)
 S('let x; [x, , !x]; ({ a: x, m() {} }); x ? void x : typeof x;',[x_is(None),ES(N('ArrayExpression',elements=[x,None,un('!',x)])),ES(N('ObjectExpression',properties=[prop(a,x),prop(I('m'),fn('FunctionExpression',None,[],B()),method=True)])),ES(N('ConditionalExpression',test=x,consequent=un('void',x),alternate=un('typeof',x)))],[],2,0)
@@ -366,6 +367,7 @@ NAMED=lambda local,imported=None: N('ImportSpecifier',imported=I(imported or loc
 DEFAULT=lambda local: N('ImportDefaultSpecifier',local=I(local))
 ALL=lambda local: N('ImportNamespaceSpecifier',local=I(local))
 IMPORT=lambda source,*names: N('ImportDeclaration',specifiers=list(names),source=L(source))
+S("import { a } from 'x';",[IMPORT('x',NAMED('a'))],[IMPORT('x')],1,0)
 S("import { a, b } from 'm'; use(a);",[IMPORT('m',NAMED('a'),NAMED('b')),use(a)],[IMPORT('m',NAMED('a')),use(a)],1,1)
 S("import { a, b as c, d } from 'm'; use(c); whose names stand in order",[IMPORT('m',NAMED('a'),NAMED('c','b'),NAMED('d')),use(c)],[IMPORT('m',NAMED('c','b')),use(c)],1,1)
 S("import a, { b } from 'm'; import c, * as o from 'n'; use(b); use(o);",[IMPORT('m',DEFAULT('a'),NAMED('b')),IMPORT('n',DEFAULT('c'),ALL('o')),use(b),use(o)],[IMPORT('m',NAMED('b')),IMPORT('n',ALL('o')),use(b),use(o)],1,2)
@@ -468,6 +470,12 @@ def rows():
     yield 'the library call: empty statements leave', [('call dce:', prog([EMPTY]), 'passes 0 scopes 1\n%s\n' % text(prog([])))]
     yield 'nothing leaves without options', [('call none:', prog([EMPTY]), 'passes 0 scopes 1\n%s\n' % text(prog([EMPTY])))]
     yield 'what is ill formed stays', [('call smallest:', prog([RETURN(None)]), 'rule 6 of form is broken at 1\n%s\n' % text(prog([RETURN(None)])))]
+    kept = [IMPORT('m', DEFAULT('b'), NAMED('a')), x_is(L(1)), F_('f', []), ES(L(1)), EMPTY]
+    yield "the options say what is kept that nobody uses: import b, { a } from 'm'; let x = 1; function f() {} 1; ;", [
+        ('call smallest:', prog(kept), 'passes 1 scopes 1\n%s\n' % text(prog([IMPORT('m')]))),
+        ('call imports:', prog(kept), 'passes 1 scopes 1\n%s\n' % text(prog(kept[:1]))),
+        ('call imports:', prog(kept[:1]), 'passes 0 scopes 1\n%s\n' % text(prog(kept[:1]))),
+        ('call safest:', prog(kept), 'passes 1 scopes 2\n%s\n' % text(prog(kept[:3])))]
     yield 'the scopes are those of what is left: let x; { ; } () => { x; };', [('call dce:', prog([LET_X, B(EMPTY), ES(ARROW(ES(x)))]), 'passes 2 scopes 2\n%s\n' % text(prog([B()])))]
 
 

@@ -1,5 +1,5 @@
 -- What is answered by a new table is what is to be known.
-use Rattle.std.proofs.Common.{◌≡◌, ℕ, true, Some, refl}
+use Rattle.std.proofs.Common.{◌≡◌, ℕ, Bool, true, Some, refl}
 use Rattle.js_syntax.specs.Class.{root}
 use Rattle.js_syntax.specs.Node.{Forest}
 use Rattle.js_effects.specs.Silence.{is_marked}
@@ -19,15 +19,15 @@ use Rattle.exported_names.proofs.Listing.{bound_told}
 use Rattle.exported_names.proofs.Telling.{exports_told, exports_only}
 use Rattle.exported_names.proofs.Placing.{new_placed}
 
-pub known : (t : Forest) → Fits root t → let f = found_in (sites_of t) in let u = marked (first_marks (symbols_declared f.bindings)) t in
-    let facts : Facts = record { scoping = scoping_of f; bound = bound_of (scoping_of f); exported = exported_of (scoping_of f) u; is_script = is_script u } in
+pub known : (t : Forest) → Fits root t → (keeps_unused keeps_imports : Bool) → let f = found_in (sites_of t) in let u = marked (first_marks (symbols_declared f.bindings)) t in
+    let facts : Facts = record { scoping = scoping_of f; bound = bound_of (scoping_of f); exported = exported_of (scoping_of f) u; is_script = is_script u; keeps_unused = keeps_unused; keeps_imports = keeps_imports } in
     Knows facts unmarked u
-known t fits =
+known t fits keeps_unused keeps_imports =
     let f = found_in (sites_of t) in
     let u = marked (first_marks (symbols_declared f.bindings)) t in
     let bound = bound_of (scoping_of f) in
     let exported = exported_of (scoping_of f) u in
-    new_known t fits bound exported (bound_told (scoping_of f) bound refl) (exports_told (scoping_of f) u exported refl (new_placed t))
+    new_known t fits bound exported keeps_unused keeps_imports (bound_told (scoping_of f) bound refl) (exports_told (scoping_of f) u exported refl (new_placed t))
 
 pub only : (t : Forest) → let f = found_in (sites_of t) in let u = marked (first_marks (symbols_declared f.bindings)) t in
     (symbol : ℕ) → is_marked (exported_of (scoping_of f) u) (Some symbol) ≡ true → IsExported u symbol

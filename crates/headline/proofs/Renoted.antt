@@ -52,7 +52,7 @@ use Rattle.steps_allowed.specs.DeadIf.{DeadIf}
 use Rattle.steps_allowed.specs.Unreached.{is_behind_jump, Unreached, never_runs}
 use Rattle.steps_owed.proofs.ExposedBare.{bare_inside, bare_below, bare_exposed}
 use Rattle.steps_owed.proofs.Focus.{follows_there}
-use Rattle.headline.specs.Clean.{IsDead, an_empty_statement, a_silent_statement, an_unused_function, an_unused_declarator, an_unused_import, a_known_conditional, a_known_side, an_unused_operation, an_unused_list, an_indirect_choice, a_one_sided_choice, idle_parts, two_sides, an_unused_object, a_known_operation, a_known_if, a_dead_if, an_unreached_statement, Clean}
+use Rattle.headline.specs.Clean.{IsDead, an_empty_statement, a_silent_statement, an_unused_function, an_unused_declarator, an_unused_import, a_known_conditional, a_known_side, an_unused_operation, an_unused_list, an_indirect_choice, a_one_sided_choice, idle_parts, two_sides, an_unused_object, a_known_operation, a_known_if, a_dead_if, an_unreached_statement, CleanBut}
 use Rattle.headline.proofs.RenotedUnused.{stands_as, needed_as, child_as, list_as}
 use Rattle.headline.proofs.RenotedChoice.{counts_as}
 use Rattle.headline.proofs.RenotedParts.{side_as, sequence_as}
@@ -489,7 +489,7 @@ before_two f t m i j d k b l c e =
 
 -- ---- dead code
 
-module _ (t u : Forest) (e : bare t ≡ bare u) (clean : Clean t) where
+module _ (unused imports : Bool) (t u : Forest) (e : bare t ≡ bare u) (clean : CleanBut unused imports t) where
   other_place : (a : Around) (k : Kind) (n : Note) (b : Forest) → u ≡ plug a (a_node k n b) → Twin t a k n b
   other_place a k n b is = twin a k n b t (e ∙ ap bare is)
 
@@ -524,9 +524,9 @@ module _ (t u : Forest) (e : bare t ≡ bare u) (clean : Clean t) where
       (follows_there (SilentStatement u b) (SilentStatement t o.below) (statement_as t u e b o.below (sym o.same)) (a_node expression_statement o.note o.below) o.around false (λ at. outermost) 0 0
       (o.holds (SilentStatement u b) false (λ at. outermost) 0 0 silent)))
 
-  no_function : (a : Around) (pure : Bool) (n m : Note) (x : List ℕ) (rest : Forest) → u ≡ plug a (a_function pure n m x rest) → IsItem a → IsOwnFunction a (a_function pure n m x rest)
+  no_function : (a : Around) (pure : Bool) (n m : Note) (x : List ℕ) (rest : Forest) → u ≡ plug a (a_function pure n m x rest) → unused ≡ false → IsItem a → IsOwnFunction a (a_function pure n m x rest)
       → At a (a_function pure n m x rest) (Free u variable.Let x) → ⊥
-  no_function a pure n m x rest is item own free =
+  no_function a pure n m x rest is goes item own free =
       let k = function function_kind.Declaration pure in
       let b = node (binding_name x) m nothing rest in
       let o = other_place a k n b is in
@@ -538,11 +538,11 @@ module _ (t u : Forest) (e : bare t ≡ bare u) (clean : Clean t) where
             (o.holds (Free u variable.Let x) false (λ at. outermost) 0 0 free),
       ) in
       let there = subst (λ d. (t ≡ plug o.around (a_node k o.note d)) × (function_is_exposed (exposure o.around (a_node k o.note d)) ≡ false) × At o.around (a_node k o.note d) (Free t variable.Let x)) f.is now in
-      clean.nothing_is_dead o.around (a_function pure o.note f.note x f.rest_now) there.0 (an_unused_function o.around pure o.note f.note x f.rest_now (item_as a o item) there.1 there.2)
+      clean.nothing_is_dead o.around (a_function pure o.note f.note x f.rest_now) there.0 (an_unused_function o.around pure o.note f.note x f.rest_now goes (item_as a o item) there.1 there.2)
 
-  no_declarator : (a : Around) (n m : Note) (x : List ℕ) (value : Forest) → u ≡ plug a (a_declarator n m x value) → IsDeclarator a → IsOwnDeclarator a (a_declarator n m x value)
+  no_declarator : (a : Around) (n m : Note) (x : List ℕ) (value : Forest) → u ≡ plug a (a_declarator n m x value) → unused ≡ false → IsDeclarator a → IsOwnDeclarator a (a_declarator n m x value)
       → At a (a_declarator n m x value) (SilentDeclarator u (node (binding_name x) m nothing value)) → At a (a_declarator n m x value) (FreeDeclarator u x) → ⊥
-  no_declarator a n m x value is declares own silent free =
+  no_declarator a n m x value is goes declares own silent free =
       let k = variable_declarator in
       let b = node (binding_name x) m nothing value in
       let o = other_place a k n b is in
@@ -559,10 +559,10 @@ module _ (t u : Forest) (e : bare t ≡ bare u) (clean : Clean t) where
       let there = subst (λ d. (t ≡ plug o.around (a_node k o.note d)) × ((exposure o.around (a_node k o.note d)).declared_shared || evaluates_somewhere (plug o.around (a_node k o.note d)) ≡ false)
       × At o.around (a_node k o.note d) quiet × At o.around (a_node k o.note d) (FreeDeclarator t x)) f.is now in
       clean.nothing_is_dead o.around (a_declarator o.note f.note x f.rest_now) there.0
-      (an_unused_declarator o.around o.note f.note x f.rest_now (declares_as a o declares) there.1 there.2 there.3)
+      (an_unused_declarator o.around o.note f.note x f.rest_now goes (declares_as a o declares) there.1 there.2 there.3)
 
-  no_import : (a : Around) (k : Kind) (n m : Note) (x : List ℕ) → u ≡ plug a (an_imported k n m x) → binds_import k ≡ true → IsImported a → IsOwnDeclarator a (an_imported k n m x) → At a (an_imported k n m x) (FreeDeclarator u x) → ⊥
-  no_import a k n m x is binds imported own free =
+  no_import : (a : Around) (k : Kind) (n m : Note) (x : List ℕ) → u ≡ plug a (an_imported k n m x) → unused ≡ false → imports ≡ false → binds_import k ≡ true → IsImported a → IsOwnDeclarator a (an_imported k n m x) → At a (an_imported k n m x) (FreeDeclarator u x) → ⊥
+  no_import a k n m x is goes named binds imported own free =
       let b = node (binding_name x) m nothing nothing in
       let o = other_place a k n b is in
       let f = begins o.below x m nothing o.same in
@@ -576,7 +576,7 @@ module _ (t u : Forest) (e : bare t ≡ bare u) (clean : Clean t) where
       ) in
       let there = subst (λ d. (t ≡ plug o.around (a_node k o.note d)) × ((exposure o.around (a_node k o.note d)).declared_shared || evaluates_somewhere (plug o.around (a_node k o.note d)) ≡ false)
       × At o.around (a_node k o.note d) (FreeDeclarator t x)) below now in
-      clean.nothing_is_dead o.around (an_imported k o.note f.note x) there.0 (an_unused_import o.around k o.note f.note x binds (o.imported elsewhere ∙ imported) there.1 there.2)
+      clean.nothing_is_dead o.around (an_imported k o.note f.note x) there.0 (an_unused_import o.around k o.note f.note x goes named binds (o.imported elsewhere ∙ imported) there.1 there.2)
 
   bare_as : {k : Kind} {n : Note} {b : Forest} (a : Around) (o : Twin t a k n b) (j : Kind) (c d : Forest) → bare c ≡ bare d → MayStandBare a j d → MayStandBare o.around j c
   bare_as a o j c d same may =
@@ -686,25 +686,25 @@ module _ (t u : Forest) (e : bare t ≡ bare u) (clean : Clean t) where
       let same = unseen declares_none declares_bare (forest_of now) (forest_of x) (ap (λ b. node x.kind nowhere b nothing) o.same) in
       clean.nothing_is_dead o.around (Some now) o.is (an_unreached_statement o.around now (never_runs (item_as a o item) (o.jumped false ∙ jump) runs (same ∙ none)))
 
-  none_dead : (a : Around) (x : Option Tree) → u ≡ plug a x → IsDead u a x → ⊥
+  none_dead : (a : Around) (x : Option Tree) → u ≡ plug a x → IsDead unused imports u a x → ⊥
   none_dead a x is (an_empty_statement b n item) = no_empty b n is item
   none_dead a x is (a_silent_statement b n below silent) = no_silent b n below is silent
-  none_dead a x is (an_unused_function b pure n m y rest item own free) = no_function b pure n m y rest is item own free
-  none_dead a x is (an_unused_declarator b n m y value item own silent free) = no_declarator b n m y value is item own silent free
-  none_dead a x is (an_unused_import b k n m y binds imported own free) = no_import b k n m y is binds imported own free
+  none_dead a x is (an_unused_function b pure n m y rest goes item own free) = no_function b pure n m y rest is goes item own free
+  none_dead a x is (an_unused_declarator b n m y value goes item own silent free) = no_declarator b n m y value is goes item own silent free
+  none_dead a x is (an_unused_import b k n m y goes named binds imported own free) = no_import b k n m y is goes named binds imported own free
   none_dead a x is (a_known_conditional b y z known) = no_conditional b y z is known
   none_dead a x is (a_known_side b y z known) = no_side b y z is known
-  none_dead a x is (an_unused_operation b y z unused) = no_operation b y z is unused
-  none_dead a x is (an_unused_list b y z unused) = no_list b y z is unused
+  none_dead a x is (an_unused_operation b y z unneeded) = no_operation b y z is unneeded
+  none_dead a x is (an_unused_list b y z unneeded) = no_list b y z is unneeded
   none_dead a x is (an_indirect_choice b y z decides) = no_choice b y z is decides
   none_dead a x is (a_one_sided_choice b y z one_acts) = no_one_sided b y z is one_acts
   none_dead a x is (idle_parts b y z leave) = no_idle_parts b y z is leave
   none_dead a x is (two_sides b y z act) = no_two_sides b y z is act
-  none_dead a x is (an_unused_object b y z unused) = no_object b y z is unused
+  none_dead a x is (an_unused_object b y z unneeded) = no_object b y z is unneeded
   none_dead a x is (a_known_operation b y z known) = no_known b y z is known
   none_dead a x is (a_known_if b y z known) = no_known_if b y z is known
   none_dead a x is (a_dead_if b y z dead) = no_dead_if b y z is dead
   none_dead a x is (an_unreached_statement b y unreached) = no_unreached b y is unreached
 
-pub clean_as : (t u : Forest) → bare t ≡ bare u → Clean t → Clean u
-clean_as t u e clean = record { nothing_is_dead = none_dead t u e clean }
+pub clean_as : (unused imports : Bool) (t u : Forest) → bare t ≡ bare u → CleanBut unused imports t → CleanBut unused imports u
+clean_as unused imports t u e clean = record { nothing_is_dead = none_dead unused imports t u e clean }

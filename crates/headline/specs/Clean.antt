@@ -1,5 +1,5 @@
 -- What a program without dead code is: read off its tree alone, by the bindings of its names.
-use Rattle.std.specs.Prelude.{◌≡◌, ℕ, List, Bool, true, Option, Some}
+use Rattle.std.specs.Prelude.{◌≡◌, ℕ, List, Bool, true, false, Option, Some}
 use Rattle.js_syntax.specs.declared.node_kind.NodeKind.{NodeKind as Kind}
 use Rattle.js_syntax.specs.declared.node_kind.NodeKind.TheVariants.{EmptyStatement as empty_statement, ExpressionStatement as expression_statement, BindingName as binding_name}
 use Rattle.js_syntax.specs.declared.kind.VariableKind.TheVariants as variable
@@ -41,56 +41,61 @@ use Rattle.steps_allowed.specs.Unreached.{Unreached}
 -- whose names only the tree's references may use
 use Rattle.steps_allowed.specs.Exposure.{IsOwnFunction, IsOwnDeclarator}
 
--- A part of a program, at a place in it, is dead code.
-pub data IsDead (t : Forest) : Around → Option Tree → Type 0 where
+-- A part of a program, at a place in it, is dead code. Who asks for it keeps what nobody uses (`unused`), or of that the names of imports
+-- (`imports`), as an import of a name that its module doesn't export is an error (ECMA-262 16.2.1.6); none of that is dead code then.
+pub data IsDead (unused imports : Bool) (t : Forest) : Around → Option Tree → Type 0 where
   -- an empty statement in a list of statements
-  an_empty_statement : (a : Around) (n : Note) → IsItem a → IsDead t a (a_node empty_statement n nothing)
+  an_empty_statement : (a : Around) (n : Note) → IsItem a → IsDead unused imports t a (a_node empty_statement n nothing)
   -- a statement, wherever it stands, whose expression is silent there
-  a_silent_statement : (a : Around) (n : Note) (below : Forest) → At a (a_node expression_statement n below) (SilentStatement t below) → IsDead t a (a_node expression_statement n below)
+  a_silent_statement : (a : Around) (n : Note) (below : Forest) → At a (a_node expression_statement n below) (SilentStatement t below) → IsDead unused imports t a (a_node expression_statement n below)
   -- a function declaration in a list of statements, whose name nothing refers to, no export is of and no other code may use
-  an_unused_function : (a : Around) (pure : Bool) (n m : Note) (x : List ℕ) (rest : Forest) → IsItem a → IsOwnFunction a (a_function pure n m x rest) → At a (a_function pure n m x rest) (Free t variable.Let x)
-      → IsDead t a (a_function pure n m x rest)
+  an_unused_function : (a : Around) (pure : Bool) (n m : Note) (x : List ℕ) (rest : Forest) → unused ≡ false → IsItem a → IsOwnFunction a (a_function pure n m x rest) → At a (a_function pure n m x rest) (Free t variable.Let x)
+      → IsDead unused imports t a (a_function pure n m x rest)
   -- a declarator of such a name, the only one or one of several of a declaration in a list of statements, with a silent initialiser
   -- or none
-  an_unused_declarator : (a : Around) (n m : Note) (x : List ℕ) (value : Forest) → IsDeclarator a → IsOwnDeclarator a (a_declarator n m x value)
-      → At a (a_declarator n m x value) (SilentDeclarator t (node (binding_name x) m nothing value)) → At a (a_declarator n m x value) (FreeDeclarator t x) → IsDead t a (a_declarator n m x value)
+  an_unused_declarator : (a : Around) (n m : Note) (x : List ℕ) (value : Forest) → unused ≡ false → IsDeclarator a → IsOwnDeclarator a (a_declarator n m x value)
+      → At a (a_declarator n m x value) (SilentDeclarator t (node (binding_name x) m nothing value)) → At a (a_declarator n m x value) (FreeDeclarator t x) → IsDead unused imports t a (a_declarator n m x value)
   -- a name of an import that nothing refers to, no export is of and no other code may use: the import itself stays, for its module is
   -- loaded
-  an_unused_import : (a : Around) (k : Kind) (n m : Note) (x : List ℕ) → binds_import k ≡ true → IsImported a → IsOwnDeclarator a (an_imported k n m x) → At a (an_imported k n m x) (FreeDeclarator t x) → IsDead t a (an_imported k n m x)
+  an_unused_import : (a : Around) (k : Kind) (n m : Note) (x : List ℕ) → unused ≡ false → imports ≡ false → binds_import k ≡ true → IsImported a → IsOwnDeclarator a (an_imported k n m x) → At a (an_imported k n m x) (FreeDeclarator t x) → IsDead unused imports t a (an_imported k n m x)
   -- a conditional whose condition does nothing but give a value, of which its form tells whether it is true, if the branch that is
   -- taken may stand in its place: the other is never evaluated
-  a_known_conditional : (a : Around) (x y : Tree) → KnownConditional a x y → IsDead t a (Some x)
+  a_known_conditional : (a : Around) (x y : Tree) → KnownConditional a x y → IsDead unused imports t a (Some x)
   -- a logical expression whose left side does nothing but give a value, of which its form tells whether the right one is evaluated, if
   -- the side that counts may stand in its place: the other does nothing
-  a_known_side : (a : Around) (x y : Tree) → KnownSide a x y → IsDead t a (Some x)
+  a_known_side : (a : Around) (x y : Tree) → KnownSide a x y → IsDead unused imports t a (Some x)
   -- an operation of which nobody takes the value, where one operand alone acts: the rest of it does nothing
-  an_unused_operation : (a : Around) (x y : Tree) → UnusedOperation a x y → IsDead t a (Some x)
+  an_unused_operation : (a : Around) (x y : Tree) → UnusedOperation a x y → IsDead unused imports t a (Some x)
   -- an array of which nobody takes the value and in which nothing is spread, or such a sequence of which not all parts act: what
   -- doesn't act of it does nothing
-  an_unused_list : (a : Around) (x y : Tree) → UnusedList a x y → IsDead t a (Some x)
+  an_unused_list : (a : Around) (x y : Tree) → UnusedList a x y → IsDead unused imports t a (Some x)
   -- a conditional or a logical expression that is so decided, where the part that counts may stand behind a zero alone: the rest of it
   -- does nothing
-  an_indirect_choice : (a : Around) (x y : Tree) → IndirectChoice a x y → IsDead t a (Some x)
+  an_indirect_choice : (a : Around) (x y : Tree) → IndirectChoice a x y → IsDead unused imports t a (Some x)
   -- a conditional of which nobody takes the value and one branch alone acts: the other does nothing
-  a_one_sided_choice : (a : Around) (x y : Tree) → OneSidedChoice a x y → IsDead t a (Some x)
+  a_one_sided_choice : (a : Around) (x y : Tree) → OneSidedChoice a x y → IsDead unused imports t a (Some x)
   -- a sequence of which a part before the last doesn't act, unless the last one would be left alone and may not stand there itself: the
   -- part does nothing
-  idle_parts : (a : Around) (x y : Tree) → IdleParts a x y → IsDead t a (Some x)
+  idle_parts : (a : Around) (x y : Tree) → IdleParts a x y → IsDead unused imports t a (Some x)
   -- a comparison of which nobody takes the value and both sides act: it does nothing itself
-  two_sides : (a : Around) (x y : Tree) → TwoSides a x y → IsDead t a (Some x)
+  two_sides : (a : Around) (x y : Tree) → TwoSides a x y → IsDead unused imports t a (Some x)
   -- an object literal of which nobody takes the value, with plain keys, of which a value acts, and each that does may come out of it: it
   -- does nothing itself, nor do the values that don't act
-  an_unused_object : (a : Around) (x y : Tree) → UnusedObject a x y → IsDead t a (Some x)
+  an_unused_object : (a : Around) (x y : Tree) → UnusedObject a x y → IsDead unused imports t a (Some x)
   -- an operation that doesn't act, of which the value is known and has a literal: the operation does nothing that the literal doesn't
-  a_known_operation : (a : Around) (x y : Tree) → KnownOperation a x y → IsDead t a (Some x)
+  a_known_operation : (a : Around) (x y : Tree) → KnownOperation a x y → IsDead unused imports t a (Some x)
   -- an `if` whose condition does nothing but give a value, of which its form tells whether it is true, if the branch that runs may stand
   -- in its place and the other one declares no name around it: that one never runs
-  a_known_if : (a : Around) (x y : Tree) → KnownIf x y → IsDead t a (Some x)
+  a_known_if : (a : Around) (x y : Tree) → KnownIf x y → IsDead unused imports t a (Some x)
   -- such an `if` with no branch to run, whose only branch declares no name around it: it does nothing
-  a_dead_if : (a : Around) (x y : Tree) → DeadIf x y → IsDead t a (Some x)
+  a_dead_if : (a : Around) (x y : Tree) → DeadIf x y → IsDead unused imports t a (Some x)
   -- a statement behind a jump in its list, which declares no name around it: it never runs
-  an_unreached_statement : (a : Around) (x : Tree) → Unreached a x → IsDead t a (Some x)
+  an_unreached_statement : (a : Around) (x : Tree) → Unreached a x → IsDead unused imports t a (Some x)
 
--- No part of the program is dead code.
-pub record Clean (t : Forest) : Type 0 where
-  pub nothing_is_dead : (a : Around) (x : Option Tree) → t ≡ plug a x → IsDead t a x → ⊥
+-- No part of the program is dead code, but for what is kept.
+pub record CleanBut (unused imports : Bool) (t : Forest) : Type 0 where
+  pub nothing_is_dead : (a : Around) (x : Option Tree) → t ≡ plug a x → IsDead unused imports t a x → ⊥
+
+-- where nothing is kept
+abbrev pub Clean : Forest → Type 0
+Clean t = CleanBut false false t

@@ -5,7 +5,7 @@
 //! program that fits the table of node types and breaks no rule of form, where edits lead to one without dead code.
 //!
 //! `clean`: what dead code is stands in `specs/Clean.antt`, read off a tree by the bindings of its names, whatever its spans
-//! and ids are.
+//! and ids are. Who asks may keep what nobody uses, or names of imports; the headline keeps nothing.
 //!
 //! Two families of laws lead there. `kept_runs`: a step refines a core module with no premise but that both are sensible,
 //! since what the law of steps asks of a name whose declaration goes holds wherever the scopes are clear. `edits`: edits

@@ -56,7 +56,7 @@ marked_now u new s tree table exact matches resolved = record {
 
 clean_by : (o : Option CompressOptions) (u : Forest) → IsCleanBy o u → IsCleanBy o (numbered u)
 clean_by None u clean = tt
-clean_by (Some options) u clean = clean_as u (numbered u) (sym (numbered_same u)) clean
+clean_by (Some options) u clean = clean_as _ _ u (numbered u) (sym (numbered_same u)) clean
 
 module _ (o : Option CompressOptions) (t u new : Forest) (s : Scoping) (iterations : ℕ) (within : IsWithinLimits t) (form : IsWellFormed t) (came : Came o t u iterations) (tree : new ≡ numbered u) (m : IsMarked new s) where
   same : bare new ≡ bare u
@@ -94,7 +94,7 @@ module _ (o : Option CompressOptions) (t u new : Forest) (s : Scoping) (iteratio
 
 -- ---- what passes leave, and a program that stays or only loses its empty statements
 
-peephole_came : (options : CompressOptions) (t u : Forest) (s : Scoping) (iterations : ℕ) → Fits root t → peephole.IsShaken t u s iterations → Came (Some options) t u iterations
+peephole_came : (options : CompressOptions) (t u : Forest) (s : Scoping) (iterations : ℕ) → Fits root t → peephole.IsShaken options t u s iterations → Came (Some options) t u iterations
 peephole_came options t u s iterations fits k = record {
   edits = λ h. k.edits;
   clean = λ h. k.clean;
@@ -131,7 +131,7 @@ stays_came t iterations none = record {
   none = λ asked. absurd (cc asked);
 }
 
-pub compressed : (options : CompressOptions) (t u : Forest) (s : Scoping) (iterations : ℕ) → IsWithinLimits t → IsWellFormed t → Fits root t → peephole.IsShaken t u s iterations → IsLeft (Some options) t u s iterations
+pub compressed : (options : CompressOptions) (t u : Forest) (s : Scoping) (iterations : ℕ) → IsWithinLimits t → IsWellFormed t → Fits root t → peephole.IsShaken options t u s iterations → IsLeft (Some options) t u s iterations
 compressed options t u s iterations within form fits k = is_left (Some options) t u u s iterations within form (peephole_came options t u s iterations fits k) k.marked.marked k.marked
 
 -- whatever is answered beside the tree, its table and the number of passes

@@ -2,18 +2,18 @@
 use Rattle.std.specs.Prelude.{◌≡◌, ◌+◌, ℕ, Option, Some, None, min}
 use Rattle.js_syntax.specs.Node.{Forest}
 use Rattle.js_tree.specs.Count.{node_count, levels}
-use Rattle.headline.specs.Clean.{Clean}
 use Rattle.form_rules.specs.Break.{at_place}
 use Rattle.form_rules.specs.Form.{first_broken}
 use Rattle.min_driver.specs.Limit.{IsWithinLimits, IsTooLarge, max_nodes, max_levels}
 use Rattle.min_options.specs.declared.options.CompressOptions.{CompressOptions}
+use Rattle.min_peephole.specs.CleanBy.{CleanBy}
 use Rattle.min_driver.specs.declared.error.MinifyError.{MinifyError}
 use Rattle.min_driver.specs.declared.error.MinifyError.TheVariants.{TooLarge, IllFormed, OutOfMemory}
 
--- with options for compression no part of what is left is dead code; without them no pass runs
+-- with options for compression no part of what is left is dead code, but what they keep; without them no pass runs
 abbrev pub IsCleanBy : Option CompressOptions → Forest → Type 0
 IsCleanBy None t = Unit {0}
-IsCleanBy (Some options) t = Clean t
+IsCleanBy (Some options) t = CleanBy options t
 
 -- both counts, each capped one past its limit
 abbrev pub IsCounted : (nodes levels : ℕ) → Forest → Type 0

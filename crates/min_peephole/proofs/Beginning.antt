@@ -34,7 +34,7 @@ module _ (names : Names) (c : Seen) (t : Forest) (fits : Fits root t) (marked : 
   pub begun : names ≡ names_of c.scoping t → c.marked ≡ none_below (length c.scoping.references) → c.place ≡ outside → c.eval_dropped ≡ false → c.requested ≡ false
       → is_script_source c.source_type ≡ is_script t → BetweenPasses names c t
   begun named marks place calls asked source =
-      let k = known t fits in
+      let k = known t fits false false in
       let bound_is : names.bound ≡ bound_of c.scoping = ap {A = Names} (λ (n : Names). n.bound) named in
       let exported_is : names.exported ≡ exported_of c.scoping t = ap {A = Names} (λ (n : Names). n.exported) named in
       record {

@@ -1,3 +1,4 @@
+pub mod Keeping
 pub mod Quieted
 pub mod Beginning
 pub mod Passing

@@ -15,7 +15,7 @@ use Rattle.scope_table.specs.Reading.{no_reference}
 use Rattle.symbol_sets.specs.Numbers.{has, none_below}
 use Rattle.steps_marked.specs.Flags.{FlagsTell}
 use Rattle.steps_marked.proofs.Tables.{pruned_exact}
-use Rattle.headline.specs.Clean.{Clean}
+use Rattle.min_peephole.specs.CleanBy.{CleanBy}
 use Rattle.steps_marked.proofs.Telling.{flags_alone}
 use Rattle.steps_told.specs.Nesting.{ScopesNest}
 use Rattle.steps_told.specs.Parts.{CallsToldOnly, FlagsTellOnly}
@@ -77,7 +77,7 @@ module _ (names : Names) (c : Seen) (t : Forest) (b : BetweenPasses names c t) w
   exact = pruned_exact t b.holds.fits unmarked c.scoping c.scoping (none_pruned c.scoping) (exact_by c.scoping (has c.marked) unmarked t (none_has c b.marks) b.holds.lists)
 
   -- where nothing goes, and no expression comes to its parts
-  pub no_dead_code : IsQuiet (facts_of names c) t → ImportsUsed (facts_of names c) t → IsSettled t → Clean t
+  pub no_dead_code : IsQuiet (facts_of names c) t → ImportsUsed (facts_of names c) t → IsSettled t → CleanBy c.options t
   no_dead_code quiet used settled =
       let k : Knows (facts_of names c) unmarked t = record { fits = b.holds.fits; exact = exact_by c.scoping (has c.marked) unmarked t (none_has c b.marks) b.holds.lists; flags = b.flags; outermost = b.outermost; bound = b.bound; exported = b.exported; script = b.source } in
       clean (facts_of names c) t k (record { flags = b.flags_only; exported = b.exported_only }) quiet used settled

@@ -133,6 +133,6 @@ each_stays Q f here s (node k n inner rest) h =
 pub quiet_clean : (t : Forest) → Fits root t → is_quiet t ≡ true → Clean t
 quiet_clean t fits quiet =
     let f = first_facts t in
-    clean_as (numbered t) t (numbered_same t)
-    (clean f (numbered t) (known t fits) (record { flags = new_told_only t fits; exported = only t }) (quiet_nodes f (numbered t) (each_stays (IsQuietAt f) f (quiet_here f) top (numbered t) quiet))
+    clean_as false false (numbered t) t (numbered_same t)
+    (clean f (numbered t) (known t fits false false) (record { flags = new_told_only t fits; exported = only t }) (quiet_nodes f (numbered t) (each_stays (IsQuietAt f) f (quiet_here f) top (numbered t) quiet))
     (imports_used f (numbered t) (each_stays (IsUsedAt f) f (used_here f) top (numbered t) quiet)) (settled_nodes (numbered t) (each_stays IsSettledAt f (settled_here f) top (numbered t) quiet)))

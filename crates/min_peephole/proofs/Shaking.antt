@@ -21,7 +21,9 @@ use Rattle.steps_marked.proofs.Shedding.{edits_weigh_no_more}
 use Rattle.steps_owed.proofs.FitsEdits.{tree_edits_fit, renoted_fits}
 use Rattle.steps_keep_text.proofs.Along.{edits_shed}
 use Rattle.steps_keep_text.proofs.Smaller.{nodes_shed}
-use Rattle.headline.specs.Clean.{Clean}
+use Rattle.min_options.specs.declared.options.CompressOptions.{CompressOptions}
+use Rattle.min_statements.specs.Walker.{keeps_unused, keeps_imports}
+use Rattle.min_peephole.specs.CleanBy.{CleanBy}
 use Rattle.headline.proofs.Renoted.{clean_as}
 use Rattle.min_pass.specs.Pass.{cleared}
 use Rattle.min_peephole.specs.Shaken.{IsMarked, Runs, IsShaken}
@@ -49,12 +51,12 @@ no_more_nodes t u edits fits = edits_shed node_count nodes_shed t u (tree_edits_
 
 -- ---- behind the passes
 
-pub runs : (t u v : Forest) (s : Scoping) (n : ℕ) → TreeEdits t u → Clean u → n + total weight u ≤ total weight t → (n ≡ 0 → u ≡ t) → v ≡ numbered u → IsMarked v s → Runs t v s n
-runs t u v s n edits clean few none tree marked =
+pub runs : (o : CompressOptions) (t u v : Forest) (s : Scoping) (n : ℕ) → TreeEdits t u → CleanBy o u → n + total weight u ≤ total weight t → (n ≡ 0 → u ≡ t) → v ≡ numbered u → IsMarked v s → Runs o t v s n
+runs o t u v s n edits clean few none tree marked =
     let same : bare v ≡ bare u = ap bare tree ∙ numbered_same u in
     record {
       edits = edits_follow (tree_edits_are_edits edits) (no_edit u v (sym same));
-      clean = clean_as u v (sym same) clean;
+      clean = clean_as (keeps_unused o) (keeps_imports o) u v (sym same) clean;
       marked = marked;
       few = Prim.omega (arith, few, ap (total weight) tree, numbered_total weight u);
       none = λ e. same ∙ ap bare (none e);
@@ -65,8 +67,8 @@ runs t u v s n edits clean few none tree marked =
 pub cleared_comes : (t : Forest) → Fits root t → IsWellFormed t → TreeEdits t (cleared t)
 cleared_comes t fits form = clearing_comes t (fits_arranged t fits form)
 
-pub shaken : (t u v : Forest) (s : Scoping) (n : ℕ) → Fits root t → IsWellFormed t → u ≡ numbered (cleared t) → Runs u v s n → IsShaken t v s n
-shaken t u v s n fits form tree r =
+pub shaken : (o : CompressOptions) (t u v : Forest) (s : Scoping) (n : ℕ) → Fits root t → IsWellFormed t → u ≡ numbered (cleared t) → Runs o u v s n → IsShaken o t v s n
+shaken o t u v s n fits form tree r =
     let comes = cleared_comes t fits form in
     let same : bare u ≡ bare (cleared t) = ap bare tree ∙ numbered_same (cleared t) in
     record {
@@ -82,12 +84,12 @@ pub begins_fitting : (t u : Forest) → Fits root t → IsWellFormed t → u ≡
 begins_fitting t u fits form tree = subst (Fits root) (sym tree) (renoted_fits (cleared t) (numbered (cleared t)) (sym (numbered_same (cleared t))) (tree_edits_fit t (cleared t) (cleared_comes t fits form) fits))
 
 -- whatever is answered
-module _ {X E : Type 0} (trees : X → Forest) (tables : X → Scoping) (counts : X → ℕ) where
-  pub all_run : (t u : Forest) (n : ℕ) → TreeEdits t u → Clean u → n + total weight u ≤ total weight t → (n ≡ 0 → u ≡ t) → (r : Result X E) → IfOk r (λ x. IsMarked (trees x) (tables x)) → IfOk r (λ x. trees x ≡ numbered u) → IfOk r (λ x. counts x ≡ n)
-      → IfOk r (λ x. Runs t (trees x) (tables x) (counts x))
-  all_run t u n edits clean few none (Ok x) marked tree count = subst (λ (m : ℕ). Runs t (trees x) (tables x) m) (sym count) (runs t u (trees x) (tables x) n edits clean few none tree marked)
+module _ {X E : Type 0} (o : CompressOptions) (trees : X → Forest) (tables : X → Scoping) (counts : X → ℕ) where
+  pub all_run : (t u : Forest) (n : ℕ) → TreeEdits t u → CleanBy o u → n + total weight u ≤ total weight t → (n ≡ 0 → u ≡ t) → (r : Result X E) → IfOk r (λ x. IsMarked (trees x) (tables x)) → IfOk r (λ x. trees x ≡ numbered u) → IfOk r (λ x. counts x ≡ n)
+      → IfOk r (λ x. Runs o t (trees x) (tables x) (counts x))
+  all_run t u n edits clean few none (Ok x) marked tree count = subst (λ (m : ℕ). Runs o t (trees x) (tables x) m) (sym count) (runs o t u (trees x) (tables x) n edits clean few none tree marked)
   all_run t u n edits clean few none (Err e) marked tree count = marked
 
-  pub all_shaken : (t u : Forest) → Fits root t → IsWellFormed t → u ≡ numbered (cleared t) → (r : Result X E) → IfOk r (λ x. Runs u (trees x) (tables x) (counts x)) → IfOk r (λ x. IsShaken t (trees x) (tables x) (counts x))
-  all_shaken t u fits form tree (Ok x) run = shaken t u (trees x) (tables x) (counts x) fits form tree run
+  pub all_shaken : (t u : Forest) → Fits root t → IsWellFormed t → u ≡ numbered (cleared t) → (r : Result X E) → IfOk r (λ x. Runs o u (trees x) (tables x) (counts x)) → IfOk r (λ x. IsShaken o t (trees x) (tables x) (counts x))
+  all_shaken t u fits form tree (Ok x) run = shaken o t u (trees x) (tables x) (counts x) fits form tree run
   all_shaken t u fits form tree (Err e) run = run

@@ -1,3 +1,4 @@
+pub mod CleanBy
 pub mod Between
 pub mod Walked
 pub mod Shaken

@@ -24,9 +24,9 @@ use Rattle.rules_expressions.specs.Operations.{known_becomes}
 use Rattle.rules_expressions.specs.Ifs.{if_becomes}
 use Rattle.rules_expressions.specs.Jumps.{list_reached}
 
--- what the first pass knows
+-- what the first pass knows, where nothing is kept
 abbrev pub first_facts : Forest → Facts
-first_facts t = record { scoping = table_of t; bound = bound_of (table_of t); exported = exported_of (table_of t) (numbered t); is_script = is_script (numbered t) }
+first_facts t = record { scoping = table_of t; bound = bound_of (table_of t); exported = exported_of (table_of t) (numbered t); is_script = is_script (numbered t); keeps_unused = false; keeps_imports = false }
 
 abbrev pub is_row : Kind → Bool
 is_row statements = true

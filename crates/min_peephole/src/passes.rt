@@ -4,7 +4,7 @@ ghost use Rattle.js_syntax.specs.Facts.{weight};
 ghost use Rattle.js_syntax.specs.Node.{forest_of, total};
 ghost use Rattle.steps_allowed.specs.Edits.{TreeEdits};
 ghost use Rattle.scope_laws.specs.Exact.{Exact};
-ghost use Rattle.headline.specs.Clean.{Clean};
+ghost use Rattle.min_peephole.specs.CleanBy.{CleanBy};
 ghost use Rattle.min_peephole.specs.Between.{BetweenPasses};
 ghost use Rattle.min_peephole.specs.Walked.{Walked};
 
@@ -33,6 +33,7 @@ fn walk(
 ) -> Result<(), AllocError>
     requires between { BetweenPasses statements.old ctx.old (forest_of program.old) }
     ensures walked { OnOk result (Walked statements.old ctx.old (forest_of program.old) statements.new ctx.new (forest_of program.new)) }
+    ensures options { OnOk result (ctx.new.options ≡ ctx.old.options) }
     ensures quiet { OnOk result (ctx.new.requested ≡ false → program.new ≡ program.old) }
 {
     let empty = empty_program(ctx.get().alloc());
@@ -56,7 +57,8 @@ pub fn run_peephole_pass(
     ensures lighter { IfOk result (λ o. o.needs_another_pass ≡ true → total weight (forest_of program.new) < total weight (forest_of program.old)) }
     ensures quiet { IfOk result (λ o. o.needs_another_pass ≡ false → program.new ≡ program.old) }
     ensures same { IfOk result (λ o. o.needs_another_pass ≡ false → ctx.new ≡ ctx.old) }
-    ensures clean { IfOk result (λ o. o.needs_another_pass ≡ false → Clean (forest_of program.new)) }
+    ensures options { OnOk result (ctx.new.options ≡ ctx.old.options) }
+    ensures clean { IfOk result (λ o. o.needs_another_pass ≡ false → CleanBy ctx.old.options (forest_of program.new)) }
 {
     walk(statements, program, ctx)?;
     let needs_another_pass = ctx.get().revisit_requested();
@@ -79,7 +81,8 @@ pub fn run_passes(
     ensures few { IfOk result (λ n. n + total weight (forest_of program.new) ≤ total weight (forest_of program.old)) }
     ensures none { IfOk result (λ n. n ≡ 0 → program.new ≡ program.old) }
     ensures same { IfOk result (λ n. n ≡ 0 → ctx.new ≡ ctx.old) }
-    ensures clean { OnOk result (Clean (forest_of program.new)) }
+    ensures options { OnOk result (ctx.new.options ≡ ctx.old.options) }
+    ensures clean { OnOk result (CleanBy ctx.old.options (forest_of program.new)) }
 {
     let mut iterations: u64 = 0;
     while run_peephole_pass(statements, program, ctx)?.needs_another_pass {

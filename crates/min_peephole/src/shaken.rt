@@ -105,7 +105,7 @@ fn settle(
     requires small { node_count (forest_of program) < 2 ^ 32 }
     requires fits { Fits root (forest_of program) }
     requires marked { IsMarked (forest_of program) scoping }
-    ensures runs { IfOk result (λ s. Runs (forest_of program) (forest_of s.program) s.scoping s.iterations) }
+    ensures runs { IfOk result (λ s. Runs options (forest_of program) (forest_of s.program) s.scoping s.iterations) }
 {
     let mut program = program;
     let mut statements = Statements::new(alloc, &scoping, program.root())?;
@@ -115,7 +115,8 @@ fn settle(
 }
 
 /// What is left of a program that fits the table of node types and breaks no rule of form: without the empty statements of its lists,
-/// behind the first pass that asks for no other. The recursion goes as deep as the tree.
+/// behind the first pass that asks for no other. The options `unused` and `treeshake.invalid_import_side_effects` say what is kept that
+/// nobody uses. The recursion goes as deep as the tree.
 pub fn shake_program(
     alloc: Global,
     options: CompressOptions,
@@ -124,7 +125,7 @@ pub fn shake_program(
     requires small { node_count (forest_of program) < 2 ^ 32 }
     requires fits { Fits root (forest_of program) }
     requires well_formed { IsWellFormed (forest_of program) }
-    ensures shaken { IfOk result (λ s. IsShaken (forest_of program) (forest_of s.program) s.scoping s.iterations) }
+    ensures shaken { IfOk result (λ s. IsShaken options (forest_of program) (forest_of s.program) s.scoping s.iterations) }
 {
     let mut cleared = clear_program(alloc, program)?;
     let scoping = build(alloc, &mut cleared)?;

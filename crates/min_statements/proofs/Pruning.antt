@@ -1,18 +1,17 @@
 -- What the call does of which names leave an import, and that it may.
-use Rattle.std.proofs.Common.{◌≡◌, ◌∙◌, ◌≤◌, ◌+◌, ℕ, Bool, true, false, ◌&&◌, if◌then◌else◌, Option, Some, None, is_some, refl, sym, ap, subst, arith}
-use Rattle.js_syntax.specs.Node.{Forest, Tree, forest_of}
-use Rattle.scope_counts.specs.Counts.{ids}
+use Rattle.std.proofs.Common.{◌≡◌, ◌∙◌, Bool, true, false, ◌&&◌, if◌then◌else◌, Option, Some, None, is_some, refl, sym, ap, subst, arith}
+use Rattle.js_syntax.specs.Node.{Tree}
 use Rattle.scope_counts.specs.Edits.{plug}
 use Rattle.scope_laws.specs.Place.{Around}
 use Rattle.symbol_sets.specs.Numbers.{has}
 use Rattle.steps_allowed.specs.Uses.{use_at, stands_bare}
-use Rattle.min_context.specs.Edited.{evals, Edited}
+use Rattle.min_context.specs.Edited.{Edited}
 use Rattle.min_context.specs.Seen.{Seen, still}
 use Rattle.min_traverse.specs.Lawful.{Stays, Does, or_same}
 use Rattle.min_traverse.specs.Moves.{Holds, NodeMoves, before}
 use Rattle.min_traverse.proofs.Joining.{does_some, does_none}
 use Rattle.rules_dead_code.specs.Rules.{Facts, Where, where_of}
-use Rattle.rules_imports.specs.Rules.{import_has_unused, import_left, is_import, pruned}
+use Rattle.rules_imports.specs.Rules.{import_has_unused, import_left, loses_names, pruned}
 use Rattle.rules_imports.proofs.Pruned.{prunes}
 use Rattle.rules_imports.proofs.Pruning.{import_prunes}
 use Rattle.rules_imports.proofs.Lighter.{pruned_lighter, pruned_refers, pruned_calls}
@@ -26,13 +25,13 @@ use Rattle.min_statements.proofs.Shed.{leaves_none, edited}
 -- ---- what the call does
 
 -- the same question, of what code asks
-asked_so : (x : Tree) (f g : Facts) (w v : Where) (b : Bool) → b ≡ (is_import x.kind && import_has_unused f w x.below) → f ≡ g → w ≡ v → (is_import x.kind && import_has_unused g v x.below) ≡ b
-asked_so x f g w v b e facts at = sym (e ∙ ap (λ q. is_import x.kind && import_has_unused q w x.below) facts ∙ ap (λ q. is_import x.kind && import_has_unused g q x.below) at)
+asked_so : (x : Tree) (f g : Facts) (w v : Where) (b : Bool) → b ≡ (loses_names f x.kind && import_has_unused f w x.below) → f ≡ g → w ≡ v → (loses_names g x.kind && import_has_unused g v x.below) ≡ b
+asked_so x f g w v b e facts at = sym (e ∙ ap (λ q. loses_names q x.kind && import_has_unused q w x.below) facts ∙ ap (λ q. loses_names g x.kind && import_has_unused g q x.below) at)
 
 some_left : {b : Bool} (y : Tree) → b ≡ true → (if b then Some y else None) ≡ Some y
 some_left y e = ap (λ b. if b then Some y else None) e
 
-pub prunes_none : (names : Names) (c : Seen) (x : Tree) (f : Facts) (w : Where) → w ≡ where_of c.place → f ≡ facts_of names c → false ≡ (is_import x.kind && import_has_unused f w x.below) → Does (prune names) c x false c x
+pub prunes_none : (names : Names) (c : Seen) (x : Tree) (f : Facts) (w : Where) → w ≡ where_of c.place → f ≡ facts_of names c → false ≡ (loses_names f x.kind && import_has_unused f w x.below) → Does (prune names) c x false c x
 prunes_none names c x f w at facts none =
     does_none (prune names) c x (none_left (record x { below = import_left (facts_of names c) (where_of c.place) x.below }) (asked_so x f (facts_of names c) w (where_of c.place) false none facts at))
 
@@ -40,7 +39,7 @@ prunes_none names c x f w at facts none =
 prune_edited : (f : Facts) (w : Where) (c : Seen) (x y : Tree) → pruned f w x ≡ Some y → Edited c x y true (record c { requested = true })
 prune_edited f w c x y is = edited x y refl (leaves_none (record c { requested = true })) (λ r. Prim.omega (arith, pruned_refers f w x y is r)) (Prim.omega (arith, pruned_calls f w x y is))
 
-pub prunes_so : (names : Names) (c d : Seen) (x y : Tree) (f g : Facts) (w : Where) → w ≡ where_of c.place → f ≡ facts_of names c → true ≡ (is_import x.kind && import_has_unused f w x.below) → g ≡ facts_of names c
+pub prunes_so : (names : Names) (c d : Seen) (x y : Tree) (f g : Facts) (w : Where) → w ≡ where_of c.place → f ≡ facts_of names c → true ≡ (loses_names f x.kind && import_has_unused f w x.below) → g ≡ facts_of names c
     → y ≡ record x { below = import_left g w x.below } → d ≡ record c { requested = true } → Does (prune names) c x true d y
 prunes_so names c d x y f g w at facts some later tree noticed =
     let has_some = asked_so x f (facts_of names c) w (where_of c.place) true some facts at in

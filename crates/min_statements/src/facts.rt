@@ -11,13 +11,15 @@ use min_context::{Ancestor, MinifierTraverseCtx, Parent};
 use scope_table::{ScopeFlags, Scoping};
 use std::marker::Model;
 
-/// What is known of the program.
+/// What is known of the program, and what is kept of it.
 #[derive(Drop)]
 pub(crate) struct Facts<'a> {
     pub(crate) scoping: &'a Scoping,
     pub(crate) bound: &'a [bool],
     pub(crate) exported: &'a [bool],
     pub(crate) is_script: bool,
+    pub(crate) keeps_unused: bool,
+    pub(crate) keeps_imports: bool,
 }
 
 impl<'a> Model for Facts<'a> {
@@ -25,7 +27,7 @@ impl<'a> Model for Facts<'a> {
 
     ghost Value = { Facts };
 
-    ghost view = { λ f. record { scoping = f.scoping.now; bound = f.bound.now; exported = f.exported.now; is_script = f.is_script } };
+    ghost view = { λ f. record { scoping = f.scoping.now; bound = f.bound.now; exported = f.exported.now; is_script = f.is_script; keeps_unused = f.keeps_unused; keeps_imports = f.keeps_imports } };
 }
 
 /// What is known of a place.

@@ -95,11 +95,19 @@ fn import_has_unused(facts: &Facts, at: Where, children: &[Option<Node>]) -> boo
     }
 }
 
-fn has_unused(facts: &Facts, at: Where, node: &Node) -> bool
-    ensures { result ≡ (rules.is_import node.now.kind && rules.import_has_unused facts.now at node.now.below) }
+fn loses_names(facts: &Facts, kind: &NodeKind) -> bool
+    ensures { result ≡ rules.loses_names facts.now kind.now }
 {
-    matches!(node.kind(), NodeKind::ImportDeclaration(_))
-        && import_has_unused(facts, at, node.children())
+    match kind {
+        NodeKind::ImportDeclaration(_) => !facts.keeps_imports,
+        _ => false,
+    }
+}
+
+fn has_unused(facts: &Facts, at: Where, node: &Node) -> bool
+    ensures { result ≡ (rules.loses_names facts.now node.now.kind && rules.import_has_unused facts.now at node.now.below) }
+{
+    loses_names(facts, node.kind()) && import_has_unused(facts, at, node.children())
 }
 
 // ---- and what is left
@@ -144,7 +152,8 @@ fn prune_import(alloc: Global, facts: &Facts, at: Where, node: &mut Node)
     node.replace_children(children);
 }
 
-/// The names of an import leave it that nobody uses; the import itself stays, even without any. Names refer to nothing, so that no
+/// The names of an import leave it that nobody uses, unless the options keep them (`unused`, `invalid_import_side_effects`); the import
+/// itself stays, even without any. Names refer to nothing, so that no
 /// reference leaves with them of which the context would be told. Where nothing goes, nothing is touched.
 pub fn remove_unused_import_specifiers(
     names: &Statements,

@@ -21,7 +21,10 @@ fn is_unused(facts: &Facts, symbol: Option<u32>) -> bool
     ensures { result ≡ rules.is_unlisted facts.now symbol }
 {
     match symbol {
-        Some(number) => is_unlisted(facts.scoping, number) && !is_marked(facts.exported, symbol),
+        Some(number) => {
+            !facts.keeps_unused
+                && (is_unlisted(facts.scoping, number) && !is_marked(facts.exported, symbol))
+        }
         None => false,
     }
 }

@@ -1,7 +1,7 @@
 // The walker.
 ghost use Rattle.std.specs.Prelude.{◌≡◌, IfOk};
 ghost use Rattle.js_syntax.specs.Node.{forest_of};
-ghost use Rattle.min_statements.specs.Walker.{facts_of, names_of};
+ghost use Rattle.min_statements.specs.Walker.{facts_of, keeps_imports, keeps_unused, names_of};
 
 use crate::emptied::empty_statement;
 use crate::facts::Facts;
@@ -13,14 +13,15 @@ use js_syntax::SourceType;
 use js_tree::Node;
 use min_context::MinifierTraverseCtx;
 use min_expressions::PeepholeOptimizations;
+use min_options::{CompressOptions, CompressOptionsUnused};
 use min_traverse::{Hook, Traverse};
 use scope_table::Scoping;
 use std::alloc::{AllocError, Global};
 use std::marker::Model;
 
-/// Takes dead code out of lists of statements and unused names out of imports, empties silent statements elsewhere, and lets expressions and `if`s that known tests
-/// decide come to the part that counts, alone or behind a zero, operations, arrays, objects and sequences of which nobody takes the value to
-/// what of them acts, and operations that don't act to their values.
+/// Takes dead code out of lists of statements and unused names out of imports, empties silent statements elsewhere, and lets expressions
+/// and `if`s that known tests decide come to the part that counts, alone or behind a zero, operations, arrays, objects and sequences of
+/// which nobody takes the value to what of them acts, and operations that don't act to their values.
 pub struct Statements {
     // Of each reference by its id, whether it has a symbol: this stays through a run.
     bound: Vec<bool>,
@@ -45,6 +46,18 @@ impl Model for Statements {
     ghost view = { λ s. record { bound = s.bound.items; exported = s.exported.items } };
 }
 
+fn keeps_unused(options: &CompressOptions) -> bool
+    ensures { result ≡ keeps_unused options.now }
+{
+    matches!(options.unused, CompressOptionsUnused::Keep)
+}
+
+fn keeps_imports(options: &CompressOptions) -> bool
+    ensures { result ≡ keeps_imports options.now }
+{
+    options.treeshake.invalid_import_side_effects
+}
+
 impl Statements {
     /// A walker of a program, given by its root, whose nodes are marked as the table says. It fails only for want of memory; the recursion
     /// goes as deep as the tree.
@@ -56,7 +69,7 @@ impl Statements {
         Ok(Statements { bound, exported })
     }
 
-    // What is known of the program.
+    // What is known of the program, and what is kept of it.
     pub(crate) fn facts<'a>(&'a self, ctx: &'a MinifierTraverseCtx) -> Facts<'a>
         ensures { result ≡ facts_of self.now ctx.now }
     {
@@ -65,6 +78,8 @@ impl Statements {
             bound: self.bound.as_slice(),
             exported: self.exported.as_slice(),
             is_script: matches!(ctx.source_type(), SourceType::Script),
+            keeps_unused: keeps_unused(ctx.options()),
+            keeps_imports: keeps_imports(ctx.options()),
         }
     }
 }

@@ -1,9 +1,9 @@
--- A program of which the rules take nothing out has no dead code.
+-- A program of which the rules take nothing out has no dead code, but for what is kept.
 use Rattle.std.proofs.Common.{◌≡◌, ◌↔◌, Option}
 use Rattle.js_syntax.specs.Node.{Forest, Tree}
 use Rattle.scope_laws.specs.Place.{Around, plug}
 use Rattle.scope_counts.specs.Scopes.{unmarked}
-use Rattle.headline.specs.Clean.{Clean, IsDead, an_empty_statement, a_silent_statement, an_unused_function, an_unused_declarator, an_unused_import, a_known_conditional, a_known_side, an_unused_operation, an_unused_list, an_indirect_choice, a_one_sided_choice, idle_parts, two_sides, an_unused_object, a_known_operation, a_known_if, a_dead_if, an_unreached_statement}
+use Rattle.headline.specs.Clean.{CleanBut, IsDead, an_empty_statement, a_silent_statement, an_unused_function, an_unused_declarator, an_unused_import, a_known_conditional, a_known_side, an_unused_operation, an_unused_list, an_indirect_choice, a_one_sided_choice, idle_parts, two_sides, an_unused_object, a_known_operation, a_known_if, a_dead_if, an_unreached_statement}
 use Rattle.rules_dead_code.specs.Knows.{Knows}
 use Rattle.rules_dead_code.specs.Quiet.{Exactly, IsQuiet}
 use Rattle.rules_dead_code.specs.Rules.{Facts}
@@ -18,12 +18,12 @@ use Rattle.rules_clean.proofs.Importing.{imports_rest}
 
 module _ (f : Facts) (t : Forest) (known : Knows f unmarked t) (exactly : Exactly f t) where
   module _ (quiet : IsQuiet f t) (used : ImportsUsed f t) (settled : IsSettled t) where
-    none_dead : (a : Around) (x : Option Tree) → t ≡ plug a x → IsDead t a x → ⊥
+    none_dead : (a : Around) (x : Option Tree) → t ≡ plug a x → IsDead f.keeps_unused f.keeps_imports t a x → ⊥
     none_dead a x is (an_empty_statement b n item) = no_empty_item f t known exactly quiet a n is item
     none_dead a x is (a_silent_statement b n below silent) = no_silent_statement f t known exactly quiet a n below is silent
-    none_dead a x is (an_unused_function b pure n m name rest item own free) = no_unused_function f t known exactly quiet a pure n m name rest is item own free
-    none_dead a x is (an_unused_declarator b n m name value declares own silent free) = no_unused_declarator f t known exactly quiet a n m name value is declares own silent free
-    none_dead a x is (an_unused_import b k n m name binds imported own free) = no_unused_name f t known exactly used a k n m name is binds imported own free
+    none_dead a x is (an_unused_function b pure n m name rest unkept item own free) = no_unused_function f t known exactly quiet a pure n m name rest is unkept item own free
+    none_dead a x is (an_unused_declarator b n m name value unkept declares own silent free) = no_unused_declarator f t known exactly quiet a n m name value is unkept declares own silent free
+    none_dead a x is (an_unused_import b k n m name unkept named binds imported own free) = no_unused_name f t known exactly used a k n m name is unkept named binds imported own free
     none_dead a x is (a_known_conditional b y z decides) = no_conditional t settled a y z is decides
     none_dead a x is (a_known_side b y z decides) = no_side t settled a y z is decides
     none_dead a x is (an_unused_operation b y z unused) = no_unused t settled a y z is unused
@@ -38,8 +38,8 @@ module _ (f : Facts) (t : Forest) (known : Knows f unmarked t) (exactly : Exactl
     none_dead a x is (a_dead_if b y z known) = no_dead_if t settled a y z is known
     none_dead a x is (an_unreached_statement b y unreached) = no_unreached t settled b y is unreached
 
-    pub clean : Clean t
+    pub clean : CleanBut f.keeps_unused f.keeps_imports t
     clean = record { nothing_is_dead = none_dead }
 
-  pub clean_if_quiet : (IsQuiet f t × ImportsUsed f t × IsSettled t) ↔ Clean t
-  clean_if_quiet = (λ h. clean h.0 h.1 h.2, λ h. (rules_rest f unmarked t known h, imports_rest f unmarked t known h, expressions_rest t h))
+  pub clean_if_quiet : (IsQuiet f t × ImportsUsed f t × IsSettled t) ↔ CleanBut f.keeps_unused f.keeps_imports t
+  clean_if_quiet = (λ h. clean h.0 h.1 h.2, λ h. (rules_rest f unmarked t known h, imports_rest f unmarked t known h, expressions_rest f.keeps_unused f.keeps_imports t h))

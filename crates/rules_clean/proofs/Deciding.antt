@@ -1,12 +1,12 @@
 -- Of a program without dead code no expression comes to its parts, no `if` to its branch, and no list to what is reached of it.
-use Rattle.std.proofs.Common.{Some}
+use Rattle.std.proofs.Common.{Bool, Some}
 use Rattle.js_syntax.specs.Node.{Forest}
-use Rattle.headline.specs.Clean.{Clean, a_known_conditional, a_known_side, an_unused_operation, an_unused_list, an_indirect_choice, a_one_sided_choice, idle_parts, two_sides, an_unused_object, a_known_operation, a_known_if, a_dead_if, an_unreached_statement}
+use Rattle.headline.specs.Clean.{CleanBut, a_known_conditional, a_known_side, an_unused_operation, an_unused_list, an_indirect_choice, a_one_sided_choice, idle_parts, two_sides, an_unused_object, a_known_operation, a_known_if, a_dead_if, an_unreached_statement}
 use Rattle.rules_expressions.specs.Settled.{IsSettled}
 use Rattle.rules_expressions.proofs.Settled.{is_settled}
 
-pub expressions_rest : (t : Forest) → Clean t → IsSettled t
-expressions_rest t clean =
+pub expressions_rest : (unused imports : Bool) (t : Forest) → CleanBut unused imports t → IsSettled t
+expressions_rest unused imports t clean =
     is_settled t (λ a x y is h. clean.nothing_is_dead a (Some x) is (a_known_conditional a x y h)) (λ a x y is h. clean.nothing_is_dead a (Some x) is (a_known_side a x y h))
     (λ a x y is h. clean.nothing_is_dead a (Some x) is (an_unused_operation a x y h)) (λ a x y is h. clean.nothing_is_dead a (Some x) is (an_unused_list a x y h))
     (λ a x y is h. clean.nothing_is_dead a (Some x) is (an_indirect_choice a x y h)) (λ a x y is h. clean.nothing_is_dead a (Some x) is (a_one_sided_choice a x y h))

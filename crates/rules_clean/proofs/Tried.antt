@@ -60,7 +60,7 @@ settles conditional logical unused parts indirect side rest sides values known s
 -- ---- a function of a script
 
 script_is_known : Knows known_of_the_script unmarked a_function_of_a_script
-script_is_known = new_known (a_script (function_a [] [] ∷ [])) (fits source_type.Script) [] [] (λ id. refl) (λ e stands outermost. absurd stands)
+script_is_known = new_known (a_script (function_a [] [] ∷ [])) (fits source_type.Script) [] [] false false (λ id. refl) (λ e stands outermost. absurd stands)
 
 script_is_known_exactly : Exactly known_of_the_script a_function_of_a_script
 script_is_known_exactly = record { flags = told_only known_of_the_script.scoping a_function_of_a_script refl; exported = λ symbol e. absurd (true≢false (sym e)) }
@@ -88,7 +88,7 @@ script_is_not_quiet q = true≢false (q.lists (under (Kind.Program source_type.S
 -- ---- a function of a module
 
 pub module_is_known : Knows taken_for_exported unmarked a_function_of_a_module
-module_is_known = new_known (a_module (function_a [] [] ∷ [])) (fits source_type.Module) [] (true ∷ []) (λ id. refl) (λ e stands outermost. absurd stands)
+module_is_known = new_known (a_module (function_a [] [] ∷ [])) (fits source_type.Module) [] (true ∷ []) false false (λ id. refl) (λ e stands outermost. absurd stands)
 
 pub module_is_quiet : IsQuiet taken_for_exported a_function_of_a_module
 module_is_quiet =
@@ -98,5 +98,5 @@ module_is_quiet =
 
 pub module_is_dead : Clean a_function_of_a_module → ⊥
 module_is_dead clean =
-    (clean_as a_function_of_a_module (a_module (function_a [] [] ∷ [])) refl clean).nothing_is_dead (before []) _ refl
-    (an_unused_function (before []) false nowhere nowhere a _ refl refl (record { unreferred = λ r h e. h; unexported = λ e h s d. h }))
+    (clean_as false false a_function_of_a_module (a_module (function_a [] [] ∷ [])) refl clean).nothing_is_dead (before []) _ refl
+    (an_unused_function (before []) false nowhere nowhere a _ refl refl refl (record { unreferred = λ r h e. h; unexported = λ e h s d. h }))

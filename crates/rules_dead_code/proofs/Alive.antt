@@ -104,10 +104,10 @@ module _ (f : Facts) where
       let a = join o (under statements m c beside) in
       true≢false (item_quiet o m c beside empty_statement n nothing rest row (good_row a (record { kind = empty_statement; note = n; below = nothing }) rest g).quiet)
 
-  function_alive : (o : counts.Around) (m : Note) (c : counts.Around) (beside rest : Forest) → is_row c ≡ true → (pure : Bool) (n j : Note) (x : List ℕ) (parts : Forest)
+  function_alive : f.keeps_unused ≡ false → (o : counts.Around) (m : Note) (c : counts.Around) (beside rest : Forest) → is_row c ≡ true → (pure : Bool) (n j : Note) (x : List ℕ) (parts : Forest)
       → let b = to (join o (under statements m c beside)) (first rest) in
       Good f (places.plug b (a_function pure n j x parts)) → IsOwnFunction b (a_function pure n j x parts) → At b (a_function pure n j x parts) (Free (places.plug b (a_function pure n j x parts)) variable.Let x) → ⊥
-  function_alive o m c beside rest row pure n j x parts g own free =
+  function_alive unkept o m c beside rest row pure n j x parts g own free =
       let a = join o (under statements m c beside) in
       let b = to a (first rest) in
       let k = function function_kind.Declaration pure in
@@ -123,7 +123,7 @@ module _ (f : Facts) where
       let fs = inside (place.contexts place.at) place.next k below in
       let d = named_site (fs 0) j x in
       let stands = place.bindings d (binding_second d (own_sites (place.contexts place.at) n k below) (sites fs 0 (place.next + 1) below) [] (inl refl)) in
-      let goes = and_from (is_unlisted f j.id) (not (is_global f w.scope || scope_has f.scoping w.scope scope_flag.direct_eval || is_sloppy_block f.scoping w.scope)) (unlisted f t g.knows g.exactly d stands place.holds_there) (ap not hidden) in
+      let goes = and_from (is_unlisted f j.id) (not (is_global f w.scope || scope_has f.scoping w.scope scope_flag.direct_eval || is_sloppy_block f.scoping w.scope)) (unlisted f t g.knows unkept g.exactly d stands place.holds_there) (ap not hidden) in
       true≢false (sym goes ∙ item_quiet o m c beside k n below rest row here_.quiet)
 
   -- ---- statements
@@ -196,12 +196,12 @@ module _ (f : Facts) where
       (of_right all name behind_name (of_right all own (name ++ behind_name) (of_left all (own ++ (name ++ behind_name)) [] place.references))) place.holds_there.1 in
       ap not (subst (λ v. (may_have_effects f.bound v value || v && is_given value) ≡ false) is (neither (may_have_effects f.bound in_with value) (in_with && is_given value) idle place.holds_there.0))
 
-  declarator_alive : (o : counts.Around) (m : Note) (c : counts.Around) (beside rest : Forest) → is_row c ≡ true → (how : VariableKind) (n l : Note) (d : counts.Around) (more : Forest) → is_row d ≡ true → (i j : Note) (x : List ℕ) (value : Forest)
+  declarator_alive : f.keeps_unused ≡ false → (o : counts.Around) (m : Note) (c : counts.Around) (beside rest : Forest) → is_row c ≡ true → (how : VariableKind) (n l : Note) (d : counts.Around) (more : Forest) → is_row d ≡ true → (i j : Note) (x : List ℕ) (value : Forest)
       → let b = to (join o (under statements m c beside)) (in_declaration how n l d more rest) in
       Good f (places.plug b (a_declarator i j x value)) → IsOwnDeclarator b (a_declarator i j x value)
       → At b (a_declarator i j x value) (SilentDeclarator (places.plug b (a_declarator i j x value)) (node (binding_name x) j nothing value))
       → At b (a_declarator i j x value) (FreeDeclarator (places.plug b (a_declarator i j x value)) x) → ⊥
-  declarator_alive o m c beside rest row how n l d more drow i j x value g own silent free =
+  declarator_alive unkept o m c beside rest row how n l d more drow i j x value g own silent free =
       let a = join o (under statements m c beside) in
       let inner = in_declaration how n l d more rest in
       let b = to a inner in
@@ -227,7 +227,7 @@ module _ (f : Facts) where
       let fs = inside (place.contexts place.at) place.next variable_declarator below in
       let site = named_site (fs 0) j x in
       let stands = place.bindings site (binding_second site (own_sites (place.contexts place.at) i variable_declarator below) (sites fs 0 (place.next + 0) below) [] (inl refl)) in
-      let unused = and_from (is_unlisted f j.id) (not (is_global f (scope_of w how) || scope_has f.scoping 0 scope_flag.direct_eval)) (unlisted f t g.knows g.exactly site stands place.holds_there) (ap not hidden) in
+      let unused = and_from (is_unlisted f j.id) (not (is_global f (scope_of w how) || scope_has f.scoping 0 scope_flag.direct_eval)) (unlisted f t g.knows unkept g.exactly site stands place.holds_there) (ap not hidden) in
       let goes = and_from (variable_is_unused f (scope_of w how) j.id) (is_quiet f w value) unused (initialiser_quiet b i j x value g p (declarator_with a d how n l more rest p items_there drow) silent) in
       let one = some_goes f w how d variable_declarator i below more drow goes in
       true≢false (sym (ap (λ v. one_goes f w how v) (plugged d (first more) (Some y)) ∙ one) ∙ item_quiet o m c beside (variable_declaration how) n list rest row here_.quiet)
@@ -323,19 +323,19 @@ module _ (f : Facts) (t : Forest) (knows : Knows f unmarked t) (exactly : Exactl
       subst (λ c. Good f (places.plug c y) → At c y (SilentStatement (places.plug c y) below) → ⊥) (whole_place b) (silent_alive f (place_of b) (rest_of b) n below) (good_there y is)
       (subst (λ v. At b y (SilentStatement v below)) is silent)
 
-  pub no_unused_function : (pure : Bool) (n m : Note) (x : List ℕ) (rest : Forest) → t ≡ places.plug b (a_function pure n m x rest) → IsItem b → IsOwnFunction b (a_function pure n m x rest) → At b (a_function pure n m x rest) (Free t variable.Let x) → ⊥
-  no_unused_function pure n m x rest is item own free =
+  pub no_unused_function : (pure : Bool) (n m : Note) (x : List ℕ) (rest : Forest) → t ≡ places.plug b (a_function pure n m x rest) → f.keeps_unused ≡ false → IsItem b → IsOwnFunction b (a_function pure n m x rest) → At b (a_function pure n m x rest) (Free t variable.Let x) → ⊥
+  no_unused_function pure n m x rest is unkept item own free =
       let y = a_function pure n m x rest in
       let i = item_in b item in
-      subst (λ c. Good f (places.plug c y) → IsOwnFunction c y → At c y (Free (places.plug c y) variable.Let x) → ⊥) i.is (function_alive f i.outer i.note i.inner i.beside i.rest i.in_row pure n m x rest) (good_there y is) own
+      subst (λ c. Good f (places.plug c y) → IsOwnFunction c y → At c y (Free (places.plug c y) variable.Let x) → ⊥) i.is (function_alive f unkept i.outer i.note i.inner i.beside i.rest i.in_row pure n m x rest) (good_there y is) own
       (subst (λ v. At b y (Free v variable.Let x)) is free)
 
-  pub no_unused_declarator : (n m : Note) (x : List ℕ) (value : Forest) → t ≡ places.plug b (a_declarator n m x value) → IsDeclarator b → IsOwnDeclarator b (a_declarator n m x value)
+  pub no_unused_declarator : (n m : Note) (x : List ℕ) (value : Forest) → t ≡ places.plug b (a_declarator n m x value) → f.keeps_unused ≡ false → IsDeclarator b → IsOwnDeclarator b (a_declarator n m x value)
       → At b (a_declarator n m x value) (SilentDeclarator t (node (binding_name x) m nothing value)) → At b (a_declarator n m x value) (FreeDeclarator t x) → ⊥
-  no_unused_declarator n m x value is declares own silent free =
+  no_unused_declarator n m x value is unkept declares own silent free =
       let y = a_declarator n m x value in
       let here_ = good_there y is in
       let i = declarator_in b (record { kind = variable_declarator; note = n; below = node (binding_name x) m nothing value }) (fits_laid (places.plug b y) here_.knows.fits) declares in
       subst (λ c. Good f (places.plug c y) → IsOwnDeclarator c y → At c y (SilentDeclarator (places.plug c y) (node (binding_name x) m nothing value)) → At c y (FreeDeclarator (places.plug c y) x) → ⊥) i.is
-      (declarator_alive f i.outer i.note i.inner i.beside i.rest i.in_row i.how i.declaration_note i.list_note i.before i.more i.before_in_row n m x value) here_ own
+      (declarator_alive f unkept i.outer i.note i.inner i.beside i.rest i.in_row i.how i.declaration_note i.list_note i.before i.more i.before_in_row n m x value) here_ own
       (subst (λ v. At b y (SilentDeclarator v (node (binding_name x) m nothing value))) is silent) (subst (λ v. At b y (FreeDeclarator v x)) is free)

@@ -160,8 +160,10 @@ module _ (f : Facts) (t : Forest) (h : Knows f unmarked t) where
       let e = exactly.exported n g in
       free.unexported e.declaration e.stands e.is_outermost ((exact.one_symbol e.declaration d (exported_stands (λ at. outermost) 0 0 t e.declaration e.stands) stands).0 (e.has_mark ∙ sym is)))
 
-  pub unlisted : Exactly f t → (d : BindingSite) → Among d (bindings_among (sites_of t)) → IsFree t (declared_by d) → is_unlisted f d.id ≡ true
-  unlisted exactly d stands free =
+  pub unlisted : f.keeps_unused ≡ false → Exactly f t → (d : BindingSite) → Among d (bindings_among (sites_of t)) → IsFree t (declared_by d) → is_unlisted f d.id ≡ true
+  unlisted goes exactly d stands free =
       let declared = exact.declared d stands in
+      let listed = length (symbol_at f.scoping declared.number).references == 0 in
+      let apart = not (is_marked f.exported (Some declared.number)) in
       ap (is_unlisted f) declared.is_marked
-      ∙ and_from (length (symbol_at f.scoping declared.number).references == 0) (not (is_marked f.exported (Some declared.number))) (no_list d stands free) (ap not (not_exported exactly d stands free declared.number declared.is_marked))
+      ∙ and_from (not f.keeps_unused) (listed && apart) (ap not goes) (and_from listed apart (no_list d stands free) (ap not (not_exported exactly d stands free declared.number declared.is_marked)))

@@ -30,12 +30,12 @@ first_number symbols (node k n below rest) e = absurd (true≢false (sym e))
 first_number symbols (absent rest) e = absurd (true≢false (sym e))
 first_number symbols nothing e = absurd (true≢false (sym e))
 
-pub new_known : (t : Forest) → Fits root t → (bound exported : List Bool)
+pub new_known : (t : Forest) → Fits root t → (bound exported : List Bool) (keeps_unused keeps_imports : Bool)
     → let f = found_in (sites_of t) in
     let u = marked (first_marks (symbols_declared f.bindings)) t in
-    let facts : Facts = record { scoping = scoping_of f; bound = bound; exported = exported; is_script = is_script u } in
+    let facts : Facts = record { scoping = scoping_of f; bound = bound; exported = exported; is_script = is_script u; keeps_unused = keeps_unused; keeps_imports = keeps_imports } in
     TellsBound (scoping_of f) bound → TellsExported exported u → Knows facts unmarked u
-new_known t fits bound exported bound_so exported_so =
+new_known t fits bound exported keeps_unused keeps_imports bound_so exported_so =
     let f = found_in (sites_of t) in
     let m = first_marks (symbols_declared f.bindings) in
     record {

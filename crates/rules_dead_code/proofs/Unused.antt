@@ -1,5 +1,5 @@
 -- What the facts call unlisted nothing uses.
-use Rattle.std.proofs.Common.{◌≡◌, ◌∙◌, ◌≤◌, ◌+◌, ◌==◌, ℕ, suc, List, [], ◌∷◌, length, Bool, true, false, not, true≢false, if◌then◌else◌, slice_get, Option, Some, None, refl, sym, ap, subst, arith, eqb-true}
+use Rattle.std.proofs.Common.{◌≡◌, ◌∙◌, ◌≤◌, ◌+◌, ◌==◌, ℕ, suc, List, [], ◌∷◌, length, Bool, true, false, not, ◌&&◌, true≢false, if◌then◌else◌, slice_get, Option, Some, None, refl, sym, ap, subst, arith, eqb-true}
 use Rattle.std.proofs.lemmas.Bool.{and_parts}
 use Rattle.std.proofs.lemmas.Option.{get_or_from_slice_get}
 use Rattle.js_syntax.specs.Node.{Forest, nothing, node, absent}
@@ -79,7 +79,8 @@ free_number f marked v h d stands symbol is none apart =
 unlisted_free : (f : Facts) (marked : ℕ → Bool) (v : Forest) → Knows f marked v → (d : BindingSite) → Among d (bindings_among (sites_of v)) → (o : Option ℕ) → d.id ≡ o → is_unlisted f o ≡ true → IsFree v (declared_by d)
 unlisted_free f marked v h d stands None is e = absurd (true≢false (sym e))
 unlisted_free f marked v h d stands (Some n) is e =
-    let parts = and_parts (length (symbol_at f.scoping n).references == 0) (not (is_marked f.exported (Some n))) e in
+    let listed = length (symbol_at f.scoping n).references == 0 in
+    let parts = and_parts listed (not (is_marked f.exported (Some n))) (and_parts (not f.keeps_unused) (listed && not (is_marked f.exported (Some n))) e).1 in
     free_number f marked v h d stands n is parts.0 (not_true (is_marked f.exported (Some n)) parts.1)
 
 pub is_free : (f : Facts) (marked : ℕ → Bool) (v : Forest) → Knows f marked v → (d : BindingSite) → Among d (bindings_among (sites_of v)) → is_unlisted f d.id ≡ true → IsFree v (declared_by d)

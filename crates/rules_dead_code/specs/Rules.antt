@@ -18,12 +18,15 @@ use Rattle.scope_table.specs.Reading.{symbol_at}
 use Rattle.steps_marked.specs.Flags.{scope_has, is_sloppy_block}
 
 -- What is known of the program: its table; of each reference by its id, whether it has a symbol; of each symbol by its number,
--- whether an exported declaration declares it; and whether the program is a script.
+-- whether an exported declaration declares it; and whether the program is a script. And what is asked for: whether what nobody uses is
+-- kept, or of that the names of imports.
 pub record Facts : Type 0 where
   pub scoping : Scoping
   pub bound : List Bool
   pub exported : List Bool
   pub is_script : Bool
+  pub keeps_unused : Bool
+  pub keeps_imports : Bool
 
 -- and of a place: the numbers of the innermost scope and of that in which `var` declares, and whether a `with` statement is around
 pub record Where : Type 0 where
@@ -44,10 +47,10 @@ where_of p = record { scope = p.scope; hoist_scope = p.hoist_scope; in_with = ha
 
 -- ---- names
 
--- nothing of the program refers to the symbol, and it exports none of its declarations (ECMA-262 16.2.3)
+-- nothing of the program refers to the symbol, and it exports none of its declarations (ECMA-262 16.2.3); nor is it kept though
 abbrev pub is_unlisted : Facts → (symbol : Option ℕ) → Bool
 is_unlisted f None = false
-is_unlisted f (Some n) = length (symbol_at f.scoping n).references == 0 && not (is_marked f.exported (Some n))
+is_unlisted f (Some n) = not f.keeps_unused && (length (symbol_at f.scoping n).references == 0 && not (is_marked f.exported (Some n)))
 
 -- other scripts may use the names of a script's own scope (16.1.7)
 abbrev pub is_global : Facts → (scope : ℕ) → Bool

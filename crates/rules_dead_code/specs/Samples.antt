@@ -17,9 +17,9 @@ use Rattle.steps_allowed.specs.Exposure.{Exposure}
 use Rattle.steps_marked.specs.Flags.{scope_has, is_sloppy_block, Stand, stand_inside, stands_of}
 use Rattle.rules_dead_code.specs.Rules.{Facts, Where, trimmed}
 
--- by its own table, and what is exported
+-- by its own table, and what is exported, where nothing is kept
 abbrev pub facts_of : (exported : List Bool) → Forest → Facts
-facts_of exported t = record { scoping = table_of t; bound = map (λ (r : Reference). is_some r.symbol) (table_of t).references; exported = exported; is_script = is_script t }
+facts_of exported t = record { scoping = table_of t; bound = map (λ (r : Reference). is_some r.symbol) (table_of t).references; exported = exported; is_script = is_script t; keeps_unused = false; keeps_imports = false }
 
 -- the items of the list that a node begins with
 abbrev pub items_of : Forest → Forest

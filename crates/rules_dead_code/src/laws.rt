@@ -29,10 +29,10 @@ ghost use Rattle.min_context.specs.Seen.{Seen};
 ghost use Rattle.rules_dead_code.specs.Rules.{Facts, Where, where_of, trimmed, has_dead, emptied};
 ghost use Rattle.rules_dead_code.specs.Knows.{TellsBound, TellsExported, Knows};
 
-/// Law: a program is known by its own table, where it is read which references are bound and which symbols exported.
+/// Law: a program is known by its own table, where it is read which references are bound and which symbols exported, whatever is kept.
 pub fn new_programs_are_known()
-    ensures { (t : Forest) → Fits root t → (bound exported : List Bool) → let f = found_in (sites_of t) in let u = marked (first_marks (symbols_declared f.bindings)) t in
-        let facts : Facts = record { scoping = scoping_of f; bound = bound; exported = exported; is_script = is_script u } in
+    ensures { (t : Forest) → Fits root t → (bound exported : List Bool) (keeps_unused keeps_imports : Bool) → let f = found_in (sites_of t) in let u = marked (first_marks (symbols_declared f.bindings)) t in
+        let facts : Facts = record { scoping = scoping_of f; bound = bound; exported = exported; is_script = is_script u; keeps_unused = keeps_unused; keeps_imports = keeps_imports } in
         TellsBound (scoping_of f) bound → TellsExported exported u → Knows facts unmarked u }
 {}
 

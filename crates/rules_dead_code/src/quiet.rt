@@ -1,5 +1,5 @@
 // What a program has no more, of which the rules take nothing out. The law is a contract, so that the check proves it.
-ghost use Rattle.std.specs.Prelude.{◌≡◌, ℕ, List, Bool};
+ghost use Rattle.std.specs.Prelude.{◌≡◌, ℕ, List, Bool, false};
 ghost use Rattle.js_syntax.specs.declared.node_kind.NodeKind.TheVariants.{EmptyStatement as empty_statement, ExpressionStatement as expression_statement, BindingName as binding_name};
 ghost use Rattle.js_syntax.specs.declared.kind.VariableKind.TheVariants as variable;
 ghost use Rattle.js_syntax.specs.Node.{Forest, Note, nothing, node};
@@ -21,14 +21,15 @@ pub fn walks_see_what_is_quiet()
     ensures { (f : Facts) (t : Forest) → EachNode (IsQuietAt f) top t → IsQuiet f t }
 {}
 
-/// Law: a program of which the rules take nothing out has no empty statement in a list, no silent statement anywhere, and in lists no function declaration or declarator with a
-/// silent initialiser whose name nothing refers to, no export is of and no other code may use.
+/// Law: a program of which the rules take nothing out has no empty statement in a list, no silent statement anywhere, and in lists, unless
+/// that is kept, no function declaration or declarator with a silent initialiser whose name nothing refers to, no export is of and no other
+/// code may use.
 pub fn what_is_quiet_has_no_dead_code()
     ensures empty_statements { (f : Facts) (t : Forest) → Knows f unmarked t → Exactly f t → IsQuiet f t → (a : Around) → (n : Note) → t ≡ plug a (a_node empty_statement n nothing) → IsItem a → ⊥ }
     ensures silent_statements { (f : Facts) (t : Forest) → Knows f unmarked t → Exactly f t → IsQuiet f t → (a : Around) → (n : Note) (below : Forest) → t ≡ plug a (a_node expression_statement n below)
         → At a (a_node expression_statement n below) (SilentStatement t below) → ⊥ }
-    ensures functions { (f : Facts) (t : Forest) → Knows f unmarked t → Exactly f t → IsQuiet f t → (a : Around) → (pure : Bool) (n m : Note) (x : List ℕ) (rest : Forest) → t ≡ plug a (a_function pure n m x rest) → IsItem a
+    ensures functions { (f : Facts) (t : Forest) → Knows f unmarked t → Exactly f t → IsQuiet f t → (a : Around) → (pure : Bool) (n m : Note) (x : List ℕ) (rest : Forest) → t ≡ plug a (a_function pure n m x rest) → f.keeps_unused ≡ false → IsItem a
         → IsOwnFunction a (a_function pure n m x rest) → At a (a_function pure n m x rest) (Free t variable.Let x) → ⊥ }
-    ensures declarators { (f : Facts) (t : Forest) → Knows f unmarked t → Exactly f t → IsQuiet f t → (a : Around) → (n m : Note) (x : List ℕ) (value : Forest) → t ≡ plug a (a_declarator n m x value) → IsDeclarator a
+    ensures declarators { (f : Facts) (t : Forest) → Knows f unmarked t → Exactly f t → IsQuiet f t → (a : Around) → (n m : Note) (x : List ℕ) (value : Forest) → t ≡ plug a (a_declarator n m x value) → f.keeps_unused ≡ false → IsDeclarator a
         → IsOwnDeclarator a (a_declarator n m x value) → At a (a_declarator n m x value) (SilentDeclarator t (node (binding_name x) m nothing value)) → At a (a_declarator n m x value) (FreeDeclarator t x) → ⊥ }
 {}

@@ -1,5 +1,5 @@
 -- What the rule tells, where it has an answer.
-use Rattle.std.proofs.Common.{◌≡◌, ℕ, List, Bool, true, false, if◌then◌else◌, Some, None, true≢false, refl, sym}
+use Rattle.std.proofs.Common.{◌≡◌, ℕ, List, Bool, true, false, not, ◌&&◌, if◌then◌else◌, Some, None, true≢false, refl, sym}
 use Rattle.std.proofs.lemmas.Bool.{and_parts}
 use Rattle.js_syntax.specs.declared.node_kind.NodeKind.{NodeKind as Kind}
 use Rattle.js_syntax.specs.declared.node_kind.NodeKind.TheVariants.{ImportDeclaration as import_declaration, Specifiers as specifiers, BindingName as binding_name}
@@ -35,16 +35,25 @@ module _ (f : Facts) (w : Where) where
     pub note : Note
     pub list_note : Note
     pub names : Forest
+    pub unkept : not f.keeps_imports ≡ true
     pub goes : one_goes f w names ≡ true
     pub old : an_import_of source note list_note names ≡ x
     pub new : an_import_of source note list_note (names_left f w names) ≡ y
 
-  prunes_if : (source : List ℕ) (n m : Note) (names : Forest) (y : Tree) (b : Bool) → one_goes f w names ≡ b → (if b then Some (an_import_of source n m (names_left f w names)) else None) ≡ Some y → Prunes (an_import_of source n m names) y
-  prunes_if source n m names y true e is = record { source = source; note = n; list_note = m; names = names; goes = e; old = refl; new = same_value is }
+  prunes_if : (source : List ℕ) (n m : Note) (names : Forest) (y : Tree) (b : Bool) → (not f.keeps_imports && one_goes f w names) ≡ b → (if b then Some (an_import_of source n m (names_left f w names)) else None) ≡ Some y → Prunes (an_import_of source n m names) y
+  prunes_if source n m names y true e is =
+      let h = and_parts (not f.keeps_imports) (one_goes f w names) e in
+      record { source = source; note = n; list_note = m; names = names; unkept = h.0; goes = h.1; old = refl; new = same_value is }
   prunes_if source n m names y false e is = absurd (none_is_some is)
 
+  -- nothing is asked of what is no list
+  never : {P : Type 0} (x y : Tree) (b : Bool) → (if b && false then Some x else None) ≡ Some y → P
+  never x y true is = absurd (none_is_some is)
+  never x y false is = absurd (none_is_some is)
+
   prunes_view : (k : Kind) (n : Note) (below : Forest) (y : Tree) → (let x : Tree = record { kind = k; note = n; below = below } in pruned f w x ≡ Some y) → (let x : Tree = record { kind = k; note = n; below = below } in Prunes x y)
-  prunes_view (import_declaration source) n (node specifiers m names nothing) y is = prunes_if source n m names y (one_goes f w names) refl is
+  prunes_view (import_declaration source) n (node specifiers m names nothing) y is = prunes_if source n m names y (not f.keeps_imports && one_goes f w names) refl is
+  prunes_view (import_declaration source) n below y is = never (record { kind = import_declaration source; note = n; below = below }) y (not f.keeps_imports) is
   prunes_view k n below y is = absurd (none_is_some is)
 
   pub prunes : (x y : Tree) → pruned f w x ≡ Some y → Prunes x y

@@ -1,10 +1,10 @@
 -- In a program of which no name of an import goes none is unused.
-use Rattle.std.proofs.Common.{◌≡◌, ◌∙◌, ◌+◌, ◌==◌, ℕ, List, [], Bool, true, false, not, ◌||◌, if◌then◌else◌, Option, Some, None, inl, refl, sym, ap, subst}
+use Rattle.std.proofs.Common.{◌≡◌, ◌∙◌, ◌+◌, ℕ, List, [], Bool, true, false, not, ◌&&◌, ◌||◌, if◌then◌else◌, Some, None, inl, refl, sym, ap, subst}
 use Rattle.std.proofs.lemmas.Bool.{and_from}
 use Rattle.js_syntax.specs.declared.node_kind.NodeKind.{NodeKind as Kind}
 use Rattle.js_syntax.specs.declared.node_kind.NodeKind.TheVariants.{ImportDeclaration as import_declaration, Specifiers as specifiers, BindingName as binding_name}
 use Rattle.js_syntax.specs.declared.kind.VariableKind.TheVariants as variable
-use Rattle.js_syntax.specs.Node.{Forest, Tree, Note, nothing, node, absent}
+use Rattle.js_syntax.specs.Node.{Forest, Tree, Note, nothing, node}
 use Rattle.js_syntax.proofs.Truth.{first_of_neither, second_of_neither, first_of_either, second_of_either}
 use Rattle.min_context.specs.Place.{place_at}
 use Rattle.scope_rules.specs.Context.{inside}
@@ -24,7 +24,7 @@ use Rattle.steps_allowed.specs.Free.{IsFree, FreeDeclarator}
 use Rattle.steps_allowed.specs.Imports.{IsImported}
 use Rattle.steps_allowed.specs.Places.{At}
 use Rattle.steps_allowed.specs.UnusedImport.{an_imported}
-use Rattle.steps_marked.specs.Flags.{Stand, scope_has, stand}
+use Rattle.steps_marked.specs.Flags.{Stand, scope_has}
 use Rattle.steps_marked.proofs.Telling.{stand_exposed}
 use Rattle.rules_dead_code.specs.Knows.{Knows}
 use Rattle.rules_dead_code.specs.Quiet.{TellsOnly, Exactly}
@@ -59,10 +59,10 @@ record Good (f : Facts) (t : Forest) : Type 0 where
   used : ImportsUsed f t
 
 module _ (f : Facts) where
-  name_used : (a d : counts.Around) (source : List ℕ) (n l : Note) (more rest : Forest) → is_row d ≡ true → (k : Kind) (i j : Note) (x : List ℕ) → binds_import k ≡ true
+  name_used : f.keeps_unused ≡ false → f.keeps_imports ≡ false → (a d : counts.Around) (source : List ℕ) (n l : Note) (more rest : Forest) → is_row d ≡ true → (k : Kind) (i j : Note) (x : List ℕ) → binds_import k ≡ true
       → let b = to a (in_import source n l d more rest) in
       Good f (places.plug b (an_imported k i j x)) → IsOwnDeclarator b (an_imported k i j x) → At b (an_imported k i j x) (FreeDeclarator (places.plug b (an_imported k i j x)) x) → ⊥
-  name_used a d source n l more rest row k i j x binds g own free =
+  name_used unkept named a d source n l more rest row k i j x binds g own free =
       let inner = in_import source n l d more rest in
       let b = to a inner in
       let below = node (binding_name x) j nothing nothing in
@@ -86,16 +86,16 @@ module _ (f : Facts) where
       let site = named_site (fs 0) j x in
       let stands = place.bindings site (binding_second site (own_sites c i k below) (sites fs 0 (place.next + opens_one k below) below) [] (inl refl)) in
       let free_there = subst (λ r. IsFree t (named_in x r)) (sym (layer_stays c place.next k below binds)) place.holds_there in
-      let unused = and_from (is_unlisted f j.id) (not (is_global f w.scope || scope_has f.scoping 0 scope_flag.direct_eval)) (unlisted f t g.knows g.exactly site stands free_there) (ap not apart) in
+      let unused = and_from (is_unlisted f j.id) (not (is_global f w.scope || scope_has f.scoping 0 scope_flag.direct_eval)) (unlisted f t g.knows unkept g.exactly site stands free_there) (ap not apart) in
       let goes = and_from (binds_import k) (variable_is_unused f w.scope j.id) binds unused in
       let one : one_goes f w names ≡ true = ap (λ v. one_goes f w v) (plugged d (first more) (Some y)) ∙ some_goes f w d k i below more row goes in
-      not_pruned (one_goes f w names) (an_import_of source n l (names_left f w names)) one (here_.used a (an_import_of source n l names) rest refl)
+      not_pruned (not f.keeps_imports && one_goes f w names) (an_import_of source n l (names_left f w names)) (and_from (not f.keeps_imports) (one_goes f w names) (ap not named) one) (here_.used a (an_import_of source n l names) rest refl)
 
-pub no_unused_name : (f : Facts) (t : Forest) → Knows f unmarked t → Exactly f t → ImportsUsed f t → (a : Around) (k : Kind) (n m : Note) (x : List ℕ) → t ≡ places.plug a (an_imported k n m x) → binds_import k ≡ true → IsImported a
+pub no_unused_name : (f : Facts) (t : Forest) → Knows f unmarked t → Exactly f t → ImportsUsed f t → (a : Around) (k : Kind) (n m : Note) (x : List ℕ) → t ≡ places.plug a (an_imported k n m x) → f.keeps_unused ≡ false → f.keeps_imports ≡ false → binds_import k ≡ true → IsImported a
     → IsOwnDeclarator a (an_imported k n m x) → At a (an_imported k n m x) (FreeDeclarator t x) → ⊥
-no_unused_name f t knows exactly used b k n m x is binds imported own free =
+no_unused_name f t knows exactly used b k n m x is unkept named binds imported own free =
     let y = an_imported k n m x in
     let here_ : Good f (places.plug b y) = subst (λ v. Good f v) is (record { knows = knows; exactly = exactly; used = used }) in
     let i = name_in b (record { kind = k; note = n; below = node (binding_name x) m nothing nothing }) (fits_listed (places.plug b y) here_.knows.fits) imported in
-    subst (λ c. Good f (places.plug c y) → IsOwnDeclarator c y → At c y (FreeDeclarator (places.plug c y) x) → ⊥) i.is (name_used f i.outer i.before i.source i.note i.list_note i.more i.rest i.in_row k n m x binds) here_ own
+    subst (λ c. Good f (places.plug c y) → IsOwnDeclarator c y → At c y (FreeDeclarator (places.plug c y) x) → ⊥) i.is (name_used f unkept named i.outer i.before i.source i.note i.list_note i.more i.rest i.in_row k n m x binds) here_ own
     (subst (λ v. At b y (FreeDeclarator v x)) is free)

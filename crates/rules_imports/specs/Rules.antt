@@ -1,6 +1,6 @@
 -- Which names of an import the pass over dead code takes out: those that nobody uses. The import itself stays, so that its module is
 -- loaded where it was (ECMA-262 16.2.1.3).
-use Rattle.std.specs.Prelude.{Bool, true, false, ◌&&◌, ◌||◌, Option, Some, None, if◌then◌else◌}
+use Rattle.std.specs.Prelude.{Bool, false, not, ◌&&◌, ◌||◌, Option, Some, None, if◌then◌else◌}
 use Rattle.js_syntax.specs.declared.node_kind.NodeKind.{NodeKind as Kind}
 use Rattle.js_syntax.specs.declared.node_kind.NodeKind.TheVariants.{ImportDeclaration as import_declaration, Specifiers as specifiers, BindingName as binding_name}
 use Rattle.js_syntax.specs.Node.{Forest, Tree, nothing, node, absent}
@@ -37,9 +37,10 @@ abbrev pub import_left : Facts → Where → (below : Forest) → Forest
 import_left f w (node specifiers n names nothing) = node specifiers n (names_left f w names) nothing
 import_left f w below = below
 
-abbrev pub is_import : Kind → Bool
-is_import (import_declaration source) = true
-is_import k = false
+-- an import loses names, unless they are kept
+abbrev pub loses_names : Facts → Kind → Bool
+loses_names f (import_declaration source) = not f.keeps_imports
+loses_names f k = false
 
 abbrev pub pruned : Facts → Where → Tree → Option Tree
-pruned f w x = if is_import x.kind && import_has_unused f w x.below then Some (record { kind = x.kind; note = x.note; below = import_left f w x.below }) else None
+pruned f w x = if loses_names f x.kind && import_has_unused f w x.below then Some (record { kind = x.kind; note = x.note; below = import_left f w x.below }) else None

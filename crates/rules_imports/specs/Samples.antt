@@ -1,8 +1,8 @@
 -- The rule, tried on small programs.
-use Rattle.std.specs.Prelude.{List, [], ◌∷◌, Bool, Option, Some, None, codes}
+use Rattle.std.specs.Prelude.{List, [], ◌∷◌, Bool, true, Option, Some, None, codes}
 use Rattle.js_syntax.specs.declared.node_kind.NodeKind.{NodeKind as Kind}
 use Rattle.js_syntax.specs.declared.value.ModuleName.TheVariants.{Name as plain_name}
-use Rattle.js_syntax.specs.Node.{Forest, Tree, nothing, node, forest_of, bare}
+use Rattle.js_syntax.specs.Node.{Forest, Tree, node, forest_of, bare}
 use Rattle.form_rules.specs.Samples.{over, listed, a, binds}
 use Rattle.scope_rules.specs.Samples.{b}
 use Rattle.scope_counts.specs.Tried.{with_marks}
@@ -30,3 +30,7 @@ first_left f t = t
 -- of the import that a program begins with
 abbrev pub left : (exported : List Bool) → Forest → Forest
 left exported t = first_left (facts_of exported t) (items_of (with_marks t))
+
+-- where such names are kept
+abbrev pub left_kept : Forest → Forest
+left_kept t = first_left (record (facts_of [] t) { keeps_imports = true }) (items_of (with_marks t))

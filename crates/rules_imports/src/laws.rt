@@ -1,5 +1,6 @@
-// Why unused names of imports may go, and what a program has no more of which none goes. Each law is a contract, so that the check proves it.
-ghost use Rattle.std.specs.Prelude.{◌≡◌, ◌≤◌, ◌+◌, ℕ, List, Bool, true, Some};
+// Why unused names of imports may go, and what a program has no more of which none goes. Each law is a contract, so that the check
+// proves it.
+ghost use Rattle.std.specs.Prelude.{◌≡◌, ◌≤◌, ◌+◌, ℕ, List, Bool, true, false, Some};
 ghost use Rattle.js_syntax.specs.declared.node_kind.NodeKind.{NodeKind as Kind};
 ghost use Rattle.js_syntax.specs.Facts.{weight};
 ghost use Rattle.js_syntax.specs.Node.{Forest, Tree, Note, node, forest_of, total};
@@ -45,8 +46,8 @@ pub fn walks_see_that_imports_are_used()
 {}
 
 /// Law: a program of which none goes, by what is known exactly, has no name of an import that nothing refers to, no export is of and no
-/// other code may use.
+/// other code may use, unless such names are kept.
 pub fn no_name_is_left_unused()
-    ensures { (f : Facts) (t : Forest) → Knows f unmarked t → Exactly f t → ImportsUsed f t → (a : places.Around) (k : Kind) (n m : Note) (x : List ℕ) → t ≡ places.plug a (an_imported k n m x) → binds_import k ≡ true → IsImported a
+    ensures { (f : Facts) (t : Forest) → Knows f unmarked t → Exactly f t → ImportsUsed f t → (a : places.Around) (k : Kind) (n m : Note) (x : List ℕ) → t ≡ places.plug a (an_imported k n m x) → f.keeps_unused ≡ false → f.keeps_imports ≡ false → binds_import k ≡ true → IsImported a
         → IsOwnDeclarator a (an_imported k n m x) → At a (an_imported k n m x) (FreeDeclarator t x) → ⊥ }
 {}

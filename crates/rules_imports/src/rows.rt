@@ -1,9 +1,9 @@
 // Small programs, by computing.
 ghost use Rattle.std.specs.Prelude.{◌≡◌, [], ◌∷◌, true};
-ghost use Rattle.form_rules.specs.Samples.{leaf, a_module, a, reads, does, exports};
+ghost use Rattle.form_rules.specs.Samples.{a_module, a, reads, does, exports};
 ghost use Rattle.scope_rules.specs.Samples.{b, imports};
 ghost use Rattle.steps_allowed.specs.Rows.{call_of_eval};
-ghost use Rattle.rules_imports.specs.Samples.{left, imports_both, imports_none};
+ghost use Rattle.rules_imports.specs.Samples.{left, left_kept, imports_both, imports_none};
 
 /// A name that nothing refers to leaves its import, which stays without any.
 pub fn unused_names()
@@ -11,10 +11,11 @@ pub fn unused_names()
     ensures all { left [] (a_module (imports_both ∷ [])) ≡ imports_none }
 {}
 
-/// One that is used stays: where it is read, exported, or a call of `eval` may use it.
+/// One that is used stays: where it is read, exported, or a call of `eval` may use it; and so does any where names are kept.
 pub fn used_names()
     ensures read { left [] (a_module (imports a ∷ does (reads a) ∷ [])) ≡ imports a }
     ensures exported_by_list { left [] (a_module (imports a ∷ exports a b ∷ [])) ≡ imports a }
     ensures exported { left (true ∷ []) (a_module (imports a ∷ [])) ≡ imports a }
     ensures evaluating { left [] (a_module (imports a ∷ does call_of_eval ∷ [])) ≡ imports a }
+    ensures kept { left_kept (a_module (imports a ∷ [])) ≡ imports a }
 {}

@@ -59,11 +59,11 @@ empty_is_dead c =
 
 -- function a() {}
 pub function_is_dead : Clean (a_module (function_a [] [] ∷ [])) → ⊥
-function_is_dead c = c.nothing_is_dead (before []) _ refl (an_unused_function (before []) false nowhere nowhere a _ refl refl (record { unreferred = λ r h e. h; unexported = λ e h s d. h }))
+function_is_dead c = c.nothing_is_dead (before []) _ refl (an_unused_function (before []) false nowhere nowhere a _ refl refl refl (record { unreferred = λ r h e. h; unexported = λ e h s d. h }))
 
 -- import a from 'm';
 pub import_is_dead : Clean (a_module (imports a ∷ [])) → ⊥
-import_is_dead c = c.nothing_is_dead only_import _ refl (an_unused_import only_import Kind.ImportDefaultSpecifier nowhere nowhere a refl refl refl (record { unreferred = λ r h e. h; unexported = λ e h s d. h }))
+import_is_dead c = c.nothing_is_dead only_import _ refl (an_unused_import only_import Kind.ImportDefaultSpecifier nowhere nowhere a refl refl refl refl refl (record { unreferred = λ r h e. h; unexported = λ e h s d. h }))
 
 -- behind the first of them
 abbrev second_declarator : Around
@@ -81,7 +81,7 @@ b_is_unreferred r (inr h) is = h
 
 pub declarator_is_dead : Clean row.of_two → ⊥
 declarator_is_dead c =
-    c.nothing_is_dead second_declarator _ refl (an_unused_declarator second_declarator nowhere nowhere (codes "b") (absent nothing) refl refl (refl, tt) (record { unreferred = b_is_unreferred; unexported = λ e h s d. h }))
+    c.nothing_is_dead second_declarator _ refl (an_unused_declarator second_declarator nowhere nowhere (codes "b") (absent nothing) refl refl refl (refl, tt) (record { unreferred = b_is_unreferred; unexported = λ e h s d. h }))
 
 -- a(true ? a : b);
 pub conditional_is_dead : Clean row.takes_branch → ⊥
@@ -516,7 +516,7 @@ pub misplaced_goes : is_quiet row.misplaced_export ≡ false
 misplaced_goes = refl
 
 pub misplaced_is_dead : Clean row.misplaced_export → ⊥
-misplaced_is_dead c = c.nothing_is_dead behind_export _ refl (an_unused_function behind_export false nowhere nowhere a _ refl refl (record { unreferred = λ r h e. h; unexported = not_exported }))
+misplaced_is_dead c = c.nothing_is_dead behind_export _ refl (an_unused_function behind_export false nowhere nowhere a _ refl refl refl (record { unreferred = λ r h e. h; unexported = not_exported }))
   where
     not_exported : (e : BindingSite) → Among e (exported_declarations row.misplaced_export) → e.layer.scope ≡ 0 → declared_by e ≡ named_in a (body_of 1) → ⊥
     not_exported e (inl is) outer same = Prim.omega (arith, ap (λ (x : BindingSite). x.layer.scope) is ∙ outer)
@@ -614,12 +614,12 @@ import_suspect Kind.ImportDefaultSpecifier h = refl
 import_suspect Kind.ImportNamespaceSpecifier h = refl
 import_suspect k h = absurd Prim.cc
 
-dead_suspect : (t : Forest) (a : Around) (x : Option Tree) → t ≡ plug a x → IsDead t a x → has_suspect t ≡ true
+dead_suspect : (t : Forest) (a : Around) (x : Option Tree) → t ≡ plug a x → IsDead false false t a x → has_suspect t ≡ true
 dead_suspect t a x is (an_empty_statement b n item) = ap has_suspect is ∙ suspect_there b _ refl
 dead_suspect t a x is (a_silent_statement b n below silent) = ap has_suspect is ∙ suspect_there b _ refl
-dead_suspect t a x is (an_unused_function b pure n m y rest item own free) = ap has_suspect is ∙ suspect_there b _ refl
-dead_suspect t a x is (an_unused_declarator b n m y value item own silent free) = ap has_suspect is ∙ suspect_there b _ refl
-dead_suspect t a x is (an_unused_import b k n m y binds imported own free) = ap has_suspect is ∙ suspect_there b _ (import_suspect k binds)
+dead_suspect t a x is (an_unused_function b pure n m y rest unkept item own free) = ap has_suspect is ∙ suspect_there b _ refl
+dead_suspect t a x is (an_unused_declarator b n m y value unkept item own silent free) = ap has_suspect is ∙ suspect_there b _ refl
+dead_suspect t a x is (an_unused_import b k n m y unkept named binds imported own free) = ap has_suspect is ∙ suspect_there b _ (import_suspect k binds)
 dead_suspect t a x is (a_known_conditional b y z (consequent_is_taken n m i j v k l c d e truth may)) = ap has_suspect is ∙ suspect_there b _ refl
 dead_suspect t a x is (a_known_conditional b y z (alternate_is_taken n m i j v k l c d e truth may)) = ap has_suspect is ∙ suspect_there b _ refl
 dead_suspect t a x is (a_known_side b y z (right_side_counts o n m i v k d e goes may)) = ap has_suspect is ∙ suspect_there b _ refl

@@ -14,12 +14,25 @@ fn append_tree(alloc: Global, program: &Program, printed: &mut Vec<u8>) -> Resul
     append("\n", printed)
 }
 
+// That keep names of imports.
+fn with_imports(alloc: Global) -> CompressOptions {
+    let mut options = CompressOptions::dce(alloc);
+    options.treeshake.invalid_import_side_effects = true;
+    options
+}
+
 fn options_named(alloc: Global, name: &str) -> MinifierOptions {
     match name {
         "dce" => MinifierOptions {
             compress: Some(CompressOptions::dce(alloc)),
         },
         "smallest" => MinifierOptions::default(alloc),
+        "safest" => MinifierOptions {
+            compress: Some(CompressOptions::safest(alloc)),
+        },
+        "imports" => MinifierOptions {
+            compress: Some(with_imports(alloc)),
+        },
         _ => MinifierOptions { compress: None },
     }
 }

@@ -8,7 +8,8 @@
 //! - `words shake,dce,`: a run with these words, each with a comma behind it; `unread shake,dce,` where nothing can be read
 //! - `read 1`, `write 1`: a run whose first call of its source or of its sink fails
 //! - `room 10`: a run whose sink has room for so many bytes
-//! - `call dce`, `call smallest`, `call none`: the library call with these options, and what is left of the program
+//! - `call dce`, `call smallest`, `call safest`, `call imports` (those of `dce`, that keep names of imports), `call none`: the library call
+//!   with these options, and what is left of the program
 //! - `span 0`: where the program stands, how many children its root has, and how it is written
 //! - `codes 0`: the codes of all answers
 //!

@@ -1,7 +1,8 @@
-use Rattle.std.proofs.Common.{◌≡◌, ◌∙◌, ap, arith}
+use Rattle.std.proofs.Common.{◌≡◌, ◌∙◌, ap, subst, arith}
 use Rattle.js_syntax.specs.Facts.{weight}
 use Rattle.js_syntax.specs.Node.{Tree, forest_of, total}
 use Rattle.steps_allowed.proofs.Composing.{tree_edits_compose}
+use Rattle.min_peephole.specs.CleanBy.{CleanBy}
 use Rattle.min_peephole.proofs.Passed.{none_passed, one_more}
 use Rattle.min_peephole.proofs.passes.run_passes.Goals as goal
 
@@ -21,7 +22,7 @@ pub loop-iterations-preserved : goal.loop-iterations-preserved
 loop-iterations-preserved c =
     let e = c.in_ok-run_peephole_pass.ensures in
     one_more c.args.ctx.now c.args.program.now c.loop-iterations.statements c.run_peephole_pass.new.statements c.loop-iterations.ctx c.run_peephole_pass.new.ctx c.loop-iterations.program c.run_peephole_pass.new.program c.loop-iterations.iterations
-    c.loop-iterations.invariant e.edits e.between (e.lighter c.if-branch.true)
+    c.loop-iterations.invariant e.edits e.between (e.lighter c.if-branch.true) e.options
 
 pub returns : goal.returns
 returns c =
@@ -34,5 +35,6 @@ returns c =
       few = omega (arith, p.few, ap (λ (x : Tree). total weight (forest_of x)) same);
       none = λ n. same ∙ p.none n;
       same = λ n. e.same c.if-branch.false ∙ p.same n;
-      clean = e.clean c.if-branch.false;
+      options = e.options ∙ p.options;
+      clean = subst (λ o. CleanBy o (forest_of c.run_peephole_pass.new.program)) p.options (e.clean c.if-branch.false);
     }

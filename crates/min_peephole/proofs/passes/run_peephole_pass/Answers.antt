@@ -4,6 +4,7 @@ use Rattle.min_context.specs.Completing.{completed}
 use Rattle.min_context.specs.Seen.{Seen}
 use Rattle.min_statements.specs.Walker.{Names}
 use Rattle.min_peephole.specs.Between.{BetweenPasses}
+use Rattle.min_peephole.specs.CleanBy.{CleanBy}
 use Rattle.min_peephole.proofs.Passing.{exact, no_dead_code, between_same, completed_between}
 use Rattle.min_peephole.proofs.passes.run_peephole_pass.Goals as goal
 
@@ -22,6 +23,7 @@ returns-then-needs_another_pass c =
       lighter = λ _. omega (arith, w.lighter, ap {B = ℕ} (λ q. cond q 1 0) asked);
       quiet = λ e. absurd (true≢false (sym c.if-needs_another_pass.true ∙ e));
       same = λ e. absurd (true≢false (sym c.if-needs_another_pass.true ∙ e));
+      options = ap {A = Seen} (λ k. k.options) done ∙ c.in_ok-walk.ensures.options;
       clean = λ e. absurd (true≢false (sym c.if-needs_another_pass.true ∙ e));
     }
 
@@ -40,5 +42,6 @@ returns-else-needs_another_pass c =
       lighter = λ e. absurd (true≢false (sym e ∙ c.if-needs_another_pass.false));
       quiet = λ _. c.in_ok-walk.ensures.quiet none;
       same = λ _. w.context_same none;
-      clean = λ _. no_dead_code c.walk.new.statements c.walk.new.ctx u b (w.quiet none) (w.uses_imports none) (w.settled none);
+      options = c.in_ok-walk.ensures.options;
+      clean = λ _. subst (λ o. CleanBy o u) c.in_ok-walk.ensures.options (no_dead_code c.walk.new.statements c.walk.new.ctx u b (w.quiet none) (w.uses_imports none) (w.settled none));
     }

@@ -41,5 +41,6 @@ returns c =
       walked = subst (λ (z : Tree). Walked c.args.statements.now c.args.ctx.now (forest_of c.args.program.now) c.walk_statements.new.walker c.walk_statements.new.ctx (forest_of z)) (sym left)
           (subst (λ (x : Tree). Walked c.args.statements.now c.args.ctx.now (forest_of x) c.walk_statements.new.walker c.walk_statements.new.ctx (forest_of c.walk_statements.new.root)) tree
           (subst (λ (k : Seen). Walked c.args.statements.now k (forest_of c.into_root-root.result) c.walk_statements.new.walker c.walk_statements.new.ctx (forest_of c.walk_statements.new.root)) context w));
+      options = e.options ∙ ap {A = Seen} (λ k. k.options) context;
       quiet = λ q. left ∙ e.quiet q ∙ tree;
     }

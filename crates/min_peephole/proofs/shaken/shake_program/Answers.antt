@@ -28,5 +28,5 @@ pub returns : goal.returns
 returns c =
     let t = forest_of c.args.program in
     record {
-      shaken = all_shaken (λ s. forest_of s.program) (λ s. s.scoping) (λ s. s.iterations) t (forest_of c.build.new.program) c.requires.fits c.requires.well_formed (c.in_ok-scoping.ensures.marked ∙ ap numbered c.in_ok-cleared.ensures.left) c.settle.result c.settle.ensures.runs;
+      shaken = all_shaken c.args.options (λ s. forest_of s.program) (λ s. s.scoping) (λ s. s.iterations) t (forest_of c.build.new.program) c.requires.fits c.requires.well_formed (c.in_ok-scoping.ensures.marked ∙ ap numbered c.in_ok-cleared.ensures.left) c.settle.result c.settle.ensures.runs;
     }
