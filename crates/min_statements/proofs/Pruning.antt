@@ -24,28 +24,27 @@ use Rattle.min_statements.proofs.Shed.{leaves_none, edited}
 
 -- ---- what the call does
 
--- the same question, of what code asks
-asked_so : (x : Tree) (f g : Facts) (w v : Where) (b : Bool) → b ≡ (loses_names f x.kind && import_has_unused f w x.below) → f ≡ g → w ≡ v → (loses_names g x.kind && import_has_unused g v x.below) ≡ b
-asked_so x f g w v b e facts at = sym (e ∙ ap (λ q. loses_names q x.kind && import_has_unused q w x.below) facts ∙ ap (λ q. loses_names g x.kind && import_has_unused g q x.below) at)
-
 some_left : {b : Bool} (y : Tree) → b ≡ true → (if b then Some y else None) ≡ Some y
 some_left y e = ap (λ b. if b then Some y else None) e
 
-pub prunes_none : (names : Names) (c : Seen) (x : Tree) (f : Facts) (w : Where) → w ≡ where_of c.place → f ≡ facts_of names c → false ≡ (loses_names f x.kind && import_has_unused f w x.below) → Does (prune names) c x false c x
-prunes_none names c x f w at facts none =
-    does_none (prune names) c x (none_left (record x { below = import_left (facts_of names c) (where_of c.place) x.below }) (asked_so x f (facts_of names c) w (where_of c.place) false none facts at))
+-- whether something goes, as code asks it
+abbrev goes : Names → Seen → Tree → Bool
+goes names c x = loses_names (facts_of names c) x.kind && import_has_unused (facts_of names c) (where_of c.place) x.below
+
+pub prunes_none : (names : Names) (c : Seen) (x : Tree) → false ≡ goes names c x → Does (prune names) c x false c x
+prunes_none names c x none =
+    does_none (prune names) c x (none_left (record x { below = import_left (facts_of names c) (where_of c.place) x.below }) (sym none))
 
 -- no reference and no call left
 prune_edited : (f : Facts) (w : Where) (c : Seen) (x y : Tree) → pruned f w x ≡ Some y → Edited c x y true (record c { requested = true })
 prune_edited f w c x y is = edited x y refl (leaves_none (record c { requested = true })) (λ r. Prim.omega (arith, pruned_refers f w x y is r)) (Prim.omega (arith, pruned_calls f w x y is))
 
-pub prunes_so : (names : Names) (c d : Seen) (x y : Tree) (f g : Facts) (w : Where) → w ≡ where_of c.place → f ≡ facts_of names c → true ≡ (loses_names f x.kind && import_has_unused f w x.below) → g ≡ facts_of names c
+pub prunes_so : (names : Names) (c d : Seen) (x y : Tree) (g : Facts) (w : Where) → w ≡ where_of c.place → true ≡ goes names c x → g ≡ facts_of names c
     → y ≡ record x { below = import_left g w x.below } → d ≡ record c { requested = true } → Does (prune names) c x true d y
-prunes_so names c d x y f g w at facts some later tree noticed =
-    let has_some = asked_so x f (facts_of names c) w (where_of c.place) true some facts at in
+prunes_so names c d x y g w at some later tree noticed =
     let left : Tree = record x { below = import_left (facts_of names c) (where_of c.place) x.below } in
     let is : y ≡ left = tree ∙ ap {A = Facts} {B = Tree} (λ q. record x { below = import_left q w x.below }) later ∙ ap {A = Where} {B = Tree} (λ q. record x { below = import_left (facts_of names c) q x.below }) at in
-    let found : prune names c x ≡ Some y = some_left left has_some ∙ ap Some (sym is) in
+    let found : prune names c x ≡ Some y = some_left left (sym some) ∙ ap Some (sym is) in
     does_some (prune names) c x y found (subst (λ q. Edited c x y true q) (sym noticed) (prune_edited (facts_of names c) (where_of c.place) c x y found))
 
 -- ---- moves

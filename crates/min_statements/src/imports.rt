@@ -3,13 +3,15 @@ ghost use Rattle.std.specs.Prelude.{◌≡◌, ◌&&◌, [], ◌∷◌};
 ghost use Rattle.js_syntax.specs.Node.{row, forest_of};
 ghost use Rattle.min_traverse.specs.Lawful.{Does};
 ghost use Rattle.steps.specs.Steps as steps;
+ghost use Rattle.rules_dead_code.specs.Rules.{where_of};
 ghost use Rattle.rules_imports.specs.Rules as rules;
 ghost use Rattle.min_statements.specs.Acts as acts;
 ghost use Rattle.min_statements.specs.Shed.{is_unused_specifier};
+ghost use Rattle.min_statements.specs.Walker.{facts_of};
 
 use crate::facts::{Facts, Where};
 use crate::names::{symbol_of, variable_is_unused};
-use crate::statements::Statements;
+use crate::statements::{Statements, keeps_imports};
 use js_syntax::NodeKind;
 use js_tree::Node;
 use min_context::MinifierTraverseCtx;
@@ -95,19 +97,21 @@ fn import_has_unused(facts: &Facts, at: Where, children: &[Option<Node>]) -> boo
     }
 }
 
-fn loses_names(facts: &Facts, kind: &NodeKind) -> bool
-    ensures { result ≡ rules.loses_names facts.now kind.now }
+fn loses_names(names: &Statements, ctx: &MinifierTraverseCtx, kind: &NodeKind) -> bool
+    ensures { result ≡ rules.loses_names (facts_of names.now ctx.now) kind.now }
 {
     match kind {
-        NodeKind::ImportDeclaration(_) => !facts.keeps_imports,
+        NodeKind::ImportDeclaration(_) => !keeps_imports(ctx.options()),
         _ => false,
     }
 }
 
-fn has_unused(facts: &Facts, at: Where, node: &Node) -> bool
-    ensures { result ≡ (rules.loses_names facts.now node.now.kind && rules.import_has_unused facts.now at node.now.below) }
+// Few statements are imports, so the kind is asked first.
+fn has_unused(names: &Statements, ctx: &MinifierTraverseCtx, node: &Node) -> bool
+    ensures { result ≡ (rules.loses_names (facts_of names.now ctx.now) node.now.kind && rules.import_has_unused (facts_of names.now ctx.now) (where_of ctx.now.place) node.now.below) }
 {
-    loses_names(facts, node.kind()) && import_has_unused(facts, at, node.children())
+    loses_names(names, ctx, node.kind())
+        && import_has_unused(&names.facts(ctx), Where::of(ctx), node.children())
 }
 
 // ---- and what is left
@@ -153,8 +157,8 @@ fn prune_import(alloc: Global, facts: &Facts, at: Where, node: &mut Node)
 }
 
 /// The names of an import leave it that nobody uses, unless the options keep them (`unused`, `invalid_import_side_effects`); the import
-/// itself stays, even without any. Names refer to nothing, so that no
-/// reference leaves with them of which the context would be told. Where nothing goes, nothing is touched.
+/// itself stays, even without any. Names refer to nothing, so that no reference leaves with them of which the context would be told.
+/// Where nothing goes, nothing is touched.
 pub fn remove_unused_import_specifiers(
     names: &Statements,
     node: &mut Node,
@@ -162,10 +166,10 @@ pub fn remove_unused_import_specifiers(
 ) -> bool
     ensures does { Does (acts.prune names.now) ctx.old node.old result ctx.new node.new }
 {
-    let at = Where::of(ctx);
-    if !has_unused(&names.facts(ctx), at, node) {
+    if !has_unused(names, ctx, node) {
         return false;
     }
+    let at = Where::of(ctx);
     prune_import(ctx.alloc(), &names.facts(ctx), at, node);
     ctx.notice_change();
     true

@@ -52,7 +52,7 @@ fn keeps_unused(options: &CompressOptions) -> bool
     matches!(options.unused, CompressOptionsUnused::Keep)
 }
 
-fn keeps_imports(options: &CompressOptions) -> bool
+pub(crate) fn keeps_imports(options: &CompressOptions) -> bool
     ensures { result ≡ keeps_imports options.now }
 {
     options.treeshake.invalid_import_side_effects

@@ -4,11 +4,11 @@ use Rattle.min_statements.proofs.imports.remove_unused_import_specifiers.Goals a
 
 pub returns-then-not-has_unused : goal.returns-then-not-has_unused
 returns-then-not-has_unused c = record {
-  does = prunes_none c.args.names.now c.args.ctx.now c.args.node.now c.facts.result c.of-at.result c.of-at.ensures c.facts.ensures (sym c.if-not-has_unused.true ∙ c.has_unused.ensures);
+  does = prunes_none c.args.names.now c.args.ctx.now c.args.node.now (sym c.if-not-has_unused.true ∙ c.has_unused.ensures);
 }
 
 pub returns : goal.returns
 returns c = record {
-  does = prunes_so c.args.names.now c.args.ctx.now c.notice_change.new.self c.args.node.now c.prune_import.new.node c.facts.result c.facts-2.result c.of-at.result c.of-at.ensures c.facts.ensures (sym c.if-not-has_unused.false ∙ c.has_unused.ensures)
-      c.facts-2.ensures c.prune_import.ensures c.notice_change.ensures.requested;
+  does = prunes_so c.args.names.now c.args.ctx.now c.notice_change.new.self c.args.node.now c.prune_import.new.node c.facts.result c.of-at.result c.of-at.ensures (sym c.if-not-has_unused.false ∙ c.has_unused.ensures)
+      c.facts.ensures c.prune_import.ensures c.notice_change.ensures.requested;
 }
