@@ -18,7 +18,7 @@ use Rattle.js_meaning.specs.Meaning.{eval}
 use Rattle.js_meaning_near.specs.Quiet.{OnlyAllocates, LeadsFrom, goes_on_as, stops_before, Leads, EndsQuietly, gives_quietly, stops_quietly, Quiet}
 use Rattle.js_meaning_near.specs.Wasted.{EndsSoon, ends_soon, stops_soon, IsSilent, Meets}
 use Rattle.js_meaning_near.specs.Names.{Status, Fact, known, silent_function, Lone, Names}
-use Rattle.js_meaning_near.specs.Near.{meaning, Silent, NoField, Idle, idle_empty, idle_expression, idle_no_expression, idle_function, idle_declarator, idle_bare_declarator, idle_cut_declarator, idle_declaration, AllIdle, all_idle, one_idle}
+use Rattle.js_meaning_near.specs.Near.{meaning, Silent, NoField, Idle, idle_empty, idle_expression, idle_no_expression, idle_statement, idle_function, idle_declarator, idle_bare_declarator, idle_cut_declarator, idle_declaration, AllIdle, all_idle, one_idle}
 use Rattle.js_meaning_near.proofs.Worlds.{Rule, only_value, left, both, slack, World, In, Sub, same, later, links_up}
 use Rattle.js_meaning_near.proofs.Relations.{LeftSlot, left_local, left_import, left_arguments, At, at_nowhere, at_loose, Budgets, as_many, no_more, Enters, CallEnds, call_gives, call_uncovered, call_out, at_live, at_known, at_dead, at_unread, Envs, SameOpt, SameAll, SameCell, same_normal, Obeys, SameExports, States, trace, Follows, both_go, old_stops, old_out, Acts}
 use Rattle.js_meaning_near.proofs.Acts.{acts_later, follows_back, nothing_more, stored_left}
@@ -91,6 +91,16 @@ comes_follows {z = z} {k = k} stops_before a r = old_stops (trace (k z), refl)
 
 pub leads_acts : {w : World} {m n k : M} → Leads m n → Acts w n k → Acts w m k
 leads_acts l a = record { act = λ w2 h s z r. comes_follows (l.leads s) (acts_later h a) r }
+
+-- and what comes to nothing does nothing
+
+nothing_still : {w : World} {s z : State} {o : Out} → LeadsFrom s (done normal) o → States w s z → Still w true z o
+unfolding done
+nothing_still {w = w} (goes_on_as o) r = still (same w) (allocated_states o r) ends_normal
+nothing_still stops_before r = stopped
+
+leads_alone : {w : World} {m : M} → Leads m (done normal) → Alone w true m
+leads_alone l = record { alone = λ w2 h s z r. nothing_still (l.leads s) r }
 
 -- one after the other
 
@@ -228,6 +238,7 @@ mutual
   idle_alone E (run ls) idle_empty r = alone_done ends_normal
   idle_alone E (run ls) (idle_expression x) r = silent_statement E x r
   idle_alone E (run ls) (idle_no_expression {a = a} y) r = no_expression E a _ y
+  idle_alone E q (idle_statement d) r = leads_alone (d.nothing_done E q _)
   idle_alone E (run ls) (idle_function d) r = alone_done ends_normal
   idle_alone E (run ls) (idle_declaration {how = how} x) r = all_alone E (declares how) x r
   idle_alone E (declares how) (idle_declarator {x = x} d y) r = alone_value (silent_alone E y r) (λ v. alone_fill v d (r.at x))

@@ -1,17 +1,17 @@
 -- What stands behind a jump never runs, so it may be anything that starts the same where its scope is entered.
-use Rattle.std.proofs.Common.{◌≡◌, List, [], ◌∷◌, ◌++◌, Option, Some, None, refl, sym, ap, ◌∙◌, subst}
-use Rattle.std.specs.Prelude.{Bool, true, false}
+use Rattle.std.proofs.Common.{◌≡◌, List, [], ◌∷◌, ◌++◌, Option, Some, None, refl, sym, subst}
+use Rattle.std.specs.Prelude.{true}
 use Rattle.js_syntax.specs.declared.node_kind.NodeKind.{NodeKind as Kind}
-use Rattle.js_syntax.specs.Node.{Note, Forest, node, absent}
+use Rattle.js_syntax.specs.Node.{Note, Forest, node}
 use Rattle.js_meaning.specs.Value.{Text, Env, Value}
 use Rattle.js_meaning.specs.Trace.{Event}
-use Rattle.js_meaning.specs.State.{State, Completion, normal, gives, gives_all, refers, breaks, continues, returns, throws, Out, goes, stops, M, go_on, bind, done, stop, if_normal, seq, if_gives, with_value}
+use Rattle.js_meaning.specs.State.{State, Completion, normal, gives, gives_all, refers, breaks, continues, returns, throws, Out, goes, stops, M, go_on, bind, done, stop, if_normal, seq, if_gives}
 use Rattle.js_meaning.specs.Host.{Enter}
-use Rattle.js_meaning.specs.Node.{Ask, now, run, Meaning, Parts, need, may, each}
+use Rattle.js_meaning.specs.Node.{Ask, now, run, Parts, need, may, each}
 use Rattle.js_meaning.specs.Meaning.{does, eval}
 use Rattle.js_meaning_near.specs.Names.{Names}
 use Rattle.js_meaning_near.specs.Near.{meaning, is_jump}
-use Rattle.js_meaning_near.proofs.Relations.{Acts, Follows}
+use Rattle.js_meaning_near.proofs.Relations.{Follows}
 use Rattle.js_meaning_near.proofs.Rows.{Lists}
 use Rattle.js_meaning_near.proofs.Nodes.{true_false}
 

@@ -13,10 +13,10 @@ use Rattle.js_meaning.specs.Scope.{Decl, waiting, ready, all_so, named_so, first
 use Rattle.js_meaning_near.specs.Purpose.{Purpose, Purposes, all, purpose_here, purposes_behind, for_values, wanted_below}
 use Rattle.js_meaning_near.specs.Names.{Names, no_names, Decls, Copied, declared, FillableIf}
 use Rattle.js_meaning_near.specs.Near as near
-use Rattle.js_meaning_near.specs.Near.{Row, fields, items, row_below, is_calm, hoists_nothing, Unreached, goes_here, goes_behind, goes_behind_none, Heads, is_row, Near, near_nothing, near_absent, near_node, near_closure, near_hoisted, near_uncovered, comes_to, wastes_more, one_sided, shorter, Code, near_code}
+use Rattle.js_meaning_near.specs.Near.{Row, fields, items, row_below, idle_statement, is_calm, hoists_nothing, Unreached, goes_here, goes_behind, goes_behind_none, Heads, is_row, Near, near_nothing, near_absent, near_node, near_closure, near_hoisted, near_uncovered, comes_to, wastes_more, one_sided, shorter, Code, near_code}
 use Rattle.js_meaning_near.specs.Fit.{names_after, around_code, within_code, FunctionOk, Part, whole, others, part_of, purposes_of, NodeFits, IfCore, Fits}
 use Rattle.js_meaning_near.specs.Once.{NodeStays}
-use Rattle.js_meaning_near.specs.Local.{ReadsSame, Stands, for_part, for_waste, for_sides, for_sequence, DeclaresNothing, Cut, node_cut, cut_behind, cut_behind_none, Local, at_place, behind_jump, in_below, in_rest, in_absent}
+use Rattle.js_meaning_near.specs.Local.{ReadsSame, Stands, for_part, for_waste, for_sides, for_sequence, Cut, node_cut, cut_behind, cut_behind_none, Local, at_place, behind_jump, leaves_list, in_below, in_rest, in_absent}
 use Rattle.js_meaning_near.proofs.Fit.{same_decls, same_copied, same_node, fits_near, fit}
 use Rattle.js_meaning_near.proofs.Once.{node_stays}
 use Rattle.js_meaning_near.proofs.Branches.{blunt_hoists}
@@ -105,9 +105,8 @@ cut_lexical (cut_behind_none c) = cut_lexical c
 
 -- what stays
 
-same_name : {us : Purposes} {o : Row} {t u : Forest} → Local us o t u → first_name t ≡ first_name u
+same_name : {us : Purposes} {t u : Forest} → Local us fields t u → first_name t ≡ first_name u
 same_name (at_place {k = k} {l = l} c p) = name_of k (old_node c) ∙ sym (name_of l (new_node c))
-same_name (behind_jump j c) = refl
 same_name (in_below q s) = refl
 same_name (in_rest s) = refl
 same_name (in_absent s) = refl
@@ -115,6 +114,7 @@ same_name (in_absent s) = refl
 pub same_bound : {us : Purposes} {o : Row} {t u : Forest} → Local us o t u → bound_names t ≡ bound_names u
 same_bound (at_place {r = r} c p) = ap (λ v. v ++ bound_names r) p.bound
 same_bound (behind_jump {k = k} {a = a} j c) = ap (λ v. names_of k (bound_names a) ++ v) (cut_bound c)
+same_bound (leaves_list {r = r} i d) = ap (λ v. v ++ bound_names r) d.bound
 same_bound (in_below {k = k} {r = r} q s) = ap (λ v. names_of k v ++ bound_names r) (same_bound s)
 same_bound (in_rest {k = k} {a = a} s) = ap (λ v. names_of k (bound_names a) ++ v) (same_bound s)
 same_bound (in_absent s) = same_bound s
@@ -128,24 +128,26 @@ vars_stay k a b l e = refl
 same_vars : {us : Purposes} {o : Row} {t u : Forest} → Local us o t u → var_names t ≡ var_names u
 same_vars (at_place {r = r} c p) = ap (λ v. v ++ var_names r) p.vars
 same_vars (behind_jump {k = k} {a = a} j c) = ap (λ v. vars_of k a (var_names a) ++ v) (cut_vars c)
+same_vars (leaves_list {r = r} i d) = ap (λ v. v ++ var_names r) d.vars
 same_vars (in_below {k = k} {a = a} {b = b} {r = r} q s) = ap (λ v. v ++ var_names r) (ap (vars_of k a) (same_vars s) ∙ vars_stay k a b (var_names b) (same_bound s))
 same_vars (in_rest {k = k} {a = a} s) = ap (λ v. vars_of k a (var_names a) ++ v) (same_vars s)
 same_vars (in_absent s) = same_vars s
 
-specifier_stays : (source : Text) (k : Kind) (a b : Forest) (l : List Decl) → first_name a ≡ first_name b → specifier_decls source k a l ≡ specifier_decls source k b l
-specifier_stays source (Kind.ImportSpecifier name) a b l e = ap (named_so _) e
-specifier_stays source Kind.ImportDefaultSpecifier a b l e = ap (named_so _) e
-specifier_stays source Kind.ImportNamespaceSpecifier a b l e = ap (named_so _) e
-specifier_stays source k a b l e = refl
+specifier_stays : {us : Purposes} (source : Text) (k : Kind) (a b : Forest) (l : List Decl) → Local us (row_below k) a b → specifier_decls source k a l ≡ specifier_decls source k b l
+specifier_stays source (Kind.ImportSpecifier name) a b l s = ap (named_so _) (same_name s)
+specifier_stays source Kind.ImportDefaultSpecifier a b l s = ap (named_so _) (same_name s)
+specifier_stays source Kind.ImportNamespaceSpecifier a b l s = ap (named_so _) (same_name s)
+specifier_stays source k a b l s = refl
 
 same_imports : {us : Purposes} {o : Row} {t u : Forest} (source : Text) → Local us o t u → import_decls source t ≡ import_decls source u
 same_imports source (at_place {r = r} c p) = ap (λ v. v ++ import_decls source r) (p.imports source)
 same_imports source (behind_jump {k = k} {a = a} j c) = ap (λ v. specifier_decls source k a (import_decls source a) ++ v) (cut_imports source c)
-same_imports source (in_below {k = k} {a = a} {b = b} {r = r} q s) = ap (λ v. v ++ import_decls source r) (ap (specifier_decls source k a) (same_imports source s) ∙ specifier_stays source k a b (import_decls source b) (same_name s))
+same_imports source (leaves_list {r = r} i d) = ap (λ v. v ++ import_decls source r) (d.imports source)
+same_imports source (in_below {k = k} {a = a} {b = b} {r = r} q s) = ap (λ v. v ++ import_decls source r) (ap (specifier_decls source k a) (same_imports source s) ∙ specifier_stays source k a b (import_decls source b) s)
 same_imports source (in_rest {k = k} {a = a} s) = ap (λ v. specifier_decls source k a (import_decls source a) ++ v) (same_imports source s)
 same_imports source (in_absent s) = same_imports source s
 
-items_stay : {us : Purposes} {o : Row} (k : Kind) (a b : Forest) (l : List Decl) → Local us o a b → item_decls k a l ≡ item_decls k b l
+items_stay : {us : Purposes} (k : Kind) (a b : Forest) (l : List Decl) → Local us (row_below k) a b → item_decls k a l ≡ item_decls k b l
 items_stay (Kind.VariableDeclaration variable.Let) a b l s = ap (all_so (waiting false)) (same_bound s)
 items_stay (Kind.VariableDeclaration variable.Const) a b l s = ap (all_so (waiting true)) (same_bound s)
 items_stay (Kind.VariableDeclaration variable.Var) a b l s = refl
@@ -158,23 +160,22 @@ items_stay k a b l s = refl
 pub same_lexical : {us : Purposes} {o : Row} {t u : Forest} → Local us o t u → lexical t ≡ lexical u
 same_lexical (at_place {k = k} {l = l} {a = a} {b = b} {r = r} c p) = ap (λ v. v ++ lexical r) (items_of k a (lexical a) (old_node c) ∙ sym (items_of l b (lexical b) (new_node c)))
 same_lexical (behind_jump {k = k} {a = a} j c) = ap (λ v. item_decls k a (lexical a) ++ v) (cut_lexical c)
+same_lexical (leaves_list {k = k} {a = a} {r = r} i d) = ap (λ v. v ++ lexical r) (items_of k a (lexical a) i.hoists)
 same_lexical (in_below {k = k} {a = a} {b = b} {r = r} q s) = ap (λ v. v ++ lexical r) (ap (item_decls k a) (same_lexical s) ∙ items_stay k a b (lexical b) s)
 same_lexical (in_rest {k = k} {a = a} s) = ap (λ v. item_decls k a (lexical a) ++ v) (same_lexical s)
 same_lexical (in_absent s) = same_lexical s
 
 -- of the first field, and behind it
 
-first_bound : {us : Purposes} {o : Row} {t u : Forest} → Local us o t u → bound_names (first_of t) ≡ bound_names (first_of u)
+first_bound : {us : Purposes} {t u : Forest} → Local us fields t u → bound_names (first_of t) ≡ bound_names (first_of u)
 first_bound (at_place {us = us} {n = n} {m = m} {r = r} c p) = same_bound {o = fields} (at_place {us = all (purpose_here us (is_row r))} {n = n} {m = m} {r = nothing} c p)
 first_bound (in_below {us = us} {n = n} {r = r} q s) = same_bound {o = fields} (in_below {us = all (purpose_here us (is_row r))} {n = n} {r = nothing} q s)
-first_bound (behind_jump j c) = refl
 first_bound (in_rest s) = refl
 first_bound (in_absent s) = refl
 
-first_lexical : {us : Purposes} {o : Row} {t u : Forest} → Local us o t u → lexical (first_of t) ≡ lexical (first_of u)
+first_lexical : {us : Purposes} {t u : Forest} → Local us fields t u → lexical (first_of t) ≡ lexical (first_of u)
 first_lexical (at_place {us = us} {n = n} {m = m} {r = r} c p) = same_lexical {o = fields} (at_place {us = all (purpose_here us (is_row r))} {n = n} {m = m} {r = nothing} c p)
 first_lexical (in_below {us = us} {n = n} {r = r} q s) = same_lexical {o = fields} (in_below {us = all (purpose_here us (is_row r))} {n = n} {r = nothing} q s)
-first_lexical (behind_jump j c) = refl
 first_lexical (in_rest s) = refl
 first_lexical (in_absent s) = refl
 
@@ -204,7 +205,7 @@ decls_stay {us = us} f {t} {u} s =
     ∙ ap (λ bs. code_decls f (var_names (behind (behind u))) bs (lexical (behind (behind t)))) (behind_same (λ x. bound_names (first_of x)) bound_both us t u s)
     ∙ ap (λ ds. code_decls f (var_names (behind (behind u))) (bound_names (first_of (behind u))) ds) (behind_same (λ x. lexical (behind x)) (behind_same lexical lexical_both) us t u s)
 
-declared_stay : {us : Purposes} {o : Row} (k : Kind) {a b : Forest} → Local us o a b → declared k a ≡ declared k b
+declared_stay : {us : Purposes} (k : Kind) {a b : Forest} → Local us (row_below k) a b → declared k a ≡ declared k b
 declared_stay Kind.BlockStatement s = same_lexical s
 declared_stay Kind.Cases s = same_lexical s
 declared_stay Kind.ForStatement s = first_lexical s
@@ -220,7 +221,7 @@ fits_as_field p st (Kind.Function f pure) b true h y = y
 fits_as_field p st Kind.Cases b true h y = absurd (true_false (sym h))
 fits_as_field p st l b true h y = y
 
-heads_stay : {us : Purposes} {o : Row} (k : Kind) (t : Names) (a b : Forest) → ReadsSame k a b → Local us o a b → Heads k t a b
+heads_stay : {us : Purposes} (k : Kind) (t : Names) (a b : Forest) → ReadsSame k a b → Local us (row_below k) a b → Heads k t a b
 heads_stay Kind.ForStatement t a b q s = subst (Copied t (lexical (first_of a))) (first_lexical s) (same_copied t (lexical (first_of a)))
 heads_stay Kind.ObjectExpression t a b q s = q
 heads_stay k t a b q s = tt
@@ -228,9 +229,8 @@ heads_stay k t a b q s = tt
 decls_from : {ds es : List Decl} (st : Names) → ds ≡ es → Decls st ds es (names_after st es)
 decls_from {ds = ds} {es = es} st e = subst (λ l. Decls st l es (names_after st es)) (sym e) (same_decls st es)
 
-rows_stay : {us : Purposes} {o : Row} {t u : Forest} → Local us o t u → is_row t ≡ is_row u
+rows_stay : {us : Purposes} {t u : Forest} → Local us fields t u → is_row t ≡ is_row u
 rows_stay (at_place c p) = refl
-rows_stay (behind_jump j c) = refl
 rows_stay (in_below q s) = refl
 rows_stay (in_rest s) = refl
 rows_stay (in_absent s) = refl
@@ -268,6 +268,7 @@ mutual
   pub local_near : {us : Purposes} (p : Row) (st : Names) {t u : Forest} → Local us p t u → Fits whole p st u → Near us p st t u
   local_near p st (at_place {n = n} {m = m} {r = r} c z) f = stands_near p st n m r c f.0 f.1
   local_near p st (behind_jump {k = k} {n = n} {a = a} {s = s} j c) f = near.behind_jump j (cut_unreached c) (fit whole items st (node k n a s) f)
+  local_near p st (leaves_list {r = r} i d) f = near.leaves (idle_statement i) (fit whole items st r f)
   local_near p st (in_below {us = us} {k = k} {n = n} {a = a} {b = b} {r = r} q s) f =
       inside k (is_core k) refl q s (fits_with (λ q e t. Near (purposes_of q (wanted_below (purpose_here us (is_row r)) k)) e t (part_of q a) (part_of q b)) p st k b (is_core k) (λ t z. local_near (row_below k) t s z) (λ t e z. local_behind (row_below k) t s e z) f.0) (fit whole p st r f.1)
   local_near p st (in_rest {k = k} {n = n} {a = a} s) f = node_stays p st k n a f.0 (local_near p st s f.1)
@@ -276,6 +277,7 @@ mutual
   local_behind : {us : Purposes} (p : Row) (st : Names) {t u : Forest} → Local us p t u → p ≡ fields → Fits others fields st u → Near (purposes_behind us) fields st (behind t) (behind u)
   local_behind p st (at_place {r = r} c z) e f = fit whole fields st r f
   local_behind p st (behind_jump j c) e f = cc
+  local_behind p st (leaves_list i d) e f = cc
   local_behind p st (in_below {r = r} q s) e f = fit whole fields st r f
   local_behind p st (in_rest {us = us} {r = r} {s = s} x) e f = subst (λ o. Near (purposes_behind us) o st r s) e (local_near p st x (subst (λ o. Fits whole o st s) (sym e) f))
   local_behind p st (in_absent {us = us} {r = r} {s = s} x) e f = subst (λ o. Near (purposes_behind us) o st r s) e (local_near p st x (subst (λ o. Fits whole o st s) (sym e) f))

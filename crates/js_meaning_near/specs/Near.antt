@@ -10,6 +10,7 @@ use Rattle.js_syntax.specs.Facts.{is_core}
 use Rattle.js_syntax.specs.declared.value.LiteralValue.{LiteralValue as Literal}
 use Rattle.js_meaning.specs.Value.{Text, Env, this_name, Plain, Value, plain, literal_value}
 use Rattle.js_meaning.specs.Scope.{waiting, named_so, first_of, behind, first_name, lexical, function_decls, own_name, default_name, module_decls}
+use Rattle.js_meaning.specs.State.{normal, done}
 use Rattle.js_meaning.specs.Host.{Enter}
 use Rattle.js_meaning.specs.Module.{Entry, entry_local, entry_import, entries, stars, requests}
 use Rattle.js_meaning.specs.Node.{Wanted, Ask, run, value, Meaning, now}
@@ -40,32 +41,6 @@ NoField _ = Unit {0}
 -- a function's code of which a call does nothing but give a value
 pub record SilentCode (st : Names) (a : Forest) : Type 0 where
   pub silent_code : (E : Enter) (env : Env) → Binds st env → (this : Value) (vs : List Value) → Quiet (enter_body E function_kind.Declaration a env this vs)
-
--- An item that may leave a list: of statements, or of declarators.
-mutual
-  pub data Idle (st : Names) : Kind → Forest → Type 0 where
-    idle_empty : {a : Forest} → Idle st Kind.EmptyStatement a
-    idle_expression : {k : Kind} {n : Note} {a r : Forest} → Silent st k a → Idle st Kind.ExpressionStatement (node k n a r)
-    idle_no_expression : {a : Forest} → NoField a → Idle st Kind.ExpressionStatement a
-    idle_function : {pure : Bool} {x : Text} {n : Note} {a r : Forest} → Lone (st x) → Idle st (Kind.Function function_kind.Declaration pure) (node (Kind.BindingName x) n a r)
-    idle_declarator : {x : Text} {k : Kind} {n m : Note} {a b r : Forest} → Lone (st x) → Silent st k b → Idle st Kind.VariableDeclarator (node (Kind.BindingName x) n a (node k m b r))
-    idle_bare_declarator : {x : Text} {n : Note} {a r : Forest} → Lone (st x) → Idle st Kind.VariableDeclarator (node (Kind.BindingName x) n a (absent r))
-    idle_cut_declarator : {x : Text} {n : Note} {a : Forest} → Idle st Kind.VariableDeclarator (node (Kind.BindingName x) n a nothing)
-    idle_declaration : {how : VariableKind} {n : Note} {a r : Forest} → AllIdle st a → Idle st (Kind.VariableDeclaration how) (node Kind.Declarators n a r)
-
-  pub data AllIdle (st : Names) : Forest → Type 0 where
-    all_idle : AllIdle st nothing
-    one_idle : {k : Kind} {n : Note} {a r : Forest} → Idle st k a → AllIdle st r → AllIdle st (node k n a r)
-
--- A node, and what may stand in its place.
-pub data Change (st : Names) : Kind → Forest → Kind → Forest → Type 0 where
-  -- a statement that nobody can tell becomes empty
-  statement_emptied : {k : Kind} {n : Note} {a r b : Forest} → Silent st k a → Change st Kind.ExpressionStatement (node k n a r) Kind.EmptyStatement b
-  no_statement_emptied : {a b : Forest} → NoField a → Change st Kind.ExpressionStatement a Kind.EmptyStatement b
-  -- a read of a name that holds a known value
-  value_read : {x : Text} {p : Plain} {v : Literal} {a b : Forest} → st x ≡ known (exactly p) → literal_value v ≡ plain p → Change st (Kind.ReferenceName x) a (Kind.Literal v) b
-  -- a negative number as unary minus on its magnitude (13.5.5), where arithmetic covers it
-  sign_applied : {i : ℕ} {m : Note} {a b r : Forest} → nat_le (suc i) largest ≡ true → Change st (Kind.Literal (Literal.Number (negsuc i))) a (Kind.UnaryExpression UnaryOperator.UnaryNegation) (node (Kind.Literal (Literal.Number (pos (suc i)))) m b r)
 
 -- expressions that start nothing and declare nothing, and that don't ask what they are wanted for
 abbrev pub is_blunt : Kind → Bool
@@ -111,6 +86,38 @@ hoists_nothing Kind.ParenthesizedExpression = true
 hoists_nothing (Kind.Function function_kind.Expression pure) = true
 hoists_nothing (Kind.Function function_kind.Arrow pure) = true
 hoists_nothing k = is_calm k
+
+-- A statement that does nothing, whatever its labels and the names around.
+pub record DoesNothing (k : Kind) (a : Forest) : Type 0 where
+  pub hoists : hoists_nothing k ≡ true
+  pub nothing_done : (E : Enter) (q : Ask) (env : Env) → Leads (meaning E k a q env) (done normal)
+
+-- An item that may leave a list: of statements, or of declarators.
+mutual
+  pub data Idle (st : Names) : Kind → Forest → Type 0 where
+    idle_empty : {a : Forest} → Idle st Kind.EmptyStatement a
+    idle_expression : {k : Kind} {n : Note} {a r : Forest} → Silent st k a → Idle st Kind.ExpressionStatement (node k n a r)
+    idle_no_expression : {a : Forest} → NoField a → Idle st Kind.ExpressionStatement a
+    idle_statement : {k : Kind} {a : Forest} → DoesNothing k a → Idle st k a
+    idle_function : {pure : Bool} {x : Text} {n : Note} {a r : Forest} → Lone (st x) → Idle st (Kind.Function function_kind.Declaration pure) (node (Kind.BindingName x) n a r)
+    idle_declarator : {x : Text} {k : Kind} {n m : Note} {a b r : Forest} → Lone (st x) → Silent st k b → Idle st Kind.VariableDeclarator (node (Kind.BindingName x) n a (node k m b r))
+    idle_bare_declarator : {x : Text} {n : Note} {a r : Forest} → Lone (st x) → Idle st Kind.VariableDeclarator (node (Kind.BindingName x) n a (absent r))
+    idle_cut_declarator : {x : Text} {n : Note} {a : Forest} → Idle st Kind.VariableDeclarator (node (Kind.BindingName x) n a nothing)
+    idle_declaration : {how : VariableKind} {n : Note} {a r : Forest} → AllIdle st a → Idle st (Kind.VariableDeclaration how) (node Kind.Declarators n a r)
+
+  pub data AllIdle (st : Names) : Forest → Type 0 where
+    all_idle : AllIdle st nothing
+    one_idle : {k : Kind} {n : Note} {a r : Forest} → Idle st k a → AllIdle st r → AllIdle st (node k n a r)
+
+-- A node, and what may stand in its place.
+pub data Change (st : Names) : Kind → Forest → Kind → Forest → Type 0 where
+  -- a statement that nobody can tell becomes empty
+  statement_emptied : {k : Kind} {n : Note} {a r b : Forest} → Silent st k a → Change st Kind.ExpressionStatement (node k n a r) Kind.EmptyStatement b
+  no_statement_emptied : {a b : Forest} → NoField a → Change st Kind.ExpressionStatement a Kind.EmptyStatement b
+  -- a read of a name that holds a known value
+  value_read : {x : Text} {p : Plain} {v : Literal} {a b : Forest} → st x ≡ known (exactly p) → literal_value v ≡ plain p → Change st (Kind.ReferenceName x) a (Kind.Literal v) b
+  -- a negative number as unary minus on its magnitude (13.5.5), where arithmetic covers it
+  sign_applied : {i : ℕ} {m : Note} {a b r : Forest} → nat_le (suc i) largest ≡ true → Change st (Kind.Literal (Literal.Number (negsuc i))) a (Kind.UnaryExpression UnaryOperator.UnaryNegation) (node (Kind.Literal (Literal.Number (pos (suc i)))) m b r)
 
 -- what a node may be asked of which this is wanted
 abbrev pub Permits : Wanted → Ask → Type 0

@@ -67,7 +67,7 @@ pub fn what_avoids_a_name_fits()
         PlainBut x st → (bindings ≡ false → Fillable (st x)) → Avoids bindings x q p a → Fits q p st a }
 {}
 
-/// A module in which an expression comes to one of its parts, or a statement behind a jump is gone, anywhere, refines the one before.
+/// A module in which an expression comes to a part of it, or a statement is gone behind a jump or that does nothing, refines the one before.
 pub fn a_local_change_refines()
     ensures { (n m : Note) (a b : Forest) → Local for_values items a b → InPlace whole items b → entries a ≡ entries b → stars a ≡ stars b → requests a ≡ requests b → Refined (module_of n m a) (module_of n m b) }
 {}
