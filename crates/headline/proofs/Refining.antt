@@ -4,6 +4,8 @@ use Rattle.js_syntax.specs.Class.{root}
 use Rattle.js_syntax.specs.Node.{Forest, Tree, bare}
 use Rattle.js_meaning.specs.Kept.{Refined}
 use Rattle.js_meaning_near.specs.Near.{fields, module_of}
+use Rattle.js_meaning_near.specs.Purpose.{for_values}
+use Rattle.js_meaning_near.specs.Local.{Local}
 use Rattle.js_meaning_near.specs.Avoid.{InPlace}
 use Rattle.js_meaning_near.specs.Fit.{whole}
 use Rattle.js_meaning_near.proofs.Near.{refines_with_other_notes}
@@ -18,10 +20,10 @@ use Rattle.steps_fit.specs.Sensible.{IsSensible, IsSensibleModule}
 use Rattle.steps_fit.proofs.Sensible.{of_module, module_renoted}
 use Rattle.steps_owed.specs.Comes.{Comes}
 use Rattle.steps_owed.specs.Good.{Good}
-use Rattle.steps_owed.specs.Owed.{LeavesRuns, by_going, by_jump, SameRuns, by_step, by_coming}
+use Rattle.steps_owed.specs.Owed.{LeavesRuns, by_going, by_change, SameRuns, by_step, by_coming}
 use Rattle.steps_owed.proofs.Edited.{edit_sensible}
 use Rattle.steps_owed.proofs.Here.{good_module}
-use Rattle.steps_owed.proofs.JumpRuns.{core_left, still_module, cut_refines}
+use Rattle.steps_owed.proofs.LeftRuns.{core_left, still_module, left_refines}
 use Rattle.steps_owed.proofs.Owed.{leaving, becoming}
 use Rattle.steps_owed.proofs.PartRuns.{core_stays, parts_stay_modules, comes_refines}
 use Rattle.headline.proofs.Sound.{Refines, step_refines, refines_joined}
@@ -61,14 +63,14 @@ becomes_refines a x y (by_coming comes) h g =
 -- an item that leaves
 leaves_refines : (a : Around) (x : Tree) → LeavesRuns a x → IsSensibleModule (plug a (Some x)) → IsSensible (without a) → Refines (plug a (Some x)) (without a)
 leaves_refines a x (by_going step) h g = stepped (plug a (Some x)) (without a) step h g
-leaves_refines a x (by_jump unreached calm declares) h g =
+leaves_refines a x (by_change change) h g =
     let fits = subst (Fits root) h.is h.sensible.fits in
     let core = subst (λ t. all_core t ≡ true) h.is h.core in
-    let nothing_declared = declares h.note h.list_note h.items h.is fits (subst IsWellFormed h.is h.sensible.well_formed) core in
-    let still = still_module h.note h.list_note h.items a x h.is unreached calm nothing_declared fits in
+    let here = subst (λ t. Local for_values fields t (without a)) h.is (change h.note h.list_note h.items h.is fits (subst IsWellFormed h.is h.sensible.well_formed) core) in
+    let still = still_module h.note h.list_note h.items (without a) here in
     record {
       left = of_module (without a) (record { note = h.note; list_note = h.list_note; items = still.changed; is = still.is }) (core_left x a h.core) g;
-      refined = subst (λ t. Refined t (without a)) (sym h.is) (cut_refines h.note h.list_note h.items a x h.is unreached calm nothing_declared fits core g.fits g.well_formed);
+      refined = subst (λ t. Refined t (without a)) (sym h.is) (left_refines h.note h.list_note h.items a x h.is here core g.fits g.well_formed);
     }
 
 edit_refines : (t u : Forest) → Edit t u → IsSensibleModule t → Refines t u

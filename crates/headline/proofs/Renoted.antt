@@ -49,15 +49,17 @@ use Rattle.steps_allowed.specs.KnownOperation.{KnownOperation, value_is_known}
 use Rattle.steps_allowed.specs.Branches.{declares_none}
 use Rattle.steps_allowed.specs.KnownIf.{KnownIf}
 use Rattle.steps_allowed.specs.DeadIf.{DeadIf}
+use Rattle.steps_allowed.specs.EmptyBlock.{holds_nothing, EmptyBlock, empty_block_leaves}
 use Rattle.steps_allowed.specs.Unreached.{is_behind_jump, Unreached, never_runs}
 use Rattle.steps_owed.proofs.ExposedBare.{bare_inside, bare_below, bare_exposed}
 use Rattle.steps_owed.proofs.Focus.{follows_there}
-use Rattle.headline.specs.Clean.{IsDead, an_empty_statement, a_silent_statement, an_unused_function, an_unused_declarator, an_unused_import, a_known_conditional, a_known_side, an_unused_operation, an_unused_list, an_indirect_choice, a_one_sided_choice, idle_parts, two_sides, an_unused_object, a_known_operation, a_known_if, a_dead_if, an_unreached_statement, CleanBut}
+use Rattle.headline.specs.Clean.{IsDead, an_empty_statement, an_empty_block, a_silent_statement, an_unused_function, an_unused_declarator, an_unused_import, a_known_conditional, a_known_side, an_unused_operation, an_unused_list, an_indirect_choice, a_one_sided_choice, idle_parts, two_sides, an_unused_object, a_known_operation, a_known_if, a_dead_if, an_unreached_statement, CleanBut}
 use Rattle.headline.proofs.RenotedUnused.{stands_as, needed_as, child_as, list_as}
 use Rattle.headline.proofs.RenotedChoice.{counts_as}
 use Rattle.headline.proofs.RenotedParts.{side_as, sequence_as}
 use Rattle.headline.proofs.RenotedSides.{two_sides_as, object_as}
 use Rattle.headline.proofs.RenotedKnown.{known_as, truth_as, side_as as known_side_as}
+use Rattle.steps_owed.proofs.EmptyBlock.{holds_bare}
 use Rattle.headline.proofs.RenotedIf.{declares_bare, known_if_as, dead_if_as}
 
 -- ---- sites without ids and spans
@@ -679,6 +681,13 @@ module _ (unused imports : Bool) (t u : Forest) (e : bare t ≡ bare u) (clean :
       let z = dead_if_as o.note o.below x y o.same dead in
       clean.nothing_is_dead o.around (Some now) o.is (a_dead_if o.around now z.0 z.1)
 
+  no_block : (a : Around) (x : Tree) → u ≡ plug a (Some x) → EmptyBlock a x → ⊥
+  no_block a x is (empty_block_leaves item nothing_held) =
+      let o = other_place a x.kind x.note x.below is in
+      let now : Tree = record { kind = x.kind; note = o.note; below = o.below } in
+      let same = unseen (holds_nothing x.kind) (holds_bare x.kind) o.below x.below o.same in
+      clean.nothing_is_dead o.around (Some now) o.is (an_empty_block o.around now (empty_block_leaves (item_as a o item) (same ∙ nothing_held)))
+
   no_unreached : (a : Around) (x : Tree) → u ≡ plug a (Some x) → Unreached a x → ⊥
   no_unreached a x is (never_runs item jump runs none) =
       let o = other_place a x.kind x.note x.below is in
@@ -688,6 +697,7 @@ module _ (unused imports : Bool) (t u : Forest) (e : bare t ≡ bare u) (clean :
 
   none_dead : (a : Around) (x : Option Tree) → u ≡ plug a x → IsDead unused imports u a x → ⊥
   none_dead a x is (an_empty_statement b n item) = no_empty b n is item
+  none_dead a x is (an_empty_block b y held) = no_block b y is held
   none_dead a x is (a_silent_statement b n below silent) = no_silent b n below is silent
   none_dead a x is (an_unused_function b pure n m y rest goes item own free) = no_function b pure n m y rest is goes item own free
   none_dead a x is (an_unused_declarator b n m y value goes item own silent free) = no_declarator b n m y value is goes item own silent free

@@ -36,6 +36,8 @@ use Rattle.steps_allowed.specs.KnownOperation.{KnownOperation}
 -- and an `if` on a test that is known, and the branch that runs, or nothing
 use Rattle.steps_allowed.specs.KnownIf.{KnownIf}
 use Rattle.steps_allowed.specs.DeadIf.{DeadIf}
+-- and a block of nothing
+use Rattle.steps_allowed.specs.EmptyBlock.{EmptyBlock}
 -- and a statement behind a jump in its list
 use Rattle.steps_allowed.specs.Unreached.{Unreached}
 -- whose names only the tree's references may use
@@ -46,6 +48,8 @@ use Rattle.steps_allowed.specs.Exposure.{IsOwnFunction, IsOwnDeclarator}
 pub data IsDead (unused imports : Bool) (t : Forest) : Around → Option Tree → Type 0 where
   -- an empty statement in a list of statements
   an_empty_statement : (a : Around) (n : Note) → IsItem a → IsDead unused imports t a (a_node empty_statement n nothing)
+  -- a block of nothing in a list of statements, or one behind labels
+  an_empty_block : (a : Around) (x : Tree) → EmptyBlock a x → IsDead unused imports t a (Some x)
   -- a statement, wherever it stands, whose expression is silent there
   a_silent_statement : (a : Around) (n : Note) (below : Forest) → At a (a_node expression_statement n below) (SilentStatement t below) → IsDead unused imports t a (a_node expression_statement n below)
   -- a function declaration in a list of statements, whose name nothing refers to, no export is of and no other code may use

@@ -27,6 +27,7 @@ use Rattle.steps_allowed.specs.KnownConditional.{a_conditional, KnownConditional
 use Rattle.steps_allowed.specs.KnownSide.{right_side_counts, left_side_decides}
 use Rattle.steps_allowed.specs.KnownIf.{an_if, KnownIf, consequent_is_run, alternate_is_run}
 use Rattle.steps_allowed.specs.Unreached.{Unreached, never_runs}
+use Rattle.steps_allowed.specs.EmptyBlock.{EmptyBlock, empty_block_leaves}
 use Rattle.steps_allowed.specs.DeadIf.{DeadIf, nothing_is_run}
 use Rattle.steps_allowed.specs.UnusedOperation.{needed_at, one_operand_acts}
 use Rattle.steps_allowed.specs.UnusedList.{list_becomes, acting_parts_stay}
@@ -36,8 +37,8 @@ use Rattle.steps_allowed.specs.IdleParts.{idle_parts_leave}
 use Rattle.steps_allowed.specs.TwoSides.{both_sides_act}
 use Rattle.steps_allowed.specs.UnusedObject.{acting_values_stay}
 use Rattle.steps_allowed.specs.KnownOperation.{known_literal, value_is_known}
-use Rattle.steps_allowed.specs.Edits.{Edit, leaves, becomes, empty_statement, silent_statement, unused_function, unused_declaration, unused_import, unreached, known_conditional, known_side, known_if, dead_if, unused_operation, unused_list, indirect_choice, one_sided_choice, idle_parts, two_sides, unused_object, known_operation}
-use Rattle.steps_allowed.specs.Rows.{in_list, before, throws, behind_throw, call_of_a, null, if_one, if_null, either_way, conditional, logical, may_be_named, o_f, parenthesized, in_statement, called, called_in_parentheses, called_in_with, argument, operand, applied, equals, assigned, statement, ComesOut, Stays, StaysUnused, array, spread, hole, sequence, ListStays, ChoiceStays, PartsStay, SidesStay, object, a_is, b_is, getter_of_a, ObjectStays, literal, operation, OperationStays, behind_zero, placed, StaysDirect, with_a, in_with_a, empty, a_is_read, a_is_exported, imports_nothing, only_import}
+use Rattle.steps_allowed.specs.Edits.{Edit, leaves, becomes, empty_statement, empty_block, silent_statement, unused_function, unused_declaration, unused_import, unreached, known_conditional, known_side, known_if, dead_if, unused_operation, unused_list, indirect_choice, one_sided_choice, idle_parts, two_sides, unused_object, known_operation}
+use Rattle.steps_allowed.specs.Rows.{labeled, branch_of_if, in_list, before, throws, behind_throw, call_of_a, null, if_one, if_null, either_way, conditional, logical, may_be_named, o_f, parenthesized, in_statement, called, called_in_parentheses, called_in_with, argument, operand, applied, equals, assigned, statement, ComesOut, Stays, StaysUnused, array, spread, hole, sequence, ListStays, ChoiceStays, PartsStay, SidesStay, object, a_is, b_is, getter_of_a, ObjectStays, literal, operation, OperationStays, behind_zero, placed, StaysDirect, with_a, in_with_a, empty, a_is_read, a_is_exported, imports_nothing, only_import}
 
 pub empties_in_list : Edit (a_module (does one ∷ [])) (a_module (empty ∷ []))
 empties_in_list = becomes (before []) _ _ (silent_statement (silent_statement_empties nowhere nowhere nowhere _ nothing (inl refl, tt)))
@@ -446,6 +447,27 @@ text_and_number_stay _ (value_is_known i v _ is) = no_literal is
 
 pub type_of_name_stays : OperationStays argument (applied unary.Typeof (reads a))
 type_of_name_stays _ (value_is_known i v _ is) = no_literal is
+
+pub block_leaves : Edit (a_module (block [] ∷ [])) (a_module [])
+block_leaves = leaves (before []) _ (empty_block (empty_block_leaves refl refl))
+
+pub nested_block_leaves : Edit (a_module (throws one ∷ block (block [] ∷ empty ∷ []) ∷ let_ a ∷ [])) (a_module (throws one ∷ let_ a ∷ []))
+nested_block_leaves = leaves (in_list (behind Kind.ThrowStatement nowhere one (first (let_ a)))) _ (empty_block (empty_block_leaves refl refl))
+
+pub labeled_block_leaves : Edit (a_module (labeled (labeled (block [])) ∷ [])) (a_module [])
+labeled_block_leaves = leaves (before []) _ (empty_block (empty_block_leaves refl refl))
+
+pub labeled_empty_leaves : Edit (a_module (labeled empty ∷ [])) (a_module [])
+labeled_empty_leaves = leaves (before []) _ (empty_block (empty_block_leaves refl refl))
+
+pub block_of_call_stays : (items : List Forest) (n : Note) → EmptyBlock (before items) (record { kind = Kind.BlockStatement; note = n; below = listed Kind.Statements (block (does call_of_a ∷ []) ∷ []) }) → ⊥
+block_of_call_stays items n (empty_block_leaves item nothing_held) = true≢false (sym nothing_held)
+
+pub block_of_let_stays : (items : List Forest) (n : Note) → EmptyBlock (before items) (record { kind = Kind.BlockStatement; note = n; below = listed Kind.Statements (let_ a ∷ []) }) → ⊥
+block_of_let_stays items n (empty_block_leaves item nothing_held) = true≢false (sym nothing_held)
+
+pub branch_stays : (x : Tree) → EmptyBlock branch_of_if x → ⊥
+branch_stays x (empty_block_leaves item nothing_held) = absurd cc
 
 pub unreached_call_leaves : Edit (a_module (throws one ∷ does call_of_a ∷ [])) (a_module (throws one ∷ []))
 unreached_call_leaves = leaves behind_throw _ (unreached (never_runs refl refl refl refl))

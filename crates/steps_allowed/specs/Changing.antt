@@ -11,6 +11,7 @@ use Rattle.min_pass.specs.declared.around.Row.TheVariants.{Items as items, Decla
 use Rattle.min_pass.specs.Around.{entered as asked_below, outermost as asked_of_program}
 use Rattle.js_meaning_near.specs.Near.{is_jump}
 use Rattle.steps_allowed.specs.Calls.{begins_with_call}
+use Rattle.steps_allowed.specs.EmptyBlock.{idles}
 use Rattle.steps_allowed.specs.Places.{has_node}
 use Rattle.steps_allowed.specs.Exposure.{Exposure, exposed_inside, exposed_of, shares, function_is_exposed, evaluates_somewhere}
 
@@ -29,7 +30,6 @@ always_stays statements = true
 always_stays declarators = true
 always_stays parameters = true
 always_stays function_body = true
-always_stays block_statement = true
 always_stays (call_expression pure optional) = true
 always_stays arguments = true
 always_stays (binding_name x) = true
@@ -41,6 +41,7 @@ always_stays k = false
 abbrev pub may_change_at : (evaluates : Bool) → Asked → Exposure → Kind → (below : Forest) → Bool
 may_change_at evaluates w e empty_statement below = holds_items w.row
 may_change_at evaluates w e expression_statement below = not (begins_with_call below)
+may_change_at evaluates w e block_statement below = holds_items w.row && idles below
 may_change_at evaluates w e (function function_kind.Declaration pure) below = holds_items w.row && not (function_is_exposed e)
 may_change_at evaluates w e variable_declarator below = holds_declarators w.row && not (e.declared_shared || evaluates)
 may_change_at evaluates w e (variable_declaration how) below = holds_items w.row && not (shares e how || evaluates)

@@ -5,6 +5,7 @@ use Rattle.js_syntax.specs.Node.{Forest, Tree, bare}
 use Rattle.scope_laws.specs.Place.{Around, plug}
 use Rattle.scope_laws.specs.Lists.{without}
 use Rattle.steps_allowed.specs.EmptyStatement.{EmptyStatement}
+use Rattle.steps_allowed.specs.EmptyBlock.{EmptyBlock}
 use Rattle.steps_allowed.specs.UnusedFunction.{UnusedFunction}
 use Rattle.steps_allowed.specs.UnusedDeclarator.{UnusedDeclarator}
 use Rattle.steps_allowed.specs.UnusedDeclaration.{UnusedDeclaration}
@@ -27,6 +28,7 @@ use Rattle.steps_allowed.specs.KnownOperation.{KnownOperation}
 -- which items may leave the list in which they stand
 pub data Leaves (a : Around) (x : Tree) : Type 0 where
   empty_statement : EmptyStatement a x → Leaves a x
+  empty_block : EmptyBlock a x → Leaves a x
   unused_function : UnusedFunction a x → Leaves a x
   unused_declarator : UnusedDeclarator a x → Leaves a x
   unused_declaration : UnusedDeclaration a x → Leaves a x

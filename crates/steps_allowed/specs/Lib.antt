@@ -8,6 +8,7 @@ pub mod Wanted
 pub mod Child
 pub mod Unused
 pub mod EmptyStatement
+pub mod EmptyBlock
 pub mod UnusedFunction
 pub mod UnusedDeclarator
 pub mod UnusedDeclaration

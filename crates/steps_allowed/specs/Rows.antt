@@ -42,6 +42,14 @@ throws e = over Kind.ThrowStatement e
 abbrev pub behind_throw : Around
 behind_throw = in_list (behind Kind.ThrowStatement nowhere one (first nothing))
 
+-- l: statement
+abbrev pub labeled : Forest → Forest
+labeled statement = over (Kind.LabeledStatement (codes "l")) statement
+
+-- the place of the consequent of an `if`
+abbrev pub branch_of_if : Around
+branch_of_if = in_list (under Kind.IfStatement nowhere (behind (Kind.Literal value.Null) nowhere nothing (first no)) nothing)
+
 -- behind this node
 abbrev pub past : Forest → Around → Around
 past (node k n below rest) place = behind k n below place

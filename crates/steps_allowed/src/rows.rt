@@ -20,8 +20,9 @@ ghost use Rattle.steps_allowed.specs.KnownConditional.{a_conditional, KnownCondi
 ghost use Rattle.steps_allowed.specs.KnownIf.{an_if, KnownIf};
 ghost use Rattle.steps_allowed.specs.DeadIf.{DeadIf};
 ghost use Rattle.steps_allowed.specs.Unreached.{Unreached};
+ghost use Rattle.steps_allowed.specs.EmptyBlock.{EmptyBlock};
 ghost use Rattle.steps_allowed.specs.Edits.{Edit};
-ghost use Rattle.steps_allowed.specs.Rows.{before, throws, behind_throw, call_of_a, null, if_one, if_null, either_way, conditional, logical, may_be_named, o_f, parenthesized, called, called_in_parentheses, called_in_with, argument, operand, applied, equals, assigned, statement, ComesOut, Stays, StaysUnused, array, spread, hole, sequence, ListStays, ChoiceStays, PartsStay, SidesStay, object, a_is, b_is, getter_of_a, ObjectStays, literal, operation, OperationStays, behind_zero, placed, StaysDirect, with_a, in_with_a, empty, a_is_read, a_is_exported, imports_nothing};
+ghost use Rattle.steps_allowed.specs.Rows.{before, labeled, branch_of_if, throws, behind_throw, call_of_a, null, if_one, if_null, either_way, conditional, logical, may_be_named, o_f, parenthesized, called, called_in_parentheses, called_in_with, argument, operand, applied, equals, assigned, statement, ComesOut, Stays, StaysUnused, array, spread, hole, sequence, ListStays, ChoiceStays, PartsStay, SidesStay, object, a_is, b_is, getter_of_a, ObjectStays, literal, operation, OperationStays, behind_zero, placed, StaysDirect, with_a, in_with_a, empty, a_is_read, a_is_exported, imports_nothing};
 
 /// A statement of a literal becomes empty, in a list and alone, and leaves the list then.
 pub fn silent_statements_go()
@@ -83,6 +84,17 @@ pub fn dead_ifs_become_empty()
     ensures with_var { (y : Tree) → DeadIf (an_if nowhere (Kind.Literal value.Null) nowhere nothing (joined (block (var_ a ∷ [])) no)) y → ⊥ }
     ensures function { (y : Tree) → DeadIf (an_if nowhere (Kind.Literal value.Null) nowhere nothing (joined (block (function_a [] [] ∷ [])) no)) y → ⊥ }
     ensures acting { (y : Tree) → DeadIf (an_if nowhere (Kind.UnaryExpression unary.LogicalNot) nowhere (array (call_of_a ∷ [])) (joined (does call_of_a) no)) y → ⊥ }
+{}
+
+/// A block of nothing leaves its list, and so does one behind a label, but where a call stands in it; a branch of an `if` stays.
+pub fn blocks_of_nothing_leave()
+    ensures block { Edit (a_module (block [] ∷ [])) (a_module []) }
+    ensures nested { Edit (a_module (throws one ∷ block (block [] ∷ empty ∷ []) ∷ let_ a ∷ [])) (a_module (throws one ∷ let_ a ∷ [])) }
+    ensures labeled { Edit (a_module (labeled (labeled (block [])) ∷ [])) (a_module []) }
+    ensures empty { Edit (a_module (labeled empty ∷ [])) (a_module []) }
+    ensures call { (items : List Forest) (n : Note) → EmptyBlock (before items) (record { kind = Kind.BlockStatement; note = n; below = listed Kind.Statements (block (does call_of_a ∷ []) ∷ []) }) → ⊥ }
+    ensures let_ { (items : List Forest) (n : Note) → EmptyBlock (before items) (record { kind = Kind.BlockStatement; note = n; below = listed Kind.Statements (let_ a ∷ []) }) → ⊥ }
+    ensures branch { (x : Tree) → EmptyBlock branch_of_if x → ⊥ }
 {}
 
 /// A statement behind a jump leaves its list, whatever stands between, unless it declares a name around it. Declarations stay, and so

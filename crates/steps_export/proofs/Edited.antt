@@ -21,6 +21,7 @@ use Rattle.steps_allowed.specs.Silent.{HoldsThere}
 use Rattle.steps_allowed.specs.Places.{a_node, At}
 use Rattle.steps_allowed.specs.Free.{Free, FreeDeclarator}
 use Rattle.steps_allowed.specs.EmptyStatement.{empty_statement_leaves}
+use Rattle.steps_allowed.specs.EmptyBlock.{holds_nothing, empty_block_leaves}
 use Rattle.steps_allowed.specs.UnusedFunction.{unused_function_leaves}
 use Rattle.steps_allowed.specs.UnusedDeclarator.{SilentDeclarator, unused_declarator_leaves}
 use Rattle.steps_allowed.specs.UnusedDeclaration.{SilentDeclaration, one_declarator, unused_declaration_leaves}
@@ -29,12 +30,13 @@ use Rattle.steps_allowed.specs.SilentStatement.{SilentStatement, silent_statemen
 use Rattle.steps_allowed.specs.Branches.{declares_none}
 use Rattle.steps_allowed.specs.Unreached.{only_runs, never_runs}
 use Rattle.steps_allowed.specs.DeadIf.{DeadIf, nothing_is_run}
-use Rattle.steps_allowed.specs.Edits.{Leaves, empty_statement, unused_function, unused_declarator, unused_declaration, unused_import, unreached, Becomes, silent_statement, known_conditional, known_side, known_if, dead_if, unused_operation, unused_list, indirect_choice, one_sided_choice, idle_parts, two_sides, unused_object, known_operation, Edit, leaves, becomes, TreeEdits, no_tree_edit, one_tree_edit}
+use Rattle.steps_allowed.specs.Edits.{Leaves, empty_statement, empty_block, unused_function, unused_declarator, unused_declaration, unused_import, unreached, Becomes, silent_statement, known_conditional, known_side, known_if, dead_if, unused_operation, unused_list, indirect_choice, one_sided_choice, idle_parts, two_sides, unused_object, known_operation, Edit, leaves, becomes, TreeEdits, no_tree_edit, one_tree_edit}
 use Rattle.steps_owed.specs.Kept.{is_program}
 use Rattle.steps_owed.specs.Owed.{ByPart, ByParts}
 use Rattle.steps_owed.specs.Part.{DeclaresNothing}
 use Rattle.steps_owed.proofs.ChoiceParts.{parts_of_if}
 use Rattle.steps_owed.proofs.Expressions.{expression_declares_none, expression_declares_nothing}
+use Rattle.steps_owed.proofs.EmptyBlock.{holding_declares_none}
 use Rattle.steps_owed.proofs.FitsEdits.{edit_fits}
 use Rattle.steps_owed.proofs.ImportFacts.{import_facts}
 use Rattle.steps_owed.proofs.Inside.{enclosed_below, enclosed_rest}
@@ -88,6 +90,10 @@ runs_no_program : (k : Kind) (n : Note) (below rest : Forest) → only_runs k �
 runs_no_program (kind.Program source) n below rest h = absurd (true≢false (sym h))
 runs_no_program k n below rest h = refl
 
+block_no_program : (k : Kind) (n : Note) (below rest : Forest) → holds_nothing k below ≡ true → is_program (node k n below rest) ≡ false
+block_no_program (kind.Program source) n below rest h = absurd (true≢false (sym h))
+block_no_program k n below rest h = refl
+
 module _ (e : BindingSite) (top : e.layer.scope ≡ 0) where
   abbrev ExportedBy : Forest → Type 0
   ExportedBy t = IsMarkedAmong (exported_declarations t) e
@@ -116,6 +122,9 @@ module _ (e : BindingSite) (top : e.layer.scope ≡ 0) where
   left a _ (empty_statement (empty_statement_leaves n item)) l fits h =
       settled a (record { kind = kind.EmptyStatement; note = n; below = nothing }) None Anything fits (λ rest. refl) l (anywhere (a_node kind.EmptyStatement n nothing) false (λ at. outermost) 0 0 a)
       (λ w c next some any. gone_stays e kind.EmptyStatement n nothing None c next (empty_gone (plug a (a_node kind.EmptyStatement n nothing)) e h top c next some n)) h
+  left a x (empty_block (empty_block_leaves item nothing_held)) l fits h =
+      settled a x None Anything fits (λ rest. block_no_program x.kind x.note x.below rest nothing_held) l (anywhere (Some x) false (λ at. outermost) 0 0 a)
+      (λ w c next some any. undeclared_stays e top x None (declares_nothing (forest_of x) (holding_declares_none x nothing_held) (enclosed_alone_there a x.kind x.note x.below (fits_enclosed (plug a (Some x)) fits))) c next some) h
   left a _ (unused_function (unused_function_leaves pure n m x rest item own free)) l fits h =
       let k = kind.Function function_kind.Declaration pure in
       let below = node (kind.BindingName x) m nothing rest in

@@ -15,7 +15,6 @@ use Rattle.steps_allowed.specs.Silent.{IsSilentBelow, HoldsThere}
 use Rattle.steps_allowed.specs.Imports.{ImportRow, in_names, elsewhere, import_row_below, import_row}
 use Rattle.steps_allowed.specs.Places.{asked_at}
 use Rattle.steps_owed.specs.Owed.{IsOther, Uncounted}
-use Rattle.steps_allowed.specs.Unreached.{is_behind_jump}
 use Rattle.js_meaning_near.specs.Near.{is_jump}
 use Rattle.std.proofs.lemmas.Bool.{or_cases}
 use Rattle.steps_allowed.specs.Calls.{is_call, begins_with_call, counted, may_end, calls_in, of_list, calls_listed, of_program, root_calls}

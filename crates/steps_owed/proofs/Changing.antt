@@ -15,6 +15,7 @@ use Rattle.js_meaning_near.specs.Near.{is_jump}
 use Rattle.min_pass.specs.declared.around.Row.TheVariants.{Items as items}
 use Rattle.steps_allowed.specs.Unreached.{is_behind_jump}
 use Rattle.steps_owed.proofs.Calling.{bare_begins}
+use Rattle.steps_owed.proofs.EmptyBlock.{bare_idles}
 use Rattle.steps_owed.proofs.ExposedBare.{bare_inside, bare_below, bare_exposed}
 use Rattle.steps_allowed.specs.Exposure.{Exposure, exposed_inside, exposed_of, exposed_at, exposure, evaluates_somewhere}
 use Rattle.steps_allowed.specs.Changing.{holds_items, ends_before, may_change_at, may_change, may_change_somewhere}
@@ -108,6 +109,7 @@ bare_has (absent rest) = bare_has rest
 
 bare_at : (evaluates : Bool) (w : Asked) (e : Exposure) (k : Kind) (below : Forest) → may_change_at evaluates w e k (bare below) ≡ may_change_at evaluates w e k below
 bare_at evaluates w e kind.ExpressionStatement below = ap not (bare_begins below)
+bare_at evaluates w e kind.BlockStatement below = ap (λ b. holds_items w.row && b) (bare_idles below)
 bare_at evaluates w e (kind.Function function_kind.Declaration pure) below = refl
 bare_at evaluates w e k below = refl
 

@@ -1,10 +1,9 @@
 -- What an `if` owes with no branch to take, which becomes empty.
-use Rattle.std.proofs.Common.{inl, ◌≡◌, ◌<◌, [], ◌∷◌, true, false, Some, arith, refl, sym, subst}
+use Rattle.std.proofs.Common.{inl, ◌≡◌, [], true, false, Some, arith, refl, sym, subst}
 use Rattle.js_syntax.specs.Class.{Class, root}
 use Rattle.js_syntax.specs.declared.node_kind.NodeKind.{NodeKind as Kind}
 use Rattle.js_syntax.specs.declared.node_kind.NodeKind.TheVariants.{IfStatement as if_statement, EmptyStatement as empty_statement}
-use Rattle.js_syntax.specs.Facts.{weight}
-use Rattle.js_syntax.specs.Node.{Note, Forest, Tree, nothing, node, absent, alone, forest_of, total}
+use Rattle.js_syntax.specs.Node.{Note, Forest, Tree, nothing, node, absent, forest_of}
 use Rattle.js_syntax.specs.Table.{an_empty_statement}
 use Rattle.js_syntax.proofs.Truth.{both}
 use Rattle.js_meaning.specs.Scope.{import_decls}
@@ -24,7 +23,7 @@ use Rattle.steps_owed.specs.Comes.{Comes}
 use Rattle.steps_owed.specs.Owed.{Becoming, by_coming}
 use Rattle.steps_owed.specs.Part as part
 use Rattle.steps_owed.specs.TakesPlace.{TakesPlace}
-use Rattle.steps_owed.proofs.ChoiceParts.{TestAndBranches, parts_of_if}
+use Rattle.steps_owed.proofs.ChoiceParts.{parts_of_if}
 use Rattle.steps_owed.proofs.ChoiceRuns.{no_imports_below}
 use Rattle.steps_owed.proofs.Expressions.{expression_declares_none}
 use Rattle.steps_owed.proofs.FitsBecoming.{becoming_fits}

@@ -1,5 +1,5 @@
 -- What the edit on names of imports does to a core module is a step.
-use Rattle.std.proofs.Common.{◌≡◌, ℕ, suc, ◌+◌, ◌==◌, Bool, true, false, ◌||◌, true≢false, List, [], if◌then◌else◌, Some, inl, inr, refl, sym, subst}
+use Rattle.std.proofs.Common.{◌≡◌, ℕ, suc, ◌+◌, ◌==◌, Bool, true, false, ◌||◌, true≢false, List, [], if◌then◌else◌, Some, inl, refl, sym, subst}
 use Rattle.std.proofs.lemmas.Bool.{false_from_ne_true}
 use Rattle.js_syntax.specs.declared.node_kind.NodeKind.{NodeKind as Kind}
 use Rattle.js_syntax.specs.declared.kind.FunctionKind.TheVariants as function_kind
@@ -28,7 +28,7 @@ use Rattle.steps_names.proofs.Standing.{declarations_of}
 use Rattle.steps_names.proofs.Unused.{declared, import_unused}
 use Rattle.steps_allowed.specs.Silent.{HoldsThere}
 use Rattle.steps_allowed.specs.Free.{IsFree, FreeDeclarator}
-use Rattle.steps_allowed.specs.Imports.{ImportRow, below_import, in_names, elsewhere, import_row_below, import_row, IsImported}
+use Rattle.steps_allowed.specs.Imports.{below_import, in_names, elsewhere, import_row_below, import_row, IsImported}
 use Rattle.steps_allowed.specs.Places.{At}
 use Rattle.steps_owed.specs.Good.{Good}
 use Rattle.steps_owed.proofs.AsSteps.{of_list}

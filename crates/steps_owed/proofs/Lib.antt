@@ -54,6 +54,9 @@ pub mod KnownSide
 pub mod KnownIf
 pub mod DeadIf
 pub mod Unreached
+pub mod EmptyBlock
+pub mod IdleRuns
+pub mod LeftRuns
 pub mod SilentAnywhere
 pub mod UnusedPlace
 pub mod UnusedOperation

@@ -10,7 +10,6 @@ use Rattle.js_syntax.specs.declared.kind.ClassKind.{ClassKind}
 use Rattle.js_syntax.specs.declared.kind.ClassKind.TheVariants as class_kind
 use Rattle.js_syntax.specs.declared.kind.VariableKind.{VariableKind}
 use Rattle.js_syntax.specs.declared.kind.VariableKind.TheVariants as variable
-use Rattle.js_syntax.specs.declared.value.LiteralValue.{LiteralValue}
 use Rattle.js_syntax.specs.Node.{Forest, Note, nothing, node, absent}
 use Rattle.js_syntax.proofs.Truth.{first_of_both, second_of_both}
 use Rattle.scope_rules.specs.Context.{has_second}

@@ -1,11 +1,12 @@
 -- Every case owes: a line each.
 use Rattle.js_syntax.specs.Node.{Tree}
 use Rattle.scope_laws.specs.Place.{Around}
-use Rattle.steps_allowed.specs.Edits.{Leaves, empty_statement, unused_function, unused_declarator, unused_declaration, unused_import, unreached, Becomes, silent_statement, known_conditional, known_side, known_if, dead_if, unused_operation, unused_list, indirect_choice, one_sided_choice, idle_parts, two_sides, unused_object, known_operation}
+use Rattle.steps_allowed.specs.Edits.{Leaves, empty_statement, empty_block, unused_function, unused_declarator, unused_declaration, unused_import, unreached, Becomes, silent_statement, known_conditional, known_side, known_if, dead_if, unused_operation, unused_list, indirect_choice, one_sided_choice, idle_parts, two_sides, unused_object, known_operation}
 use Rattle.steps_owed.specs.Owed.{Leaving, Becoming}
 use Rattle.steps_owed.proofs.ByPart.{by_part}
 use Rattle.steps_owed.proofs.ByParts.{by_parts}
 use Rattle.steps_owed.proofs.EmptyStatement.{empty_statement_owes}
+use Rattle.steps_owed.proofs.EmptyBlock.{empty_block_owes}
 use Rattle.steps_owed.proofs.UnusedFunction.{unused_function_owes}
 use Rattle.steps_owed.proofs.UnusedDeclarator.{unused_declarator_owes}
 use Rattle.steps_owed.proofs.UnusedDeclaration.{unused_declaration_owes}
@@ -27,6 +28,7 @@ use Rattle.steps_owed.proofs.KnownOperation.{known_operation_owes}
 
 pub leaving : (a : Around) (x : Tree) → Leaves a x → Leaving a x
 leaving a x (empty_statement c) = empty_statement_owes a x c
+leaving a x (empty_block c) = empty_block_owes a x c
 leaving a x (unused_function c) = unused_function_owes a x c
 leaving a x (unused_declarator c) = unused_declarator_owes a x c
 leaving a x (unused_declaration c) = unused_declaration_owes a x c

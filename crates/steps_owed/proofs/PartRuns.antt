@@ -15,7 +15,7 @@ use Rattle.js_meaning_near.specs.Purpose.{Purpose, Purposes, for_values, purpose
 use Rattle.js_meaning_near.specs.Near.{is_calm, hoists_nothing, is_row, Row as NearRow, fields, items, row_below as near_row_below, key_of, keys, module_of}
 use Rattle.js_meaning_near.specs.Fit.{whole}
 use Rattle.js_meaning_near.specs.Avoid.{InPlace}
-use Rattle.js_meaning_near.specs.Local.{ReadsSame, Stands, for_part, for_waste, for_sides, for_sequence, Local, at_place, behind_jump, in_below, in_rest, in_absent}
+use Rattle.js_meaning_near.specs.Local.{ReadsSame, Stands, for_part, for_waste, for_sides, for_sequence, Local, at_place, behind_jump, leaves_list, in_below, in_rest, in_absent}
 use Rattle.js_meaning_near.proofs.Alike.{same_alike, place_alike}
 use Rattle.js_meaning_near.proofs.Instances.{local_change}
 use Rattle.js_meaning_near.proofs.Local.{old_node}
@@ -128,9 +128,10 @@ pub record StillModule (n m : Note) (b u : Forest) : Type 0 where
   pub local : Local for_values items b between
   pub same : bare between ≡ bare changed
 
-not_of_nothing : {us : Purposes} {o : NearRow} {t u : Forest} → Local us o t u → t ≡ nothing → ⊥
+pub not_of_nothing : {us : Purposes} {o : NearRow} {t u : Forest} → Local us o t u → t ≡ nothing → ⊥
 not_of_nothing (at_place c p) e = cc
 not_of_nothing (behind_jump j c) e = cc
+not_of_nothing (leaves_list i d) e = cc
 not_of_nothing (in_below q s) e = cc
 not_of_nothing (in_rest s) e = cc
 not_of_nothing (in_absent s) e = cc

@@ -1,27 +1,26 @@
 -- What a statement behind a jump owes that leaves its list.
-use Rattle.std.proofs.Common.{◌≡◌, ◌∙◌, ◌≤◌, ℕ, ◌==◌, List, [], inl, inr, Bool, true, false, Some, arith, refl, sym, ap, subst, true≢false}
+use Rattle.std.proofs.Common.{◌≡◌, ◌∙◌, ◌≤◌, ℕ, ◌==◌, List, [], inl, inr, true, false, Some, arith, refl, sym, ap, subst, true≢false}
+use Rattle.js_syntax.specs.Class.{root}
 use Rattle.js_syntax.specs.declared.node_kind.NodeKind.{NodeKind as Kind}
 use Rattle.js_syntax.specs.Facts.{weight}
-use Rattle.js_syntax.specs.Node.{Note, Forest, Tree, nothing, node, alone, forest_of, total}
-use Rattle.js_meaning.specs.Value.{Text}
+use Rattle.js_syntax.specs.Node.{Forest, Tree, forest_of}
 use Rattle.js_meaning.specs.Scope.{names_of, bound_names, vars_of, var_names, import_decls}
 use Rattle.js_meaning_near.specs.Near.{is_calm}
-use Rattle.js_meaning_near.specs.Local.{DeclaresNothing}
 use Rattle.js_meaning_near.proofs.Local.{calm_specifier}
 use Rattle.form_rules.specs.declared.sought.Sought.{Sought}
 use Rattle.form_rules.specs.declared.sought.Sought.TheVariants.{CatchScope as catch_scope}
 use Rattle.form_rules.specs.Rules.{Exported}
-use Rattle.json_shape.specs.Shape.{is_directive_kind}
+use Rattle.json_shape.specs.Shape.{is_directive_kind, Fits}
 use Rattle.scope_rules.specs.Context.{Context, outermost}
 use Rattle.scope_laws.specs.Place.{Around, plug}
-use Rattle.steps_allowed.specs.Branches.{declares_none}
 use Rattle.steps_allowed.specs.Unreached.{only_runs, Unreached, never_runs}
 use Rattle.steps_keep_form.specs.Sheds.{exports_none}
 use Rattle.steps_keep_form.proofs.Rules.{first_empty}
 use Rattle.steps_keep_runs.proofs.Lists.{no_vars}
 use Rattle.steps_names.specs.Placed.{Place, declared, cases, others, place_below}
-use Rattle.steps_owed.specs.Owed.{IsUnexported, by_jump, Leaving}
+use Rattle.steps_owed.specs.Owed.{IsUnexported, by_change, Leaving}
 use Rattle.steps_owed.specs.Seeking.{Seeks}
+use Rattle.steps_owed.proofs.JumpRuns.{cut_is_local}
 use Rattle.steps_owed.proofs.ChoiceRuns.{no_imports_below}
 use Rattle.steps_owed.proofs.Focus.{always, follows_there}
 use Rattle.steps_owed.proofs.Outward.{declares_nothing}
@@ -62,7 +61,7 @@ runs_weigh k h = (of_kind k h).weighs
 
 -- ---- what is sought there
 
-no_catch : (t : Forest) (s : Sought) (es : List Exported) (c : Context) → Seeks t s es c → is_catch s ≡ false
+pub no_catch : (t : Forest) (s : Sought) (es : List Exported) (c : Context) → Seeks t s es c → is_catch s ≡ false
 no_catch t (catch_scope f) es c h = absurd h
 no_catch t s es c h = refl
 
@@ -81,9 +80,9 @@ unreached_owes a x (never_runs item jump runs none) =
       unexported = follows_there (λ b c i. Unit {0}) (IsUnexported (plug a (Some x)) x)
           (λ b c i h z within right seeks. ap (exports_none z.exported) (nothing_declared z.sought 0 (forest_of x) (outside_as z.sought (forest_of x) (no_catch (plug a (Some x)) z.sought z.exported c seeks)) none)) (Some x) a false (λ at. outermost) 0 0
           (always (Some x) a false (λ at. outermost) 0 0);
-      runs = by_jump (item, jump) kind.calm (λ n m b is fits form core. record {
+      runs = by_change (λ n m b is fits form core. cut_is_local x kind.calm (record {
         bound = first_empty (names_of x.kind (bound_names x.below)) [] (no_names (forest_of x) none);
         vars = first_empty (vars_of x.kind x.below (var_names x.below)) [] (no_vars (forest_of x) (no_names (forest_of x) none));
         imports = λ source. calm_specifier source x.kind x.below (import_decls source x.below) kind.calm ∙ no_imports_below n m b a x x is fits form core x.kind refl kind.calm kind.leads source;
-      });
+      }) a (item, jump) (subst (Fits root) (sym is) fits));
     }

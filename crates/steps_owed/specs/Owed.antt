@@ -7,8 +7,9 @@ use Rattle.js_syntax.specs.Facts.{weight}
 use Rattle.js_syntax.specs.Node.{Forest, Tree, Note, alone, total, forest_of}
 use Rattle.js_tree.specs.Count.{levels}
 use Rattle.js_tree.specs.Names.{eval_name}
-use Rattle.js_meaning_near.specs.Near.{is_calm, module_of}
-use Rattle.js_meaning_near.specs.Local as local
+use Rattle.js_meaning_near.specs.Near.{fields, module_of}
+use Rattle.js_meaning_near.specs.Local.{Local}
+use Rattle.js_meaning_near.specs.Purpose.{for_values}
 use Rattle.js_rebuilt.specs.Rebuilt.{Rebuilt}
 use Rattle.form_rules.specs.Form.{IsWellFormed}
 use Rattle.form_rules.specs.Rules.{is_bare_name}
@@ -72,12 +73,11 @@ IsUnexported t x in_with c next =
     (z : shed.Around) → Within t (sites (inside c next x.kind x.below) 0 (next + opens_one x.kind x.below) x.below) → stands_right z.row x.kind x.below ≡ true → Seeks t z.sought z.exported c
     → exports_none z.exported (declared z.sought 0 (alone x.kind x.note x.below)) ≡ true
 
--- How it is known that a core module does what it did without an item: it is a step, for which runs are kept, or the item stands behind
--- a jump and neither starts nor declares anything.
+-- How it is known that a core module does what it did without an item: it is a step, for which runs are kept, or a change that no run
+-- shows, whatever is known of names.
 pub data LeavesRuns (a : Around) (x : Tree) : Type 0 where
   by_going : (is_well_placed (plug a (Some x)) ≡ true → Good (plug a (Some x)) → Step steps.outermost (plug a (Some x)) (without a)) → LeavesRuns a x
-  by_jump : IsUnreachedItem a → is_calm x.kind ≡ true → ((n m : Note) (b : Forest) → plug a (Some x) ≡ module_of n m b → Fits root (module_of n m b) → IsWellFormed (module_of n m b) → all_core (module_of n m b) ≡ true → local.DeclaresNothing x.kind x.below)
-      → LeavesRuns a x
+  by_change : ((n m : Note) (b : Forest) → plug a (Some x) ≡ module_of n m b → Fits root (module_of n m b) → IsWellFormed (module_of n m b) → all_core (module_of n m b) ≡ true → Local for_values fields (plug a (Some x)) (without a)) → LeavesRuns a x
 
 -- An item that leaves its list.
 pub record Leaving (a : Around) (x : Tree) : Type 0 where

@@ -4,7 +4,7 @@ use Rattle.std.proofs.lemmas.Bool.{and_parts, eqb-true}
 use Rattle.js_syntax.specs.declared.node_kind.NodeKind.{NodeKind as Kind}
 use Rattle.js_syntax.specs.declared.node_kind.NodeKind.TheVariants as kind
 use Rattle.js_syntax.specs.Class.{root}
-use Rattle.js_syntax.specs.Node.{Forest, Tree, Note, node, forest_of}
+use Rattle.js_syntax.specs.Node.{Forest, Tree, Note, nothing, node, absent, forest_of}
 use Rattle.js_syntax.proofs.Truth.{first_of_either, second_of_either, first_of_neither, second_of_neither, neither}
 use Rattle.js_tree.specs.Names.{eval_name, eval_of_call}
 use Rattle.json_shape.specs.Shape.{Fits}
@@ -17,6 +17,7 @@ use Rattle.scope_laws.specs.Place.{Around, first, under}
 use Rattle.scope_laws.specs.Lists.{without}
 use Rattle.steps_fit.proofs.Modules.{fits_program, ends}
 use Rattle.steps_allowed.specs.EmptyStatement.{empty_statement_leaves}
+use Rattle.steps_allowed.specs.EmptyBlock.{is_idle, idles, holds_nothing, empty_block_leaves}
 use Rattle.steps_allowed.specs.UnusedFunction.{unused_function_leaves}
 use Rattle.steps_allowed.specs.UnusedDeclarator.{unused_declarator_leaves}
 use Rattle.steps_allowed.specs.UnusedDeclaration.{unused_declaration_leaves}
@@ -26,6 +27,7 @@ use Rattle.steps_allowed.specs.Edits as edits
 use Rattle.steps_allowed.specs.Edits.{Leaves}
 use Rattle.steps_allowed.specs.Exposure.{Exposure, exposed_inside, exposed_at, exposed_of, exposure, evaluates_somewhere, shares}
 use Rattle.steps_owed.specs.Kept.{is_program}
+use Rattle.steps_owed.proofs.IdleRuns.{held}
 use Rattle.steps_owed.proofs.ImportFacts.{import_facts}
 use Rattle.steps_marked.specs.Flags.{is_within}
 use Rattle.steps_marked.proofs.Cuts.{edit_cuts}
@@ -106,8 +108,34 @@ unless : (b c : Bool) → (b ≡ true → c ≡ true) → c ≡ false → b ≡ 
 unless true c f e = absurd (true≢false (sym (f refl) ∙ e))
 unless false c f e = refl
 
+-- what holds nothing holds no call
+idle_calls_none : (k : Kind) (below : Forest) → is_idle k ≡ true → eval_of_call k below ≡ None
+idle_calls_none kind.EmptyStatement below h = refl
+idle_calls_none kind.Statements below h = refl
+idle_calls_none kind.BlockStatement below h = refl
+idle_calls_none (kind.LabeledStatement l) below h = refl
+idle_calls_none k below h = absurd (true≢false (sym h))
+
+idles_call_none : (t : Forest) → idles t ≡ true → has_eval t ≡ false
+idles_call_none nothing h = refl
+idles_call_none (absent rest) h = idles_call_none rest h
+idles_call_none (node k n below rest) h =
+    let o = held k below rest h in
+    neither (has_call k below) (has_eval rest) (neither (is_some (eval_of_call k below)) (has_eval below) (ap is_some (idle_calls_none k below o.idle)) (idles_call_none below o.below)) (idles_call_none rest o.rest)
+
+block_calls_none : (k : Kind) (below : Forest) → holds_nothing k below ≡ true → has_call k below ≡ false
+block_calls_none kind.BlockStatement below h = idles_call_none below h
+block_calls_none (kind.LabeledStatement l) below h = idles_call_none below h
+block_calls_none k below h = absurd (true≢false (sym h))
+
+block_no_name : (k : Kind) (n : Note) (below rest : Forest) → holds_nothing k below ≡ true → is_some (eval_name (node k n below rest)) ≡ true → false ≡ true
+block_no_name kind.BlockStatement n below rest h e = e
+block_no_name (kind.LabeledStatement l) n below rest h e = e
+block_no_name k n below rest h e = h
+
 no_call : (a : Around) (x : Tree) → Leaves a x → is_behind_jump false a ≡ false → Fits root (places.plug a (Some x)) → has_call x.kind x.below ≡ false
 no_call a x (edits.empty_statement (empty_statement_leaves n item)) front fits = refl
+no_call a x (edits.empty_block (empty_block_leaves item nothing_held)) front fits = block_calls_none x.kind x.below nothing_held
 no_call a x (edits.unused_function (unused_function_leaves pure n m name rest item own free)) front fits =
     let e = exposure a (Some x) in unless (has_call x.kind x.below) e.evaluates (there a x fits) (second_of_neither e.names_shared e.evaluates (first_of_neither (e.names_shared || e.evaluates) e.in_sloppy_block own))
 no_call a x (edits.unused_declarator (unused_declarator_leaves n m name value item other own silent free)) front fits =
@@ -120,6 +148,7 @@ no_call a x (edits.unreached (never_runs item jump runs none)) front fits = absu
 -- and it isn't the name that is called
 no_name : (a : Around) (x : Tree) → Leaves a x → is_behind_jump false a ≡ false → (rest : Forest) → is_some (eval_name (node x.kind x.note x.below rest)) ≡ true → false ≡ true
 no_name a x (edits.empty_statement (empty_statement_leaves n item)) front rest e = e
+no_name a x (edits.empty_block (empty_block_leaves item nothing_held)) front rest e = block_no_name x.kind x.note x.below rest nothing_held e
 no_name a x (edits.unused_function (unused_function_leaves pure n m name below item own free)) front rest e = e
 no_name a x (edits.unused_declarator (unused_declarator_leaves n m name value item other own silent free)) front rest e = e
 no_name a x (edits.unused_declaration (unused_declaration_leaves how n m l j name value item own silent free)) front rest e = e
