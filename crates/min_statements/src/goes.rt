@@ -5,6 +5,7 @@ ghost use Rattle.js_syntax.specs.declared.node_kind.NodeKind.TheVariants.{Variab
 ghost use Rattle.min_pass.specs.Pass as pass;
 ghost use Rattle.rules_dead_code.specs.Rules as rules;
 
+use crate::blocks::idles;
 use crate::facts::{Facts, Where};
 use crate::names::{function_is_unused, scope_of, symbol_of, variable_is_unused};
 use js_effects::none_has_side_effects;
@@ -145,6 +146,8 @@ pub(crate) fn item_goes(facts: &Facts, at: Where, node: &Node) -> bool
 {
     match node.kind() {
         NodeKind::EmptyStatement => true,
+        NodeKind::BlockStatement => idles(node.children()),
+        NodeKind::LabeledStatement(_) => idles(node.children()),
         NodeKind::ExpressionStatement => is_silent_statement(facts, at, node),
         NodeKind::Function { kind, .. } => function_goes(facts, at, *kind, node),
         NodeKind::VariableDeclaration(how) => declaration_goes(facts, at, *how, node.children()),

@@ -3,11 +3,11 @@ use Rattle.std.proofs.Common.{◌≡◌, ◌↔◌, Option}
 use Rattle.js_syntax.specs.Node.{Forest, Tree}
 use Rattle.scope_laws.specs.Place.{Around, plug}
 use Rattle.scope_counts.specs.Scopes.{unmarked}
-use Rattle.headline.specs.Clean.{CleanBut, IsDead, an_empty_statement, a_silent_statement, an_unused_function, an_unused_declarator, an_unused_import, a_known_conditional, a_known_side, an_unused_operation, an_unused_list, an_indirect_choice, a_one_sided_choice, idle_parts, two_sides, an_unused_object, a_known_operation, a_known_if, a_dead_if, an_unreached_statement}
+use Rattle.headline.specs.Clean.{CleanBut, IsDead, an_empty_statement, an_empty_block, a_silent_statement, an_unused_function, an_unused_declarator, an_unused_import, a_known_conditional, a_known_side, an_unused_operation, an_unused_list, an_indirect_choice, a_one_sided_choice, idle_parts, two_sides, an_unused_object, a_known_operation, a_known_if, a_dead_if, an_unreached_statement}
 use Rattle.rules_dead_code.specs.Knows.{Knows}
 use Rattle.rules_dead_code.specs.Quiet.{Exactly, IsQuiet}
 use Rattle.rules_dead_code.specs.Rules.{Facts}
-use Rattle.rules_dead_code.proofs.Alive.{no_empty_item, no_silent_statement, no_unused_function, no_unused_declarator}
+use Rattle.rules_dead_code.proofs.Alive.{no_empty_item, no_empty_block, no_silent_statement, no_unused_function, no_unused_declarator}
 use Rattle.rules_expressions.specs.Settled.{IsSettled}
 use Rattle.rules_expressions.proofs.Settled.{no_conditional, no_side, no_unused, no_list, no_indirect, no_one_sided, no_sequence, no_two_sides, no_object, no_known, no_known_if, no_dead_if, no_unreached}
 use Rattle.rules_imports.specs.Quiet.{ImportsUsed}
@@ -20,6 +20,7 @@ module _ (f : Facts) (t : Forest) (known : Knows f unmarked t) (exactly : Exactl
   module _ (quiet : IsQuiet f t) (used : ImportsUsed f t) (settled : IsSettled t) where
     none_dead : (a : Around) (x : Option Tree) → t ≡ plug a x → IsDead f.keeps_unused f.keeps_imports t a x → ⊥
     none_dead a x is (an_empty_statement b n item) = no_empty_item f t known exactly quiet a n is item
+    none_dead a x is (an_empty_block b y held) = no_empty_block f t known exactly quiet b y is held
     none_dead a x is (a_silent_statement b n below silent) = no_silent_statement f t known exactly quiet a n below is silent
     none_dead a x is (an_unused_function b pure n m name rest unkept item own free) = no_unused_function f t known exactly quiet a pure n m name rest is unkept item own free
     none_dead a x is (an_unused_declarator b n m name value unkept declares own silent free) = no_unused_declarator f t known exactly quiet a n m name value is unkept declares own silent free

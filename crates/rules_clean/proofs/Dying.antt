@@ -2,7 +2,7 @@
 use Rattle.std.proofs.Common.{◌≡◌, ◌∙◌, ◌==◌, ℕ, List, length, Bool, true, false, not, ◌&&◌, ◌||◌, if◌then◌else◌, true≢false, Option, Some, None, refl, sym, ap, subst}
 use Rattle.std.proofs.lemmas.Bool.{and_parts}
 use Rattle.js_syntax.specs.declared.node_kind.NodeKind.{NodeKind as Kind}
-use Rattle.js_syntax.specs.declared.node_kind.NodeKind.TheVariants.{EmptyStatement as empty_statement, ExpressionStatement as expression_statement, Function as function, VariableDeclaration as variable_declaration, VariableDeclarator as variable_declarator, Declarators as declarators, BindingName as binding_name, Statements as statements}
+use Rattle.js_syntax.specs.declared.node_kind.NodeKind.TheVariants.{EmptyStatement as empty_statement, BlockStatement as block_statement, LabeledStatement as labeled_statement, ExpressionStatement as expression_statement, Function as function, VariableDeclaration as variable_declaration, VariableDeclarator as variable_declarator, Declarators as declarators, BindingName as binding_name, Statements as statements}
 use Rattle.js_syntax.specs.declared.kind.FunctionKind.TheVariants as function_kind
 use Rattle.js_syntax.specs.declared.kind.VariableKind.{VariableKind}
 use Rattle.js_syntax.specs.Node.{Forest, Tree, Note, nothing, node, absent, alone}
@@ -18,12 +18,13 @@ use Rattle.scope_laws.specs.Place.{first, placed}
 use Rattle.scope_counts.specs.Edits as counts
 use Rattle.scope_counts.specs.Edits.{under, plug}
 use Rattle.steps_allowed.specs.Arranged.{are_declarators}
+use Rattle.steps_allowed.specs.EmptyBlock.{holds_nothing, empty_block_leaves}
 use Rattle.steps_allowed.specs.Places.{a_node}
 use Rattle.steps_allowed.specs.SilentStatement.{a_statement}
 use Rattle.steps_allowed.specs.UnusedFunction.{a_function, UnusedFunction, unused_function_leaves}
 use Rattle.steps_allowed.specs.UnusedDeclarator.{a_declarator}
 use Rattle.steps_marked.specs.Flags.{scope_has, is_sloppy_block}
-use Rattle.headline.specs.Clean.{CleanBut, IsDead, an_empty_statement, a_silent_statement, an_unused_function, an_unused_declarator}
+use Rattle.headline.specs.Clean.{CleanBut, IsDead, an_empty_statement, an_empty_block, a_silent_statement, an_unused_function, an_unused_declarator}
 use Rattle.js_syntax.proofs.Truth.{not_true}
 use Rattle.rules_dead_code.specs.Rules.{Facts, Where, has_with, where_of, scope_of, is_unlisted, is_global, function_is_unused, variable_is_unused, is_silent_statement, one_goes, item_has_dead, has_dead}
 use Rattle.rules_dead_code.specs.Knows.{Knows}
@@ -89,6 +90,9 @@ module _ (f : Facts) where
   silent_dead a k n below rest h laid e = wrong e
 
   module _ (p : Place) where
+    block_dead : (a : counts.Around) (x : Tree) (rest : Forest) → IsItems p a → holds_nothing x.kind x.below ≡ true → HasDead f (plug a (node x.kind x.note x.below rest))
+    block_dead a x rest items held = dead_there f a (Some x) rest (an_empty_block (to a (first rest)) x (empty_block_leaves (item_there p a rest items) held))
+
     function_dead : (a : counts.Around) (pure : Bool) (n m : Note) (x : List ℕ) (r rest : Forest) → IsItems p a → function_is_unused f (where_of p) m.id ≡ true → Known f (plug a (node (function function_kind.Declaration pure) n (node (binding_name x) m nothing r) rest))
         → HasDead f (plug a (node (function function_kind.Declaration pure) n (node (binding_name x) m nothing r) rest))
     function_dead a pure n m x r rest items e h =
@@ -120,6 +124,8 @@ module _ (f : Facts) where
     item_dead a empty_statement n nothing rest items l g h = dead_there f a (a_node empty_statement n nothing) rest (an_empty_statement (to a (first rest)) n (item_there p a rest items))
     item_dead a empty_statement n (node k m b r) rest items l g h = wrong l
     item_dead a empty_statement n (absent r) rest items l g h = wrong l
+    item_dead a block_statement n below rest items l g h = block_dead a (record { kind = block_statement; note = n; below = below }) rest items g
+    item_dead a (labeled_statement label) n below rest items l g h = block_dead a (record { kind = labeled_statement label; note = n; below = below }) rest items g
     item_dead a expression_statement n below rest items l g h = silent_dead a expression_statement n below rest h l (subst (λ w. is_silent_statement f w expression_statement below ≡ true) (sym (items_where p a items)) g)
     item_dead a (function function_kind.Declaration pure) n (node (binding_name x) m nothing r) rest items l g h = function_dead a pure n m x r rest items g h
     item_dead a (function function_kind.Declaration pure) n (node (binding_name x) m (node k i b c) r) rest items l g h = wrong l

@@ -2,7 +2,7 @@
 use Rattle.std.proofs.Common.{◌≡◌, ◌∙◌, inl, ◌+◌, ◌==◌, ℕ, suc, List, [], ◌++◌, Bool, true, false, not, ◌&&◌, ◌||◌, if◌then◌else◌, true≢false, Option, Some, None, refl, sym, ap, subst, eqb-true}
 use Rattle.std.proofs.lemmas.Bool.{and_parts, and_from}
 use Rattle.js_syntax.specs.declared.node_kind.NodeKind.{NodeKind as Kind}
-use Rattle.js_syntax.specs.declared.node_kind.NodeKind.TheVariants.{EmptyStatement as empty_statement, ExpressionStatement as expression_statement, Function as function, VariableDeclaration as variable_declaration, VariableDeclarator as variable_declarator, Declarators as declarators, BindingName as binding_name, Statements as statements}
+use Rattle.js_syntax.specs.declared.node_kind.NodeKind.TheVariants.{EmptyStatement as empty_statement, BlockStatement as block_statement, LabeledStatement as labeled_statement, ExpressionStatement as expression_statement, Function as function, VariableDeclaration as variable_declaration, VariableDeclarator as variable_declarator, Declarators as declarators, BindingName as binding_name, Statements as statements}
 use Rattle.js_syntax.specs.declared.kind.FunctionKind.TheVariants as function_kind
 use Rattle.js_syntax.specs.declared.kind.VariableKind.{VariableKind}
 use Rattle.js_syntax.specs.declared.kind.VariableKind.TheVariants as variable
@@ -23,6 +23,7 @@ use Rattle.scope_counts.specs.Edits as counts
 use Rattle.scope_counts.specs.Edits.{here, behind, behind_none, under, plug}
 use Rattle.scope_counts.specs.Scopes.{unmarked}
 use Rattle.steps_names.proofs.Sites.{binding_second}
+use Rattle.steps_allowed.specs.EmptyBlock.{holds_nothing, EmptyBlock, empty_block_leaves}
 use Rattle.steps_allowed.specs.Exposure.{Exposure, exposure, is_script, shares, function_is_exposed, evaluates_somewhere, IsOwnFunction, IsOwnDeclarator}
 use Rattle.steps_allowed.specs.Places.{a_node, asked_at, IsItem, IsDeclarator, At}
 use Rattle.steps_allowed.specs.Free.{Free, FreeDeclarator}
@@ -56,6 +57,12 @@ only_there s script ps at (first rest) x h = h.0
 only_there s script ps at (places.behind k n b a) x h = only_there s script ps (suc at) a x h.2
 only_there s script ps at (places.behind_none a) x h = only_there s script ps (suc at) a x h
 only_there s script ps at (places.under k n a rest) x h = only_there s script (stand_inside (ps at) k n (places.plug a (Some x))) 0 a x h.1
+
+-- what holds nothing goes
+pub held_goes : (f : Facts) (w : Where) (k : Kind) (below : Forest) → holds_nothing k below ≡ true → item_has_dead f w k below ≡ true
+held_goes f w block_statement below h = h
+held_goes f w (labeled_statement label) below h = h
+held_goes f w k below h = absurd (true≢false (sym h))
 
 -- what is to hold of the program
 record Good (f : Facts) (t : Forest) : Type 0 where
@@ -103,6 +110,11 @@ module _ (f : Facts) where
   empty_alive o m c beside rest row n g =
       let a = join o (under statements m c beside) in
       true≢false (item_quiet o m c beside empty_statement n nothing rest row (good_row a (record { kind = empty_statement; note = n; below = nothing }) rest g).quiet)
+
+  block_alive : (o : counts.Around) (m : Note) (c : counts.Around) (beside rest : Forest) → is_row c ≡ true → (x : Tree) → holds_nothing x.kind x.below ≡ true → Good f (places.plug (to (join o (under statements m c beside)) (first rest)) (Some x)) → ⊥
+  block_alive o m c beside rest row x held g =
+      let a = join o (under statements m c beside) in
+      true≢false (sym (held_goes f (where_of (place_at o)) x.kind x.below held) ∙ item_quiet o m c beside x.kind x.note x.below rest row (good_row a x rest g).quiet)
 
   function_alive : f.keeps_unused ≡ false → (o : counts.Around) (m : Note) (c : counts.Around) (beside rest : Forest) → is_row c ≡ true → (pure : Bool) (n j : Note) (x : List ℕ) (parts : Forest)
       → let b = to (join o (under statements m c beside)) (first rest) in
@@ -316,6 +328,11 @@ module _ (f : Facts) (t : Forest) (knows : Knows f unmarked t) (exactly : Exactl
   no_empty_item n is item =
       let i = item_in b item in
       empty_alive f i.outer i.note i.inner i.beside i.rest i.in_row n (subst (λ c. Good f (places.plug c (a_node empty_statement n nothing))) (sym i.is) (good_there (a_node empty_statement n nothing) is))
+
+  pub no_empty_block : (x : Tree) → t ≡ places.plug b (Some x) → EmptyBlock b x → ⊥
+  no_empty_block x is (empty_block_leaves item held) =
+      let i = item_in b item in
+      block_alive f i.outer i.note i.inner i.beside i.rest i.in_row x held (subst (λ c. Good f (places.plug c (Some x))) (sym i.is) (good_there (Some x) is))
 
   pub no_silent_statement : (n : Note) (below : Forest) → t ≡ places.plug b (a_node expression_statement n below) → At b (a_node expression_statement n below) (SilentStatement t below) → ⊥
   no_silent_statement n below is silent =

@@ -6,7 +6,7 @@ use Rattle.js_syntax.specs.declared.node_kind.NodeKind.TheVariants.{EmptyStateme
 use Rattle.js_syntax.specs.declared.kind.VariableKind.{VariableKind}
 use Rattle.js_syntax.specs.declared.kind.FunctionKind.TheVariants as function_kind
 use Rattle.js_syntax.specs.declared.kind.VariableKind.TheVariants as variable
-use Rattle.js_syntax.specs.Node.{Forest, Note, nothing, node, alone}
+use Rattle.js_syntax.specs.Node.{Forest, Tree, Note, nothing, node, alone}
 use Rattle.js_effects.specs.Silence.{may_have_effects}
 use Rattle.min_pass.specs.Around.{outermost as asked_of_program}
 use Rattle.min_pass.specs.Pass.{is_given}
@@ -21,6 +21,7 @@ use Rattle.steps_allowed.specs.Exposure.{is_script, evaluates_somewhere, IsOwnDe
 use Rattle.steps_allowed.specs.Places.{a_node, asked_at, IsItem, IsDeclarator, has_other, At}
 use Rattle.steps_allowed.specs.Free.{IsFree, Free, FreeDeclarator}
 use Rattle.steps_allowed.specs.EmptyStatement.{empty_statement_leaves}
+use Rattle.steps_allowed.specs.EmptyBlock.{EmptyBlock}
 use Rattle.steps_allowed.specs.SilentStatement.{SilentStatement, a_statement, silent_statement_empties}
 use Rattle.steps_allowed.specs.UnusedFunction.{a_function, UnusedFunction, unused_function_leaves}
 use Rattle.steps_allowed.specs.UnusedDeclarator.{SilentDeclarator, a_declarator, unused_declarator_leaves}
@@ -44,6 +45,9 @@ named_site c m x = record { id = m.id; name = x; layer = c.declaring.layer; flag
 
 pub empty_leaves : (a : Around) (n : Note) → IsItem a → Edit (plug a (a_node empty_statement n nothing)) (without a)
 empty_leaves a n item = leaves a (record { kind = empty_statement; note = n; below = nothing }) (edits.empty_statement (empty_statement_leaves n item))
+
+pub block_leaves : (a : Around) (x : Tree) → EmptyBlock a x → Edit (plug a (Some x)) (without a)
+block_leaves a x held = leaves a x (edits.empty_block held)
 
 pub statement_silent : (f : Facts) (marked : ℕ → Bool) (a : Around) (n l : Note) (k : Kind) (inner : Forest) → Knows f marked (plug a (a_statement n l k inner)) → may_have_effects f.bound (asked_at (asked_of_program true) a).in_with (alone k l inner) ≡ false
     → At a (a_statement n l k inner) (SilentStatement (plug a (a_statement n l k inner)) (alone k l inner))

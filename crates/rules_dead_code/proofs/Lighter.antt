@@ -2,7 +2,7 @@
 use Rattle.std.proofs.Common.{◌≡◌, ◌∙◌, ◌≤◌, ◌+◌, ℕ, Bool, true, false, not, ◌||◌, if◌then◌else◌, cond, Some, true≢false, refl, sym, ap, ap₂, subst, arith}
 use Rattle.std.proofs.lemmas.Bool.{and_parts}
 use Rattle.js_syntax.specs.declared.node_kind.NodeKind.{NodeKind as Kind}
-use Rattle.js_syntax.specs.declared.node_kind.NodeKind.TheVariants.{EmptyStatement as empty_statement, ExpressionStatement as expression_statement, Function as function, VariableDeclaration as variable_declaration, VariableDeclarator as variable_declarator, Declarators as declarators, BindingName as binding_name}
+use Rattle.js_syntax.specs.declared.node_kind.NodeKind.TheVariants.{EmptyStatement as empty_statement, BlockStatement as block_statement, LabeledStatement as labeled_statement, ExpressionStatement as expression_statement, Function as function, VariableDeclaration as variable_declaration, VariableDeclarator as variable_declarator, Declarators as declarators, BindingName as binding_name}
 use Rattle.js_syntax.specs.declared.kind.FunctionKind.TheVariants as function_kind
 use Rattle.js_syntax.specs.declared.kind.VariableKind.{VariableKind}
 use Rattle.js_syntax.specs.Facts as facts
@@ -77,6 +77,8 @@ module _ (f : Facts) (w : Where) where
 
   item_weighs : (k : Kind) (below : Forest) → item_goes f w k below ≡ true → 1 ≤ facts.weight k
   item_weighs empty_statement below e = Prim.omega arith
+  item_weighs block_statement below e = Prim.omega arith
+  item_weighs (labeled_statement label) below e = Prim.omega arith
   item_weighs expression_statement below e = Prim.omega arith
   item_weighs (function function_kind.Declaration pure) below e = Prim.omega arith
   item_weighs (variable_declaration how) below e = Prim.omega arith

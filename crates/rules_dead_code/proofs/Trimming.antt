@@ -1,8 +1,8 @@
 -- A list of statements is trimmed by single edits, from left to right.
-use Rattle.std.proofs.Common.{◌≡◌, ◌⊎◌, inl, inr, ℕ, List, Bool, true, false, not, ◌&&◌, ◌||◌, if◌then◌else◌, true≢false, refl, sym, ap, subst}
+use Rattle.std.proofs.Common.{◌≡◌, ◌⊎◌, inl, inr, ℕ, List, Bool, true, false, not, ◌&&◌, ◌||◌, if◌then◌else◌, true≢false, Some, refl, sym, ap, subst}
 use Rattle.std.proofs.lemmas.Bool.{and_parts}
 use Rattle.js_syntax.specs.declared.node_kind.NodeKind.{NodeKind as Kind}
-use Rattle.js_syntax.specs.declared.node_kind.NodeKind.TheVariants.{EmptyStatement as empty_statement, ExpressionStatement as expression_statement, Function as function, VariableDeclaration as variable_declaration, VariableDeclarator as variable_declarator, Declarators as declarators, BindingName as binding_name, Statements as statements}
+use Rattle.js_syntax.specs.declared.node_kind.NodeKind.TheVariants.{EmptyStatement as empty_statement, BlockStatement as block_statement, LabeledStatement as labeled_statement, ExpressionStatement as expression_statement, Function as function, VariableDeclaration as variable_declaration, VariableDeclarator as variable_declarator, Declarators as declarators, BindingName as binding_name, Statements as statements}
 use Rattle.js_syntax.specs.declared.kind.FunctionKind.TheVariants as function_kind
 use Rattle.js_syntax.specs.declared.kind.VariableKind.{VariableKind}
 use Rattle.js_syntax.specs.Node.{Forest, Tree, Note, nothing, node, absent, alone}
@@ -13,6 +13,7 @@ use Rattle.scope_laws.specs.Place.{first}
 use Rattle.scope_counts.specs.Edits as counts
 use Rattle.scope_counts.specs.Edits.{here, behind, behind_none, under, plug}
 use Rattle.steps_allowed.specs.Arranged.{is_declarator, are_declarators}
+use Rattle.steps_allowed.specs.EmptyBlock.{holds_nothing, empty_block_leaves}
 use Rattle.steps_allowed.specs.Edits.{Edit, TreeEdits, no_tree_edit, one_tree_edit}
 use Rattle.steps_allowed.specs.Places.{a_node, has_node}
 use Rattle.steps_allowed.specs.SilentStatement.{a_statement}
@@ -26,7 +27,7 @@ use Rattle.rules_dead_code.specs.Knows.{Knows}
 use Rattle.rules_dead_code.proofs.Keeping.{Known, still_known}
 use Rattle.rules_dead_code.proofs.LaidOut.{has_list, is_laid_at, laid_here}
 use Rattle.rules_dead_code.proofs.Places.{to, join, plug_join, is_row, has_before, row_join, before_join}
-use Rattle.rules_dead_code.proofs.Leaving.{empty_leaves, statement_empties, function_leaves, Quiet, declarator_leaves, declaration_leaves}
+use Rattle.rules_dead_code.proofs.Leaving.{empty_leaves, block_leaves, statement_empties, function_leaves, Quiet, declarator_leaves, declaration_leaves}
 use Rattle.rules_dead_code.proofs.Items.{IsItems, first_items, next_items, absent_items, item_there, item_with, leaves_there, becomes_there, knows_there, known_laid, item_scope, item_declares, declaration, in_declaration, declarator_plugged, declarator_edit, declarator_there, declarator_with, declarator_other, declarator_other_behind, declarator_declares}
 
 wrong : {P : Type 0} → false ≡ true → P
@@ -54,6 +55,9 @@ module _ (f : Facts) (p : Place) where
 
   empty_goes_there : (a : counts.Around) (n : Note) (rest : Forest) → IsItems p a → Edit (plug a (node empty_statement n nothing rest)) (plug a rest)
   empty_goes_there a n rest items = leaves_there a (a_node empty_statement n nothing) rest (empty_leaves (to a (first rest)) n (item_there p a rest items))
+
+  block_goes_there : (a : counts.Around) (x : Tree) (rest : Forest) → IsItems p a → holds_nothing x.kind x.below ≡ true → Edit (plug a (node x.kind x.note x.below rest)) (plug a rest)
+  block_goes_there a x rest items held = leaves_there a (Some x) rest (block_leaves (to a (first rest)) x (empty_block_leaves (item_there p a rest items) held))
 
   statement_goes_there : (a : counts.Around) (n l : Note) (k : Kind) (inner rest : Forest) → IsItems p a → may_have_effects f.bound (has_with p.ancestors) (alone k l inner) ≡ false → Now (plug a (node expression_statement n (alone k l inner) rest))
       → TreeEdits (plug a (node expression_statement n (alone k l inner) rest)) (plug a rest)
@@ -184,6 +188,10 @@ module _ (f : Facts) (p : Place) where
   item_leaves a empty_statement n nothing rest items l g h = once (plug a (node empty_statement n nothing rest)) (plug a rest) (empty_goes_there a n rest items)
   item_leaves a empty_statement n (node k m b r) rest items l g h = wrong l
   item_leaves a empty_statement n (absent r) rest items l g h = wrong l
+  item_leaves a block_statement n below rest items l g h =
+      once (plug a (node block_statement n below rest)) (plug a rest) (block_goes_there a (record { kind = block_statement; note = n; below = below }) rest items g)
+  item_leaves a (labeled_statement label) n below rest items l g h =
+      once (plug a (node (labeled_statement label) n below rest)) (plug a rest) (block_goes_there a (record { kind = labeled_statement label; note = n; below = below }) rest items g)
   item_leaves a expression_statement n (node k m inner nothing) rest items l g h = statement_goes_there a n m k inner rest items (not_true (may_have_effects f.bound (has_with p.ancestors) (alone k m inner)) g) h
   item_leaves a expression_statement n below rest items l g h = wrong l
   item_leaves a (function function_kind.Declaration pure) n (node (binding_name x) m nothing r) rest items l g h =

@@ -1,7 +1,7 @@
 -- Which nodes the pass over dead code takes out: what does nothing, and what nobody uses.
 use Rattle.std.specs.Prelude.{ℕ, ◌==◌, List, [], ◌∷◌, length, Bool, true, false, not, ◌&&◌, ◌||◌, Option, Some, None, if◌then◌else◌}
 use Rattle.js_syntax.specs.declared.node_kind.NodeKind.{NodeKind as Kind}
-use Rattle.js_syntax.specs.declared.node_kind.NodeKind.TheVariants.{EmptyStatement as empty_statement, ExpressionStatement as expression_statement, Function as function, VariableDeclaration as variable_declaration, VariableDeclarator as variable_declarator, Declarators as declarators, BindingName as binding_name}
+use Rattle.js_syntax.specs.declared.node_kind.NodeKind.TheVariants.{EmptyStatement as empty_statement, BlockStatement as block_statement, LabeledStatement as labeled_statement, ExpressionStatement as expression_statement, Function as function, VariableDeclaration as variable_declaration, VariableDeclarator as variable_declarator, Declarators as declarators, BindingName as binding_name}
 use Rattle.js_syntax.specs.declared.kind.FunctionKind.TheVariants as function_kind
 use Rattle.js_syntax.specs.declared.kind.VariableKind.{VariableKind}
 use Rattle.js_syntax.specs.declared.kind.VariableKind.TheVariants as variable
@@ -15,6 +15,7 @@ use Rattle.min_pass.specs.Pass.{is_given, unmarked}
 use Rattle.scope_rules.specs.ScopeFlags as scope_flag
 use Rattle.scope_rules.specs.Table.{Scoping}
 use Rattle.scope_table.specs.Reading.{symbol_at}
+use Rattle.steps_allowed.specs.EmptyBlock.{idles}
 use Rattle.steps_marked.specs.Flags.{scope_has, is_sloppy_block}
 
 -- What is known of the program: its table; of each reference by its id, whether it has a symbol; of each symbol by its number,
@@ -47,7 +48,8 @@ where_of p = record { scope = p.scope; hoist_scope = p.hoist_scope; in_with = ha
 
 -- ---- names
 
--- nothing of the program refers to the symbol, and it exports none of its declarations (ECMA-262 16.2.3); nor is it kept though
+-- nothing of the program refers to the symbol, and it exports none of its declarations (ECMA-262 16.2.3); where that is kept, no symbol
+-- counts as such
 abbrev pub is_unlisted : Facts → (symbol : Option ℕ) → Bool
 is_unlisted f None = false
 is_unlisted f (Some n) = not f.keeps_unused && (length (symbol_at f.scoping n).references == 0 && not (is_marked f.exported (Some n)))
@@ -111,6 +113,8 @@ function_goes f w below = false
 
 abbrev pub item_goes : Facts → Where → Kind → (below : Forest) → Bool
 item_goes f w empty_statement below = true
+item_goes f w block_statement below = idles below
+item_goes f w (labeled_statement label) below = idles below
 item_goes f w expression_statement below = is_silent_statement f w expression_statement below
 item_goes f w (function function_kind.Declaration pure) below = function_goes f w below
 item_goes f w (variable_declaration how) below = declaration_goes f w how below

@@ -1,11 +1,12 @@
 // What a program has no more, of which the rules take nothing out. The law is a contract, so that the check proves it.
-ghost use Rattle.std.specs.Prelude.{◌≡◌, ℕ, List, Bool, false};
+ghost use Rattle.std.specs.Prelude.{◌≡◌, ℕ, List, Bool, false, Some};
 ghost use Rattle.js_syntax.specs.declared.node_kind.NodeKind.TheVariants.{EmptyStatement as empty_statement, ExpressionStatement as expression_statement, BindingName as binding_name};
 ghost use Rattle.js_syntax.specs.declared.kind.VariableKind.TheVariants as variable;
-ghost use Rattle.js_syntax.specs.Node.{Forest, Note, nothing, node};
+ghost use Rattle.js_syntax.specs.Node.{Forest, Tree, Note, nothing, node};
 ghost use Rattle.min_context.specs.Place.{top};
 ghost use Rattle.scope_laws.specs.Place.{Around, plug};
 ghost use Rattle.scope_counts.specs.Scopes.{unmarked};
+ghost use Rattle.steps_allowed.specs.EmptyBlock.{EmptyBlock};
 ghost use Rattle.steps_allowed.specs.Exposure.{IsOwnFunction, IsOwnDeclarator};
 ghost use Rattle.steps_allowed.specs.Free.{Free, FreeDeclarator};
 ghost use Rattle.steps_allowed.specs.Places.{a_node, IsItem, IsDeclarator, At};
@@ -21,11 +22,12 @@ pub fn walks_see_what_is_quiet()
     ensures { (f : Facts) (t : Forest) → EachNode (IsQuietAt f) top t → IsQuiet f t }
 {}
 
-/// Law: a program of which the rules take nothing out has no empty statement in a list, no silent statement anywhere, and in lists, unless
-/// that is kept, no function declaration or declarator with a silent initialiser whose name nothing refers to, no export is of and no other
-/// code may use.
+/// Law: a program of which the rules take nothing out has no empty statement in a list, nor a block of nothing, no silent statement
+/// anywhere, and in lists, unless that is kept, no function declaration or declarator with a silent initialiser whose name nothing refers
+/// to, no export is of and no other code may use.
 pub fn what_is_quiet_has_no_dead_code()
     ensures empty_statements { (f : Facts) (t : Forest) → Knows f unmarked t → Exactly f t → IsQuiet f t → (a : Around) → (n : Note) → t ≡ plug a (a_node empty_statement n nothing) → IsItem a → ⊥ }
+    ensures empty_blocks { (f : Facts) (t : Forest) → Knows f unmarked t → Exactly f t → IsQuiet f t → (a : Around) → (x : Tree) → t ≡ plug a (Some x) → EmptyBlock a x → ⊥ }
     ensures silent_statements { (f : Facts) (t : Forest) → Knows f unmarked t → Exactly f t → IsQuiet f t → (a : Around) → (n : Note) (below : Forest) → t ≡ plug a (a_node expression_statement n below)
         → At a (a_node expression_statement n below) (SilentStatement t below) → ⊥ }
     ensures functions { (f : Facts) (t : Forest) → Knows f unmarked t → Exactly f t → IsQuiet f t → (a : Around) → (pure : Bool) (n m : Note) (x : List ℕ) (rest : Forest) → t ≡ plug a (a_function pure n m x rest) → f.keeps_unused ≡ false → IsItem a
