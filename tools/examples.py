@@ -198,7 +198,7 @@ S('do 1; while (a);',[N('DoWhileStatement',body=ES(L(1)),test=a)],[N('DoWhileSta
 S('for (let a = 1; ; 1) 1;',[N('ForStatement',init=var('let',(a,L(1))),test=None,update=L(1),body=ES(L(1)))],[N('ForStatement',init=var('let',(a,L(1))),test=None,update=L(1),body=EMPTY)],1,0)
 S('for (const k in a) k;',[N('ForInStatement',left=var('const',(I('k'),None)),right=a,body=ES(I('k')))],[N('ForInStatement',left=var('const',(I('k'),None)),right=a,body=EMPTY)],1,0)
 S('for (const k of a) !k;',[N('ForOfStatement',left=var('const',(I('k'),None)),right=a,body=ES(un('!',I('k'))),**{'await':False})],[N('ForOfStatement',left=var('const',(I('k'),None)),right=a,body=EMPTY,**{'await':False})],1,0)
-S('1; l: 1; m: n: 1;',[ES(L(1)),LABEL('l',ES(L(1))),LABEL('m',LABEL('n',ES(L(1))))],[LABEL('l',EMPTY),LABEL('m',LABEL('n',EMPTY))],1,0)
+S('1; l: 1; m: n: 1;',[ES(L(1)),LABEL('l',ES(L(1))),LABEL('m',LABEL('n',ES(L(1))))],[],1,0)
 S('with (o) 1; in a script',[N('WithStatement',object=I('o'),body=ES(L(1)))],[N('WithStatement',object=I('o'),body=EMPTY)],1,0,'script')
 S('function f(o, x) { with (o) x; } in a script',[F_('f',['o','x'],N('WithStatement',object=I('o'),body=ES(x)))],None,0,2,'script')
 S('if (a) while (b) 1; else if (c) 1; else { 1; }',[IF(N('WhileStatement',test=b,body=ES(L(1))),N('IfStatement',test=c,consequent=ES(L(1)),alternate=B(ES(L(1)))))],[IF(N('WhileStatement',test=b,body=EMPTY),N('IfStatement',test=c,consequent=EMPTY,alternate=B()))],1,0)
@@ -213,7 +213,7 @@ S('function f() { f(); }',[F_('f',[],do('f'))],None,0,1)
 S('function f(x) { var x = 1; } in a script',[F_('f',['x'],x_is(L(1),'var'))],[F_('f',['x'])],1,0,'script')
 S('function f(x) { with (x) { x; } x; } in a script',[F_('f',['x'],N('WithStatement',object=x,body=B(ES(x))),ES(x))],[F_('f',['x'],N('WithStatement',object=x,body=B(ES(x))))],1,2,'script')
 S('function f() { function g() {} { function h() {} } } in a script',[F_('f',[],F_('g',[]),B(F_('h',[])))],[F_('f',[],B(F_('h',[])))],1,0,'script')
-S("function f() { 'use strict'; { function h() {} } } in a script",[F_('f',[],STRICT,B(F_('h',[])))],[F_('f',[],STRICT,B())],1,0,'script')
+S("function f() { 'use strict'; { function h() {} } } in a script",[F_('f',[],STRICT,B(F_('h',[])))],[F_('f',[],STRICT)],1,0,'script')
 S('function f(o) { with (o) { var x = 1; var y; } } in a script',[F_('f',['o'],N('WithStatement',object=I('o'),body=B(x_is(L(1),'var'),var('var',(I('y'),None)))))],[F_('f',['o'],N('WithStatement',object=I('o'),body=B(x_is(L(1),'var'))))],1,1,'script')
 S('var x = 1; in a script',[x_is(L(1),'var')],None,0,0,'script')
 S('let x = 1; return; in a CommonJS module',[x_is(L(1)),RETURN(None)],[RETURN(None)],1,0,'commonjs')
@@ -289,6 +289,15 @@ EACH=lambda *body: N('ForStatement',init=None,test=None,update=None,body=B(*body
 CLASS=lambda name: N('ClassDeclaration',id=I(name),superClass=None,body=N('ClassBody',body=[]))
 S('export function h() { if (a) { return 1; g(); } return f(); g(); for (;;) { g(); } { g(); } }',[export(F_('h',[],WHEN(a,B(RETURN(L(1)),do('g'))),RETURN(call(f)),do('g'),EACH(do('g')),B(do('g'))))],[export(F_('h',[],WHEN(a,B(RETURN(L(1)))),RETURN(call(f))))],1,0)
 S('l: for (;;) { break l; f(); let x = g(); h(); } for (;;) { if (a) continue; else break; f(); }',[LABEL('l',EACH(BREAK(I('l')),do('f'),x_is(call(g)),do('h'))),EACH(WHEN(a,N('ContinueStatement',label=None),BREAK()),do('f'))],[LABEL('l',EACH(BREAK(I('l')),x_is(call(g)))),EACH(WHEN(a,N('ContinueStatement',label=None),BREAK()),do('f'))],1,0)
+S('{} { ; {} } l: {} m: n: ; f();',[B(),B(EMPTY,B()),LABEL('l',B()),LABEL('m',LABEL('n',EMPTY)),do('f')],[do('f')],1,0)
+S('{ let x = 1; } l: { { 1; } } {} in a script',[B(x_is(L(1))),LABEL('l',B(B(ES(L(1))))),B()],[],1,0,'script')
+S('{ let x = 1; } { function g() {} } l: { { 1; } }',[B(x_is(L(1))),B(F_('g',[])),LABEL('l',B(B(ES(L(1)))))],[],1,0)
+S('{ let x; { let y = x; } }',[B(x_is(None),B(var('let',(I('y'),x))))],[],2,0)
+S('if (1) {} else f(); if (0) f(); else { 1; }',[WHEN(L(1),B(),do('f')),WHEN(L(0),do('f'),B(ES(L(1))))],[],1,0)
+S('export function h() { {} return; {} } switch (a) { case 1: {} break; default: { ; } }',[export(F_('h',[],B(),RETURN(None),B())),N('SwitchStatement',discriminant=a,cases=[N('SwitchCase',test=L(1),consequent=[B(),BREAK()]),N('SwitchCase',test=None,consequent=[B(EMPTY)])])],[export(F_('h',[],RETURN(None))),N('SwitchStatement',discriminant=a,cases=[N('SwitchCase',test=L(1),consequent=[BREAK()]),N('SwitchCase',test=None,consequent=[])])],1,0)
+S('{ f(); } { { f(); } } l: { break l; } m: while (a) {} whose blocks hold something',[B(do('f')),B(B(do('f'))),LABEL('l',B(BREAK(I('l')))),LABEL('m',N('WhileStatement',test=a,body=B()))],None,0,0)
+S('if (a) {} else {} while (b) {} try {} catch (e) {} whose blocks stand in no list',[IF(B(),B()),N('WhileStatement',test=b,body=B()),N('TryStatement',block=B(),handler=N('CatchClause',param=I('e'),body=B()),finalizer=None)],None,0,0)
+S('class c { static { {} } } use(c);',[N('ClassDeclaration',id=I('c'),superClass=None,body=N('ClassBody',body=[N('StaticBlock',body=[B()])])),use(I('c'))],[N('ClassDeclaration',id=I('c'),superClass=None,body=N('ClassBody',body=[N('StaticBlock',body=[])])),use(I('c'))],1,1)
 S('export function h() { return k(); function k() {} var y = 1; { var z; } use(y, z); class c {} }',[export(F_('h',[],RETURN(call(I('k'))),F_('k',[]),var('var',(I('y'),L(1))),B(var('var',(I('z'),None))),ES(call(I('use'),I('y'),I('z'))),CLASS('c')))],[export(F_('h',[],RETURN(call(I('k'))),F_('k',[]),CLASS('c')))],2,1)
 S('throw f(); g(); export let x = 1; behind a jump of a module',[N('ThrowStatement',argument=call(f)),do('g'),export(x_is(L(1)))],[N('ThrowStatement',argument=call(f)),export(x_is(L(1)))],1,0)
 S("function h() {} export function k() { let x = 1; return; h(); eval('x'); }",[F_('h',[]),export(F_('k',[],x_is(L(1)),RETURN(None),do('h'),do('eval',L('x'))))],[export(F_('k',[],RETURN(None)))],2,0)
@@ -476,7 +485,10 @@ def rows():
         ('call imports:', prog(kept), 'passes 1 scopes 1\n%s\n' % text(prog(kept[:1]))),
         ('call imports:', prog(kept[:1]), 'passes 0 scopes 1\n%s\n' % text(prog(kept[:1]))),
         ('call safest:', prog(kept), 'passes 1 scopes 2\n%s\n' % text(prog(kept[:3])))]
-    yield 'the scopes are those of what is left: let x; { ; } () => { x; };', [('call dce:', prog([LET_X, B(EMPTY), ES(ARROW(ES(x)))]), 'passes 2 scopes 2\n%s\n' % text(prog([B()])))]
+    loop = lambda *body: N('WhileStatement', test=a, body=B(*body))
+    yield 'the scopes are those of what is left: let x; { ; } () => { x; }; and, with while (a) { ; } as well', [
+        ('call dce:', prog([LET_X, B(EMPTY), ES(ARROW(ES(x)))]), 'passes 2 scopes 1\n%s\n' % text(prog([]))),
+        ('call dce:', prog([LET_X, loop(EMPTY), B(EMPTY), ES(ARROW(ES(x)))]), 'passes 2 scopes 2\n%s\n' % text(prog([loop()])))]
 
 
 def all_rows():

@@ -38,9 +38,10 @@ use Rattle.steps_allowed.specs.UnusedObject.{object_becomes, acting_values_stay}
 use Rattle.steps_allowed.specs.KnownOperation.{known_literal, value_is_known}
 use Rattle.steps_allowed.specs.KnownIf.{consequent_is_run, alternate_is_run}
 use Rattle.steps_allowed.specs.DeadIf.{nothing_is_run}
+use Rattle.steps_allowed.specs.EmptyBlock.{holds_nothing, empty_block_leaves}
 use Rattle.steps_allowed.specs.Unreached.{only_runs, never_runs}
 use Rattle.steps_allowed.specs.Uses.{Use}
-use Rattle.headline.specs.Clean.{IsDead, an_empty_statement, a_silent_statement, an_unused_function, an_unused_declarator, an_unused_import, a_known_conditional, a_known_side, an_unused_operation, an_unused_list, an_indirect_choice, a_one_sided_choice, idle_parts, two_sides, an_unused_object, a_known_operation, a_known_if, a_dead_if, an_unreached_statement, Clean}
+use Rattle.headline.specs.Clean.{IsDead, an_empty_statement, an_empty_block, a_silent_statement, an_unused_function, an_unused_declarator, an_unused_import, a_known_conditional, a_known_side, an_unused_operation, an_unused_list, an_indirect_choice, a_one_sided_choice, idle_parts, two_sides, an_unused_object, a_known_operation, a_known_if, a_dead_if, an_unreached_statement, Clean}
 use Rattle.min_peephole.specs.Quiet.{is_quiet}
 use Rattle.min_peephole.proofs.Quieted.{quiet_clean}
 use Rattle.test_headline.specs.Rows as row
@@ -150,6 +151,9 @@ if_fails_is_dead c =
 -- throw 1; a();
 abbrev behind_throw : Around
 behind_throw = in_list (past (throws one) (first nothing))
+
+pub block_is_dead : Clean row.labels_nothing → ⊥
+block_is_dead c = c.nothing_is_dead (before []) _ refl (an_empty_block (before []) _ (empty_block_leaves refl refl))
 
 pub unreached_is_dead : Clean row.calls_behind_throw → ⊥
 unreached_is_dead c = c.nothing_is_dead behind_throw _ refl (an_unreached_statement behind_throw _ (never_runs refl refl refl refl))
@@ -608,6 +612,11 @@ runs_suspect Kind.ImportDefaultSpecifier h = refl
 runs_suspect Kind.ImportNamespaceSpecifier h = refl
 runs_suspect k h = h
 
+block_suspect : (k : Kind) (below : Forest) → holds_nothing k below ≡ true → is_suspect k ≡ true
+block_suspect Kind.BlockStatement below h = refl
+block_suspect (Kind.LabeledStatement l) below h = refl
+block_suspect k below h = absurd Prim.cc
+
 import_suspect : (k : Kind) → binds_import k ≡ true → is_suspect k ≡ true
 import_suspect (Kind.ImportSpecifier name) h = refl
 import_suspect Kind.ImportDefaultSpecifier h = refl
@@ -635,6 +644,7 @@ dead_suspect t a x is (a_known_operation b _ _ (value_is_known i v y known)) = a
 dead_suspect t a x is (a_known_if b y z (consequent_is_run n m i v k c d e truth branch field none)) = ap has_suspect is ∙ suspect_there b _ refl
 dead_suspect t a x is (a_known_if b y z (alternate_is_run n m i j v k l c d e truth branch none)) = ap has_suspect is ∙ suspect_there b _ refl
 dead_suspect t a x is (a_dead_if b y z (nothing_is_run n m i j v k c d truth none)) = ap has_suspect is ∙ suspect_there b _ refl
+dead_suspect t a x is (an_empty_block b y (empty_block_leaves item held)) = ap has_suspect is ∙ suspect_there b y (block_suspect y.kind y.below held)
 dead_suspect t a x is (an_unreached_statement b y (never_runs item jump runs none)) = ap has_suspect is ∙ suspect_there b y (runs_suspect y.kind runs)
 
 -- A declaration goes with the last of its declarators, and stays where it has none.

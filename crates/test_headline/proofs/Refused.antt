@@ -3,6 +3,7 @@ use Rattle.std.proofs.Common.{◌≡◌, ◌∙◌, ◌⊎◌, inl, inr, Bool, t
 use Rattle.js_syntax.specs.declared.kind.VariableKind.TheVariants as variable
 use Rattle.js_syntax.specs.Node.{Forest, bare, total}
 use Rattle.form_rules.specs.Samples.{a_module, a_script, a, binds, one, does, declares, function_a}
+use Rattle.scope_rules.specs.Samples.{imports}
 use Rattle.scope_rules.specs.Mark.{own_binding}
 use Rattle.steps_allowed.specs.Changing.{may_change_somewhere}
 use Rattle.steps_allowed.specs.Rows.{call_of_eval}
@@ -13,8 +14,8 @@ use Rattle.js_meaning.specs.Trace.{Act, ShownExport, Event, Ending, ended, Run}
 use Rattle.js_meaning.specs.Kept.{Kept, KeptBack, Keeps, ComesBack}
 use Rattle.headline.specs.Headline.{Headline}
 use Rattle.test_headline.specs.Rows as row
-use Rattle.test_headline.proofs.Dead.{number_is_dead, conditional_is_dead, side_is_dead, operation_is_dead, list_is_dead, choice_is_dead, branch_is_dead, part_is_dead, sides_are_dead, object_is_dead, known_is_dead, if_holds_is_dead, if_fails_is_dead, unreached_is_dead}
-use Rattle.test_headline.proofs.Runs.{answers, gives_function, empty_runs, export_runs, call_runs, own_call_runs, no_call_runs, chosen_runs, member_runs, loop_runs}
+use Rattle.test_headline.proofs.Dead.{number_is_dead, conditional_is_dead, side_is_dead, operation_is_dead, list_is_dead, choice_is_dead, branch_is_dead, part_is_dead, sides_are_dead, object_is_dead, known_is_dead, if_holds_is_dead, if_fails_is_dead, unreached_is_dead, block_is_dead}
+use Rattle.test_headline.proofs.Runs.{answers, gives_function, empty_runs, export_runs, call_runs, import_runs, own_call_runs, no_call_runs, chosen_runs, member_runs, loop_runs}
 
 -- what is asked of two runs is asked of what they compute to
 keeps_computed : (p q r s : Run) → p ≡ r → q ≡ s → Keeps p q → Keeps r s
@@ -68,6 +69,10 @@ export_shown k = true≢false (sym (ap (λ r. shows_exports r.ending) (keeps_com
 pub call_shown : Kept row.calls_host row.empty → ⊥
 unfolding is_alone
 call_shown k = true≢false (ap (λ r. is_alone r.trace) (keeps_computed _ _ _ _ call_runs (empty_runs 0) (k answers 0)))
+
+pub import_shown : Kept (a_module (imports a ∷ [])) row.empty → ⊥
+unfolding is_alone
+import_shown k = true≢false (ap (λ r. is_alone r.trace) (keeps_computed _ _ _ _ import_runs (empty_runs 0) (k answers 0)))
 
 pub function_called : Kept row.calls_own row.calls_nothing → ⊥
 unfolding begins_done is_done
@@ -124,6 +129,9 @@ if_holds_goes h = if_holds_is_dead h.clean
 
 pub if_fails_goes : Headline row.runs_no_branch row.runs_no_branch → ⊥
 if_fails_goes h = if_fails_is_dead h.clean
+
+pub block_goes : Headline row.labels_nothing row.labels_nothing → ⊥
+block_goes h = block_is_dead h.clean
 
 pub unreached_goes : Headline row.calls_behind_throw row.calls_behind_throw → ⊥
 unreached_goes h = unreached_is_dead h.clean

@@ -1,5 +1,5 @@
 -- The runs of the small modules, computed.
-use Rattle.std.proofs.Common.{◌≡◌, ℕ, [], ◌∷◌, true, false, refl}
+use Rattle.std.proofs.Common.{◌≡◌, ℕ, [], ◌∷◌, true, false, codes, refl}
 use Rattle.js_meaning.specs.Value.{host, plainly, first, Sort, Parts}
 use Rattle.js_meaning.specs.Trace.{Act, Ending, ended, Script}
 use Rattle.js_meaning.specs.State.{bind, done, stop, choose, alloc, read, store, identity, get_global, set_global, get_import, set_import, spend, with_moves, set_moves, with_exports, set_exports, put_event}
@@ -14,6 +14,8 @@ use Rattle.js_meaning.specs.Meaning.{take_each, eval, task_does, enter}
 use Rattle.js_meaning.specs.Run.{module_does, run_within, run}
 use Rattle.js_meaning.specs.Samples as sample
 use Rattle.js_meaning.specs.Examples.{exporting_number, said_number, member_moves, got_member}
+use Rattle.form_rules.specs.Samples.{a_module, a}
+use Rattle.scope_rules.specs.Samples.{imports}
 use Rattle.test_headline.specs.Rows as row
 
 -- opens every act, so that a run computes
@@ -36,6 +38,10 @@ export_runs = refl
 pub call_runs : run row.calls_host answers 0 ≡ sample.over_with (said_number 1 ∷ [])
 unfolding computes
 call_runs = refl
+
+pub import_runs : run (a_module (imports a ∷ [])) answers 0 ≡ sample.over_with (sample.bare (Act.load (codes "m")) ∷ [])
+unfolding computes
+import_runs = refl
 
 pub own_call_runs : run row.calls_own answers 1 ≡ sample.over_with []
 unfolding computes

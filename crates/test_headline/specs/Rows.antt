@@ -10,7 +10,7 @@ use Rattle.js_syntax.specs.declared.value.Key.TheVariants as key
 use Rattle.js_syntax.specs.declared.value.LiteralValue.{LiteralValue as Literal}
 use Rattle.js_syntax.specs.Node.{Forest, joined}
 use Rattle.form_rules.specs.Samples as form
-use Rattle.steps_allowed.specs.Rows.{call_of_a, call_of_eval, exports_declaration, throws, null, if_null, either_way, conditional, logical as either, applied, equals, array, sequence, behind_zero}
+use Rattle.steps_allowed.specs.Rows.{call_of_a, call_of_eval, exports_declaration, labeled, throws, null, if_null, either_way, conditional, logical as either, applied, equals, array, sequence, behind_zero}
 use Rattle.js_meaning.specs.Samples as sample
 use Rattle.js_meaning.specs.Examples.{g, o, function_g, says_number}
 
@@ -173,6 +173,10 @@ uses_a = form.a_module (calls (form.reads (codes "use")) (form.reads form.a ∷ 
 -- (1, o.g)();
 abbrev pub calls_behind_one : Forest
 calls_behind_one = form.a_module (calls (sequence (form.one ∷ member_g ∷ [])) [] ∷ [])
+
+-- l: { {} }
+abbrev pub labels_nothing : Forest
+labels_nothing = form.a_module (labeled (form.block (form.block [] ∷ [])) ∷ [])
 
 -- throw 1; a();
 abbrev pub calls_behind_throw : Forest

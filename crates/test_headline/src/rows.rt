@@ -31,6 +31,12 @@ pub fn called_functions_stay()
     ensures refused { Headline row.calls_own row.calls_nothing → ⊥ }
 {}
 
+/// Nor does `import a from 'm';` become empty, though nothing uses the name: the host loads a module less.
+pub fn imports_stay()
+    ensures kept { Kept (a_module (imports a ∷ [])) row.empty → ⊥ }
+    ensures refused { Headline (a_module (imports a ∷ [])) row.empty → ⊥ }
+{}
+
 /// `for (;;) ;` doesn't become empty. No run of it ends, so that all that its runs show is kept; but the empty program comes to an end,
 /// which is what the way back refuses.
 pub fn endless_loops_stay()
@@ -59,8 +65,8 @@ pub fn what_others_may_use_stays()
 
 /// `1;` doesn't stay, nor does the conditional of `a(true ? a : b);`, of `(1 ? o.g : null)();` or of `a ? b() : 1;`, what stands right in
 /// `null && a();`, what of `!(a() === 1);`, of `[a(), 1];` and of `({ a: a() });` is no call, the `1` of `use((1, a));`, the comparison
-/// of `a() === b();`, the negation of `use(!0);`, the `if` of `if (1) a(); else b();` and of `if (null) a();`, or the call
-/// of `throw 1; a();`.
+/// of `a() === b();`, the negation of `use(!0);`, the `if` of `if (1) a(); else b();` and of `if (null) a();`, the call of `throw 1; a();`,
+/// or `l: { {} }`.
 pub fn dead_code_goes()
     ensures number { Headline row.dead row.dead → ⊥ }
     ensures conditional { Headline row.takes_branch row.takes_branch → ⊥ }
@@ -76,17 +82,17 @@ pub fn dead_code_goes()
     ensures if_holds { Headline row.runs_one_branch row.runs_one_branch → ⊥ }
     ensures if_fails { Headline row.runs_no_branch row.runs_no_branch → ⊥ }
     ensures unreached { Headline row.calls_behind_throw row.calls_behind_throw → ⊥ }
+    ensures block { Headline row.labels_nothing row.labels_nothing → ⊥ }
 {}
 
-/// `1;` is dead code, and so are `{ ; }`'s empty statement, a function that nothing calls, one of two declarators, a
-/// name of an import that nothing refers to: `import a from 'm';`, a conditional on a literal, or on an array: `a([] ? a : b);`, a logical expression with a literal on its left, an operation of which nobody takes the
-/// value, where one operand alone acts, an array of which nobody takes the value, a conditional on a literal that is called so that what
-/// it gives has no receiver:
-/// `(1 ? o.g : null)();`, a conditional of which nobody takes the value and one branch alone acts: `a ? b() : 1;`, a sequence that is
+/// `1;` is dead code, and so are `{ ; }`'s empty statement, a function that nothing calls, one of two declarators, a name of an import that
+/// nothing refers to: `import a from 'm';`, a conditional on a literal, or on an array: `a([] ? a : b);`, a logical expression with a
+/// literal on its left, an operation of which nobody takes the value, where one operand alone acts, an array of which nobody takes the
+/// value, a conditional on a literal that is called so that what it gives has no receiver: `(1 ? o.g : null)();`, a conditional of which nobody takes the value and one branch alone acts: `a ? b() : 1;`, a sequence that is
 /// used for its value, of which a part before the last doesn't act: `use((1, a));`, a comparison of which nobody takes the value, though
 /// both sides act: `a() === b();`, an object literal of which nobody takes the value, that holds a call: `({ a: a() });`, an operation
 /// on a literal, of which the value is known: `use(!0);`, an `if` on a literal, whether a branch of it runs: `if (1) a(); else b();`, or
-/// none: `if (null) a();`, and a statement behind a jump: `throw 1; a();`.
+/// none: `if (null) a();`, a statement behind a jump: `throw 1; a();`, and a block of nothing, or what labels one: `l: { {} }`.
 pub fn dead_code_is_told()
     ensures number { Clean (a_module (does one ∷ [])) → ⊥ }
     ensures empty { Clean (a_module (block (empty ∷ []) ∷ [])) → ⊥ }
@@ -107,6 +113,7 @@ pub fn dead_code_is_told()
     ensures if_holds { Clean row.runs_one_branch → ⊥ }
     ensures if_fails { Clean row.runs_no_branch → ⊥ }
     ensures unreached { Clean row.calls_behind_throw → ⊥ }
+    ensures block { Clean row.labels_nothing → ⊥ }
 {}
 
 /// A call is none, nor a function that is exported, a variable beside a direct call of `eval`, a function of a script, a
