@@ -1,9 +1,9 @@
 -- What an `if` on a known test becomes doesn't see notes.
-use Rattle.std.proofs.Common.{◌≡◌, ◌↔◌, ◌∙◌, true, ◌&&◌, refl, sym, ap₂, subst}
+use Rattle.std.proofs.Common.{◌≡◌, ◌↔◌, ◌∙◌, Bool, true, false, ◌&&◌, refl, sym, ap₂, subst}
 use Rattle.js_syntax.specs.declared.node_kind.NodeKind.{NodeKind as Kind}
 use Rattle.js_syntax.specs.Node.{Forest, Tree, Note, nothing, node, absent, nowhere, bare}
 use Rattle.js_meaning_near.specs.Local.{IsField}
-use Rattle.steps_allowed.specs.Branches.{lets_only_at, lets_only, stays_inside_at, stays_inside, declares_none_at, declares_none}
+use Rattle.steps_allowed.specs.Branches.{is_handler, lets_only_at, lets_only, inside_or_parameter, inside_from, none_or_parameter, none_from, declares_none}
 use Rattle.steps_allowed.specs.DeadIf.{DeadIf, nothing_is_run}
 use Rattle.steps_allowed.specs.KnownIf.{KnownIf, consequent_is_run, alternate_is_run}
 use Rattle.headline.proofs.RenotedKnown.{truth_bare}
@@ -13,15 +13,21 @@ lets_bare nothing = refl
 lets_bare (absent rest) = lets_bare rest
 lets_bare (node k n below rest) = ap₂ (λ x y. lets_only_at k x && y) (lets_bare below) (lets_bare rest)
 
-inside_bare : (t : Forest) → stays_inside (bare t) ≡ stays_inside t
-inside_bare nothing = refl
-inside_bare (absent rest) = inside_bare rest
-inside_bare (node k n below rest) = ap₂ (λ x y. x && y) (ap₂ (λ x y. stays_inside_at k x y) (lets_bare below) (inside_bare below)) (inside_bare rest)
+inside_bare : (p : Bool) (t : Forest) → inside_from p (bare t) ≡ inside_from p t
+inside_bare p nothing = refl
+inside_bare p (absent rest) = inside_bare false rest
+inside_bare p (node k n below rest) = ap₂ (λ x y. x && y) (ap₂ (λ x y. inside_or_parameter p k x y) (lets_bare below) (inside_bare (is_handler k) below)) (inside_bare false rest)
+
+none_bare : (p : Bool) (t : Forest) → none_from p (bare t) ≡ none_from p t
+none_bare p nothing = refl
+none_bare p (absent rest) = none_bare false rest
+none_bare p (node k n below rest) =
+    ap₂ (λ x y. x && y)
+    (ap₂ (λ (x : Bool) (y : Bool × Bool). none_or_parameter p k x y.0 y.1) (lets_bare below) (ap₂ (λ (x y : Bool). (x, y)) (inside_bare false below) (none_bare (is_handler k) below)))
+    (none_bare false rest)
 
 pub declares_bare : (t : Forest) → declares_none (bare t) ≡ declares_none t
-declares_bare nothing = refl
-declares_bare (absent rest) = declares_bare rest
-declares_bare (node k n below rest) = ap₂ (λ x y. x && y) (ap₂ (λ x y. declares_none_at k x y) (inside_bare below) (declares_bare below)) (declares_bare rest)
+declares_bare t = none_bare false t
 
 field_bare : (t : Forest) → IsField (bare t) ↔ IsField t
 field_bare nothing = (λ h. h, λ h. h)

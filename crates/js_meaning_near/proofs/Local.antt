@@ -83,11 +83,6 @@ cut_unreached (node_cut h d) = goes_here h
 cut_unreached (cut_behind c) = goes_behind (cut_unreached c)
 cut_unreached (cut_behind_none c) = goes_behind_none (cut_unreached c)
 
-pub cut_bound : {r s : Forest} → Cut r s → bound_names r ≡ bound_names s
-cut_bound (node_cut {r = r} h d) = ap (λ v. v ++ bound_names r) d.bound
-cut_bound (cut_behind {k = k} {a = a} c) = ap (λ v. names_of k (bound_names a) ++ v) (cut_bound c)
-cut_bound (cut_behind_none c) = cut_bound c
-
 pub cut_vars : {r s : Forest} → Cut r s → var_names r ≡ var_names s
 cut_vars (node_cut {r = r} h d) = ap (λ v. v ++ var_names r) d.vars
 cut_vars (cut_behind {k = k} {a = a} c) = ap (λ v. vars_of k a (var_names a) ++ v) (cut_vars c)
@@ -111,15 +106,7 @@ same_name (in_below q s) = refl
 same_name (in_rest s) = refl
 same_name (in_absent s) = refl
 
-pub same_bound : {us : Purposes} {o : Row} {t u : Forest} → Local us o t u → bound_names t ≡ bound_names u
-same_bound (at_place {r = r} c p) = ap (λ v. v ++ bound_names r) p.bound
-same_bound (behind_jump {k = k} {a = a} j c) = ap (λ v. names_of k (bound_names a) ++ v) (cut_bound c)
-same_bound (leaves_list {r = r} i d) = ap (λ v. v ++ bound_names r) d.bound
-same_bound (in_below {k = k} {r = r} q s) = ap (λ v. names_of k v ++ bound_names r) (same_bound s)
-same_bound (in_rest {k = k} {a = a} s) = ap (λ v. names_of k (bound_names a) ++ v) (same_bound s)
-same_bound (in_absent s) = same_bound s
-
-vars_stay : (k : Kind) (a b : Forest) (l : List Text) → bound_names a ≡ bound_names b → vars_of k a l ≡ vars_of k b l
+vars_stay : (k : Kind) (a b : Forest) (l : List Text) → ReadsSame k a b → vars_of k a l ≡ vars_of k b l
 vars_stay (Kind.VariableDeclaration variable.Var) a b l e = ap (λ v. v ++ l) e
 vars_stay (Kind.VariableDeclaration variable.Let) a b l e = refl
 vars_stay (Kind.VariableDeclaration variable.Const) a b l e = refl
@@ -129,7 +116,7 @@ same_vars : {us : Purposes} {o : Row} {t u : Forest} → Local us o t u → var_
 same_vars (at_place {r = r} c p) = ap (λ v. v ++ var_names r) p.vars
 same_vars (behind_jump {k = k} {a = a} j c) = ap (λ v. vars_of k a (var_names a) ++ v) (cut_vars c)
 same_vars (leaves_list {r = r} i d) = ap (λ v. v ++ var_names r) d.vars
-same_vars (in_below {k = k} {a = a} {b = b} {r = r} q s) = ap (λ v. v ++ var_names r) (ap (vars_of k a) (same_vars s) ∙ vars_stay k a b (var_names b) (same_bound s))
+same_vars (in_below {k = k} {a = a} {b = b} {r = r} q s) = ap (λ v. v ++ var_names r) (ap (vars_of k a) (same_vars s) ∙ vars_stay k a b (var_names b) q)
 same_vars (in_rest {k = k} {a = a} s) = ap (λ v. vars_of k a (var_names a) ++ v) (same_vars s)
 same_vars (in_absent s) = same_vars s
 
@@ -147,31 +134,25 @@ same_imports source (in_below {k = k} {a = a} {b = b} {r = r} q s) = ap (λ v. v
 same_imports source (in_rest {k = k} {a = a} s) = ap (λ v. specifier_decls source k a (import_decls source a) ++ v) (same_imports source s)
 same_imports source (in_absent s) = same_imports source s
 
-items_stay : {us : Purposes} (k : Kind) (a b : Forest) (l : List Decl) → Local us (row_below k) a b → item_decls k a l ≡ item_decls k b l
-items_stay (Kind.VariableDeclaration variable.Let) a b l s = ap (all_so (waiting false)) (same_bound s)
-items_stay (Kind.VariableDeclaration variable.Const) a b l s = ap (all_so (waiting true)) (same_bound s)
-items_stay (Kind.VariableDeclaration variable.Var) a b l s = refl
-items_stay (Kind.Function function_kind.Declaration pure) a b l s = ap (named_so (waiting false)) (same_name s)
-items_stay (Kind.Class class_kind.Declaration) a b l s = ap (named_so (waiting false)) (same_name s)
-items_stay (Kind.ImportDeclaration source) a b l s = same_imports source s
-items_stay (Kind.ExportNamedDeclaration None) a b l s = refl
-items_stay k a b l s = refl
+items_stay : {us : Purposes} (k : Kind) (a b : Forest) (l : List Decl) → ReadsSame k a b → Local us (row_below k) a b → item_decls k a l ≡ item_decls k b l
+items_stay (Kind.VariableDeclaration variable.Let) a b l q s = ap (all_so (waiting false)) q
+items_stay (Kind.VariableDeclaration variable.Const) a b l q s = ap (all_so (waiting true)) q
+items_stay (Kind.VariableDeclaration variable.Var) a b l q s = refl
+items_stay (Kind.Function function_kind.Declaration pure) a b l q s = ap (named_so (waiting false)) (same_name s)
+items_stay (Kind.Class class_kind.Declaration) a b l q s = ap (named_so (waiting false)) (same_name s)
+items_stay (Kind.ImportDeclaration source) a b l q s = same_imports source s
+items_stay (Kind.ExportNamedDeclaration None) a b l q s = refl
+items_stay k a b l q s = refl
 
 pub same_lexical : {us : Purposes} {o : Row} {t u : Forest} → Local us o t u → lexical t ≡ lexical u
 same_lexical (at_place {k = k} {l = l} {a = a} {b = b} {r = r} c p) = ap (λ v. v ++ lexical r) (items_of k a (lexical a) (old_node c) ∙ sym (items_of l b (lexical b) (new_node c)))
 same_lexical (behind_jump {k = k} {a = a} j c) = ap (λ v. item_decls k a (lexical a) ++ v) (cut_lexical c)
 same_lexical (leaves_list {k = k} {a = a} {r = r} i d) = ap (λ v. v ++ lexical r) (items_of k a (lexical a) i.hoists)
-same_lexical (in_below {k = k} {a = a} {b = b} {r = r} q s) = ap (λ v. v ++ lexical r) (ap (item_decls k a) (same_lexical s) ∙ items_stay k a b (lexical b) s)
+same_lexical (in_below {k = k} {a = a} {b = b} {r = r} q s) = ap (λ v. v ++ lexical r) (ap (item_decls k a) (same_lexical s) ∙ items_stay k a b (lexical b) q s)
 same_lexical (in_rest {k = k} {a = a} s) = ap (λ v. item_decls k a (lexical a) ++ v) (same_lexical s)
 same_lexical (in_absent s) = same_lexical s
 
 -- of the first field, and behind it
-
-first_bound : {us : Purposes} {t u : Forest} → Local us fields t u → bound_names (first_of t) ≡ bound_names (first_of u)
-first_bound (at_place {us = us} {n = n} {m = m} {r = r} c p) = same_bound {o = fields} (at_place {us = all (purpose_here us (is_row r))} {n = n} {m = m} {r = nothing} c p)
-first_bound (in_below {us = us} {n = n} {r = r} q s) = same_bound {o = fields} (in_below {us = all (purpose_here us (is_row r))} {n = n} {r = nothing} q s)
-first_bound (in_rest s) = refl
-first_bound (in_absent s) = refl
 
 first_lexical : {us : Purposes} {t u : Forest} → Local us fields t u → lexical (first_of t) ≡ lexical (first_of u)
 first_lexical (at_place {us = us} {n = n} {m = m} {r = r} c p) = same_lexical {o = fields} (at_place {us = all (purpose_here us (is_row r))} {n = n} {m = m} {r = nothing} c p)
@@ -192,25 +173,22 @@ vars_both us t u s = same_vars s
 lexical_both : (us : Purposes) (t u : Forest) → Local us fields t u → lexical t ≡ lexical u
 lexical_both us t u s = same_lexical s
 
-bound_both : (us : Purposes) (t u : Forest) → Local us fields t u → bound_names (first_of t) ≡ bound_names (first_of u)
-bound_both us t u s = first_bound s
-
 code_decls : FunctionKind → List Text → List Text → List Decl → List Decl
 code_decls f vs bs ds = receiver_decls f ++ all_so ready vs ++ all_so ready bs ++ ds
 
-decls_stay : {us : Purposes} (f : FunctionKind) {t u : Forest} → Local us fields t u → function_decls f t ≡ function_decls f u
+decls_stay : {us : Purposes} (f : FunctionKind) {t u : Forest} → bound_names (first_of (behind t)) ≡ bound_names (first_of (behind u)) → Local us fields t u → function_decls f t ≡ function_decls f u
 unfolding code_decls
-decls_stay {us = us} f {t} {u} s =
+decls_stay {us = us} f {t} {u} q s =
     ap (λ vs. code_decls f vs (bound_names (first_of (behind t))) (lexical (behind (behind t)))) (behind_same (λ x. var_names (behind x)) (behind_same var_names vars_both) us t u s)
-    ∙ ap (λ bs. code_decls f (var_names (behind (behind u))) bs (lexical (behind (behind t)))) (behind_same (λ x. bound_names (first_of x)) bound_both us t u s)
+    ∙ ap (λ bs. code_decls f (var_names (behind (behind u))) bs (lexical (behind (behind t)))) q
     ∙ ap (λ ds. code_decls f (var_names (behind (behind u))) (bound_names (first_of (behind u))) ds) (behind_same (λ x. lexical (behind x)) (behind_same lexical lexical_both) us t u s)
 
-declared_stay : {us : Purposes} (k : Kind) {a b : Forest} → Local us (row_below k) a b → declared k a ≡ declared k b
-declared_stay Kind.BlockStatement s = same_lexical s
-declared_stay Kind.Cases s = same_lexical s
-declared_stay Kind.ForStatement s = first_lexical s
-declared_stay Kind.CatchClause s = ap (all_so (waiting false)) (first_bound s)
-declared_stay k s = refl
+declared_stay : {us : Purposes} (k : Kind) {a b : Forest} → ReadsSame k a b → Local us (row_below k) a b → declared k a ≡ declared k b
+declared_stay Kind.BlockStatement q s = same_lexical s
+declared_stay Kind.Cases q s = same_lexical s
+declared_stay Kind.ForStatement q s = first_lexical s
+declared_stay Kind.CatchClause q s = ap (all_so (waiting false)) q
+declared_stay k q s = refl
 
 -- ---- nearness
 
@@ -235,18 +213,18 @@ rows_stay (in_below q s) = refl
 rows_stay (in_rest s) = refl
 rows_stay (in_absent s) = refl
 
-code_stays : {us : Purposes} (st : Names) (f : FunctionKind) (a b : Forest) → Local us fields a b → FunctionOk st f b → Near for_values fields (within_code st f b) (behind a) (behind b) → Code (around_code st f b) f a b
-code_stays st function_kind.Declaration a b s y n = near_code (decls_from _ (decls_stay function_kind.Declaration s)) y.1 (rows_stay s) n
-code_stays st function_kind.Expression a b s y n = near_code (decls_from _ (decls_stay function_kind.Expression s)) y.1 (rows_stay s) n
-code_stays st function_kind.Arrow a b s y n = near_code (decls_from _ (decls_stay function_kind.Arrow s)) y.1 (rows_stay s) n
+code_stays : {us : Purposes} (st : Names) (f : FunctionKind) (a b : Forest) → bound_names (first_of (behind a)) ≡ bound_names (first_of (behind b)) → Local us fields a b → FunctionOk st f b → Near for_values fields (within_code st f b) (behind a) (behind b) → Code (around_code st f b) f a b
+code_stays st function_kind.Declaration a b q s y n = near_code (decls_from _ (decls_stay function_kind.Declaration q s)) y.1 (rows_stay s) n
+code_stays st function_kind.Expression a b q s y n = near_code (decls_from _ (decls_stay function_kind.Expression q s)) y.1 (rows_stay s) n
+code_stays st function_kind.Arrow a b q s y n = near_code (decls_from _ (decls_stay function_kind.Arrow q s)) y.1 (rows_stay s) n
 
 inside : {us : Purposes} {p : Row} {st : Names} {n : Note} {a b r : Forest} (k : Kind) (core : Bool) → is_core k ≡ core → ReadsSame k a b → Local (wanted_below (purpose_here us (is_row r)) k) (row_below k) a b → IfCore core (NodeFits p st k b (λ q e t. Near (purposes_of q (wanted_below (purpose_here us (is_row r)) k)) e t (part_of q a) (part_of q b))) → Near (purposes_behind us) p st r r → Near us p st (node k n a r) (node k n b r)
 inside k false e q s y o = near_uncovered e o
-inside {st = st} {a = a} {b = b} (Kind.Function function_kind.Declaration pure) true e q s y o = near_hoisted (same_name s) (subst (FillableIf st) (sym (same_name s)) y.0.0) (code_stays st function_kind.Declaration a b s y.0 y.1) o
+inside {st = st} {a = a} {b = b} (Kind.Function function_kind.Declaration pure) true e q s y o = near_hoisted (same_name s) (subst (FillableIf st) (sym (same_name s)) y.0.0) (code_stays st function_kind.Declaration a b q s y.0 y.1) o
 inside {st = st} {a = a} {b = b} (Kind.Function function_kind.Expression pure) true e q s y o =
-    near_closure tt (same_name s) (decls_from st (ap (named_so (waiting true)) (same_name s))) (subst (FillableIf (around_code st function_kind.Expression b)) (sym (same_name s)) y.0.0) (code_stays st function_kind.Expression a b s y.0 y.1) o
-inside {st = st} {a = a} {b = b} (Kind.Function function_kind.Arrow pure) true e q s y o = near_closure tt refl (same_decls st []) y.0.0 (code_stays st function_kind.Arrow a b s y.0 y.1) o
-inside {st = st} {a = a} {b = b} k true e q s y o = near_node y.0 (decls_from st (declared_stay k s)) (heads_stay k (names_after st (declared k b)) a b q s) y.1 o
+    near_closure tt (same_name s) (decls_from st (ap (named_so (waiting true)) (same_name s))) (subst (FillableIf (around_code st function_kind.Expression b)) (sym (same_name s)) y.0.0) (code_stays st function_kind.Expression a b q s y.0 y.1) o
+inside {st = st} {a = a} {b = b} (Kind.Function function_kind.Arrow pure) true e q s y o = near_closure tt refl (same_decls st []) y.0.0 (code_stays st function_kind.Arrow a b q s y.0 y.1) o
+inside {st = st} {a = a} {b = b} k true e q s y o = near_node y.0 (decls_from st (declared_stay k q s)) (heads_stay k (names_after st (declared k b)) a b q s) y.1 o
 
 -- what lies below stays by its row; behind a function's name, by its fields
 fits_with : (G : Part → Row → Names → Type 0) (p : Row) (st : Names) (k : Kind) (b : Forest) (core : Bool) → ((t : Names) → Fits whole (row_below k) t b → G whole (row_below k) t) → ((t : Names) → row_below k ≡ fields → Fits others fields t b → G others fields t)

@@ -4,7 +4,7 @@ use Rattle.js_syntax.specs.declared.node_kind.NodeKind.{NodeKind as Kind}
 use Rattle.js_syntax.specs.declared.operator.LogicalOperator.{LogicalOperator}
 use Rattle.js_syntax.specs.Node.{Note, Forest, nothing, node, absent, below_of}
 use Rattle.js_meaning.specs.Value.{Text}
-use Rattle.js_meaning.specs.Scope.{names_of, bound_names, vars_of, var_names, specifier_decls, import_decls}
+use Rattle.js_meaning.specs.Scope.{first_of, behind, bound_names, vars_of, var_names, specifier_decls, import_decls}
 use Rattle.js_meaning.specs.Module.{specifier_of}
 use Rattle.js_meaning_near.specs.Names.{Names}
 use Rattle.js_meaning_near.specs.Purpose.{Purpose, ForEffect, Purposes, purpose_here, purposes_behind, wanted_below}
@@ -14,13 +14,11 @@ use Rattle.js_meaning_near.specs.Once.{NodeStays}
 
 -- the one node declares outside what the other does
 pub record Plainly (k : Kind) (a : Forest) (l : Kind) (b : Forest) : Type 0 where
-  pub bound : names_of k (bound_names a) ≡ names_of l (bound_names b)
   pub vars : vars_of k a (var_names a) ≡ vars_of l b (var_names b)
   pub imports : (source : Text) → specifier_decls source k a (import_decls source a) ≡ specifier_decls source l b (import_decls source b)
 
 -- it declares nothing outside
 pub record DeclaresNothing (k : Kind) (a : Forest) : Type 0 where
-  pub bound : names_of k (bound_names a) ≡ []
   pub vars : vars_of k a (var_names a) ≡ []
   pub imports : (source : Text) → specifier_decls source k a (import_decls source a) ≡ []
 
@@ -28,9 +26,13 @@ abbrev pub KeysStay : Kind → Forest → Forest → Type 0
 KeysStay Kind.ObjectExpression a b = keys (below_of a) ≡ keys (below_of b)
 KeysStay k a b = Unit {0}
 
--- so do an object literal's keys, and the name that an export shows
+-- So do an object literal's keys, the name that an export shows, and the names that a declaration, a parameter or a handler binds: names
+-- that lie further in, where statements stand, are read off none of these (ECMA-262 8.2.1).
 abbrev pub ReadsSame : Kind → Forest → Forest → Type 0
 ReadsSame (Kind.ExportSpecifier exported) a b = specifier_of (Kind.ExportSpecifier exported) a ≡ specifier_of (Kind.ExportSpecifier exported) b
+ReadsSame (Kind.VariableDeclaration how) a b = bound_names a ≡ bound_names b
+ReadsSame Kind.CatchClause a b = bound_names (first_of a) ≡ bound_names (first_of b)
+ReadsSame (Kind.Function f pure) a b = bound_names (first_of (behind a)) ≡ bound_names (first_of (behind b))
 ReadsSame k a b = KeysStay k a b
 
 -- A node, and one that may stand for it where it is evaluated for this, whatever is known of the names around.

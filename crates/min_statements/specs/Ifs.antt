@@ -3,7 +3,8 @@ use Rattle.std.specs.Prelude.{ℕ, Bool, true, false, ◌&&◌, Option, Some, No
 use Rattle.js_syntax.specs.declared.node_kind.NodeKind.{NodeKind as Kind}
 use Rattle.js_syntax.specs.declared.node_kind.NodeKind.TheVariants.{IfStatement as if_statement}
 use Rattle.js_syntax.specs.Node.{Forest, Tree, nothing, node, absent}
-use Rattle.steps_allowed.specs.Branches.{is_branch, stays_inside, declares_none_at, declares_none}
+use Rattle.steps_allowed.specs.Branches as branches
+use Rattle.steps_allowed.specs.Branches.{is_branch}
 use Rattle.steps_allowed.specs.KnownConditional.{truth_known}
 use Rattle.min_statements.specs.declared.ifs.Branches.{Branches as Answer}
 use Rattle.min_statements.specs.declared.ifs.Branches.TheVariants as answer
@@ -29,7 +30,7 @@ told_branches answer.Others = others
 -- ---- which of them
 
 abbrev pub declares_no_name : Tree → Bool
-declares_no_name x = declares_none_at x.kind (stays_inside x.below) (declares_none x.below)
+declares_no_name x = branches.declares_no_name x.kind x.below
 
 abbrev pub index_if : Bool → Option ℕ → Option (Option ℕ)
 index_if b i = if b then Some i else None

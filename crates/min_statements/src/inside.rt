@@ -1,7 +1,7 @@
 // What declares no name around it. Each recursion goes as deep as the tree.
 ghost use Rattle.std.specs.Prelude.{◌≡◌};
 ghost use Rattle.js_syntax.specs.Node.{row};
-ghost use Rattle.steps_allowed.specs.Branches.{lets_only_at, lets_only, stays_inside_at, stays_inside, declares_none};
+ghost use Rattle.steps_allowed.specs.Branches.{is_handler, lets_only_at, lets_only, stays_inside_at, inside_from, none_from};
 ghost use Rattle.min_statements.specs.Ifs.{declares_no_name};
 
 use js_syntax::{ClassKind, FunctionKind, NodeKind, VariableKind};
@@ -41,7 +41,7 @@ fn lets_only(children: &[Option<Node>]) -> bool
 
 #[cycle(inside)]
 fn stays_inside_at(node: &Node) -> bool
-    ensures { result ≡ stays_inside_at node.now.kind (lets_only node.now.below) (stays_inside node.now.below) }
+    ensures { result ≡ stays_inside_at node.now.kind (lets_only node.now.below) (inside_from (is_handler node.now.kind) node.now.below) }
 {
     match node.kind() {
         NodeKind::BindingName(_) => false,
@@ -50,21 +50,30 @@ fn stays_inside_at(node: &Node) -> bool
         NodeKind::VariableDeclaration(VariableKind::Const) => lets_only(node.children()),
         NodeKind::Function { kind, .. } => !matches!(kind, FunctionKind::Declaration),
         NodeKind::Class(_) => true,
-        _ => stays_inside(node.children()),
+        NodeKind::CatchClause => inside_from(true, node.children()),
+        _ => inside_from(false, node.children()),
     }
 }
 
+// `is_parameter` says whether a handler's parameter stands first.
 #[cycle(inside)]
-fn stays_inside(children: &[Option<Node>]) -> bool
-    ensures { result ≡ stays_inside (row children.now) }
+fn inside_from(is_parameter: bool, children: &[Option<Node>]) -> bool
+    ensures { result ≡ inside_from is_parameter (row children.now) }
 {
+    let mut is_first = is_parameter;
     let mut rest = children;
     while let [first, others @ ..] = rest {
         if let Some(node) = first {
-            if !stays_inside_at(node) {
+            let stays = if is_first {
+                lets_only_at(node)
+            } else {
+                stays_inside_at(node)
+            };
+            if !stays {
                 return false;
             }
         }
+        is_first = false;
         rest = others;
     }
     true
@@ -79,24 +88,33 @@ pub(crate) fn declares_no_name(node: &Node) -> bool
 {
     match node.kind() {
         NodeKind::BindingName(_) => false,
+        NodeKind::VariableDeclaration(VariableKind::Var) => false,
         NodeKind::Function { kind, .. } => !matches!(kind, FunctionKind::Declaration),
         NodeKind::Class(kind) => !matches!(kind, ClassKind::Declaration),
-        NodeKind::BlockStatement => stays_inside(node.children()),
-        _ => declares_none(node.children()),
+        NodeKind::BlockStatement => inside_from(false, node.children()),
+        NodeKind::CatchClause => none_from(true, node.children()),
+        _ => none_from(false, node.children()),
     }
 }
 
 #[cycle(declares)]
-fn declares_none(children: &[Option<Node>]) -> bool
-    ensures { result ≡ declares_none (row children.now) }
+fn none_from(is_parameter: bool, children: &[Option<Node>]) -> bool
+    ensures { result ≡ none_from is_parameter (row children.now) }
 {
+    let mut is_first = is_parameter;
     let mut rest = children;
     while let [first, others @ ..] = rest {
         if let Some(node) = first {
-            if !declares_no_name(node) {
+            let declares_none = if is_first {
+                lets_only_at(node)
+            } else {
+                declares_no_name(node)
+            };
+            if !declares_none {
                 return false;
             }
         }
+        is_first = false;
         rest = others;
     }
     true

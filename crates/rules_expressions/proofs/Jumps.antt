@@ -18,7 +18,7 @@ use Rattle.scope_counts.specs.Edits.{here, behind, behind_none, under, plug}
 use Rattle.scope_laws.specs.Place as places
 use Rattle.scope_laws.specs.Place.{first}
 use Rattle.scope_laws.specs.Lists.{without}
-use Rattle.steps_allowed.specs.Branches.{stays_inside, declares_none_at, declares_none}
+use Rattle.steps_allowed.specs.Branches.{declares_none, declares_no_name}
 use Rattle.steps_allowed.specs.Edits.{Edit, leaves, unreached, TreeEdits, no_tree_edit, one_tree_edit}
 use Rattle.steps_allowed.specs.Unreached.{only_runs, is_behind_jump, Unreached, never_runs}
 use Rattle.steps_allowed.specs.Places.{asked_at, IsItem}
@@ -60,11 +60,11 @@ jumped_none jumped (under l m a r) = jumped_none false a
 
 unreached_there : (p : Place) (a : counts.Around) (jumped : Bool) (k : Kind) (n : Note) (b rest : Forest) → IsItems p a → jumped_at false a ≡ jumped → is_unreached jumped k b ≡ true → Unreached (to a (first rest)) (record { kind = k; note = n; below = b })
 unreached_there p a jumped k n b rest items is goes =
-    let runs = second_of_both jumped (only_runs k && declares_none_at k (stays_inside b) (declares_none b)) goes in
+    let runs = second_of_both jumped (only_runs k && declares_no_name k b) goes in
     never_runs (item_there p a rest items)
-    (jumped_to false a rest ∙ is ∙ first_of_both jumped (only_runs k && declares_none_at k (stays_inside b) (declares_none b)) goes)
-    (first_of_both (only_runs k) (declares_none_at k (stays_inside b) (declares_none b)) runs)
-    (both (declares_none_at k (stays_inside b) (declares_none b)) true (second_of_both (only_runs k) (declares_none_at k (stays_inside b) (declares_none b)) runs) refl)
+    (jumped_to false a rest ∙ is ∙ first_of_both jumped (only_runs k && declares_no_name k b) goes)
+    (first_of_both (only_runs k) (declares_no_name k b) runs)
+    (both (declares_no_name k b) true (second_of_both (only_runs k) (declares_no_name k b) runs) refl)
 
 unreached_goes : (p : Place) (a : counts.Around) (jumped : Bool) (k : Kind) (n : Note) (b rest : Forest) → IsItems p a → jumped_at false a ≡ jumped → is_unreached jumped k b ≡ true → Edit (plug a (node k n b rest)) (plug a rest)
 unreached_goes p a jumped k n b rest items is goes =
@@ -115,7 +115,7 @@ list_edits a x y rest e =
 -- ---- what is left is less
 
 unreached_weighs : (jumped : Bool) (k : Kind) (b : Forest) → is_unreached jumped k b ≡ true → 1 ≤ weight k
-unreached_weighs jumped k b h = runs_weigh k (first_of_both (only_runs k) (declares_none_at k (stays_inside b) (declares_none b)) (second_of_both jumped (only_runs k && declares_none_at k (stays_inside b) (declares_none b)) h))
+unreached_weighs jumped k b h = runs_weigh k (first_of_both (only_runs k) (declares_no_name k b) (second_of_both jumped (only_runs k && declares_no_name k b) h))
 
 thinner_by : (r : ℕ) (k : Kind) (n : Note) (b rest gone stays : Forest) (goes : Bool) → ids r gone ≤ ids r rest → ids r stays ≤ ids r rest → ids r (if goes then gone else node k n b stays) ≤ ids r (node k n b rest)
 thinner_by r k n b rest gone stays true h g = Prim.omega (arith, h)
@@ -184,8 +184,8 @@ found_absent f = record { place = behind_none f.place; note = f.note; items = f.
 module _ (x : Tree) (runs : only_runs x.kind ≡ true) (none : declares_none (forest_of x) ≡ true) where
   goes_there : (jumped : Bool) → jumped ≡ true → is_unreached jumped x.kind x.below ≡ true
   goes_there jumped jump =
-      both jumped (only_runs x.kind && declares_none_at x.kind (stays_inside x.below) (declares_none x.below)) jump
-      (both (only_runs x.kind) (declares_none_at x.kind (stays_inside x.below) (declares_none x.below)) runs (first_of_both (declares_none_at x.kind (stays_inside x.below) (declares_none x.below)) true none))
+      both jumped (only_runs x.kind && declares_no_name x.kind x.below) jump
+      (both (only_runs x.kind) (declares_no_name x.kind x.below) runs (first_of_both (declares_no_name x.kind x.below) true none))
 
   find : (w : Asked) (b : places.Around) (jumped : Bool) → (asked_at w b).row ≡ row_items → is_behind_jump jumped b ≡ true
       → ((w.row ≡ row_items) × (has_unreached jumped (places.plug b (Some x)) ≡ true)) ⊎ Found (places.plug b (Some x))

@@ -5,13 +5,13 @@ use Rattle.js_syntax.specs.declared.node_kind.NodeKind.TheVariants.{Statements a
 use Rattle.js_syntax.specs.Node.{Forest, Tree, Note, nothing, node, absent}
 use Rattle.js_meaning_near.specs.Near.{is_jump}
 use Rattle.min_traverse.specs.Lawful.{Rule}
-use Rattle.steps_allowed.specs.Branches.{stays_inside, declares_none_at, declares_none}
+use Rattle.steps_allowed.specs.Branches.{declares_no_name}
 use Rattle.steps_allowed.specs.Unreached.{only_runs}
 use Rattle.rules_expressions.specs.Lists.{new_note}
 
 -- an item; `jumped` says whether a jump stands before it
 abbrev pub is_unreached : (jumped : Bool) → Kind → (below : Forest) → Bool
-is_unreached jumped k below = jumped && (only_runs k && declares_none_at k (stays_inside below) (declares_none below))
+is_unreached jumped k below = jumped && (only_runs k && declares_no_name k below)
 
 -- the items that stay
 abbrev pub reached : (jumped : Bool) → Forest → Forest

@@ -74,6 +74,10 @@ if_one body = over Kind.IfStatement (joined one (joined body no))
 abbrev pub if_null : (consequent alternate : Forest) → Forest
 if_null consequent alternate = over Kind.IfStatement (joined null (joined consequent alternate))
 
+-- try {} catch (a) { items }
+abbrev pub tried : (items : List Forest) → Forest
+tried items = over Kind.TryStatement (joined (block []) (joined (over Kind.CatchClause (joined (binds a) (block items))) no))
+
 -- if (test) consequent else alternate
 abbrev pub either_way : (test consequent alternate : Forest) → Forest
 either_way test consequent alternate = over Kind.IfStatement (joined test (joined consequent alternate))

@@ -33,7 +33,7 @@ use Rattle.steps_owed.proofs.KnownTests.{test_tells, test_weighs}
 use Rattle.steps_owed.proofs.Outward.{declares_nothing}
 use Rattle.steps_owed.proofs.PartForm.{nothing_declared, if_stays_outside, emptied_if_sheds}
 use Rattle.steps_owed.proofs.Places.{inside_program}
-use Rattle.steps_owed.proofs.Undeclared.{no_names, both_plainly}
+use Rattle.steps_owed.proofs.Undeclared.{no_variables, emptied_plainly}
 use Rattle.steps_owed.proofs.Unseen.{enclosed_alone_there}
 use Rattle.steps_owed.proofs.UnseenCounts.{idle_empties}
 
@@ -66,7 +66,7 @@ module _ (a : Around) (n m i o : Note) (t k : Kind) (d b : Forest) (truth : trut
     same = refl;
     stands = for_part (λ st. statement_is_empty (wanted_at a) st t m i d k b (test_tells t m d false truth));
     old_calm = refl;
-    plainly = both_plainly if_statement below empty_statement o nothing nothing refl (record { bound = no_names below undeclared; imports = imports }) (record { bound = refl; imports = λ source. refl });
+    declares = emptied_plainly below (record { vars = no_variables below undeclared; imports = imports });
     core = λ c. refl;
   }
 

@@ -7,26 +7,26 @@ use Rattle.js_syntax.specs.Facts.{weight}
 use Rattle.js_syntax.specs.Node.{Forest, Tree, nothing, node, absent, forest_of, bare}
 use Rattle.js_syntax.proofs.Truth.{both}
 use Rattle.js_meaning.specs.Value.{Text}
-use Rattle.js_meaning.specs.Scope.{Decl, names_of, bound_names, vars_of, var_names, specifier_decls, import_decls}
+use Rattle.js_meaning.specs.Scope.{Decl, vars_of, var_names, specifier_decls, import_decls}
 use Rattle.json_shape.specs.Shape.{is_directive_kind, Fits}
 use Rattle.min_pass.specs.declared.around.Around.{Around as Asked}
 use Rattle.min_pass.specs.Around.{outermost as asked_of_program}
 use Rattle.scope_rules.specs.Context.{outermost}
 use Rattle.scope_laws.specs.Place.{Around, plug}
-use Rattle.steps_allowed.specs.Branches.{lets_only, stays_inside_at, stays_inside, declares_none_at, declares_none}
+use Rattle.steps_allowed.specs.Branches.{is_handler, lets_only, stays_inside_at, inside_from, stays_inside, declares_none, declares_no_name}
 use Rattle.steps_allowed.specs.Changing.{holds_items, may_change_at}
 use Rattle.steps_allowed.specs.EmptyBlock.{is_idle, idles, holds_nothing, EmptyBlock, empty_block_leaves}
 use Rattle.steps_allowed.specs.Exposure.{Exposure, exposure, evaluates_somewhere}
 use Rattle.steps_allowed.specs.Places.{asked_at}
+use Rattle.steps_keep_form.specs.Part.{is_statement}
 use Rattle.steps_keep_form.specs.Sheds.{exports_none}
 use Rattle.steps_keep_form.proofs.Rules.{first_empty}
-use Rattle.steps_keep_runs.proofs.Lists.{no_vars}
 use Rattle.steps_owed.specs.Owed.{IsOther, IsUnexported, by_change, Leaving}
 use Rattle.steps_owed.proofs.Focus.{always, follows_there}
 use Rattle.steps_owed.proofs.IdleRuns.{held, does_nothing, leaving_is_local}
 use Rattle.steps_owed.proofs.Outward.{declares_nothing}
 use Rattle.steps_owed.proofs.PartForm.{outside_as, nothing_declared}
-use Rattle.steps_owed.proofs.Undeclared.{no_names}
+use Rattle.steps_owed.proofs.Undeclared.{no_variables}
 use Rattle.steps_owed.proofs.Unreached.{no_catch}
 use Rattle.steps_owed.proofs.Unseen.{enclosed_alone_there}
 
@@ -35,33 +35,33 @@ no_kind e = absurd (true≢false (sym e))
 
 -- ---- it declares no name
 
-inside_here : (k : Kind) (lets below : Bool) → is_idle k ≡ true → below ≡ true → stays_inside_at k lets below ≡ true
-inside_here empty_statement lets below h e = e
-inside_here statements lets below h e = e
-inside_here block_statement lets below h e = e
-inside_here (labeled_statement l) lets below h e = e
-inside_here k lets below h e = no_kind h
+inside_here : (k : Kind) (a : Forest) → is_idle k ≡ true → stays_inside a ≡ true → stays_inside_at k (lets_only a) (inside_from (is_handler k) a) ≡ true
+inside_here empty_statement a h e = e
+inside_here statements a h e = e
+inside_here block_statement a h e = e
+inside_here (labeled_statement l) a h e = e
+inside_here k a h e = no_kind h
 
 names_inside : (t : Forest) → idles t ≡ true → stays_inside t ≡ true
 names_inside nothing h = refl
 names_inside (absent r) h = names_inside r h
 names_inside (node k n a r) h =
     let o = held k a r h in
-    both (stays_inside_at k (lets_only a) (stays_inside a)) (stays_inside r) (inside_here k (lets_only a) (stays_inside a) o.idle (names_inside a o.below)) (names_inside r o.rest)
+    both (stays_inside_at k (lets_only a) (inside_from (is_handler k) a)) (stays_inside r) (inside_here k a o.idle (names_inside a o.below)) (names_inside r o.rest)
 
-none_here : (k : Kind) (inside below : Bool) → is_idle k ≡ true → inside ≡ true → below ≡ true → declares_none_at k inside below ≡ true
-none_here empty_statement inside below h i e = e
-none_here statements inside below h i e = e
-none_here block_statement inside below h i e = i
-none_here (labeled_statement l) inside below h i e = e
-none_here k inside below h i e = no_kind h
+none_here : (k : Kind) (a : Forest) → is_idle k ≡ true → stays_inside a ≡ true → declares_none a ≡ true → declares_no_name k a ≡ true
+none_here empty_statement a h i e = e
+none_here statements a h i e = e
+none_here block_statement a h i e = i
+none_here (labeled_statement l) a h i e = e
+none_here k a h i e = no_kind h
 
 none_declared : (t : Forest) → idles t ≡ true → declares_none t ≡ true
 none_declared nothing h = refl
 none_declared (absent r) h = none_declared r h
 none_declared (node k n a r) h =
     let o = held k a r h in
-    both (declares_none_at k (stays_inside a) (declares_none a)) (declares_none r) (none_here k (stays_inside a) (declares_none a) o.idle (names_inside a o.below) (none_declared a o.below)) (none_declared r o.rest)
+    both (declares_no_name k a) (declares_none r) (none_here k a o.idle (names_inside a o.below) (none_declared a o.below)) (none_declared r o.rest)
 
 imports_here : (source : Text) (k : Kind) (a : Forest) (ds : List Decl) → is_idle k ≡ true → ds ≡ [] → specifier_decls source k a ds ≡ []
 imports_here source empty_statement a ds h e = e
@@ -83,18 +83,18 @@ pub record Holds (k : Kind) (a : Forest) : Type 0 where
   pub idle : is_idle k ≡ true
   pub below : idles a ≡ true
   pub weighs : 1 ≤ weight k
+  pub states : is_statement k ≡ true
   pub no_directive : is_directive_kind k ≡ false
 
 pub holds : (k : Kind) (a : Forest) → holds_nothing k a ≡ true → Holds k a
-holds block_statement a h = record { idle = refl; below = h; weighs = Prim.omega arith; no_directive = refl }
-holds (labeled_statement l) a h = record { idle = refl; below = h; weighs = Prim.omega arith; no_directive = refl }
+holds block_statement a h = record { idle = refl; below = h; weighs = Prim.omega arith; states = refl; no_directive = refl }
+holds (labeled_statement l) a h = record { idle = refl; below = h; weighs = Prim.omega arith; states = refl; no_directive = refl }
 holds k a h = no_kind h
 
 pub holding_declares_none : (x : Tree) → holds_nothing x.kind x.below ≡ true → declares_none (forest_of x) ≡ true
 holding_declares_none x h =
     let o = holds x.kind x.below h in
-    let here = none_here x.kind (stays_inside x.below) (declares_none x.below) o.idle (names_inside x.below o.below) (none_declared x.below o.below) in
-    both (declares_none_at x.kind (stays_inside x.below) (declares_none x.below)) true here refl
+    both (declares_no_name x.kind x.below) true (none_here x.kind x.below o.idle (names_inside x.below o.below) (none_declared x.below o.below)) refl
 
 is_other : (x : Tree) → holds_nothing x.kind x.below ≡ true → IsOther x
 is_other x h = other x.kind h
@@ -115,7 +115,6 @@ pub empty_block_owes : (a : Around) (x : Tree) → EmptyBlock a x → Leaving a 
 empty_block_owes a x (empty_block_leaves item nothing_held) =
     let o = holds x.kind x.below nothing_held in
     let none = holding_declares_none x nothing_held in
-    let names = no_names (forest_of x) none in
     record {
       weighs = Prim.omega (arith, o.weighs);
       listed = inl item;
@@ -126,9 +125,8 @@ empty_block_owes a x (empty_block_leaves item nothing_held) =
       unexported = follows_there (λ b c i. Unit {0}) (IsUnexported (plug a (Some x)) x)
           (λ b c i h z within right seeks. ap (exports_none z.exported) (nothing_declared z.sought 0 (forest_of x) (outside_as z.sought (forest_of x) (no_catch (plug a (Some x)) z.sought z.exported c seeks)) none)) (Some x) a false (λ at. outermost) 0 0
           (always (Some x) a false (λ at. outermost) 0 0);
-      runs = by_change (λ n m b is fits form core. leaving_is_local x (does_nothing x.kind x.below nothing_held) (record {
-        bound = first_empty (names_of x.kind (bound_names x.below)) [] names;
-        vars = first_empty (vars_of x.kind x.below (var_names x.below)) [] (no_vars (forest_of x) names);
+      runs = by_change (λ n m b is fits form core. leaving_is_local x (does_nothing x.kind x.below nothing_held) o.states (record {
+        vars = first_empty (vars_of x.kind x.below (var_names x.below)) [] (no_variables (forest_of x) none);
         imports = λ source. imports_here source x.kind x.below (import_decls source x.below) o.idle (none_imported source x.below o.below);
       }) a item (subst (Fits root) (sym is) fits));
     }

@@ -10,7 +10,7 @@ use Rattle.js_meaning.specs.Module.{requests_of, requests, Entry, entry_local, s
 use Rattle.js_meaning_near.specs.Near.{hoists_nothing, Row, fields, row_below}
 use Rattle.js_meaning_near.specs.Purpose.{Purpose, Purposes, all, wanted_below}
 use Rattle.js_meaning_near.specs.Local.{ReadsSame, Cut, node_cut, cut_behind, cut_behind_none, Local, at_place, behind_jump, leaves_list, in_below, in_rest, in_absent}
-use Rattle.js_meaning_near.proofs.Local.{old_node, new_node, same_bound, same_lexical}
+use Rattle.js_meaning_near.proofs.Local.{old_node, new_node, same_lexical}
 
 -- ---- nodes that hoist nothing export nothing
 
@@ -118,7 +118,7 @@ module _ (f : Forest → List Entry) (stays : (us : Purposes) (o : Row) (t u : F
 -- ---- declarations that are exported
 
 declared_below : (u : Purpose) (k : Kind) {a b : Forest} → ReadsSame k a b → Local (wanted_below u k) (row_below k) a b → declared_in k a ≡ declared_in k b
-declared_below u (Kind.VariableDeclaration how) q s = same_bound s
+declared_below u (Kind.VariableDeclaration how) q s = q
 declared_below u k q s = ap names_in (same_lexical {o = fields} (in_below {us = all u} {k = k} {n = nowhere} {r = nothing} q s))
 
 declared_stay : {us : Purposes} {t u : Forest} → Local us fields t u → declared_entries t ≡ declared_entries u

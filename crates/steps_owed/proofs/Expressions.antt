@@ -2,7 +2,7 @@
 use Rattle.std.proofs.Common.{◌≡◌, ℕ, suc, [], ◌∷◌, Bool, true, false, not, ◌&&◌, ◌||◌, refl, sym, true≢false}
 use Rattle.js_syntax.specs.Class.{Class, root, method_value, private_key, expression, expression_or_private, callee, argument, object_item, chain_part, template, quasi_item, simple_target, target, target_value, target_element, target_item}
 use Rattle.js_syntax.specs.declared.node_kind.NodeKind.{NodeKind as Kind}
-use Rattle.js_syntax.specs.declared.node_kind.NodeKind.TheVariants.{Function as function, Class as class, BlockStatement as block_statement, BindingName as binding_name}
+use Rattle.js_syntax.specs.declared.node_kind.NodeKind.TheVariants.{Function as function, Class as class, BlockStatement as block_statement, CatchClause as catch_clause, VariableDeclaration as variable_declaration, BindingName as binding_name}
 use Rattle.js_syntax.specs.declared.kind.FunctionKind.TheVariants as function_kind
 use Rattle.js_syntax.specs.declared.kind.ClassKind.TheVariants as class_kind
 use Rattle.js_syntax.specs.Node.{Forest, nothing, node, absent}
@@ -12,7 +12,7 @@ use Rattle.form_rules.specs.declared.sought.Sought.{Sought}
 use Rattle.form_rules.specs.declared.sought.Sought.TheVariants.{CatchScope as catch_scope}
 use Rattle.json_shape.specs.Shape.{Values, kind_in, first_of, one, these, Fits}
 use Rattle.json_shape.proofs.Choice.{is_list_kind}
-use Rattle.steps_allowed.specs.Branches.{stays_inside, declares_none_at, declares_none}
+use Rattle.steps_allowed.specs.Branches.{declares_none, declares_no_name}
 use Rattle.steps_fit.proofs.CoreCalm.{rows_of}
 use Rattle.steps_fit.proofs.CoreRows.{takes_such, if_so, fields_pass}
 use Rattle.steps_fit.proofs.Enclosing.{enclosed}
@@ -85,11 +85,13 @@ in_expression an_import_meta = true
 in_expression an_import_expression = true
 in_expression r = false
 
--- A block counts too, since it may have a scope of its own.
+-- A block and a handler count too, since they have scopes of their own.
 abbrev declares_itself : Kind → Bool
 declares_itself (binding_name x) = true
 declares_itself (function function_kind.Declaration pure) = true
 declares_itself (class class_kind.Declaration) = true
+declares_itself (variable_declaration how) = true
+declares_itself catch_clause = true
 declares_itself block_statement = true
 declares_itself k = false
 
@@ -118,6 +120,8 @@ lists : (kind : Kind) → is_list_kind kind ≡ true → not (declares_itself ki
 lists (binding_name x) h = absurd cc
 lists (function how pure) h = absurd cc
 lists (class how) h = absurd cc
+lists (variable_declaration how) h = absurd cc
+lists catch_clause h = absurd cc
 lists block_statement h = absurd cc
 lists kind h = refl
 
@@ -131,17 +135,19 @@ shut_declares at (node k n below rest) h =
     let inner = shut declares_itself lets (λ i. lets k i) 0 below in
     let later = shut declares_itself lets (λ i. true) (suc at) rest in
     let further = second_of_both (not (declares_itself k)) (inner && later) h in
-    both (declares_none_at k (stays_inside below) (declares_none below)) (declares_none rest)
+    both (declares_no_name k below) (declares_none rest)
     (here k below (first_of_both (not (declares_itself k)) (inner && later) h) (first_of_both inner later further) (shut_declares 0 below))
     (shut_declares (suc at) rest (second_of_both inner later further))
   where
     here : (k : Kind) (below : Forest) → not (declares_itself k) ≡ true → shut declares_itself lets (λ i. lets k i) 0 below ≡ true
-        → (shut declares_itself lets (λ i. true) 0 below ≡ true → declares_none below ≡ true) → declares_none_at k (stays_inside below) (declares_none below) ≡ true
+        → (shut declares_itself lets (λ i. true) 0 below ≡ true → declares_none below ≡ true) → declares_no_name k below ≡ true
     here (binding_name x) below h e f = h
     here (function function_kind.Declaration pure) below h e f = h
     here (function how pure) below h e f = refl
     here (class class_kind.Declaration) below h e f = h
     here (class class_kind.Expression) below h e f = refl
+    here (variable_declaration how) below h e f = absurd (true≢false (sym h))
+    here catch_clause below h e f = absurd (true≢false (sym h))
     here block_statement below h e f = absurd (true≢false (sym h))
     here k below h e f = f e
 

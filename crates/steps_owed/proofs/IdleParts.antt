@@ -221,7 +221,7 @@ module _ (a : Around) (p i : Note) (parts : Forest) where
       same = refl;
       stands = for_part (λ s. comes_to_last (wanted_at a) s i k j b keeps (bare_at a k j b of.0 core_left (wanted_as_used a sequence (λ e. cc) core fits) bare));
       old_calm = refl;
-      plainly = both_plainly sequence_expression sequence.below k j b nothing refl old_declares (declares_none (node k j b nothing) (of.0, tt) core_left none);
+      declares = both_plainly sequence_expression sequence.below k j b nothing refl old_declares (declares_none (node k j b nothing) (of.0, tt) core_left none);
       core = λ c. core_stays keeps (core_below expressions i parts nothing (core_below sequence_expression p sequence.below nothing c));
     }
     value_comes {n = n} {m = m} (in_sequence rest more) keeps none core_left of = record {
@@ -229,7 +229,7 @@ module _ (a : Around) (p i : Note) (parts : Forest) where
       same = refl;
       stands = for_sequence (λ s. counting_shorter s keeps);
       old_calm = refl;
-      plainly = both_plainly sequence_expression sequence.below sequence_expression n (node expressions i rest nothing) nothing refl old_declares
+      declares = both_plainly sequence_expression sequence.below sequence_expression n (node expressions i rest nothing) nothing refl old_declares
           (declares_none (forest_of (sequence_of n i rest)) (sequence_fits i rest of, tt) (sequence_core n i rest core_left) (sequence_imports n i rest none));
       core = λ c. sequence_core n m rest (core_stays keeps (core_below expressions i parts nothing (core_below sequence_expression p sequence.below nothing c)));
     }

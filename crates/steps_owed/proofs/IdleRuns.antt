@@ -28,6 +28,7 @@ use Rattle.steps_allowed.specs.EmptyBlock.{is_idle, idles, holds_nothing}
 use Rattle.steps_allowed.specs.Places.{asked_at, IsItem}
 use Rattle.steps_fit.proofs.Holding.{is_sound, planned_below}
 use Rattle.steps_fit.proofs.Passing.{plan_passes, first_passes, behind_passes}
+use Rattle.steps_keep_form.specs.Part.{is_statement}
 use Rattle.steps_owed.proofs.Made.{MadeBy, is_single, made_at}
 use Rattle.steps_owed.proofs.LeftRuns.{list_of_both, reads_same}
 
@@ -169,7 +170,7 @@ does_nothing k a h = record { hoists = kind_hoists k a h; nothing_done = λ E q 
 
 -- ---- the change
 
-module _ (x : Tree) (idle : DoesNothing x.kind x.below) (declares : DeclaresNothing x.kind x.below) where
+module _ (x : Tree) (idle : DoesNothing x.kind x.below) (states : is_statement x.kind ≡ true) (declares : DeclaresNothing x.kind x.below) where
   local_leaving : (us : Purposes) (o : NearRow) (w : Asked) (a : Around) → (w.row ≡ items → o ≡ near_items) → (asked_at w a).row ≡ items → (plan : Plan) → plan_passes is_sound plan ≡ true → Stand plan (plug a (Some x)) → Local us o (plug a (Some x)) (without a)
   local_leaving us o w (first rest) list item plan h st = subst (λ p. Local us p (node x.kind x.note x.below rest) rest) (sym (list item)) (leaves_list idle declares)
   local_leaving us o w (behind k n below a) list item plan h st = in_rest (local_leaving (purposes_behind us) o w a list item (shape.behind plan k) (behind_passes is_sound plan k h) st.1)
@@ -177,7 +178,7 @@ module _ (x : Tree) (idle : DoesNothing x.kind x.below) (declares : DeclaresNoth
   local_leaving us o w (under k n a rest) list item plan h st =
       let planned = planned_below (plug a (Some x)) (first_place plan) k st.0 in
       let single : is_single k ≡ true → MadeBy k (plug a (Some x)) = λ s. made_at (plug a (Some x)) k s (first_place plan) (first_passes is_sound plan refl h) st.0 in
-      in_below (reads_same x w k a item single) (local_leaving (wanted_below (purpose_here us (is_row rest)) k) (near_row_below k) (asked_below w k) a (list_of_both w.row k) item planned.0 planned.1 planned.2)
+      in_below (reads_same x states w k a item single) (local_leaving (wanted_below (purpose_here us (is_row rest)) k) (near_row_below k) (asked_below w k) a (list_of_both w.row k) item planned.0 planned.1 planned.2)
 
   pub leaving_is_local : (a : Around) → IsItem a → Fits root (plug a (Some x)) → Local for_values fields (plug a (Some x)) (without a)
   leaving_is_local a item fits = local_leaving for_values fields (asked_of_program true) a (λ e. absurd cc) item (these (one root ∷ [])) refl fits

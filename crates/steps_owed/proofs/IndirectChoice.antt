@@ -203,7 +203,7 @@ behind_comes a n m i {x = x} {z = z} counts h =
       same = refl;
       stands = behind_stands (wanted_at a) n m i counts;
       old_calm = choice_calm counts;
-      plainly = both_plainly x.kind x.below sequence_expression n y.below nothing (choice_calm counts) h (behind_declares n m i z (counted_declares counts h));
+      declares = both_plainly x.kind x.below sequence_expression n y.below nothing (choice_calm counts) h (behind_declares n m i z (counted_declares counts h));
       core = λ c. behind_core n m i z (counted_core counts c);
     }
 

@@ -18,6 +18,7 @@ use Rattle.steps_allowed.specs.Places.{asked_at}
 use Rattle.steps_allowed.specs.Unreached.{is_behind_jump}
 use Rattle.steps_fit.proofs.Holding.{is_sound, planned_below}
 use Rattle.steps_fit.proofs.Passing.{plan_passes, first_passes, behind_passes}
+use Rattle.steps_keep_form.specs.Part.{is_statement}
 use Rattle.steps_owed.specs.Owed.{IsUnreachedItem}
 use Rattle.steps_owed.proofs.LeftRuns.{list_of_both, reads_same}
 use Rattle.steps_owed.proofs.Made.{MadeBy, is_single, made_at}
@@ -27,7 +28,7 @@ use Rattle.steps_owed.proofs.PartRuns.{calm_hoists}
 abbrev CutThere : Purposes → NearRow → Asked → (jumped : Bool) → Forest → Forest → Type 0
 CutThere us o w jumped t u = ((jumped ≡ true) × ((w.row ≡ items) × Cut t u)) ⊎ Local us o t u
 
-module _ (x : Tree) (calm : is_calm x.kind ≡ true) (declares : DeclaresNothing x.kind x.below) where
+module _ (x : Tree) (calm : is_calm x.kind ≡ true) (states : is_statement x.kind ≡ true) (declares : DeclaresNothing x.kind x.below) where
   local_cut : (us : Purposes) (o : NearRow) (w : Asked) (a : Around) (jumped : Bool) → (w.row ≡ items → o ≡ near_items) → (asked_at w a).row ≡ items → is_behind_jump jumped a ≡ true
       → (plan : Plan) → plan_passes is_sound plan ≡ true → Stand plan (plug a (Some x)) → CutThere us o w jumped (plug a (Some x)) (without a)
   local_cut us o w (first rest) jumped list item jump plan h st = inl (jump, (item, node_cut (calm_hoists x.kind calm) declares))
@@ -49,7 +50,7 @@ module _ (x : Tree) (calm : is_calm x.kind ≡ true) (declares : DeclaresNothing
       let single : is_single k ≡ true → MadeBy k (plug a (Some x)) = λ s. made_at (plug a (Some x)) k s (first_place plan) (first_passes is_sound plan refl h) st.0 in
       elim (local_cut (wanted_below (purpose_here us (is_row rest)) k) (near_row_below k) (asked_below w k) a false (list_of_both w.row k) item jump planned.0 planned.1 planned.2) [
         | inl found ↦ absurd (true≢false (sym found.0))
-        | inr change ↦ inr (in_below (reads_same x w k a item single) change)
+        | inr change ↦ inr (in_below (reads_same x states w k a item single) change)
       ]
 
   pub cut_is_local : (a : Around) → IsUnreachedItem a → Fits root (plug a (Some x)) → Local for_values fields (plug a (Some x)) (without a)

@@ -114,7 +114,7 @@ conditional_comes a x y (consequent_is_taken n m i j t k l d b c truth bare) fit
       same = refl;
       stands = for_part (λ st. condition_holds (wanted_at a) st t m i j d k l b c (test_tells t m d true truth) (bare_at a k i b three.1.0 (is_core (core_there a x core)) wanted bare));
       old_calm = refl;
-      plainly = both_plainly Kind.ConditionalExpression below k i b (node l j c nothing) refl h (nothing_behind t m d branches h);
+      declares = both_plainly Kind.ConditionalExpression below k i b (node l j c nothing) refl h (nothing_behind t m d branches h);
       core = is_core;
     }
 conditional_comes a x y (alternate_is_taken n m i j t k l d b c truth bare) fits core three h =
@@ -127,7 +127,7 @@ conditional_comes a x y (alternate_is_taken n m i j t k l d b c truth bare) fits
       same = refl;
       stands = for_part (λ st. condition_fails (wanted_at a) st t m i j d k l b c (test_tells t m d false truth) (bare_at a l j c three.1.1.0 (is_core (core_there a x core)) wanted bare));
       old_calm = refl;
-      plainly = both_plainly Kind.ConditionalExpression below l j c nothing refl h (nothing_behind k i b (node l j c nothing) (nothing_behind t m d branches h));
+      declares = both_plainly Kind.ConditionalExpression below l j c nothing refl h (nothing_behind k i b (node l j c nothing) (nothing_behind t m d branches h));
       core = is_core;
     }
 

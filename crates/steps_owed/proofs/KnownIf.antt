@@ -13,7 +13,7 @@ use Rattle.known_tests.proofs.Taken.{statement_holds, statement_fails}
 use Rattle.form_rules.specs.Scope.{sought_below}
 use Rattle.scope_counts.proofs.Leaving.{if_is_plain}
 use Rattle.scope_laws.specs.Place.{Around, plug}
-use Rattle.steps_allowed.specs.Branches.{stays_inside, declares_none_at, declares_none}
+use Rattle.steps_allowed.specs.Branches.{declares_none, declares_no_name}
 use Rattle.steps_allowed.specs.KnownIf.{an_if, KnownIf, consequent_is_run, alternate_is_run}
 use Rattle.steps_allowed.specs.Wanted.{wanted_at}
 use Rattle.js_syntax.proofs.Truth.{both, first_of_both}
@@ -34,7 +34,7 @@ use Rattle.steps_owed.proofs.Inside.{enclosed_here, enclosed_below, enclosed_res
 use Rattle.steps_owed.proofs.KnownTests.{test_tells}
 use Rattle.steps_owed.proofs.Outward.{declares_row, declares_nothing}
 use Rattle.steps_owed.proofs.PartForm.{Stands, nothing_declared, outside_below}
-use Rattle.steps_owed.proofs.Undeclared.{no_names, DeclaresNothing, alone_plainly, last_plainly}
+use Rattle.steps_owed.proofs.Undeclared.{no_variables, NoVariables, alone_plainly, last_plainly, statement_plainly}
 use Rattle.steps_owed.proofs.Unseen.{enclosed_there}
 
 if_lighter : (x y : Tree) → KnownIf x y → total weight (forest_of y) < total weight (forest_of x)
@@ -60,10 +60,10 @@ if_takes x y (alternate_is_run n m i j t k l d b c truth branch none) = record {
 
 -- the test is an expression, which declares nothing
 pub tested_row : (t : Kind) (m : Note) (d r : Forest) → declares_none (node t m d nothing) ≡ true → declares_none r ≡ true → declares_none (node t m d r) ≡ true
-tested_row t m d r h g = both (declares_none_at t (stays_inside d) (declares_none d)) (declares_none r) (first_of_both (declares_none_at t (stays_inside d) (declares_none d)) true h) g
+tested_row t m d r h g = both (declares_no_name t d) (declares_none r) (first_of_both (declares_no_name t d) true h) g
 
-pub test_gone : (t : Kind) (m : Note) (d r : Forest) → declares_none (node t m d nothing) ≡ true → ((source : Text) → import_decls source (node t m d r) ≡ []) → DeclaresNothing (node t m d nothing)
-test_gone t m d r h imports = record { bound = no_names (node t m d nothing) h; imports = λ source. imports_before source t m d r (imports source) }
+pub test_gone : (t : Kind) (m : Note) (d r : Forest) → declares_none (node t m d nothing) ≡ true → ((source : Text) → import_decls source (node t m d r) ≡ []) → NoVariables (node t m d nothing)
+test_gone t m d r h imports = record { vars = no_variables (node t m d nothing) h; imports = λ source. imports_before source t m d r (imports source) }
 
 if_stands : (x y : Tree) → KnownIf x y → TestAndBranches x.below → Stands x y
 if_stands x y (consequent_is_run n m i t k d b alternate taken branch one silent) parts =
@@ -125,27 +125,27 @@ if_comes a _ _ (consequent_is_run n m i t k d b alternate truth branch field non
     let calm = branch_calm k branch in
     let branches = node k i b alternate in
     let tested = test_gone t m d branches (expression_declares_none (node t m d nothing) (parts.0, tt)) h in
-    let gone : DeclaresNothing alternate = record { bound = no_names alternate none; imports = λ source. imports_behind source k i b alternate (imports_behind source t m d branches (h source)) } in
+    let gone : NoVariables alternate = record { vars = no_variables alternate none; imports = λ source. imports_behind source k i b alternate (imports_behind source t m d branches (h source)) } in
     record {
       inner = b;
       same = refl;
       stands = for_part (λ st. statement_holds (wanted_at a) st t m i d k b alternate (test_tells t m d true truth) calm field);
       old_calm = refl;
-      plainly = last_plainly t m d branches k b tested (alone_plainly k i b alternate gone);
+      declares = statement_plainly (last_plainly t m d branches k b tested (alone_plainly k i b alternate gone));
       core = consequent_core Kind.IfStatement k n m i t d b alternate;
     }
 if_comes a _ _ (alternate_is_run n m i j t k l d b c truth branch none) parts h =
     let calm = branch_calm l branch in
     let branches = node k i b (node l j c nothing) in
     let tested = test_gone t m d branches (expression_declares_none (node t m d nothing) (parts.0, tt)) h in
-    let gone : DeclaresNothing (node k i b nothing) = record { bound = no_names (node k i b nothing) none; imports = λ source. imports_before source k i b (node l j c nothing) (imports_behind source t m d branches (h source)) } in
-    let plain = last_plainly k i b (node l j c nothing) l c gone (alone_plainly l j c nothing (record { bound = refl; imports = λ source. refl })) in
+    let gone : NoVariables (node k i b nothing) = record { vars = no_variables (node k i b nothing) none; imports = λ source. imports_before source k i b (node l j c nothing) (imports_behind source t m d branches (h source)) } in
+    let plain = last_plainly k i b (node l j c nothing) l c gone (alone_plainly l j c nothing (record { vars = refl; imports = λ source. refl })) in
     record {
       inner = c;
       same = refl;
       stands = for_part (λ st. statement_fails (wanted_at a) st t m i j d k l b c (test_tells t m d false truth) calm);
       old_calm = refl;
-      plainly = last_plainly t m d branches l c tested plain;
+      declares = statement_plainly (last_plainly t m d branches l c tested plain);
       core = alternate_core Kind.IfStatement k l n m i j t d b c;
     }
 

@@ -300,7 +300,7 @@ module _ (a : Around) (n i : Note) (w : LiteralValue) where
           same = refl;
           stands = for_part (λ st. comes_to_value (wanted_at a) st (unary_expression o) m operand w (on_one o m operand w idle some is));
           old_calm = refl;
-          plainly = both_plainly (unary_expression o) operand (literal w) i nothing nothing refl none literal_declares;
+          declares = both_plainly (unary_expression o) operand (literal w) i nothing nothing refl none literal_declares;
           core = λ c. refl;
         }
 
@@ -338,7 +338,7 @@ module _ (a : Around) (n i : Note) (w : LiteralValue) where
           same = refl;
           stands = for_part (λ st. comes_to_value (wanted_at a) st (binary_expression o) m sides w (on_two o m sides w idle is));
           old_calm = refl;
-          plainly = both_plainly (binary_expression o) sides (literal w) i nothing nothing refl none literal_declares;
+          declares = both_plainly (binary_expression o) sides (literal w) i nothing nothing refl none literal_declares;
           core = λ c. refl;
         }
 

@@ -115,7 +115,7 @@ side_comes a x y (right_side_counts o n m i t k d b goes bare) fits core two h =
       same = refl;
       stands = for_part (λ st. right_counts (wanted_at a) st o t m i d k b (side_tells t m d o true goes).0 (bare_at a k i b two.1.0 (is_core (core_there a x core)) wanted bare));
       old_calm = refl;
-      plainly = both_plainly (Kind.LogicalExpression o) below k i b nothing refl h (nothing_behind t m d right h);
+      declares = both_plainly (Kind.LogicalExpression o) below k i b nothing refl h (nothing_behind t m d right h);
       core = is_core;
     }
 side_comes a x y (left_side_decides o n m i t k d b stays bare) fits core two h =
@@ -129,7 +129,7 @@ side_comes a x y (left_side_decides o n m i t k d b stays bare) fits core two h 
       same = refl;
       stands = for_part (λ st. left_decides (wanted_at a) st o t m i d k b told.0 told.1 (bare_at a t m d two.0 (is_core (core_there a x core)) wanted bare));
       old_calm = refl;
-      plainly = both_plainly (Kind.LogicalExpression o) below t m d right refl h h;
+      declares = both_plainly (Kind.LogicalExpression o) below t m d right refl h h;
       core = is_core;
     }
 

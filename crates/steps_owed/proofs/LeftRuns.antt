@@ -23,6 +23,8 @@ use Rattle.scope_laws.specs.Lists.{without}
 use Rattle.steps.specs.Steps.{all_core}
 use Rattle.steps_allowed.specs.Places.{asked_at}
 use Rattle.steps_fit.proofs.Held.{core_here, core_below, core_behind}
+use Rattle.steps_keep_form.specs.Part.{is_statement}
+use Rattle.steps_owed.proofs.Binders.{variables_bind, handler_binds, function_binds}
 use Rattle.steps_owed.proofs.ExportsStay.{same_local}
 use Rattle.steps_owed.proofs.Made.{MadeBy, is_single, object_stands}
 use Rattle.steps_owed.proofs.PartRuns.{StillModule, not_of_nothing, items_change, module_refines}
@@ -62,10 +64,13 @@ module _ (x : Tree) where
   exported_name exported w (behind_none a) item = refl
   exported_name exported w (under k n a rest) item = same_local exported k n (plug a (Some x)) (without a) rest rest
 
-  pub reads_same : (w : Asked) (k : Kind) (a : Around) → (asked_at (asked_below w k) a).row ≡ items → (is_single k ≡ true → MadeBy k (plug a (Some x))) → ReadsSame k (plug a (Some x)) (without a)
-  reads_same w Kind.ObjectExpression a item made = keys_of_object w a item (made refl)
-  reads_same w (Kind.ExportSpecifier exported) a item made = exported_name exported w a item
-  reads_same w k a item made = tt
+  pub reads_same : is_statement x.kind ≡ true → (w : Asked) (k : Kind) (a : Around) → (asked_at (asked_below w k) a).row ≡ items → (is_single k ≡ true → MadeBy k (plug a (Some x))) → ReadsSame k (plug a (Some x)) (without a)
+  reads_same states w Kind.ObjectExpression a item made = keys_of_object w a item (made refl)
+  reads_same states w (Kind.ExportSpecifier exported) a item made = exported_name exported w a item
+  reads_same states w (Kind.VariableDeclaration how) a item made = variables_bind x states without (λ k n b a. refl) (λ a. refl) (λ k n a r. refl) how a (made refl)
+  reads_same states w Kind.CatchClause a item made = handler_binds x states without (λ k n b a. refl) (λ a. refl) (λ k n a r. refl) a (made refl)
+  reads_same states w (Kind.Function how pure) a item made = function_binds x states without (λ k n b a. refl) (λ a. refl) (λ k n a r. refl) how pure a (made refl)
+  reads_same states w k a item made = tt
 
   pub core_left : (a : Around) → all_core (plug a (Some x)) ≡ true → all_core (without a) ≡ true
   core_left (first rest) h = core_behind x.kind x.note x.below rest h

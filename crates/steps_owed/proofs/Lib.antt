@@ -75,3 +75,4 @@ pub mod Edited
 pub mod Refused
 pub mod Outlying
 pub mod UnseenCounts
+mod Binders

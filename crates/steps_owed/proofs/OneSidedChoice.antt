@@ -153,7 +153,7 @@ module _ (a : Around) (unused : is_unused_at a ≡ true) (p n : Note) (below : F
         same = refl;
         stands = side_stands (wanted_at a) (unused_for_effect a unused) side;
         old_calm = refl;
-        plainly = both_plainly conditional_expression below y.kind y.note y.below nothing refl old new;
+        declares = both_plainly conditional_expression below y.kind y.note y.below nothing refl old new;
         core = λ c. side_core side (core_below conditional_expression p below nothing c);
       }
 

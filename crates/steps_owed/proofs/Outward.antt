@@ -13,7 +13,7 @@ use Rattle.js_syntax.specs.declared.kind.VariableKind.TheVariants as variable
 use Rattle.js_syntax.specs.Node.{Forest, Note, nothing, node, absent}
 use Rattle.js_syntax.proofs.Truth.{first_of_both, second_of_both}
 use Rattle.scope_rules.specs.Context.{has_second}
-use Rattle.steps_allowed.specs.Branches.{lets_only_at, lets_only, stays_inside_at, stays_inside, declares_none_at, declares_none}
+use Rattle.steps_allowed.specs.Branches.{is_handler, lets_only_at, lets_only, stays_inside_at, inside_or_parameter, inside_from, stays_inside, declares_none_at, none_or_parameter, none_from, declares_none}
 use Rattle.steps_fit.specs.Enclosed.{is_binding, is_var, inherits, passes, closed, begins_with_name, none, is_enclosed_at, is_enclosed}
 use Rattle.scope_counts.specs.Counts.{Aims, no_part, aims_of_body, aims_of_block, aims_of_parameters, aims_of_variables, aims_of_function_name, aims_of_class_name, naming_in, aims_inside, named, hoisted}
 use Rattle.steps_owed.specs.Part.{DeclaresNothing}
@@ -235,6 +235,11 @@ lets_declare (node k n below rest) l e aims h at =
     (λ g f u. lets_declare below g (first_of_both (is_enclosed below) (is_enclosed rest) e_below) f u 0))
     (lets_declare rest (second_of_both (lets_only_at k (lets_only below)) (lets_only rest) l) (second_of_both (is_enclosed below) (is_enclosed rest) e_below) aims h (suc at))
 
+-- a handler's parameter declares in the handler's own layer
+parameter_unaimed : (a : Aims) (k : Kind) (below : Forest) → is_handler k ≡ true → Unaimed (aims_inside no_part a k below 0)
+parameter_unaimed a catch_clause below h = record { block = refl; naming = refl }
+parameter_unaimed a k below h = never h
+
 -- ---- in a block, which has a layer of its own
 
 abbrev Apart : Aims → Type 0
@@ -282,9 +287,9 @@ module _ (a : Aims) (h : Apart a) where
   apart_inside (import_declaration source) below i = h
   apart_inside k below i = h
 
-  inside_declares : (k : Kind) (n : Note) (below : Forest) → stays_inside_at k (lets_only below) (stays_inside below) ≡ true → is_enclosed_at k below ≡ true
+  inside_declares : (k : Kind) (n : Note) (below : Forest) → stays_inside_at k (lets_only below) (inside_from (is_handler k) below) ≡ true → is_enclosed_at k below ≡ true
       → (lets_only below ≡ true → (aims : ℕ → Aims) → ((i : ℕ) → Unaimed (aims i)) → hoisted aims 0 below ≡ [])
-      → (stays_inside below ≡ true → (aims : ℕ → Aims) → ((i : ℕ) → Apart (aims i)) → hoisted aims 0 below ≡ [])
+      → (inside_from (is_handler k) below ≡ true → (aims : ℕ → Aims) → ((i : ℕ) → Apart (aims i)) → (is_handler k ≡ true → Unaimed (aims 0)) → hoisted aims 0 below ≡ [])
       → named a n k ++ hoisted (aims_inside no_part a k below) 0 below ≡ []
   inside_declares (binding_name x) n below l e lets inner = absurd (true≢false (sym l))
   inside_declares (variable_declaration variable.Var) n below l e lets inner = absurd (true≢false (sym l))
@@ -295,48 +300,70 @@ module _ (a : Aims) (h : Apart a) where
   inside_declares (function function_kind.Arrow pure) n below l e lets inner = function_declares a function_kind.Arrow pure below refl e
   inside_declares (class class_kind.Declaration) n below l e lets inner = class_declares a class_kind.Declaration below h e
   inside_declares (class class_kind.Expression) n below l e lets inner = class_declares a class_kind.Expression below refl e
-  inside_declares k n below l e lets inner = inner l (aims_inside no_part a k below) (apart_inside k below)
+  inside_declares k n below l e lets inner = inner l (aims_inside no_part a k below) (apart_inside k below) (parameter_unaimed a k below)
 
-insides_declare : (t : Forest) → stays_inside t ≡ true → is_enclosed t ≡ true → (aims : ℕ → Aims) → ((i : ℕ) → Apart (aims i)) → (at : ℕ) → hoisted aims at t ≡ []
-insides_declare nothing l e aims h at = refl
-insides_declare (absent rest) l e aims h at = insides_declare rest l e aims h (suc at)
-insides_declare (node k n below rest) l e aims h at =
-    let here = stays_inside_at k (lets_only below) (stays_inside below) in
+  -- a node, or a handler's parameter
+  first_declares : (p : Bool) (k : Kind) (n : Note) (below : Forest) → (p ≡ true → Unaimed a) → inside_or_parameter p k (lets_only below) (inside_from (is_handler k) below) ≡ true → is_enclosed_at k below ≡ true
+      → (lets_only below ≡ true → (aims : ℕ → Aims) → ((i : ℕ) → Unaimed (aims i)) → hoisted aims 0 below ≡ [])
+      → (inside_from (is_handler k) below ≡ true → (aims : ℕ → Aims) → ((i : ℕ) → Apart (aims i)) → (is_handler k ≡ true → Unaimed (aims 0)) → hoisted aims 0 below ≡ [])
+      → named a n k ++ hoisted (aims_inside no_part a k below) 0 below ≡ []
+  first_declares true k n below u l e lets inner = let_declares a (u refl) k n below l e lets
+  first_declares false k n below u l e lets inner = inside_declares k n below l e lets inner
+
+insides_declare : (p : Bool) (t : Forest) → inside_from p t ≡ true → is_enclosed t ≡ true → (aims : ℕ → Aims) → ((i : ℕ) → Apart (aims i)) → (at : ℕ) → (p ≡ true → Unaimed (aims at)) → hoisted aims at t ≡ []
+insides_declare p nothing l e aims h at u = refl
+insides_declare p (absent rest) l e aims h at u = insides_declare false rest l e aims h (suc at) never
+insides_declare p (node k n below rest) l e aims h at u =
+    let here = inside_or_parameter p k (lets_only below) (inside_from (is_handler k) below) in
     let e_below = second_of_both (is_enclosed_at k below) (is_enclosed below && is_enclosed rest) e in
     let enclosed_inside = first_of_both (is_enclosed below) (is_enclosed rest) e_below in
     ap₂ (λ ds es. ds ++ es)
-    (inside_declares (aims at) (h at) k n below (first_of_both here (stays_inside rest) l) (first_of_both (is_enclosed_at k below) (is_enclosed below && is_enclosed rest) e)
-    (λ g f u. lets_declare below g enclosed_inside f u 0)
-    (λ g f u. insides_declare below g enclosed_inside f u 0))
-    (insides_declare rest (second_of_both here (stays_inside rest) l) (second_of_both (is_enclosed below) (is_enclosed rest) e_below) aims h (suc at))
+    (first_declares (aims at) (h at) p k n below u (first_of_both here (stays_inside rest) l) (first_of_both (is_enclosed_at k below) (is_enclosed below && is_enclosed rest) e)
+    (λ g f v. lets_declare below g enclosed_inside f v 0)
+    (λ g f v w. insides_declare (is_handler k) below g enclosed_inside f v 0 w))
+    (insides_declare false rest (second_of_both here (stays_inside rest) l) (second_of_both (is_enclosed below) (is_enclosed rest) e_below) aims h (suc at) never)
 
 -- ---- trees
 
-node_declares : (a : Aims) (k : Kind) (n : Note) (below : Forest) → declares_none_at k (stays_inside below) (declares_none below) ≡ true → is_enclosed_at k below ≡ true
+node_declares : (a : Aims) (k : Kind) (n : Note) (below : Forest) → declares_none_at k (stays_inside below) (none_from (is_handler k) below) ≡ true → is_enclosed_at k below ≡ true
     → (stays_inside below ≡ true → (aims : ℕ → Aims) → ((i : ℕ) → Apart (aims i)) → hoisted aims 0 below ≡ [])
-    → (declares_none below ≡ true → (aims : ℕ → Aims) → hoisted aims 0 below ≡ [])
+    → (none_from (is_handler k) below ≡ true → (aims : ℕ → Aims) → (is_handler k ≡ true → Unaimed (aims 0)) → hoisted aims 0 below ≡ [])
     → named a n k ++ hoisted (aims_inside no_part a k below) 0 below ≡ []
 node_declares a (binding_name x) n below h e inside inner = absurd (true≢false (sym h))
+node_declares a (variable_declaration variable.Var) n below h e inside inner = absurd (true≢false (sym h))
 node_declares a (function function_kind.Declaration pure) n below h e inside inner = absurd (true≢false (sym h))
 node_declares a (function function_kind.Expression pure) n below h e inside inner = function_declares a function_kind.Expression pure below refl e
 node_declares a (function function_kind.Arrow pure) n below h e inside inner = function_declares a function_kind.Arrow pure below refl e
 node_declares a (class class_kind.Declaration) n below h e inside inner = absurd (true≢false (sym h))
 node_declares a (class class_kind.Expression) n below h e inside inner = class_declares a class_kind.Expression below refl e
 node_declares a block_statement n below h e inside inner = inside h (aims_inside no_part a block_statement below) (λ i. refl)
-node_declares a k n below h e inside inner = inner h (aims_inside no_part a k below)
+node_declares a k n below h e inside inner = inner h (aims_inside no_part a k below) (parameter_unaimed a k below)
 
-pub declares_nothing : (t : Forest) → declares_none t ≡ true → is_enclosed t ≡ true → DeclaresNothing t
-declares_nothing nothing h e aims at = refl
-declares_nothing (absent rest) h e aims at = declares_nothing rest h e aims (suc at)
-declares_nothing (node k n below rest) h e aims at =
-    let here = declares_none_at k (stays_inside below) (declares_none below) in
+-- a node, or a handler's parameter
+one_declares : (a : Aims) (p : Bool) (k : Kind) (n : Note) (below : Forest) → (p ≡ true → Unaimed a) → none_or_parameter p k (lets_only below) (stays_inside below) (none_from (is_handler k) below) ≡ true → is_enclosed_at k below ≡ true
+    → (lets_only below ≡ true → (aims : ℕ → Aims) → ((i : ℕ) → Unaimed (aims i)) → hoisted aims 0 below ≡ [])
+    → (stays_inside below ≡ true → (aims : ℕ → Aims) → ((i : ℕ) → Apart (aims i)) → hoisted aims 0 below ≡ [])
+    → (none_from (is_handler k) below ≡ true → (aims : ℕ → Aims) → (is_handler k ≡ true → Unaimed (aims 0)) → hoisted aims 0 below ≡ [])
+    → named a n k ++ hoisted (aims_inside no_part a k below) 0 below ≡ []
+one_declares a true k n below u h e lets inside inner = let_declares a (u refl) k n below h e lets
+one_declares a false k n below u h e lets inside inner = node_declares a k n below h e inside inner
+
+row_declares : (p : Bool) (t : Forest) → none_from p t ≡ true → is_enclosed t ≡ true → (aims : ℕ → Aims) (at : ℕ) → (p ≡ true → Unaimed (aims at)) → hoisted aims at t ≡ []
+row_declares p nothing h e aims at u = refl
+row_declares p (absent rest) h e aims at u = row_declares false rest h e aims (suc at) never
+row_declares p (node k n below rest) h e aims at u =
+    let here = none_or_parameter p k (lets_only below) (stays_inside below) (none_from (is_handler k) below) in
     let e_below = second_of_both (is_enclosed_at k below) (is_enclosed below && is_enclosed rest) e in
     let enclosed_inside = first_of_both (is_enclosed below) (is_enclosed rest) e_below in
     ap₂ (λ ds es. ds ++ es)
-    (node_declares (aims at) k n below (first_of_both here (declares_none rest) h) (first_of_both (is_enclosed_at k below) (is_enclosed below && is_enclosed rest) e)
-    (λ g f u. insides_declare below g enclosed_inside f u 0)
-    (λ g f. declares_nothing below g enclosed_inside f 0))
-    (declares_nothing rest (second_of_both here (declares_none rest) h) (second_of_both (is_enclosed below) (is_enclosed rest) e_below) aims (suc at))
+    (one_declares (aims at) p k n below u (first_of_both here (declares_none rest) h) (first_of_both (is_enclosed_at k below) (is_enclosed below && is_enclosed rest) e)
+    (λ g f v. lets_declare below g enclosed_inside f v 0)
+    (λ g f v. insides_declare false below g enclosed_inside f v 0 never)
+    (λ g f w. row_declares (is_handler k) below g enclosed_inside f 0 w))
+    (row_declares false rest (second_of_both here (declares_none rest) h) (second_of_both (is_enclosed below) (is_enclosed rest) e_below) aims (suc at) never)
+
+pub declares_nothing : (t : Forest) → declares_none t ≡ true → is_enclosed t ≡ true → DeclaresNothing t
+declares_nothing t h e aims at = row_declares false t h e aims at never
 
 -- of a node that declares nothing in front of what declares nothing
 pub declares_row : (k : Kind) (n : Note) (a t : Forest) → DeclaresNothing (node k n a nothing) → DeclaresNothing t → DeclaresNothing (node k n a t)

@@ -3,7 +3,7 @@ use Rattle.std.proofs.Common.{◌≡◌, ℕ, ◌+◌, suc, Bool, true, false, n
 use Rattle.js_tree.specs.Count.{one_each, node_count}
 use Rattle.js_syntax.specs.Class.{root}
 use Rattle.js_syntax.specs.declared.node_kind.NodeKind.{NodeKind as Kind}
-use Rattle.js_syntax.specs.declared.node_kind.NodeKind.TheVariants.{EmptyStatement as empty_statement, BlockStatement as block_statement, IfStatement as if_statement, VariableDeclaration as variable_declaration, BindingName as binding_name, Function as function, Class as class, ConditionalExpression as conditional_expression, LogicalExpression as logical_expression, UnaryExpression as unary_expression, BinaryExpression as binary_expression, ParenthesizedExpression as parenthesized_expression}
+use Rattle.js_syntax.specs.declared.node_kind.NodeKind.TheVariants.{EmptyStatement as empty_statement, BlockStatement as block_statement, CatchClause as catch_clause, IfStatement as if_statement, VariableDeclaration as variable_declaration, BindingName as binding_name, Function as function, Class as class, ConditionalExpression as conditional_expression, LogicalExpression as logical_expression, UnaryExpression as unary_expression, BinaryExpression as binary_expression, ParenthesizedExpression as parenthesized_expression}
 use Rattle.js_syntax.specs.declared.operator.BinaryOperator.{BinaryOperator}
 use Rattle.js_syntax.specs.declared.operator.LogicalOperator.{LogicalOperator}
 use Rattle.js_syntax.specs.declared.operator.UnaryOperator.{UnaryOperator}
@@ -23,7 +23,7 @@ use Rattle.json_shape.proofs.Choice.{is_list_kind}
 use Rattle.scope_laws.specs.Place as place
 use Rattle.scope_laws.specs.Place.{first, behind, behind_none, under, plug}
 use Rattle.steps_allowed.specs.Uses.{Use, as_value, as_deleted, operand_of, use_below, use_there, use_at}
-use Rattle.steps_allowed.specs.Branches.{lets_only, stays_inside_at, stays_inside, declares_none_at, declares_none}
+use Rattle.steps_allowed.specs.Branches.{is_handler, lets_only_at, lets_only, stays_inside_at, inside_or_parameter, inside_from, stays_inside, declares_none_at, none_or_parameter, none_from, declares_none}
 use Rattle.steps_allowed.specs.Places.{a_node}
 use Rattle.steps_keep_form.specs.Part.{gives_way, is_statement, is_asked_for, StandsFor, Replaces, by_part}
 use Rattle.steps_keep_form.specs.Sheds.{Row, of_declarators, row_below, asked_below, deleted_below, may_empty, may_give_way, may_come_out, keeps_one, Around, entered, outermost, Sheds, keeps_absent, keeps, empties_if, becomes}
@@ -85,26 +85,46 @@ seeks_variables none = true
 seeks_variables variables = true
 seeks_variables s = false
 
-inside_below : (k : Kind) (a : Forest) (p : ℕ) → ((z : Sought) (q : ℕ) → seeks_variables z ≡ true → stays_inside a ≡ true → declared z q a ≡ [])
-    → stays_inside_at k (lets_only a) (stays_inside a) ≡ true → declared (variables_below k) p a ≡ []
-inside_below (binding_name x) a p f h = absurd cc
-inside_below (variable_declaration variable.Var) a p f h = absurd cc
-inside_below (variable_declaration how) a p f h = none_declared p a
-inside_below (function function_kind.Declaration pure) a p f h = absurd cc
-inside_below (function how pure) a p f h = none_declared p a
-inside_below (class how) a p f h = none_declared p a
-inside_below k a p f h = f (variables_below k) p refl h
+lets_below : (k : Kind) (a : Forest) (p : ℕ) → ((z : Sought) (q : ℕ) → seeks_variables z ≡ true → lets_only a ≡ true → declared z q a ≡ []) → lets_only_at k (lets_only a) ≡ true → declared (variables_below k) p a ≡ []
+lets_below (variable_declaration how) a p f h = absurd cc
+lets_below (function function_kind.Declaration pure) a p f h = absurd cc
+lets_below (function how pure) a p f h = none_declared p a
+lets_below (class class_kind.Declaration) a p f h = absurd cc
+lets_below (class how) a p f h = none_declared p a
+lets_below k a p f h = f (variables_below k) p refl h
 
-inside_declared : (s : Sought) (p : ℕ) (t : Forest) → seeks_variables s ≡ true → stays_inside t ≡ true → declared s p t ≡ []
-inside_declared variables p nothing e h = refl
-inside_declared variables p (absent r) e h = inside_declared variables p r e h
-inside_declared variables p (node k n a r) e h =
-    let here = stays_inside_at k (lets_only a) (stays_inside a) in
+lets_declared : (s : Sought) (p : ℕ) (t : Forest) → seeks_variables s ≡ true → lets_only t ≡ true → declared s p t ≡ []
+lets_declared variables p nothing e h = refl
+lets_declared variables p (absent r) e h = lets_declared variables p r e h
+lets_declared variables p (node k n a r) e h =
+    let here = lets_only_at k (lets_only a) in
     both_empty (declared (variables_below k) (p + one_each k) a) (declared variables (p + node_count (alone k n a)) r)
-    (inside_below k a (p + one_each k) (λ z q g i. inside_declared z q a g i) (first_of_both here (stays_inside r) h))
-    (inside_declared variables (p + node_count (alone k n a)) r refl (second_of_both here (stays_inside r) h))
-inside_declared none p t e h = none_declared p t
-inside_declared s p t e h = absurd cc
+    (lets_below k a (p + one_each k) (λ z q g i. lets_declared z q a g i) (first_of_both here (lets_only r) h))
+    (lets_declared variables (p + node_count (alone k n a)) r refl (second_of_both here (lets_only r) h))
+lets_declared none p t e h = none_declared p t
+lets_declared s p t e h = absurd cc
+
+inside_below : (is_parameter : Bool) (k : Kind) (a : Forest) (p : ℕ) → ((z : Sought) (q : ℕ) → seeks_variables z ≡ true → inside_from (is_handler k) a ≡ true → declared z q a ≡ [])
+    → inside_or_parameter is_parameter k (lets_only a) (inside_from (is_handler k) a) ≡ true → declared (variables_below k) p a ≡ []
+inside_below true k a p f h = lets_below k a p (λ z q g i. lets_declared z q a g i) h
+inside_below false (binding_name x) a p f h = absurd cc
+inside_below false (variable_declaration variable.Var) a p f h = absurd cc
+inside_below false (variable_declaration how) a p f h = none_declared p a
+inside_below false (function function_kind.Declaration pure) a p f h = absurd cc
+inside_below false (function how pure) a p f h = none_declared p a
+inside_below false (class how) a p f h = none_declared p a
+inside_below false k a p f h = f (variables_below k) p refl h
+
+inside_declared : (is_parameter : Bool) (s : Sought) (p : ℕ) (t : Forest) → seeks_variables s ≡ true → inside_from is_parameter t ≡ true → declared s p t ≡ []
+inside_declared b variables p nothing e h = refl
+inside_declared b variables p (absent r) e h = inside_declared false variables p r e h
+inside_declared b variables p (node k n a r) e h =
+    let here = inside_or_parameter b k (lets_only a) (inside_from (is_handler k) a) in
+    both_empty (declared (variables_below k) (p + one_each k) a) (declared variables (p + node_count (alone k n a)) r)
+    (inside_below b k a (p + one_each k) (λ z q g i. inside_declared (is_handler k) z q a g i) (first_of_both here (stays_inside r) h))
+    (inside_declared false variables (p + node_count (alone k n a)) r refl (second_of_both here (stays_inside r) h))
+inside_declared b none p t e h = none_declared p t
+inside_declared b s p t e h = absurd cc
 
 -- A block's own scope is sought in a catch clause alone, and in nothing below what lies there.
 abbrev pub keeps_outside : Sought → Kind → Bool
@@ -176,27 +196,55 @@ block_seeks : (s : Sought) → keeps_outside s block_statement ≡ true → seek
 block_seeks (catch_scope f) h = absurd cc
 block_seeks s h = refl
 
-none_below : (s : Sought) (k : Kind) (a : Forest) (p : ℕ) → keeps_outside s k ≡ true → ((z : Sought) (q : ℕ) → stays_outside z a ≡ true → declares_none a ≡ true → declared z q a ≡ [])
-    → declares_none_at k (stays_inside a) (declares_none a) ≡ true → declared (sought_below s k) p a ≡ []
+-- below a handler no names but those that `var` declares are sought, if any
+handler_seeks : (s : Sought) (k : Kind) → is_handler k ≡ true → seeks_variables (sought_below s k) ≡ true
+handler_seeks none catch_clause h = refl
+handler_seeks (names f) catch_clause h = refl
+handler_seeks (bound f) catch_clause h = refl
+handler_seeks (scope f) catch_clause h = refl
+handler_seeks variables catch_clause h = refl
+handler_seeks function_scope catch_clause h = refl
+handler_seeks (catch_scope f) catch_clause h = refl
+handler_seeks s k h = absurd cc
+
+none_below : (s : Sought) (k : Kind) (a : Forest) (p : ℕ) → keeps_outside s k ≡ true
+    → ((z : Sought) (q : ℕ) → (is_handler k ≡ true → seeks_variables z ≡ true) → stays_outside z a ≡ true → none_from (is_handler k) a ≡ true → declared z q a ≡ [])
+    → declares_none_at k (stays_inside a) (none_from (is_handler k) a) ≡ true → declared (sought_below s k) p a ≡ []
 none_below s (binding_name x) a p o f h = absurd cc
+none_below s (variable_declaration variable.Var) a p o f h = absurd cc
 none_below s (function function_kind.Declaration pure) a p o f h = absurd cc
 none_below s (function function_kind.Expression pure) a p o f h = ap (λ z. declared z p a) (expression_seeks s pure) ∙ none_declared p a
 none_below s (function function_kind.Arrow pure) a p o f h = ap (λ z. declared z p a) (arrow_seeks s pure) ∙ none_declared p a
 none_below s (class class_kind.Declaration) a p o f h = absurd cc
 none_below s (class class_kind.Expression) a p o f h = ap (λ z. declared z p a) (class_seeks s) ∙ none_declared p a
-none_below s block_statement a p o f h = inside_declared (sought_below s block_statement) p a (block_seeks s o) h
-none_below s k a p o f h = f (sought_below s k) p (outside_below s k a) h
+none_below s block_statement a p o f h = inside_declared false (sought_below s block_statement) p a (block_seeks s o) h
+none_below s k a p o f h = f (sought_below s k) p (handler_seeks s k) (outside_below s k a) h
+
+parameter_declared : (s : Sought) (p : ℕ) (k : Kind) (a : Forest) → seeks_variables s ≡ true → lets_only_at k (lets_only a) ≡ true → declared_here s p k ++ declared (sought_below s k) (p + one_each k) a ≡ []
+parameter_declared none p k a e h = none_declared (p + one_each k) a
+parameter_declared variables p k a e h = lets_below k a (p + one_each k) (λ z q g i. lets_declared z q a g i) h
+parameter_declared s p k a e h = absurd cc
+
+-- a node, or a handler's parameter
+first_declared : (is_parameter : Bool) (s : Sought) (p : ℕ) (k : Kind) (a : Forest) → (is_parameter ≡ true → seeks_variables s ≡ true) → keeps_outside s k ≡ true
+    → ((z : Sought) (q : ℕ) → (is_handler k ≡ true → seeks_variables z ≡ true) → stays_outside z a ≡ true → none_from (is_handler k) a ≡ true → declared z q a ≡ [])
+    → none_or_parameter is_parameter k (lets_only a) (stays_inside a) (none_from (is_handler k) a) ≡ true → declared_here s p k ++ declared (sought_below s k) (p + one_each k) a ≡ []
+first_declared true s p k a e o f h = parameter_declared s p k a (e refl) h
+first_declared false s p k a e o f h =
+    both_empty (declared_here s p k) (declared (sought_below s k) (p + one_each k) a) (no_name_here s p k (not_name k (stays_inside a) (none_from (is_handler k) a) h))
+    (none_below s k a (p + one_each k) o f h)
+
+row_declared : (is_parameter : Bool) (s : Sought) (p : ℕ) (t : Forest) → (is_parameter ≡ true → seeks_variables s ≡ true) → stays_outside s t ≡ true → none_from is_parameter t ≡ true → declared s p t ≡ []
+row_declared b s p nothing e o h = refl
+row_declared b s p (absent r) e o h = row_declared false s p r (λ c. absurd cc) o h
+row_declared b s p (node k n a r) e o h =
+    let here = none_or_parameter b k (lets_only a) (stays_inside a) (none_from (is_handler k) a) in
+    both_empty (declared_here s p k ++ declared (sought_below s k) (p + one_each k) a) (declared s (p + node_count (alone k n a)) r)
+    (first_declared b s p k a e (first_of_both (keeps_outside s k) (stays_outside s r) o) (λ z q g i j. row_declared (is_handler k) z q a g i j) (first_of_both here (declares_none r) h))
+    (row_declared false s (p + node_count (alone k n a)) r (λ c. absurd cc) (second_of_both (keeps_outside s k) (stays_outside s r) o) (second_of_both here (declares_none r) h))
 
 pub nothing_declared : (s : Sought) (p : ℕ) (t : Forest) → stays_outside s t ≡ true → declares_none t ≡ true → declared s p t ≡ []
-nothing_declared s p nothing o h = refl
-nothing_declared s p (absent r) o h = nothing_declared s p r o h
-nothing_declared s p (node k n a r) o h =
-    let here = declares_none_at k (stays_inside a) (declares_none a) in
-    let own = first_of_both here (declares_none r) h in
-    both_empty (declared_here s p k ++ declared (sought_below s k) (p + one_each k) a) (declared s (p + node_count (alone k n a)) r)
-    (both_empty (declared_here s p k) (declared (sought_below s k) (p + one_each k) a) (no_name_here s p k (not_name k (stays_inside a) (declares_none a) own))
-    (none_below s k a (p + one_each k) (first_of_both (keeps_outside s k) (stays_outside s r) o) (λ z q g i. nothing_declared z q a g i) own))
-    (nothing_declared s (p + node_count (alone k n a)) r (second_of_both (keeps_outside s k) (stays_outside s r) o) (second_of_both here (declares_none r) h))
+nothing_declared s p t o h = row_declared false s p t (λ c. absurd cc) o h
 
 -- ---- branches
 

@@ -1,5 +1,5 @@
 -- Where a node of a core module becomes a part that it comes to, the new module refines the old one.
-use Rattle.std.proofs.Common.{◌≡◌, ◌∙◌, [], ◌∷◌, Bool, true, false, ◌&&◌, None, Some, refl, sym, ap, subst, true≢false}
+use Rattle.std.proofs.Common.{◌≡◌, ◌∙◌, inl, inr, [], ◌∷◌, Bool, true, false, ◌&&◌, None, Some, refl, sym, ap, subst, true≢false}
 use Rattle.js_syntax.specs.Class.{root}
 use Rattle.js_syntax.specs.declared.node_kind.NodeKind.{NodeKind as Kind}
 use Rattle.js_syntax.specs.declared.kind.FunctionKind.TheVariants as function_kind
@@ -32,6 +32,7 @@ use Rattle.steps_fit.proofs.Holding.{is_sound, planned_below}
 use Rattle.steps_fit.proofs.Passing.{plan_passes, first_passes, behind_passes}
 use Rattle.steps_fit.proofs.Place.{program_in_place}
 use Rattle.steps_owed.specs.Comes.{Comes}
+use Rattle.steps_owed.proofs.Binders.{variables_bind, handler_binds, function_binds, plugged_bind, plugged_first_binds, plugged_parameters_bind}
 use Rattle.steps_owed.proofs.ExportsStay.{same_local, entries_stay, stars_stay, requests_stay}
 use Rattle.steps_owed.proofs.Made.{MadeBy, is_single, made_at, not_calm, object_stands, export_stands, name_not_calm}
 use Rattle.js_syntax.proofs.Truth.{both}
@@ -98,10 +99,22 @@ module _ (place : Around) (x y : Tree) (c : Comes place x y) where
   reads_same : (k : Kind) (a : Around) → (is_single k ≡ true → MadeBy k (plug a (Some x))) → ReadsSame k (plug a (Some x)) (plug a (Some what_comes))
   reads_same Kind.ObjectExpression a made = keys_of_object a (made refl)
   reads_same (Kind.ExportSpecifier exported) a made = exported_name exported a (made refl)
+  reads_same (Kind.VariableDeclaration how) a made = elim c.declares.binds [
+    | inl states ↦ variables_bind x states (λ a. plug a (Some what_comes)) (λ k n b a. refl) (λ a. refl) (λ k n a r. refl) how a (made refl)
+    | inr same ↦ plugged_bind x what_comes same a
+  ]
+  reads_same Kind.CatchClause a made = elim c.declares.binds [
+    | inl states ↦ handler_binds x states (λ a. plug a (Some what_comes)) (λ k n b a. refl) (λ a. refl) (λ k n a r. refl) a (made refl)
+    | inr same ↦ plugged_first_binds x what_comes same a
+  ]
+  reads_same (Kind.Function how pure) a made = elim c.declares.binds [
+    | inl states ↦ function_binds x states (λ a. plug a (Some what_comes)) (λ k n b a. refl) (λ a. refl) (λ k n a r. refl) how pure a (made refl)
+    | inr same ↦ plugged_parameters_bind x what_comes same a
+  ]
   reads_same k a made = tt
 
   local_as_planned : (us : Purposes) (o : NearRow) (a : Around) → wanted_in us a ≡ wanted_at place → (plan : Plan) → plan_passes is_sound plan ≡ true → Stand plan (plug a (Some x)) → Local us o (plug a (Some x)) (plug a (Some what_comes))
-  local_as_planned us o (first rest) e plan h st = at_place (subst (λ u. Stands u x.kind x.below what_comes.kind what_comes.below) (sym e) c.stands) c.plainly
+  local_as_planned us o (first rest) e plan h st = at_place (subst (λ u. Stands u x.kind x.below what_comes.kind what_comes.below) (sym e) c.stands) c.declares.plainly
   local_as_planned us o (behind k n below a) e plan h st = in_rest (local_as_planned (purposes_behind us) o a e (shape.behind plan k) (behind_passes is_sound plan k h) st.1)
   local_as_planned us o (behind_none a) e plan h st = in_absent (local_as_planned (purposes_behind us) o a e (shape.behind plan Kind.Hole) (behind_passes is_sound plan Kind.Hole h) st.1)
   local_as_planned us o (under k n a rest) e plan h st =

@@ -89,7 +89,7 @@ module _ (a : Around) (unused : is_unused_at a ≡ true) (p n m : Note) (o : Bin
         same = refl;
         stands = spared (wanted_at a) (binary_expression o) p m sides sides (unused_for_effect a unused) tt refl refl (λ st. binary_wasted st o k l p i j m b c sides comparing (needed (needed all_needed)));
         old_calm = refl;
-        plainly = both_plainly (binary_expression o) sides sequence_expression n several.below nothing refl none (left_declares left (sides_stay there) within imports);
+        declares = both_plainly (binary_expression o) sides sequence_expression n several.below nothing refl none (left_declares left (sides_stay there) within imports);
         core = λ d. left_core left (core_below (binary_expression o) p sides nothing d);
       }
 

@@ -1,5 +1,5 @@
 -- Rows of nodes that declare no names.
-use Rattle.std.proofs.Common.{◌≡◌, ◌∙◌, ℕ, suc, List, [], ◌++◌, Bool, true, false, ◌==◌, if◌then◌else◌, Some, None, refl, sym, ap, subst, true≢false}
+use Rattle.std.proofs.Common.{◌≡◌, ◌∙◌, inl, inr, ℕ, suc, List, [], ◌++◌, Bool, true, false, ◌==◌, if◌then◌else◌, Some, None, refl, sym, ap, subst, true≢false}
 use Rattle.std.proofs.lemmas.List.{append-nil}
 use Rattle.js_syntax.specs.declared.node_kind.NodeKind.{NodeKind as Kind}
 use Rattle.js_syntax.specs.declared.kind.FunctionKind.{FunctionKind}
@@ -15,53 +15,74 @@ use Rattle.js_meaning_near.specs.Near.{is_calm, module_of}
 use Rattle.js_meaning_near.specs.Local.{Plainly}
 use Rattle.js_meaning_near.proofs.Local.{calm_names, calm_vars, calm_specifier}
 use Rattle.scope_laws.specs.Place.{Around, first, behind, behind_none, under, plug}
-use Rattle.steps_allowed.specs.Branches.{lets_only, stays_inside_at, stays_inside, declares_none_at, declares_none}
+use Rattle.steps_allowed.specs.Branches.{lets_only_at, lets_only, is_handler, inside_or_parameter, inside_from, stays_inside, none_or_parameter, none_from, declares_none}
 use Rattle.steps_keep_form.proofs.Rules.{first_empty, second_empty, both_empty}
 use Rattle.steps_keep_runs.proofs.Lists.{no_vars}
+use Rattle.steps_owed.specs.Comes.{DeclaresSame}
 use Rattle.steps_names.specs.Placed.{Place, no_node, names, parameters, code, program_list, module_items, declared, specifiers, imports, cases, others, fits, sort_of, an_import, an_imported, name_place, statements_place, specifier_place, place_below, well_placed, has_plain_values, is_well_placed}
 use Rattle.steps_names.proofs.Lists.{either}
 use Rattle.steps_names.proofs.Sites.{placed_here, placed_below, placed_behind}
 use Rattle.steps_names.proofs.Taking.{never_fits}
 use Rattle.js_syntax.proofs.Truth.{first_of_both, second_of_both}
 
--- ---- no names
+-- ---- no variables
 
-none_inside : (k : Kind) (lets b : Bool) (xs : List Text) → stays_inside_at k lets b ≡ true → (b ≡ true → xs ≡ []) → names_of k xs ≡ []
-none_inside (Kind.BindingName x) lets b xs h to = absurd (true≢false (sym h))
-none_inside (Kind.VariableDeclaration variable.Var) lets b xs h to = absurd (true≢false (sym h))
-none_inside (Kind.VariableDeclaration variable.Let) lets b xs h to = refl
-none_inside (Kind.VariableDeclaration variable.Const) lets b xs h to = refl
-none_inside (Kind.Function f pure) lets b xs h to = refl
-none_inside (Kind.Class c) lets b xs h to = refl
-none_inside k lets b xs h to = to h
+lets_have : (k : Kind) (lets : Bool) (xs : List Text) (a : Forest) → lets_only_at k lets ≡ true → (lets ≡ true → xs ≡ []) → vars_of k a xs ≡ []
+lets_have (Kind.VariableDeclaration how) lets xs a h to = absurd (true≢false (sym h))
+lets_have (Kind.Function f pure) lets xs a h to = refl
+lets_have (Kind.Class c) lets xs a h to = refl
+lets_have k lets xs a h to = to h
+
+-- what declares as `let` does declares no variable
+lets_have_none : (t : Forest) → lets_only t ≡ true → var_names t ≡ []
+lets_have_none nothing h = refl
+lets_have_none (absent r) h = lets_have_none r h
+lets_have_none (node k n a r) h =
+    let here = lets_only_at k (lets_only a) in
+    both_empty (vars_of k a (var_names a)) (var_names r) (lets_have k (lets_only a) (var_names a) a (first_of_both here (lets_only r) h) (lets_have_none a)) (lets_have_none r (second_of_both here (lets_only r) h))
+
+insides_have : (p : Bool) (k : Kind) (lets b : Bool) (xs : List Text) (a : Forest) → inside_or_parameter p k lets b ≡ true → (lets ≡ true → xs ≡ []) → (b ≡ true → xs ≡ []) → vars_of k a xs ≡ []
+insides_have true k lets b xs a h within to = lets_have k lets xs a h within
+insides_have false (Kind.VariableDeclaration variable.Var) lets b xs a h within to = absurd (true≢false (sym h))
+insides_have false (Kind.VariableDeclaration variable.Let) lets b xs a h within to = refl
+insides_have false (Kind.VariableDeclaration variable.Const) lets b xs a h within to = refl
+insides_have false (Kind.Function f pure) lets b xs a h within to = refl
+insides_have false (Kind.Class c) lets b xs a h within to = refl
+insides_have false (Kind.BindingName x) lets b xs a h within to = absurd (true≢false (sym h))
+insides_have false k lets b xs a h within to = to h
 
 -- a row whose names stay in the block that it stands in
-no_names_inside : (t : Forest) → stays_inside t ≡ true → bound_names t ≡ []
-no_names_inside nothing h = refl
-no_names_inside (absent r) h = no_names_inside r h
-no_names_inside (node k n a r) h =
-    let here = stays_inside_at k (lets_only a) (stays_inside a) in
-    both_empty (names_of k (bound_names a)) (bound_names r) (none_inside k (lets_only a) (stays_inside a) (bound_names a) (first_of_both here (stays_inside r) h) (no_names_inside a))
-    (no_names_inside r (second_of_both here (stays_inside r) h))
+insides_have_none : (p : Bool) (t : Forest) → inside_from p t ≡ true → var_names t ≡ []
+insides_have_none p nothing h = refl
+insides_have_none p (absent r) h = insides_have_none false r h
+insides_have_none p (node k n a r) h =
+    let here = inside_or_parameter p k (lets_only a) (inside_from (is_handler k) a) in
+    both_empty (vars_of k a (var_names a)) (var_names r)
+    (insides_have p k (lets_only a) (inside_from (is_handler k) a) (var_names a) a (first_of_both here (stays_inside r) h) (lets_have_none a) (insides_have_none (is_handler k) a))
+    (insides_have_none false r (second_of_both here (stays_inside r) h))
 
-none_below : (k : Kind) (inside b : Bool) (xs : List Text) → declares_none_at k inside b ≡ true → (inside ≡ true → xs ≡ []) → (b ≡ true → xs ≡ []) → names_of k xs ≡ []
-none_below (Kind.BindingName x) inside b xs h within to = absurd (true≢false (sym h))
-none_below (Kind.VariableDeclaration variable.Let) inside b xs h within to = refl
-none_below (Kind.VariableDeclaration variable.Const) inside b xs h within to = refl
-none_below (Kind.VariableDeclaration variable.Var) inside b xs h within to = to h
-none_below (Kind.Function f pure) inside b xs h within to = refl
-none_below (Kind.Class c) inside b xs h within to = refl
-none_below Kind.BlockStatement inside b xs h within to = within h
-none_below k inside b xs h within to = to h
+nodes_have : (p : Bool) (k : Kind) (lets inside b : Bool) (xs : List Text) (a : Forest) → none_or_parameter p k lets inside b ≡ true → (lets ≡ true → xs ≡ []) → (inside ≡ true → xs ≡ []) → (b ≡ true → xs ≡ []) → vars_of k a xs ≡ []
+nodes_have true k lets inside b xs a h lettered within to = lets_have k lets xs a h lettered
+nodes_have false (Kind.BindingName x) lets inside b xs a h lettered within to = absurd (true≢false (sym h))
+nodes_have false (Kind.VariableDeclaration variable.Var) lets inside b xs a h lettered within to = absurd (true≢false (sym h))
+nodes_have false (Kind.VariableDeclaration variable.Let) lets inside b xs a h lettered within to = refl
+nodes_have false (Kind.VariableDeclaration variable.Const) lets inside b xs a h lettered within to = refl
+nodes_have false (Kind.Function f pure) lets inside b xs a h lettered within to = refl
+nodes_have false (Kind.Class c) lets inside b xs a h lettered within to = refl
+nodes_have false Kind.BlockStatement lets inside b xs a h lettered within to = within h
+nodes_have false k lets inside b xs a h lettered within to = to h
 
-pub no_names : (t : Forest) → declares_none t ≡ true → bound_names t ≡ []
-no_names nothing h = refl
-no_names (absent r) h = no_names r h
-no_names (node k n a r) h =
-    let here = declares_none_at k (stays_inside a) (declares_none a) in
-    both_empty (names_of k (bound_names a)) (bound_names r)
-    (none_below k (stays_inside a) (declares_none a) (bound_names a) (first_of_both here (declares_none r) h) (no_names_inside a) (no_names a))
-    (no_names r (second_of_both here (declares_none r) h))
+has_none : (p : Bool) (t : Forest) → none_from p t ≡ true → var_names t ≡ []
+has_none p nothing h = refl
+has_none p (absent r) h = has_none false r h
+has_none p (node k n a r) h =
+    let here = none_or_parameter p k (lets_only a) (stays_inside a) (none_from (is_handler k) a) in
+    both_empty (vars_of k a (var_names a)) (var_names r)
+    (nodes_have p k (lets_only a) (stays_inside a) (none_from (is_handler k) a) (var_names a) a (first_of_both here (declares_none r) h) (lets_have_none a) (insides_have_none false a) (has_none (is_handler k) a))
+    (has_none false r (second_of_both here (declares_none r) h))
+
+pub no_variables : (t : Forest) → declares_none t ≡ true → var_names t ≡ []
+no_variables t h = has_none false t h
 
 -- ---- no imports, but in lists of a module's items
 
@@ -179,25 +200,36 @@ nothing_behind k n a r h = record {
 }
 
 -- a calm node beside one that stands in a row, which both declare nothing
-pub both_plainly : (k : Kind) (a : Forest) (l : Kind) (n : Note) (b r : Forest) → is_calm k ≡ true → DeclaresNothing a → DeclaresNothing (node l n b r) → Plainly k a l b
+pub both_plainly : (k : Kind) (a : Forest) (l : Kind) (n : Note) (b r : Forest) → is_calm k ≡ true → DeclaresNothing a → DeclaresNothing (node l n b r) → DeclaresSame k a l b
 both_plainly k a l n b r calm h g = record {
-  bound = (calm_names k (bound_names a) calm ∙ h.bound) ∙ sym (first_empty (names_of l (bound_names b)) (bound_names r) g.bound);
-  vars = (calm_vars k a (var_names a) calm ∙ no_vars a h.bound) ∙ sym (first_empty (vars_of l b (var_names b)) (var_names r) (no_vars (node l n b r) g.bound));
-  imports = λ source. (calm_specifier source k a (import_decls source a) calm ∙ h.imports source) ∙ sym (first_empty (specifier_decls source l b (import_decls source b)) (import_decls source r) (g.imports source));
+  plainly = record {
+    vars = (calm_vars k a (var_names a) calm ∙ no_vars a h.bound) ∙ sym (first_empty (vars_of l b (var_names b)) (var_names r) (no_vars (node l n b r) g.bound));
+    imports = λ source. (calm_specifier source k a (import_decls source a) calm ∙ h.imports source) ∙ sym (first_empty (specifier_decls source l b (import_decls source b)) (import_decls source r) (g.imports source));
+  };
+  binds = inr ((calm_names k (bound_names a) calm ∙ h.bound) ∙ sym (first_empty (names_of l (bound_names b)) (bound_names r) g.bound));
 }
 
 -- ---- an `if` of which a part declares what it does, beside such as declare nothing
 
-pub alone_plainly : (k : Kind) (n : Note) (a r : Forest) → DeclaresNothing r → Plainly Kind.IfStatement (node k n a r) k a
+pub record NoVariables (t : Forest) : Type 0 where
+  pub vars : var_names t ≡ []
+  pub imports : (source : Text) → import_decls source t ≡ []
+
+-- it becomes empty
+pub emptied_plainly : (a : Forest) → NoVariables a → DeclaresSame Kind.IfStatement a Kind.EmptyStatement nothing
+emptied_plainly a h = record { plainly = record { vars = h.vars; imports = h.imports }; binds = inl refl }
+
+pub alone_plainly : (k : Kind) (n : Note) (a r : Forest) → NoVariables r → Plainly Kind.IfStatement (node k n a r) k a
 alone_plainly k n a r h = record {
-  bound = ap (λ v. names_of k (bound_names a) ++ v) h.bound ∙ append-nil (names_of k (bound_names a));
-  vars = ap (λ v. vars_of k a (var_names a) ++ v) (no_vars r h.bound) ∙ append-nil (vars_of k a (var_names a));
+  vars = ap (λ v. vars_of k a (var_names a) ++ v) h.vars ∙ append-nil (vars_of k a (var_names a));
   imports = λ source. ap (λ v. specifier_decls source k a (import_decls source a) ++ v) (h.imports source) ∙ append-nil (specifier_decls source k a (import_decls source a));
 }
 
-pub last_plainly : (k : Kind) (n : Note) (a r : Forest) (l : Kind) (b : Forest) → DeclaresNothing (node k n a nothing) → Plainly Kind.IfStatement r l b → Plainly Kind.IfStatement (node k n a r) l b
+pub last_plainly : (k : Kind) (n : Note) (a r : Forest) (l : Kind) (b : Forest) → NoVariables (node k n a nothing) → Plainly Kind.IfStatement r l b → Plainly Kind.IfStatement (node k n a r) l b
 last_plainly k n a r l b h g = record {
-  bound = ap (λ v. v ++ bound_names r) (first_empty (names_of k (bound_names a)) [] h.bound) ∙ g.bound;
-  vars = ap (λ v. v ++ var_names r) (first_empty (vars_of k a (var_names a)) [] (no_vars (node k n a nothing) h.bound)) ∙ g.vars;
+  vars = ap (λ v. v ++ var_names r) (first_empty (vars_of k a (var_names a)) [] h.vars) ∙ g.vars;
   imports = λ source. ap (λ v. v ++ import_decls source r) (first_empty (specifier_decls source k a (import_decls source a)) [] (h.imports source)) ∙ g.imports source;
 }
+
+pub statement_plainly : {a : Forest} {l : Kind} {b : Forest} → Plainly Kind.IfStatement a l b → DeclaresSame Kind.IfStatement a l b
+statement_plainly h = record { plainly = h; binds = inl refl }

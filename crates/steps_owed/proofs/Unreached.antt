@@ -4,7 +4,7 @@ use Rattle.js_syntax.specs.Class.{root}
 use Rattle.js_syntax.specs.declared.node_kind.NodeKind.{NodeKind as Kind}
 use Rattle.js_syntax.specs.Facts.{weight}
 use Rattle.js_syntax.specs.Node.{Forest, Tree, forest_of}
-use Rattle.js_meaning.specs.Scope.{names_of, bound_names, vars_of, var_names, import_decls}
+use Rattle.js_meaning.specs.Scope.{vars_of, var_names, import_decls}
 use Rattle.js_meaning_near.specs.Near.{is_calm}
 use Rattle.js_meaning_near.proofs.Local.{calm_specifier}
 use Rattle.form_rules.specs.declared.sought.Sought.{Sought}
@@ -14,9 +14,9 @@ use Rattle.json_shape.specs.Shape.{is_directive_kind, Fits}
 use Rattle.scope_rules.specs.Context.{Context, outermost}
 use Rattle.scope_laws.specs.Place.{Around, plug}
 use Rattle.steps_allowed.specs.Unreached.{only_runs, Unreached, never_runs}
+use Rattle.steps_keep_form.specs.Part.{is_statement}
 use Rattle.steps_keep_form.specs.Sheds.{exports_none}
 use Rattle.steps_keep_form.proofs.Rules.{first_empty}
-use Rattle.steps_keep_runs.proofs.Lists.{no_vars}
 use Rattle.steps_names.specs.Placed.{Place, declared, cases, others, place_below}
 use Rattle.steps_owed.specs.Owed.{IsUnexported, by_change, Leaving}
 use Rattle.steps_owed.specs.Seeking.{Seeks}
@@ -25,7 +25,7 @@ use Rattle.steps_owed.proofs.ChoiceRuns.{no_imports_below}
 use Rattle.steps_owed.proofs.Focus.{always, follows_there}
 use Rattle.steps_owed.proofs.Outward.{declares_nothing}
 use Rattle.steps_owed.proofs.PartForm.{is_catch, outside_as, nothing_declared}
-use Rattle.steps_owed.proofs.Undeclared.{no_names, lead_to_imports, neither_leads}
+use Rattle.steps_owed.proofs.Undeclared.{no_variables, lead_to_imports, neither_leads}
 use Rattle.steps_owed.proofs.Unseen.{enclosed_alone_there}
 
 -- ---- kinds
@@ -38,22 +38,23 @@ record Runs (k : Kind) : Type 0 where
   weighs : 1 ≤ weight k
   no_directive : is_directive_kind k ≡ false
   calm : is_calm k ≡ true
+  states : is_statement k ≡ true
   leads : (p : Place) (i : ℕ) → lead_to_imports (place_below p k i) ≡ false
 
 of_kind : (k : Kind) → only_runs k ≡ true → Runs k
-of_kind Kind.ExpressionStatement h = record { weighs = Prim.omega arith; no_directive = refl; calm = refl; leads = λ p i. refl }
-of_kind Kind.BlockStatement h = record { weighs = Prim.omega arith; no_directive = refl; calm = refl; leads = λ p i. refl }
-of_kind (Kind.LabeledStatement l) h = record { weighs = Prim.omega arith; no_directive = refl; calm = refl; leads = λ p i. refl }
-of_kind Kind.IfStatement h = record { weighs = Prim.omega arith; no_directive = refl; calm = refl; leads = λ p i. refl }
-of_kind (Kind.BreakStatement l) h = record { weighs = Prim.omega arith; no_directive = refl; calm = refl; leads = λ p i. refl }
-of_kind (Kind.ContinueStatement l) h = record { weighs = Prim.omega arith; no_directive = refl; calm = refl; leads = λ p i. refl }
-of_kind Kind.ReturnStatement h = record { weighs = Prim.omega arith; no_directive = refl; calm = refl; leads = λ p i. refl }
-of_kind Kind.ThrowStatement h = record { weighs = Prim.omega arith; no_directive = refl; calm = refl; leads = λ p i. refl }
-of_kind Kind.WhileStatement h = record { weighs = Prim.omega arith; no_directive = refl; calm = refl; leads = λ p i. refl }
-of_kind Kind.DoWhileStatement h = record { weighs = Prim.omega arith; no_directive = refl; calm = refl; leads = λ p i. refl }
-of_kind Kind.ForStatement h = record { weighs = Prim.omega arith; no_directive = refl; calm = refl; leads = λ p i. neither_leads (i == 0) declared others refl refl }
-of_kind Kind.SwitchStatement h = record { weighs = Prim.omega arith; no_directive = refl; calm = refl; leads = λ p i. neither_leads (i == 1) cases others refl refl }
-of_kind Kind.TryStatement h = record { weighs = Prim.omega arith; no_directive = refl; calm = refl; leads = λ p i. refl }
+of_kind Kind.ExpressionStatement h = record { weighs = Prim.omega arith; no_directive = refl; calm = refl; states = refl; leads = λ p i. refl }
+of_kind Kind.BlockStatement h = record { weighs = Prim.omega arith; no_directive = refl; calm = refl; states = refl; leads = λ p i. refl }
+of_kind (Kind.LabeledStatement l) h = record { weighs = Prim.omega arith; no_directive = refl; calm = refl; states = refl; leads = λ p i. refl }
+of_kind Kind.IfStatement h = record { weighs = Prim.omega arith; no_directive = refl; calm = refl; states = refl; leads = λ p i. refl }
+of_kind (Kind.BreakStatement l) h = record { weighs = Prim.omega arith; no_directive = refl; calm = refl; states = refl; leads = λ p i. refl }
+of_kind (Kind.ContinueStatement l) h = record { weighs = Prim.omega arith; no_directive = refl; calm = refl; states = refl; leads = λ p i. refl }
+of_kind Kind.ReturnStatement h = record { weighs = Prim.omega arith; no_directive = refl; calm = refl; states = refl; leads = λ p i. refl }
+of_kind Kind.ThrowStatement h = record { weighs = Prim.omega arith; no_directive = refl; calm = refl; states = refl; leads = λ p i. refl }
+of_kind Kind.WhileStatement h = record { weighs = Prim.omega arith; no_directive = refl; calm = refl; states = refl; leads = λ p i. refl }
+of_kind Kind.DoWhileStatement h = record { weighs = Prim.omega arith; no_directive = refl; calm = refl; states = refl; leads = λ p i. refl }
+of_kind Kind.ForStatement h = record { weighs = Prim.omega arith; no_directive = refl; calm = refl; states = refl; leads = λ p i. neither_leads (i == 0) declared others refl refl }
+of_kind Kind.SwitchStatement h = record { weighs = Prim.omega arith; no_directive = refl; calm = refl; states = refl; leads = λ p i. neither_leads (i == 1) cases others refl refl }
+of_kind Kind.TryStatement h = record { weighs = Prim.omega arith; no_directive = refl; calm = refl; states = refl; leads = λ p i. refl }
 of_kind k h = no_kind h
 
 pub runs_weigh : (k : Kind) → only_runs k ≡ true → 1 ≤ weight k
@@ -80,9 +81,8 @@ unreached_owes a x (never_runs item jump runs none) =
       unexported = follows_there (λ b c i. Unit {0}) (IsUnexported (plug a (Some x)) x)
           (λ b c i h z within right seeks. ap (exports_none z.exported) (nothing_declared z.sought 0 (forest_of x) (outside_as z.sought (forest_of x) (no_catch (plug a (Some x)) z.sought z.exported c seeks)) none)) (Some x) a false (λ at. outermost) 0 0
           (always (Some x) a false (λ at. outermost) 0 0);
-      runs = by_change (λ n m b is fits form core. cut_is_local x kind.calm (record {
-        bound = first_empty (names_of x.kind (bound_names x.below)) [] (no_names (forest_of x) none);
-        vars = first_empty (vars_of x.kind x.below (var_names x.below)) [] (no_vars (forest_of x) (no_names (forest_of x) none));
+      runs = by_change (λ n m b is fits form core. cut_is_local x kind.calm kind.states (record {
+        vars = first_empty (vars_of x.kind x.below (var_names x.below)) [] (no_variables (forest_of x) none);
         imports = λ source. calm_specifier source x.kind x.below (import_decls source x.below) kind.calm ∙ no_imports_below n m b a x x is fits form core x.kind refl kind.calm kind.leads source;
       }) a (item, jump) (subst (Fits root) (sym is) fits));
     }

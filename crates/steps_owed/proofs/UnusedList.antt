@@ -303,7 +303,7 @@ module _ (a : Around) (unused : is_unused_at a ≡ true) (p n m i : Note) (parts
               (spared (wanted_at a) array_expression p m array.below (acting parts) (unused_for_effect a unused) (left_some left) refl (left_hoists left (elements_stay there) (acting_core parts within))
               (λ st. array_wasted st p i m parts (acting parts) (acting_needed st parts (elements_are_nodes parts (elements_there there)))));
           old_calm = refl;
-          plainly = both_plainly array_expression array.below y.kind y.note y.below nothing refl none
+          declares = both_plainly array_expression array.below y.kind y.note y.below nothing refl none
               (left_declares left (elements_stay there) (acting_core parts within) (acting_imports parts (λ source. first_empty (import_decls source parts) [] (imports source))));
           core = λ c. left_core left (acting_core parts (core_below elements i parts nothing (core_below array_expression p array.below nothing c)));
         }
@@ -355,7 +355,7 @@ module _ (a : Around) (unused : is_unused_at a ≡ true) (p n m i : Note) (parts
               (spared (wanted_at a) sequence_expression p m sequence.below (acting parts) (unused_for_effect a unused) (left_some left) refl (left_hoists left (parts_stay there) (acting_core parts within))
               (λ st. sequence_wasted st p i m parts (acting parts) (some_parts parts nodes (left_some left)) (acting_needed st parts nodes)));
           old_calm = refl;
-          plainly = both_plainly sequence_expression sequence.below y.kind y.note y.below nothing refl none
+          declares = both_plainly sequence_expression sequence.below y.kind y.note y.below nothing refl none
               (left_declares left (parts_stay there) (acting_core parts within) (acting_imports parts (λ source. first_empty (import_decls source parts) [] (imports source))));
           core = λ c. left_core left (acting_core parts (core_below expressions i parts nothing (core_below sequence_expression p sequence.below nothing c)));
         }

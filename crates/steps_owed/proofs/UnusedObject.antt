@@ -189,7 +189,7 @@ module _ (a : Around) (unused : is_unused_at a ≡ true) (p n m i : Note) (es le
             (spared (wanted_at a) object_expression p m object.below left (unused_for_effect a unused) (left_some stays_left) refl (left_hoists stays_left (left_there there) within)
             (λ st. object_wasted st p i m es left (plain_needed st plain)));
         old_calm = refl;
-        plainly = both_plainly object_expression object.below y.kind y.note y.below nothing refl none
+        declares = both_plainly object_expression object.below y.kind y.note y.below nothing refl none
             (left_declares stays_left (left_there there) within (plain_imports plain (λ source. first_empty (import_decls source es) [] (imports source))));
         core = λ c. left_core stays_left (plain_core plain (core_below properties i es nothing (core_below object_expression p object.below nothing c)));
       }

@@ -172,7 +172,7 @@ module _ (a : Around) (unused : is_unused_at a ≡ true) (n : Note) where
           stands = wasted a unused (unary_expression o) n operand k m b (operand_of o) refl one.0 below bare
               (λ st. unary_wasted st o k n m n b operand total (subst (λ w. runs.stands_bare w k b ≡ true) (sym (operand_wanted o)) (bare_for_runs (operand_of o) false k m b one.0 below bare)) (needed all_needed));
           old_calm = refl;
-          plainly = both_plainly (unary_expression o) operand k m b nothing refl none none;
+          declares = both_plainly (unary_expression o) operand k m b nothing refl none none;
           core = λ c. core_below (unary_expression o) n operand nothing c;
         }
 
@@ -228,7 +228,7 @@ module _ (a : Around) (unused : is_unused_at a ≡ true) (n : Note) where
               stands = wasted a unused (binary_expression o) n sides k m b as_value refl two.0 (core_alone k m b right (sides_core p q r whole)) bare
                   (λ st. binary_wasted st o k l n m i n b c left comparing (needed (not_needed (silent_anywhere st l i c idle) all_needed)));
               old_calm = refl;
-              plainly = both_plainly (binary_expression o) sides k m b right refl none none;
+              declares = both_plainly (binary_expression o) sides k m b right refl none none;
               core = λ d. core_alone k m b right (core_below (binary_expression o) n sides nothing d);
             }
 
@@ -258,7 +258,7 @@ module _ (a : Around) (unused : is_unused_at a ≡ true) (n : Note) where
               stands = wasted a unused (binary_expression o) n sides l i c as_value refl two.1.0 (core_behind k m b right (sides_core p q r whole)) bare
                   (λ st. binary_wasted st o k l n m i n b c right comparing (not_needed (silent_anywhere st k m b idle) (needed all_needed)));
               old_calm = refl;
-              plainly = both_plainly (binary_expression o) sides l i c nothing refl none (nothing_behind k m b right none);
+              declares = both_plainly (binary_expression o) sides l i c nothing refl none (nothing_behind k m b right none);
               core = λ d. core_behind k m b right (core_below (binary_expression o) n sides nothing d);
             }
 
@@ -292,7 +292,7 @@ module _ (a : Around) (unused : is_unused_at a ≡ true) (n : Note) where
             stands = wasted a unused (logical_expression o) n sides k m b as_value refl two.0 (core_alone k m b right below) bare
                 (λ st. logical_wasted st o k l n m i n b c left (silent_anywhere st l i c idle) (needed all_needed));
             old_calm = refl;
-            plainly = both_plainly (logical_expression o) sides k m b right refl none none;
+            declares = both_plainly (logical_expression o) sides k m b right refl none none;
             core = λ d. core_alone k m b right (core_below (logical_expression o) n sides nothing d);
           }
 
@@ -332,7 +332,7 @@ module _ (a : Around) (unused : is_unused_at a ≡ true) (n : Note) where
             stands = wasted a unused conditional_expression n choice k m b as_value refl three.0 (core_alone k m b branches below) bare
                 (λ st. conditional_wasted st k l z n m i j n b c d left (silent_anywhere st l i c idle) (silent_anywhere st z j d idle_too) (needed all_needed));
             old_calm = refl;
-            plainly = both_plainly conditional_expression choice k m b branches refl none none;
+            declares = both_plainly conditional_expression choice k m b branches refl none none;
             core = λ e. core_alone k m b branches (core_below conditional_expression n choice nothing e);
           }
 
