@@ -36,7 +36,7 @@ use Rattle.steps_allowed.specs.SilentStatement.{SilentStatement}
 use Rattle.steps_allowed.specs.UnusedFunction.{a_function}
 use Rattle.steps_allowed.specs.UnusedDeclarator.{a_declarator, SilentDeclarator}
 use Rattle.steps_allowed.specs.UnusedImport.{an_imported}
-use Rattle.steps_allowed.specs.KnownConditional.{KnownConditional, consequent_is_taken, alternate_is_taken}
+use Rattle.steps_allowed.specs.KnownConditional.{truth_known, KnownConditional, consequent_is_taken, alternate_is_taken}
 use Rattle.steps_allowed.specs.KnownSide.{KnownSide, right_side_counts, left_side_decides}
 use Rattle.steps_allowed.specs.UnusedOperation.{UnusedOperation, one_operand_acts}
 use Rattle.steps_allowed.specs.UnusedList.{UnusedList, acting_parts_stay}
@@ -51,14 +51,15 @@ use Rattle.steps_allowed.specs.KnownIf.{KnownIf}
 use Rattle.steps_allowed.specs.DeadIf.{DeadIf}
 use Rattle.steps_allowed.specs.EmptyBlock.{holds_nothing, EmptyBlock, empty_block_leaves}
 use Rattle.steps_allowed.specs.Unreached.{is_behind_jump, Unreached, never_runs}
+use Rattle.steps_allowed.specs.Untaken.{untaken_where, is_known, leads_to_untaken, begins_untaken, runs_inside, is_untaken, Untaken, never_taken}
 use Rattle.steps_owed.proofs.ExposedBare.{bare_inside, bare_below, bare_exposed}
 use Rattle.steps_owed.proofs.Focus.{follows_there}
-use Rattle.headline.specs.Clean.{IsDead, an_empty_statement, an_empty_block, a_silent_statement, an_unused_function, an_unused_declarator, an_unused_import, a_known_conditional, a_known_side, an_unused_operation, an_unused_list, an_indirect_choice, a_one_sided_choice, idle_parts, two_sides, an_unused_object, a_known_operation, a_known_if, a_dead_if, an_unreached_statement, CleanBut}
+use Rattle.headline.specs.Clean.{IsDead, an_empty_statement, an_empty_block, a_silent_statement, an_unused_function, an_unused_declarator, an_unused_import, a_known_conditional, a_known_side, an_unused_operation, an_unused_list, an_indirect_choice, a_one_sided_choice, idle_parts, two_sides, an_unused_object, a_known_operation, a_known_if, a_dead_if, an_unreached_statement, an_untaken_statement, CleanBut}
 use Rattle.headline.proofs.RenotedUnused.{stands_as, needed_as, child_as, list_as}
 use Rattle.headline.proofs.RenotedChoice.{counts_as}
 use Rattle.headline.proofs.RenotedParts.{side_as, sequence_as}
 use Rattle.headline.proofs.RenotedSides.{two_sides_as, object_as}
-use Rattle.headline.proofs.RenotedKnown.{known_as, truth_as, side_as as known_side_as}
+use Rattle.headline.proofs.RenotedKnown.{known_as, truth_bare, truth_as, side_as as known_side_as}
 use Rattle.steps_owed.proofs.EmptyBlock.{holds_bare}
 use Rattle.headline.proofs.RenotedIf.{declares_bare, known_if_as, dead_if_as}
 
@@ -278,6 +279,21 @@ exposed_same e k f g h = fun_ext (λ i. unseen (λ t. exposed_inside e k t i) (�
 
 -- ---- the same place
 
+-- a place further in than this row
+abbrev is_further : Around → Bool
+is_further (under k n a rest) = true
+is_further a = false
+
+where_behind : (k : Kind) (n : Note) (b : Forest) (a : Around) → untaken_where (behind k n b a) ≡ (if is_further a then Some true else None)
+where_behind k n b (under l i a rest) = refl
+where_behind k n b (first rest) = refl
+where_behind k n b (behind l i c a) = refl
+where_behind k n b (behind_none a) = refl
+
+begins_as : (k : Kind) (a b : Around) → leads_to_untaken a ≡ leads_to_untaken b → begins_untaken k a ≡ begins_untaken k b
+begins_as Kind.IfStatement a b e = e
+begins_as k a b e = refl
+
 -- The place in another tree, with what stands there.
 record Twin (t : Forest) (a : Around) (k : Kind) (n : Note) (b : Forest) : Type 1 where
   around : Around
@@ -289,6 +305,10 @@ record Twin (t : Forest) (a : Around) (k : Kind) (n : Note) (b : Forest) : Type 
   used : (us : ℕ → Use) (at : ℕ) → use_there us at around ≡ use_there us at a
   unused : (us : ℕ → Bool) (at : ℕ) → unused_there us at around ≡ unused_there us at a
   jumped : (j : Bool) → is_behind_jump j around ≡ is_behind_jump j a
+  untaken : (q : Bool) → is_untaken q around ≡ is_untaken q a
+  further : is_further around ≡ is_further a
+  untaken_there : untaken_where around ≡ untaken_where a
+  leads : leads_to_untaken around ≡ leads_to_untaken a
   imported : (r : ImportRow) → import_row r around ≡ import_row r a
   exposed : (es : ℕ → Exposure) (at : ℕ) → exposed_at es at around (a_node k note below) ≡ exposed_at es at a (a_node k n b)
   holds : (P : Bool → Context → ℕ → Type 0) (w : Bool) (cs : ℕ → Context) (at next : ℕ) → HoldsThere w cs at next a (a_node k n b) P → HoldsThere w cs at next around (a_node k note below) P
@@ -306,6 +326,10 @@ twin (first rest) k n b (node l m c r) e = record {
   used = λ us at. refl;
   unused = λ us at. refl;
   jumped = λ q. refl;
+  untaken = λ q. refl;
+  further = refl;
+  untaken_there = refl;
+  leads = refl;
   imported = λ r. refl;
   exposed = λ es at. refl;
   holds = λ P w cs at next h. h;
@@ -324,6 +348,10 @@ twin (behind j i d a) k n b (node l m c r) e =
       used = λ us at. o.used us (suc at);
       unused = λ us at. o.unused us (suc at);
       jumped = λ q. o.jumped (q || is_jump j);
+      untaken = o.untaken;
+      further = refl;
+      untaken_there = where_behind j m c o.around ∙ ap (λ b. if b then Some true else None) o.further ∙ sym (where_behind j i d a);
+      leads = ap₂ (λ x y. is_known x y) o.untaken_there (sym (truth_bare j m c) ∙ ap (truth_known j nowhere) (same_below e) ∙ truth_bare j i d);
       imported = o.imported;
       exposed = λ es at. o.exposed es (suc at);
       holds = λ P w cs at next h. subst (λ (q : ℕ). HoldsThere w cs (suc at) q o.around (a_node k o.note o.below) P) (sym (place_as next j m i c d (same_below e))) (o.holds P w cs (suc at) (next + scope_count (node j i d nothing)) h);
@@ -342,6 +370,10 @@ twin (behind_none a) k n b (absent r) e =
       used = λ us at. o.used us (suc at);
       unused = λ us at. o.unused us (suc at);
       jumped = o.jumped;
+      untaken = o.untaken;
+      further = refl;
+      untaken_there = refl;
+      leads = refl;
       imported = o.imported;
       exposed = λ es at. o.exposed es (suc at);
       holds = λ P w cs at next h. o.holds P w cs (suc at) next h;
@@ -363,6 +395,10 @@ twin (under j i a rest) k n b (node l m c r) e =
       used = λ us at. o.used (λ i. use_below (us at) j i) 0;
       unused = λ us at. o.unused (λ i. is_unused_below (us at) j i) 0;
       jumped = λ q. o.jumped false;
+      untaken = λ q. ap (λ f. is_untaken f o.around) (ap (λ b. q && runs_inside j || b) (begins_as j o.around a o.leads)) ∙ o.untaken (q && runs_inside j || begins_untaken j a);
+      further = refl;
+      untaken_there = refl;
+      leads = refl;
       imported = λ r. o.imported (import_row_below r j);
       exposed = λ es at. ap (λ (fs : ℕ → Exposure). exposed_at fs 0 o.around y) (sym (exposed_same (es at) j (plug a x) (plug o.around y) inner)) ∙ o.exposed (exposed_inside (es at) j (plug a x)) 0;
       holds = λ P w cs at next h.
@@ -695,6 +731,13 @@ module _ (unused imports : Bool) (t u : Forest) (e : bare t ≡ bare u) (clean :
       let same = unseen declares_none declares_bare (forest_of now) (forest_of x) (ap (λ b. node x.kind nowhere b nothing) o.same) in
       clean.nothing_is_dead o.around (Some now) o.is (an_unreached_statement o.around now (never_runs (item_as a o item) (o.jumped false ∙ jump) runs (same ∙ none)))
 
+  no_untaken : (a : Around) (x : Tree) → u ≡ plug a (Some x) → Untaken a x → ⊥
+  no_untaken a x is (never_taken item taken runs none) =
+      let o = other_place a x.kind x.note x.below is in
+      let now : Tree = record { kind = x.kind; note = o.note; below = o.below } in
+      let same = unseen declares_none declares_bare (forest_of now) (forest_of x) (ap (λ b. node x.kind nowhere b nothing) o.same) in
+      clean.nothing_is_dead o.around (Some now) o.is (an_untaken_statement o.around now (never_taken (item_as a o item) (o.untaken false ∙ taken) runs (same ∙ none)))
+
   none_dead : (a : Around) (x : Option Tree) → u ≡ plug a x → IsDead unused imports u a x → ⊥
   none_dead a x is (an_empty_statement b n item) = no_empty b n is item
   none_dead a x is (an_empty_block b y held) = no_block b y is held
@@ -715,6 +758,7 @@ module _ (unused imports : Bool) (t u : Forest) (e : bare t ≡ bare u) (clean :
   none_dead a x is (a_known_if b y z known) = no_known_if b y z is known
   none_dead a x is (a_dead_if b y z dead) = no_dead_if b y z is dead
   none_dead a x is (an_unreached_statement b y unreached) = no_unreached b y is unreached
+  none_dead a x is (an_untaken_statement b y untaken) = no_untaken b y is untaken
 
 pub clean_as : (unused imports : Bool) (t u : Forest) → bare t ≡ bare u → CleanBut unused imports t → CleanBut unused imports u
 clean_as unused imports t u e clean = record { nothing_is_dead = none_dead unused imports t u e clean }

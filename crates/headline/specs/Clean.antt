@@ -38,8 +38,9 @@ use Rattle.steps_allowed.specs.KnownIf.{KnownIf}
 use Rattle.steps_allowed.specs.DeadIf.{DeadIf}
 -- and a block of nothing
 use Rattle.steps_allowed.specs.EmptyBlock.{EmptyBlock}
--- and a statement behind a jump in its list
+-- and a statement behind a jump in its list, or in a branch that isn't taken
 use Rattle.steps_allowed.specs.Unreached.{Unreached}
+use Rattle.steps_allowed.specs.Untaken.{Untaken}
 -- whose names only the tree's references may use
 use Rattle.steps_allowed.specs.Exposure.{IsOwnFunction, IsOwnDeclarator}
 
@@ -95,6 +96,8 @@ pub data IsDead (unused imports : Bool) (t : Forest) : Around → Option Tree �
   a_dead_if : (a : Around) (x y : Tree) → DeadIf x y → IsDead unused imports t a (Some x)
   -- a statement behind a jump in its list, which declares no name around it: it never runs
   an_unreached_statement : (a : Around) (x : Tree) → Unreached a x → IsDead unused imports t a (Some x)
+  -- a statement in a branch that isn't taken, which declares no name around it: it never runs
+  an_untaken_statement : (a : Around) (x : Tree) → Untaken a x → IsDead unused imports t a (Some x)
 
 -- No part of the program is dead code, but for what is kept.
 pub record CleanBut (unused imports : Bool) (t : Forest) : Type 0 where

@@ -20,7 +20,7 @@ use Rattle.js_meaning.specs.Scope.{waiting, named_so, own_name, look}
 use Rattle.js_meaning.specs.Operator.{truthy, goes_right, unary_of}
 use Rattle.js_meaning.specs.Expression.{binary_value, logical_value, fill_own, function_value, in_turn}
 use Rattle.js_meaning.specs.Host.{Enter}
-use Rattle.js_meaning.specs.Node.{now, value, Meaning, need}
+use Rattle.js_meaning.specs.Node.{now, Meaning, need}
 use Rattle.js_meaning.specs.Meaning.{if_core, does, eval}
 use Rattle.js_meaning_near.specs.Near.{meaning}
 use Rattle.known_tests.specs.Tells.{Alone, GivesAlone}

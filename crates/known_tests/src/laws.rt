@@ -54,3 +54,11 @@ pub fn a_statement_is_taken()
     ensures nothing_to_take { (u : Purpose) (st : Names) (t : Kind) (n i : Note) (a : Forest) (k : Kind) (b : Forest) → Tells (λ v. truthy v ≡ false) t a →
         ComesTo u st Kind.IfStatement (node t n a (node k i b (absent nothing))) Kind.EmptyStatement nothing }
 {}
+
+/// Of a branch that isn't taken it doesn't matter what lies below it.
+pub fn a_branch_that_is_not_taken_may_change()
+    ensures consequent { (u : Purpose) (st : Names) (t : Kind) (n i : Note) (a : Forest) (k : Kind) (b c r : Forest) → Tells (λ v. truthy v ≡ false) t a → IsField r →
+        ComesTo u st Kind.IfStatement (node t n a (node k i b r)) Kind.IfStatement (node t n a (node k i c r)) }
+    ensures alternate { (u : Purpose) (st : Names) (t : Kind) (n i j : Note) (a : Forest) (k l : Kind) (b c d : Forest) → Tells (λ v. truthy v ≡ true) t a →
+        ComesTo u st Kind.IfStatement (node t n a (node k i b (node l j c nothing))) Kind.IfStatement (node t n a (node k i b (node l j d nothing))) }
+{}

@@ -32,6 +32,7 @@ use Rattle.rules_expressions.specs.Objects.{object_left}
 use Rattle.rules_expressions.specs.Operations.{known_becomes}
 use Rattle.rules_expressions.specs.Ifs.{if_becomes}
 use Rattle.rules_expressions.specs.Jumps.{list_reached}
+use Rattle.rules_expressions.specs.Untaken.{if_left}
 use Rattle.rules_expressions.specs.Settled.{IsSettledAt}
 use Rattle.rules_expressions.proofs.Walked.{settled_nodes}
 use Rattle.min_peephole.specs.Quiet.{first_facts, is_row, uses_names, decides_none, wastes_none, keeps_parts, computes_none, stays, all_stay, is_quiet}
@@ -103,9 +104,11 @@ module _ (f : Facts) (p : Place) (n : Note) (k : Kind) (inner : Forest) (h : sta
       let values = not (is_some (object_left (spot_of p) n k inner)) in
       let keeps = and_parts (not (is_some (sequence_left (spot_of p) n k inner))) (both && values) at_values.0 in
       let parts = and_parts both values keeps.1 in
-      let shortens = not (is_some (list_reached n k inner)) in
-      let computes = and_parts (not (is_some (known_becomes n k inner))) (not (is_some (if_becomes n k inner)) && shortens) at_values.1 in
-      let statements = and_parts (not (is_some (if_becomes n k inner))) shortens computes.1 in
+      let reached = not (is_some (list_reached n k inner)) in
+      let taken = not (is_some (if_left n k inner)) in
+      let computes = and_parts (not (is_some (known_becomes n k inner))) (not (is_some (if_becomes n k inner)) && (reached && taken)) at_values.1 in
+      let statements = and_parts (not (is_some (if_becomes n k inner))) (reached && taken) computes.1 in
+      let runs = and_parts reached taken statements.1 in
       record {
         conditional = none_there (conditional_becomes (spot_of p) k inner) decides.0;
         logical = none_there (logical_becomes (spot_of p) k inner) others.0;
@@ -118,7 +121,8 @@ module _ (f : Facts) (p : Place) (n : Note) (k : Kind) (inner : Forest) (h : sta
         object = none_there (object_left (spot_of p) n k inner) parts.1;
         known = none_there (known_becomes n k inner) computes.0;
         statement = none_there (if_becomes n k inner) statements.0;
-        jumps = none_there (list_reached n k inner) statements.1;
+        jumps = none_there (list_reached n k inner) runs.0;
+        untaken = none_there (if_left n k inner) runs.1;
       }
 
 each_stays : (Q : Place → Tree → Type 0) (f : Facts) → ((p : Place) (n : Note) (k : Kind) (inner : Forest) → stays f p n k inner ≡ true → Q p (record { kind = k; note = n; below = inner })) → (s : Spot) (t : Forest) → all_stay f s t ≡ true → EachNode Q s t

@@ -23,6 +23,7 @@ use Rattle.rules_expressions.specs.Objects.{object_left}
 use Rattle.rules_expressions.specs.Operations.{known_becomes}
 use Rattle.rules_expressions.specs.Ifs.{if_becomes}
 use Rattle.rules_expressions.specs.Jumps.{list_reached}
+use Rattle.rules_expressions.specs.Untaken.{if_left}
 
 -- what the first pass knows, where nothing is kept
 abbrev pub first_facts : Forest → Facts
@@ -45,9 +46,9 @@ wastes_none p n k inner = not (is_some (unused_becomes (spot_of p) k inner)) && 
 abbrev pub keeps_parts : Place → Note → Kind → (inner : Forest) → Bool
 keeps_parts p n k inner = not (is_some (sequence_left (spot_of p) n k inner)) && (not (is_some (two_sides_become (spot_of p) n k inner)) && not (is_some (object_left (spot_of p) n k inner)))
 
--- and is no operation that comes to its value, nor an `if` that comes to a branch or becomes empty
+-- and is no operation that comes to its value, nor an `if` that comes to a branch or becomes empty, and has nothing that never runs
 abbrev pub computes_none : Note → Kind → (inner : Forest) → Bool
-computes_none n k inner = not (is_some (known_becomes n k inner)) && (not (is_some (if_becomes n k inner)) && not (is_some (list_reached n k inner)))
+computes_none n k inner = not (is_some (known_becomes n k inner)) && (not (is_some (if_becomes n k inner)) && (not (is_some (list_reached n k inner)) && not (is_some (if_left n k inner))))
 
 -- and is no import that a name leaves
 abbrev pub uses_names : Facts → Place → Note → Kind → (inner : Forest) → Bool

@@ -1,16 +1,18 @@
--- What the hook of statements does: a silent one becomes empty, or else an `if` what is known of it, or else names leave an import.
+-- What the hook of statements does: a silent one becomes empty, or else an `if` what is known of it or loses what never runs, or else names
+-- leave an import.
 use Rattle.std.proofs.Common.{◌≡◌, ◌∙◌, Bool, true, false, ◌||◌, Option, Some, None, is_some, if◌then◌else◌, refl, sym, ap, subst, true≢false}
 use Rattle.js_syntax.specs.Node.{Forest, Tree}
 use Rattle.scope_counts.specs.Edits.{Around}
 use Rattle.min_context.specs.Edited.{Edited}
 use Rattle.min_context.specs.Seen.{Seen}
-use Rattle.min_traverse.specs.Lawful.{Rule, Stays, Does, or_same}
+use Rattle.min_traverse.specs.Lawful.{Rule, Stays, Does, or_same, or_else}
 use Rattle.min_traverse.specs.Moves.{Holds, IsHere, NodeMoves}
 use Rattle.rules_dead_code.specs.Before.{before}
 use Rattle.rules_dead_code.specs.Rules.{where_of, is_silent_statement}
-use Rattle.rules_expressions.specs.Ifs.{if_becomes, fold_if}
+use Rattle.rules_expressions.specs.Ifs.{if_becomes}
+use Rattle.rules_expressions.specs.Untaken.{if_left, if_ends, at_if_end}
 use Rattle.rules_imports.specs.Rules.{pruned}
-use Rattle.rules_expressions.proofs.Folding.{ifs_fold}
+use Rattle.rules_expressions.proofs.Folding.{ifs_end}
 use Rattle.min_statements.specs.Acts.{empty, prune}
 use Rattle.min_statements.specs.Own.{AnyEdit, Own, Found, statement_changes}
 use Rattle.min_statements.specs.Walker.{Names, facts_of}
@@ -18,6 +20,7 @@ use Rattle.min_statements.proofs.Acting.{asked_true}
 use Rattle.min_statements.proofs.Calls.{CallsStay}
 use Rattle.min_statements.proofs.Expressions.{rule_moves, rule_visits}
 use Rattle.min_statements.proofs.Branches.{if_calls}
+use Rattle.min_statements.proofs.Thinning.{left_calls}
 use Rattle.min_statements.proofs.Pruning.{prune_moves}
 
 -- a call that did nothing
@@ -50,15 +53,19 @@ none_silent : (silent : Bool) (y : Tree) → false ≡ is_some (if silent then S
 none_silent true y e = absurd (true≢false (sym e))
 none_silent false y e = refl
 
-if_calls_stay : (c : Seen) (a : Around) (x y : Tree) (r : Forest) → IsHere c a → fold_if c x ≡ Some y → CallsStay (before a r) x y
-if_calls_stay c a x y r here found = if_calls (before a r) x y found
+if_calls_stay : (c : Seen) (a : Around) (x y : Tree) (r : Forest) → IsHere c a → at_if_end c x ≡ Some y → CallsStay (before a r) x y
+if_calls_stay c a x y r here found = by (if_becomes x.note x.kind x.below) refl
+  where
+    by : (o : Option Tree) → if_becomes x.note x.kind x.below ≡ o → CallsStay (before a r) x y
+    by (Some z) is = if_calls (before a r) x y (is ∙ sym (ap (λ o. or_else o (if_left x.note x.kind x.below)) is) ∙ found)
+    by None is = left_calls (before a r) x y (sym (ap (λ o. or_else o (if_left x.note x.kind x.below)) is) ∙ found)
 
 module _ (stays : Stays AnyEdit) (names : Names) where
-  pub fold_moves : {c k d : Seen} {x z y : Tree} {answer : Bool} → Does (empty names) c x false k z → Does fold_if k z answer d y → NodeMoves Names AnyEdit (Holds Own) names c x names d y
-  fold_moves first second = rule_moves stays names fold_if (ifs_fold AnyEdit (λ o t u e. e)) if_calls_stay (after_nothing (empty names) fold_if first second)
+  pub fold_moves : {c k d : Seen} {x z y : Tree} {answer : Bool} → Does (empty names) c x false k z → Does at_if_end k z answer d y → NodeMoves Names AnyEdit (Holds Own) names c x names d y
+  fold_moves first second = rule_moves stays names at_if_end (ifs_end AnyEdit (λ o t u e. e)) if_calls_stay (after_nothing (empty names) at_if_end first second)
 
-  pub statement_moves : {c k l d : Seen} {x z v y : Tree} {answer : Bool} → Does (empty names) c x false k z → Does fold_if k z false l v → Does (prune names) l v answer d y → NodeMoves Names AnyEdit (Holds Own) names c x names d y
-  statement_moves first second third = prune_moves stays names (after_nothing (empty names) (prune names) first (after_nothing fold_if (prune names) second third))
+  pub statement_moves : {c k l d : Seen} {x z v y : Tree} {answer : Bool} → Does (empty names) c x false k z → Does at_if_end k z false l v → Does (prune names) l v answer d y → NodeMoves Names AnyEdit (Holds Own) names c x names d y
+  statement_moves first second third = prune_moves stays names (after_nothing (empty names) (prune names) first (after_nothing at_if_end (prune names) second third))
 
 -- nothing becomes of it
 abbrev FoundNothing : Names → Seen → Tree → Seen → Type 0
@@ -68,18 +75,18 @@ module _ (names : Names) {d : Seen} (quiet : d.requested ≡ false) where
   pub emptied_visits : {c : Seen} {x y : Tree} → Does (empty names) c x true d y → FoundNothing names c x d
   emptied_visits does = done_asks (empty names) does quiet
 
-  pub fold_visits : {c k : Seen} {x z y : Tree} → Does (empty names) c x false k z → Does fold_if k z true d y → FoundNothing names c x d
-  fold_visits first second = done_asks fold_if (after_nothing (empty names) fold_if first second) quiet
+  pub fold_visits : {c k : Seen} {x z y : Tree} → Does (empty names) c x false k z → Does at_if_end k z true d y → FoundNothing names c x d
+  fold_visits first second = done_asks at_if_end (after_nothing (empty names) at_if_end first second) quiet
 
-  pub statement_visits : {c k l : Seen} {x z v y : Tree} {answer : Bool} → Does (empty names) c x false k z → Does fold_if k z false l v → Does (prune names) l v answer d y → FoundNothing names c x d
+  pub statement_visits : {c k l : Seen} {x z v y : Tree} {answer : Bool} → Does (empty names) c x false k z → Does at_if_end k z false l v → Does (prune names) l v answer d y → FoundNothing names c x d
   statement_visits {c = c} {x = x} first second third =
       let f = facts_of names c in
       let w = where_of c.place in
-      let folds = after_nothing (empty names) fold_if first second in
-      let found = rule_visits names quiet (prune names) (after_nothing (empty names) (prune names) first (after_nothing fold_if (prune names) second third)) in
+      let folds = after_nothing (empty names) at_if_end first second in
+      let found = rule_visits names quiet (prune names) (after_nothing (empty names) (prune names) first (after_nothing at_if_end (prune names) second third)) in
       let silent = none_silent (is_silent_statement f w x.kind x.below) _ first.answers in
       record {
         names_same = found.names_same;
         context_same = found.context_same;
-        none = ap (λ b. b || is_some (if_becomes x.note x.kind x.below) || is_some (pruned f w x)) silent ∙ ap (λ b. b || is_some (pruned f w x)) (sym folds.answers) ∙ found.none;
+        none = ap (λ b. b || is_some (if_ends x.note x.kind x.below) || is_some (pruned f w x)) silent ∙ ap (λ b. b || is_some (pruned f w x)) (sym folds.answers) ∙ found.none;
       }

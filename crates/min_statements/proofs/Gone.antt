@@ -1,5 +1,5 @@
 -- What leaves a list of statements, whether it stands behind a jump or is dead code otherwise.
-use Rattle.std.proofs.Common.{◌≡◌, ◌∙◌, ◌≤◌, ◌+◌, ℕ, Bool, true, false, ◌||◌, if◌then◌else◌, refl, sym, ap, subst, arith, true≢false}
+use Rattle.std.proofs.Common.{◌≡◌, ◌≤◌, ◌+◌, ℕ, Bool, true, false, ◌||◌, if◌then◌else◌, refl, sym, ap, subst, arith}
 use Rattle.js_syntax.specs.declared.node_kind.NodeKind.{NodeKind as Kind}
 use Rattle.js_syntax.specs.declared.node_kind.NodeKind.TheVariants.{Statements as statements, EmptyStatement as empty_statement}
 use Rattle.js_syntax.specs.Facts.{weight}
@@ -18,9 +18,9 @@ use Rattle.rules_dead_code.proofs.Lighter.{trimmed_is_lighter, trimmed_is_same, 
 use Rattle.rules_dead_code.proofs.Trimming.{list_trims}
 use Rattle.rules_expressions.specs.Lists.{new_note}
 use Rattle.rules_expressions.specs.Jumps.{is_unreached, reached, emptied_behind, has_unreached}
-use Rattle.rules_expressions.proofs.Jumps.{thinner, no_heavier, lighter, reach_edits, emptied_trims, all_reached}
+use Rattle.rules_expressions.proofs.Jumps.{thinner, lighter, reach_edits, emptied_trims, all_reached}
 use Rattle.min_statements.specs.Acts.{has_gone, shorter}
-use Rattle.min_statements.specs.Shed.{shed, unreached_shed, list_shed}
+use Rattle.min_statements.specs.Shed.{unreached_shed, list_shed}
 use Rattle.min_statements.proofs.Shed.{Adds, ids_add, evals_add, splits}
 
 module _ (f : Facts) (w : Where) where

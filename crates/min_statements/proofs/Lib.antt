@@ -11,3 +11,4 @@ mod Pruning
 mod Ending
 mod Seeing
 mod Emptying
+mod Thinning

@@ -35,6 +35,7 @@ use Rattle.rules_expressions.specs.TwoSides.{two_sides_become}
 use Rattle.rules_expressions.specs.Objects.{object_left}
 use Rattle.rules_expressions.specs.Operations.{known_becomes}
 use Rattle.rules_expressions.specs.Ifs.{if_becomes}
+use Rattle.rules_expressions.specs.Untaken.{if_left, if_ends}
 use Rattle.rules_expressions.specs.Settled.{IsSettledAt, IsSettled}
 use Rattle.rules_expressions.proofs.Walked.{settled_nodes}
 use Rattle.rules_imports.specs.Rules.{pruned}
@@ -208,9 +209,22 @@ none_is : (o : Option Tree) → is_some o ≡ false → o ≡ None
 none_is None e = refl
 none_is (Some y) e = absurd (true≢false e)
 
+first_none : (o p : Option Tree) → is_some (or_else o p) ≡ false → o ≡ None
+first_none None p e = refl
+first_none (Some y) p e = absurd (true≢false e)
+
+second_none : (o p : Option Tree) → is_some (or_else o p) ≡ false → p ≡ None
+second_none None None e = refl
+second_none None (Some y) e = absurd (true≢false e)
+second_none (Some y) p e = absurd (true≢false e)
+
 not_known : (f : Facts) (w : Where) (n : Note) (k : Kind) (b : Forest) → Unchanged f w n k b → if_becomes n k b ≡ None
-not_known f w n if_statement b h = none_is (if_becomes n if_statement b) (neither (is_some (if_becomes n if_statement b)) false (h refl)).0
+not_known f w n if_statement b h = first_none (if_becomes n if_statement b) (if_left n if_statement b) (neither (is_some (if_ends n if_statement b)) false (h refl)).0
 not_known f w n k b h = refl
+
+not_left : (f : Facts) (w : Where) (n : Note) (k : Kind) (b : Forest) → Unchanged f w n k b → if_left n k b ≡ None
+not_left f w n if_statement b h = second_none (if_becomes n if_statement b) (if_left n if_statement b) (neither (is_some (if_ends n if_statement b)) false (h refl)).0
+not_left f w n k b h = refl
 
 none_unused : (f : Facts) (w : Where) (n : Note) (k : Kind) (b : Forest) → Unchanged f w n k b → (let x : Tree = record { kind = k; note = n; below = b } in pruned f w x ≡ None)
 none_unused f w n (import_declaration source) b h = none_is (pruned f w (record { kind = import_declaration source; note = n; below = b })) (h refl)
@@ -224,15 +238,6 @@ quiet_at f p x h slots = record {
   list = λ e. (neither (has_unreached false x.below) (has_dead f (where_of p) x.below) (h.list (slots.list e))).1;
   statement = none_left (record { kind = empty_statement; note = unmarked x.note; below = nothing }) (not_silent f (where_of p) x.note x.kind x.below (λ e. h.statement (slots.statement e)));
 }
-
-first_none : (o p : Option Tree) → is_some (or_else o p) ≡ false → o ≡ None
-first_none None p e = refl
-first_none (Some y) p e = absurd (true≢false e)
-
-second_none : (o p : Option Tree) → is_some (or_else o p) ≡ false → p ≡ None
-second_none None None e = refl
-second_none None (Some y) e = absurd (true≢false e)
-second_none (Some y) p e = absurd (true≢false e)
 
 -- nodes of other kinds come to nothing
 none_either_way : (b : Bool) → (let none : Option Tree = None in if b then none else none) ≡ None
@@ -316,7 +321,7 @@ none_behind f w n k b h = refl
 settled_at : (f : Facts) (p : Place) (x : Tree) → IsAlive f p x → HasSlots p x → IsSettledAt p x
 settled_at f p x h slots =
     let e = settled_kind (spot_of p) x.note x.kind x.below (λ e. h.expression (slots.expression e)) in
-    record { conditional = e.0; logical = e.1; unused = e.2; list = e.3; indirect = e.4; one_sided = e.5; sequence = e.6; two_sides = e.7; object = e.8; known = e.9; statement = not_known f (where_of p) x.note x.kind x.below (λ e. h.statement (slots.statement e)); jumps = none_behind f (where_of p) x.note x.kind x.below (λ e. h.list (slots.list e)) }
+    record { conditional = e.0; logical = e.1; unused = e.2; list = e.3; indirect = e.4; one_sided = e.5; sequence = e.6; two_sides = e.7; object = e.8; known = e.9; statement = not_known f (where_of p) x.note x.kind x.below (λ e. h.statement (slots.statement e)); jumps = none_behind f (where_of p) x.note x.kind x.below (λ e. h.list (slots.list e)); untaken = not_left f (where_of p) x.note x.kind x.below (λ e. h.statement (slots.statement e)) }
 
 -- Nothing of a program goes by what is known that a walk found as it is, and no expression of it comes to its parts or its value.
 pub none_goes : (s s' : Names) (k k' : Seen) (x y : Tree) → k.place ≡ outside → y ≡ x → Fits root (forest_of y) → Visits Visited is_written top (forest_of x) s k s' k' → IsQuiet (facts_of s' k') (forest_of y)

@@ -5,3 +5,4 @@ pub mod Acts
 pub mod Ifs
 pub mod Own
 pub mod Behind
+pub mod Untaken

@@ -15,8 +15,8 @@ use Rattle.js_effects.specs.Silence.{is_marked}
 use Rattle.rules_dead_code.specs.Quiet.{IsExported}
 use Rattle.rules_dead_code.specs.Knows.{TellsBound, TellsExported}
 use Rattle.rules_dead_code.specs.Rules.{Facts, Where, where_of, is_silent_statement}
-use Rattle.rules_expressions.specs.Ifs.{if_becomes}
 use Rattle.rules_expressions.specs.Known.{at_expression_end}
+use Rattle.rules_expressions.specs.Untaken.{if_ends}
 use Rattle.rules_imports.specs.Rules.{pruned}
 use Rattle.min_statements.specs.Acts.{has_gone}
 use Rattle.min_statements.specs.Walker.{Names, facts_of}
@@ -53,9 +53,9 @@ is_written hook.ExitStatement = true
 is_written hook.ExitExpression = true
 is_written h = false
 
--- a statement becomes empty, or comes to a branch of it, or names leave it
+-- a statement becomes empty, or comes to a branch of it, or loses what goes of a branch, or names leave it
 abbrev pub statement_changes : Facts → Where → Tree → Bool
-statement_changes f w x = is_silent_statement f w x.kind x.below || is_some (if_becomes x.note x.kind x.below) || is_some (pruned f w x)
+statement_changes f w x = is_silent_statement f w x.kind x.below || is_some (if_ends x.note x.kind x.below) || is_some (pruned f w x)
 
 -- nothing changed, and of what the hook looks at nothing goes or becomes another
 pub record Found (dead : Bool) (names : Names) (c : Seen) (later : Names) (d : Seen) : Type 0 where

@@ -4,11 +4,12 @@ ghost use Rattle.js_syntax.specs.Node.{row};
 ghost use Rattle.min_traverse.specs.Lawful.{Does};
 ghost use Rattle.steps_allowed.specs.Branches.{is_branch};
 ghost use Rattle.steps_allowed.specs.KnownConditional.{truth_known};
-ghost use Rattle.rules_expressions.specs.Ifs.{fold_if};
+ghost use Rattle.rules_expressions.specs.Untaken.{rid_if, at_if_end};
 ghost use Rattle.min_statements.specs.Ifs.{branches_of, told_branches, index_if, one_of_two, one_or_none, branch_at};
 
 use crate::emptied::put_empty;
 use crate::inside::declares_no_name;
+use crate::untaken::{drop_branch, rid_branch, untaken_at};
 use js_syntax::NodeKind;
 use js_tree::Node;
 use min_context::MinifierTraverseCtx;
@@ -116,10 +117,26 @@ fn branch_at(node: &Node, alloc: Global) -> Option<Option<usize>>
     }
 }
 
+// Of a branch that isn't taken and has to stay, what declares no name around it leaves.
+fn thin_branch(node: &mut Node, ctx: &mut MinifierTraverseCtx) -> bool
+    ensures does { Does rid_if ctx.old node.old result ctx.new node.new }
+{
+    match untaken_at(node, ctx.alloc()) {
+        Some(at) => {
+            ctx.notice_change();
+            drop_branch(node.children(), at, ctx);
+            rid_branch(ctx.alloc(), node, at);
+            true
+        }
+        None => false,
+    }
+}
+
 /// An `if` on a test that is known becomes the branch that runs, if that means the same wherever it stands and the other one declares no
-/// name around it; and empty, if there is no branch to run. The context is told.
+/// name around it; and empty, if there is no branch to run. Else, what declares no name around it leaves the branch that isn't taken. The
+/// context is told.
 pub fn try_fold_if(node: &mut Node, ctx: &mut MinifierTraverseCtx) -> bool
-    ensures does { Does fold_if ctx.old node.old result ctx.new node.new }
+    ensures does { Does at_if_end ctx.old node.old result ctx.new node.new }
 {
     match branch_at(node, ctx.alloc()) {
         Some(Some(at)) => {
@@ -130,6 +147,6 @@ pub fn try_fold_if(node: &mut Node, ctx: &mut MinifierTraverseCtx) -> bool
             put_empty(node, ctx);
             true
         }
-        None => false,
+        None => thin_branch(node, ctx),
     }
 }

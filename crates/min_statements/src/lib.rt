@@ -2,10 +2,11 @@
 //!
 //! `Statements` is the walker (min_traverse): behind a list it takes out what stands behind a jump there and declares nothing around it,
 //! and what rules_dead_code says goes of it (`trim_statements`), behind a silent statement elsewhere it leaves an empty one
-//! (`empty_statement`), behind an `if` on a test that is known the branch that runs, or an empty statement (`try_fold_if`), behind an
-//! import the import without the names that nobody uses (`remove_unused_import_specifiers`), behind an expression that a known test
-//! decides the part that counts, alone or behind a zero, behind an operation of which nobody takes the value the operands that act,
-//! behind such an array, object or sequence its parts that act, and behind an operation that doesn't act its value (min_expressions).
+//! (`empty_statement`), behind an `if` on a test that is known the branch that runs, or an empty statement, or the `if` without what
+//! declares no name in the other branch (`try_fold_if`), behind an import the import without the names that nobody uses
+//! (`remove_unused_import_specifiers`), behind an expression that a known test decides the part that counts, alone or behind a zero,
+//! behind an operation of which nobody takes the value the operands that act, behind such an array, object or sequence its parts that act,
+//! and behind an operation that doesn't act its value (min_expressions).
 //! Each call does exactly what its rule says, marks what left before it is let go, and touches nothing where nothing goes.
 //! `walk_statements` is one pass over a program: what is left comes by edits that a dead code remover may make (steps_allowed), what was
 //! known of the program (`Knows`) is known of what is left, and where no other pass is asked for, nothing of it goes (`IsQuiet` of
@@ -23,6 +24,7 @@ mod names;
 mod statements;
 mod trimmed;
 mod unreached;
+mod untaken;
 mod walk;
 
 pub use emptied::empty_statement;

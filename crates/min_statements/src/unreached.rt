@@ -32,7 +32,7 @@ fn is_jump(kind: &NodeKind) -> bool
 }
 
 // A statement that is no declaration.
-fn only_runs(kind: &NodeKind) -> bool
+pub(crate) fn only_runs(kind: &NodeKind) -> bool
     ensures { result ≡ only_runs kind.now }
 {
     match kind {

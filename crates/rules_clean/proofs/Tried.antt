@@ -34,6 +34,7 @@ use Rattle.rules_expressions.specs.Objects.{object_left}
 use Rattle.rules_expressions.specs.Operations.{known_becomes}
 use Rattle.rules_expressions.specs.Ifs.{if_becomes}
 use Rattle.rules_expressions.specs.Jumps.{list_reached}
+use Rattle.rules_expressions.specs.Untaken.{if_left}
 use Rattle.rules_expressions.specs.Settled.{IsSettledAt, IsSettled}
 use Rattle.rules_expressions.proofs.Walked.{settled_nodes}
 use Rattle.rules_clean.proofs.Cleaned.{clean}
@@ -54,8 +55,8 @@ settles : {p : Place} {x : Tree} → conditional_becomes (spot_of p) x.kind x.be
     → unused_list_becomes (spot_of p) x.note x.kind x.below ≡ None → indirect_becomes (spot_of p) x.note x.kind x.below ≡ None
     → one_sided_becomes (spot_of p) x.note x.kind x.below ≡ None → sequence_left (spot_of p) x.note x.kind x.below ≡ None
     → two_sides_become (spot_of p) x.note x.kind x.below ≡ None → object_left (spot_of p) x.note x.kind x.below ≡ None → known_becomes x.note x.kind x.below ≡ None → if_becomes x.note x.kind x.below ≡ None
-    → list_reached x.note x.kind x.below ≡ None → IsSettledAt p x
-settles conditional logical unused parts indirect side rest sides values known statement jumps = record { conditional = conditional; logical = logical; unused = unused; list = parts; indirect = indirect; one_sided = side; sequence = rest; two_sides = sides; object = values; known = known; statement = statement; jumps = jumps }
+    → list_reached x.note x.kind x.below ≡ None → if_left x.note x.kind x.below ≡ None → IsSettledAt p x
+settles conditional logical unused parts indirect side rest sides values known statement jumps untaken = record { conditional = conditional; logical = logical; unused = unused; list = parts; indirect = indirect; one_sided = side; sequence = rest; two_sides = sides; object = values; known = known; statement = statement; jumps = jumps; untaken = untaken }
 
 -- ---- a function of a script
 
@@ -77,7 +78,7 @@ script_uses_imports = imports_used known_of_the_script a_function_of_a_script (r
 script_is_settled : IsSettled a_function_of_a_script
 script_is_settled =
     settled_nodes a_function_of_a_script
-    (settles refl refl refl refl refl refl refl refl refl refl refl refl, (settles refl refl refl refl refl refl refl refl refl refl refl refl, (settles refl refl refl refl refl refl refl refl refl refl refl refl, (settles refl refl refl refl refl refl refl refl refl refl refl refl, tt, (settles refl refl refl refl refl refl refl refl refl refl refl refl, tt, (settles refl refl refl refl refl refl refl refl refl refl refl refl, (settles refl refl refl refl refl refl refl refl refl refl refl refl, tt, tt), tt))), tt), tt), tt)
+    (settles refl refl refl refl refl refl refl refl refl refl refl refl refl, (settles refl refl refl refl refl refl refl refl refl refl refl refl refl, (settles refl refl refl refl refl refl refl refl refl refl refl refl refl, (settles refl refl refl refl refl refl refl refl refl refl refl refl refl, tt, (settles refl refl refl refl refl refl refl refl refl refl refl refl refl, tt, (settles refl refl refl refl refl refl refl refl refl refl refl refl refl, (settles refl refl refl refl refl refl refl refl refl refl refl refl refl, tt, tt), tt))), tt), tt), tt)
 
 pub script_is_clean : Clean a_function_of_a_script
 script_is_clean = clean known_of_the_script a_function_of_a_script script_is_known script_is_known_exactly script_is_quiet script_uses_imports script_is_settled

@@ -21,7 +21,9 @@ use Rattle.rules_expressions.specs.Objects.{object_left, fold_object}
 use Rattle.rules_expressions.specs.Operations.{fold_known}
 use Rattle.rules_expressions.specs.Ifs.{fold_if}
 use Rattle.rules_expressions.specs.Jumps.{cut_list}
+use Rattle.rules_expressions.specs.Untaken.{rid_if, at_if_end}
 use Rattle.rules_expressions.proofs.Jumps.{list_edits, cut_is_less}
+use Rattle.rules_expressions.proofs.Untaken as untaken
 use Rattle.rules_expressions.proofs.Becoming.{branch, branch_is_less, side, side_is_less}
 use Rattle.rules_expressions.proofs.Unused.{left_part, left_is_less, unused_edits_there}
 use Rattle.rules_expressions.proofs.Lists.{list_is_less, list_edits_there}
@@ -127,6 +129,16 @@ module _ (E : CompressOptions → Forest → Forest → Type 0) (makes : (o : Co
     thins = λ c x y e. (cut_is_less x y e).thins;
     lighter = λ c x y e. (cut_is_less x y e).lighter;
   }
+
+  pub ifs_rid : Lawful E rid_if
+  ifs_rid = record {
+    edits = λ c a x y r h at e. made_by c.options (untaken.left_edits a x y r e);
+    thins = λ c x y e. (untaken.left_is_less x y e).thins;
+    lighter = λ c x y e. (untaken.left_is_less x y e).lighter;
+  }
+
+  pub ifs_end : Lawful E at_if_end
+  ifs_end = either_lawful ifs_fold ifs_rid
 
   pub expressions_fold : Lawful E at_expression_end
   expressions_fold = either_lawful (either_lawful (either_lawful (either_lawful (either_lawful (either_lawful (either_lawful (either_lawful (either_lawful conditionals_fold logicals_fold) unused_fold) lists_fold) indirect_fold) one_sided_fold) sequences_fold) two_sides_fold) objects_fold) known_fold

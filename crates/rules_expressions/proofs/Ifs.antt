@@ -1,5 +1,5 @@
 -- What becomes of statements `if` of which the test is known.
-use Rattle.std.proofs.Common.{◌≡◌, ◌∙◌, ◌⊎◌, inl, inr, ◌+◌, ◌≤◌, Bool, true, false, ◌&&◌, Option, Some, None, if◌then◌else◌, refl, ap, subst, arith}
+use Rattle.std.proofs.Common.{◌≡◌, ◌∙◌, ◌⊎◌, inl, inr, Bool, true, false, ◌&&◌, Option, Some, None, refl, ap, subst, arith}
 use Rattle.js_syntax.specs.declared.node_kind.NodeKind.{NodeKind as Kind}
 use Rattle.js_syntax.specs.declared.node_kind.NodeKind.TheVariants.{IfStatement as if_statement, EmptyStatement as empty_statement}
 use Rattle.js_syntax.specs.Node.{Forest, Tree, Note, nothing, node, absent, bare, forest_of}
@@ -12,7 +12,7 @@ use Rattle.steps_allowed.specs.KnownIf.{an_if, KnownIf, consequent_is_run, alter
 use Rattle.steps_owed.proofs.KnownTests.{test_weighs}
 use Rattle.rules_expressions.specs.Ifs.{is_field, given_if, consequent_runs, alternate_runs, what_runs, if_becomes}
 use Rattle.rules_expressions.specs.Lists.{new_note}
-use Rattle.rules_expressions.proofs.Becoming.{no_answer, Chosen, chosen, chosen_if, IsLess}
+use Rattle.rules_expressions.proofs.Becoming.{no_answer, chosen, chosen_if, IsLess}
 
 -- ---- one field
 

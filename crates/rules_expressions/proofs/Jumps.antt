@@ -1,6 +1,5 @@
 -- What stands behind a jump leaves its list by edits; and where nothing leaves one, nothing stands there that could.
-use Rattle.std.proofs.Common.{◌≡◌, ◌∙◌, ◌⊎◌, inl, inr, ◌≤◌, ◌+◌, ℕ, Bool, true, false, ◌&&◌, ◌||◌, Option, Some, None, if◌then◌else◌, refl, sym, ap, subst, arith, true≢false}
-use Rattle.std.proofs.lemmas.Bool.{or_cases}
+use Rattle.std.proofs.Common.{◌≡◌, ◌∙◌, ◌⊎◌, inl, inr, ◌≤◌, ◌+◌, ℕ, Bool, true, false, ◌&&◌, ◌||◌, Some, None, if◌then◌else◌, refl, sym, ap, subst, arith, true≢false}
 use Rattle.js_syntax.specs.declared.node_kind.NodeKind.{NodeKind as Kind}
 use Rattle.js_syntax.specs.declared.node_kind.NodeKind.TheVariants.{Statements as statements, EmptyStatement as empty_statement}
 use Rattle.js_syntax.specs.Facts.{weight}
@@ -17,7 +16,6 @@ use Rattle.scope_counts.specs.Edits as counts
 use Rattle.scope_counts.specs.Edits.{here, behind, behind_none, under, plug}
 use Rattle.scope_laws.specs.Place as places
 use Rattle.scope_laws.specs.Place.{first}
-use Rattle.scope_laws.specs.Lists.{without}
 use Rattle.steps_allowed.specs.Branches.{declares_none, declares_no_name}
 use Rattle.steps_allowed.specs.Edits.{Edit, leaves, unreached, TreeEdits, no_tree_edit, one_tree_edit}
 use Rattle.steps_allowed.specs.Unreached.{only_runs, is_behind_jump, Unreached, never_runs}
@@ -25,7 +23,7 @@ use Rattle.steps_allowed.specs.Places.{asked_at, IsItem}
 use Rattle.rules_dead_code.proofs.Items.{IsItems, first_items, next_items, absent_items, item_there, leaves_there}
 use Rattle.rules_dead_code.proofs.Places.{to, plugged, join, plug_join}
 use Rattle.steps_owed.proofs.Unreached.{runs_weigh}
-use Rattle.rules_expressions.proofs.Becoming.{no_answer, Chosen, chosen, chosen_if, IsLess}
+use Rattle.rules_expressions.proofs.Becoming.{no_answer, chosen, chosen_if, IsLess}
 use Rattle.rules_dead_code.specs.Rules.{Facts, Where, item_goes, item_left, trimmed}
 use Rattle.rules_expressions.specs.Lists.{new_note}
 use Rattle.rules_expressions.specs.Jumps.{emptied_behind, is_unreached, reached, has_unreached, left_if, list_reached}

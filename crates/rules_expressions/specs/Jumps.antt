@@ -1,5 +1,5 @@
 -- What is left of a list of statements in which something stands behind a jump.
-use Rattle.std.specs.Prelude.{Bool, true, false, ◌&&◌, ◌||◌, Option, None, Some, if◌then◌else◌}
+use Rattle.std.specs.Prelude.{Bool, false, ◌&&◌, ◌||◌, Option, None, Some, if◌then◌else◌}
 use Rattle.js_syntax.specs.declared.node_kind.NodeKind.{NodeKind as Kind}
 use Rattle.js_syntax.specs.declared.node_kind.NodeKind.TheVariants.{Statements as statements, EmptyStatement as empty_statement}
 use Rattle.js_syntax.specs.Node.{Forest, Tree, Note, nothing, node, absent}

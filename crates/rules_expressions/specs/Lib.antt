@@ -9,6 +9,7 @@ pub mod Objects
 pub mod Operations
 pub mod Ifs
 pub mod Jumps
+pub mod Untaken
 pub mod Known
 pub mod Settled
 pub mod Samples

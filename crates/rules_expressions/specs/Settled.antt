@@ -1,4 +1,4 @@
--- Where no rule on expressions, none on statements `if` and none on what stands behind a jump changes anything of a program.
+-- Where no rule on expressions, none on statements `if` and none on what never runs changes anything of a program.
 use Rattle.std.specs.Prelude.{◌≡◌, None}
 use Rattle.js_syntax.specs.Node.{Forest, Tree, node}
 use Rattle.min_context.specs.Place.{Place, place_at}
@@ -15,6 +15,7 @@ use Rattle.rules_expressions.specs.Objects.{object_left}
 use Rattle.rules_expressions.specs.Operations.{known_becomes}
 use Rattle.rules_expressions.specs.Ifs.{if_becomes}
 use Rattle.rules_expressions.specs.Jumps.{list_reached}
+use Rattle.rules_expressions.specs.Untaken.{if_left}
 
 -- at one place
 pub record IsSettledAt (p : Place) (x : Tree) : Type 0 where
@@ -30,6 +31,7 @@ pub record IsSettledAt (p : Place) (x : Tree) : Type 0 where
   pub known : known_becomes x.note x.kind x.below ≡ None
   pub statement : if_becomes x.note x.kind x.below ≡ None
   pub jumps : list_reached x.note x.kind x.below ≡ None
+  pub untaken : if_left x.note x.kind x.below ≡ None
 
 pub record IsSettled (t : Forest) : Type 0 where
   pub each : (a : Around) (x : Tree) (rest : Forest) → t ≡ plug a (node x.kind x.note x.below rest) → IsSettledAt (place_at a) x

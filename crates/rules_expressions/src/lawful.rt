@@ -14,6 +14,7 @@ ghost use Rattle.rules_expressions.specs.Objects.{fold_object};
 ghost use Rattle.rules_expressions.specs.Operations.{fold_known};
 ghost use Rattle.rules_expressions.specs.Ifs.{fold_if};
 ghost use Rattle.rules_expressions.specs.Jumps.{cut_list};
+ghost use Rattle.rules_expressions.specs.Untaken.{rid_if};
 
 use min_traverse::Traverse;
 
@@ -30,6 +31,7 @@ pub fn rules_are_lawful<T: Traverse>()
     ensures object { ((o : CompressOptions) (t u : Forest) → Edit t u → T.edit o t u) → Lawful T.edit fold_object }
     ensures known { ((o : CompressOptions) (t u : Forest) → Edit t u → T.edit o t u) → Lawful T.edit fold_known }
     ensures statement { ((o : CompressOptions) (t u : Forest) → Edit t u → T.edit o t u) → Lawful T.edit fold_if }
+    ensures untaken { ((o : CompressOptions) (t u : Forest) → Edit t u → T.edit o t u) → Lawful T.edit rid_if }
     ensures jumps { ((o : CompressOptions) (t u : Forest) → Edit t u → T.edit o t u) → Lawful T.edit cut_list }
     ensures all { ((o : CompressOptions) (t u : Forest) → Edit t u → T.edit o t u) → Lawful T.edit at_expression_end }
 {}

@@ -20,6 +20,7 @@ ghost use Rattle.steps_allowed.specs.KnownOperation.{KnownOperation};
 ghost use Rattle.steps_allowed.specs.KnownIf.{KnownIf};
 ghost use Rattle.steps_allowed.specs.DeadIf.{DeadIf};
 ghost use Rattle.steps_allowed.specs.Unreached.{Unreached};
+ghost use Rattle.steps_allowed.specs.Untaken.{Untaken};
 ghost use Rattle.steps_allowed.specs.Edits.{TreeEdits};
 ghost use Rattle.steps_allowed.specs.Uses.{use_at};
 ghost use Rattle.rules_dead_code.specs.Before.{before};
@@ -35,6 +36,7 @@ ghost use Rattle.rules_expressions.specs.Objects.{object_left};
 ghost use Rattle.rules_expressions.specs.Operations.{known_becomes};
 ghost use Rattle.rules_expressions.specs.Ifs.{if_becomes};
 ghost use Rattle.rules_expressions.specs.Jumps.{list_reached};
+ghost use Rattle.rules_expressions.specs.Untaken.{if_left};
 ghost use Rattle.rules_expressions.specs.Settled.{IsSettled};
 
 /// Law: the context of a walk tells what an expression is used for, whether a `with` statement is around, and whether nobody takes
@@ -60,6 +62,7 @@ pub fn answers_are_edits()
     ensures object { (a : Around) (x y : Tree) (rest : Forest) → object_left (spot_of (place_at a)) x.note x.kind x.below ≡ Some y → UnusedObject (before a rest) x y }
     ensures known { (a : Around) (x y : Tree) (rest : Forest) → known_becomes x.note x.kind x.below ≡ Some y → KnownOperation (before a rest) x y }
     ensures statement { (x y : Tree) → if_becomes x.note x.kind x.below ≡ Some y → KnownIf x y ⊎ DeadIf x y }
+    ensures untaken { (a : Around) (x y : Tree) (rest : Forest) → if_left x.note x.kind x.below ≡ Some y → TreeEdits (plug a (node x.kind x.note x.below rest)) (plug a (node y.kind y.note y.below rest)) }
     ensures items { (a : Around) (x y : Tree) (rest : Forest) → list_reached x.note x.kind x.below ≡ Some y → TreeEdits (plug a (node x.kind x.note x.below rest)) (plug a (node y.kind y.note y.below rest)) }
 {}
 
@@ -96,6 +99,7 @@ pub fn what_is_settled_has_no_edits()
     ensures known_if { (t : Forest) → IsSettled t → (a : places.Around) (x y : Tree) → t ≡ places.plug a (Some x) → KnownIf x y → ⊥ }
     ensures dead_if { (t : Forest) → IsSettled t → (a : places.Around) (x y : Tree) → t ≡ places.plug a (Some x) → DeadIf x y → ⊥ }
     ensures unreached { (t : Forest) → IsSettled t → (a : places.Around) (x : Tree) → t ≡ places.plug a (Some x) → Unreached a x → ⊥ }
+    ensures untaken { (t : Forest) → IsSettled t → (a : places.Around) (x : Tree) → t ≡ places.plug a (Some x) → Untaken a x → ⊥ }
     ensures settled { (t : Forest)
         → ((a : places.Around) (x y : Tree) → t ≡ places.plug a (Some x) → KnownConditional a x y → ⊥)
         → ((a : places.Around) (x y : Tree) → t ≡ places.plug a (Some x) → KnownSide a x y → ⊥)
@@ -110,5 +114,6 @@ pub fn what_is_settled_has_no_edits()
         → ((a : places.Around) (x y : Tree) → t ≡ places.plug a (Some x) → KnownIf x y → ⊥)
         → ((a : places.Around) (x y : Tree) → t ≡ places.plug a (Some x) → DeadIf x y → ⊥)
         → ((a : places.Around) (x : Tree) → t ≡ places.plug a (Some x) → Unreached a x → ⊥)
+        → ((a : places.Around) (x : Tree) → t ≡ places.plug a (Some x) → Untaken a x → ⊥)
         → IsSettled t }
 {}

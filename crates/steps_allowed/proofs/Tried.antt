@@ -1,6 +1,7 @@
 -- The definitions, tried on small programs.
 use Rattle.std.proofs.Common.{◌≡◌, ◌∙◌, ℕ, Some, None, List, [], ◌∷◌, pos, Bool, true, false, true≢false, codes, inl, inr, refl, sym, ap}
 use Rattle.js_syntax.specs.declared.node_kind.NodeKind.{NodeKind as Kind}
+use Rattle.js_syntax.specs.declared.kind.VariableKind.{VariableKind}
 use Rattle.js_syntax.specs.declared.kind.VariableKind.TheVariants as variable
 use Rattle.js_syntax.specs.declared.operator.BinaryOperator.TheVariants as binary
 use Rattle.js_syntax.specs.declared.operator.LogicalOperator.TheVariants as operator
@@ -27,6 +28,7 @@ use Rattle.steps_allowed.specs.KnownConditional.{a_conditional, KnownConditional
 use Rattle.steps_allowed.specs.KnownSide.{right_side_counts, left_side_decides}
 use Rattle.steps_allowed.specs.KnownIf.{an_if, KnownIf, consequent_is_run, alternate_is_run}
 use Rattle.steps_allowed.specs.Unreached.{Unreached, never_runs}
+use Rattle.steps_allowed.specs.Untaken.{Untaken, never_taken}
 use Rattle.steps_allowed.specs.EmptyBlock.{EmptyBlock, empty_block_leaves}
 use Rattle.steps_allowed.specs.DeadIf.{DeadIf, nothing_is_run}
 use Rattle.steps_allowed.specs.UnusedOperation.{needed_at, one_operand_acts}
@@ -37,8 +39,8 @@ use Rattle.steps_allowed.specs.IdleParts.{idle_parts_leave}
 use Rattle.steps_allowed.specs.TwoSides.{both_sides_act}
 use Rattle.steps_allowed.specs.UnusedObject.{acting_values_stay}
 use Rattle.steps_allowed.specs.KnownOperation.{known_literal, value_is_known}
-use Rattle.steps_allowed.specs.Edits.{Edit, leaves, becomes, empty_statement, empty_block, silent_statement, unused_function, unused_declaration, unused_import, unreached, known_conditional, known_side, known_if, dead_if, unused_operation, unused_list, indirect_choice, one_sided_choice, idle_parts, two_sides, unused_object, known_operation}
-use Rattle.steps_allowed.specs.Rows.{labeled, branch_of_if, in_list, before, throws, behind_throw, call_of_a, null, if_one, if_null, either_way, conditional, logical, may_be_named, o_f, parenthesized, in_statement, called, called_in_parentheses, called_in_with, argument, operand, applied, equals, assigned, statement, ComesOut, Stays, StaysUnused, array, spread, hole, sequence, ListStays, ChoiceStays, PartsStay, SidesStay, object, a_is, b_is, getter_of_a, ObjectStays, literal, operation, OperationStays, behind_zero, placed, StaysDirect, with_a, in_with_a, empty, a_is_read, a_is_exported, imports_nothing, only_import, tried}
+use Rattle.steps_allowed.specs.Edits.{Edit, leaves, becomes, empty_statement, empty_block, silent_statement, unused_function, unused_declaration, unused_import, unreached, untaken, known_conditional, known_side, known_if, dead_if, unused_operation, unused_list, indirect_choice, one_sided_choice, idle_parts, two_sides, unused_object, known_operation}
+use Rattle.steps_allowed.specs.Rows.{labeled, branch_of_if, in_branch, in_function, past, in_list, before, throws, behind_throw, call_of_a, null, if_one, if_null, either_way, conditional, logical, may_be_named, o_f, parenthesized, in_statement, called, called_in_parentheses, called_in_with, argument, operand, applied, equals, assigned, statement, ComesOut, Stays, StaysUnused, array, spread, hole, sequence, ListStays, ChoiceStays, PartsStay, SidesStay, object, a_is, b_is, getter_of_a, ObjectStays, literal, operation, OperationStays, behind_zero, placed, StaysDirect, with_a, in_with_a, empty, a_is_read, a_is_exported, imports_nothing, only_import, tried}
 
 pub empties_in_list : Edit (a_module (does one ∷ [])) (a_module (empty ∷ []))
 empties_in_list = becomes (before []) _ _ (silent_statement (silent_statement_empties nowhere nowhere nowhere _ nothing (inl refl, tt)))
@@ -492,3 +494,33 @@ unreached_declares_stays n (never_runs item jump runs none) = true≢false (sym 
 
 pub front_stays : (items : List Forest) (x : Tree) → Unreached (before items) x → ⊥
 front_stays items x (never_runs item jump runs none) = true≢false (sym jump)
+
+pub untaken_consequent_leaves : Edit (a_module (if_null (block (var_ a ∷ does call_of_a ∷ [])) no ∷ [])) (a_module (if_null (block (var_ a ∷ [])) no ∷ []))
+untaken_consequent_leaves = leaves (in_branch null (past (var_ a) (first nothing))) _ (untaken (never_taken refl refl refl refl))
+
+-- if (1) ; else { a(); var a; }
+abbrev in_alternate : Around
+in_alternate =
+    in_list (under Kind.IfStatement nowhere (past one (past empty (under Kind.BlockStatement nowhere (under Kind.Statements nowhere (first (var_ a)) nothing) nothing))) nothing)
+
+pub untaken_alternate_leaves : Edit (a_module (either_way one empty (block (does call_of_a ∷ var_ a ∷ [])) ∷ [])) (a_module (either_way one empty (block (var_ a ∷ [])) ∷ []))
+untaken_alternate_leaves = leaves in_alternate _ (untaken (never_taken refl refl refl refl))
+
+abbrev further_in : Around
+further_in =
+    in_branch null (under Kind.IfStatement nowhere (past one (under Kind.BlockStatement nowhere (under Kind.Statements nowhere (first (var_ a)) nothing) no)) nothing)
+
+pub untaken_further_leaves : Edit (a_module (if_null (block (if_one (block (does call_of_a ∷ var_ a ∷ [])) ∷ [])) no ∷ [])) (a_module (if_null (block (if_one (block (var_ a ∷ [])) ∷ [])) no ∷ []))
+untaken_further_leaves = leaves further_in _ (untaken (never_taken refl refl refl refl))
+
+pub untaken_declaration_stays : (how : VariableKind) (n : Note) (below : Forest) → Untaken (in_branch null (first nothing)) (record { kind = Kind.VariableDeclaration how; note = n; below = below }) → ⊥
+untaken_declaration_stays how n below (never_taken item never runs none) = true≢false (sym runs)
+
+pub taken_stays : (x : Tree) → Untaken (in_branch one (first nothing)) x → ⊥
+taken_stays x (never_taken item never runs none) = true≢false (sym never)
+
+pub may_be_taken_stays : (x : Tree) → Untaken (in_branch (reads a) (first nothing)) x → ⊥
+may_be_taken_stays x (never_taken item never runs none) = true≢false (sym never)
+
+pub function_code_stays : (x : Tree) → Untaken (in_function null) x → ⊥
+function_code_stays x (never_taken item never runs none) = true≢false (sym never)

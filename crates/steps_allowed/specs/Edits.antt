@@ -11,6 +11,7 @@ use Rattle.steps_allowed.specs.UnusedDeclarator.{UnusedDeclarator}
 use Rattle.steps_allowed.specs.UnusedDeclaration.{UnusedDeclaration}
 use Rattle.steps_allowed.specs.UnusedImport.{UnusedImport}
 use Rattle.steps_allowed.specs.Unreached.{Unreached}
+use Rattle.steps_allowed.specs.Untaken.{Untaken}
 use Rattle.steps_allowed.specs.SilentStatement.{SilentStatementEmpties}
 use Rattle.steps_allowed.specs.KnownConditional.{KnownConditional}
 use Rattle.steps_allowed.specs.KnownSide.{KnownSide}
@@ -34,6 +35,7 @@ pub data Leaves (a : Around) (x : Tree) : Type 0 where
   unused_declaration : UnusedDeclaration a x → Leaves a x
   unused_import : UnusedImport a x → Leaves a x
   unreached : Unreached a x → Leaves a x
+  untaken : Untaken a x → Leaves a x
 
 -- which nodes may become others in their places
 pub data Becomes (a : Around) (x y : Tree) : Type 0 where

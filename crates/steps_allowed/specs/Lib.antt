@@ -28,6 +28,7 @@ pub mod KnownOperation
 pub mod KnownIf
 pub mod DeadIf
 pub mod Unreached
+pub mod Untaken
 pub mod Edits
 pub mod Arranged
 pub mod Rows

@@ -55,6 +55,14 @@ abbrev pub past : Forest → Around → Around
 past (node k n below rest) place = behind k n below place
 past t place = place
 
+-- a place in a block that is the consequent of an `if` by this test
+abbrev pub in_branch : (test : Forest) → Around → Around
+in_branch test place = in_list (under Kind.IfStatement nowhere (past test (under Kind.BlockStatement nowhere (under Kind.Statements nowhere place nothing) no)) nothing)
+
+-- and there in the code of a function
+abbrev pub in_function : (test : Forest) → Around
+in_function test = in_branch test (under (Kind.Function function_kind.Declaration false) nowhere (past (binds a) (past (listed Kind.Parameters []) (under Kind.FunctionBody nowhere (under Kind.Statements nowhere (first nothing) nothing) nothing))) nothing)
+
 -- a();
 abbrev pub call_of_a : Forest
 call_of_a = over (Kind.CallExpression false false) (joined (reads a) (listed Kind.Arguments []))

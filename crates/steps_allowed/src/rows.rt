@@ -1,5 +1,6 @@
 // Small programs that the definitions are tried on.
 ghost use Rattle.std.specs.Prelude.{pos, List, [], ◌∷◌, true, false, ◌≡◌, codes};
+ghost use Rattle.js_syntax.specs.declared.kind.VariableKind.{VariableKind};
 ghost use Rattle.js_syntax.specs.declared.kind.VariableKind.TheVariants as variable;
 ghost use Rattle.js_syntax.specs.declared.node_kind.NodeKind.{NodeKind as Kind};
 ghost use Rattle.js_syntax.specs.declared.operator.BinaryOperator.TheVariants as binary;
@@ -11,7 +12,7 @@ ghost use Rattle.form_rules.specs.Samples.{a_module, a, binds, reads, listed, no
 ghost use Rattle.scope_rules.specs.Context.{body_of};
 ghost use Rattle.scope_rules.specs.Binding.{named_in};
 ghost use Rattle.scope_rules.specs.Samples.{imports};
-ghost use Rattle.scope_laws.specs.Place.{Around};
+ghost use Rattle.scope_laws.specs.Place.{Around, first};
 ghost use Rattle.steps_allowed.specs.Places.{a_node, At};
 ghost use Rattle.steps_allowed.specs.Free.{IsFree};
 ghost use Rattle.steps_allowed.specs.SilentStatement.{SilentStatement};
@@ -20,9 +21,10 @@ ghost use Rattle.steps_allowed.specs.KnownConditional.{a_conditional, KnownCondi
 ghost use Rattle.steps_allowed.specs.KnownIf.{an_if, KnownIf};
 ghost use Rattle.steps_allowed.specs.DeadIf.{DeadIf};
 ghost use Rattle.steps_allowed.specs.Unreached.{Unreached};
+ghost use Rattle.steps_allowed.specs.Untaken.{Untaken};
 ghost use Rattle.steps_allowed.specs.EmptyBlock.{EmptyBlock};
 ghost use Rattle.steps_allowed.specs.Edits.{Edit};
-ghost use Rattle.steps_allowed.specs.Rows.{before, labeled, tried, branch_of_if, throws, behind_throw, call_of_a, null, if_one, if_null, either_way, conditional, logical, may_be_named, o_f, parenthesized, called, called_in_parentheses, called_in_with, argument, operand, applied, equals, assigned, statement, ComesOut, Stays, StaysUnused, array, spread, hole, sequence, ListStays, ChoiceStays, PartsStay, SidesStay, object, a_is, b_is, getter_of_a, ObjectStays, literal, operation, OperationStays, behind_zero, placed, StaysDirect, with_a, in_with_a, empty, a_is_read, a_is_exported, imports_nothing};
+ghost use Rattle.steps_allowed.specs.Rows.{before, labeled, tried, branch_of_if, in_branch, in_function, throws, behind_throw, call_of_a, null, if_one, if_null, either_way, conditional, logical, may_be_named, o_f, parenthesized, called, called_in_parentheses, called_in_with, argument, operand, applied, equals, assigned, statement, ComesOut, Stays, StaysUnused, array, spread, hole, sequence, ListStays, ChoiceStays, PartsStay, SidesStay, object, a_is, b_is, getter_of_a, ObjectStays, literal, operation, OperationStays, behind_zero, placed, StaysDirect, with_a, in_with_a, empty, a_is_read, a_is_exported, imports_nothing};
 
 /// A statement of a literal becomes empty, in a list and alone, and leaves the list then.
 pub fn silent_statements_go()
@@ -108,6 +110,18 @@ pub fn what_never_runs_leaves()
     ensures declaration { (n : Note) (below : Forest) → Unreached behind_throw (record { kind = Kind.VariableDeclaration variable.Let; note = n; below = below }) → ⊥ }
     ensures declares { (n : Note) → Unreached behind_throw (record { kind = Kind.BlockStatement; note = n; below = listed Kind.Statements (var_ a ∷ []) }) → ⊥ }
     ensures front { (items : List Forest) (x : Tree) → Unreached (before items) x → ⊥ }
+{}
+
+/// A statement in a branch that isn't taken leaves its list, further in too, unless it declares a name around it. What stands in a branch
+/// that runs or may run stays, and so does the code of a function.
+pub fn what_is_not_taken_leaves()
+    ensures consequent { Edit (a_module (if_null (block (var_ a ∷ does call_of_a ∷ [])) no ∷ [])) (a_module (if_null (block (var_ a ∷ [])) no ∷ [])) }
+    ensures alternate { Edit (a_module (either_way one empty (block (does call_of_a ∷ var_ a ∷ [])) ∷ [])) (a_module (either_way one empty (block (var_ a ∷ [])) ∷ [])) }
+    ensures further { Edit (a_module (if_null (block (if_one (block (does call_of_a ∷ var_ a ∷ [])) ∷ [])) no ∷ [])) (a_module (if_null (block (if_one (block (var_ a ∷ [])) ∷ [])) no ∷ [])) }
+    ensures declaration { (how : VariableKind) (n : Note) (below : Forest) → Untaken (in_branch null (first nothing)) (record { kind = Kind.VariableDeclaration how; note = n; below = below }) → ⊥ }
+    ensures runs { (x : Tree) → Untaken (in_branch one (first nothing)) x → ⊥ }
+    ensures may_run { (x : Tree) → Untaken (in_branch (reads a) (first nothing)) x → ⊥ }
+    ensures function { (x : Tree) → Untaken (in_function null) x → ⊥ }
 {}
 
 /// A branch that declares a function isn't left out, in a block either: in code that isn't strict its name is one of the

@@ -29,8 +29,9 @@ use Rattle.steps_allowed.specs.UnusedImport.{unused_import_leaves}
 use Rattle.steps_allowed.specs.SilentStatement.{SilentStatement, silent_statement_empties}
 use Rattle.steps_allowed.specs.Branches.{declares_none}
 use Rattle.steps_allowed.specs.Unreached.{only_runs, never_runs}
+use Rattle.steps_allowed.specs.Untaken.{never_taken}
 use Rattle.steps_allowed.specs.DeadIf.{DeadIf, nothing_is_run}
-use Rattle.steps_allowed.specs.Edits.{Leaves, empty_statement, empty_block, unused_function, unused_declarator, unused_declaration, unused_import, unreached, Becomes, silent_statement, known_conditional, known_side, known_if, dead_if, unused_operation, unused_list, indirect_choice, one_sided_choice, idle_parts, two_sides, unused_object, known_operation, Edit, leaves, becomes, TreeEdits, no_tree_edit, one_tree_edit}
+use Rattle.steps_allowed.specs.Edits.{Leaves, empty_statement, empty_block, unused_function, unused_declarator, unused_declaration, unused_import, unreached, untaken, Becomes, silent_statement, known_conditional, known_side, known_if, dead_if, unused_operation, unused_list, indirect_choice, one_sided_choice, idle_parts, two_sides, unused_object, known_operation, Edit, leaves, becomes, TreeEdits, no_tree_edit, one_tree_edit}
 use Rattle.steps_owed.specs.Kept.{is_program}
 use Rattle.steps_owed.specs.Owed.{ByPart, ByParts}
 use Rattle.steps_owed.specs.Part.{DeclaresNothing}
@@ -118,6 +119,12 @@ module _ (e : BindingSite) (top : e.layer.scope ≡ 0) where
 
   -- ---- every case
 
+  -- what never runs declares nothing that anything else sees
+  never_running : (a : Around) (x : Tree) → only_runs x.kind ≡ true → declares_none (forest_of x) ≡ true → LeavesLists None false a → Fits root (plug a (Some x)) → Among e (exported_declarations (plug a (Some x))) → ExportedBy (made a None)
+  never_running a x runs none l fits h =
+      settled a x None Anything fits (λ rest. runs_no_program x.kind x.note x.below rest runs) l (anywhere (Some x) false (λ at. outermost) 0 0 a)
+      (λ w c next some any. undeclared_stays e top x None (declares_nothing (forest_of x) none (enclosed_alone_there a x.kind x.note x.below (fits_enclosed (plug a (Some x)) fits))) c next some) h
+
   left : (a : Around) (x : Tree) → Leaves a x → LeavesLists None false a → Fits root (plug a (Some x)) → Among e (exported_declarations (plug a (Some x))) → ExportedBy (made a None)
   left a _ (empty_statement (empty_statement_leaves n item)) l fits h =
       settled a (record { kind = kind.EmptyStatement; note = n; below = nothing }) None Anything fits (λ rest. refl) l (anywhere (a_node kind.EmptyStatement n nothing) false (λ at. outermost) 0 0 a)
@@ -159,9 +166,8 @@ module _ (e : BindingSite) (top : e.layer.scope ≡ 0) where
       let t = plug a (a_node k n below) in
       settled a (record { kind = k; note = n; below = below }) None (FreeDeclarator t x) fits (import_facts k n below binds).no_root l free
       (λ w c next some holds. gone_stays e k n below None c next (import_gone t e h top c next some w k n m x binds holds)) h
-  left a x (unreached (never_runs item jump runs none)) l fits h =
-      settled a x None Anything fits (λ rest. runs_no_program x.kind x.note x.below rest runs) l (anywhere (Some x) false (λ at. outermost) 0 0 a)
-      (λ w c next some any. undeclared_stays e top x None (declares_nothing (forest_of x) none (enclosed_alone_there a x.kind x.note x.below (fits_enclosed (plug a (Some x)) fits))) c next some) h
+  left a x (unreached (never_runs item jump runs none)) l fits h = never_running a x runs none l fits h
+  left a x (untaken (never_taken item taken runs none)) l fits h = never_running a x runs none l fits h
 
   changed : (a : Around) (x y : Tree) → Becomes a x y → Fits root (plug a (Some x)) → Among e (exported_declarations (plug a (Some x))) → ExportedBy (plug a (Some y))
   changed a x y (silent_statement (silent_statement_empties n m l k inner silent)) fits h =

@@ -1,7 +1,7 @@
 -- The names that a declaration, a parameter or a handler binds stay where a statement changes further in: below what binds names
 -- statements stand in functions and classes alone.
-use Rattle.std.proofs.Common.{◌≡◌, ◌∙◌, ◌⊎◌, inl, inr, ℕ, suc, List, [], ◌∷◌, ◌++◌, Bool, true, false, not, ◌&&◌, ◌||◌, Some, refl, sym, ap, true≢false}
-use Rattle.js_syntax.specs.Class.{Class, root, declarator_item, method_value, declared_name, read_name, private_key, no_node, expression, expression_or_private, callee, argument, object_item, chain_part, template, quasi_item, binding, binding_value, binding_element, binding_item, simple_target, target, target_value, target_element, target_item}
+use Rattle.std.proofs.Common.{◌≡◌, ◌∙◌, ℕ, suc, List, [], ◌∷◌, ◌++◌, Bool, true, false, not, ◌&&◌, ◌||◌, Some, refl, sym, ap, true≢false}
+use Rattle.js_syntax.specs.Class.{Class, root, declarator_item, method_value, declared_name, private_key, no_node, expression, expression_or_private, callee, argument, object_item, chain_part, template, quasi_item, binding, binding_value, binding_element, binding_item, simple_target, target, target_value, target_element, target_item}
 use Rattle.js_syntax.specs.declared.node_kind.NodeKind.{NodeKind as Kind}
 use Rattle.js_syntax.specs.declared.node_kind.NodeKind.TheVariants.{Function as function, Class as class, Parameters as parameters, Declarators as declarators}
 use Rattle.js_syntax.specs.declared.kind.FunctionKind.{FunctionKind}

@@ -14,6 +14,8 @@ use Rattle.scope_laws.specs.Lists.{without}
 use Rattle.steps_allowed.specs.Silent.{IsSilentBelow, HoldsThere}
 use Rattle.steps_allowed.specs.Imports.{ImportRow, in_names, elsewhere, import_row_below, import_row}
 use Rattle.steps_allowed.specs.Places.{asked_at}
+use Rattle.steps_allowed.specs.Unreached.{is_behind_jump}
+use Rattle.steps_allowed.specs.Untaken.{begins_untaken, is_untaken}
 use Rattle.steps_owed.specs.Owed.{IsOther, Uncounted}
 use Rattle.js_meaning_near.specs.Near.{is_jump}
 use Rattle.std.proofs.lemmas.Bool.{or_cases}
@@ -135,7 +137,8 @@ jump_ends k j = absurd (true≢false (sym j))
 
 uncounted_behind : (jumped : Bool) (k : Kind) (n : Note) (below : Forest) (a : Around) (x : Tree) → Uncounted jumped (behind k n below a) x → Uncounted (jumped || is_jump k) a x
 uncounted_behind jumped k n below a x (inl h) = inl h
-uncounted_behind jumped k n below a x (inr e) = inr e
+uncounted_behind jumped k n below a x (inr (inl e)) = inr (inl e)
+uncounted_behind jumped k n below a x (inr (inr e)) = inr (inr e)
 
 no_more_if : (b : Bool) (n : ℕ) → (if b then 0 else n) ≤ n
 no_more_if true n = Prim.omega arith
@@ -148,7 +151,8 @@ ended false n m e = absurd (true≢false (sym e))
 -- of a row behind a jump nothing is counted
 leave_calls : (w : Asked) (r : ImportRow) (a : Around) (x : Tree) (jumped : Bool) → Uncounted jumped a x → Takes w r a → (jumped ≡ true) ⊎ (calls_in (plug a (Some x)) ≤ calls_in (without a))
 leave_calls w r (first rest) x jumped (inl h) row = inr (Prim.omega (arith, h.counts, no_more_if (may_end x.kind) (calls_in rest)))
-leave_calls w r (first rest) x jumped (inr e) row = inl e
+leave_calls w r (first rest) x jumped (inr (inl e)) row = inl e
+leave_calls w r (first rest) x jumped (inr (inr e)) row = absurd (true≢false (sym e))
 leave_calls w r (behind k n below a) x jumped u row =
     elim (leave_calls w r a x (jumped || is_jump k) (uncounted_behind jumped k n below a x u) row) [
       | inl e ↦ elim (or_cases jumped (is_jump k) e) [
@@ -158,10 +162,20 @@ leave_calls w r (behind k n below a) x jumped u row =
       | inr fewer ↦ inr (Prim.omega (arith, unless (may_end k) (calls_in (plug a (Some x))) (calls_in (without a)) fewer))
     ]
 leave_calls w r (behind_none a) x jumped (inl h) row = leave_calls w r a x jumped (inl h) row
-leave_calls w r (behind_none a) x jumped (inr e) row = leave_calls w r a x jumped (inr e) row
+leave_calls w r (behind_none a) x jumped (inr (inl e)) row = leave_calls w r a x jumped (inr (inl e)) row
+leave_calls w r (behind_none a) x jumped (inr (inr e)) row = leave_calls w r a x jumped (inr (inr e)) row
 leave_calls w r (under k n a rest) x jumped u row = inr (Prim.omega (arith, ap (λ m. m + (if may_end k then 0 else calls_in rest)) (leave_below k w r a x row)))
 
-leave_list : (k : Kind) (w : Asked) (r : ImportRow) (a : Around) (x : Tree) → Uncounted false a x → Takes (asked_below w k) (import_row_below r k) a → of_list k (calls_in (plug a (Some x))) ≤ of_list k (calls_in (without a))
+-- below a node
+abbrev UncountedBelow : Kind → Around → Tree → Type 0
+UncountedBelow k a x = IsOther x ⊎ ((is_behind_jump false a ≡ true) ⊎ (is_untaken (begins_untaken k a) a ≡ true))
+
+uncounted_below : (k : Kind) (n : Note) (a : Around) (rest : Forest) (x : Tree) → Uncounted false (under k n a rest) x → UncountedBelow k a x
+uncounted_below k n a rest x (inl h) = inl h
+uncounted_below k n a rest x (inr (inl e)) = inr (inl e)
+uncounted_below k n a rest x (inr (inr e)) = inr (inr e)
+
+leave_list : (k : Kind) (w : Asked) (r : ImportRow) (a : Around) (x : Tree) → UncountedBelow k a x → Takes (asked_below w k) (import_row_below r k) a → of_list k (calls_in (plug a (Some x))) ≤ of_list k (calls_in (without a))
 leave_list statements w r a x u row = elim (leave_calls (asked_below w statements) (import_row_below r statements) a x false u row) [
   | inl e ↦ absurd (true≢false (sym e))
   | inr fewer ↦ fewer
@@ -173,10 +187,9 @@ leave_listed w (first rest) x u no_row (inl row) = absurd (true≢false (sym row
 leave_listed w (first rest) x u no_row (inr row) = absurd (no_names (sym row))
 leave_listed w (behind k n below a) x u no_row row = Prim.omega arith
 leave_listed w (behind_none a) x u no_row row = Prim.omega arith
-leave_listed w (under k n a rest) x (inl h) no_row row = leave_list k w elsewhere a x (inl h) row
-leave_listed w (under k n a rest) x (inr e) no_row row = leave_list k w elsewhere a x (inr e) row
+leave_listed w (under k n a rest) x u no_row row = leave_list k w elsewhere a x (uncounted_below k n a rest x u) row
 
-leave_program : (k : Kind) (a : Around) (x : Tree) → Uncounted false a x → Takes (asked_below (asked_of_program true) k) (import_row_below elsewhere k) a
+leave_program : (k : Kind) (a : Around) (x : Tree) → UncountedBelow k a x → Takes (asked_below (asked_of_program true) k) (import_row_below elsewhere k) a
     → of_program k (calls_listed (plug a (Some x))) ≤ of_program k (calls_listed (without a))
 leave_program (program source_type) a x u row = leave_listed (asked_below (asked_of_program true) (program source_type)) a x u refl row
 leave_program k a x u row = Prim.omega arith
@@ -186,8 +199,7 @@ leave_root (first rest) x u (inl row) = absurd (true≢false (sym row))
 leave_root (first rest) x u (inr row) = absurd (no_names (sym row))
 leave_root (behind k n below a) x u row = Prim.omega arith
 leave_root (behind_none a) x u row = Prim.omega arith
-leave_root (under k n a rest) x (inl h) row = leave_program k a x (inl h) row
-leave_root (under k n a rest) x (inr e) row = leave_program k a x (inr e) row
+leave_root (under k n a rest) x u row = leave_program k a x (uncounted_below k n a rest x u) row
 
 -- ---- no call is silent
 

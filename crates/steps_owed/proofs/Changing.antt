@@ -10,10 +10,11 @@ use Rattle.min_pass.specs.declared.around.Around.{Around as Asked}
 use Rattle.min_pass.specs.Around.{entered as asked_below, outermost as asked_of_program}
 use Rattle.scope_laws.specs.Place.{Around, first, behind, behind_none, under, plug}
 use Rattle.steps_allowed.specs.Places.{a_node, asked_at, has_node}
-use Rattle.steps_owed.specs.Owed.{MayChange, IsUnreachedItem}
+use Rattle.steps_owed.specs.Owed.{MayChange, IsIdleItem}
 use Rattle.js_meaning_near.specs.Near.{is_jump}
 use Rattle.min_pass.specs.declared.around.Row.TheVariants.{Items as items}
 use Rattle.steps_allowed.specs.Unreached.{is_behind_jump}
+use Rattle.steps_allowed.specs.Untaken.{begins_untaken, runs_inside, is_untaken}
 use Rattle.steps_owed.proofs.Calling.{bare_begins}
 use Rattle.steps_owed.proofs.EmptyBlock.{bare_idles}
 use Rattle.steps_owed.proofs.ExposedBare.{bare_inside, bare_below, bare_exposed}
@@ -21,7 +22,7 @@ use Rattle.steps_allowed.specs.Exposure.{Exposure, exposed_inside, exposed_of, e
 use Rattle.steps_allowed.specs.Changing.{holds_items, ends_before, may_change_at, may_change, may_change_somewhere}
 use Rattle.steps_owed.proofs.Calling.{bare_begins}
 use Rattle.steps_owed.proofs.ExposedBare.{bare_inside, bare_below, bare_exposed}
-use Rattle.js_syntax.proofs.Truth.{both, first_of_either, second_of_either}
+use Rattle.js_syntax.proofs.Truth.{both, first_of_both, first_of_either, second_of_either}
 
 -- ---- a change is one that may be
 
@@ -83,6 +84,29 @@ module _ (evaluates : Bool) where
         | inr may ↦ inr (inner_may w es at k (plug a (Some x)) rest may)
       ]
 
+  -- an item of a branch that isn't taken: the `if` around may change
+  if_may : (w : Asked) (e : Exposure) (k : Kind) (a : Around) (below : Forest) → begins_untaken k a ≡ true → may_change_at evaluates w e k below ≡ true
+  if_may w e kind.IfStatement a below h = refl
+  if_may w e k a below h = absurd (true≢false (sym h))
+
+  untaken_there : (w : Asked) (es : ℕ → Exposure) (at : ℕ) (a : Around) (x : Tree) (untaken : Bool) → is_untaken untaken a ≡ true → (untaken ≡ true) ⊎ (may_change evaluates w es at (plug a (Some x)) ≡ true)
+  untaken_there w es at (first rest) x untaken e = inl e
+  untaken_there w es at (behind k n below a) x untaken e =
+      elim (untaken_there w es (suc at) a x untaken e) [
+        | inl found ↦ inl found
+        | inr may ↦ inr (later_may w es at k below (plug a (Some x)) may)
+      ]
+  untaken_there w es at (behind_none a) x untaken e = untaken_there w es (suc at) a x untaken e
+  untaken_there w es at (under k n a rest) x untaken e =
+      let t = plug a (Some x) in
+      elim (untaken_there (asked_below w k) (exposed_inside (es at) k t) 0 a x (untaken && runs_inside k || begins_untaken k a) e) [
+        | inl found ↦ elim (or_cases (untaken && runs_inside k) (begins_untaken k a) found) [
+          | inl around ↦ inl (first_of_both untaken (runs_inside k) around)
+          | inr here ↦ inr (first_of_either (may_here w es at k t) (ends_before w.row k rest || may_change evaluates w es (suc at) rest) (first_of_either (may_change_at evaluates w (es at) k t) (may_change evaluates (asked_below w k) (exposed_inside (es at) k t) 0 t) (if_may w (es at) k a t here)))
+        ]
+        | inr may ↦ inr (inner_may w es at k t rest may)
+      ]
+
 somewhere : (a : Around) (k : Kind) (n : Note) (below : Forest)
     → may_change_at (evaluates_somewhere (plug a (a_node k n below))) (asked_at (asked_of_program true) a) (exposure a (a_node k n below)) k below ≡ true → may_change_somewhere (plug a (a_node k n below)) ≡ true
 somewhere a k n below e = let t = plug a (a_node k n below) in at_place (evaluates_somewhere t) (asked_of_program true) (exposed_of t) 0 a k n below e
@@ -91,12 +115,18 @@ somewhere a k n below e = let t = plug a (a_node k n below) in at_place (evaluat
 pub owed_may_change : (a : Around) (x : Tree) → MayChange a x → may_change_somewhere (plug a (Some x)) ≡ true
 owed_may_change a x may = somewhere a x.kind x.note x.below may
 
-pub item_may_change : (a : Around) (x : Tree) → MayChange a x ⊎ IsUnreachedItem a → may_change_somewhere (plug a (Some x)) ≡ true
+pub item_may_change : (a : Around) (x : Tree) → MayChange a x ⊎ IsIdleItem a → may_change_somewhere (plug a (Some x)) ≡ true
 item_may_change a x (inl may) = owed_may_change a x may
-item_may_change a x (inr unreached) =
+item_may_change a x (inr (item, inl jump)) =
     let t = plug a (Some x) in
-    elim (jump_there (evaluates_somewhere t) (asked_of_program true) (exposed_of t) 0 a x false unreached.0 unreached.1) [
+    elim (jump_there (evaluates_somewhere t) (asked_of_program true) (exposed_of t) 0 a x false item jump) [
       | inl e ↦ absurd (true≢false (sym e.0))
+      | inr may ↦ may
+    ]
+item_may_change a x (inr (item, inr untaken)) =
+    let t = plug a (Some x) in
+    elim (untaken_there (evaluates_somewhere t) (asked_of_program true) (exposed_of t) 0 a x false untaken) [
+      | inl e ↦ absurd (true≢false (sym e))
       | inr may ↦ may
     ]
 

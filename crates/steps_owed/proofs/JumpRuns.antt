@@ -14,12 +14,11 @@ use Rattle.min_pass.specs.declared.around.Row.TheVariants.{Items as items}
 use Rattle.min_pass.specs.Around.{entered as asked_below, outermost as asked_of_program}
 use Rattle.scope_laws.specs.Place.{Around, first, behind, behind_none, under, plug}
 use Rattle.scope_laws.specs.Lists.{without}
-use Rattle.steps_allowed.specs.Places.{asked_at}
+use Rattle.steps_allowed.specs.Places.{asked_at, IsItem}
 use Rattle.steps_allowed.specs.Unreached.{is_behind_jump}
 use Rattle.steps_fit.proofs.Holding.{is_sound, planned_below}
 use Rattle.steps_fit.proofs.Passing.{plan_passes, first_passes, behind_passes}
 use Rattle.steps_keep_form.specs.Part.{is_statement}
-use Rattle.steps_owed.specs.Owed.{IsUnreachedItem}
 use Rattle.steps_owed.proofs.LeftRuns.{list_of_both, reads_same}
 use Rattle.steps_owed.proofs.Made.{MadeBy, is_single, made_at}
 use Rattle.steps_owed.proofs.PartRuns.{calm_hoists}
@@ -53,9 +52,9 @@ module _ (x : Tree) (calm : is_calm x.kind ≡ true) (states : is_statement x.ki
         | inr change ↦ inr (in_below (reads_same x states w k a item single) change)
       ]
 
-  pub cut_is_local : (a : Around) → IsUnreachedItem a → Fits root (plug a (Some x)) → Local for_values fields (plug a (Some x)) (without a)
-  cut_is_local a unreached fits =
-      elim (local_cut for_values fields (asked_of_program true) a false (λ e. absurd cc) unreached.0 unreached.1 (these (one root ∷ [])) refl fits) [
+  pub cut_is_local : (a : Around) → IsItem a → is_behind_jump false a ≡ true → Fits root (plug a (Some x)) → Local for_values fields (plug a (Some x)) (without a)
+  cut_is_local a item jump fits =
+      elim (local_cut for_values fields (asked_of_program true) a false (λ e. absurd cc) item jump (these (one root ∷ [])) refl fits) [
         | inl found ↦ absurd (true≢false (sym found.0))
         | inr change ↦ change
       ]

@@ -54,6 +54,8 @@ pub mod KnownSide
 pub mod KnownIf
 pub mod DeadIf
 pub mod Unreached
+pub mod Untaken
+mod UntakenRuns
 pub mod EmptyBlock
 pub mod IdleRuns
 pub mod LeftRuns

@@ -23,7 +23,7 @@ use Rattle.json_shape.proofs.Choice.{is_list_kind}
 use Rattle.scope_laws.specs.Place as place
 use Rattle.scope_laws.specs.Place.{first, behind, behind_none, under, plug}
 use Rattle.steps_allowed.specs.Uses.{Use, as_value, as_deleted, operand_of, use_below, use_there, use_at}
-use Rattle.steps_allowed.specs.Branches.{is_handler, lets_only_at, lets_only, stays_inside_at, inside_or_parameter, inside_from, stays_inside, declares_none_at, none_or_parameter, none_from, declares_none}
+use Rattle.steps_allowed.specs.Branches.{is_handler, lets_only_at, lets_only, inside_or_parameter, inside_from, stays_inside, declares_none_at, none_or_parameter, none_from, declares_none}
 use Rattle.steps_allowed.specs.Places.{a_node}
 use Rattle.steps_keep_form.specs.Part.{gives_way, is_statement, is_asked_for, StandsFor, Replaces, by_part}
 use Rattle.steps_keep_form.specs.Sheds.{Row, of_declarators, row_below, asked_below, deleted_below, may_empty, may_give_way, may_come_out, keeps_one, Around, entered, outermost, Sheds, keeps_absent, keeps, empties_if, becomes}

@@ -5,7 +5,10 @@ use Rattle.js_syntax.specs.declared.node_kind.NodeKind.{NodeKind as Kind}
 use Rattle.js_syntax.specs.Facts.{weight}
 use Rattle.js_syntax.specs.Node.{Forest, Tree, forest_of}
 use Rattle.js_meaning.specs.Scope.{vars_of, var_names, import_decls}
-use Rattle.js_meaning_near.specs.Near.{is_calm}
+use Rattle.js_meaning_near.specs.Purpose.{for_values}
+use Rattle.js_meaning_near.specs.Near.{is_calm, fields}
+use Rattle.js_meaning_near.specs.Local as local
+use Rattle.js_meaning_near.specs.Local.{Local}
 use Rattle.js_meaning_near.proofs.Local.{calm_specifier}
 use Rattle.form_rules.specs.declared.sought.Sought.{Sought}
 use Rattle.form_rules.specs.declared.sought.Sought.TheVariants.{CatchScope as catch_scope}
@@ -13,12 +16,15 @@ use Rattle.form_rules.specs.Rules.{Exported}
 use Rattle.json_shape.specs.Shape.{is_directive_kind, Fits}
 use Rattle.scope_rules.specs.Context.{Context, outermost}
 use Rattle.scope_laws.specs.Place.{Around, plug}
+use Rattle.scope_laws.specs.Lists.{without}
+use Rattle.steps_allowed.specs.Branches.{declares_none}
+use Rattle.steps_allowed.specs.Places.{IsItem}
 use Rattle.steps_allowed.specs.Unreached.{only_runs, Unreached, never_runs}
 use Rattle.steps_keep_form.specs.Part.{is_statement}
 use Rattle.steps_keep_form.specs.Sheds.{exports_none}
 use Rattle.steps_keep_form.proofs.Rules.{first_empty}
 use Rattle.steps_names.specs.Placed.{Place, declared, cases, others, place_below}
-use Rattle.steps_owed.specs.Owed.{IsUnexported, by_change, Leaving}
+use Rattle.steps_owed.specs.Owed.{NeverRuns, IsUnexported, by_change, Leaving}
 use Rattle.steps_owed.specs.Seeking.{Seeks}
 use Rattle.steps_owed.proofs.JumpRuns.{cut_is_local}
 use Rattle.steps_owed.proofs.ChoiceRuns.{no_imports_below}
@@ -68,21 +74,26 @@ no_catch t s es c h = refl
 
 -- ---- all of it
 
-pub unreached_owes : (a : Around) (x : Tree) → Unreached a x → Leaving a x
-unreached_owes a x (never_runs item jump runs none) =
+-- of a statement that never runs, wherever that is known from
+pub never_running_owes : (a : Around) (x : Tree) → IsItem a → NeverRuns false a → only_runs x.kind ≡ true → declares_none (forest_of x) ≡ true
+    → (is_statement x.kind ≡ true → local.DeclaresNothing x.kind x.below → Fits root (plug a (Some x)) → Local for_values fields (plug a (Some x)) (without a)) → Leaving a x
+never_running_owes a x item never runs none change =
     let kind = of_kind x.kind runs in
     record {
       weighs = Prim.omega (arith, kind.weighs);
       listed = inl item;
       no_directive = kind.no_directive;
-      no_call = inr jump;
-      may_change = inr (item, jump);
+      no_call = inr never;
+      may_change = inr (item, never);
       unseen = λ e. inr (declares_nothing (forest_of x) none (enclosed_alone_there a x.kind x.note x.below e));
       unexported = follows_there (λ b c i. Unit {0}) (IsUnexported (plug a (Some x)) x)
           (λ b c i h z within right seeks. ap (exports_none z.exported) (nothing_declared z.sought 0 (forest_of x) (outside_as z.sought (forest_of x) (no_catch (plug a (Some x)) z.sought z.exported c seeks)) none)) (Some x) a false (λ at. outermost) 0 0
           (always (Some x) a false (λ at. outermost) 0 0);
-      runs = by_change (λ n m b is fits form core. cut_is_local x kind.calm kind.states (record {
+      runs = by_change (λ n m b is fits form core. change kind.states (record {
         vars = first_empty (vars_of x.kind x.below (var_names x.below)) [] (no_variables (forest_of x) none);
         imports = λ source. calm_specifier source x.kind x.below (import_decls source x.below) kind.calm ∙ no_imports_below n m b a x x is fits form core x.kind refl kind.calm kind.leads source;
-      }) a (item, jump) (subst (Fits root) (sym is) fits));
+      }) (subst (Fits root) (sym is) fits));
     }
+
+pub unreached_owes : (a : Around) (x : Tree) → Unreached a x → Leaving a x
+unreached_owes a x (never_runs item jump runs none) = never_running_owes a x item (inl jump) runs none (λ states declares fits. cut_is_local x (of_kind x.kind runs).calm states declares a item jump fits)

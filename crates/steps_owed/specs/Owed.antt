@@ -35,6 +35,7 @@ use Rattle.steps_allowed.specs.Calls.{is_call, begins_with_call, counted, may_en
 use Rattle.steps_allowed.specs.Exposure.{exposure, evaluates_somewhere}
 use Rattle.steps_allowed.specs.Changing.{may_change_at}
 use Rattle.steps_allowed.specs.Unreached.{is_behind_jump}
+use Rattle.steps_allowed.specs.Untaken.{is_untaken}
 use Rattle.steps_owed.specs.Comes.{Comes}
 use Rattle.steps_owed.specs.Good.{Good}
 use Rattle.steps_owed.specs.Kept.{IsKept}
@@ -51,13 +52,17 @@ pub record IsOther (x : Tree) : Type 0 where
   pub begins : (m : ℕ) → of_program x.kind m ≡ 0
   pub calls : is_call x.kind ≡ false
 
--- an item that counts for nothing, or one behind a jump
-abbrev pub Uncounted : (jumped : Bool) → Around → Tree → Type 0
-Uncounted jumped a x = IsOther x ⊎ (is_behind_jump jumped a ≡ true)
+-- a place behind a jump, or in a branch that isn't taken
+abbrev pub NeverRuns : (jumped : Bool) → Around → Type 0
+NeverRuns jumped a = (is_behind_jump jumped a ≡ true) ⊎ (is_untaken false a ≡ true)
 
--- an item behind a jump
-abbrev pub IsUnreachedItem : Around → Type 0
-IsUnreachedItem a = IsItem a × (is_behind_jump false a ≡ true)
+-- an item that counts for nothing, or never runs
+abbrev pub Uncounted : (jumped : Bool) → Around → Tree → Type 0
+Uncounted jumped a x = IsOther x ⊎ NeverRuns jumped a
+
+-- an item that never runs
+abbrev pub IsIdleItem : Around → Type 0
+IsIdleItem a = IsItem a × NeverRuns false a
 
 -- edits of a node of this kind are among those of which `may_change_somewhere` tells
 abbrev pub MayChange : Around → Tree → Type 0
@@ -85,7 +90,7 @@ pub record Leaving (a : Around) (x : Tree) : Type 0 where
   pub listed : IsListed a
   pub no_directive : is_directive_kind x.kind ≡ false
   pub no_call : Uncounted false a x
-  pub may_change : MayChange a x ⊎ IsUnreachedItem a
+  pub may_change : MayChange a x ⊎ IsIdleItem a
   -- no reference that stays is bound to what it declares, and no export is of it
   pub unseen : is_enclosed (plug a (Some x)) ≡ true → IsUnseen a (Some x) ⊎ DeclaresNothing (forest_of x)
   pub unexported : At a (Some x) (IsUnexported (plug a (Some x)) x)

@@ -3,7 +3,6 @@ use Rattle.std.proofs.Common.{inl, false, true≢false, Some, refl, sym}
 use Rattle.js_syntax.specs.declared.node_kind.NodeKind.{NodeKind as Kind}
 use Rattle.js_syntax.specs.declared.kind.FunctionKind.TheVariants as function_kind
 use Rattle.js_syntax.specs.declared.scalar.SourceType.TheVariants as source_type
-use Rattle.js_syntax.specs.declared.value.LiteralValue.TheVariants as value
 use Rattle.js_syntax.specs.Class.{root}
 use Rattle.js_syntax.specs.Node.{nothing, nowhere}
 use Rattle.json_shape.specs.Shape.{Fits}

@@ -25,7 +25,7 @@ use Rattle.scope_laws.specs.Exact.{Among}
 use Rattle.scope_laws.specs.Place.{Around, first, behind, behind_none, under, plug}
 use Rattle.steps_names.specs.Standing.{exported_declarations}
 use Rattle.steps.specs.Steps.{binds_import}
-use Rattle.steps_allowed.specs.Rows.{in_list, in_statement, past, throws, statement, called, argument, before, sequence, applied, call_of_a, call_of_eval, exports_declaration, empty, only_import}
+use Rattle.steps_allowed.specs.Rows.{null, in_list, in_statement, past, throws, statement, called, argument, before, sequence, applied, call_of_a, call_of_eval, exports_declaration, empty, only_import}
 use Rattle.steps_allowed.specs.KnownConditional.{consequent_is_taken, alternate_is_taken}
 use Rattle.steps_allowed.specs.KnownSide.{right_side_counts, left_side_decides}
 use Rattle.steps_allowed.specs.UnusedOperation.{needed_at, one_operand_acts}
@@ -40,8 +40,9 @@ use Rattle.steps_allowed.specs.KnownIf.{consequent_is_run, alternate_is_run}
 use Rattle.steps_allowed.specs.DeadIf.{nothing_is_run}
 use Rattle.steps_allowed.specs.EmptyBlock.{holds_nothing, empty_block_leaves}
 use Rattle.steps_allowed.specs.Unreached.{only_runs, never_runs}
+use Rattle.steps_allowed.specs.Untaken.{never_taken}
 use Rattle.steps_allowed.specs.Uses.{Use}
-use Rattle.headline.specs.Clean.{IsDead, an_empty_statement, an_empty_block, a_silent_statement, an_unused_function, an_unused_declarator, an_unused_import, a_known_conditional, a_known_side, an_unused_operation, an_unused_list, an_indirect_choice, a_one_sided_choice, idle_parts, two_sides, an_unused_object, a_known_operation, a_known_if, a_dead_if, an_unreached_statement, Clean}
+use Rattle.headline.specs.Clean.{IsDead, an_empty_statement, an_empty_block, a_silent_statement, an_unused_function, an_unused_declarator, an_unused_import, a_known_conditional, a_known_side, an_unused_operation, an_unused_list, an_indirect_choice, a_one_sided_choice, idle_parts, two_sides, an_unused_object, a_known_operation, a_known_if, a_dead_if, an_unreached_statement, an_untaken_statement, Clean}
 use Rattle.min_peephole.specs.Quiet.{is_quiet}
 use Rattle.min_peephole.proofs.Quieted.{quiet_clean}
 use Rattle.test_headline.specs.Rows as row
@@ -157,6 +158,14 @@ block_is_dead c = c.nothing_is_dead (before []) _ refl (an_empty_block (before [
 
 pub unreached_is_dead : Clean row.calls_behind_throw → ⊥
 unreached_is_dead c = c.nothing_is_dead behind_throw _ refl (an_unreached_statement behind_throw _ (never_runs refl refl refl refl))
+
+-- if (null) { var a = 1; b(); } use(a);
+abbrev behind_variable : Around
+behind_variable =
+    in_list (under Kind.IfStatement nowhere (past null (under Kind.BlockStatement nowhere (under Kind.Statements nowhere (past (declares variable.Var (binds a) one) (first nothing)) nothing) no)) row.use_of_a)
+
+pub untaken_is_dead : Clean row.keeps_variable → ⊥
+untaken_is_dead c = c.nothing_is_dead behind_variable _ refl (an_untaken_statement behind_variable _ (never_taken refl refl refl refl))
 
 -- ---- what has none
 
@@ -646,6 +655,7 @@ dead_suspect t a x is (a_known_if b y z (alternate_is_run n m i j v k l c d e tr
 dead_suspect t a x is (a_dead_if b y z (nothing_is_run n m i j v k c d truth none)) = ap has_suspect is ∙ suspect_there b _ refl
 dead_suspect t a x is (an_empty_block b y (empty_block_leaves item held)) = ap has_suspect is ∙ suspect_there b y (block_suspect y.kind y.below held)
 dead_suspect t a x is (an_unreached_statement b y (never_runs item jump runs none)) = ap has_suspect is ∙ suspect_there b y (runs_suspect y.kind runs)
+dead_suspect t a x is (an_untaken_statement b y (never_taken item untaken runs none)) = ap has_suspect is ∙ suspect_there b y (runs_suspect y.kind runs)
 
 -- A declaration goes with the last of its declarators, and stays where it has none.
 pub nothing_declared_is_clean : Clean row.declares_nothing

@@ -217,3 +217,10 @@ runs_one_branch = form.a_module (either_way form.one (form.does call_of_a) (form
 -- if (null) a();
 abbrev pub runs_no_branch : Forest
 runs_no_branch = form.a_module (if_null (form.does call_of_a) form.no ∷ [])
+
+abbrev pub use_of_a : Forest
+use_of_a = calls (form.reads (codes "use")) (form.reads form.a ∷ [])
+
+-- if (null) { var a = 1; b(); } use(a);
+abbrev pub keeps_variable : Forest
+keeps_variable = form.a_module (if_null (form.block (form.declares variable.Var (form.binds form.a) form.one ∷ form.does call_of_b ∷ [])) form.no ∷ use_of_a ∷ [])

@@ -66,7 +66,7 @@ pub fn what_others_may_use_stays()
 /// `1;` doesn't stay, nor does the conditional of `a(true ? a : b);`, of `(1 ? o.g : null)();` or of `a ? b() : 1;`, what stands right in
 /// `null && a();`, what of `!(a() === 1);`, of `[a(), 1];` and of `({ a: a() });` is no call, the `1` of `use((1, a));`, the comparison
 /// of `a() === b();`, the negation of `use(!0);`, the `if` of `if (1) a(); else b();` and of `if (null) a();`, the call of `throw 1; a();`,
-/// or `l: { {} }`.
+/// that of `b` in `if (null) { var a = 1; b(); } use(a);`, or `l: { {} }`.
 pub fn dead_code_goes()
     ensures number { Headline row.dead row.dead → ⊥ }
     ensures conditional { Headline row.takes_branch row.takes_branch → ⊥ }
@@ -82,6 +82,7 @@ pub fn dead_code_goes()
     ensures if_holds { Headline row.runs_one_branch row.runs_one_branch → ⊥ }
     ensures if_fails { Headline row.runs_no_branch row.runs_no_branch → ⊥ }
     ensures unreached { Headline row.calls_behind_throw row.calls_behind_throw → ⊥ }
+    ensures untaken { Headline row.keeps_variable row.keeps_variable → ⊥ }
     ensures block { Headline row.labels_nothing row.labels_nothing → ⊥ }
 {}
 
@@ -92,7 +93,8 @@ pub fn dead_code_goes()
 /// used for its value, of which a part before the last doesn't act: `use((1, a));`, a comparison of which nobody takes the value, though
 /// both sides act: `a() === b();`, an object literal of which nobody takes the value, that holds a call: `({ a: a() });`, an operation
 /// on a literal, of which the value is known: `use(!0);`, an `if` on a literal, whether a branch of it runs: `if (1) a(); else b();`, or
-/// none: `if (null) a();`, a statement behind a jump: `throw 1; a();`, and a block of nothing, or what labels one: `l: { {} }`.
+/// none: `if (null) a();`, a statement behind a jump: `throw 1; a();`, one of a branch that isn't taken and has to stay for
+/// the name that it declares: `if (null) { var a = 1; b(); } use(a);`, and a block of nothing, or what labels one: `l: { {} }`.
 pub fn dead_code_is_told()
     ensures number { Clean (a_module (does one ∷ [])) → ⊥ }
     ensures empty { Clean (a_module (block (empty ∷ []) ∷ [])) → ⊥ }
@@ -113,6 +115,7 @@ pub fn dead_code_is_told()
     ensures if_holds { Clean row.runs_one_branch → ⊥ }
     ensures if_fails { Clean row.runs_no_branch → ⊥ }
     ensures unreached { Clean row.calls_behind_throw → ⊥ }
+    ensures untaken { Clean row.keeps_variable → ⊥ }
     ensures block { Clean row.labels_nothing → ⊥ }
 {}
 

@@ -1,6 +1,8 @@
 use Rattle.std.proofs.Common.{◌∙◌, Some, sym, ap}
-use Rattle.min_traverse.proofs.Joining.{does_none, does_some}
+use Rattle.min_traverse.specs.Lawful.{or_else}
+use Rattle.min_traverse.proofs.Joining.{does_none, does_some, then_does}
 use Rattle.rules_expressions.specs.Ifs.{fold_if}
+use Rattle.rules_expressions.specs.Untaken.{if_left, rid_if, at_if_end}
 use Rattle.min_statements.proofs.Branches.{outcome, runs_as_ruled, branch_there, no_call}
 use Rattle.min_statements.proofs.ifs.try_fold_if.Goals as goal
 
@@ -12,24 +14,26 @@ keep_child-requires-clause-call c = no_call c.args.node.now.kind c.args.node.now
 
 pub returns-in-Some-Some : goal.returns-in-Some-Some
 returns-in-Some-Some c = record {
-  does = does_some fold_if c.args.ctx.now c.args.node.now c.keep_child.new.node
-      (sym (runs_as_ruled c.args.node.now.note c.args.node.now.kind c.args.node.now.below)
+  does = does_some at_if_end c.args.ctx.now c.args.node.now c.keep_child.new.node
+      (ap (λ o. or_else o (if_left c.args.node.now.note c.args.node.now.kind c.args.node.now.below)) (sym (runs_as_ruled c.args.node.now.note c.args.node.now.kind c.args.node.now.below)
       ∙ ap (λ o. outcome c.args.node.now.note o c.args.node.now.below) (sym c.branch_at.ensures ∙ c.in-Some-Some.is ∙ ap Some c.in-Some-Some.field-0-is)
-      ∙ c.keep_child.ensures.kept)
+      ∙ c.keep_child.ensures.kept))
       c.keep_child.ensures.edited;
 }
 
 pub returns-in-Some-None : goal.returns-in-Some-None
 returns-in-Some-None c = record {
-  does = does_some fold_if c.args.ctx.now c.args.node.now c.put_empty.new.node
-      (sym (runs_as_ruled c.args.node.now.note c.args.node.now.kind c.args.node.now.below)
+  does = does_some at_if_end c.args.ctx.now c.args.node.now c.put_empty.new.node
+      (ap (λ o. or_else o (if_left c.args.node.now.note c.args.node.now.kind c.args.node.now.below)) (sym (runs_as_ruled c.args.node.now.note c.args.node.now.kind c.args.node.now.below)
       ∙ ap (λ o. outcome c.args.node.now.note o c.args.node.now.below) (sym c.branch_at.ensures ∙ c.in-Some-None.is ∙ ap Some c.in-Some-None.field-0-is)
-      ∙ ap Some (sym c.put_empty.ensures.put))
+      ∙ ap Some (sym c.put_empty.ensures.put)))
       c.put_empty.ensures.edited;
 }
 
 pub returns-in-None : goal.returns-in-None
 returns-in-None c = record {
-  does = does_none fold_if c.args.ctx.now c.args.node.now
-      (sym (runs_as_ruled c.args.node.now.note c.args.node.now.kind c.args.node.now.below) ∙ ap (λ o. outcome c.args.node.now.note o c.args.node.now.below) (sym c.branch_at.ensures ∙ c.in-None.is));
+  does = then_does fold_if rid_if
+      (does_none fold_if c.args.ctx.now c.args.node.now
+      (sym (runs_as_ruled c.args.node.now.note c.args.node.now.kind c.args.node.now.below) ∙ ap (λ o. outcome c.args.node.now.note o c.args.node.now.below) (sym c.branch_at.ensures ∙ c.in-None.is)))
+      c.thin_branch.ensures.does;
 }

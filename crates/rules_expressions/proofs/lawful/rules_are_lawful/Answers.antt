@@ -1,4 +1,4 @@
-use Rattle.rules_expressions.proofs.Folding.{conditionals_fold, logicals_fold, unused_fold, lists_fold, indirect_fold, one_sided_fold, sequences_fold, two_sides_fold, objects_fold, known_fold, ifs_fold, jumps_cut, expressions_fold}
+use Rattle.rules_expressions.proofs.Folding.{conditionals_fold, logicals_fold, unused_fold, lists_fold, indirect_fold, one_sided_fold, sequences_fold, two_sides_fold, objects_fold, known_fold, ifs_fold, ifs_rid, jumps_cut, expressions_fold}
 use Rattle.rules_expressions.proofs.lawful.rules_are_lawful.Goals as goal
 
 pub returns-clause-conditional : goal.returns-clause-conditional
@@ -33,6 +33,9 @@ returns-clause-known g c = known_fold g.T.Traverse.edit
 
 pub returns-clause-statement : goal.returns-clause-statement
 returns-clause-statement g c = ifs_fold g.T.Traverse.edit
+
+pub returns-clause-untaken : goal.returns-clause-untaken
+returns-clause-untaken g c = ifs_rid g.T.Traverse.edit
 
 pub returns-clause-jumps : goal.returns-clause-jumps
 returns-clause-jumps g c = jumps_cut g.T.Traverse.edit

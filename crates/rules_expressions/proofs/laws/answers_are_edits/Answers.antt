@@ -9,6 +9,7 @@ use Rattle.rules_expressions.proofs.TwoSides.{two_sides_edits_there}
 use Rattle.rules_expressions.proofs.Objects.{object_edits_there}
 use Rattle.rules_expressions.proofs.Operations.{known_edits}
 use Rattle.rules_expressions.proofs.Ifs.{if_edits}
+use Rattle.rules_expressions.proofs.Untaken.{left_edits}
 use Rattle.rules_expressions.proofs.Jumps.{list_edits}
 use Rattle.rules_expressions.proofs.laws.answers_are_edits.Goals as goal
 
@@ -47,6 +48,9 @@ returns-clause-known c a x y rest = known_edits (before a rest) x y
 
 pub returns-clause-statement : goal.returns-clause-statement
 returns-clause-statement c = if_edits
+
+pub returns-clause-untaken : goal.returns-clause-untaken
+returns-clause-untaken c = left_edits
 
 pub returns-clause-items : goal.returns-clause-items
 returns-clause-items c = list_edits

@@ -1,8 +1,6 @@
-use Rattle.std.proofs.Common.{◌≡◌, Bool, true, false, subst}
-use Rattle.js_syntax.specs.Node.{Tree}
-use Rattle.min_context.specs.Seen.{Seen}
+use Rattle.std.proofs.Common.{Bool, subst}
 use Rattle.min_traverse.specs.Lawful.{Does}
-use Rattle.rules_expressions.specs.Ifs.{fold_if}
+use Rattle.rules_expressions.specs.Untaken.{at_if_end}
 use Rattle.min_statements.specs.Acts.{empty}
 use Rattle.min_statements.specs.Own.{AnyEdit}
 use Rattle.rules_dead_code.proofs.StaysTrue.{stays}
@@ -21,13 +19,13 @@ returns-then-try_fold_if c =
     let none = subst (λ (b : Bool). Does (empty c.args.self.now) c.args.ctx.now c.args.node.now b c.empty_statement.new.ctx c.empty_statement.new.node) c.if-empty_statement.false c.empty_statement.ensures.does in
     record {
       moves = fold_moves (stays AnyEdit (λ o t u e. e)) c.args.self.now none c.try_fold_if.ensures.does;
-      visited = λ quiet. fold_visits c.args.self.now quiet none (subst (λ (b : Bool). Does fold_if c.empty_statement.new.ctx c.empty_statement.new.node b c.try_fold_if.new.ctx c.try_fold_if.new.node) c.if-try_fold_if.true c.try_fold_if.ensures.does);
+      visited = λ quiet. fold_visits c.args.self.now quiet none (subst (λ (b : Bool). Does at_if_end c.empty_statement.new.ctx c.empty_statement.new.node b c.try_fold_if.new.ctx c.try_fold_if.new.node) c.if-try_fold_if.true c.try_fold_if.ensures.does);
     }
 
 pub returns : goal.returns
 returns c =
     let none = subst (λ (b : Bool). Does (empty c.args.self.now) c.args.ctx.now c.args.node.now b c.empty_statement.new.ctx c.empty_statement.new.node) c.if-empty_statement.false c.empty_statement.ensures.does in
-    let unfolded = subst (λ (b : Bool). Does fold_if c.empty_statement.new.ctx c.empty_statement.new.node b c.try_fold_if.new.ctx c.try_fold_if.new.node) c.if-try_fold_if.false c.try_fold_if.ensures.does in
+    let unfolded = subst (λ (b : Bool). Does at_if_end c.empty_statement.new.ctx c.empty_statement.new.node b c.try_fold_if.new.ctx c.try_fold_if.new.node) c.if-try_fold_if.false c.try_fold_if.ensures.does in
     record {
       moves = statement_moves (stays AnyEdit (λ o t u e. e)) c.args.self.now none unfolded c.remove_unused_import_specifiers.ensures.does;
       visited = λ quiet. statement_visits c.args.self.now quiet none unfolded c.remove_unused_import_specifiers.ensures.does;

@@ -1,0 +1,82 @@
+-- In a branch that isn't taken: which branch that is, by its index, and what goes of it, counted and let go.
+use Rattle.std.specs.Prelude.{ℕ, zero, suc, ◌+◌, Bool, true, false, Option, Some, None, if◌then◌else◌}
+use Rattle.js_syntax.specs.declared.node_kind.NodeKind.{NodeKind as Kind}
+use Rattle.js_syntax.specs.declared.node_kind.NodeKind.TheVariants.{IfStatement as if_statement}
+use Rattle.js_syntax.specs.Node.{Forest, Tree, nothing, node, absent, alone}
+use Rattle.min_expressions.specs.Kept.{kept_if}
+use Rattle.rules_expressions.specs.Untaken.{is_list, may_go, rid, branch_has}
+use Rattle.steps_allowed.specs.KnownConditional.{truth_known}
+use Rattle.steps_allowed.specs.Untaken.{runs_inside}
+
+-- ---- which branch
+
+abbrev pub by_truth : (truth : Option Bool) → (branches : Forest) → Option ℕ
+by_truth (Some false) (node k i b alternate) = kept_if (branch_has k b) 1
+by_truth (Some true) (node k i b (node l j c rest)) = kept_if (branch_has l c) 2
+by_truth truth branches = None
+
+abbrev pub among : (parts : Forest) → Option ℕ
+among (node t n a branches) = by_truth (truth_known t n a) branches
+among parts = None
+
+abbrev pub untaken_at : Kind → (parts : Forest) → Option ℕ
+untaken_at if_statement parts = among parts
+untaken_at k parts = None
+
+-- ---- counted
+
+-- `m` says what a row counts
+module _ (m : Forest → ℕ) where
+  abbrev pub idle_shed : (listed : Bool) → Forest → ℕ
+  idle_shed listed nothing = 0
+  idle_shed listed (absent rest) = idle_shed listed rest
+  idle_shed listed (node k n below rest) = (if may_go listed k below then m (alone k n below) else if runs_inside k then idle_shed (is_list k) below else 0) + idle_shed listed rest
+
+  abbrev pub inside_shed : Kind → (below : Forest) → ℕ
+  inside_shed k below = if runs_inside k then idle_shed (is_list k) below else 0
+
+  abbrev pub item_shed : (listed : Bool) → Tree → ℕ
+  item_shed listed x = if may_go listed x.kind x.below then m (alone x.kind x.note x.below) else inside_shed x.kind x.below
+
+  abbrev pub shed_of : Option Tree → ℕ
+  shed_of None = 0
+  shed_of (Some x) = inside_shed x.kind x.below
+
+  -- of the child at a place
+  abbrev pub shed_at : ℕ → Forest → ℕ
+  shed_at at nothing = 0
+  shed_at zero (absent rest) = 0
+  shed_at zero (node k n below rest) = inside_shed k below
+  shed_at (suc at) (absent rest) = shed_at at rest
+  shed_at (suc at) (node k n below rest) = shed_at at rest
+
+-- ---- let go
+
+abbrev pub inside_left : Kind → (below : Forest) → Forest
+inside_left k below = if runs_inside k then rid (is_list k) below else below
+
+abbrev pub goes_idle : (listed : Bool) → Option Tree → Bool
+goes_idle listed None = false
+goes_idle listed (Some x) = may_go listed x.kind x.below
+
+-- the row without those that go, and each without what goes in it
+abbrev pub kept_of : (listed : Bool) → Forest → Forest
+kept_of listed nothing = nothing
+kept_of listed (absent rest) = absent (kept_of listed rest)
+kept_of listed (node k n below rest) = if may_go listed k below then kept_of listed rest else node k n below (kept_of listed rest)
+
+abbrev pub each_rid : Forest → Forest
+each_rid nothing = nothing
+each_rid (absent rest) = absent (each_rid rest)
+each_rid (node k n below rest) = node k n (inside_left k below) (each_rid rest)
+
+abbrev pub rid_one : Option Tree → Option Tree
+rid_one None = None
+rid_one (Some x) = Some (record { kind = x.kind; note = x.note; below = inside_left x.kind x.below })
+
+abbrev pub rid_at : ℕ → Forest → Forest
+rid_at at nothing = nothing
+rid_at zero (absent rest) = absent rest
+rid_at zero (node k n below rest) = node k n (inside_left k below) rest
+rid_at (suc at) (absent rest) = absent (rid_at at rest)
+rid_at (suc at) (node k n below rest) = node k n below (rid_at at rest)

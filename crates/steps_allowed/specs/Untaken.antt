@@ -1,0 +1,58 @@
+-- A statement in a branch of an `if` that isn't taken leaves its list, where it declares no name around it: it never runs (ECMA-262 14.6.2).
+use Rattle.std.specs.Prelude.{◌≡◌, Bool, true, false, not, ◌&&◌, ◌||◌, Option, Some, None}
+use Rattle.js_syntax.specs.declared.node_kind.NodeKind.{NodeKind as Kind}
+use Rattle.js_syntax.specs.declared.node_kind.NodeKind.TheVariants.{Statements as statements, BlockStatement as block_statement, IfStatement as if_statement, LabeledStatement as labeled_statement, WhileStatement as while_statement, DoWhileStatement as do_while_statement, ForStatement as for_statement, SwitchStatement as switch_statement, Cases as cases, SwitchCase as switch_case, TryStatement as try_statement, CatchClause as catch_clause}
+use Rattle.js_syntax.specs.Node.{Tree, forest_of}
+use Rattle.scope_laws.specs.Place.{Around, first, behind, behind_none, under}
+use Rattle.steps_allowed.specs.Branches.{declares_none}
+use Rattle.steps_allowed.specs.KnownConditional.{truth_known}
+use Rattle.steps_allowed.specs.Places.{IsItem}
+use Rattle.steps_allowed.specs.Unreached.{only_runs}
+
+-- What the test of an `if` is where a branch isn't taken, by the place of what lies in that: behind the test stands the consequent, and
+-- behind that the alternate.
+abbrev pub untaken_where : Around → Option Bool
+untaken_where (under k n a rest) = Some false
+untaken_where (behind k n b (under l i a rest)) = Some true
+untaken_where a = None
+
+-- whether it is known by its form to be that
+abbrev pub is_known : (so truth : Option Bool) → Bool
+is_known (Some true) (Some b) = b
+is_known (Some false) (Some b) = not b
+is_known so truth = false
+
+-- whether the row below an `if` leads into a branch that isn't taken
+abbrev pub leads_to_untaken : Around → Bool
+leads_to_untaken (behind t m d a) = is_known (untaken_where a) (truth_known t m d)
+leads_to_untaken a = false
+
+abbrev pub begins_untaken : Kind → Around → Bool
+begins_untaken if_statement a = leads_to_untaken a
+begins_untaken k a = false
+
+-- Statements, and what they hold that is run where they are: not so the code of a function, which may be called from elsewhere.
+abbrev pub runs_inside : Kind → Bool
+runs_inside statements = true
+runs_inside block_statement = true
+runs_inside if_statement = true
+runs_inside (labeled_statement label) = true
+runs_inside while_statement = true
+runs_inside do_while_statement = true
+runs_inside for_statement = true
+runs_inside switch_statement = true
+runs_inside cases = true
+runs_inside switch_case = true
+runs_inside try_statement = true
+runs_inside catch_clause = true
+runs_inside k = false
+
+-- whether a branch is around that isn't taken, or was around this part of the place
+abbrev pub is_untaken : (untaken : Bool) → Around → Bool
+is_untaken untaken (first rest) = untaken
+is_untaken untaken (behind k n below a) = is_untaken untaken a
+is_untaken untaken (behind_none a) = is_untaken untaken a
+is_untaken untaken (under k n a rest) = is_untaken (untaken && runs_inside k || begins_untaken k a) a
+
+pub data Untaken (a : Around) (x : Tree) : Type 0 where
+  never_taken : IsItem a → is_untaken false a ≡ true → only_runs x.kind ≡ true → declares_none (forest_of x) ≡ true → Untaken a x
