@@ -91,7 +91,10 @@ pub(crate) fn declares_no_name(node: &Node) -> bool
         NodeKind::VariableDeclaration(VariableKind::Var) => false,
         NodeKind::Function { kind, .. } => !matches!(kind, FunctionKind::Declaration),
         NodeKind::Class(kind) => !matches!(kind, ClassKind::Declaration),
-        NodeKind::BlockStatement => inside_from(false, node.children()),
+        NodeKind::BlockStatement
+        | NodeKind::ForStatement
+        | NodeKind::ForInStatement
+        | NodeKind::ForOfStatement => inside_from(false, node.children()),
         NodeKind::CatchClause => none_from(true, node.children()),
         _ => none_from(false, node.children()),
     }

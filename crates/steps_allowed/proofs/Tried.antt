@@ -40,7 +40,7 @@ use Rattle.steps_allowed.specs.TwoSides.{both_sides_act}
 use Rattle.steps_allowed.specs.UnusedObject.{acting_values_stay}
 use Rattle.steps_allowed.specs.KnownOperation.{known_literal, value_is_known}
 use Rattle.steps_allowed.specs.Edits.{Edit, leaves, becomes, empty_statement, empty_block, silent_statement, unused_function, unused_declaration, unused_import, unreached, untaken, known_conditional, known_side, known_if, dead_if, unused_operation, unused_list, indirect_choice, one_sided_choice, idle_parts, two_sides, unused_object, known_operation}
-use Rattle.steps_allowed.specs.Rows.{labeled, branch_of_if, in_branch, in_function, past, in_list, before, throws, behind_throw, call_of_a, null, if_one, if_null, either_way, conditional, logical, may_be_named, o_f, parenthesized, in_statement, called, called_in_parentheses, called_in_with, argument, operand, applied, equals, assigned, statement, ComesOut, Stays, StaysUnused, array, spread, hole, sequence, ListStays, ChoiceStays, PartsStay, SidesStay, object, a_is, b_is, getter_of_a, ObjectStays, literal, operation, OperationStays, behind_zero, placed, StaysDirect, with_a, in_with_a, empty, a_is_read, a_is_exported, imports_nothing, only_import, tried}
+use Rattle.steps_allowed.specs.Rows.{labeled, branch_of_if, in_branch, in_function, past, in_list, before, throws, behind_throw, call_of_a, null, if_one, if_null, either_way, conditional, logical, may_be_named, o_f, parenthesized, in_statement, called, called_in_parentheses, called_in_with, argument, operand, applied, equals, assigned, statement, ComesOut, Stays, StaysUnused, array, spread, hole, sequence, ListStays, ChoiceStays, PartsStay, SidesStay, object, a_is, b_is, getter_of_a, ObjectStays, literal, operation, OperationStays, behind_zero, placed, StaysDirect, with_a, in_with_a, empty, a_is_read, a_is_exported, imports_nothing, only_import, tried, loop}
 
 pub empties_in_list : Edit (a_module (does one ∷ [])) (a_module (empty ∷ []))
 empties_in_list = becomes (before []) _ _ (silent_statement (silent_statement_empties nowhere nowhere nowhere _ nothing (inl refl, tt)))
@@ -145,6 +145,12 @@ dead_block_with_try_empties = becomes (before []) _ _ (dead_if (nothing_is_run n
 
 pub dead_try_with_var_stays : (y : Tree) → DeadIf (an_if nowhere (Kind.Literal value.Null) nowhere nothing (joined (block (tried (var_ a ∷ []) ∷ [])) no)) y → ⊥
 dead_try_with_var_stays y (nothing_is_run n m i o t k b c truth none) = absurd cc
+
+pub dead_loop_empties : Edit (a_module (if_null (loop (let_ a) (does call_of_a)) no ∷ [])) (a_module (empty ∷ []))
+dead_loop_empties = becomes (before []) _ _ (dead_if (nothing_is_run nowhere nowhere nowhere nowhere _ _ _ _ refl refl))
+
+pub dead_loop_with_var_stays : (y : Tree) → DeadIf (an_if nowhere (Kind.Literal value.Null) nowhere nothing (joined (loop (var_ a) (does call_of_a)) no)) y → ⊥
+dead_loop_with_var_stays y (nothing_is_run n m i o t k b c truth none) = absurd cc
 
 pub dead_var_stays : (y : Tree) → DeadIf (an_if nowhere (Kind.Literal value.Null) nowhere nothing (joined (block (var_ a ∷ [])) no)) y → ⊥
 dead_var_stays y (nothing_is_run n m i o t k b c truth none) = absurd cc

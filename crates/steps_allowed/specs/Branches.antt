@@ -1,7 +1,7 @@
 -- Which branches of an `if` may stand in its place, and which may be left out.
 use Rattle.std.specs.Prelude.{Bool, true, false, ◌&&◌}
 use Rattle.js_syntax.specs.declared.node_kind.NodeKind.{NodeKind as Kind}
-use Rattle.js_syntax.specs.declared.node_kind.NodeKind.TheVariants.{EmptyStatement as empty_statement, ExpressionStatement as expression_statement, BlockStatement as block_statement, IfStatement as if_statement, BreakStatement as break_statement, ContinueStatement as continue_statement, ReturnStatement as return_statement, ThrowStatement as throw_statement, SwitchStatement as switch_statement, TryStatement as try_statement, CatchClause as catch_clause, Function as function, Class as class, VariableDeclaration as variable_declaration, BindingName as binding_name}
+use Rattle.js_syntax.specs.declared.node_kind.NodeKind.TheVariants.{EmptyStatement as empty_statement, ExpressionStatement as expression_statement, BlockStatement as block_statement, ForOfStatement as for_of_statement, ForInStatement as for_in_statement, ForStatement as for_statement, IfStatement as if_statement, BreakStatement as break_statement, ContinueStatement as continue_statement, ReturnStatement as return_statement, ThrowStatement as throw_statement, SwitchStatement as switch_statement, TryStatement as try_statement, CatchClause as catch_clause, Function as function, Class as class, VariableDeclaration as variable_declaration, BindingName as binding_name}
 use Rattle.js_syntax.specs.declared.kind.FunctionKind.TheVariants as function_kind
 use Rattle.js_syntax.specs.declared.kind.ClassKind.TheVariants as class_kind
 use Rattle.js_syntax.specs.declared.kind.VariableKind.TheVariants as variable
@@ -75,6 +75,9 @@ declares_none_at (function how pure) inside below = true
 declares_none_at (class class_kind.Declaration) inside below = false
 declares_none_at (class class_kind.Expression) inside below = true
 declares_none_at block_statement inside below = inside
+declares_none_at for_statement inside below = inside
+declares_none_at for_in_statement inside below = inside
+declares_none_at for_of_statement inside below = inside
 declares_none_at k inside below = below
 
 abbrev pub none_or_parameter : (is_parameter : Bool) → Kind → (lets inside below : Bool) → Bool

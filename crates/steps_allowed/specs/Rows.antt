@@ -86,6 +86,10 @@ if_null consequent alternate = over Kind.IfStatement (joined null (joined conseq
 abbrev pub tried : (items : List Forest) → Forest
 tried items = over Kind.TryStatement (joined (block []) (joined (over Kind.CatchClause (joined (binds a) (block items))) no))
 
+-- for (declaration;;) body
+abbrev pub loop : (declaration body : Forest) → Forest
+loop declaration body = over Kind.ForStatement (joined declaration (joined no (joined no body)))
+
 -- if (test) consequent else alternate
 abbrev pub either_way : (test consequent alternate : Forest) → Forest
 either_way test consequent alternate = over Kind.IfStatement (joined test (joined consequent alternate))

@@ -24,7 +24,7 @@ ghost use Rattle.steps_allowed.specs.Unreached.{Unreached};
 ghost use Rattle.steps_allowed.specs.Untaken.{Untaken};
 ghost use Rattle.steps_allowed.specs.EmptyBlock.{EmptyBlock};
 ghost use Rattle.steps_allowed.specs.Edits.{Edit};
-ghost use Rattle.steps_allowed.specs.Rows.{before, labeled, tried, branch_of_if, in_branch, in_function, throws, behind_throw, call_of_a, null, if_one, if_null, either_way, conditional, logical, may_be_named, o_f, parenthesized, called, called_in_parentheses, called_in_with, argument, operand, applied, equals, assigned, statement, ComesOut, Stays, StaysUnused, array, spread, hole, sequence, ListStays, ChoiceStays, PartsStay, SidesStay, object, a_is, b_is, getter_of_a, ObjectStays, literal, operation, OperationStays, behind_zero, placed, StaysDirect, with_a, in_with_a, empty, a_is_read, a_is_exported, imports_nothing};
+ghost use Rattle.steps_allowed.specs.Rows.{before, labeled, tried, loop, branch_of_if, in_branch, in_function, throws, behind_throw, call_of_a, null, if_one, if_null, either_way, conditional, logical, may_be_named, o_f, parenthesized, called, called_in_parentheses, called_in_with, argument, operand, applied, equals, assigned, statement, ComesOut, Stays, StaysUnused, array, spread, hole, sequence, ListStays, ChoiceStays, PartsStay, SidesStay, object, a_is, b_is, getter_of_a, ObjectStays, literal, operation, OperationStays, behind_zero, placed, StaysDirect, with_a, in_with_a, empty, a_is_read, a_is_exported, imports_nothing};
 
 /// A statement of a literal becomes empty, in a list and alone, and leaves the list then.
 pub fn silent_statements_go()
@@ -77,7 +77,7 @@ pub fn known_branches_are_taken()
 {}
 
 /// An `if` with no branch to take becomes empty, but where it declares a function or, by `var`, a variable of the function around,
-/// or its test acts. What `let` declares in a block is of that block alone, and a handler's parameter of the handler.
+/// or its test acts. What `let` declares in a block or in the head of a loop is of that alone, and a handler's parameter of the handler.
 pub fn dead_ifs_become_empty()
     ensures call { Edit (a_module (if_null (does call_of_a) no ∷ [])) (a_module (empty ∷ [])) }
     ensures alone { Edit (a_module (if_one (if_null (does call_of_a) no) ∷ [])) (a_module (if_one empty ∷ [])) }
@@ -86,6 +86,8 @@ pub fn dead_ifs_become_empty()
     ensures handled { Edit (a_module (if_null (tried (let_ a ∷ [])) no ∷ [])) (a_module (empty ∷ [])) }
     ensures handled_in_block { Edit (a_module (if_null (block (tried (does call_of_a ∷ []) ∷ [])) no ∷ [])) (a_module (empty ∷ [])) }
     ensures handled_with_var { (y : Tree) → DeadIf (an_if nowhere (Kind.Literal value.Null) nowhere nothing (joined (block (tried (var_ a ∷ []) ∷ [])) no)) y → ⊥ }
+    ensures looped { Edit (a_module (if_null (loop (let_ a) (does call_of_a)) no ∷ [])) (a_module (empty ∷ [])) }
+    ensures looped_with_var { (y : Tree) → DeadIf (an_if nowhere (Kind.Literal value.Null) nowhere nothing (joined (loop (var_ a) (does call_of_a)) no)) y → ⊥ }
     ensures with_var { (y : Tree) → DeadIf (an_if nowhere (Kind.Literal value.Null) nowhere nothing (joined (block (var_ a ∷ [])) no)) y → ⊥ }
     ensures function { (y : Tree) → DeadIf (an_if nowhere (Kind.Literal value.Null) nowhere nothing (joined (block (function_a [] [] ∷ [])) no)) y → ⊥ }
     ensures acting { (y : Tree) → DeadIf (an_if nowhere (Kind.UnaryExpression unary.LogicalNot) nowhere (array (call_of_a ∷ [])) (joined (does call_of_a) no)) y → ⊥ }

@@ -2,7 +2,7 @@
 use Rattle.std.proofs.Common.{◌≡◌, ℕ, suc, [], ◌∷◌, Bool, true, false, not, ◌&&◌, ◌||◌, refl, sym, true≢false}
 use Rattle.js_syntax.specs.Class.{Class, root, method_value, private_key, expression, expression_or_private, callee, argument, object_item, chain_part, template, quasi_item, simple_target, target, target_value, target_element, target_item}
 use Rattle.js_syntax.specs.declared.node_kind.NodeKind.{NodeKind as Kind}
-use Rattle.js_syntax.specs.declared.node_kind.NodeKind.TheVariants.{Function as function, Class as class, BlockStatement as block_statement, CatchClause as catch_clause, VariableDeclaration as variable_declaration, BindingName as binding_name}
+use Rattle.js_syntax.specs.declared.node_kind.NodeKind.TheVariants.{Function as function, Class as class, BlockStatement as block_statement, ForOfStatement as for_of_statement, ForInStatement as for_in_statement, ForStatement as for_statement, CatchClause as catch_clause, VariableDeclaration as variable_declaration, BindingName as binding_name}
 use Rattle.js_syntax.specs.declared.kind.FunctionKind.TheVariants as function_kind
 use Rattle.js_syntax.specs.declared.kind.ClassKind.TheVariants as class_kind
 use Rattle.js_syntax.specs.Node.{Forest, nothing, node, absent}
@@ -93,6 +93,9 @@ declares_itself (class class_kind.Declaration) = true
 declares_itself (variable_declaration how) = true
 declares_itself catch_clause = true
 declares_itself block_statement = true
+declares_itself for_statement = true
+declares_itself for_in_statement = true
+declares_itself for_of_statement = true
 declares_itself k = false
 
 -- what lies in a function or class doesn't matter
@@ -123,6 +126,9 @@ lists (class how) h = absurd cc
 lists (variable_declaration how) h = absurd cc
 lists catch_clause h = absurd cc
 lists block_statement h = absurd cc
+lists for_statement h = absurd cc
+lists for_in_statement h = absurd cc
+lists for_of_statement h = absurd cc
 lists kind h = refl
 
 fields : (r : Row) (vs : Values (fields_of r)) → in_expression r ≡ true → keeps_it r (kind_in r vs) ≡ true
@@ -149,6 +155,9 @@ shut_declares at (node k n below rest) h =
     here (variable_declaration how) below h e f = absurd (true≢false (sym h))
     here catch_clause below h e f = absurd (true≢false (sym h))
     here block_statement below h e f = absurd (true≢false (sym h))
+    here for_statement below h e f = absurd (true≢false (sym h))
+    here for_in_statement below h e f = absurd (true≢false (sym h))
+    here for_of_statement below h e f = absurd (true≢false (sym h))
     here k below h e f = f e
 
 -- nothing of the row is a block

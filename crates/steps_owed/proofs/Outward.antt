@@ -337,6 +337,9 @@ node_declares a (function function_kind.Arrow pure) n below h e inside inner = f
 node_declares a (class class_kind.Declaration) n below h e inside inner = absurd (true≢false (sym h))
 node_declares a (class class_kind.Expression) n below h e inside inner = class_declares a class_kind.Expression below refl e
 node_declares a block_statement n below h e inside inner = inside h (aims_inside no_part a block_statement below) (λ i. refl)
+node_declares a for_statement n below h e inside inner = inside h (aims_inside no_part a for_statement below) (λ i. refl)
+node_declares a for_in_statement n below h e inside inner = inside h (aims_inside no_part a for_in_statement below) (λ i. refl)
+node_declares a for_of_statement n below h e inside inner = inside h (aims_inside no_part a for_of_statement below) (λ i. refl)
 node_declares a k n below h e inside inner = inner h (aims_inside no_part a k below) (parameter_unaimed a k below)
 
 -- a node, or a handler's parameter

@@ -3,7 +3,7 @@ use Rattle.std.proofs.Common.{◌≡◌, ℕ, ◌+◌, suc, Bool, true, false, n
 use Rattle.js_tree.specs.Count.{one_each, node_count}
 use Rattle.js_syntax.specs.Class.{root}
 use Rattle.js_syntax.specs.declared.node_kind.NodeKind.{NodeKind as Kind}
-use Rattle.js_syntax.specs.declared.node_kind.NodeKind.TheVariants.{EmptyStatement as empty_statement, BlockStatement as block_statement, CatchClause as catch_clause, IfStatement as if_statement, VariableDeclaration as variable_declaration, BindingName as binding_name, Function as function, Class as class, ConditionalExpression as conditional_expression, LogicalExpression as logical_expression, UnaryExpression as unary_expression, BinaryExpression as binary_expression, ParenthesizedExpression as parenthesized_expression}
+use Rattle.js_syntax.specs.declared.node_kind.NodeKind.TheVariants.{EmptyStatement as empty_statement, BlockStatement as block_statement, ForOfStatement as for_of_statement, ForInStatement as for_in_statement, ForStatement as for_statement, CatchClause as catch_clause, IfStatement as if_statement, VariableDeclaration as variable_declaration, BindingName as binding_name, Function as function, Class as class, ConditionalExpression as conditional_expression, LogicalExpression as logical_expression, UnaryExpression as unary_expression, BinaryExpression as binary_expression, ParenthesizedExpression as parenthesized_expression}
 use Rattle.js_syntax.specs.declared.operator.BinaryOperator.{BinaryOperator}
 use Rattle.js_syntax.specs.declared.operator.LogicalOperator.{LogicalOperator}
 use Rattle.js_syntax.specs.declared.operator.UnaryOperator.{UnaryOperator}
@@ -196,6 +196,37 @@ block_seeks : (s : Sought) → keeps_outside s block_statement ≡ true → seek
 block_seeks (catch_scope f) h = absurd cc
 block_seeks s h = refl
 
+-- nor is more sought below a loop whose head may declare names
+abbrev is_for : Kind → Bool
+is_for for_statement = true
+is_for for_in_statement = true
+is_for for_of_statement = true
+is_for k = false
+
+loop_seeks : (s : Sought) (k : Kind) → is_for k ≡ true → seeks_variables (sought_below s k) ≡ true
+loop_seeks none for_statement h = refl
+loop_seeks (names f) for_statement h = refl
+loop_seeks (bound f) for_statement h = refl
+loop_seeks (scope f) for_statement h = refl
+loop_seeks variables for_statement h = refl
+loop_seeks function_scope for_statement h = refl
+loop_seeks (catch_scope f) for_statement h = refl
+loop_seeks none for_in_statement h = refl
+loop_seeks (names f) for_in_statement h = refl
+loop_seeks (bound f) for_in_statement h = refl
+loop_seeks (scope f) for_in_statement h = refl
+loop_seeks variables for_in_statement h = refl
+loop_seeks function_scope for_in_statement h = refl
+loop_seeks (catch_scope f) for_in_statement h = refl
+loop_seeks none for_of_statement h = refl
+loop_seeks (names f) for_of_statement h = refl
+loop_seeks (bound f) for_of_statement h = refl
+loop_seeks (scope f) for_of_statement h = refl
+loop_seeks variables for_of_statement h = refl
+loop_seeks function_scope for_of_statement h = refl
+loop_seeks (catch_scope f) for_of_statement h = refl
+loop_seeks s k h = absurd cc
+
 -- below a handler no names but those that `var` declares are sought, if any
 handler_seeks : (s : Sought) (k : Kind) → is_handler k ≡ true → seeks_variables (sought_below s k) ≡ true
 handler_seeks none catch_clause h = refl
@@ -218,6 +249,9 @@ none_below s (function function_kind.Arrow pure) a p o f h = ap (λ z. declared 
 none_below s (class class_kind.Declaration) a p o f h = absurd cc
 none_below s (class class_kind.Expression) a p o f h = ap (λ z. declared z p a) (class_seeks s) ∙ none_declared p a
 none_below s block_statement a p o f h = inside_declared false (sought_below s block_statement) p a (block_seeks s o) h
+none_below s for_statement a p o f h = inside_declared false (sought_below s for_statement) p a (loop_seeks s for_statement refl) h
+none_below s for_in_statement a p o f h = inside_declared false (sought_below s for_in_statement) p a (loop_seeks s for_in_statement refl) h
+none_below s for_of_statement a p o f h = inside_declared false (sought_below s for_of_statement) p a (loop_seeks s for_of_statement refl) h
 none_below s k a p o f h = f (sought_below s k) p (handler_seeks s k) (outside_below s k a) h
 
 parameter_declared : (s : Sought) (p : ℕ) (k : Kind) (a : Forest) → seeks_variables s ≡ true → lets_only_at k (lets_only a) ≡ true → declared_here s p k ++ declared (sought_below s k) (p + one_each k) a ≡ []

@@ -70,6 +70,9 @@ nodes_have false (Kind.VariableDeclaration variable.Const) lets inside b xs a h 
 nodes_have false (Kind.Function f pure) lets inside b xs a h lettered within to = refl
 nodes_have false (Kind.Class c) lets inside b xs a h lettered within to = refl
 nodes_have false Kind.BlockStatement lets inside b xs a h lettered within to = within h
+nodes_have false Kind.ForStatement lets inside b xs a h lettered within to = within h
+nodes_have false Kind.ForInStatement lets inside b xs a h lettered within to = within h
+nodes_have false Kind.ForOfStatement lets inside b xs a h lettered within to = within h
 nodes_have false k lets inside b xs a h lettered within to = to h
 
 has_none : (p : Bool) (t : Forest) → none_from p t ≡ true → var_names t ≡ []
