@@ -3,7 +3,7 @@ use Rattle.std.proofs.Common.{◌≡◌, ◌∙◌, ◌<◌, ◌≤◌, ◌+◌,
 use Rattle.std.specs.Prelude.{filter}
 use Rattle.std.proofs.lemmas.List.{take_all, drop-set-lt}
 use Rattle.js_syntax.specs.declared.node_kind.NodeKind.{NodeKind as Kind}
-use Rattle.js_syntax.specs.declared.node_kind.NodeKind.TheVariants.{Statements as statements, BlockStatement as block_statement, IfStatement as if_statement, LabeledStatement as labeled_statement, WhileStatement as while_statement, DoWhileStatement as do_while_statement, ForStatement as for_statement, SwitchStatement as switch_statement, Cases as cases, SwitchCase as switch_case, TryStatement as try_statement, CatchClause as catch_clause}
+use Rattle.js_syntax.specs.declared.node_kind.NodeKind.TheVariants.{Statements as statements, BlockStatement as block_statement, IfStatement as if_statement, LabeledStatement as labeled_statement, WhileStatement as while_statement, DoWhileStatement as do_while_statement, ForStatement as for_statement, ForInStatement as for_in_statement, ForOfStatement as for_of_statement, WithStatement as with_statement, SwitchStatement as switch_statement, Cases as cases, SwitchCase as switch_case, TryStatement as try_statement, CatchClause as catch_clause}
 use Rattle.js_syntax.specs.Node.{Forest, Tree, Note, nothing, node, absent, alone, forest_of, row}
 use Rattle.js_tree.specs.Weight.{size_of}
 use Rattle.js_tree.proofs.Rows.{front_of}
@@ -83,6 +83,9 @@ evals_inside (labeled_statement label) n b c e = Prim.omega arith
 evals_inside while_statement n b c e = Prim.omega arith
 evals_inside do_while_statement n b c e = Prim.omega arith
 evals_inside for_statement n b c e = Prim.omega arith
+evals_inside for_in_statement n b c e = Prim.omega arith
+evals_inside for_of_statement n b c e = Prim.omega arith
+evals_inside with_statement n b c e = Prim.omega arith
 evals_inside switch_statement n b c e = Prim.omega arith
 evals_inside cases n b c e = Prim.omega arith
 evals_inside switch_case n b c e = Prim.omega arith

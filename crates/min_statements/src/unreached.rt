@@ -47,8 +47,12 @@ pub(crate) fn only_runs(kind: &NodeKind) -> bool
         | NodeKind::WhileStatement
         | NodeKind::DoWhileStatement
         | NodeKind::ForStatement
+        | NodeKind::ForInStatement
+        | NodeKind::ForOfStatement
         | NodeKind::SwitchStatement
-        | NodeKind::TryStatement => true,
+        | NodeKind::TryStatement
+        | NodeKind::WithStatement
+        | NodeKind::DebuggerStatement => true,
         _ => false,
     }
 }

@@ -36,6 +36,9 @@ fn runs_inside(kind: &NodeKind) -> bool
         | NodeKind::WhileStatement
         | NodeKind::DoWhileStatement
         | NodeKind::ForStatement
+        | NodeKind::ForInStatement
+        | NodeKind::ForOfStatement
+        | NodeKind::WithStatement
         | NodeKind::SwitchStatement
         | NodeKind::Cases
         | NodeKind::SwitchCase

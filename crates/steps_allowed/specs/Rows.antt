@@ -38,6 +38,9 @@ before items = in_list (first (row items))
 abbrev pub throws : Forest → Forest
 throws e = over Kind.ThrowStatement e
 
+abbrev pub debugger : Forest
+debugger = leaf Kind.DebuggerStatement
+
 -- behind a `throw`
 abbrev pub behind_throw : Around
 behind_throw = in_list (behind Kind.ThrowStatement nowhere one (first nothing))

@@ -1,7 +1,7 @@
 -- A statement behind a jump in its list leaves it, where it declares no name around it: it never runs (ECMA-262 14.2.2).
 use Rattle.std.specs.Prelude.{◌≡◌, Bool, true, false, ◌||◌}
 use Rattle.js_syntax.specs.declared.node_kind.NodeKind.{NodeKind as Kind}
-use Rattle.js_syntax.specs.declared.node_kind.NodeKind.TheVariants.{ExpressionStatement as expression_statement, BlockStatement as block_statement, LabeledStatement as labeled_statement, IfStatement as if_statement, BreakStatement as break_statement, ContinueStatement as continue_statement, ReturnStatement as return_statement, ThrowStatement as throw_statement, WhileStatement as while_statement, DoWhileStatement as do_while_statement, ForStatement as for_statement, SwitchStatement as switch_statement, TryStatement as try_statement}
+use Rattle.js_syntax.specs.declared.node_kind.NodeKind.TheVariants.{ExpressionStatement as expression_statement, BlockStatement as block_statement, LabeledStatement as labeled_statement, IfStatement as if_statement, BreakStatement as break_statement, ContinueStatement as continue_statement, ReturnStatement as return_statement, ThrowStatement as throw_statement, WhileStatement as while_statement, DoWhileStatement as do_while_statement, ForStatement as for_statement, ForInStatement as for_in_statement, ForOfStatement as for_of_statement, WithStatement as with_statement, DebuggerStatement as debugger_statement, SwitchStatement as switch_statement, TryStatement as try_statement}
 use Rattle.js_syntax.specs.Node.{Tree, forest_of}
 use Rattle.js_meaning_near.specs.Near.{is_jump}
 use Rattle.scope_laws.specs.Place.{Around, first, behind, behind_none, under}
@@ -28,6 +28,10 @@ only_runs throw_statement = true
 only_runs while_statement = true
 only_runs do_while_statement = true
 only_runs for_statement = true
+only_runs for_in_statement = true
+only_runs for_of_statement = true
+only_runs with_statement = true
+only_runs debugger_statement = true
 only_runs switch_statement = true
 only_runs try_statement = true
 only_runs k = false

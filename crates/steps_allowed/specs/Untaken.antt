@@ -1,7 +1,7 @@
 -- A statement in a branch of an `if` that isn't taken leaves its list, where it declares no name around it: it never runs (ECMA-262 14.6.2).
 use Rattle.std.specs.Prelude.{◌≡◌, Bool, true, false, not, ◌&&◌, ◌||◌, Option, Some, None}
 use Rattle.js_syntax.specs.declared.node_kind.NodeKind.{NodeKind as Kind}
-use Rattle.js_syntax.specs.declared.node_kind.NodeKind.TheVariants.{Statements as statements, BlockStatement as block_statement, IfStatement as if_statement, LabeledStatement as labeled_statement, WhileStatement as while_statement, DoWhileStatement as do_while_statement, ForStatement as for_statement, SwitchStatement as switch_statement, Cases as cases, SwitchCase as switch_case, TryStatement as try_statement, CatchClause as catch_clause}
+use Rattle.js_syntax.specs.declared.node_kind.NodeKind.TheVariants.{Statements as statements, BlockStatement as block_statement, IfStatement as if_statement, LabeledStatement as labeled_statement, WhileStatement as while_statement, DoWhileStatement as do_while_statement, ForStatement as for_statement, ForInStatement as for_in_statement, ForOfStatement as for_of_statement, WithStatement as with_statement, SwitchStatement as switch_statement, Cases as cases, SwitchCase as switch_case, TryStatement as try_statement, CatchClause as catch_clause}
 use Rattle.js_syntax.specs.Node.{Tree, forest_of}
 use Rattle.scope_laws.specs.Place.{Around, first, behind, behind_none, under}
 use Rattle.steps_allowed.specs.Branches.{declares_none}
@@ -40,6 +40,9 @@ runs_inside (labeled_statement label) = true
 runs_inside while_statement = true
 runs_inside do_while_statement = true
 runs_inside for_statement = true
+runs_inside for_in_statement = true
+runs_inside for_of_statement = true
+runs_inside with_statement = true
 runs_inside switch_statement = true
 runs_inside cases = true
 runs_inside switch_case = true

@@ -57,8 +57,12 @@ of_kind (Kind.ContinueStatement l) h = record { weighs = Prim.omega arith; no_di
 of_kind Kind.ReturnStatement h = record { weighs = Prim.omega arith; no_directive = refl; calm = refl; states = refl; leads = λ p i. refl }
 of_kind Kind.ThrowStatement h = record { weighs = Prim.omega arith; no_directive = refl; calm = refl; states = refl; leads = λ p i. refl }
 of_kind Kind.WhileStatement h = record { weighs = Prim.omega arith; no_directive = refl; calm = refl; states = refl; leads = λ p i. refl }
+of_kind Kind.WithStatement h = record { weighs = Prim.omega arith; no_directive = refl; calm = refl; states = refl; leads = λ p i. refl }
+of_kind Kind.DebuggerStatement h = record { weighs = Prim.omega arith; no_directive = refl; calm = refl; states = refl; leads = λ p i. refl }
 of_kind Kind.DoWhileStatement h = record { weighs = Prim.omega arith; no_directive = refl; calm = refl; states = refl; leads = λ p i. refl }
 of_kind Kind.ForStatement h = record { weighs = Prim.omega arith; no_directive = refl; calm = refl; states = refl; leads = λ p i. neither_leads (i == 0) declared others refl refl }
+of_kind Kind.ForInStatement h = record { weighs = Prim.omega arith; no_directive = refl; calm = refl; states = refl; leads = λ p i. refl }
+of_kind Kind.ForOfStatement h = record { weighs = Prim.omega arith; no_directive = refl; calm = refl; states = refl; leads = λ p i. refl }
 of_kind Kind.SwitchStatement h = record { weighs = Prim.omega arith; no_directive = refl; calm = refl; states = refl; leads = λ p i. neither_leads (i == 1) cases others refl refl }
 of_kind Kind.TryStatement h = record { weighs = Prim.omega arith; no_directive = refl; calm = refl; states = refl; leads = λ p i. refl }
 of_kind k h = no_kind h
