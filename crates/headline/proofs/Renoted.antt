@@ -11,7 +11,7 @@ use Rattle.js_syntax.specs.declared.operator.UnaryOperator.TheVariants as unary
 use Rattle.js_syntax.specs.Node.{Forest, Tree, Note, nothing, node, absent, nowhere, bare, forest_of}
 use Rattle.js_effects.specs.Silence.{is_one_name, runs_its_parts}
 use Rattle.js_effects.proofs.Bare.{runs_bare, one_name_bare}
-use Rattle.js_meaning_near.specs.Near.{is_jump}
+use Rattle.js_meaning_near.specs.Near.{cuts_off}
 use Rattle.min_pass.specs.declared.around.Around.{Around as Asked}
 use Rattle.min_pass.specs.Around.{is_with, entered as asked_below, outermost as asked_of_program}
 use Rattle.min_pass.specs.Pass.{is_given}
@@ -52,6 +52,7 @@ use Rattle.steps_allowed.specs.DeadIf.{DeadIf}
 use Rattle.steps_allowed.specs.EmptyBlock.{holds_nothing, EmptyBlock, empty_block_leaves}
 use Rattle.steps_allowed.specs.Unreached.{is_behind_jump, Unreached, never_runs}
 use Rattle.steps_allowed.specs.Untaken.{untaken_where, is_known, leads_to_untaken, begins_untaken, runs_inside, is_untaken, Untaken, never_taken}
+use Rattle.steps_owed.proofs.Changing.{cuts_bare}
 use Rattle.steps_owed.proofs.ExposedBare.{bare_inside, bare_below, bare_exposed}
 use Rattle.steps_owed.proofs.Focus.{follows_there}
 use Rattle.headline.specs.Clean.{IsDead, an_empty_statement, an_empty_block, a_silent_statement, an_unused_function, an_unused_declarator, an_unused_import, a_known_conditional, a_known_side, an_unused_operation, an_unused_list, an_indirect_choice, a_one_sided_choice, idle_parts, two_sides, an_unused_object, a_known_operation, a_known_if, a_dead_if, an_unreached_statement, an_untaken_statement, CleanBut}
@@ -347,7 +348,7 @@ twin (behind j i d a) k n b (node l m c r) e =
       asked = o.asked;
       used = λ us at. o.used us (suc at);
       unused = λ us at. o.unused us (suc at);
-      jumped = λ q. o.jumped (q || is_jump j);
+      jumped = λ q. o.jumped (q || cuts_off j c) ∙ ap (λ b. is_behind_jump (q || b) a) (unseen (cuts_off j) (cuts_bare j) c d (same_below e));
       untaken = o.untaken;
       further = refl;
       untaken_there = where_behind j m c o.around ∙ ap (λ b. if b then Some true else None) o.further ∙ sym (where_behind j i d a);

@@ -17,7 +17,7 @@ use Rattle.js_meaning.specs.Kept.{Refined}
 use Rattle.js_meaning_near.specs.Quiet.{gives_quietly, Quiet}
 use Rattle.js_meaning.specs.Node as asks
 use Rattle.js_meaning_near.specs.Names.{Decls, known, exactly, Names, no_names, with_name, no_decls, in_both_known, Fillable, AllPlain, PlainBut}
-use Rattle.js_meaning_near.specs.Near.{is_jump, Silent, hoists_nothing, first_stays, idle_empty, idle_function, idle_declarator, idle_declaration, all_idle, one_idle, statement_emptied, value_read, fields, items, Near, near_node, near_known, changed, leaves, near_nothing, near_absent, near_module, module_of}
+use Rattle.js_meaning_near.specs.Near.{cuts_off, Silent, hoists_nothing, first_stays, idle_empty, idle_function, idle_declarator, idle_declaration, all_idle, one_idle, statement_emptied, value_read, fields, items, Near, near_node, near_known, changed, leaves, near_nothing, near_absent, near_module, module_of}
 use Rattle.js_meaning_near.specs.Fit.{names_after, whole}
 use Rattle.js_meaning_near.specs.Once.{Once, at_place, in_rest, in_node, in_declaration, same_node_first}
 use Rattle.js_meaning_near.specs.Avoid.{declares, Dropping, dropped_here, dropped_later, HasCells, ExportsAvoid, InPlace, Avoids}
@@ -126,7 +126,7 @@ local_change n m a b s y e t r = near_refines n m n m (near_module (subst (λ ds
 
 -- a statement behind a jump leaves its list
 
-pub behind_jump_leaves : (n : Note) (k : Kind) (a b c : Forest) → is_jump k ≡ true → DeclaresNothing Kind.IfStatement b → InPlace whole items (node k n a c) → Refined (module_of n n (node k n a (node Kind.IfStatement n b c))) (module_of n n (node k n a c))
+pub behind_jump_leaves : (n : Note) (k : Kind) (a b c : Forest) → cuts_off k a ≡ true → DeclaresNothing Kind.IfStatement b → InPlace whole items (node k n a c) → Refined (module_of n n (node k n a (node Kind.IfStatement n b c))) (module_of n n (node k n a c))
 behind_jump_leaves n k a b c j d y = local_change n n _ _ (local.behind_jump j (local.node_cut refl d)) y refl refl refl
 
 -- a branch comes out bare

@@ -1,16 +1,18 @@
 -- What stands behind a jump never runs, so it may be anything that starts the same where its scope is entered.
-use Rattle.std.proofs.Common.{◌≡◌, List, [], ◌∷◌, ◌++◌, Option, Some, None, refl, sym, subst}
-use Rattle.std.specs.Prelude.{true}
+use Rattle.std.proofs.Common.{◌≡◌, ◌⊎◌, inl, inr, List, [], ◌∷◌, ◌++◌, Bool, true, false, ◌||◌, Option, Some, None, refl, sym, subst}
+use Rattle.std.proofs.lemmas.Bool.{or_cases}
 use Rattle.js_syntax.specs.declared.node_kind.NodeKind.{NodeKind as Kind}
-use Rattle.js_syntax.specs.Node.{Note, Forest, node}
-use Rattle.js_meaning.specs.Value.{Text, Env, Value}
+use Rattle.js_syntax.specs.declared.kind.FunctionKind.TheVariants as function_kind
+use Rattle.js_syntax.specs.Node.{Note, Forest, nothing, node, absent}
+use Rattle.js_meaning.specs.Value.{Text, Env, Value, Slot, local}
+use Rattle.js_meaning.specs.Scope.{Decl, decl, waiting, ready, linked, left_out, declare, fill, first_name, name_or_default, start_function, start_item, start, lexical, look}
 use Rattle.js_meaning.specs.Trace.{Event}
-use Rattle.js_meaning.specs.State.{State, Completion, normal, gives, gives_all, refers, breaks, continues, returns, throws, Out, goes, stops, M, go_on, bind, done, stop, if_normal, seq, if_gives}
+use Rattle.js_meaning.specs.State.{State, Completion, normal, gives, gives_all, refers, breaks, continues, returns, throws, Out, goes, stops, M, more, go_on, bind, done, stop, alloc, read, store, identity, if_normal, seq, if_gives}
 use Rattle.js_meaning.specs.Host.{Enter}
 use Rattle.js_meaning.specs.Node.{Ask, now, run, Parts, need, may, each}
 use Rattle.js_meaning.specs.Meaning.{does, eval}
 use Rattle.js_meaning_near.specs.Names.{Names}
-use Rattle.js_meaning_near.specs.Near.{meaning, is_jump}
+use Rattle.js_meaning_near.specs.Near.{meaning, is_jump, is_list, row_cuts, cuts_off}
 use Rattle.js_meaning_near.proofs.Relations.{Follows}
 use Rattle.js_meaning_near.proofs.Rows.{Lists}
 use Rattle.js_meaning_near.proofs.Nodes.{true_false}
@@ -89,13 +91,118 @@ jump_jumps E (Kind.BreakStatement l) a q env j = break_jumps E l a (eval E a) q 
 jump_jumps E (Kind.ContinueStatement l) a q env j = continue_jumps E l a (eval E a) q env
 jump_jumps E k a q env j = absurd (true_false (sym j))
 
+-- ---- what is never left at its end
+
+later_abrupt : (es : List Event) (o : Out) → Abrupt o → Abrupt (more es o)
+later_abrupt es (goes fs z normal) a = absurd a
+later_abrupt es (goes fs z (gives v r)) a = tt
+later_abrupt es (goes fs z (gives_all vs)) a = tt
+later_abrupt es (goes fs z (refers p)) a = tt
+later_abrupt es (goes fs z (breaks l)) a = tt
+later_abrupt es (goes fs z (continues l)) a = tt
+later_abrupt es (goes fs z (returns v)) a = tt
+later_abrupt es (goes fs z (throws v)) a = tt
+later_abrupt es (stops fs e) a = tt
+
+-- by the first of two, or by the second
+first_or_second : (m : M) (o : Out) → Abrupt o ⊎ Jumps m → Abrupt (go_on o (if_normal m))
+unfolding done stop
+first_or_second m (goes es z normal) (inl a) = absurd a
+first_or_second m (goes es z normal) (inr h) = later_abrupt es (m z) (h z)
+first_or_second m (goes es z (gives v r)) a = tt
+first_or_second m (goes es z (gives_all vs)) a = tt
+first_or_second m (goes es z (refers p)) a = tt
+first_or_second m (goes es z (breaks l)) a = tt
+first_or_second m (goes es z (continues l)) a = tt
+first_or_second m (goes es z (returns v)) a = tt
+first_or_second m (goes es z (throws v)) a = tt
+first_or_second m (stops es e) a = tt
+
+seq_jumps : (j m : M) → Jumps j ⊎ Jumps m → Jumps (seq j m)
+unfolding bind
+seq_jumps j m (inl h) s = first_or_second m (j s) (inl (h s))
+seq_jumps j m (inr h) s = first_or_second m (j s) (inr h)
+
+-- ---- where a scope is entered
+
+declare_jumps : (ds : List Decl) (env : Env) (k : Env → M) → ((env : Env) → Jumps (k env)) → Jumps (declare ds env k)
+unfolding declare alloc
+declare_jumps [] env k h s = h env s
+declare_jumps (decl x (waiting constant) ∷ ds) env k h s = declare_jumps ds _ k h _
+declare_jumps (decl x ready ∷ ds) env k h s = declare_jumps ds _ k h _
+declare_jumps (decl x (linked source name) ∷ ds) env k h s = declare_jumps ds _ k h s
+declare_jumps (decl x left_out ∷ ds) env k h s = declare_jumps ds _ k h s
+
+fill_jumps : (o : Option Slot) (v : Value) (m : M) → Jumps m → Jumps (fill o v m)
+unfolding read store stop
+fill_jumps (Some (local c)) v m h s = h _
+fill_jumps (Some other) v m h s = tt
+fill_jumps None v m h s = tt
+
+function_jumps : (x : Option Text) (a : Forest) (env : Env) (m : M) → Jumps m → Jumps (start_function x a env m)
+unfolding identity
+function_jumps None a env m h s = h s
+function_jumps (Some x) a env m h s = fill_jumps (look env x) _ m h _
+
+item_jumps : (k : Kind) (a : Forest) (inner : M → M) (env : Env) (m : M) → ((m : M) → Jumps m → Jumps (inner m)) → Jumps m → Jumps (start_item k a inner env m)
+item_jumps (Kind.Function function_kind.Declaration pure) a inner env m g h = function_jumps (first_name a) a env m h
+item_jumps (Kind.ExportNamedDeclaration None) a inner env m g h = g m h
+item_jumps Kind.ExportDefaultDeclaration (node (Kind.Function function_kind.Declaration pure) n b r) inner env m g h = function_jumps (Some (name_or_default (first_name b))) b env m h
+item_jumps Kind.ExportDefaultDeclaration a inner env m g h = g m h
+item_jumps Kind.FunctionBody a inner env m g h = g m h
+item_jumps Kind.Statements a inner env m g h = g m h
+item_jumps Kind.Cases a inner env m g h = g m h
+item_jumps Kind.SwitchCase a inner env m g h = g m h
+item_jumps k a inner env m g h = h
+
+start_jumps : (a : Forest) (env : Env) (m : M) → Jumps m → Jumps (start a env m)
+unfolding start
+start_jumps nothing env m h = h
+start_jumps (absent r) env m h = start_jumps r env m h
+start_jumps (node k n a r) env m h = item_jumps k a (start a env) env (start r env m) (λ l g. start_jumps a env l g) (start_jumps r env m h)
+
+-- ---- a block, and a list
+
+-- what a row does whose nodes run in turn, or whose first node alone does
+abbrev row_does : (listed : Bool) → Parts → List Text → Env → M
+row_does true ms ls env = each (run ls) ms env
+row_does false ms ls env = need ms (λ m r. m (run ls) env)
+
+node_jumps : (E : Enter) (k : Kind) (a : Forest) (q : Ask) (env : Env) → (row_cuts (is_list k) a ≡ true → (ls : List Text) (env : Env) → Jumps (row_does (is_list k) (eval E a) ls env)) → cuts_off k a ≡ true → Jumps (meaning E k a q env)
+unfolding stop
+node_jumps E Kind.BlockStatement a (run ls) env inside h = declare_jumps (lexical a) env _ (λ env. start_jumps a env _ (inside h ls env))
+node_jumps E Kind.BlockStatement a q env inside h = λ s. tt
+node_jumps E Kind.Statements a (run ls) env inside h = inside h ls env
+node_jumps E Kind.Statements a q env inside h = λ s. tt
+node_jumps E k a q env inside h = jump_jumps E k a q env h
+
+row_jumps : (E : Enter) (listed : Bool) (a : Forest) → row_cuts listed a ≡ true → (ls : List Text) (env : Env) → Jumps (row_does listed (eval E a) ls env)
+unfolding eval each need stop
+row_jumps E listed nothing h ls env = absurd (true_false (sym h))
+row_jumps E true (absent r) h ls env = λ s. tt
+row_jumps E false (absent r) h ls env = λ s. tt
+row_jumps E true (node k n a r) h ls env =
+    seq_jumps (meaning E k a (run ls) env) (each (run ls) (eval E r) env)
+    (elim (or_cases (cuts_off k a) (row_cuts true r) h) [
+      | inl here ↦ inl (node_jumps E k a (run ls) env (λ g. row_jumps E (is_list k) a g) here)
+      | inr later ↦ inr (row_jumps E true r later ls env)
+    ])
+row_jumps E false (node k n a r) h ls env = node_jumps E k a (run ls) env (λ g. row_jumps E (is_list k) a g) (only (cuts_off k a) h)
+  where
+    only : (b : Bool) → b || false ≡ true → b ≡ true
+    only true h = refl
+    only false h = h
+
+cuts_jump : (E : Enter) (k : Kind) (a : Forest) (q : Ask) (env : Env) → cuts_off k a ≡ true → Jumps (meaning E k a q env)
+cuts_jump E k a q env h = node_jumps E k a q env (λ g. row_jumps E (is_list k) a g) h
+
 -- ---- rows
 
-pub list_behind : {st : Names} {ks : Parts} (E : Enter) (k : Kind) (n : Note) (a c e : Forest) → is_jump k ≡ true → Lists st (eval E (node k n a e)) ks → Lists st (eval E (node k n a c)) ks
+pub list_behind : {st : Names} {ks : Parts} (E : Enter) (k : Kind) (n : Note) (a c e : Forest) → cuts_off k a ≡ true → Lists st (eval E (node k n a e)) ks → Lists st (eval E (node k n a c)) ks
 unfolding eval each
 list_behind {ks = ks} E k n a c e j l = record {
   listed = λ {w} {e = env} {f} {q} {z} r s. record {
     act = λ w2 h s1 s2 states.
-        subst (λ o. Follows w2 o (each z ks f s2)) (seq_skips (meaning E k a q env) (each q (eval E e) env) (each q (eval E c) env) (jump_jumps E k a q env j) s1) ((l.listed r s).act w2 h s1 s2 states);
+        subst (λ o. Follows w2 o (each z ks f s2)) (seq_skips (meaning E k a q env) (each q (eval E e) env) (each q (eval E c) env) (cuts_jump E k a q env j) s1) ((l.listed r s).act w2 h s1 s2 states);
   };
 }

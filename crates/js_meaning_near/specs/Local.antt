@@ -8,7 +8,7 @@ use Rattle.js_meaning.specs.Scope.{first_of, behind, bound_names, vars_of, var_n
 use Rattle.js_meaning.specs.Module.{specifier_of}
 use Rattle.js_meaning_near.specs.Names.{Names}
 use Rattle.js_meaning_near.specs.Purpose.{Purpose, ForEffect, Purposes, purpose_here, purposes_behind, wanted_below}
-use Rattle.js_meaning_near.specs.Near.{Row, fields, items, row_below, is_row, hoists_nothing, is_jump, DoesNothing, ComesTo, LessWaste, OneSided, Shorter, keys}
+use Rattle.js_meaning_near.specs.Near.{Row, fields, items, row_below, is_row, hoists_nothing, cuts_off, DoesNothing, ComesTo, LessWaste, OneSided, Shorter, keys}
 use Rattle.js_meaning_near.specs.Fit.{whole, Fits}
 use Rattle.js_meaning_near.specs.Once.{NodeStays}
 
@@ -53,7 +53,7 @@ pub data Cut : Forest → Forest → Type 0 where
 -- By what the expressions of the rows are evaluated for, and how their nodes stand.
 pub data Local : Purposes → Row → Forest → Forest → Type 0 where
   at_place : {us : Purposes} {p : Row} {k l : Kind} {n m : Note} {a b r : Forest} → Stands (purpose_here us (is_row r)) k a l b → Plainly k a l b → Local us p (node k n a r) (node l m b r)
-  behind_jump : {us : Purposes} {k : Kind} {n : Note} {a r s : Forest} → is_jump k ≡ true → Cut r s → Local us items (node k n a r) (node k n a s)
+  behind_jump : {us : Purposes} {k : Kind} {n : Note} {a r s : Forest} → cuts_off k a ≡ true → Cut r s → Local us items (node k n a r) (node k n a s)
   -- an item that does nothing and declares nothing leaves its list
   leaves_list : {us : Purposes} {k : Kind} {n : Note} {a r : Forest} → DoesNothing k a → DeclaresNothing k a → Local us items (node k n a r) r
   in_below : {us : Purposes} {p : Row} {k : Kind} {n : Note} {a b r : Forest} → ReadsSame k a b → Local (wanted_below (purpose_here us (is_row r)) k) (row_below k) a b → Local us p (node k n a r) (node k n b r)

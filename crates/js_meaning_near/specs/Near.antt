@@ -1,5 +1,5 @@
 -- Which rows of nodes are near one another: the new one is the old one, but for changes that no run shows.
-use Rattle.std.specs.Prelude.{Bool, true, false, ℕ, suc, pos, negsuc, nat_le, List, [], ◌∷◌, Option, Some, None, ◌≡◌}
+use Rattle.std.specs.Prelude.{Bool, true, false, ℕ, suc, pos, negsuc, nat_le, List, [], ◌∷◌, Option, Some, None, ◌≡◌, ◌&&◌, ◌||◌}
 use Rattle.js_syntax.specs.declared.node_kind.NodeKind.{NodeKind as Kind}
 use Rattle.js_syntax.specs.declared.kind.FunctionKind.{FunctionKind}
 use Rattle.js_syntax.specs.declared.kind.FunctionKind.TheVariants as function_kind
@@ -169,6 +169,26 @@ is_jump Kind.ReturnStatement = true
 is_jump Kind.ThrowStatement = true
 is_jump k = false
 
+abbrev pub is_list : Kind → Bool
+is_list Kind.Statements = true
+is_list k = false
+
+-- a block cuts off as its list does
+abbrev pub cuts_so : Kind → (inside : Bool) → Bool
+cuts_so Kind.BlockStatement inside = inside
+cuts_so Kind.Statements inside = inside
+cuts_so k inside = is_jump k
+
+-- whether a row is never left at its end: a list for any of its items, and another row for the first of its nodes
+abbrev pub row_cuts : (listed : Bool) → Forest → Bool
+row_cuts listed nothing = false
+row_cuts listed (absent r) = listed && row_cuts listed r
+row_cuts listed (node k n a r) = cuts_so k (row_cuts (is_list k) a) || (listed && row_cuts listed r)
+
+-- A jump, or a block in whose list one stands, however far in: nothing of its own list behind it runs (14.2.2).
+abbrev pub cuts_off : Kind → Forest → Bool
+cuts_off k a = cuts_so k (row_cuts (is_list k) a)
+
 -- what stands behind one, and the same without a node that starts nothing where its scope is entered
 pub data Unreached : Forest → Forest → Type 0 where
   goes_here : {k : Kind} {n : Note} {a r : Forest} → hoists_nothing k ≡ true → Unreached (node k n a r) r
@@ -274,7 +294,7 @@ mutual
     -- an item that the new list doesn't have
     leaves : {us : Purposes} {st : Names} {k : Kind} {n : Note} {a c d : Forest} → Idle st k a → Near us items st c d → Near us items st (node k n a c) d
     -- an item behind a jump, which never runs
-    behind_jump : {us : Purposes} {st : Names} {k : Kind} {n : Note} {a c d e : Forest} → is_jump k ≡ true → Unreached c e → Near us items st (node k n a e) d → Near us items st (node k n a c) d
+    behind_jump : {us : Purposes} {st : Names} {k : Kind} {n : Note} {a c d e : Forest} → cuts_off k a ≡ true → Unreached c e → Near us items st (node k n a e) d → Near us items st (node k n a c) d
 
   -- what lies below a function, by the names around it
   pub data Code : Names → FunctionKind → Forest → Forest → Type 0 where

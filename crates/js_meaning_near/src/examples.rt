@@ -15,7 +15,7 @@ ghost use Rattle.js_meaning.specs.Node.{itself, to_call};
 ghost use Rattle.js_meaning.specs.Operator.{truthy};
 ghost use Rattle.js_meaning_near.specs.Bare.{stands_bare};
 ghost use Rattle.js_meaning_near.specs.Local.{Plainly, DeclaresNothing};
-ghost use Rattle.js_meaning_near.specs.Near.{hoists_nothing, is_jump, fields, items, module_of};
+ghost use Rattle.js_meaning_near.specs.Near.{cuts_off, hoists_nothing, fields, items, module_of};
 ghost use Rattle.js_meaning_near.specs.Fit.{whole};
 ghost use Rattle.js_meaning_near.specs.Avoid.{declares, HasCells, ExportsAvoid, InPlace, Avoids};
 ghost use Rattle.js_meaning_near.specs.Examples.{block_of, behind_name, function_of, declaration_of, expression_statement, literal_statement, empty_statement, if_of, choice_of, array_of, two_of, both_of};
@@ -61,7 +61,7 @@ pub fn an_unused_variable_leaves()
 
 /// A statement behind a jump leaves its list.
 pub fn what_stands_behind_a_jump_leaves()
-    ensures { (n : Note) (k : Kind) (a b c : Forest) → is_jump k ≡ true → DeclaresNothing Kind.IfStatement b → InPlace whole items (node k n a c) →
+    ensures { (n : Note) (k : Kind) (a b c : Forest) → cuts_off k a ≡ true → DeclaresNothing Kind.IfStatement b → InPlace whole items (node k n a c) →
         Refined (module_of n n (node k n a (node Kind.IfStatement n b c))) (module_of n n (node k n a c)) }
 {}
 

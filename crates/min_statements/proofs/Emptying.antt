@@ -4,7 +4,7 @@ use Rattle.std.proofs.lemmas.List.{take_all}
 use Rattle.js_syntax.specs.declared.node_kind.NodeKind.{NodeKind as Kind}
 use Rattle.js_syntax.specs.declared.node_kind.NodeKind.TheVariants.{EmptyStatement as empty_statement}
 use Rattle.js_syntax.specs.Node.{Forest, Tree, nothing, node, absent, forest_of, row}
-use Rattle.js_meaning_near.specs.Near.{is_jump}
+use Rattle.js_meaning_near.specs.Near.{cuts_off}
 use Rattle.scope_counts.specs.Counts.{ids}
 use Rattle.min_context.specs.Edited.{evals, Leaves, DropsNode}
 use Rattle.min_context.specs.Seen.{Seen}
@@ -24,7 +24,7 @@ abbrev pub Until : (start : Seen) → Forest → Seen → (jumped : Bool) → Fo
 Until c all d jumped t = (e : Seen) → LeavesUnreached d jumped t e → LeavesUnreached c false all e
 
 one_gone : (m : Forest → ℕ) (jumped : Bool) (x : Tree) (t : Forest) → is_unreached jumped x.kind x.below ≡ true → unreached_shed m jumped (node x.kind x.note x.below t) ≡ m (forest_of x) + unreached_shed m jumped t
-one_gone m jumped x t g = ap (λ b. if b then m (forest_of x) + unreached_shed m jumped t else unreached_shed m (jumped || is_jump x.kind) t) g
+one_gone m jumped x t g = ap (λ b. if b then m (forest_of x) + unreached_shed m jumped t else unreached_shed m (jumped || cuts_off x.kind x.below) t) g
 
 others : (xs : List (Option Tree)) (y : Option Tree) → take (length (y ∷ xs) - 1) (drop 1 (y ∷ xs)) ≡ xs
 others xs y =
@@ -59,19 +59,19 @@ pub emptying_first : (jumped : Bool) (xs : List (Option Tree)) → emptying jump
 emptying_first jumped [] = refl
 emptying_first jumped (x ∷ xs) = refl
 
-jumped_is : (jumped so : Bool) (k : Kind) → jumped && so ≡ true → jumped || is_jump k ≡ jumped
-jumped_is true so k e = refl
-jumped_is false so k e = absurd (true≢false (sym e))
+jumped_is : (jumped so cuts : Bool) → jumped && so ≡ true → jumped || cuts ≡ jumped
+jumped_is true so cuts e = refl
+jumped_is false so cuts e = absurd (true≢false (sym e))
 
-one_if : (jumped g : Bool) (t : Tree) (xs : List (Option Tree)) → (g ≡ true → jumped || is_jump t.kind ≡ jumped)
-    → emptying (jumped || is_jump t.kind) (Some (if g then record { kind = empty_statement; note = new_note t.note; below = nothing } else t) ∷ xs) 1
-    ≡ (if g then node empty_statement (new_note t.note) nothing (emptied_behind jumped (row xs)) else node t.kind t.note t.below (emptied_behind (jumped || is_jump t.kind) (row xs)))
-one_if jumped true t xs h = ap (node empty_statement (new_note t.note) nothing) (emptying_first (jumped || is_jump t.kind) xs ∙ ap (λ b. emptied_behind b (row xs)) (h refl))
-one_if jumped false t xs h = ap (node t.kind t.note t.below) (emptying_first (jumped || is_jump t.kind) xs)
+one_if : (jumped g : Bool) (t : Tree) (xs : List (Option Tree)) → (g ≡ true → jumped || cuts_off t.kind t.below ≡ jumped)
+    → emptying (jumped || cuts_off t.kind t.below) (Some (if g then record { kind = empty_statement; note = new_note t.note; below = nothing } else t) ∷ xs) 1
+    ≡ (if g then node empty_statement (new_note t.note) nothing (emptied_behind jumped (row xs)) else node t.kind t.note t.below (emptied_behind (jumped || cuts_off t.kind t.below) (row xs)))
+one_if jumped true t xs h = ap (node empty_statement (new_note t.note) nothing) (emptying_first (jumped || cuts_off t.kind t.below) xs ∙ ap (λ b. emptied_behind b (row xs)) (h refl))
+one_if jumped false t xs h = ap (node t.kind t.note t.below) (emptying_first (jumped || cuts_off t.kind t.below) xs)
 
 one_then : (jumped : Bool) (x : Option Tree) (xs : List (Option Tree)) → emptying (jumped_behind jumped x) (empty_if_unreached jumped x ∷ xs) 1 ≡ emptied_behind jumped (row (x ∷ xs))
 one_then jumped None xs = ap absent (emptying_first jumped xs)
-one_then jumped (Some t) xs = one_if jumped (is_unreached jumped t.kind t.below) t xs (jumped_is jumped _ t.kind)
+one_then jumped (Some t) xs = one_if jumped (is_unreached jumped t.kind t.below) t xs (jumped_is jumped _ (cuts_off t.kind t.below))
 
 emptying_then : (jumped : Bool) (xs : List (Option Tree)) (i : ℕ) (x : Option Tree) → i < length xs → x ≡ get_or xs i x → emptying (jumped_behind jumped x) (set xs i (empty_if_unreached jumped x)) (suc i) ≡ emptying jumped xs i
 emptying_then jumped [] i x l is = absurd (Prim.omega (arith, l))

@@ -4,7 +4,7 @@ use Rattle.js_syntax.specs.declared.node_kind.NodeKind.{NodeKind as Kind}
 use Rattle.js_syntax.specs.declared.node_kind.NodeKind.TheVariants.{Statements as statements, EmptyStatement as empty_statement}
 use Rattle.js_syntax.specs.Facts.{weight}
 use Rattle.js_syntax.specs.Node.{Forest, Note, nothing, node, absent, alone, total}
-use Rattle.js_meaning_near.specs.Near.{is_jump}
+use Rattle.js_meaning_near.specs.Near.{cuts_off}
 use Rattle.min_context.specs.Edited.{evals}
 use Rattle.min_context.specs.Place.{place_at}
 use Rattle.scope_counts.specs.Counts.{ids}
@@ -64,7 +64,7 @@ module _ (m : Forest → ℕ) (a : Adds m) (none : (n : Note) → m (alone empty
   emptied_splits jumped nothing = Prim.omega arith
   emptied_splits jumped (absent rest) = Prim.omega (arith, a.gap rest, a.gap (emptied_behind jumped rest), emptied_splits jumped rest)
   emptied_splits jumped (node k n b rest) =
-      splits_by (is_unreached jumped k b) k n b rest (emptied_behind jumped rest) (emptied_behind (jumped || is_jump k) rest) (unreached_shed m jumped rest) (unreached_shed m (jumped || is_jump k) rest) (emptied_splits jumped rest) (emptied_splits (jumped || is_jump k) rest)
+      splits_by (is_unreached jumped k b) k n b rest (emptied_behind jumped rest) (emptied_behind (jumped || cuts_off k b) rest) (unreached_shed m jumped rest) (unreached_shed m (jumped || cuts_off k b) rest) (emptied_splits jumped rest) (emptied_splits (jumped || cuts_off k b) rest)
 
   pub list_splits : (f : Facts) (w : Where) (t : Forest) → m t ≡ list_shed m f w t + m (shorter f w t)
   list_splits f w t = Prim.omega (arith, emptied_splits false t, splits m a f w (emptied_behind false t))

@@ -2,14 +2,14 @@
 use Rattle.std.specs.Prelude.{Bool, ◌||◌, Option, Some, None, if◌then◌else◌}
 use Rattle.js_syntax.specs.declared.node_kind.NodeKind.TheVariants.{EmptyStatement as empty_statement}
 use Rattle.js_syntax.specs.Node.{Tree, nothing}
-use Rattle.js_meaning_near.specs.Near.{is_jump}
+use Rattle.js_meaning_near.specs.Near.{cuts_off}
 use Rattle.rules_expressions.specs.Lists.{new_note}
 use Rattle.rules_expressions.specs.Jumps.{is_unreached}
 
 -- whether a jump stands before what comes next
 abbrev pub jumped_behind : (jumped : Bool) → Option Tree → Bool
 jumped_behind jumped None = jumped
-jumped_behind jumped (Some x) = jumped || is_jump x.kind
+jumped_behind jumped (Some x) = jumped || cuts_off x.kind x.below
 
 abbrev pub empty_if_unreached : (jumped : Bool) → Option Tree → Option Tree
 empty_if_unreached jumped None = None

@@ -4,7 +4,7 @@ use Rattle.js_syntax.specs.declared.node_kind.NodeKind.{NodeKind as Kind}
 use Rattle.js_syntax.specs.declared.node_kind.NodeKind.TheVariants.{VariableDeclaration as variable_declaration, Declarators as declarators}
 use Rattle.js_syntax.specs.declared.kind.VariableKind.{VariableKind}
 use Rattle.js_syntax.specs.Node.{Forest, Tree, nothing, node, absent, alone}
-use Rattle.js_meaning_near.specs.Near.{is_jump}
+use Rattle.js_meaning_near.specs.Near.{cuts_off}
 use Rattle.rules_dead_code.specs.Rules.{Facts, Where, declarator_goes, item_goes, item_left}
 use Rattle.rules_expressions.specs.Jumps.{is_unreached, emptied_behind}
 use Rattle.rules_imports.specs.Rules.{specifier_goes}
@@ -65,7 +65,7 @@ module _ (m : Forest → ℕ) where
   abbrev pub unreached_shed : (jumped : Bool) → Forest → ℕ
   unreached_shed jumped nothing = 0
   unreached_shed jumped (absent rest) = unreached_shed jumped rest
-  unreached_shed jumped (node k n below rest) = if is_unreached jumped k below then m (alone k n below) + unreached_shed jumped rest else unreached_shed (jumped || is_jump k) rest
+  unreached_shed jumped (node k n below rest) = if is_unreached jumped k below then m (alone k n below) + unreached_shed jumped rest else unreached_shed (jumped || cuts_off k below) rest
 
 -- all that leaves a list
 module _ (m : Forest → ℕ) (f : Facts) (w : Where) where

@@ -2,7 +2,7 @@
 ghost use Rattle.std.specs.Prelude.{◌≡◌, true, false};
 ghost use Rattle.js_syntax.specs.declared.node_kind.NodeKind.TheVariants.{EmptyStatement as empty_statement};
 ghost use Rattle.js_syntax.specs.Node.{nothing, row};
-ghost use Rattle.js_meaning_near.specs.Near.{is_jump};
+ghost use Rattle.js_meaning_near.specs.Near.{cuts_off, row_cuts};
 ghost use Rattle.scope_counts.specs.Counts.{ids};
 ghost use Rattle.min_context.specs.Edited.{evals, Leaves};
 ghost use Rattle.steps_allowed.specs.Unreached.{only_runs};
@@ -19,16 +19,40 @@ use std::alloc::Global;
 
 // ---- one statement
 
-fn is_jump(kind: &NodeKind) -> bool
-    ensures { result ≡ is_jump kind.now }
+// A jump, or a block in whose list one stands. The recursion goes as deep as the tree.
+#[cycle(cuts)]
+fn cuts_off(node: &Node) -> bool
+    ensures { result ≡ cuts_off node.now.kind node.now.below }
 {
-    match kind {
+    match node.kind() {
         NodeKind::BreakStatement(_)
         | NodeKind::ContinueStatement(_)
         | NodeKind::ReturnStatement
         | NodeKind::ThrowStatement => true,
+        NodeKind::BlockStatement => row_cuts(false, node.children()),
+        NodeKind::Statements => row_cuts(true, node.children()),
         _ => false,
     }
+}
+
+// Of a list any item is asked, and of another row the first node alone.
+#[cycle(cuts)]
+fn row_cuts(listed: bool, children: &[Option<Node>]) -> bool
+    ensures { result ≡ row_cuts listed (row children.now) }
+{
+    let mut rest = children;
+    while let [first, others @ ..] = rest {
+        if let Some(node) = first {
+            if cuts_off(node) {
+                return true;
+            }
+        }
+        if !listed {
+            return false;
+        }
+        rest = others;
+    }
+    false
 }
 
 // A statement that is no declaration.
@@ -77,7 +101,7 @@ pub(crate) fn has_unreached(children: &[Option<Node>]) -> bool
             if is_unreached(jumped, node) {
                 return true;
             }
-            jumped = jumped || is_jump(node.kind());
+            jumped = jumped || cuts_off(node);
         }
         rest = others;
     }
@@ -96,7 +120,7 @@ pub(crate) fn drop_unreached(items: &[Option<Node>], ctx: &mut MinifierTraverseC
             if is_unreached(jumped, node) {
                 ctx.drop_statement(node);
             } else {
-                jumped = jumped || is_jump(node.kind());
+                jumped = jumped || cuts_off(node);
             }
         }
         rest = others;
@@ -109,7 +133,7 @@ fn jumped_behind(jumped: bool, child: &Option<Node>) -> bool
     ensures { result ≡ jumped_behind jumped child.now }
 {
     match child {
-        Some(node) => jumped || is_jump(node.kind()),
+        Some(node) => jumped || cuts_off(node),
         None => jumped,
     }
 }

@@ -5,7 +5,7 @@ use Rattle.js_syntax.specs.declared.node_kind.NodeKind.TheVariants.{Statements a
 use Rattle.js_syntax.specs.Facts.{weight}
 use Rattle.js_syntax.specs.Node.{Forest, Tree, Note, nothing, node, absent, forest_of, total}
 use Rattle.js_syntax.proofs.Truth.{both, first_of_both, second_of_both, first_of_either, second_of_either}
-use Rattle.js_meaning_near.specs.Near.{is_jump}
+use Rattle.js_meaning_near.specs.Near.{cuts_off}
 use Rattle.min_context.specs.Place.{Place, place_at}
 use Rattle.min_pass.specs.declared.around.Around.{Around as Asked}
 use Rattle.min_pass.specs.declared.around.Row.{Row as AskedRow}
@@ -32,25 +32,25 @@ use Rattle.rules_expressions.specs.Jumps.{emptied_behind, is_unreached, reached,
 
 abbrev jumped_at : Bool → counts.Around → Bool
 jumped_at jumped here = jumped
-jumped_at jumped (behind k n b a) = jumped_at (jumped || is_jump k) a
+jumped_at jumped (behind k n b a) = jumped_at (jumped || cuts_off k b) a
 jumped_at jumped (behind_none a) = jumped_at jumped a
 jumped_at jumped (under k n a rest) = jumped_at false a
 
 jumped_to : (jumped : Bool) (a : counts.Around) (rest : Forest) → is_behind_jump jumped (to a (first rest)) ≡ jumped_at jumped a
 jumped_to jumped here rest = refl
-jumped_to jumped (behind k n b a) rest = jumped_to (jumped || is_jump k) a rest
+jumped_to jumped (behind k n b a) rest = jumped_to (jumped || cuts_off k b) a rest
 jumped_to jumped (behind_none a) rest = jumped_to jumped a rest
 jumped_to jumped (under k n a r) rest = jumped_to false a rest
 
-jumped_next : (jumped : Bool) (a : counts.Around) (k : Kind) (n : Note) (b : Forest) → jumped_at jumped (join a (behind k n b here)) ≡ jumped_at jumped a || is_jump k
+jumped_next : (jumped : Bool) (a : counts.Around) (k : Kind) (n : Note) (b : Forest) → jumped_at jumped (join a (behind k n b here)) ≡ jumped_at jumped a || cuts_off k b
 jumped_next jumped here k n b = refl
-jumped_next jumped (behind l m c a) k n b = jumped_next (jumped || is_jump l) a k n b
+jumped_next jumped (behind l m c a) k n b = jumped_next (jumped || cuts_off l c) a k n b
 jumped_next jumped (behind_none a) k n b = jumped_next jumped a k n b
 jumped_next jumped (under l m a r) k n b = jumped_next false a k n b
 
 jumped_none : (jumped : Bool) (a : counts.Around) → jumped_at jumped (join a (behind_none here)) ≡ jumped_at jumped a
 jumped_none jumped here = refl
-jumped_none jumped (behind l m c a) = jumped_none (jumped || is_jump l) a
+jumped_none jumped (behind l m c a) = jumped_none (jumped || cuts_off l c) a
 jumped_none jumped (behind_none a) = jumped_none jumped a
 jumped_none jumped (under l m a r) = jumped_none false a
 
@@ -69,8 +69,8 @@ unreached_goes p a jumped k n b rest items is goes =
     leaves_there a (Some (record { kind = k; note = n; below = b })) rest (leaves (to a (first rest)) (record { kind = k; note = n; below = b }) (unreached (unreached_there p a jumped k n b rest items is goes)))
 
 by_item : (a : counts.Around) (jumped : Bool) (k : Kind) (n : Note) (b rest : Forest) (goes : Bool) → (goes ≡ true → Edit (plug a (node k n b rest)) (plug a rest)) → TreeEdits (plug a rest) (plug a (reached jumped rest))
-    → TreeEdits (plug a (node k n b rest)) (plug a (node k n b (reached (jumped || is_jump k) rest)))
-    → TreeEdits (plug a (node k n b rest)) (plug a (if goes then reached jumped rest else node k n b (reached (jumped || is_jump k) rest)))
+    → TreeEdits (plug a (node k n b rest)) (plug a (node k n b (reached (jumped || cuts_off k b) rest)))
+    → TreeEdits (plug a (node k n b rest)) (plug a (if goes then reached jumped rest else node k n b (reached (jumped || cuts_off k b) rest)))
 by_item a jumped k n b rest true edit now next = one_tree_edit (plug a (node k n b rest)) (plug a rest) (plug a (reached jumped rest)) (edit refl) now
 by_item a jumped k n b rest false edit now next = next
 
@@ -82,13 +82,13 @@ row_edits p a jumped (absent rest) items is =
     (row_edits p (join a (behind_none here)) jumped rest (absent_items p a items) (jumped_none false a ∙ is)))
 row_edits p a jumped (node k n b rest) items is =
     by_item a jumped k n b rest (is_unreached jumped k b) (λ goes. unreached_goes p a jumped k n b rest items is goes) (row_edits p a jumped rest items is)
-    (subst (λ u. TreeEdits u (plug a (node k n b (reached (jumped || is_jump k) rest)))) (plug_join a (behind k n b here) rest)
-    (subst (λ u. TreeEdits (plug (join a (behind k n b here)) rest) u) (plug_join a (behind k n b here) (reached (jumped || is_jump k) rest))
-    (row_edits p (join a (behind k n b here)) (jumped || is_jump k) rest (next_items p a k n b items) (jumped_next false a k n b ∙ ap (λ j. j || is_jump k) is))))
+    (subst (λ u. TreeEdits u (plug a (node k n b (reached (jumped || cuts_off k b) rest)))) (plug_join a (behind k n b here) rest)
+    (subst (λ u. TreeEdits (plug (join a (behind k n b here)) rest) u) (plug_join a (behind k n b here) (reached (jumped || cuts_off k b) rest))
+    (row_edits p (join a (behind k n b here)) (jumped || cuts_off k b) rest (next_items p a k n b items) (jumped_next false a k n b ∙ ap (λ j. j || cuts_off k b) is))))
 
 jumped_under : (jumped : Bool) (a : counts.Around) (k : Kind) (n : Note) (rest : Forest) → jumped_at jumped (join a (under k n here rest)) ≡ false
 jumped_under jumped here k n rest = refl
-jumped_under jumped (behind l m c a) k n rest = jumped_under (jumped || is_jump l) a k n rest
+jumped_under jumped (behind l m c a) k n rest = jumped_under (jumped || cuts_off l c) a k n rest
 jumped_under jumped (behind_none a) k n rest = jumped_under jumped a k n rest
 jumped_under jumped (under l m a r) k n rest = jumped_under false a k n rest
 
@@ -123,7 +123,7 @@ pub thinner : (r : ℕ) (jumped : Bool) (t : Forest) → ids r (reached jumped t
 thinner r jumped nothing = Prim.omega arith
 thinner r jumped (absent rest) = thinner r jumped rest
 thinner r jumped (node k n b rest) =
-    thinner_by r k n b rest (reached jumped rest) (reached (jumped || is_jump k) rest) (is_unreached jumped k b) (thinner r jumped rest) (thinner r (jumped || is_jump k) rest)
+    thinner_by r k n b rest (reached jumped rest) (reached (jumped || cuts_off k b) rest) (is_unreached jumped k b) (thinner r jumped rest) (thinner r (jumped || cuts_off k b) rest)
 
 no_heavier_by : (k : Kind) (n : Note) (b rest gone stays : Forest) (goes : Bool) → total weight gone ≤ total weight rest → total weight stays ≤ total weight rest → total weight (if goes then gone else node k n b stays) ≤ total weight (node k n b rest)
 no_heavier_by k n b rest gone stays true h g = Prim.omega (arith, h)
@@ -133,7 +133,7 @@ pub no_heavier : (jumped : Bool) (t : Forest) → total weight (reached jumped t
 no_heavier jumped nothing = Prim.omega arith
 no_heavier jumped (absent rest) = no_heavier jumped rest
 no_heavier jumped (node k n b rest) =
-    no_heavier_by k n b rest (reached jumped rest) (reached (jumped || is_jump k) rest) (is_unreached jumped k b) (no_heavier jumped rest) (no_heavier (jumped || is_jump k) rest)
+    no_heavier_by k n b rest (reached jumped rest) (reached (jumped || cuts_off k b) rest) (is_unreached jumped k b) (no_heavier jumped rest) (no_heavier (jumped || cuts_off k b) rest)
 
 lighter_by : (jumped : Bool) (k : Kind) (n : Note) (b rest gone stays : Forest) (more goes : Bool) → is_unreached jumped k b ≡ goes → (goes || more) ≡ true → total weight gone ≤ total weight rest → (more ≡ true → total weight stays + 1 ≤ total weight rest)
     → total weight (if goes then gone else node k n b stays) + 1 ≤ total weight (node k n b rest)
@@ -144,7 +144,7 @@ pub lighter : (jumped : Bool) (t : Forest) → has_unreached jumped t ≡ true �
 lighter jumped nothing h = absurd (true≢false (sym h))
 lighter jumped (absent rest) h = lighter jumped rest h
 lighter jumped (node k n b rest) h =
-    lighter_by jumped k n b rest (reached jumped rest) (reached (jumped || is_jump k) rest) (has_unreached (jumped || is_jump k) rest) (is_unreached jumped k b) refl h (no_heavier jumped rest) (λ e. lighter (jumped || is_jump k) rest e)
+    lighter_by jumped k n b rest (reached jumped rest) (reached (jumped || cuts_off k b) rest) (has_unreached (jumped || cuts_off k b) rest) (is_unreached jumped k b) refl h (no_heavier jumped rest) (λ e. lighter (jumped || cuts_off k b) rest e)
 
 pub cut_is_less : (x y : Tree) → list_reached x.note x.kind x.below ≡ Some y → IsLess x y
 cut_is_less x y e =
@@ -187,10 +187,10 @@ module _ (x : Tree) (runs : only_runs x.kind ≡ true) (none : declares_none (fo
 
   find : (w : Asked) (b : places.Around) (jumped : Bool) → (asked_at w b).row ≡ row_items → is_behind_jump jumped b ≡ true
       → ((w.row ≡ row_items) × (has_unreached jumped (places.plug b (Some x)) ≡ true)) ⊎ Found (places.plug b (Some x))
-  find w (first rest) jumped item jump = inl (item, first_of_either (is_unreached jumped x.kind x.below) (has_unreached (jumped || is_jump x.kind) rest) (goes_there jumped jump))
+  find w (first rest) jumped item jump = inl (item, first_of_either (is_unreached jumped x.kind x.below) (has_unreached (jumped || cuts_off x.kind x.below) rest) (goes_there jumped jump))
   find w (places.behind k n below b) jumped item jump =
-      elim (find w b (jumped || is_jump k) item jump) [
-        | inl row ↦ inl (row.0, second_of_either (is_unreached jumped k below) (has_unreached (jumped || is_jump k) (places.plug b (Some x))) row.1)
+      elim (find w b (jumped || cuts_off k below) item jump) [
+        | inl row ↦ inl (row.0, second_of_either (is_unreached jumped k below) (has_unreached (jumped || cuts_off k below) (places.plug b (Some x))) row.1)
         | inr there ↦ inr (found_behind k n below there)
       ]
   find w (places.behind_none b) jumped item jump =
@@ -240,8 +240,8 @@ some_unreached p a jumped nothing items is h = absurd (true≢false (sym h))
 some_unreached p a jumped (absent rest) items is h =
     subst Stands (plug_join a (behind_none here) rest) (some_unreached p (join a (behind_none here)) jumped rest (absent_items p a items) (jumped_none false a ∙ is) h)
 some_unreached p a jumped (node k n b rest) items is h =
-    stands_by p a jumped k n b rest (has_unreached (jumped || is_jump k) rest) (is_unreached jumped k b) items is refl h (λ e.
-    subst Stands (plug_join a (behind k n b here) rest) (some_unreached p (join a (behind k n b here)) (jumped || is_jump k) rest (next_items p a k n b items) (jumped_next false a k n b ∙ ap (λ j. j || is_jump k) is) e))
+    stands_by p a jumped k n b rest (has_unreached (jumped || cuts_off k b) rest) (is_unreached jumped k b) items is refl h (λ e.
+    subst Stands (plug_join a (behind k n b here) rest) (some_unreached p (join a (behind k n b here)) (jumped || cuts_off k b) rest (next_items p a k n b items) (jumped_next false a k n b ∙ ap (λ j. j || cuts_off k b) is) e))
 
 none_or : (t : Forest) (a : counts.Around) (n : Note) (below rest : Forest) (b : Bool) → has_unreached false below ≡ b → t ≡ plug a (node statements n below rest) → (Stands t → ⊥) → left_if b n below ≡ None
 none_or t a n below rest false has is none = refl
@@ -267,7 +267,7 @@ pub emptied_trims : (f : Facts) (w : Where) (jumped : Bool) (t : Forest) → tri
 emptied_trims f w jumped nothing = refl
 emptied_trims f w jumped (absent rest) = ap (λ (t : Forest). absent t) (emptied_trims f w jumped rest)
 emptied_trims f w jumped (node k n b rest) =
-    emptied_goes f w k n b (emptied_behind jumped rest) (emptied_behind (jumped || is_jump k) rest) (reached jumped rest) (reached (jumped || is_jump k) rest) (is_unreached jumped k b) (emptied_trims f w jumped rest) (emptied_trims f w (jumped || is_jump k) rest)
+    emptied_goes f w k n b (emptied_behind jumped rest) (emptied_behind (jumped || cuts_off k b) rest) (reached jumped rest) (reached (jumped || cuts_off k b) rest) (is_unreached jumped k b) (emptied_trims f w jumped rest) (emptied_trims f w (jumped || cuts_off k b) rest)
 
 -- where nothing goes all stays
 stay_by : (k : Kind) (n : Note) (b gone stays rest : Forest) (goes more : Bool) → (goes || more) ≡ false → (more ≡ false → stays ≡ rest) → (if goes then gone else node k n b stays) ≡ node k n b rest
@@ -278,4 +278,4 @@ pub all_reached : (jumped : Bool) (t : Forest) → has_unreached jumped t ≡ fa
 all_reached jumped nothing h = refl
 all_reached jumped (absent rest) h = ap (λ (t : Forest). absent t) (all_reached jumped rest h)
 all_reached jumped (node k n b rest) h =
-    stay_by k n b (reached jumped rest) (reached (jumped || is_jump k) rest) rest (is_unreached jumped k b) (has_unreached (jumped || is_jump k) rest) h (λ e. all_reached (jumped || is_jump k) rest e)
+    stay_by k n b (reached jumped rest) (reached (jumped || cuts_off k b) rest) rest (is_unreached jumped k b) (has_unreached (jumped || cuts_off k b) rest) h (λ e. all_reached (jumped || cuts_off k b) rest e)

@@ -3,7 +3,7 @@ use Rattle.std.specs.Prelude.{Bool, false, ◌&&◌, ◌||◌, Option, None, Som
 use Rattle.js_syntax.specs.declared.node_kind.NodeKind.{NodeKind as Kind}
 use Rattle.js_syntax.specs.declared.node_kind.NodeKind.TheVariants.{Statements as statements, EmptyStatement as empty_statement}
 use Rattle.js_syntax.specs.Node.{Forest, Tree, Note, nothing, node, absent}
-use Rattle.js_meaning_near.specs.Near.{is_jump}
+use Rattle.js_meaning_near.specs.Near.{cuts_off}
 use Rattle.min_traverse.specs.Lawful.{Rule}
 use Rattle.steps_allowed.specs.Branches.{declares_no_name}
 use Rattle.steps_allowed.specs.Unreached.{only_runs}
@@ -17,20 +17,20 @@ is_unreached jumped k below = jumped && (only_runs k && declares_no_name k below
 abbrev pub reached : (jumped : Bool) → Forest → Forest
 reached jumped nothing = nothing
 reached jumped (absent rest) = absent (reached jumped rest)
-reached jumped (node k n below rest) = if is_unreached jumped k below then reached jumped rest else node k n below (reached (jumped || is_jump k) rest)
+reached jumped (node k n below rest) = if is_unreached jumped k below then reached jumped rest else node k n below (reached (jumped || cuts_off k below) rest)
 
 -- the same, with an empty statement for each of the others, which then leaves the list as any does
 abbrev pub emptied_behind : (jumped : Bool) → Forest → Forest
 emptied_behind jumped nothing = nothing
 emptied_behind jumped (absent rest) = absent (emptied_behind jumped rest)
 emptied_behind jumped (node k n below rest) =
-    if is_unreached jumped k below then node empty_statement (new_note n) nothing (emptied_behind jumped rest) else node k n below (emptied_behind (jumped || is_jump k) rest)
+    if is_unreached jumped k below then node empty_statement (new_note n) nothing (emptied_behind jumped rest) else node k n below (emptied_behind (jumped || cuts_off k below) rest)
 
 -- whether one goes
 abbrev pub has_unreached : (jumped : Bool) → Forest → Bool
 has_unreached jumped nothing = false
 has_unreached jumped (absent rest) = has_unreached jumped rest
-has_unreached jumped (node k n below rest) = is_unreached jumped k below || has_unreached (jumped || is_jump k) rest
+has_unreached jumped (node k n below rest) = is_unreached jumped k below || has_unreached (jumped || cuts_off k below) rest
 
 abbrev pub left_if : Bool → Note → (below : Forest) → Option Tree
 left_if goes n below = if goes then Some (record { kind = statements; note = n; below = reached false below }) else None

@@ -9,7 +9,7 @@ use Rattle.min_pass.specs.declared.around.Around.{Around as Asked}
 use Rattle.min_pass.specs.declared.around.Row.{Row}
 use Rattle.min_pass.specs.declared.around.Row.TheVariants.{Items as items, Declarators as item_declarators}
 use Rattle.min_pass.specs.Around.{entered as asked_below, outermost as asked_of_program}
-use Rattle.js_meaning_near.specs.Near.{is_jump}
+use Rattle.js_meaning_near.specs.Near.{cuts_off}
 use Rattle.steps_allowed.specs.Calls.{begins_with_call}
 use Rattle.steps_allowed.specs.EmptyBlock.{idles}
 use Rattle.steps_allowed.specs.Places.{has_node}
@@ -48,15 +48,15 @@ may_change_at evaluates w e (variable_declaration how) below = holds_items w.row
 may_change_at evaluates w e k below = not (always_stays k)
 
 -- whether something stands behind a jump in a list of statements
-abbrev pub ends_before : Row → Kind → (rest : Forest) → Bool
-ends_before row k rest = holds_items row && (is_jump k && has_node rest)
+abbrev pub ends_before : Row → Kind → (below rest : Forest) → Bool
+ends_before row k below rest = holds_items row && (cuts_off k below && has_node rest)
 
 -- of a row
 abbrev pub may_change : (evaluates : Bool) → Asked → (exposures : ℕ → Exposure) → (at : ℕ) → Forest → Bool
 may_change evaluates w es at nothing = false
 may_change evaluates w es at (absent rest) = may_change evaluates w es (suc at) rest
 may_change evaluates w es at (node k n below rest) =
-    may_change_at evaluates w (es at) k below || may_change evaluates (asked_below w k) (exposed_inside (es at) k below) 0 below || (ends_before w.row k rest || may_change evaluates w es (suc at) rest)
+    may_change_at evaluates w (es at) k below || may_change evaluates (asked_below w k) (exposed_inside (es at) k below) 0 below || (ends_before w.row k below rest || may_change evaluates w es (suc at) rest)
 
 -- of a whole tree
 abbrev pub may_change_somewhere : Forest → Bool

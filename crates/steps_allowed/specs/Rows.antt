@@ -1,5 +1,5 @@
 -- Small programs that the definitions are tried on.
-use Rattle.std.specs.Prelude.{List, [], ◌∷◌, pos, Bool, true, false, None, codes}
+use Rattle.std.specs.Prelude.{List, [], ◌∷◌, pos, Bool, true, false, Some, None, codes}
 use Rattle.js_syntax.specs.declared.node_kind.NodeKind.{NodeKind as Kind}
 use Rattle.js_syntax.specs.declared.scalar.SourceType.TheVariants as source_type
 use Rattle.js_syntax.specs.declared.kind.FunctionKind.TheVariants as function_kind
@@ -37,6 +37,14 @@ before items = in_list (first (row items))
 
 abbrev pub throws : Forest → Forest
 throws e = over Kind.ThrowStatement e
+
+-- { { throw 1; } }
+abbrev pub throwing_block : Forest
+throwing_block = block (block (throws one ∷ []) ∷ [])
+
+-- l: { break l; }
+abbrev pub broken_label : Forest
+broken_label = over (Kind.LabeledStatement (codes "l")) (block (leaf (Kind.BreakStatement (Some (codes "l"))) ∷ []))
 
 abbrev pub debugger : Forest
 debugger = leaf Kind.DebuggerStatement

@@ -3,7 +3,7 @@ use Rattle.std.specs.Prelude.{◌≡◌, Bool, true, false, ◌||◌}
 use Rattle.js_syntax.specs.declared.node_kind.NodeKind.{NodeKind as Kind}
 use Rattle.js_syntax.specs.declared.node_kind.NodeKind.TheVariants.{ExpressionStatement as expression_statement, BlockStatement as block_statement, LabeledStatement as labeled_statement, IfStatement as if_statement, BreakStatement as break_statement, ContinueStatement as continue_statement, ReturnStatement as return_statement, ThrowStatement as throw_statement, WhileStatement as while_statement, DoWhileStatement as do_while_statement, ForStatement as for_statement, ForInStatement as for_in_statement, ForOfStatement as for_of_statement, WithStatement as with_statement, DebuggerStatement as debugger_statement, SwitchStatement as switch_statement, TryStatement as try_statement}
 use Rattle.js_syntax.specs.Node.{Tree, forest_of}
-use Rattle.js_meaning_near.specs.Near.{is_jump}
+use Rattle.js_meaning_near.specs.Near.{cuts_off}
 use Rattle.scope_laws.specs.Place.{Around, first, behind, behind_none, under}
 use Rattle.steps_allowed.specs.Branches.{declares_none}
 use Rattle.steps_allowed.specs.Places.{IsItem}
@@ -11,7 +11,7 @@ use Rattle.steps_allowed.specs.Places.{IsItem}
 -- whether a jump stands before it in its row, or stood before this part of that
 abbrev pub is_behind_jump : (jumped : Bool) → Around → Bool
 is_behind_jump jumped (first rest) = jumped
-is_behind_jump jumped (behind k n below a) = is_behind_jump (jumped || is_jump k) a
+is_behind_jump jumped (behind k n below a) = is_behind_jump (jumped || cuts_off k below) a
 is_behind_jump jumped (behind_none a) = is_behind_jump jumped a
 is_behind_jump jumped (under k n a rest) = is_behind_jump false a
 

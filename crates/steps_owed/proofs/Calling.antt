@@ -17,7 +17,7 @@ use Rattle.steps_allowed.specs.Places.{asked_at}
 use Rattle.steps_allowed.specs.Unreached.{is_behind_jump}
 use Rattle.steps_allowed.specs.Untaken.{begins_untaken, is_untaken}
 use Rattle.steps_owed.specs.Owed.{IsOther, Uncounted}
-use Rattle.js_meaning_near.specs.Near.{is_jump}
+use Rattle.js_meaning_near.specs.Near.{cuts_off}
 use Rattle.std.proofs.lemmas.Bool.{or_cases}
 use Rattle.steps_allowed.specs.Calls.{is_call, begins_with_call, counted, may_end, calls_in, of_list, calls_listed, of_program, root_calls}
 
@@ -128,14 +128,16 @@ leave_below : (k : Kind) (w : Asked) (r : ImportRow) (a : Around) (x : Tree) →
 leave_below expression_statement w r a x row = ap (counted expression_statement) (leave_begins (asked_below w expression_statement) a x refl row)
 leave_below k w r a x row = refl
 
-jump_ends : (k : Kind) → is_jump k ≡ true → may_end k ≡ true
-jump_ends Kind.ReturnStatement j = refl
-jump_ends Kind.ThrowStatement j = refl
-jump_ends (Kind.BreakStatement l) j = refl
-jump_ends (Kind.ContinueStatement l) j = refl
-jump_ends k j = absurd (true≢false (sym j))
+jump_ends : (k : Kind) (below : Forest) → cuts_off k below ≡ true → may_end k ≡ true
+jump_ends Kind.ReturnStatement below j = refl
+jump_ends Kind.ThrowStatement below j = refl
+jump_ends (Kind.BreakStatement l) below j = refl
+jump_ends (Kind.ContinueStatement l) below j = refl
+jump_ends Kind.BlockStatement below j = refl
+jump_ends Kind.Statements below j = refl
+jump_ends k below j = absurd (true≢false (sym j))
 
-uncounted_behind : (jumped : Bool) (k : Kind) (n : Note) (below : Forest) (a : Around) (x : Tree) → Uncounted jumped (behind k n below a) x → Uncounted (jumped || is_jump k) a x
+uncounted_behind : (jumped : Bool) (k : Kind) (n : Note) (below : Forest) (a : Around) (x : Tree) → Uncounted jumped (behind k n below a) x → Uncounted (jumped || cuts_off k below) a x
 uncounted_behind jumped k n below a x (inl h) = inl h
 uncounted_behind jumped k n below a x (inr (inl e)) = inr (inl e)
 uncounted_behind jumped k n below a x (inr (inr e)) = inr (inr e)
@@ -154,10 +156,10 @@ leave_calls w r (first rest) x jumped (inl h) row = inr (Prim.omega (arith, h.co
 leave_calls w r (first rest) x jumped (inr (inl e)) row = inl e
 leave_calls w r (first rest) x jumped (inr (inr e)) row = absurd (true≢false (sym e))
 leave_calls w r (behind k n below a) x jumped u row =
-    elim (leave_calls w r a x (jumped || is_jump k) (uncounted_behind jumped k n below a x u) row) [
-      | inl e ↦ elim (or_cases jumped (is_jump k) e) [
+    elim (leave_calls w r a x (jumped || cuts_off k below) (uncounted_behind jumped k n below a x u) row) [
+      | inl e ↦ elim (or_cases jumped (cuts_off k below) e) [
         | inl before ↦ inl before
-        | inr jump ↦ inr (Prim.omega (arith, ended (may_end k) (calls_in (plug a (Some x))) (calls_in (without a)) (jump_ends k jump)))
+        | inr jump ↦ inr (Prim.omega (arith, ended (may_end k) (calls_in (plug a (Some x))) (calls_in (without a)) (jump_ends k below jump)))
       ]
       | inr fewer ↦ inr (Prim.omega (arith, unless (may_end k) (calls_in (plug a (Some x))) (calls_in (without a)) fewer))
     ]

@@ -11,7 +11,7 @@ use Rattle.min_pass.specs.Around.{entered as asked_below, outermost as asked_of_
 use Rattle.scope_laws.specs.Place.{Around, first, behind, behind_none, under, plug}
 use Rattle.steps_allowed.specs.Places.{a_node, asked_at, has_node}
 use Rattle.steps_owed.specs.Owed.{MayChange, IsIdleItem}
-use Rattle.js_meaning_near.specs.Near.{is_jump}
+use Rattle.js_meaning_near.specs.Near.{is_list, cuts_so, row_cuts, cuts_off}
 use Rattle.min_pass.specs.declared.around.Row.TheVariants.{Items as items}
 use Rattle.steps_allowed.specs.Unreached.{is_behind_jump}
 use Rattle.steps_allowed.specs.Untaken.{begins_untaken, runs_inside, is_untaken}
@@ -37,25 +37,25 @@ module _ (evaluates : Bool) where
   may_here w es at k below = may_change_at evaluates w (es at) k below || may_change evaluates (asked_below w k) (exposed_inside (es at) k below) 0 below
 
   later_may : (w : Asked) (es : ℕ → Exposure) (at : ℕ) (k : Kind) (below rest : Forest) → may_change evaluates w es (suc at) rest ≡ true
-      → (may_here w es at k below || (ends_before w.row k rest || may_change evaluates w es (suc at) rest)) ≡ true
+      → (may_here w es at k below || (ends_before w.row k below rest || may_change evaluates w es (suc at) rest)) ≡ true
   later_may w es at k below rest e =
-      second_of_either (may_here w es at k below) (ends_before w.row k rest || may_change evaluates w es (suc at) rest) (second_of_either (ends_before w.row k rest) (may_change evaluates w es (suc at) rest) e)
+      second_of_either (may_here w es at k below) (ends_before w.row k below rest || may_change evaluates w es (suc at) rest) (second_of_either (ends_before w.row k below rest) (may_change evaluates w es (suc at) rest) e)
 
-  here_may : (w : Asked) (es : ℕ → Exposure) (at : ℕ) (k : Kind) (below rest : Forest) → ends_before w.row k rest ≡ true
-      → (may_here w es at k below || (ends_before w.row k rest || may_change evaluates w es (suc at) rest)) ≡ true
+  here_may : (w : Asked) (es : ℕ → Exposure) (at : ℕ) (k : Kind) (below rest : Forest) → ends_before w.row k below rest ≡ true
+      → (may_here w es at k below || (ends_before w.row k below rest || may_change evaluates w es (suc at) rest)) ≡ true
   here_may w es at k below rest e =
-      second_of_either (may_here w es at k below) (ends_before w.row k rest || may_change evaluates w es (suc at) rest) (first_of_either (ends_before w.row k rest) (may_change evaluates w es (suc at) rest) e)
+      second_of_either (may_here w es at k below) (ends_before w.row k below rest || may_change evaluates w es (suc at) rest) (first_of_either (ends_before w.row k below rest) (may_change evaluates w es (suc at) rest) e)
 
   inner_may : (w : Asked) (es : ℕ → Exposure) (at : ℕ) (k : Kind) (below rest : Forest) → may_change evaluates (asked_below w k) (exposed_inside (es at) k below) 0 below ≡ true
-      → (may_here w es at k below || (ends_before w.row k rest || may_change evaluates w es (suc at) rest)) ≡ true
+      → (may_here w es at k below || (ends_before w.row k below rest || may_change evaluates w es (suc at) rest)) ≡ true
   inner_may w es at k below rest e =
-      first_of_either (may_here w es at k below) (ends_before w.row k rest || may_change evaluates w es (suc at) rest)
+      first_of_either (may_here w es at k below) (ends_before w.row k below rest || may_change evaluates w es (suc at) rest)
       (second_of_either (may_change_at evaluates w (es at) k below) (may_change evaluates (asked_below w k) (exposed_inside (es at) k below) 0 below) e)
 
   at_place : (w : Asked) (es : ℕ → Exposure) (at : ℕ) (a : Around) (k : Kind) (n : Note) (below : Forest) → may_change_at evaluates (asked_at w a) (exposed_at es at a (a_node k n below)) k below ≡ true
       → may_change evaluates w es at (plug a (a_node k n below)) ≡ true
   at_place w es at (first rest) k n below e =
-      first_of_either (may_change_at evaluates w (es at) k below || may_change evaluates (asked_below w k) (exposed_inside (es at) k below) 0 below) (ends_before w.row k rest || may_change evaluates w es (suc at) rest)
+      first_of_either (may_change_at evaluates w (es at) k below || may_change evaluates (asked_below w k) (exposed_inside (es at) k below) 0 below) (ends_before w.row k below rest || may_change evaluates w es (suc at) rest)
       (first_of_either (may_change_at evaluates w (es at) k below) (may_change evaluates (asked_below w k) (exposed_inside (es at) k below) 0 below) e)
   at_place w es at (behind j m b a) k n below e =
       let x = a_node k n below in
@@ -70,10 +70,10 @@ module _ (evaluates : Bool) where
       → ((jumped ≡ true) × (w.row ≡ items)) ⊎ (may_change evaluates w es at (plug a (Some x)) ≡ true)
   jump_there w es at (first rest) x jumped item e = inl (e, item)
   jump_there w es at (behind k n below a) x jumped item e =
-      elim (jump_there w es (suc at) a x (jumped || is_jump k) item e) [
-        | inl found ↦ elim (or_cases jumped (is_jump k) found.0) [
+      elim (jump_there w es (suc at) a x (jumped || cuts_off k below) item e) [
+        | inl found ↦ elim (or_cases jumped (cuts_off k below) found.0) [
           | inl before ↦ inl (before, found.1)
-          | inr jump ↦ inr (here_may w es at k below (plug a (Some x)) (both (holds_items w.row) (is_jump k && has_node (plug a (Some x))) (ap holds_items found.1) (both (is_jump k) (has_node (plug a (Some x))) jump (stands_there a x))))
+          | inr jump ↦ inr (here_may w es at k below (plug a (Some x)) (both (holds_items w.row) (cuts_off k below && has_node (plug a (Some x))) (ap holds_items found.1) (both (cuts_off k below) (has_node (plug a (Some x))) jump (stands_there a x))))
         ]
         | inr may ↦ inr (later_may w es at k below (plug a (Some x)) may)
       ]
@@ -102,7 +102,7 @@ module _ (evaluates : Bool) where
       elim (untaken_there (asked_below w k) (exposed_inside (es at) k t) 0 a x (untaken && runs_inside k || begins_untaken k a) e) [
         | inl found ↦ elim (or_cases (untaken && runs_inside k) (begins_untaken k a) found) [
           | inl around ↦ inl (first_of_both untaken (runs_inside k) around)
-          | inr here ↦ inr (first_of_either (may_here w es at k t) (ends_before w.row k rest || may_change evaluates w es (suc at) rest) (first_of_either (may_change_at evaluates w (es at) k t) (may_change evaluates (asked_below w k) (exposed_inside (es at) k t) 0 t) (if_may w (es at) k a t here)))
+          | inr here ↦ inr (first_of_either (may_here w es at k t) (ends_before w.row k t rest || may_change evaluates w es (suc at) rest) (first_of_either (may_change_at evaluates w (es at) k t) (may_change evaluates (asked_below w k) (exposed_inside (es at) k t) 0 t) (if_may w (es at) k a t here)))
         ]
         | inr may ↦ inr (inner_may w es at k t rest may)
       ]
@@ -143,6 +143,15 @@ bare_at evaluates w e kind.BlockStatement below = ap (λ b. holds_items w.row &&
 bare_at evaluates w e (kind.Function function_kind.Declaration pure) below = refl
 bare_at evaluates w e k below = refl
 
+row_cuts_bare : (listed : Bool) (t : Forest) → row_cuts listed (bare t) ≡ row_cuts listed t
+row_cuts_bare listed nothing = refl
+row_cuts_bare listed (absent rest) = ap (λ b. listed && b) (row_cuts_bare listed rest)
+row_cuts_bare listed (node k n below rest) = ap₂ (λ b c. cuts_so k b || (listed && c)) (row_cuts_bare (is_list k) below) (row_cuts_bare listed rest)
+
+-- notes don't matter
+pub cuts_bare : (k : Kind) (t : Forest) → cuts_off k (bare t) ≡ cuts_off k t
+cuts_bare k t = ap (cuts_so k) (row_cuts_bare (is_list k) t)
+
 bare_row : (evaluates : Bool) (w : Asked) (es fs : ℕ → Exposure) (at : ℕ) (t : Forest) → ((i : ℕ) → es i ≡ fs i) → may_change evaluates w es at (bare t) ≡ may_change evaluates w fs at t
 bare_row evaluates w es fs at nothing s = refl
 bare_row evaluates w es fs at (absent rest) s = bare_row evaluates w es fs (suc at) rest s
@@ -150,7 +159,7 @@ bare_row evaluates w es fs at (node k n below rest) s =
     ap₂ (λ b c. b || c)
     (ap₂ (λ b c. b || c) (bare_at evaluates w (es at) k below ∙ ap (λ e. may_change_at evaluates w e k below) (s at))
     (bare_row evaluates (asked_below w k) (exposed_inside (es at) k (bare below)) (exposed_inside (fs at) k below) 0 below (λ i. bare_inside k (es at) below i ∙ ap (λ e. exposed_inside e k below i) (s at))))
-    (ap₂ (λ b c. b || c) (ap (λ b. holds_items w.row && (is_jump k && b)) (bare_has rest)) (bare_row evaluates w es fs (suc at) rest s))
+    (ap₂ (λ b c. b || c) (ap₂ (λ c b. holds_items w.row && (c && b)) (cuts_bare k below) (bare_has rest)) (bare_row evaluates w es fs (suc at) rest s))
 
 pub bare_changes : (t : Forest) → may_change_somewhere (bare t) ≡ may_change_somewhere t
 bare_changes t =

@@ -5,7 +5,7 @@ use Rattle.js_syntax.specs.Class.{root}
 use Rattle.js_syntax.specs.declared.node_kind.NodeKind.{NodeKind as Kind}
 use Rattle.js_syntax.specs.Node.{Forest, Tree, node}
 use Rattle.js_meaning_near.specs.Purpose.{Purposes, for_values, purpose_here, purposes_behind, wanted_below}
-use Rattle.js_meaning_near.specs.Near.{is_calm, is_row, is_jump, Row as NearRow, fields, items as near_items, row_below as near_row_below}
+use Rattle.js_meaning_near.specs.Near.{is_calm, is_row, cuts_off, Row as NearRow, fields, items as near_items, row_below as near_row_below}
 use Rattle.js_meaning_near.specs.Local.{DeclaresNothing, Cut, node_cut, cut_behind, cut_behind_none, Local, behind_jump, in_below, in_rest, in_absent}
 use Rattle.json_shape.specs.Shape.{one, Plan, these, first_place, Stand, Fits}
 use Rattle.json_shape.specs.Shape as shape
@@ -32,8 +32,8 @@ module _ (x : Tree) (calm : is_calm x.kind ≡ true) (states : is_statement x.ki
       → (plan : Plan) → plan_passes is_sound plan ≡ true → Stand plan (plug a (Some x)) → CutThere us o w jumped (plug a (Some x)) (without a)
   local_cut us o w (first rest) jumped list item jump plan h st = inl (jump, (item, node_cut (calm_hoists x.kind calm) declares))
   local_cut us o w (behind k n below a) jumped list item jump plan h st =
-      elim (local_cut (purposes_behind us) o w a (jumped || is_jump k) list item jump (shape.behind plan k) (behind_passes is_sound plan k h) st.1) [
-        | inl found ↦ elim (or_cases jumped (is_jump k) found.0) [
+      elim (local_cut (purposes_behind us) o w a (jumped || cuts_off k below) list item jump (shape.behind plan k) (behind_passes is_sound plan k h) st.1) [
+        | inl found ↦ elim (or_cases jumped (cuts_off k below) found.0) [
           | inl before ↦ inl (before, (found.1.0, cut_behind found.1.1))
           | inr here ↦ inr (subst (λ p. Local us p (node k n below (plug a (Some x))) (node k n below (without a))) (sym (list found.1.0)) (behind_jump here found.1.1))
         ]
