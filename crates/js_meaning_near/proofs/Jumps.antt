@@ -1,18 +1,20 @@
 -- What stands behind a jump never runs, so it may be anything that starts the same where its scope is entered.
-use Rattle.std.proofs.Common.{◌≡◌, ◌⊎◌, inl, inr, List, [], ◌∷◌, ◌++◌, Bool, true, false, ◌||◌, Option, Some, None, refl, sym, subst}
+use Rattle.std.proofs.Common.{◌≡◌, ◌⊎◌, inl, inr, List, [], ◌∷◌, ◌++◌, Bool, true, false, Option, Some, None, refl, sym, subst}
 use Rattle.std.proofs.lemmas.Bool.{or_cases}
+use Rattle.js_syntax.proofs.Truth.{first_of_both, second_of_both}
 use Rattle.js_syntax.specs.declared.node_kind.NodeKind.{NodeKind as Kind}
 use Rattle.js_syntax.specs.declared.kind.FunctionKind.TheVariants as function_kind
 use Rattle.js_syntax.specs.Node.{Note, Forest, nothing, node, absent}
 use Rattle.js_meaning.specs.Value.{Text, Env, Value, Slot, local}
 use Rattle.js_meaning.specs.Scope.{Decl, decl, waiting, ready, linked, left_out, declare, fill, first_name, name_or_default, start_function, start_item, start, lexical, look}
 use Rattle.js_meaning.specs.Trace.{Event}
-use Rattle.js_meaning.specs.State.{State, Completion, normal, gives, gives_all, refers, breaks, continues, returns, throws, Out, goes, stops, M, more, go_on, bind, done, stop, alloc, read, store, identity, if_normal, seq, if_gives}
+use Rattle.js_meaning.specs.State.{State, Completion, normal, gives, gives_all, refers, breaks, continues, returns, throws, Out, goes, stops, M, more, go_on, bind, done, stop, alloc, read, store, identity, if_normal, seq, if_gives, with_value, choose}
 use Rattle.js_meaning.specs.Host.{Enter}
-use Rattle.js_meaning.specs.Node.{Ask, now, run, Parts, need, may, each}
+use Rattle.js_meaning.specs.Node.{Ask, now, run, Parts, need, may, each, ask_maybe}
+use Rattle.js_meaning.specs.Operator.{truthy}
 use Rattle.js_meaning.specs.Meaning.{does, eval}
 use Rattle.js_meaning_near.specs.Names.{Names}
-use Rattle.js_meaning_near.specs.Near.{meaning, is_jump, is_list, row_cuts, cuts_off}
+use Rattle.js_meaning_near.specs.Near.{meaning, is_jump, Glance, at_any, at_first, at_branches, at_both, glance_below, row_cuts, cuts_off}
 use Rattle.js_meaning_near.proofs.Relations.{Follows}
 use Rattle.js_meaning_near.proofs.Rows.{Lists}
 use Rattle.js_meaning_near.proofs.Nodes.{true_false}
@@ -161,40 +163,79 @@ start_jumps nothing env m h = h
 start_jumps (absent r) env m h = start_jumps r env m h
 start_jumps (node k n a r) env m h = item_jumps k a (start a env) env (start r env m) (λ l g. start_jumps a env l g) (start_jumps r env m h)
 
--- ---- a block, and a list
+-- ---- a choice
 
--- what a row does whose nodes run in turn, or whose first node alone does
-abbrev row_does : (listed : Bool) → Parts → List Text → Env → M
-row_does true ms ls env = each (run ls) ms env
-row_does false ms ls env = need ms (λ m r. m (run ls) env)
+value_abrupt : (f : Value → M) → ((v : Value) → Jumps (f v)) → (o : Out) → Abrupt (go_on o (if_gives (λ v r. f v)))
+unfolding done stop
+value_abrupt f h (goes es z normal) = tt
+value_abrupt f h (goes es z (gives v r)) = later_abrupt es (f v z) (h v z)
+value_abrupt f h (goes es z (gives_all vs)) = tt
+value_abrupt f h (goes es z (refers p)) = tt
+value_abrupt f h (goes es z (breaks l)) = tt
+value_abrupt f h (goes es z (continues l)) = tt
+value_abrupt f h (goes es z (returns v)) = tt
+value_abrupt f h (goes es z (throws v)) = tt
+value_abrupt f h (stops es e) = tt
 
-node_jumps : (E : Enter) (k : Kind) (a : Forest) (q : Ask) (env : Env) → (row_cuts (is_list k) a ≡ true → (ls : List Text) (env : Env) → Jumps (row_does (is_list k) (eval E a) ls env)) → cuts_off k a ≡ true → Jumps (meaning E k a q env)
+value_jumps : (m : M) (f : Value → M) → ((v : Value) → Jumps (f v)) → Jumps (with_value m f)
+unfolding bind
+value_jumps m f h s = value_abrupt f h (m s)
+
+choose_jumps : (b : Bool) (x y : M) → Jumps x → Jumps y → Jumps (choose b x y)
+unfolding choose
+choose_jumps true x y h g = h
+choose_jumps false x y h g = g
+
+-- ---- a block, a list, and an `if`
+
+-- what stands behind the test
+abbrev branches_do : Parts → M → List Text → Env → M
+branches_do ms test ls env = need ms (λ c r. may r (λ d r. with_value test (λ v. choose (truthy v) (c (run ls) env) (ask_maybe d (run ls) env))))
+
+-- by how a row is looked at
+abbrev RowJumps : Glance → Parts → List Text → Env → Type 0
+RowJumps at_any ms ls env = Jumps (each (run ls) ms env)
+RowJumps at_first ms ls env = Jumps (need ms (λ m r. m (run ls) env))
+RowJumps at_branches ms ls env = Jumps (need ms (λ t r. branches_do r (t now env) ls env))
+RowJumps at_both ms ls env = (test : M) → Jumps (branches_do ms test ls env)
+
+node_jumps : (E : Enter) (k : Kind) (a : Forest) (q : Ask) (env : Env) → (row_cuts (glance_below k) a ≡ true → (ls : List Text) (env : Env) → RowJumps (glance_below k) (eval E a) ls env) → cuts_off k a ≡ true → Jumps (meaning E k a q env)
 unfolding stop
 node_jumps E Kind.BlockStatement a (run ls) env inside h = declare_jumps (lexical a) env _ (λ env. start_jumps a env _ (inside h ls env))
 node_jumps E Kind.BlockStatement a q env inside h = λ s. tt
 node_jumps E Kind.Statements a (run ls) env inside h = inside h ls env
 node_jumps E Kind.Statements a q env inside h = λ s. tt
+node_jumps E Kind.IfStatement a (run ls) env inside h = inside h ls env
+node_jumps E Kind.IfStatement a q env inside h = λ s. tt
 node_jumps E k a q env inside h = jump_jumps E k a q env h
 
-row_jumps : (E : Enter) (listed : Bool) (a : Forest) → row_cuts listed a ≡ true → (ls : List Text) (env : Env) → Jumps (row_does listed (eval E a) ls env)
-unfolding eval each need stop
-row_jumps E listed nothing h ls env = absurd (true_false (sym h))
-row_jumps E true (absent r) h ls env = λ s. tt
-row_jumps E false (absent r) h ls env = λ s. tt
-row_jumps E true (node k n a r) h ls env =
+row_jumps : (E : Enter) (g : Glance) (a : Forest) → row_cuts g a ≡ true → (ls : List Text) (env : Env) → RowJumps g (eval E a) ls env
+unfolding eval each need may stop
+row_jumps E at_any nothing h ls env = absurd (true_false (sym h))
+row_jumps E at_first nothing h ls env = absurd (true_false (sym h))
+row_jumps E at_branches nothing h ls env = absurd (true_false (sym h))
+row_jumps E at_both nothing h ls env = absurd (true_false (sym h))
+row_jumps E at_any (absent r) h ls env = λ s. tt
+row_jumps E at_first (absent r) h ls env = λ s. tt
+row_jumps E at_branches (absent r) h ls env = λ s. tt
+row_jumps E at_both (absent r) h ls env = λ test s. tt
+row_jumps E at_any (node k n a r) h ls env =
     seq_jumps (meaning E k a (run ls) env) (each (run ls) (eval E r) env)
-    (elim (or_cases (cuts_off k a) (row_cuts true r) h) [
-      | inl here ↦ inl (node_jumps E k a (run ls) env (λ g. row_jumps E (is_list k) a g) here)
-      | inr later ↦ inr (row_jumps E true r later ls env)
+    (elim (or_cases (cuts_off k a) (row_cuts at_any r) h) [
+      | inl here ↦ inl (node_jumps E k a (run ls) env (λ g. row_jumps E (glance_below k) a g) here)
+      | inr later ↦ inr (row_jumps E at_any r later ls env)
     ])
-row_jumps E false (node k n a r) h ls env = node_jumps E k a (run ls) env (λ g. row_jumps E (is_list k) a g) (only (cuts_off k a) h)
-  where
-    only : (b : Bool) → b || false ≡ true → b ≡ true
-    only true h = refl
-    only false h = h
+row_jumps E at_first (node k n a r) h ls env = node_jumps E k a (run ls) env (λ g. row_jumps E (glance_below k) a g) h
+row_jumps E at_branches (node k n a r) h ls env = row_jumps E at_both r h ls env (meaning E k a now env)
+row_jumps E at_both (node k n a nothing) h ls env = absurd (true_false (sym (second_of_both (cuts_off k a) false h)))
+row_jumps E at_both (node k n a (absent r)) h ls env = absurd (true_false (sym (second_of_both (cuts_off k a) false h)))
+row_jumps E at_both (node k n a (node l m b r)) h ls env =
+    let first = node_jumps E k a (run ls) env (λ g. row_jumps E (glance_below k) a g) (first_of_both (cuts_off k a) (cuts_off l b) h) in
+    let second = node_jumps E l b (run ls) env (λ g. row_jumps E (glance_below l) b g) (second_of_both (cuts_off k a) (cuts_off l b) h) in
+    λ test. value_jumps test _ (λ v. choose_jumps (truthy v) _ _ first second)
 
 cuts_jump : (E : Enter) (k : Kind) (a : Forest) (q : Ask) (env : Env) → cuts_off k a ≡ true → Jumps (meaning E k a q env)
-cuts_jump E k a q env h = node_jumps E k a q env (λ g. row_jumps E (is_list k) a g) h
+cuts_jump E k a q env h = node_jumps E k a q env (λ g. row_jumps E (glance_below k) a g) h
 
 -- ---- rows
 

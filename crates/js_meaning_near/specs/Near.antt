@@ -169,25 +169,46 @@ is_jump Kind.ReturnStatement = true
 is_jump Kind.ThrowStatement = true
 is_jump k = false
 
-abbrev pub is_list : Kind → Bool
-is_list Kind.Statements = true
-is_list k = false
+-- How a row is looked at: a list for any of its items, that of an `if` for both that stand behind its test, and another for its first node.
+pub data Glance : Type 0 where
+  at_any at_first at_branches at_both : Glance
 
--- a block cuts off as its list does
+abbrev pub glance_below : Kind → Glance
+glance_below Kind.Statements = at_any
+glance_below Kind.IfStatement = at_branches
+glance_below k = at_first
+
+abbrev pub glance_behind : Glance → Glance
+glance_behind at_any = at_any
+glance_behind at_branches = at_both
+glance_behind g = at_first
+
+abbrev pub is_any : Glance → Bool
+is_any at_any = true
+is_any g = false
+
+abbrev pub cuts_by : Glance → (here behind : Bool) → Bool
+cuts_by at_any here behind = here || behind
+cuts_by at_first here behind = here
+cuts_by at_branches here behind = behind
+cuts_by at_both here behind = here && behind
+
+-- a block cuts off as its list does, and an `if` as both of its branches
 abbrev pub cuts_so : Kind → (inside : Bool) → Bool
 cuts_so Kind.BlockStatement inside = inside
 cuts_so Kind.Statements inside = inside
+cuts_so Kind.IfStatement inside = inside
 cuts_so k inside = is_jump k
 
--- whether a row is never left at its end: a list for any of its items, and another row for the first of its nodes
-abbrev pub row_cuts : (listed : Bool) → Forest → Bool
-row_cuts listed nothing = false
-row_cuts listed (absent r) = listed && row_cuts listed r
-row_cuts listed (node k n a r) = cuts_so k (row_cuts (is_list k) a) || (listed && row_cuts listed r)
+abbrev pub row_cuts : Glance → Forest → Bool
+row_cuts g nothing = false
+row_cuts g (absent r) = is_any g && row_cuts g r
+row_cuts g (node k n a r) = cuts_by g (cuts_so k (row_cuts (glance_below k) a)) (row_cuts (glance_behind g) r)
 
--- A jump, or a block in whose list one stands, however far in: nothing of its own list behind it runs (14.2.2).
+-- A jump, a block in whose list one stands, however far in, or an `if` of which both branches are such: nothing of its own list behind it
+-- runs (14.2.2).
 abbrev pub cuts_off : Kind → Forest → Bool
-cuts_off k a = cuts_so k (row_cuts (is_list k) a)
+cuts_off k a = cuts_so k (row_cuts (glance_below k) a)
 
 -- what stands behind one, and the same without a node that starts nothing where its scope is entered
 pub data Unreached : Forest → Forest → Type 0 where

@@ -2,7 +2,7 @@
 ghost use Rattle.std.specs.Prelude.{◌≡◌, true, false};
 ghost use Rattle.js_syntax.specs.declared.node_kind.NodeKind.TheVariants.{EmptyStatement as empty_statement};
 ghost use Rattle.js_syntax.specs.Node.{nothing, row};
-ghost use Rattle.js_meaning_near.specs.Near.{cuts_off, row_cuts};
+ghost use Rattle.js_meaning_near.specs.Near.{at_any, at_first, at_branches, at_both, row_cuts, cuts_off};
 ghost use Rattle.scope_counts.specs.Counts.{ids};
 ghost use Rattle.min_context.specs.Edited.{evals, Leaves};
 ghost use Rattle.steps_allowed.specs.Unreached.{only_runs};
@@ -19,7 +19,7 @@ use std::alloc::Global;
 
 // ---- one statement
 
-// A jump, or a block in whose list one stands. The recursion goes as deep as the tree.
+// A jump, a block in whose list one stands, or an `if` of which both branches are such. The recursion goes as deep as the tree.
 #[cycle(cuts)]
 fn cuts_off(node: &Node) -> bool
     ensures { result ≡ cuts_off node.now.kind node.now.below }
@@ -29,16 +29,16 @@ fn cuts_off(node: &Node) -> bool
         | NodeKind::ContinueStatement(_)
         | NodeKind::ReturnStatement
         | NodeKind::ThrowStatement => true,
-        NodeKind::BlockStatement => row_cuts(false, node.children()),
-        NodeKind::Statements => row_cuts(true, node.children()),
+        NodeKind::BlockStatement => first_cuts(node.children()),
+        NodeKind::Statements => any_cuts(node.children()),
+        NodeKind::IfStatement => branches_cut(node.children()),
         _ => false,
     }
 }
 
-// Of a list any item is asked, and of another row the first node alone.
 #[cycle(cuts)]
-fn row_cuts(listed: bool, children: &[Option<Node>]) -> bool
-    ensures { result ≡ row_cuts listed (row children.now) }
+fn any_cuts(children: &[Option<Node>]) -> bool
+    ensures { result ≡ row_cuts at_any (row children.now) }
 {
     let mut rest = children;
     while let [first, others @ ..] = rest {
@@ -47,12 +47,43 @@ fn row_cuts(listed: bool, children: &[Option<Node>]) -> bool
                 return true;
             }
         }
-        if !listed {
-            return false;
-        }
         rest = others;
     }
     false
+}
+
+#[cycle(cuts)]
+fn first_cuts(children: &[Option<Node>]) -> bool
+    ensures { result ≡ row_cuts at_first (row children.now) }
+{
+    match children {
+        [Some(node), ..] => cuts_off(node),
+        [None, ..] => false,
+        [] => false,
+    }
+}
+
+#[cycle(cuts)]
+fn both_cut(children: &[Option<Node>]) -> bool
+    ensures { result ≡ row_cuts at_both (row children.now) }
+{
+    match children {
+        [Some(node), others @ ..] => cuts_off(node) && first_cuts(others),
+        [None, ..] => false,
+        [] => false,
+    }
+}
+
+// Of what stands behind a test.
+#[cycle(cuts)]
+fn branches_cut(children: &[Option<Node>]) -> bool
+    ensures { result ≡ row_cuts at_branches (row children.now) }
+{
+    match children {
+        [Some(_), others @ ..] => both_cut(others),
+        [None, ..] => false,
+        [] => false,
+    }
 }
 
 // A statement that is no declaration.

@@ -40,7 +40,7 @@ use Rattle.steps_allowed.specs.TwoSides.{both_sides_act}
 use Rattle.steps_allowed.specs.UnusedObject.{acting_values_stay}
 use Rattle.steps_allowed.specs.KnownOperation.{known_literal, value_is_known}
 use Rattle.steps_allowed.specs.Edits.{Edit, leaves, becomes, empty_statement, empty_block, silent_statement, unused_function, unused_declaration, unused_import, unreached, untaken, known_conditional, known_side, known_if, dead_if, unused_operation, unused_list, indirect_choice, one_sided_choice, idle_parts, two_sides, unused_object, known_operation}
-use Rattle.steps_allowed.specs.Rows.{labeled, branch_of_if, in_branch, in_function, debugger, throwing_block, broken_label, past, in_list, before, throws, behind_throw, call_of_a, null, if_one, if_null, either_way, conditional, logical, may_be_named, o_f, parenthesized, in_statement, called, called_in_parentheses, called_in_with, argument, operand, applied, equals, assigned, statement, ComesOut, Stays, StaysUnused, array, spread, hole, sequence, ListStays, ChoiceStays, PartsStay, SidesStay, object, a_is, b_is, getter_of_a, ObjectStays, literal, operation, OperationStays, behind_zero, placed, StaysDirect, with_a, in_with_a, empty, a_is_read, a_is_exported, imports_nothing, only_import, tried, loop}
+use Rattle.steps_allowed.specs.Rows.{labeled, branch_of_if, in_branch, in_function, debugger, throwing_block, throwing_branch, broken_label, past, in_list, before, throws, behind_throw, call_of_a, null, if_one, if_null, either_way, conditional, logical, may_be_named, o_f, parenthesized, in_statement, called, called_in_parentheses, called_in_with, argument, operand, applied, equals, assigned, statement, ComesOut, Stays, StaysUnused, array, spread, hole, sequence, ListStays, ChoiceStays, PartsStay, SidesStay, object, a_is, b_is, getter_of_a, ObjectStays, literal, operation, OperationStays, behind_zero, placed, StaysDirect, with_a, in_with_a, empty, a_is_read, a_is_exported, imports_nothing, only_import, tried, loop}
 
 pub empties_in_list : Edit (a_module (does one ∷ [])) (a_module (empty ∷ []))
 empties_in_list = becomes (before []) _ _ (silent_statement (silent_statement_empties nowhere nowhere nowhere _ nothing (inl refl, tt)))
@@ -497,6 +497,12 @@ unreached_debugger_leaves = leaves behind_throw _ (unreached (never_runs refl re
 
 pub unreached_by_block_leaves : Edit (a_module (throwing_block ∷ does call_of_a ∷ [])) (a_module (throwing_block ∷ []))
 unreached_by_block_leaves = leaves (in_list (past throwing_block (first nothing))) _ (unreached (never_runs refl refl refl refl))
+
+pub unreached_by_branches_leaves : Edit (a_module (throwing_branch throwing_block ∷ does call_of_a ∷ [])) (a_module (throwing_branch throwing_block ∷ []))
+unreached_by_branches_leaves = leaves (in_list (past (throwing_branch throwing_block) (first nothing))) _ (unreached (never_runs refl refl refl refl))
+
+pub behind_one_branch_stays : (x : Tree) → Unreached (in_list (past (throwing_branch no) (first nothing))) x → ⊥
+behind_one_branch_stays x (never_runs item jump runs none) = true≢false (sym jump)
 
 pub behind_label_stays : (x : Tree) → Unreached (in_list (past broken_label (first nothing))) x → ⊥
 behind_label_stays x (never_runs item jump runs none) = true≢false (sym jump)

@@ -42,6 +42,10 @@ throws e = over Kind.ThrowStatement e
 abbrev pub throwing_block : Forest
 throwing_block = block (block (throws one ∷ []) ∷ [])
 
+-- if (a) throw 1; else alternate
+abbrev pub throwing_branch : (alternate : Forest) → Forest
+throwing_branch alternate = over Kind.IfStatement (joined (reads a) (joined (throws one) alternate))
+
 -- l: { break l; }
 abbrev pub broken_label : Forest
 broken_label = over (Kind.LabeledStatement (codes "l")) (block (leaf (Kind.BreakStatement (Some (codes "l"))) ∷ []))

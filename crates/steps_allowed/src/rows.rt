@@ -24,7 +24,7 @@ ghost use Rattle.steps_allowed.specs.Unreached.{Unreached};
 ghost use Rattle.steps_allowed.specs.Untaken.{Untaken};
 ghost use Rattle.steps_allowed.specs.EmptyBlock.{EmptyBlock};
 ghost use Rattle.steps_allowed.specs.Edits.{Edit};
-ghost use Rattle.steps_allowed.specs.Rows.{before, labeled, tried, loop, branch_of_if, in_list, past, in_branch, in_function, debugger, throwing_block, broken_label, throws, behind_throw, call_of_a, null, if_one, if_null, either_way, conditional, logical, may_be_named, o_f, parenthesized, called, called_in_parentheses, called_in_with, argument, operand, applied, equals, assigned, statement, ComesOut, Stays, StaysUnused, array, spread, hole, sequence, ListStays, ChoiceStays, PartsStay, SidesStay, object, a_is, b_is, getter_of_a, ObjectStays, literal, operation, OperationStays, behind_zero, placed, StaysDirect, with_a, in_with_a, empty, a_is_read, a_is_exported, imports_nothing};
+ghost use Rattle.steps_allowed.specs.Rows.{before, labeled, tried, loop, branch_of_if, in_list, past, in_branch, in_function, debugger, throwing_block, throwing_branch, broken_label, throws, behind_throw, call_of_a, null, if_one, if_null, either_way, conditional, logical, may_be_named, o_f, parenthesized, called, called_in_parentheses, called_in_with, argument, operand, applied, equals, assigned, statement, ComesOut, Stays, StaysUnused, array, spread, hole, sequence, ListStays, ChoiceStays, PartsStay, SidesStay, object, a_is, b_is, getter_of_a, ObjectStays, literal, operation, OperationStays, behind_zero, placed, StaysDirect, with_a, in_with_a, empty, a_is_read, a_is_exported, imports_nothing};
 
 /// A statement of a literal becomes empty, in a list and alone, and leaves the list then.
 pub fn silent_statements_go()
@@ -104,13 +104,16 @@ pub fn blocks_of_nothing_leave()
     ensures branch { (x : Tree) → EmptyBlock branch_of_if x → ⊥ }
 {}
 
-/// A statement behind a jump leaves its list, whatever stands between, and so does one behind a block with a jump, unless it declares a
-/// name around it. Declarations stay, and so does what stands in front of a jump, behind a label or in no list with one.
+/// A statement behind a jump leaves its list, whatever stands between, and so does one behind a block with a jump, or behind an `if`
+/// of which both branches jump, unless it declares a name around it. Declarations stay, and so does what stands in front of a jump, behind
+/// an `if` of which one branch jumps, behind a label or in no list with a jump.
 pub fn what_never_runs_leaves()
     ensures call { Edit (a_module (throws one ∷ does call_of_a ∷ [])) (a_module (throws one ∷ [])) }
     ensures further { Edit (a_module (throws one ∷ let_ a ∷ block (does call_of_a ∷ []) ∷ [])) (a_module (throws one ∷ let_ a ∷ [])) }
     ensures debugger { Edit (a_module (throws one ∷ debugger ∷ [])) (a_module (throws one ∷ [])) }
     ensures block { Edit (a_module (throwing_block ∷ does call_of_a ∷ [])) (a_module (throwing_block ∷ [])) }
+    ensures branches { Edit (a_module (throwing_branch throwing_block ∷ does call_of_a ∷ [])) (a_module (throwing_branch throwing_block ∷ [])) }
+    ensures one_branch { (x : Tree) → Unreached (in_list (past (throwing_branch no) (first nothing))) x → ⊥ }
     ensures label { (x : Tree) → Unreached (in_list (past broken_label (first nothing))) x → ⊥ }
     ensures declaration { (n : Note) (below : Forest) → Unreached behind_throw (record { kind = Kind.VariableDeclaration variable.Let; note = n; below = below }) → ⊥ }
     ensures declares { (n : Note) → Unreached behind_throw (record { kind = Kind.BlockStatement; note = n; below = listed Kind.Statements (var_ a ∷ []) }) → ⊥ }

@@ -135,6 +135,7 @@ jump_ends (Kind.BreakStatement l) below j = refl
 jump_ends (Kind.ContinueStatement l) below j = refl
 jump_ends Kind.BlockStatement below j = refl
 jump_ends Kind.Statements below j = refl
+jump_ends Kind.IfStatement below j = refl
 jump_ends k below j = absurd (true≢false (sym j))
 
 uncounted_behind : (jumped : Bool) (k : Kind) (n : Note) (below : Forest) (a : Around) (x : Tree) → Uncounted jumped (behind k n below a) x → Uncounted (jumped || cuts_off k below) a x

@@ -11,7 +11,7 @@ use Rattle.min_pass.specs.Around.{entered as asked_below, outermost as asked_of_
 use Rattle.scope_laws.specs.Place.{Around, first, behind, behind_none, under, plug}
 use Rattle.steps_allowed.specs.Places.{a_node, asked_at, has_node}
 use Rattle.steps_owed.specs.Owed.{MayChange, IsIdleItem}
-use Rattle.js_meaning_near.specs.Near.{is_list, cuts_so, row_cuts, cuts_off}
+use Rattle.js_meaning_near.specs.Near.{Glance, glance_below, glance_behind, is_any, cuts_by, cuts_so, row_cuts, cuts_off}
 use Rattle.min_pass.specs.declared.around.Row.TheVariants.{Items as items}
 use Rattle.steps_allowed.specs.Unreached.{is_behind_jump}
 use Rattle.steps_allowed.specs.Untaken.{begins_untaken, runs_inside, is_untaken}
@@ -143,14 +143,14 @@ bare_at evaluates w e kind.BlockStatement below = ap (λ b. holds_items w.row &&
 bare_at evaluates w e (kind.Function function_kind.Declaration pure) below = refl
 bare_at evaluates w e k below = refl
 
-row_cuts_bare : (listed : Bool) (t : Forest) → row_cuts listed (bare t) ≡ row_cuts listed t
-row_cuts_bare listed nothing = refl
-row_cuts_bare listed (absent rest) = ap (λ b. listed && b) (row_cuts_bare listed rest)
-row_cuts_bare listed (node k n below rest) = ap₂ (λ b c. cuts_so k b || (listed && c)) (row_cuts_bare (is_list k) below) (row_cuts_bare listed rest)
+row_cuts_bare : (g : Glance) (t : Forest) → row_cuts g (bare t) ≡ row_cuts g t
+row_cuts_bare g nothing = refl
+row_cuts_bare g (absent rest) = ap (λ b. is_any g && b) (row_cuts_bare g rest)
+row_cuts_bare g (node k n below rest) = ap₂ (λ b c. cuts_by g (cuts_so k b) c) (row_cuts_bare (glance_below k) below) (row_cuts_bare (glance_behind g) rest)
 
 -- notes don't matter
 pub cuts_bare : (k : Kind) (t : Forest) → cuts_off k (bare t) ≡ cuts_off k t
-cuts_bare k t = ap (cuts_so k) (row_cuts_bare (is_list k) t)
+cuts_bare k t = ap (cuts_so k) (row_cuts_bare (glance_below k) t)
 
 bare_row : (evaluates : Bool) (w : Asked) (es fs : ℕ → Exposure) (at : ℕ) (t : Forest) → ((i : ℕ) → es i ≡ fs i) → may_change evaluates w es at (bare t) ≡ may_change evaluates w fs at t
 bare_row evaluates w es fs at nothing s = refl
