@@ -26,7 +26,7 @@ Until c all d jumped t = (e : Seen) → LeavesUnreached d jumped t e → LeavesU
 one_gone : (m : Forest → ℕ) (jumped : Bool) (x : Tree) (t : Forest) → is_unreached jumped x.kind x.below ≡ true → unreached_shed m jumped (node x.kind x.note x.below t) ≡ m (forest_of x) + unreached_shed m jumped t
 one_gone m jumped x t g = ap (λ b. if b then m (forest_of x) + unreached_shed m jumped t else unreached_shed m (jumped || cuts_off x.kind x.below) t) g
 
-others : (xs : List (Option Tree)) (y : Option Tree) → take (length (y ∷ xs) - 1) (drop 1 (y ∷ xs)) ≡ xs
+pub others : (xs : List (Option Tree)) (y : Option Tree) → take (length (y ∷ xs) - 1) (drop 1 (y ∷ xs)) ≡ xs
 others xs y =
     let less : length (y ∷ xs) - 1 ≡ length xs = Prim.omega arith in
     ap (λ n. take n xs) less ∙ take_all (length xs) xs (Prim.omega arith)

@@ -12,7 +12,7 @@ use Rattle.min_statements.specs.Shed.{is_dead_declarator, is_dead_item, is_unuse
 
 -- ---- those that stay
 
-kept : (b : Bool) (t : Tree) (ts : List (Option Tree)) (r : Forest) → row ts ≡ r → row (cond (not b) (Some t ∷ ts) ts) ≡ (if b then r else node t.kind t.note t.below r)
+pub kept : (b : Bool) (t : Tree) (ts : List (Option Tree)) (r : Forest) → row ts ≡ r → row (cond (not b) (Some t ∷ ts) ts) ≡ (if b then r else node t.kind t.note t.below r)
 kept true t ts r e = e
 kept false t ts r e = ap (node t.kind t.note t.below) e
 

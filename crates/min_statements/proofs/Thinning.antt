@@ -15,14 +15,16 @@ use Rattle.min_expressions.specs.Kept.{kept_if}
 use Rattle.min_traverse.specs.Lawful.{Does}
 use Rattle.min_traverse.proofs.Joining.{does_some, does_none}
 use Rattle.rules_expressions.specs.Ifs.{given_if}
-use Rattle.rules_expressions.specs.Untaken.{is_list, may_go, rid, has_idle, branch_has, what_stays, if_left, rid_if}
+use Rattle.rules_expressions.specs.Untaken.{is_list, may_go, rid, row_loses, branch_loses, what_stays, if_left, rid_if}
 use Rattle.steps_allowed.specs.KnownConditional.{truth_known}
 use Rattle.steps_allowed.specs.KnownIf.{an_if}
 use Rattle.steps_allowed.specs.Untaken.{runs_inside}
 use Rattle.steps_allowed.specs.Uses.{Use, use_at, stands_bare}
 use Rattle.scope_laws.specs.Place as places
-use Rattle.min_statements.specs.Untaken.{by_truth, untaken_at, idle_shed, inside_shed, item_shed, shed_of, shed_at, inside_left, goes_idle, kept_of, each_rid, rid_one, rid_at}
+use Rattle.min_statements.specs.Untaken.{by_truth, untaken_at, row_shed, inside_shed, one_shed, shed_of, shed_at, inside_left, goes_there, kept_of, each_rid, rid_one, rid_at}
 use Rattle.min_statements.proofs.Calls.{is_no_name, CallsStay}
+use Rattle.min_statements.proofs.Emptying.{others}
+use Rattle.min_statements.proofs.Kept.{kept}
 use Rattle.min_statements.proofs.Shed.{Adds, ids_add, evals_add, leaves_none, leaves_more, edited}
 
 -- ---- what stands there then
@@ -42,11 +44,11 @@ left_where false h x b c = refl
 module _ (n t_note : Note) (t : Kind) (a : Forest) where
   left_so : (truth : Option Bool) (branches : Forest) → left_by n if_statement (node t t_note a branches) (by_truth truth branches) ≡ what_stays n t t_note a truth branches
   left_so (Some false) (node k i b alternate) =
-      chosen_left (branch_has k b) 1 n if_statement (node t t_note a (node k i b alternate))
-      ∙ left_where (runs_inside k) (has_idle (is_list k) b) (λ z. an_if n t t_note a (node k i z alternate)) b (rid (is_list k) b)
+      chosen_left (branch_loses k b) 1 n if_statement (node t t_note a (node k i b alternate))
+      ∙ left_where (runs_inside k) (row_loses (is_list k) b) (λ z. an_if n t t_note a (node k i z alternate)) b (rid (is_list k) b)
   left_so (Some true) (node k i b (node l j c rest)) =
-      chosen_left (branch_has l c) 2 n if_statement (node t t_note a (node k i b (node l j c rest)))
-      ∙ left_where (runs_inside l) (has_idle (is_list l) c) (λ z. an_if n t t_note a (node k i b (node l j z rest))) c (rid (is_list l) c)
+      chosen_left (branch_loses l c) 2 n if_statement (node t t_note a (node k i b (node l j c rest)))
+      ∙ left_where (runs_inside l) (row_loses (is_list l) c) (λ z. an_if n t t_note a (node k i b (node l j z rest))) c (rid (is_list l) c)
   left_so (Some false) nothing = refl
   left_so (Some false) (absent rest) = refl
   left_so (Some true) nothing = refl
@@ -103,14 +105,14 @@ module _ (m : Forest → ℕ) (a : Adds m) (inside : CountsInside m) where
   one_splits true runs k n b left rest stays s t e h g = Prim.omega (arith, a.joins k n b rest, g)
   one_splits false runs k n b left rest stays s t e h g = Prim.omega (arith, a.joins k n b rest, a.joins k n (if runs then left else b) stays, inside_splits runs k n b left s e h, g)
 
-  rid_splits : (listed : Bool) (t : Forest) → m t ≡ idle_shed m listed t + m (rid listed t)
+  rid_splits : (listed : Bool) (t : Forest) → m t ≡ row_shed m listed t + m (rid listed t)
   rid_splits listed nothing = Prim.omega arith
   rid_splits listed (absent rest) = Prim.omega (arith, a.gap rest, a.gap (rid listed rest), rid_splits listed rest)
   rid_splits listed (node k n b rest) =
-      one_splits (may_go listed k b) (runs_inside k) k n b (rid (is_list k) b) rest (rid listed rest) (idle_shed m (is_list k) b) (idle_shed m listed rest) refl (rid_splits (is_list k) b) (rid_splits listed rest)
+      one_splits (may_go listed k b) (runs_inside k) k n b (rid (is_list k) b) rest (rid listed rest) (row_shed m (is_list k) b) (row_shed m listed rest) refl (rid_splits (is_list k) b) (rid_splits listed rest)
 
   branch_splits : (k : Kind) (n : Note) (b rest : Forest) → m (node k n b rest) ≡ inside_shed m k b + m (node k n (inside_left k b) rest)
-  branch_splits k n b rest = Prim.omega (arith, a.joins k n b rest, a.joins k n (inside_left k b) rest, inside_splits (runs_inside k) k n b (rid (is_list k) b) (idle_shed m (is_list k) b) refl (rid_splits (is_list k) b))
+  branch_splits k n b rest = Prim.omega (arith, a.joins k n b rest, a.joins k n (inside_left k b) rest, inside_splits (runs_inside k) k n b (rid (is_list k) b) (row_shed m (is_list k) b) refl (rid_splits (is_list k) b))
 
   at_splits : (i : ℕ) (t : Forest) → m t ≡ shed_at m i t + m (rid_at i t)
   at_splits zero nothing = Prim.omega arith
@@ -125,15 +127,18 @@ module _ (m : Forest → ℕ) (a : Adds m) (inside : CountsInside m) where
 
 -- ---- what the call does
 
-is_an_if : (k : Kind) (t : Forest) (i : ℕ) → untaken_at k t ≡ Some i → runs_inside k ≡ true
-is_an_if if_statement t i e = refl
-is_an_if k t i e = absurd Prim.cc
+is_if : (k : Kind) (t : Forest) (i : ℕ) → untaken_at k t ≡ Some i → k ≡ if_statement
+is_if if_statement t i e = refl
+is_if k t i e = absurd Prim.cc
+
+runs_there : (k : Kind) (t : Forest) (i : ℕ) → untaken_at k t ≡ Some i → runs_inside k ≡ true
+runs_there k t i e = ap runs_inside (is_if k t i e)
 
 pub left_does : {c k d : Seen} (x y : Tree) (i : ℕ) (b : Forest) → untaken_at x.kind x.below ≡ Some i → k ≡ record c { requested = true } → b ≡ x.below → Leaves k (λ r. shed_at (ids r) i b) (shed_at evals i b) d → y ≡ record x { below = rid_at i x.below } → Does rid_if c x true d y
 left_does {c = c} {k = k} {d = d} x y i b at asked is left tree =
     let z : Tree = record { kind = x.kind; note = x.note; below = rid_at i x.below } in
     let there : Leaves k (λ r. shed_at (ids r) i x.below) (shed_at evals i x.below) d = subst (λ t. Leaves k (λ r. shed_at (ids r) i t) (shed_at evals i t) d) is left in
-    let runs = is_an_if x.kind x.below i at in
+    let runs = runs_there x.kind x.below i at in
     let does : Does rid_if c x true d z =
     does_some rid_if c x z (sym (left_as_ruled x.note x.kind x.below) ∙ ap (left_by x.note x.kind x.below) at)
     (edited x z asked there (λ r. if_splits (ids r) (ids_add r) (ids_inside r) x i runs) (if_splits evals evals_add evals_inside x i runs)) in
@@ -143,10 +148,6 @@ pub left_none : (c : Seen) (x : Tree) → untaken_at x.kind x.below ≡ None →
 left_none c x at = does_none rid_if c x (sym (left_as_ruled x.note x.kind x.below) ∙ ap (left_by x.note x.kind x.below) at)
 
 -- no call of it is a direct one of `eval`
-
-is_if : (k : Kind) (t : Forest) (i : ℕ) → untaken_at k t ≡ Some i → k ≡ if_statement
-is_if if_statement t i e = refl
-is_if k t i e = absurd Prim.cc
 
 if_bare : (u : Use) (k : Kind) (b : Forest) → k ≡ if_statement → stands_bare u false k b ≡ true
 if_bare u k b e = ap (λ l. stands_bare u false l b) e
@@ -166,7 +167,7 @@ left_calls a x y e = by (untaken_at x.kind x.below) refl
         let z : Tree = record { kind = x.kind; note = x.note; below = rid_at i x.below } in
         let same : z ≡ y = some_same (sym (ap (left_by x.note x.kind x.below) at) ∙ left_as_ruled x.note x.kind x.below ∙ e) in
         let stay : CallsStay a x z = record {
-          fewer = Prim.omega (arith, if_splits evals evals_add evals_inside x i (is_an_if x.kind x.below i at));
+          fewer = Prim.omega (arith, if_splits evals evals_add evals_inside x i (runs_there x.kind x.below i at));
           old = ap is_no_name (is_if x.kind x.below i at);
           in_with = false;
           bare = if_bare (use_at a) x.kind (rid_at i x.below) (is_if x.kind x.below i at);
@@ -175,28 +176,23 @@ left_calls a x y e = by (untaken_at x.kind x.below) refl
 
 -- ---- the context is told
 
-abbrev pub LeavesIdle : Seen → (listed : Bool) → Forest → Seen → Type 0
-LeavesIdle c listed t d = Leaves c (λ r. idle_shed (ids r) listed t) (idle_shed evals listed t) d
+abbrev pub LeavesRow : Seen → (listed : Bool) → Forest → Seen → Type 0
+LeavesRow c listed t d = Leaves c (λ r. row_shed (ids r) listed t) (row_shed evals listed t) d
 
 -- what is left to be told, by a loop: whatever tells the context of that has told it of all
 abbrev pub Until : (start : Seen) → (listed : Bool) → Forest → Seen → Forest → Type 0
-Until c listed all d t = (e : Seen) → LeavesIdle d listed t e → LeavesIdle c listed all e
-
-others : (xs : List (Option Tree)) (y : Option Tree) → take (length (y ∷ xs) - 1) (drop 1 (y ∷ xs)) ≡ xs
-others xs y =
-    let less : length (y ∷ xs) - 1 ≡ length xs = Prim.omega arith in
-    ap (λ n. take n xs) less ∙ take_all (length xs) xs (Prim.omega arith)
+Until c listed all d t = (e : Seen) → LeavesRow d listed t e → LeavesRow c listed all e
 
 pub until_next : {c d e : Seen} (listed : Bool) (all : Forest) (xs : List (Option Tree)) (y : Option Tree) (x : Tree) → 1 ≤ length xs → y ≡ get_or xs 0 y → y ≡ Some x
-    → Leaves d (λ r. item_shed (ids r) listed x) (item_shed evals listed x) e → Until c listed all d (row xs) → Until c listed all e (row (take (length xs - 1) (drop 1 xs)))
+    → Leaves d (λ r. one_shed (ids r) listed x) (one_shed evals listed x) e → Until c listed all d (row xs) → Until c listed all e (row (take (length xs - 1) (drop 1 xs)))
 until_next listed all [] y x l at is told until f rest = absurd (Prim.omega (arith, l))
 until_next {c = c} {d = d} {e = e} listed all (z ∷ zs) y x l at is told until f rest =
     let first : z ≡ Some x = sym at ∙ is in
-    let here : LeavesIdle e listed (row zs) f = subst (λ us. LeavesIdle e listed (row us) f) (others zs z) rest in
-    let both : LeavesIdle d listed (row (Some x ∷ zs)) f = leaves_more told here (λ r. refl) refl in
-    until f (subst (λ q. LeavesIdle d listed (row (q ∷ zs)) f) (sym first) both)
+    let here : LeavesRow e listed (row zs) f = subst (λ us. LeavesRow e listed (row us) f) (others zs z) rest in
+    let both : LeavesRow d listed (row (Some x ∷ zs)) f = leaves_more told here (λ r. refl) refl in
+    until f (subst (λ q. LeavesRow d listed (row (q ∷ zs)) f) (sym first) both)
 
-pub until_none : {c d : Seen} (listed : Bool) (all : Forest) (xs : List (Option Tree)) → length xs < 1 → Until c listed all d (row xs) → LeavesIdle c listed all d
+pub until_none : {c d : Seen} (listed : Bool) (all : Forest) (xs : List (Option Tree)) → length xs < 1 → Until c listed all d (row xs) → LeavesRow c listed all d
 until_none {d = d} listed all [] l until = until d (leaves_none d)
 until_none listed all (x ∷ xs) l until = absurd (Prim.omega (arith, l))
 
@@ -244,14 +240,10 @@ no_child_rid (Some t ∷ xs) (suc i) l = ap (node t.kind t.note t.below) (no_chi
 
 -- ---- items that stay
 
-kept : (b : Bool) (t : Tree) (ts : List (Option Tree)) (r : Forest) → row ts ≡ r → row (cond (not b) (Some t ∷ ts) ts) ≡ (if b then r else node t.kind t.note t.below r)
-kept true t ts r e = e
-kept false t ts r e = ap (node t.kind t.note t.below) e
-
-pub idle_kept : (listed : Bool) (ts : List (Option Tree)) → row (filter (λ x. not (goes_idle listed x)) ts) ≡ kept_of listed (row ts)
-idle_kept listed [] = refl
-idle_kept listed (None ∷ ts) = ap absent (idle_kept listed ts)
-idle_kept listed (Some t ∷ ts) = kept (may_go listed t.kind t.below) t (filter (λ x. not (goes_idle listed x)) ts) (kept_of listed (row ts)) (idle_kept listed ts)
+pub kept_there : (listed : Bool) (ts : List (Option Tree)) → row (filter (λ x. not (goes_there listed x)) ts) ≡ kept_of listed (row ts)
+kept_there listed [] = refl
+kept_there listed (None ∷ ts) = ap absent (kept_there listed ts)
+kept_there listed (Some t ∷ ts) = kept (may_go listed t.kind t.below) t (filter (λ x. not (goes_there listed x)) ts) (kept_of listed (row ts)) (kept_there listed ts)
 
 one_rid : (g : Bool) (k : Kind) (n : Note) (b r l : Forest) → each_rid r ≡ l → each_rid (if g then r else node k n b r) ≡ (if g then l else node k n (inside_left k b) l)
 one_rid true k n b r l e = e

@@ -4,15 +4,15 @@ use Rattle.js_syntax.specs.declared.node_kind.NodeKind.{NodeKind as Kind}
 use Rattle.js_syntax.specs.declared.node_kind.NodeKind.TheVariants.{IfStatement as if_statement}
 use Rattle.js_syntax.specs.Node.{Forest, Tree, nothing, node, absent, alone}
 use Rattle.min_expressions.specs.Kept.{kept_if}
-use Rattle.rules_expressions.specs.Untaken.{is_list, may_go, rid, branch_has}
+use Rattle.rules_expressions.specs.Untaken.{is_list, may_go, rid, branch_loses}
 use Rattle.steps_allowed.specs.KnownConditional.{truth_known}
 use Rattle.steps_allowed.specs.Untaken.{runs_inside}
 
 -- ---- which branch
 
 abbrev pub by_truth : (truth : Option Bool) → (branches : Forest) → Option ℕ
-by_truth (Some false) (node k i b alternate) = kept_if (branch_has k b) 1
-by_truth (Some true) (node k i b (node l j c rest)) = kept_if (branch_has l c) 2
+by_truth (Some false) (node k i b alternate) = kept_if (branch_loses k b) 1
+by_truth (Some true) (node k i b (node l j c rest)) = kept_if (branch_loses l c) 2
 by_truth truth branches = None
 
 abbrev pub among : (parts : Forest) → Option ℕ
@@ -27,16 +27,16 @@ untaken_at k parts = None
 
 -- `m` says what a row counts
 module _ (m : Forest → ℕ) where
-  abbrev pub idle_shed : (listed : Bool) → Forest → ℕ
-  idle_shed listed nothing = 0
-  idle_shed listed (absent rest) = idle_shed listed rest
-  idle_shed listed (node k n below rest) = (if may_go listed k below then m (alone k n below) else if runs_inside k then idle_shed (is_list k) below else 0) + idle_shed listed rest
+  abbrev pub row_shed : (listed : Bool) → Forest → ℕ
+  row_shed listed nothing = 0
+  row_shed listed (absent rest) = row_shed listed rest
+  row_shed listed (node k n below rest) = (if may_go listed k below then m (alone k n below) else if runs_inside k then row_shed (is_list k) below else 0) + row_shed listed rest
 
   abbrev pub inside_shed : Kind → (below : Forest) → ℕ
-  inside_shed k below = if runs_inside k then idle_shed (is_list k) below else 0
+  inside_shed k below = if runs_inside k then row_shed (is_list k) below else 0
 
-  abbrev pub item_shed : (listed : Bool) → Tree → ℕ
-  item_shed listed x = if may_go listed x.kind x.below then m (alone x.kind x.note x.below) else inside_shed x.kind x.below
+  abbrev pub one_shed : (listed : Bool) → Tree → ℕ
+  one_shed listed x = if may_go listed x.kind x.below then m (alone x.kind x.note x.below) else inside_shed x.kind x.below
 
   abbrev pub shed_of : Option Tree → ℕ
   shed_of None = 0
@@ -55,9 +55,9 @@ module _ (m : Forest → ℕ) where
 abbrev pub inside_left : Kind → (below : Forest) → Forest
 inside_left k below = if runs_inside k then rid (is_list k) below else below
 
-abbrev pub goes_idle : (listed : Bool) → Option Tree → Bool
-goes_idle listed None = false
-goes_idle listed (Some x) = may_go listed x.kind x.below
+abbrev pub goes_there : (listed : Bool) → Option Tree → Bool
+goes_there listed None = false
+goes_there listed (Some x) = may_go listed x.kind x.below
 
 -- the row without those that go, and each without what goes in it
 abbrev pub kept_of : (listed : Bool) → Forest → Forest

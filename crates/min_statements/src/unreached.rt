@@ -1,4 +1,4 @@
-// What stands behind a jump in its list, and declares no name around it, never runs.
+// What stands in its list behind a jump, or behind what cuts off as one does, and declares no name around it, never runs.
 ghost use Rattle.std.specs.Prelude.{◌≡◌, true, false};
 ghost use Rattle.js_syntax.specs.declared.node_kind.NodeKind.TheVariants.{EmptyStatement as empty_statement};
 ghost use Rattle.js_syntax.specs.Node.{nothing, row};
@@ -112,7 +112,7 @@ pub(crate) fn only_runs(kind: &NodeKind) -> bool
     }
 }
 
-// `jumped` says whether a jump stands before it in its list.
+// `jumped` says whether such a statement stands before it in its list.
 fn is_unreached(jumped: bool, node: &Node) -> bool
     ensures { result ≡ is_unreached jumped node.now.kind node.now.below }
 {
@@ -121,7 +121,7 @@ fn is_unreached(jumped: bool, node: &Node) -> bool
 
 // ---- a list
 
-/// Whether anything of a list of statements never runs for a jump before it.
+/// Whether anything of a list of statements never runs for what stands before it.
 pub(crate) fn has_unreached(children: &[Option<Node>]) -> bool
     ensures { result ≡ has_unreached false (row children.now) }
 {

@@ -5,8 +5,8 @@ ghost use Rattle.scope_counts.specs.Counts.{ids};
 ghost use Rattle.min_context.specs.Edited.{evals, Leaves};
 ghost use Rattle.min_expressions.specs.Kept.{kept_if};
 ghost use Rattle.steps_allowed.specs.Untaken.{runs_inside};
-ghost use Rattle.rules_expressions.specs.Untaken.{is_list, may_go, has_idle, branch_has};
-ghost use Rattle.min_statements.specs.Untaken.{by_truth, among, untaken_at, idle_shed, inside_shed, item_shed, shed_of, shed_at, inside_left, goes_idle, kept_of, each_rid, rid_one, rid_at};
+ghost use Rattle.rules_expressions.specs.Untaken.{is_list, may_go, row_loses, branch_loses};
+ghost use Rattle.min_statements.specs.Untaken.{by_truth, among, untaken_at, row_shed, inside_shed, one_shed, shed_of, shed_at, inside_left, goes_there, kept_of, each_rid, rid_one, rid_at};
 
 use crate::inside::declares_no_name;
 use crate::unreached::only_runs;
@@ -57,16 +57,16 @@ fn may_go(listed: bool, node: &Node) -> bool
 
 // ---- whether something goes. The recursion goes as deep as the tree.
 
-#[cycle(idle)]
-fn branch_has(node: &Node) -> bool
-    ensures { result ≡ branch_has node.now.kind node.now.below }
+#[cycle(loses)]
+fn branch_loses(node: &Node) -> bool
+    ensures { result ≡ branch_loses node.now.kind node.now.below }
 {
-    runs_inside(node.kind()) && has_idle(is_list(node.kind()), node.children())
+    runs_inside(node.kind()) && row_loses(is_list(node.kind()), node.children())
 }
 
-#[cycle(idle)]
-fn has_idle(listed: bool, children: &[Option<Node>]) -> bool
-    ensures { result ≡ has_idle listed (row children.now) }
+#[cycle(loses)]
+fn row_loses(listed: bool, children: &[Option<Node>]) -> bool
+    ensures { result ≡ row_loses listed (row children.now) }
 {
     let mut rest = children;
     while let [first, others @ ..] = rest {
@@ -74,7 +74,7 @@ fn has_idle(listed: bool, children: &[Option<Node>]) -> bool
             if may_go(listed, node) {
                 return true;
             }
-            if branch_has(node) {
+            if branch_loses(node) {
                 return true;
             }
         }
@@ -95,7 +95,7 @@ fn untaken_consequent(branches: &[Option<Node>]) -> Option<usize>
     ensures { result ≡ by_truth (Some false) (row branches.now) }
 {
     match branches {
-        [Some(consequent), ..] => index_where(branch_has(consequent), 1),
+        [Some(consequent), ..] => index_where(branch_loses(consequent), 1),
         [None, ..] => None,
         [] => None,
     }
@@ -105,7 +105,7 @@ fn untaken_alternate(branches: &[Option<Node>]) -> Option<usize>
     ensures { result ≡ by_truth (Some true) (row branches.now) }
 {
     match branches {
-        [Some(_), Some(alternate), ..] => index_where(branch_has(alternate), 2),
+        [Some(_), Some(alternate), ..] => index_where(branch_loses(alternate), 2),
         [Some(_), None, ..] => None,
         [Some(_)] => None,
         [None, ..] => None,
@@ -151,14 +151,14 @@ fn drop_inside(node: &Node, ctx: &mut MinifierTraverseCtx)
     ensures left { Leaves ctx.old (λ r. inside_shed (ids r) node.now.kind node.now.below) (inside_shed evals node.now.kind node.now.below) ctx.new }
 {
     if runs_inside(node.kind()) {
-        drop_idle(is_list(node.kind()), node.children(), ctx);
+        drop_row(is_list(node.kind()), node.children(), ctx);
     }
 }
 
 #[cycle(drops)]
 fn drop_item(listed: bool, node: &Node, ctx: &mut MinifierTraverseCtx)
     requires asked { ctx.old.requested ≡ true }
-    ensures left { Leaves ctx.old (λ r. item_shed (ids r) listed node.now) (item_shed evals listed node.now) ctx.new }
+    ensures left { Leaves ctx.old (λ r. one_shed (ids r) listed node.now) (one_shed evals listed node.now) ctx.new }
 {
     if may_go(listed, node) {
         ctx.drop_statement(node);
@@ -168,9 +168,9 @@ fn drop_item(listed: bool, node: &Node, ctx: &mut MinifierTraverseCtx)
 }
 
 #[cycle(drops)]
-fn drop_idle(listed: bool, children: &[Option<Node>], ctx: &mut MinifierTraverseCtx)
+fn drop_row(listed: bool, children: &[Option<Node>], ctx: &mut MinifierTraverseCtx)
     requires asked { ctx.old.requested ≡ true }
-    ensures left { Leaves ctx.old (λ r. idle_shed (ids r) listed (row children.now)) (idle_shed evals listed (row children.now)) ctx.new }
+    ensures left { Leaves ctx.old (λ r. row_shed (ids r) listed (row children.now)) (row_shed evals listed (row children.now)) ctx.new }
 {
     let mut rest = children;
     while let [first, others @ ..] = rest {
@@ -202,8 +202,8 @@ pub(crate) fn drop_branch(parts: &[Option<Node>], at: usize, ctx: &mut MinifierT
 
 // ---- and then it is let go
 
-fn goes_idle(listed: bool, item: &Option<Node>) -> bool
-    ensures { result ≡ goes_idle listed item.now }
+fn goes_there(listed: bool, item: &Option<Node>) -> bool
+    ensures { result ≡ goes_there listed item.now }
 {
     match item {
         Some(node) => may_go(listed, node),
@@ -214,7 +214,7 @@ fn goes_idle(listed: bool, item: &Option<Node>) -> bool
 fn keep_items(listed: bool, items: &mut Vec<Option<Node>>)
     ensures { row items.new.items ≡ kept_of listed (row items.old.items) }
 {
-    items.retain(|item| !goes_idle(listed, item));
+    items.retain(|item| !goes_there(listed, item));
 }
 
 #[cycle(rid)]

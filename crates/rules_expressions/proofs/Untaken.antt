@@ -26,7 +26,7 @@ use Rattle.steps_owed.proofs.Unreached.{runs_weigh}
 use Rattle.rules_dead_code.proofs.Items.{row_of_list, leaves_there}
 use Rattle.rules_dead_code.proofs.Places.{to, plugged, join, plug_join, asked_row, asked_to, asked_join}
 use Rattle.rules_expressions.specs.Ifs.{given_if}
-use Rattle.rules_expressions.specs.Untaken.{is_list, may_go, rid, has_idle, branch_has, what_stays, if_left}
+use Rattle.rules_expressions.specs.Untaken.{is_list, may_go, rid, row_loses, branch_loses, what_stays, if_left}
 use Rattle.rules_expressions.proofs.Becoming.{no_answer, none_of, chosen, chosen_if, IsLess}
 
 no_kind : {A : Type 0} → false ≡ true → A
@@ -134,20 +134,20 @@ branch_edits a c k below items all = within a c below (rid (is_list k) below) (r
 module _ (n : Note) (t : Kind) (m : Note) (d : Forest) where
   by_truth : (a : counts.Around) (rest : Forest) (truth : Option Bool) (branches : Forest) (y : Tree) → truth_known t m d ≡ truth → what_stays n t m d truth branches ≡ Some y → TreeEdits (plug a (node if_statement n (node t m d branches) rest)) (plug a (node y.kind y.note y.below rest))
   by_truth a rest (Some false) (node k i b alternate) y is e =
-      elim (chosen_if (branch_has k b) (an_if n t m d (node k i (rid (is_list k) b) alternate)) y e) [
+      elim (chosen_if (branch_loses k b) (an_if n t m d (node k i (rid (is_list k) b) alternate)) y e) [
         | chosen has same ↦
             let c = under if_statement n (behind t m d (under k i here alternate)) rest in
             subst (λ (z : Tree). TreeEdits (plug a (node if_statement n (node t m d (node k i b alternate)) rest)) (plug a (node z.kind z.note z.below rest))) same
             (branch_edits a c k b (λ l. ap (λ (w : Asked). w.row) (asked_join (asked_of_program true) a c) ∙ items_below k (asked_below (asked_row (asked_of_program true) a) if_statement).row l)
-            (in_consequent n t m d k i alternate rest is (first_of_both (runs_inside k) (has_idle (is_list k) b) has)))
+            (in_consequent n t m d k i alternate rest is (first_of_both (runs_inside k) (row_loses (is_list k) b) has)))
       ]
   by_truth a rest (Some true) (node k i b (node l j c r)) y is e =
-      elim (chosen_if (branch_has l c) (an_if n t m d (node k i b (node l j (rid (is_list l) c) r))) y e) [
+      elim (chosen_if (branch_loses l c) (an_if n t m d (node k i b (node l j (rid (is_list l) c) r))) y e) [
         | chosen has same ↦
             let p = under if_statement n (behind t m d (behind k i b (under l j here r))) rest in
             subst (λ (z : Tree). TreeEdits (plug a (node if_statement n (node t m d (node k i b (node l j c r))) rest)) (plug a (node z.kind z.note z.below rest))) same
             (branch_edits a p l c (λ x. ap (λ (w : Asked). w.row) (asked_join (asked_of_program true) a p) ∙ items_below l (asked_below (asked_row (asked_of_program true) a) if_statement).row x)
-            (in_alternate n t m d k i b l j r rest is (first_of_both (runs_inside l) (has_idle (is_list l) c) has)))
+            (in_alternate n t m d k i b l j r rest is (first_of_both (runs_inside l) (row_loses (is_list l) c) has)))
       ]
   by_truth a rest None branches y is e = no_answer e
   by_truth a rest (Some false) nothing y is e = no_answer e
@@ -205,28 +205,28 @@ lighter_by listed k n b c rest left false false false true is h inside after les
 lighter_by listed k n b c rest left inner true false false is h inside after less later = Prim.omega (arith, later refl)
 lighter_by listed k n b c rest left inner false false false is h inside after less later = no_kind h
 
-lighter : (listed : Bool) (t : Forest) → has_idle listed t ≡ true → total weight (rid listed t) + 1 ≤ total weight t
+lighter : (listed : Bool) (t : Forest) → row_loses listed t ≡ true → total weight (rid listed t) + 1 ≤ total weight t
 lighter listed nothing h = no_kind h
 lighter listed (absent rest) h = lighter listed rest h
 lighter listed (node k n b rest) h =
-    lighter_by listed k n b (rid (is_list k) b) rest (rid listed rest) (has_idle (is_list k) b) (has_idle listed rest) (may_go listed k b) (runs_inside k) refl h (no_heavier (is_list k) b) (no_heavier listed rest)
+    lighter_by listed k n b (rid (is_list k) b) rest (rid listed rest) (row_loses (is_list k) b) (row_loses listed rest) (may_go listed k b) (runs_inside k) refl h (no_heavier (is_list k) b) (no_heavier listed rest)
     (λ e. lighter (is_list k) b e) (λ e. lighter listed rest e)
 
 less_by_truth : (n : Note) (t : Kind) (m : Note) (d : Forest) (truth : Option Bool) (branches : Forest) (y : Tree) → what_stays n t m d truth branches ≡ Some y → IsLess (an_if n t m d branches) y
 less_by_truth n t m d (Some false) (node k i b alternate) y e =
-    elim (chosen_if (branch_has k b) (an_if n t m d (node k i (rid (is_list k) b) alternate)) y e) [
+    elim (chosen_if (branch_loses k b) (an_if n t m d (node k i (rid (is_list k) b) alternate)) y e) [
       | chosen has same ↦
           subst (λ z. IsLess (an_if n t m d (node k i b alternate)) z) same (record {
             thins = λ r. Prim.omega (arith, thinner r (is_list k) b);
-            lighter = Prim.omega (arith, lighter (is_list k) b (second_of_both (runs_inside k) (has_idle (is_list k) b) has));
+            lighter = Prim.omega (arith, lighter (is_list k) b (second_of_both (runs_inside k) (row_loses (is_list k) b) has));
           })
     ]
 less_by_truth n t m d (Some true) (node k i b (node l j c r)) y e =
-    elim (chosen_if (branch_has l c) (an_if n t m d (node k i b (node l j (rid (is_list l) c) r))) y e) [
+    elim (chosen_if (branch_loses l c) (an_if n t m d (node k i b (node l j (rid (is_list l) c) r))) y e) [
       | chosen has same ↦
           subst (λ z. IsLess (an_if n t m d (node k i b (node l j c r))) z) same (record {
             thins = λ x. Prim.omega (arith, thinner x (is_list l) c);
-            lighter = Prim.omega (arith, lighter (is_list l) c (second_of_both (runs_inside l) (has_idle (is_list l) c) has));
+            lighter = Prim.omega (arith, lighter (is_list l) c (second_of_both (runs_inside l) (row_loses (is_list l) c) has));
           })
     ]
 less_by_truth n t m d None branches y e = no_answer e
@@ -293,31 +293,31 @@ module _ (x : Tree) (runs : only_runs x.kind ≡ true) (none : declares_none (fo
   x_goes : may_go true x.kind x.below ≡ true
   x_goes = both (only_runs x.kind) (declares_no_name x.kind x.below) runs (first_of_both (declares_no_name x.kind x.below) true none)
 
-  along : (listed : Bool) (w : Asked) (b : places.Around) → (w.row ≡ row_items → listed ≡ true) → (asked_at w b).row ≡ row_items → passes b ≡ true → has_idle listed (places.plug b (Some x)) ≡ true
+  along : (listed : Bool) (w : Asked) (b : places.Around) → (w.row ≡ row_items → listed ≡ true) → (asked_at w b).row ≡ row_items → passes b ≡ true → row_loses listed (places.plug b (Some x)) ≡ true
   along listed w (first rest) list item p =
-      first_of_either (may_go listed x.kind x.below) (runs_inside x.kind && has_idle (is_list x.kind) x.below || has_idle listed rest) (ap (λ l. may_go l x.kind x.below) (list item) ∙ x_goes)
+      first_of_either (may_go listed x.kind x.below) (runs_inside x.kind && row_loses (is_list x.kind) x.below || row_loses listed rest) (ap (λ l. may_go l x.kind x.below) (list item) ∙ x_goes)
   along listed w (places.behind k n c b) list item p =
-      second_of_either (may_go listed k c) (runs_inside k && has_idle (is_list k) c || has_idle listed (places.plug b (Some x)))
-      (second_of_either (runs_inside k && has_idle (is_list k) c) (has_idle listed (places.plug b (Some x))) (along listed w b list item p))
+      second_of_either (may_go listed k c) (runs_inside k && row_loses (is_list k) c || row_loses listed (places.plug b (Some x)))
+      (second_of_either (runs_inside k && row_loses (is_list k) c) (row_loses listed (places.plug b (Some x))) (along listed w b list item p))
   along listed w (places.behind_none b) list item p = along listed w b list item p
   along listed w (places.under k n b rest) list item p =
       let t = places.plug b (Some x) in
-      second_of_either (may_go listed k t) (runs_inside k && has_idle (is_list k) t || has_idle listed rest)
-      (first_of_either (runs_inside k && has_idle (is_list k) t) (has_idle listed rest)
-      (both (runs_inside k) (has_idle (is_list k) t) (first_of_both (runs_inside k) (passes b) p) (along (is_list k) (asked_below w k) b (λ e. list_or_not w.row k e) item (second_of_both (runs_inside k) (passes b) p))))
+      second_of_either (may_go listed k t) (runs_inside k && row_loses (is_list k) t || row_loses listed rest)
+      (first_of_either (runs_inside k && row_loses (is_list k) t) (row_loses listed rest)
+      (both (runs_inside k) (row_loses (is_list k) t) (first_of_both (runs_inside k) (passes b) p) (along (is_list k) (asked_below w k) b (λ e. list_or_not w.row k e) item (second_of_both (runs_inside k) (passes b) p))))
 
   -- the branch has something that goes
-  has_branch : (w : Asked) (k : Kind) (b : places.Around) → (asked_at (asked_below w k) b).row ≡ row_items → (runs_inside k && passes b) ≡ true → branch_has k (places.plug b (Some x)) ≡ true
+  has_branch : (w : Asked) (k : Kind) (b : places.Around) → (asked_at (asked_below w k) b).row ≡ row_items → (runs_inside k && passes b) ≡ true → branch_loses k (places.plug b (Some x)) ≡ true
   has_branch w k b item p =
-      both (runs_inside k) (has_idle (is_list k) (places.plug b (Some x))) (first_of_both (runs_inside k) (passes b) p) (along (is_list k) (asked_below w k) b (λ e. list_or_not w.row k e) item (second_of_both (runs_inside k) (passes b) p))
+      both (runs_inside k) (row_loses (is_list k) (places.plug b (Some x))) (first_of_both (runs_inside k) (passes b) p) (along (is_list k) (asked_below w k) b (λ e. list_or_not w.row k e) item (second_of_both (runs_inside k) (passes b) p))
 
   at_if : (w : Asked) (n : Note) (b : places.Around) → begins_untaken if_statement b ≡ true → (asked_at (asked_below w if_statement) b).row ≡ row_items → passes b ≡ true → is_some (if_left n if_statement (places.plug b (Some x))) ≡ true
   at_if w n (places.behind t m d (places.under k i b r)) begins item p =
       ap (λ o. is_some (what_stays n t m d o (node k i (places.plug b (Some x)) r))) (known_so false (truth_known t m d) begins)
-      ∙ given_some (branch_has k (places.plug b (Some x))) (an_if n t m d (node k i (rid (is_list k) (places.plug b (Some x))) r)) (has_branch (asked_below w if_statement) k b item p)
+      ∙ given_some (branch_loses k (places.plug b (Some x))) (an_if n t m d (node k i (rid (is_list k) (places.plug b (Some x))) r)) (has_branch (asked_below w if_statement) k b item p)
   at_if w n (places.behind t m d (places.behind k i c (places.under l j b r))) begins item p =
       ap (λ o. is_some (what_stays n t m d o (node k i c (node l j (places.plug b (Some x)) r)))) (known_so true (truth_known t m d) begins)
-      ∙ given_some (branch_has l (places.plug b (Some x))) (an_if n t m d (node k i c (node l j (rid (is_list l) (places.plug b (Some x))) r))) (has_branch (asked_below w if_statement) l b item p)
+      ∙ given_some (branch_loses l (places.plug b (Some x))) (an_if n t m d (node k i c (node l j (rid (is_list l) (places.plug b (Some x))) r))) (has_branch (asked_below w if_statement) l b item p)
   at_if w n (places.behind t m d (places.behind k i c (first r))) begins item p = no_kind begins
   at_if w n (places.behind t m d (places.behind k i c (places.behind l j e b))) begins item p = no_kind begins
   at_if w n (places.behind t m d (places.behind k i c (places.behind_none b))) begins item p = no_kind begins
@@ -390,32 +390,32 @@ stands_by listed a k n b rest false false false true items all is h below next =
 stands_by listed a k n b rest inner true false false items all is h below next = next refl
 stands_by listed a k n b rest inner false false false items all is h below next = no_kind h
 
-some_stand : (listed : Bool) (a : counts.Around) (t : Forest) → ItemsIf listed a → AllUntaken a → has_idle listed t ≡ true → Stands (plug a t)
+some_stand : (listed : Bool) (a : counts.Around) (t : Forest) → ItemsIf listed a → AllUntaken a → row_loses listed t ≡ true → Stands (plug a t)
 some_stand listed a nothing items all h = no_kind h
 some_stand listed a (absent rest) items all h = stands_within a (behind_none here) rest (some_stand listed (join a (behind_none here)) rest (items_absent listed a items) (all_more a (behind_none here) all (λ b. refl)) h)
 some_stand listed a (node k n b rest) items all h =
-    stands_by listed a k n b rest (has_idle (is_list k) b) (has_idle listed rest) (may_go listed k b) (runs_inside k) items all refl h
+    stands_by listed a k n b rest (row_loses (is_list k) b) (row_loses listed rest) (may_go listed k b) (runs_inside k) items all refl h
     (λ runs has. stands_within a (under k n here rest) b (some_stand (is_list k) (join a (under k n here rest)) b (items_under a k n rest) (all_more a (under k n here rest) all (λ x. flagged (runs_inside k || begins_untaken k x) x (runs_on k x runs))) has))
     (λ more. stands_within a (behind k n b here) rest (some_stand listed (join a (behind k n b here)) rest (items_next listed a k n b items) (all_more a (behind k n b here) all (λ x. refl)) more))
 
-branch_stands : (a c : counts.Around) (k : Kind) (below : Forest) → ItemsIf (is_list k) (join a c) → AllUntaken c → has_idle (is_list k) below ≡ true → Stands (plug a (plug c below))
+branch_stands : (a c : counts.Around) (k : Kind) (below : Forest) → ItemsIf (is_list k) (join a c) → AllUntaken c → row_loses (is_list k) below ≡ true → Stands (plug a (plug c below))
 branch_stands a c k below items all has = stands_within a c below (some_stand (is_list k) (join a c) below items (all_from a c all) has)
 
 stands_by_truth : (n : Note) (t : Kind) (m : Note) (d : Forest) (a : counts.Around) (rest : Forest) (truth : Option Bool) (branches : Forest) (y : Tree) → truth_known t m d ≡ truth → what_stays n t m d truth branches ≡ Some y
     → Stands (plug a (node if_statement n (node t m d branches) rest))
 stands_by_truth n t m d a rest (Some false) (node k i b alternate) y is e =
-    elim (chosen_if (branch_has k b) (an_if n t m d (node k i (rid (is_list k) b) alternate)) y e) [
+    elim (chosen_if (branch_loses k b) (an_if n t m d (node k i (rid (is_list k) b) alternate)) y e) [
       | chosen has same ↦
           let c = under if_statement n (behind t m d (under k i here alternate)) rest in
           branch_stands a c k b (λ l. ap (λ (w : Asked). w.row) (asked_join (asked_of_program true) a c) ∙ items_below k (asked_below (asked_row (asked_of_program true) a) if_statement).row l)
-          (in_consequent n t m d k i alternate rest is (first_of_both (runs_inside k) (has_idle (is_list k) b) has)) (second_of_both (runs_inside k) (has_idle (is_list k) b) has)
+          (in_consequent n t m d k i alternate rest is (first_of_both (runs_inside k) (row_loses (is_list k) b) has)) (second_of_both (runs_inside k) (row_loses (is_list k) b) has)
     ]
 stands_by_truth n t m d a rest (Some true) (node k i b (node l j c r)) y is e =
-    elim (chosen_if (branch_has l c) (an_if n t m d (node k i b (node l j (rid (is_list l) c) r))) y e) [
+    elim (chosen_if (branch_loses l c) (an_if n t m d (node k i b (node l j (rid (is_list l) c) r))) y e) [
       | chosen has same ↦
           let p = under if_statement n (behind t m d (behind k i b (under l j here r))) rest in
           branch_stands a p l c (λ x. ap (λ (w : Asked). w.row) (asked_join (asked_of_program true) a p) ∙ items_below l (asked_below (asked_row (asked_of_program true) a) if_statement).row x)
-          (in_alternate n t m d k i b l j r rest is (first_of_both (runs_inside l) (has_idle (is_list l) c) has)) (second_of_both (runs_inside l) (has_idle (is_list l) c) has)
+          (in_alternate n t m d k i b l j r rest is (first_of_both (runs_inside l) (row_loses (is_list l) c) has)) (second_of_both (runs_inside l) (row_loses (is_list l) c) has)
     ]
 stands_by_truth n t m d a rest None branches y is e = no_answer e
 stands_by_truth n t m d a rest (Some false) nothing y is e = no_answer e

@@ -1,4 +1,4 @@
--- What is left of a list of statements in which something stands behind a jump.
+-- What is left of a list of statements in which something stands behind a jump, or behind what cuts off as one does.
 use Rattle.std.specs.Prelude.{Bool, false, ◌&&◌, ◌||◌, Option, None, Some, if◌then◌else◌}
 use Rattle.js_syntax.specs.declared.node_kind.NodeKind.{NodeKind as Kind}
 use Rattle.js_syntax.specs.declared.node_kind.NodeKind.TheVariants.{Statements as statements, EmptyStatement as empty_statement}
@@ -9,7 +9,7 @@ use Rattle.steps_allowed.specs.Branches.{declares_no_name}
 use Rattle.steps_allowed.specs.Unreached.{only_runs}
 use Rattle.rules_expressions.specs.Lists.{new_note}
 
--- an item; `jumped` says whether a jump stands before it
+-- an item; `jumped` says whether such a statement stands before it
 abbrev pub is_unreached : (jumped : Bool) → Kind → (below : Forest) → Bool
 is_unreached jumped k below = jumped && (only_runs k && declares_no_name k below)
 

@@ -27,19 +27,19 @@ rid listed (absent rest) = absent (rid listed rest)
 rid listed (node k n below rest) = if may_go listed k below then rid listed rest else node k n (if runs_inside k then rid (is_list k) below else below) (rid listed rest)
 
 -- whether something goes
-abbrev pub has_idle : (listed : Bool) → Forest → Bool
-has_idle listed nothing = false
-has_idle listed (absent rest) = has_idle listed rest
-has_idle listed (node k n below rest) = may_go listed k below || (runs_inside k && has_idle (is_list k) below || has_idle listed rest)
+abbrev pub row_loses : (listed : Bool) → Forest → Bool
+row_loses listed nothing = false
+row_loses listed (absent rest) = row_loses listed rest
+row_loses listed (node k n below rest) = may_go listed k below || (runs_inside k && row_loses (is_list k) below || row_loses listed rest)
 
 -- of a branch
-abbrev pub branch_has : Kind → (below : Forest) → Bool
-branch_has k below = runs_inside k && has_idle (is_list k) below
+abbrev pub branch_loses : Kind → (below : Forest) → Bool
+branch_loses k below = runs_inside k && row_loses (is_list k) below
 
 -- by its test, and whether that is true
 abbrev pub what_stays : (n : Note) → Kind → (m : Note) → (d : Forest) → (truth : Option Bool) → (branches : Forest) → Option Tree
-what_stays n t m d (Some false) (node k i b alternate) = given_if (branch_has k b) (an_if n t m d (node k i (rid (is_list k) b) alternate))
-what_stays n t m d (Some true) (node k i b (node l j c rest)) = given_if (branch_has l c) (an_if n t m d (node k i b (node l j (rid (is_list l) c) rest)))
+what_stays n t m d (Some false) (node k i b alternate) = given_if (branch_loses k b) (an_if n t m d (node k i (rid (is_list k) b) alternate))
+what_stays n t m d (Some true) (node k i b (node l j c rest)) = given_if (branch_loses l c) (an_if n t m d (node k i b (node l j (rid (is_list l) c) rest)))
 what_stays n t m d truth branches = None
 
 abbrev pub if_left : (note : Note) → Kind → (below : Forest) → Option Tree

@@ -10,16 +10,16 @@ decreases-drop_inside l = 3 * tree_size l.node.now
 abbrev pub decreases-drop_item : goal.decreases-drop_item
 decreases-drop_item l = 3 * tree_size l.node.now + 1
 
-abbrev pub decreases-drop_idle : goal.decreases-drop_idle
-decreases-drop_idle l = 3 * size_of (row l.children.now) + 2
+abbrev pub decreases-drop_row : goal.decreases-drop_row
+decreases-drop_row l = 3 * size_of (row l.children.now) + 2
 
-abbrev pub invariant-drop_idle-loop-rest : goal.invariant-drop_idle-loop-rest
-invariant-drop_idle-loop-rest l =
+abbrev pub invariant-drop_row-loop-rest : goal.invariant-drop_row-loop-rest
+invariant-drop_row-loop-rest l =
     record {
       asked : l.ctx.requested ≡ true;
       left : Until l.fn.ctx l.listed (row l.children) l.ctx (row l.rest);
       small : size_of (row l.rest) ≤ size_of (row l.children);
     }
 
-abbrev pub decreases-drop_idle-loop-rest : goal.decreases-drop_idle-loop-rest
-decreases-drop_idle-loop-rest l = length l.rest
+abbrev pub decreases-drop_row-loop-rest : goal.decreases-drop_row-loop-rest
+decreases-drop_row-loop-rest l = length l.rest
