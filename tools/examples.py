@@ -33,8 +33,8 @@ cases['statements']=[
  N('LabeledStatement',label=I('l'),body=N('WhileStatement',test=a,body=B(N('IfStatement',test=b,consequent=N('BreakStatement',label=I('l')),alternate=None),N('ContinueStatement',label=None)))),
  N('IfStatement',test=a,consequent=ES(b),alternate=None), N('IfStatement',test=a,consequent=ES(b),alternate=ES(c)),
  N('SwitchStatement',discriminant=a,cases=[N('SwitchCase',test=L(1),consequent=[ES(b)]),N('SwitchCase',test=None,consequent=[])]),
- N('ThrowStatement',argument=a), N('TryStatement',block=B(),handler=N('CatchClause',param=I('e'),body=B()),finalizer=None),
- N('TryStatement',block=B(),handler=None,finalizer=B()),
+ N('ThrowStatement',argument=a), N('TryStatement',block=B(ES(call(f))),handler=N('CatchClause',param=I('e'),body=B()),finalizer=None),
+ N('TryStatement',block=B(ES(call(f))),handler=None,finalizer=B()),
  N('DoWhileStatement',body=B(),test=a),
  N('ForStatement',init=var('let',(a,L(0))),test=None,update=None,body=B()), N('ForStatement',init=asg('=',a,L(1)),test=a,update=N('UpdateExpression',operator='++',prefix=False,argument=a),body=B()),
  N('ForInStatement',left=var('const',(a,None)),right=b,body=B()), N('ForOfStatement',left=mem(a,b),right=b,body=B(),**{'await':False}),
@@ -316,7 +316,18 @@ S('{ let x; { let y = x; } }',[B(x_is(None),B(var('let',(I('y'),x))))],[],2,0)
 S('if (1) {} else f(); if (0) f(); else { 1; }',[WHEN(L(1),B(),do('f')),WHEN(L(0),do('f'),B(ES(L(1))))],[],1,0)
 S('export function h() { {} return; {} } switch (a) { case 1: {} break; default: { ; } }',[export(F_('h',[],B(),RETURN(None),B())),N('SwitchStatement',discriminant=a,cases=[N('SwitchCase',test=L(1),consequent=[B(),BREAK()]),N('SwitchCase',test=None,consequent=[B(EMPTY)])])],[export(F_('h',[],RETURN(None))),N('SwitchStatement',discriminant=a,cases=[N('SwitchCase',test=L(1),consequent=[BREAK()]),N('SwitchCase',test=None,consequent=[])])],1,0)
 S('{ f(); } { { f(); } } l: { break l; } m: while (a) {} whose blocks hold something',[B(do('f')),B(B(do('f'))),LABEL('l',B(BREAK(I('l')))),LABEL('m',N('WhileStatement',test=a,body=B()))],None,0,0)
-S('if (a) {} else {} while (b) {} try {} catch (e) {} whose blocks stand in no list',[IF(B(),B()),N('WhileStatement',test=b,body=B()),N('TryStatement',block=B(),handler=N('CatchClause',param=I('e'),body=B()),finalizer=None)],None,0,0)
+S('if (a) {} else {} while (b) {} whose blocks stand in no list',[IF(B(),B()),N('WhileStatement',test=b,body=B())],None,0,0)
+WHILE=lambda test,*body: N('WhileStatement',test=test,body=B(*body))
+LOOP=lambda init,test,*body: N('ForStatement',init=init,test=test,update=None,body=B(*body))
+FINALLY=lambda block,*body: N('TryStatement',block=block,handler=None,finalizer=B(*body))
+S('while (0) f(); for (; null;) { g(); let x = f(); } l: m: while (![]) { continue l; } f();',[WHILE(L(0),do('f')),LOOP(None,L(None),do('g'),x_is(call(f))),LABEL('l',LABEL('m',WHILE(un('!',N('ArrayExpression',elements=[])),N('ContinueStatement',label=I('l'))))),do('f')],[do('f')],1,0)
+S('try {} catch (e) { f(e); } try { ; } catch { g(); } finally { {} } l: try {} finally {}',[TRY(B(),I('e'),ES(call(f,I('e')))),{**TRY(B(EMPTY),None,do('g')),'finalizer':B(B())},LABEL('l',FINALLY(B()))],[],1,0)
+S('while (a) f(); do f(); while (0); for (f(); 0;) g(); for (let x = f(); 0;) g(); try {} finally { f(); } try { f(); } catch (e) {}',[WHILE(a,do('f')),N('DoWhileStatement',body=do('f'),test=L(0)),LOOP(call(f),L(0),do('g')),LOOP(x_is(call(f)),L(0),do('g')),FINALLY(B(),do('f')),TRY(B(do('f')),I('e'))],None,0,0)
+S('if (a) while (0) f(); else try {} catch (e) { g(); } which stand in no list',[WHEN(a,WHILE(L(0),do('f')),TRY(B(),I('e'),do('g')))],None,0,0)
+S('while (0) { var x = 1; } use(x); while (0) { var y = 1; }',[WHILE(L(0),var('var',(x,L(1)))),use(x),WHILE(L(0),var('var',(I('y'),L(1))))],[WHILE(L(0),var('var',(x,L(1)))),use(x)],1,1)
+S('let x = 1; while (0) { use(x); } for (;;) { for (; 0;) continue; }',[x_is(L(1)),WHILE(L(0),use(x)),EACH(LOOP(None,L(0),N('ContinueStatement',label=None)))],[EACH()],2,0)
+S("export function h() { while (0) { eval('x'); } let x = 1; }",[export(F_('h',[],WHILE(L(0),do('eval',L('x'))),x_is(L(1))))],[export(F_('h',[]))],2,0)
+S('while (0) f(); in a script',[WHILE(L(0),do('f'))],[],1,0,'script')
 S('class c { static { {} } } use(c);',[N('ClassDeclaration',id=I('c'),superClass=None,body=N('ClassBody',body=[N('StaticBlock',body=[B()])])),use(I('c'))],[N('ClassDeclaration',id=I('c'),superClass=None,body=N('ClassBody',body=[N('StaticBlock',body=[])])),use(I('c'))],1,1)
 S('export function h() { return k(); function k() {} var y = 1; { var z; } use(y, z); class c {} }',[export(F_('h',[],RETURN(call(I('k'))),F_('k',[]),var('var',(I('y'),L(1))),B(var('var',(I('z'),None))),ES(call(I('use'),I('y'),I('z'))),CLASS('c')))],[export(F_('h',[],RETURN(call(I('k'))),F_('k',[]),CLASS('c')))],2,1)
 S('throw f(); g(); export let x = 1; behind a jump of a module',[N('ThrowStatement',argument=call(f)),do('g'),export(x_is(L(1)))],[N('ThrowStatement',argument=call(f)),export(x_is(L(1)))],1,0)

@@ -10,4 +10,5 @@ mod RenotedParts
 mod RenotedSides
 mod RenotedKnown
 mod RenotedIf
+mod RenotedIdle
 pub mod Renoted

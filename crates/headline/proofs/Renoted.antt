@@ -51,17 +51,19 @@ use Rattle.steps_allowed.specs.KnownIf.{KnownIf}
 use Rattle.steps_allowed.specs.DeadIf.{DeadIf}
 use Rattle.steps_allowed.specs.EmptyBlock.{holds_nothing, EmptyBlock, empty_block_leaves}
 use Rattle.steps_allowed.specs.Unreached.{is_behind_jump, Unreached, never_runs}
+use Rattle.steps_allowed.specs.IdleStatement.{does_nothing, IdleStatement, idle_leaves}
 use Rattle.steps_allowed.specs.Untaken.{untaken_where, is_known, leads_to_untaken, begins_untaken, runs_inside, is_untaken, Untaken, never_taken}
 use Rattle.steps_owed.proofs.Changing.{cuts_bare}
 use Rattle.steps_owed.proofs.ExposedBare.{bare_inside, bare_below, bare_exposed}
 use Rattle.steps_owed.proofs.Focus.{follows_there}
-use Rattle.headline.specs.Clean.{IsDead, an_empty_statement, an_empty_block, a_silent_statement, an_unused_function, an_unused_declarator, an_unused_import, a_known_conditional, a_known_side, an_unused_operation, an_unused_list, an_indirect_choice, a_one_sided_choice, idle_parts, two_sides, an_unused_object, a_known_operation, a_known_if, a_dead_if, an_unreached_statement, an_untaken_statement, CleanBut}
+use Rattle.headline.specs.Clean.{IsDead, an_empty_statement, an_empty_block, a_silent_statement, an_unused_function, an_unused_declarator, an_unused_import, a_known_conditional, a_known_side, an_unused_operation, an_unused_list, an_indirect_choice, a_one_sided_choice, idle_parts, two_sides, an_unused_object, a_known_operation, a_known_if, a_dead_if, an_unreached_statement, an_untaken_statement, an_idle_statement, CleanBut}
 use Rattle.headline.proofs.RenotedUnused.{stands_as, needed_as, child_as, list_as}
 use Rattle.headline.proofs.RenotedChoice.{counts_as}
 use Rattle.headline.proofs.RenotedParts.{side_as, sequence_as}
 use Rattle.headline.proofs.RenotedSides.{two_sides_as, object_as}
 use Rattle.headline.proofs.RenotedKnown.{known_as, truth_bare, truth_as, side_as as known_side_as}
 use Rattle.steps_owed.proofs.EmptyBlock.{holds_bare}
+use Rattle.headline.proofs.RenotedIdle.{idle_bare}
 use Rattle.headline.proofs.RenotedIf.{declares_bare, known_if_as, dead_if_as}
 
 -- ---- sites without ids and spans
@@ -739,6 +741,13 @@ module _ (unused imports : Bool) (t u : Forest) (e : bare t ≡ bare u) (clean :
       let same = unseen declares_none declares_bare (forest_of now) (forest_of x) (ap (λ b. node x.kind nowhere b nothing) o.same) in
       clean.nothing_is_dead o.around (Some now) o.is (an_untaken_statement o.around now (never_taken (item_as a o item) (o.untaken false ∙ taken) runs (same ∙ none)))
 
+  no_idle : (a : Around) (x : Tree) → u ≡ plug a (Some x) → IdleStatement a x → ⊥
+  no_idle a x is (idle_leaves item idle none) =
+      let o = other_place a x.kind x.note x.below is in
+      let now : Tree = record { kind = x.kind; note = o.note; below = o.below } in
+      let same = unseen declares_none declares_bare (forest_of now) (forest_of x) (ap (λ b. node x.kind nowhere b nothing) o.same) in
+      clean.nothing_is_dead o.around (Some now) o.is (an_idle_statement o.around now (idle_leaves (item_as a o item) (unseen (does_nothing x.kind) (idle_bare x.kind) o.below x.below o.same ∙ idle) (same ∙ none)))
+
   none_dead : (a : Around) (x : Option Tree) → u ≡ plug a x → IsDead unused imports u a x → ⊥
   none_dead a x is (an_empty_statement b n item) = no_empty b n is item
   none_dead a x is (an_empty_block b y held) = no_block b y is held
@@ -760,6 +769,7 @@ module _ (unused imports : Bool) (t u : Forest) (e : bare t ≡ bare u) (clean :
   none_dead a x is (a_dead_if b y z dead) = no_dead_if b y z is dead
   none_dead a x is (an_unreached_statement b y unreached) = no_unreached b y is unreached
   none_dead a x is (an_untaken_statement b y untaken) = no_untaken b y is untaken
+  none_dead a x is (an_idle_statement b y idle) = no_idle b y is idle
 
 pub clean_as : (unused imports : Bool) (t u : Forest) → bare t ≡ bare u → CleanBut unused imports t → CleanBut unused imports u
 clean_as unused imports t u e clean = record { nothing_is_dead = none_dead unused imports t u e clean }

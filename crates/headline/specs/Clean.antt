@@ -38,7 +38,9 @@ use Rattle.steps_allowed.specs.KnownIf.{KnownIf}
 use Rattle.steps_allowed.specs.DeadIf.{DeadIf}
 -- and a block of nothing
 use Rattle.steps_allowed.specs.EmptyBlock.{EmptyBlock}
--- and a statement behind a jump in its list, or in a branch that isn't taken
+-- and a loop that never turns, or a `try` around nothing
+use Rattle.steps_allowed.specs.IdleStatement.{IdleStatement}
+-- and a statement in its list behind what cuts off, as a jump does, or in a branch that isn't taken
 use Rattle.steps_allowed.specs.Unreached.{Unreached}
 use Rattle.steps_allowed.specs.Untaken.{Untaken}
 -- whose names only the tree's references may use
@@ -94,10 +96,13 @@ pub data IsDead (unused imports : Bool) (t : Forest) : Around → Option Tree �
   a_known_if : (a : Around) (x y : Tree) → KnownIf x y → IsDead unused imports t a (Some x)
   -- such an `if` with no branch to run, whose only branch declares no name around it: it does nothing
   a_dead_if : (a : Around) (x y : Tree) → DeadIf x y → IsDead unused imports t a (Some x)
-  -- a statement behind a jump in its list, which declares no name around it: it never runs
+  -- a statement in its list behind a jump, or behind what cuts off as one does, which declares no name around it: it never runs
   an_unreached_statement : (a : Around) (x : Tree) → Unreached a x → IsDead unused imports t a (Some x)
   -- a statement in a branch that isn't taken, which declares no name around it: it never runs
   an_untaken_statement : (a : Around) (x : Tree) → Untaken a x → IsDead unused imports t a (Some x)
+  -- a loop that never turns or a `try` around nothing in a list of statements, or one behind labels, which declares no name around it: it
+  -- does nothing
+  an_idle_statement : (a : Around) (x : Tree) → IdleStatement a x → IsDead unused imports t a (Some x)
 
 -- No part of the program is dead code, but for what is kept.
 pub record CleanBut (unused imports : Bool) (t : Forest) : Type 0 where

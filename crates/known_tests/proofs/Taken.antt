@@ -5,19 +5,20 @@ use Rattle.js_syntax.specs.declared.operator.LogicalOperator.{LogicalOperator}
 use Rattle.js_syntax.specs.Node.{Note, Forest, nothing, node, absent}
 use Rattle.js_meaning.specs.Value.{Env}
 use Rattle.js_meaning.specs.Operator.{truthy, goes_right}
-use Rattle.js_meaning.specs.State.{M, choose, unknown, stop, give}
+use Rattle.js_meaning.specs.State.{M, Completion, normal, bind, done, choose, unknown, stop, give}
 use Rattle.js_meaning.specs.Host.{Enter}
+use Rattle.js_meaning.specs.Scope.{copy, declare}
 use Rattle.js_meaning.specs.Node.{Wanted, Ask, value, run, now, need, may}
 use Rattle.js_meaning.specs.Meaning.{eval}
-use Rattle.js_meaning_near.specs.Quiet.{Leads, stops_before}
+use Rattle.js_meaning_near.specs.Quiet.{Leads, LeadsFrom, stops_before}
 use Rattle.js_meaning_near.specs.Names.{Names}
-use Rattle.js_meaning_near.specs.Near.{meaning, is_calm, hoists_nothing, Permits, ComesTo}
+use Rattle.js_meaning_near.specs.Near.{meaning, is_calm, hoists_nothing, DoesNothing, Permits, ComesTo}
 use Rattle.js_meaning_near.specs.Local.{IsField}
 use Rattle.js_meaning_near.specs.Purpose.{Purpose, asked}
 use Rattle.js_meaning_near.specs.Bare.{stands_bare}
 use Rattle.js_meaning_near.proofs.Branches.{bare_asks, bare_hoists}
 use Rattle.known_tests.specs.Tells.{Tells, GivesAlone}
-use Rattle.known_tests.proofs.Told.{told_leads, value_leads, alike_leads}
+use Rattle.known_tests.proofs.Told.{more_nothing, told_leads, value_leads, alike_leads}
 
 pub unknown_leads : (m : M) → Leads unknown m
 unfolding stop
@@ -163,3 +164,26 @@ module _ (t : Kind) (n i : Note) (a : Forest) (k : Kind) where
   pub alternate_changes : (u : Purpose) (st : Names) (b : Forest) (j : Note) (l : Kind) (c d : Forest) → Tells (λ v. truthy v ≡ true) t a
       → ComesTo u st Kind.IfStatement (node t n a (node k i b (node l j c nothing))) Kind.IfStatement (node t n a (node k i b (node l j d nothing)))
   alternate_changes u st b j l c d tells = record { old_hoists = refl; new_hoists = refl; comes = λ E env binds q p. alternate E env q b j l c d tells }
+
+-- ---- a loop of which the test fails from the start does nothing
+
+behind_nothing : (k : Completion → M) (n : M) → Leads (k normal) n → Leads (bind (done normal) k) n
+unfolding bind done
+behind_nothing k n h = record { leads = λ s. subst (LeadsFrom s n) (sym (more_nothing (k normal s))) (h.leads s) }
+
+module _ (t : Kind) (n : Note) (a r : Forest) where
+  while_ends : (E : Enter) (env : Env) (q : Ask) → Tells (λ v. truthy v ≡ false) t a → Leads (meaning E Kind.WhileStatement (node t n a r) q env) (done normal)
+  unfolding need eval
+  while_ends E env (run ls) tells = told_leads (λ v. truthy v ≡ false) (meaning E t a now env) _ (done normal) (λ v h. not_chosen (truthy v) _ (done normal) h) (tells.quiet E env) (tells.told E env)
+  while_ends E env q tells = unknown_leads _
+
+  for_ends : (E : Enter) (env : Env) (q : Ask) → Tells (λ v. truthy v ≡ false) t a → Leads (meaning E Kind.ForStatement (absent (node t n a r)) q env) (done normal)
+  unfolding may eval declare copy
+  for_ends E env (run ls) tells = behind_nothing _ (done normal) (told_leads (λ v. truthy v ≡ false) (meaning E t a now env) _ (done normal) (λ v h. not_chosen (truthy v) _ (done normal) h) (tells.quiet E env) (tells.told E env))
+  for_ends E env q tells = unknown_leads _
+
+  pub while_does_nothing : Tells (λ v. truthy v ≡ false) t a → DoesNothing Kind.WhileStatement (node t n a r)
+  while_does_nothing tells = record { hoists = refl; nothing_done = λ E q env. while_ends E env q tells }
+
+  pub for_does_nothing : Tells (λ v. truthy v ≡ false) t a → DoesNothing Kind.ForStatement (absent (node t n a r))
+  for_does_nothing tells = record { hoists = refl; nothing_done = λ E q env. for_ends E env q tells }

@@ -13,7 +13,7 @@ same_allocation a = record { budget = a.budget; fresh = a.fresh; store = a.store
 itself : (s : State) → OnlyAllocates s s
 itself s = record { budget = refl; fresh = omega arith; store = λ i h. refl; globals = λ x. refl; imports = λ x y. refl; shown = refl; moves = refl; exports = refl; stars = refl }
 
-more_nothing : (o : Out) → more [] o ≡ o
+pub more_nothing : (o : Out) → more [] o ≡ o
 more_nothing (goes es s c) = refl
 more_nothing (stops es e) = refl
 

@@ -8,7 +8,7 @@ ghost use Rattle.js_effects.specs.Silence.{may_have_effects};
 ghost use Rattle.js_effects.specs.Values.{truth_of};
 ghost use Rattle.js_meaning.specs.Operator.{truthy, goes_right};
 ghost use Rattle.js_meaning_near.specs.Names.{Names};
-ghost use Rattle.js_meaning_near.specs.Near.{is_calm, ComesTo};
+ghost use Rattle.js_meaning_near.specs.Near.{is_calm, ComesTo, DoesNothing};
 ghost use Rattle.js_meaning_near.specs.Local.{IsField};
 ghost use Rattle.js_meaning_near.specs.Purpose.{Purpose, asked};
 ghost use Rattle.js_meaning_near.specs.Bare.{stands_bare};
@@ -61,4 +61,10 @@ pub fn a_branch_that_is_not_taken_may_change()
         ComesTo u st Kind.IfStatement (node t n a (node k i b r)) Kind.IfStatement (node t n a (node k i c r)) }
     ensures alternate { (u : Purpose) (st : Names) (t : Kind) (n i j : Note) (a : Forest) (k l : Kind) (b c d : Forest) → Tells (λ v. truthy v ≡ true) t a →
         ComesTo u st Kind.IfStatement (node t n a (node k i b (node l j c nothing))) Kind.IfStatement (node t n a (node k i b (node l j d nothing))) }
+{}
+
+/// A loop of which the test is false from the start does nothing, whatever it would run.
+pub fn a_loop_that_never_turns_does_nothing()
+    ensures while_loop { (t : Kind) (n : Note) (a r : Forest) → Tells (λ v. truthy v ≡ false) t a → DoesNothing Kind.WhileStatement (node t n a r) }
+    ensures for_loop { (t : Kind) (n : Note) (a r : Forest) → Tells (λ v. truthy v ≡ false) t a → DoesNothing Kind.ForStatement (absent (node t n a r)) }
 {}

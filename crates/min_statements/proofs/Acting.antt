@@ -41,7 +41,7 @@ use Rattle.min_statements.specs.Own.{AnyEdit, ExportedOnly, Own, IsToldOnly, Fou
 use Rattle.min_statements.proofs.Calls.{is_no_name, silent_is_no_name, evals_kept, CallsStay, none_dropped}
 use Rattle.steps_allowed.specs.Uses.{use_at, stands_bare}
 use Rattle.rules_dead_code.specs.Before as in_row
-use Rattle.min_statements.specs.Shed.{shed, unreached_shed, list_shed}
+use Rattle.min_statements.specs.Shed.{shed, inert_shed, list_shed}
 use Rattle.min_statements.specs.Walker.{Names, facts_of}
 use Rattle.min_statements.proofs.Shed.{LeavesBy, facts_still, leaves_more, edited}
 use Rattle.min_statements.proofs.Gone.{shorter_sheds, shorter_is_lighter, list_shortens, ids_split, evals_split}
@@ -96,18 +96,18 @@ asked_so : (q : Facts → Where → Forest → Bool) (f g : Facts) (w v : Where)
 asked_so q f g w v t u b e facts at row = sym (e ∙ ap (λ x. q x w t) facts ∙ ap (λ x. q g x t) at ∙ ap (λ x. q g v x) row)
 
 -- what never runs left, and then the rest
-left_both : {k l d : Seen} (names : Names) (w : Where) (t : Forest) → Leaves k (λ r. unreached_shed (ids r) false t) (unreached_shed evals false t) l → LeavesBy (λ m q r. shed m q w r) names l (emptied_behind false t) d → LeavesBy (λ m q r. list_shed m q w r) names k t d
+left_both : {k l d : Seen} (names : Names) (w : Where) (t : Forest) → Leaves k (λ r. inert_shed (ids r) false t) (inert_shed evals false t) l → LeavesBy (λ m q r. shed m q w r) names l (emptied_behind false t) d → LeavesBy (λ m q r. list_shed m q w r) names k t d
 left_both {k = k} {l = l} {d = d} names w t first second =
     let f = facts_of names k in
     let same : Leaves l (λ r. shed (ids r) f w (emptied_behind false t)) (shed evals f w (emptied_behind false t)) d = subst (λ g. Leaves l (λ r. shed (ids r) g w (emptied_behind false t)) (shed evals g w (emptied_behind false t)) d) (facts_still names first) second in
     leaves_more first same (λ r. refl) refl
 
 pub trims : (names : Names) (c k l d : Seen) (x v y : Tree) (f g : Facts) (w : Where) (t u s : Forest) → x.kind ≡ statements → w ≡ where_of c.place → f ≡ facts_of names c → t ≡ x.below → true ≡ has_gone f w t
-    → k ≡ record c { requested = true } → u ≡ x.below → Leaves k (λ r. unreached_shed (ids r) false u) (unreached_shed evals false u) l → v ≡ record x { below = emptied_behind false x.below } → s ≡ v.below
+    → k ≡ record c { requested = true } → u ≡ x.below → Leaves k (λ r. inert_shed (ids r) false u) (inert_shed evals false u) l → v ≡ record x { below = emptied_behind false x.below } → s ≡ v.below
     → LeavesBy (λ m q r. shed m q w r) names l s d → g ≡ facts_of names d → y ≡ record v { below = trimmed g w v.below } → Does (trim names) c x true d y
 trims names c k l d x v y f g w t u s list at facts first dead asked row unreached emptied_is middle leaves later tree =
     let is_gone : has_gone (facts_of names c) (where_of c.place) x.below ≡ true = asked_so has_gone f (facts_of names c) w (where_of c.place) t x.below true dead facts at first in
-    let one_there : Leaves k (λ r. unreached_shed (ids r) false x.below) (unreached_shed evals false x.below) l = subst (λ z. Leaves k (λ r. unreached_shed (ids r) false z) (unreached_shed evals false z) l) row unreached in
+    let one_there : Leaves k (λ r. inert_shed (ids r) false x.below) (inert_shed evals false x.below) l = subst (λ z. Leaves k (λ r. inert_shed (ids r) false z) (inert_shed evals false z) l) row unreached in
     let middle_is : s ≡ emptied_behind false x.below = middle ∙ ap {A = Tree} (λ z. z.below) emptied_is in
     let two_there : LeavesBy (λ m q r. shed m q w r) names l (emptied_behind false x.below) d = subst (λ z. LeavesBy (λ m q r. shed m q w r) names l z d) middle_is leaves in
     let all_there : LeavesBy (λ m q r. list_shed m q w r) names k x.below d = left_both names w x.below one_there two_there in

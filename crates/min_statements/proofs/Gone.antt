@@ -17,10 +17,10 @@ use Rattle.rules_dead_code.proofs.Keeping.{Known, still_known}
 use Rattle.rules_dead_code.proofs.Lighter.{trimmed_is_lighter, trimmed_is_same, trimmed_sheds}
 use Rattle.rules_dead_code.proofs.Trimming.{list_trims}
 use Rattle.rules_expressions.specs.Lists.{new_note}
-use Rattle.rules_expressions.specs.Jumps.{is_unreached, reached, emptied_behind, has_unreached}
+use Rattle.rules_expressions.specs.Jumps.{is_inert, reached, emptied_behind, has_inert}
 use Rattle.rules_expressions.proofs.Jumps.{thinner, lighter, reach_edits, emptied_trims, all_reached}
 use Rattle.min_statements.specs.Acts.{has_gone, shorter}
-use Rattle.min_statements.specs.Shed.{unreached_shed, list_shed}
+use Rattle.min_statements.specs.Shed.{inert_shed, list_shed}
 use Rattle.min_statements.proofs.Shed.{Adds, ids_add, evals_add, splits}
 
 module _ (f : Facts) (w : Where) where
@@ -33,12 +33,12 @@ module _ (f : Facts) (w : Where) where
   trimmed_no_heavier t true e = Prim.omega (arith, trimmed_is_lighter f w t e)
   trimmed_no_heavier t false e = Prim.omega (arith, ap (total weight) (trimmed_is_same f w t e))
 
-  lighter_by : (t : Forest) (cut : Bool) → has_unreached false t ≡ cut → (cut || has_dead f w t) ≡ true → total weight (trimmed f w (reached false t)) + 1 ≤ total weight t
+  lighter_by : (t : Forest) (cut : Bool) → has_inert false t ≡ cut → (cut || has_dead f w t) ≡ true → total weight (trimmed f w (reached false t)) + 1 ≤ total weight t
   lighter_by t true e h = Prim.omega (arith, trimmed_no_heavier (reached false t) (has_dead f w (reached false t)) refl, lighter false t e)
   lighter_by t false e h = subst (λ u. total weight (trimmed f w u) + 1 ≤ total weight t) (sym (all_reached false t e)) (trimmed_is_lighter f w t h)
 
   pub shorter_is_lighter : (t : Forest) → has_gone f w t ≡ true → total weight (shorter f w t) + 1 ≤ total weight t
-  shorter_is_lighter t h = Prim.omega (arith, ap (total weight) (emptied_trims f w false t), lighter_by t (has_unreached false t) refl h)
+  shorter_is_lighter t h = Prim.omega (arith, ap (total weight) (emptied_trims f w false t), lighter_by t (has_inert false t) refl h)
 
 -- ---- edits
 
@@ -60,11 +60,11 @@ module _ (m : Forest → ℕ) (a : Adds m) (none : (n : Note) → m (alone empty
   splits_by true k n b rest gone stays s t h g = Prim.omega (arith, a.joins k n b rest, a.joins empty_statement (new_note n) nothing gone, none (new_note n), h)
   splits_by false k n b rest gone stays s t h g = Prim.omega (arith, a.joins k n b rest, a.joins k n b stays, g)
 
-  pub emptied_splits : (jumped : Bool) (t : Forest) → m t ≡ unreached_shed m jumped t + m (emptied_behind jumped t)
+  pub emptied_splits : (jumped : Bool) (t : Forest) → m t ≡ inert_shed m jumped t + m (emptied_behind jumped t)
   emptied_splits jumped nothing = Prim.omega arith
   emptied_splits jumped (absent rest) = Prim.omega (arith, a.gap rest, a.gap (emptied_behind jumped rest), emptied_splits jumped rest)
   emptied_splits jumped (node k n b rest) =
-      splits_by (is_unreached jumped k b) k n b rest (emptied_behind jumped rest) (emptied_behind (jumped || cuts_off k b) rest) (unreached_shed m jumped rest) (unreached_shed m (jumped || cuts_off k b) rest) (emptied_splits jumped rest) (emptied_splits (jumped || cuts_off k b) rest)
+      splits_by (is_inert jumped k b) k n b rest (emptied_behind jumped rest) (emptied_behind (jumped || cuts_off k b) rest) (inert_shed m jumped rest) (inert_shed m (jumped || cuts_off k b) rest) (emptied_splits jumped rest) (emptied_splits (jumped || cuts_off k b) rest)
 
   pub list_splits : (f : Facts) (w : Where) (t : Forest) → m t ≡ list_shed m f w t + m (shorter f w t)
   list_splits f w t = Prim.omega (arith, emptied_splits false t, splits m a f w (emptied_behind false t))

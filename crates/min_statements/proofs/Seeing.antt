@@ -18,7 +18,7 @@ use Rattle.min_traverse.specs.declared.slot.Middle.TheVariants as middle
 use Rattle.min_traverse.specs.declared.slot.Inner.{Inner}
 use Rattle.min_traverse.specs.declared.slot.Inner.TheVariants as inner
 use Rattle.rules_dead_code.specs.Rules.{Facts, Where, where_of, has_dead, is_silent_statement}
-use Rattle.rules_expressions.specs.Jumps.{has_unreached, left_if, list_reached}
+use Rattle.rules_expressions.specs.Jumps.{has_inert, left_if, list_reached}
 use Rattle.min_statements.specs.Acts.{has_gone}
 use Rattle.min_statements.specs.Own.{Visited, is_written, statement_changes}
 use Rattle.rules_dead_code.specs.Quiet.{EachNode, IsQuietAt, IsQuiet}
@@ -235,7 +235,7 @@ used_at f p x h slots = none_unused f (where_of p) x.note x.kind x.below (λ e. 
 
 quiet_at : (f : Facts) (p : Place) (x : Tree) → IsAlive f p x → HasSlots p x → IsQuietAt f p x
 quiet_at f p x h slots = record {
-  list = λ e. (neither (has_unreached false x.below) (has_dead f (where_of p) x.below) (h.list (slots.list e))).1;
+  list = λ e. (neither (has_inert false x.below) (has_dead f (where_of p) x.below) (h.list (slots.list e))).1;
   statement = none_left (record { kind = empty_statement; note = unmarked x.note; below = nothing }) (not_silent f (where_of p) x.note x.kind x.below (λ e. h.statement (slots.statement e)));
 }
 
@@ -315,7 +315,7 @@ settled_kind s n k b h = (refl, refl, none_either_way s.is_unused, none_either_w
 
 -- nothing stands behind a jump
 none_behind : (f : Facts) (w : Where) (n : Note) (k : Kind) (b : Forest) → (k ≡ Kind.Statements → has_gone f w b ≡ false) → list_reached n k b ≡ None
-none_behind f w n Kind.Statements b h = ap (λ c. left_if c n b) (neither (has_unreached false b) (has_dead f w b) (h refl)).0
+none_behind f w n Kind.Statements b h = ap (λ c. left_if c n b) (neither (has_inert false b) (has_dead f w b) (h refl)).0
 none_behind f w n k b h = refl
 
 settled_at : (f : Facts) (p : Place) (x : Tree) → IsAlive f p x → HasSlots p x → IsSettledAt p x

@@ -3,13 +3,13 @@ use Rattle.std.specs.Prelude.{Bool, false, ◌||◌, Option, Some, None, if◌th
 use Rattle.js_syntax.specs.Node.{Forest, Tree}
 use Rattle.min_context.specs.Seen.{Seen}
 use Rattle.rules_dead_code.specs.Rules.{Facts, Where, where_of, has_dead, trimmed, emptied}
-use Rattle.rules_expressions.specs.Jumps.{has_unreached, emptied_behind}
+use Rattle.rules_expressions.specs.Jumps.{has_inert, emptied_behind}
 use Rattle.rules_imports.specs.Rules.{pruned}
 use Rattle.min_statements.specs.Walker.{Names, facts_of}
 
 -- whether anything of a list goes, and what is left: what stands behind a jump becomes empty, and so goes too
 abbrev pub has_gone : Facts → Where → Forest → Bool
-has_gone f w t = has_unreached false t || has_dead f w t
+has_gone f w t = has_inert false t || has_dead f w t
 
 abbrev pub shorter : Facts → Where → Forest → Forest
 shorter f w t = trimmed f w (emptied_behind false t)

@@ -6,7 +6,7 @@ use Rattle.js_syntax.specs.declared.kind.VariableKind.{VariableKind}
 use Rattle.js_syntax.specs.Node.{Forest, Tree, nothing, node, absent, alone}
 use Rattle.js_meaning_near.specs.Near.{cuts_off}
 use Rattle.rules_dead_code.specs.Rules.{Facts, Where, declarator_goes, item_goes, item_left}
-use Rattle.rules_expressions.specs.Jumps.{is_unreached, emptied_behind}
+use Rattle.rules_expressions.specs.Jumps.{is_inert, emptied_behind}
 use Rattle.rules_imports.specs.Rules.{specifier_goes}
 
 -- `m` says what a row counts
@@ -62,12 +62,12 @@ module _ (f : Facts) (w : Where) where
 -- ---- what never runs
 
 module _ (m : Forest → ℕ) where
-  abbrev pub unreached_shed : (jumped : Bool) → Forest → ℕ
-  unreached_shed jumped nothing = 0
-  unreached_shed jumped (absent rest) = unreached_shed jumped rest
-  unreached_shed jumped (node k n below rest) = if is_unreached jumped k below then m (alone k n below) + unreached_shed jumped rest else unreached_shed (jumped || cuts_off k below) rest
+  abbrev pub inert_shed : (jumped : Bool) → Forest → ℕ
+  inert_shed jumped nothing = 0
+  inert_shed jumped (absent rest) = inert_shed jumped rest
+  inert_shed jumped (node k n below rest) = if is_inert jumped k below then m (alone k n below) + inert_shed jumped rest else inert_shed (jumped || cuts_off k below) rest
 
 -- all that leaves a list
 module _ (m : Forest → ℕ) (f : Facts) (w : Where) where
   abbrev pub list_shed : Forest → ℕ
-  list_shed t = unreached_shed m false t + shed m f w (emptied_behind false t)
+  list_shed t = inert_shed m false t + shed m f w (emptied_behind false t)

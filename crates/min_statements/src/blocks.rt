@@ -6,8 +6,9 @@ ghost use Rattle.steps_allowed.specs.EmptyBlock.{is_idle, idles};
 use js_syntax::NodeKind;
 use js_tree::Node;
 
+// An empty statement, or a block or a label around nothing.
 #[cycle(idles)]
-fn is_idle(node: &Node) -> bool
+pub(crate) fn is_idle(node: &Node) -> bool
     ensures { result ≡ (is_idle node.now.kind && idles node.now.below) }
 {
     match node.kind() {

@@ -17,13 +17,14 @@ mod blocks;
 mod emptied;
 mod facts;
 mod goes;
+mod idle;
 mod ifs;
 mod imports;
+mod inert;
 mod inside;
 mod names;
 mod statements;
 mod trimmed;
-mod unreached;
 mod untaken;
 mod walk;
 

@@ -12,8 +12,8 @@ ghost use Rattle.min_statements.specs.Walker.{facts_of};
 
 use crate::facts::{Facts, Where};
 use crate::goes::{declarator_goes, has_dead, item_goes};
+use crate::inert::{drop_inert, empty_inert, has_inert};
 use crate::statements::Statements;
-use crate::unreached::{drop_unreached, empty_unreached, has_unreached};
 use js_syntax::{NodeKind, VariableKind};
 use js_tree::Node;
 use min_context::MinifierTraverseCtx;
@@ -241,25 +241,25 @@ fn trim(alloc: Global, facts: &Facts, at: Where, node: &mut Node)
 }
 
 // Whether anything leaves a list.
-fn has_gone(facts: &Facts, at: Where, items: &[Option<Node>]) -> bool
+fn has_gone(facts: &Facts, at: Where, items: &[Option<Node>], alloc: Global) -> bool
     ensures { result ≡ acts.has_gone facts.now at (row items.now) }
 {
-    has_unreached(items) || has_dead(facts, at, items)
+    has_inert(items, alloc) || has_dead(facts, at, items)
 }
 
-/// What goes of a list of statements leaves it: what stands behind a jump or what cuts off as one does, empty and silent statements, blocks
-/// of nothing, and functions and declarators that nothing uses. The context is told of each before. Where nothing goes, nothing is touched.
+/// What goes of a list of statements leaves it: what stands behind a jump or what cuts off as one does, loops that never turn and `try`
+/// around nothing, empty and silent statements, blocks of nothing, and functions and declarators that nothing uses. The context is told of each before. Where nothing goes, nothing is touched.
 pub fn trim_statements(names: &Statements, node: &mut Node, ctx: &mut MinifierTraverseCtx) -> bool
     requires list { node.old.kind ≡ statements }
     ensures does { Does (acts.trim names.now) ctx.old node.old result ctx.new node.new }
 {
     let at = Where::of(ctx);
-    if !has_gone(&names.facts(ctx), at, node.children()) {
+    if !has_gone(&names.facts(ctx), at, node.children(), ctx.alloc()) {
         return false;
     }
     ctx.notice_change();
-    drop_unreached(node.children(), ctx);
-    empty_unreached(ctx.alloc(), node);
+    drop_inert(node.children(), ctx);
+    empty_inert(ctx.alloc(), node);
     drop_items(names, at, node.children(), ctx);
     trim(ctx.alloc(), &names.facts(ctx), at, node);
     true

@@ -8,8 +8,8 @@ ghost use Rattle.steps_allowed.specs.Untaken.{runs_inside};
 ghost use Rattle.rules_expressions.specs.Untaken.{is_list, may_go, row_loses, branch_loses};
 ghost use Rattle.min_statements.specs.Untaken.{by_truth, among, untaken_at, row_shed, inside_shed, one_shed, shed_of, shed_at, inside_left, goes_there, kept_of, each_rid, rid_one, rid_at};
 
+use crate::inert::only_runs;
 use crate::inside::declares_no_name;
-use crate::unreached::only_runs;
 use js_syntax::NodeKind;
 use js_tree::Node;
 use min_context::MinifierTraverseCtx;

@@ -1,5 +1,6 @@
--- What stands behind a jump leaves its list by edits; and where nothing leaves one, nothing stands there that could.
+-- What stands behind a jump or does nothing leaves its list by edits; and where nothing leaves one, nothing stands there that could.
 use Rattle.std.proofs.Common.{◌≡◌, ◌∙◌, ◌⊎◌, inl, inr, ◌≤◌, ◌+◌, ℕ, Bool, true, false, ◌&&◌, ◌||◌, Some, None, if◌then◌else◌, refl, sym, ap, subst, arith, true≢false}
+use Rattle.std.proofs.lemmas.Bool.{or_cases}
 use Rattle.js_syntax.specs.declared.node_kind.NodeKind.{NodeKind as Kind}
 use Rattle.js_syntax.specs.declared.node_kind.NodeKind.TheVariants.{Statements as statements, EmptyStatement as empty_statement}
 use Rattle.js_syntax.specs.Facts.{weight}
@@ -17,16 +18,18 @@ use Rattle.scope_counts.specs.Edits.{here, behind, behind_none, under, plug}
 use Rattle.scope_laws.specs.Place as places
 use Rattle.scope_laws.specs.Place.{first}
 use Rattle.steps_allowed.specs.Branches.{declares_none, declares_no_name}
-use Rattle.steps_allowed.specs.Edits.{Edit, leaves, unreached, TreeEdits, no_tree_edit, one_tree_edit}
+use Rattle.steps_allowed.specs.Edits.{Leaves, Edit, leaves, unreached, idle_statement, TreeEdits, no_tree_edit, one_tree_edit}
+use Rattle.steps_allowed.specs.IdleStatement.{does_nothing, IdleStatement, idle_leaves}
 use Rattle.steps_allowed.specs.Unreached.{only_runs, is_behind_jump, Unreached, never_runs}
 use Rattle.steps_allowed.specs.Places.{asked_at, IsItem}
 use Rattle.rules_dead_code.proofs.Items.{IsItems, first_items, next_items, absent_items, item_there, leaves_there}
 use Rattle.rules_dead_code.proofs.Places.{to, plugged, join, plug_join}
+use Rattle.steps_owed.proofs.IdleStatement.{idle_runs}
 use Rattle.steps_owed.proofs.Unreached.{runs_weigh}
 use Rattle.rules_expressions.proofs.Becoming.{no_answer, chosen, chosen_if, IsLess}
 use Rattle.rules_dead_code.specs.Rules.{Facts, Where, item_goes, item_left, trimmed}
 use Rattle.rules_expressions.specs.Lists.{new_note}
-use Rattle.rules_expressions.specs.Jumps.{emptied_behind, is_unreached, reached, has_unreached, left_if, list_reached}
+use Rattle.rules_expressions.specs.Jumps.{emptied_behind, is_inert, reached, has_inert, left_if, list_reached}
 
 -- ---- jumps before a place in its row
 
@@ -56,17 +59,29 @@ jumped_none jumped (under l m a r) = jumped_none false a
 
 -- ---- edits of the row
 
-unreached_there : (p : Place) (a : counts.Around) (jumped : Bool) (k : Kind) (n : Note) (b rest : Forest) → IsItems p a → jumped_at false a ≡ jumped → is_unreached jumped k b ≡ true → Unreached (to a (first rest)) (record { kind = k; note = n; below = b })
-unreached_there p a jumped k n b rest items is goes =
-    let runs = second_of_both jumped (only_runs k && declares_no_name k b) goes in
-    never_runs (item_there p a rest items)
-    (jumped_to false a rest ∙ is ∙ first_of_both jumped (only_runs k && declares_no_name k b) goes)
-    (first_of_both (only_runs k) (declares_no_name k b) runs)
-    (both (declares_no_name k b) true (second_of_both (only_runs k) (declares_no_name k b) runs) refl)
+-- by either
+data Inert (a : places.Around) (x : Tree) : Type 0 where
+  never_runs_there : Unreached a x → Inert a x
+  idles_there : IdleStatement a x → Inert a x
 
-unreached_goes : (p : Place) (a : counts.Around) (jumped : Bool) (k : Kind) (n : Note) (b rest : Forest) → IsItems p a → jumped_at false a ≡ jumped → is_unreached jumped k b ≡ true → Edit (plug a (node k n b rest)) (plug a rest)
-unreached_goes p a jumped k n b rest items is goes =
-    leaves_there a (Some (record { kind = k; note = n; below = b })) rest (leaves (to a (first rest)) (record { kind = k; note = n; below = b }) (unreached (unreached_there p a jumped k n b rest items is goes)))
+inert_there : (p : Place) (a : counts.Around) (jumped : Bool) (k : Kind) (n : Note) (b rest : Forest) → IsItems p a → jumped_at false a ≡ jumped → is_inert jumped k b ≡ true → Inert (to a (first rest)) (record { kind = k; note = n; below = b })
+inert_there p a jumped k n b rest items is goes =
+    let item = item_there p a rest items in
+    let runs = second_of_both (jumped || does_nothing k b) (only_runs k && declares_no_name k b) goes in
+    let none = both (declares_no_name k b) true (second_of_both (only_runs k) (declares_no_name k b) runs) refl in
+    elim (or_cases jumped (does_nothing k b) (first_of_both (jumped || does_nothing k b) (only_runs k && declares_no_name k b) goes)) [
+      | inl jump ↦ never_runs_there (never_runs item (jumped_to false a rest ∙ is ∙ jump) (first_of_both (only_runs k) (declares_no_name k b) runs) none)
+      | inr idle ↦ idles_there (idle_leaves item idle none)
+    ]
+
+leaves_by : (a : places.Around) (x : Tree) → Inert a x → Leaves a x
+leaves_by a x (never_runs_there c) = unreached c
+leaves_by a x (idles_there c) = idle_statement c
+
+inert_goes : (p : Place) (a : counts.Around) (jumped : Bool) (k : Kind) (n : Note) (b rest : Forest) → IsItems p a → jumped_at false a ≡ jumped → is_inert jumped k b ≡ true → Edit (plug a (node k n b rest)) (plug a rest)
+inert_goes p a jumped k n b rest items is goes =
+    let x : Tree = record { kind = k; note = n; below = b } in
+    leaves_there a (Some x) rest (leaves (to a (first rest)) x (leaves_by (to a (first rest)) x (inert_there p a jumped k n b rest items is goes)))
 
 by_item : (a : counts.Around) (jumped : Bool) (k : Kind) (n : Note) (b rest : Forest) (goes : Bool) → (goes ≡ true → Edit (plug a (node k n b rest)) (plug a rest)) → TreeEdits (plug a rest) (plug a (reached jumped rest))
     → TreeEdits (plug a (node k n b rest)) (plug a (node k n b (reached (jumped || cuts_off k b) rest)))
@@ -81,7 +96,7 @@ row_edits p a jumped (absent rest) items is =
     (subst (λ u. TreeEdits (plug (join a (behind_none here)) rest) u) (plug_join a (behind_none here) (reached jumped rest))
     (row_edits p (join a (behind_none here)) jumped rest (absent_items p a items) (jumped_none false a ∙ is)))
 row_edits p a jumped (node k n b rest) items is =
-    by_item a jumped k n b rest (is_unreached jumped k b) (λ goes. unreached_goes p a jumped k n b rest items is goes) (row_edits p a jumped rest items is)
+    by_item a jumped k n b rest (is_inert jumped k b) (λ goes. inert_goes p a jumped k n b rest items is goes) (row_edits p a jumped rest items is)
     (subst (λ u. TreeEdits u (plug a (node k n b (reached (jumped || cuts_off k b) rest)))) (plug_join a (behind k n b here) rest)
     (subst (λ u. TreeEdits (plug (join a (behind k n b here)) rest) u) (plug_join a (behind k n b here) (reached (jumped || cuts_off k b) rest))
     (row_edits p (join a (behind k n b here)) (jumped || cuts_off k b) rest (next_items p a k n b items) (jumped_next false a k n b ∙ ap (λ j. j || cuts_off k b) is))))
@@ -92,8 +107,8 @@ jumped_under jumped (behind l m c a) k n rest = jumped_under (jumped || cuts_off
 jumped_under jumped (behind_none a) k n rest = jumped_under jumped a k n rest
 jumped_under jumped (under l m a r) k n rest = jumped_under false a k n rest
 
-list_of : (n : Note) (k : Kind) (below : Forest) (y : Tree) → list_reached n k below ≡ Some y → (k ≡ statements) × ((has_unreached false below ≡ true) × (y ≡ record { kind = statements; note = n; below = reached false below }))
-list_of n Kind.Statements below y e = elim (chosen_if (has_unreached false below) (record { kind = statements; note = n; below = reached false below }) y e) [ chosen may is ↦ (refl, (may, sym is)) ]
+list_of : (n : Note) (k : Kind) (below : Forest) (y : Tree) → list_reached n k below ≡ Some y → (k ≡ statements) × ((has_inert false below ≡ true) × (y ≡ record { kind = statements; note = n; below = reached false below }))
+list_of n Kind.Statements below y e = elim (chosen_if (has_inert false below) (record { kind = statements; note = n; below = reached false below }) y e) [ chosen may is ↦ (refl, (may, sym is)) ]
 list_of n k below y e = no_answer e
 
 -- a list without what never runs
@@ -112,8 +127,8 @@ list_edits a x y rest e =
 
 -- ---- what is left is less
 
-unreached_weighs : (jumped : Bool) (k : Kind) (b : Forest) → is_unreached jumped k b ≡ true → 1 ≤ weight k
-unreached_weighs jumped k b h = runs_weigh k (first_of_both (only_runs k) (declares_no_name k b) (second_of_both jumped (only_runs k && declares_no_name k b) h))
+inert_weighs : (jumped : Bool) (k : Kind) (b : Forest) → is_inert jumped k b ≡ true → 1 ≤ weight k
+inert_weighs jumped k b h = runs_weigh k (first_of_both (only_runs k) (declares_no_name k b) (second_of_both (jumped || does_nothing k b) (only_runs k && declares_no_name k b) h))
 
 thinner_by : (r : ℕ) (k : Kind) (n : Note) (b rest gone stays : Forest) (goes : Bool) → ids r gone ≤ ids r rest → ids r stays ≤ ids r rest → ids r (if goes then gone else node k n b stays) ≤ ids r (node k n b rest)
 thinner_by r k n b rest gone stays true h g = Prim.omega (arith, h)
@@ -123,7 +138,7 @@ pub thinner : (r : ℕ) (jumped : Bool) (t : Forest) → ids r (reached jumped t
 thinner r jumped nothing = Prim.omega arith
 thinner r jumped (absent rest) = thinner r jumped rest
 thinner r jumped (node k n b rest) =
-    thinner_by r k n b rest (reached jumped rest) (reached (jumped || cuts_off k b) rest) (is_unreached jumped k b) (thinner r jumped rest) (thinner r (jumped || cuts_off k b) rest)
+    thinner_by r k n b rest (reached jumped rest) (reached (jumped || cuts_off k b) rest) (is_inert jumped k b) (thinner r jumped rest) (thinner r (jumped || cuts_off k b) rest)
 
 no_heavier_by : (k : Kind) (n : Note) (b rest gone stays : Forest) (goes : Bool) → total weight gone ≤ total weight rest → total weight stays ≤ total weight rest → total weight (if goes then gone else node k n b stays) ≤ total weight (node k n b rest)
 no_heavier_by k n b rest gone stays true h g = Prim.omega (arith, h)
@@ -133,18 +148,18 @@ pub no_heavier : (jumped : Bool) (t : Forest) → total weight (reached jumped t
 no_heavier jumped nothing = Prim.omega arith
 no_heavier jumped (absent rest) = no_heavier jumped rest
 no_heavier jumped (node k n b rest) =
-    no_heavier_by k n b rest (reached jumped rest) (reached (jumped || cuts_off k b) rest) (is_unreached jumped k b) (no_heavier jumped rest) (no_heavier (jumped || cuts_off k b) rest)
+    no_heavier_by k n b rest (reached jumped rest) (reached (jumped || cuts_off k b) rest) (is_inert jumped k b) (no_heavier jumped rest) (no_heavier (jumped || cuts_off k b) rest)
 
-lighter_by : (jumped : Bool) (k : Kind) (n : Note) (b rest gone stays : Forest) (more goes : Bool) → is_unreached jumped k b ≡ goes → (goes || more) ≡ true → total weight gone ≤ total weight rest → (more ≡ true → total weight stays + 1 ≤ total weight rest)
+lighter_by : (jumped : Bool) (k : Kind) (n : Note) (b rest gone stays : Forest) (more goes : Bool) → is_inert jumped k b ≡ goes → (goes || more) ≡ true → total weight gone ≤ total weight rest → (more ≡ true → total weight stays + 1 ≤ total weight rest)
     → total weight (if goes then gone else node k n b stays) + 1 ≤ total weight (node k n b rest)
-lighter_by jumped k n b rest gone stays more true goes e h g = Prim.omega (arith, h, unreached_weighs jumped k b goes)
+lighter_by jumped k n b rest gone stays more true goes e h g = Prim.omega (arith, h, inert_weighs jumped k b goes)
 lighter_by jumped k n b rest gone stays more false goes e h g = Prim.omega (arith, g e)
 
-pub lighter : (jumped : Bool) (t : Forest) → has_unreached jumped t ≡ true → total weight (reached jumped t) + 1 ≤ total weight t
+pub lighter : (jumped : Bool) (t : Forest) → has_inert jumped t ≡ true → total weight (reached jumped t) + 1 ≤ total weight t
 lighter jumped nothing h = absurd (true≢false (sym h))
 lighter jumped (absent rest) h = lighter jumped rest h
 lighter jumped (node k n b rest) h =
-    lighter_by jumped k n b rest (reached jumped rest) (reached (jumped || cuts_off k b) rest) (has_unreached (jumped || cuts_off k b) rest) (is_unreached jumped k b) refl h (no_heavier jumped rest) (λ e. lighter (jumped || cuts_off k b) rest e)
+    lighter_by jumped k n b rest (reached jumped rest) (reached (jumped || cuts_off k b) rest) (has_inert (jumped || cuts_off k b) rest) (is_inert jumped k b) refl h (no_heavier jumped rest) (λ e. lighter (jumped || cuts_off k b) rest e)
 
 pub cut_is_less : (x y : Tree) → list_reached x.note x.kind x.below ≡ Some y → IsLess x y
 cut_is_less x y e =
@@ -162,7 +177,7 @@ record Found (t : Forest) : Type 0 where
   items : Forest
   rest : Forest
   is : t ≡ plug place (node statements note items rest)
-  has : has_unreached false items ≡ true
+  has : has_inert false items ≡ true
 
 list_row : (row : AskedRow) (k : Kind) → asked_row_below row k ≡ row_items → k ≡ statements
 list_row row Kind.Statements e = refl
@@ -179,47 +194,61 @@ found_behind k n below f = record { place = behind k n below f.place; note = f.n
 found_absent : {t : Forest} → Found t → Found (absent t)
 found_absent f = record { place = behind_none f.place; note = f.note; items = f.items; rest = f.rest; is = ap (λ u. absent u) f.is; has = f.has }
 
+-- behind a jump, or by itself
+abbrev GoesThere : (jumped : Bool) → places.Around → Tree → Type 0
+GoesThere jumped b x = (is_behind_jump jumped b ≡ true) ⊎ (does_nothing x.kind x.below ≡ true)
+
 module _ (x : Tree) (runs : only_runs x.kind ≡ true) (none : declares_none (forest_of x) ≡ true) where
-  goes_there : (jumped : Bool) → jumped ≡ true → is_unreached jumped x.kind x.below ≡ true
-  goes_there jumped jump =
-      both jumped (only_runs x.kind && declares_no_name x.kind x.below) jump
+  goes_there : (jumped : Bool) → (jumped || does_nothing x.kind x.below) ≡ true → is_inert jumped x.kind x.below ≡ true
+  goes_there jumped why =
+      both (jumped || does_nothing x.kind x.below) (only_runs x.kind && declares_no_name x.kind x.below) why
       (both (only_runs x.kind) (declares_no_name x.kind x.below) runs (first_of_both (declares_no_name x.kind x.below) true none))
 
-  find : (w : Asked) (b : places.Around) (jumped : Bool) → (asked_at w b).row ≡ row_items → is_behind_jump jumped b ≡ true
-      → ((w.row ≡ row_items) × (has_unreached jumped (places.plug b (Some x)) ≡ true)) ⊎ Found (places.plug b (Some x))
-  find w (first rest) jumped item jump = inl (item, first_of_either (is_unreached jumped x.kind x.below) (has_unreached (jumped || cuts_off x.kind x.below) rest) (goes_there jumped jump))
-  find w (places.behind k n below b) jumped item jump =
-      elim (find w b (jumped || cuts_off k below) item jump) [
-        | inl row ↦ inl (row.0, second_of_either (is_unreached jumped k below) (has_unreached (jumped || cuts_off k below) (places.plug b (Some x))) row.1)
+  why_here : (jumped : Bool) (rest : Forest) → GoesThere jumped (first rest) x → (jumped || does_nothing x.kind x.below) ≡ true
+  why_here jumped rest (inl jump) = first_of_either jumped (does_nothing x.kind x.below) jump
+  why_here jumped rest (inr idle) = second_of_either jumped (does_nothing x.kind x.below) idle
+
+  find : (w : Asked) (b : places.Around) (jumped : Bool) → (asked_at w b).row ≡ row_items → GoesThere jumped b x
+      → ((w.row ≡ row_items) × (has_inert jumped (places.plug b (Some x)) ≡ true)) ⊎ Found (places.plug b (Some x))
+  find w (first rest) jumped item why = inl (item, first_of_either (is_inert jumped x.kind x.below) (has_inert (jumped || cuts_off x.kind x.below) rest) (goes_there jumped (why_here jumped rest why)))
+  find w (places.behind k n below b) jumped item why =
+      elim (find w b (jumped || cuts_off k below) item why) [
+        | inl row ↦ inl (row.0, second_of_either (is_inert jumped k below) (has_inert (jumped || cuts_off k below) (places.plug b (Some x))) row.1)
         | inr there ↦ inr (found_behind k n below there)
       ]
-  find w (places.behind_none b) jumped item jump =
-      elim (find w b jumped item jump) [
+  find w (places.behind_none b) jumped item why =
+      elim (find w b jumped item why) [
         | inl row ↦ inl row
         | inr there ↦ inr (found_absent there)
       ]
-  find w (places.under k n b rest) jumped item jump =
-      elim (find (asked_below w k) b false item jump) [
+  find w (places.under k n b rest) jumped item why =
+      elim (find (asked_below w k) b false item why) [
         | inl row ↦ inr (subst (λ l. Found (node l n (places.plug b (Some x)) rest)) (sym (list_row w.row k row.0)) (record { place = here; note = n; items = places.plug b (Some x); rest = rest; is = refl; has = row.1 }))
         | inr there ↦ inr (found_below k n rest there)
       ]
 
-  found : (b : places.Around) → IsItem b → is_behind_jump false b ≡ true → Found (places.plug b (Some x))
-  found b item jump =
-      elim (find (asked_of_program true) b false item jump) [
+  found : (b : places.Around) → IsItem b → GoesThere false b x → Found (places.plug b (Some x))
+  found b item why =
+      elim (find (asked_of_program true) b false item why) [
         | inl row ↦ absurd cc
         | inr there ↦ there
       ]
 
--- where no list leaves anything nothing stands behind a jump that could leave
-pub settled_lists : (t : Forest) → ((a : counts.Around) (x : Tree) (rest : Forest) → t ≡ plug a (node x.kind x.note x.below rest) → list_reached x.note x.kind x.below ≡ None)
-    → (b : places.Around) (x : Tree) → t ≡ places.plug b (Some x) → Unreached b x → ⊥
-settled_lists t settled b x is (never_runs item jump runs none) =
-    let f = found x runs none b item jump in
-    some_none (ap (λ c. left_if c f.note f.items) (sym f.has) ∙ settled f.place (record { kind = statements; note = f.note; below = f.items }) f.rest (is ∙ f.is))
-  where
-    some_none : {y : Tree} → Some y ≡ None → ⊥
-    some_none e = cc
+-- where no list leaves anything no statement stands that could leave one
+module _ (t : Forest) (settled : (a : counts.Around) (x : Tree) (rest : Forest) → t ≡ plug a (node x.kind x.note x.below rest) → list_reached x.note x.kind x.below ≡ None) where
+  none_goes : (b : places.Around) (x : Tree) → t ≡ places.plug b (Some x) → only_runs x.kind ≡ true → declares_none (forest_of x) ≡ true → IsItem b → GoesThere false b x → ⊥
+  none_goes b x is runs none item why =
+      let f = found x runs none b item why in
+      some_none (ap (λ c. left_if c f.note f.items) (sym f.has) ∙ settled f.place (record { kind = statements; note = f.note; below = f.items }) f.rest (is ∙ f.is))
+    where
+      some_none : {y : Tree} → Some y ≡ None → ⊥
+      some_none e = cc
+
+  pub settled_lists : (b : places.Around) (x : Tree) → t ≡ places.plug b (Some x) → Unreached b x → ⊥
+  settled_lists b x is (never_runs item jump runs none) = none_goes b x is runs none item (inl jump)
+
+  pub settled_items : (b : places.Around) (x : Tree) → t ≡ places.plug b (Some x) → IdleStatement b x → ⊥
+  settled_items b x is (idle_leaves item idle none) = none_goes b x is (idle_runs x.kind x.below idle) none item (inr idle)
 
 -- ---- and the other way round
 
@@ -227,33 +256,38 @@ record Stands (t : Forest) : Type 0 where
   place : places.Around
   node_there : Tree
   is : t ≡ places.plug place (Some node_there)
-  goes : Unreached place node_there
+  goes : Inert place node_there
 
-stands_by : (p : Place) (a : counts.Around) (jumped : Bool) (k : Kind) (n : Note) (b rest : Forest) (more goes : Bool) → IsItems p a → jumped_at false a ≡ jumped → is_unreached jumped k b ≡ goes → (goes || more) ≡ true → (more ≡ true → Stands (plug a (node k n b rest)))
+stands_by : (p : Place) (a : counts.Around) (jumped : Bool) (k : Kind) (n : Note) (b rest : Forest) (more goes : Bool) → IsItems p a → jumped_at false a ≡ jumped → is_inert jumped k b ≡ goes → (goes || more) ≡ true → (more ≡ true → Stands (plug a (node k n b rest)))
     → Stands (plug a (node k n b rest))
 stands_by p a jumped k n b rest more true items is goes e next =
-    record { place = to a (first rest); node_there = record { kind = k; note = n; below = b }; is = sym (plugged a (first rest) (Some (record { kind = k; note = n; below = b }))); goes = unreached_there p a jumped k n b rest items is goes }
+    record { place = to a (first rest); node_there = record { kind = k; note = n; below = b }; is = sym (plugged a (first rest) (Some (record { kind = k; note = n; below = b }))); goes = inert_there p a jumped k n b rest items is goes }
 stands_by p a jumped k n b rest more false items is goes e next = next e
 
-some_unreached : (p : Place) (a : counts.Around) (jumped : Bool) (t : Forest) → IsItems p a → jumped_at false a ≡ jumped → has_unreached jumped t ≡ true → Stands (plug a t)
-some_unreached p a jumped nothing items is h = absurd (true≢false (sym h))
-some_unreached p a jumped (absent rest) items is h =
-    subst Stands (plug_join a (behind_none here) rest) (some_unreached p (join a (behind_none here)) jumped rest (absent_items p a items) (jumped_none false a ∙ is) h)
-some_unreached p a jumped (node k n b rest) items is h =
-    stands_by p a jumped k n b rest (has_unreached (jumped || cuts_off k b) rest) (is_unreached jumped k b) items is refl h (λ e.
-    subst Stands (plug_join a (behind k n b here) rest) (some_unreached p (join a (behind k n b here)) (jumped || cuts_off k b) rest (next_items p a k n b items) (jumped_next false a k n b ∙ ap (λ j. j || cuts_off k b) is) e))
+some_inert : (p : Place) (a : counts.Around) (jumped : Bool) (t : Forest) → IsItems p a → jumped_at false a ≡ jumped → has_inert jumped t ≡ true → Stands (plug a t)
+some_inert p a jumped nothing items is h = absurd (true≢false (sym h))
+some_inert p a jumped (absent rest) items is h =
+    subst Stands (plug_join a (behind_none here) rest) (some_inert p (join a (behind_none here)) jumped rest (absent_items p a items) (jumped_none false a ∙ is) h)
+some_inert p a jumped (node k n b rest) items is h =
+    stands_by p a jumped k n b rest (has_inert (jumped || cuts_off k b) rest) (is_inert jumped k b) items is refl h (λ e.
+    subst Stands (plug_join a (behind k n b here) rest) (some_inert p (join a (behind k n b here)) (jumped || cuts_off k b) rest (next_items p a k n b items) (jumped_next false a k n b ∙ ap (λ j. j || cuts_off k b) is) e))
 
-none_or : (t : Forest) (a : counts.Around) (n : Note) (below rest : Forest) (b : Bool) → has_unreached false below ≡ b → t ≡ plug a (node statements n below rest) → (Stands t → ⊥) → left_if b n below ≡ None
+none_or : (t : Forest) (a : counts.Around) (n : Note) (below rest : Forest) (b : Bool) → has_inert false below ≡ b → t ≡ plug a (node statements n below rest) → (Stands t → ⊥) → left_if b n below ≡ None
 none_or t a n below rest false has is none = refl
 none_or t a n below rest true has is none =
-    absurd (none (subst Stands (plug_join a (under statements n here rest) below ∙ sym is) (some_unreached (place_at a) (join a (under statements n here rest)) false below (first_items a n rest) (jumped_under false a statements n rest) has)))
+    absurd (none (subst Stands (plug_join a (under statements n here rest) below ∙ sym is) (some_inert (place_at a) (join a (under statements n here rest)) false below (first_items a n rest) (jumped_under false a statements n rest) has)))
 
 lists_settle : (t : Forest) (a : counts.Around) (k : Kind) (n : Note) (below rest : Forest) → t ≡ plug a (node k n below rest) → (Stands t → ⊥) → list_reached n k below ≡ None
-lists_settle t a Kind.Statements n below rest is none = none_or t a n below rest (has_unreached false below) refl is none
+lists_settle t a Kind.Statements n below rest is none = none_or t a n below rest (has_inert false below) refl is none
 lists_settle t a k n below rest is none = refl
 
-pub settled_without : (t : Forest) → ((b : places.Around) (x : Tree) → t ≡ places.plug b (Some x) → Unreached b x → ⊥) → (a : counts.Around) (x : Tree) (rest : Forest) → t ≡ plug a (node x.kind x.note x.below rest) → list_reached x.note x.kind x.below ≡ None
-settled_without t none a x rest is = lists_settle t a x.kind x.note x.below rest is (λ s. none s.place s.node_there s.is s.goes)
+pub settled_without : (t : Forest) → ((b : places.Around) (x : Tree) → t ≡ places.plug b (Some x) → Unreached b x → ⊥) → ((b : places.Around) (x : Tree) → t ≡ places.plug b (Some x) → IdleStatement b x → ⊥)
+    → (a : counts.Around) (x : Tree) (rest : Forest) → t ≡ plug a (node x.kind x.note x.below rest) → list_reached x.note x.kind x.below ≡ None
+settled_without t none idle a x rest is = lists_settle t a x.kind x.note x.below rest is (λ s. no_more s.place s.node_there s.is s.goes)
+  where
+    no_more : (b : places.Around) (x : Tree) → t ≡ places.plug b (Some x) → Inert b x → ⊥
+    no_more b x is (never_runs_there c) = none b x is c
+    no_more b x is (idles_there c) = idle b x is c
 
 -- ---- by way of empty statements
 
@@ -267,15 +301,15 @@ pub emptied_trims : (f : Facts) (w : Where) (jumped : Bool) (t : Forest) → tri
 emptied_trims f w jumped nothing = refl
 emptied_trims f w jumped (absent rest) = ap (λ (t : Forest). absent t) (emptied_trims f w jumped rest)
 emptied_trims f w jumped (node k n b rest) =
-    emptied_goes f w k n b (emptied_behind jumped rest) (emptied_behind (jumped || cuts_off k b) rest) (reached jumped rest) (reached (jumped || cuts_off k b) rest) (is_unreached jumped k b) (emptied_trims f w jumped rest) (emptied_trims f w (jumped || cuts_off k b) rest)
+    emptied_goes f w k n b (emptied_behind jumped rest) (emptied_behind (jumped || cuts_off k b) rest) (reached jumped rest) (reached (jumped || cuts_off k b) rest) (is_inert jumped k b) (emptied_trims f w jumped rest) (emptied_trims f w (jumped || cuts_off k b) rest)
 
 -- where nothing goes all stays
 stay_by : (k : Kind) (n : Note) (b gone stays rest : Forest) (goes more : Bool) → (goes || more) ≡ false → (more ≡ false → stays ≡ rest) → (if goes then gone else node k n b stays) ≡ node k n b rest
 stay_by k n b gone stays rest true more h g = absurd (true≢false h)
 stay_by k n b gone stays rest false more h g = ap (λ (t : Forest). node k n b t) (g h)
 
-pub all_reached : (jumped : Bool) (t : Forest) → has_unreached jumped t ≡ false → reached jumped t ≡ t
+pub all_reached : (jumped : Bool) (t : Forest) → has_inert jumped t ≡ false → reached jumped t ≡ t
 all_reached jumped nothing h = refl
 all_reached jumped (absent rest) h = ap (λ (t : Forest). absent t) (all_reached jumped rest h)
 all_reached jumped (node k n b rest) h =
-    stay_by k n b (reached jumped rest) (reached (jumped || cuts_off k b) rest) rest (is_unreached jumped k b) (has_unreached (jumped || cuts_off k b) rest) h (λ e. all_reached (jumped || cuts_off k b) rest e)
+    stay_by k n b (reached jumped rest) (reached (jumped || cuts_off k b) rest) rest (is_inert jumped k b) (has_inert (jumped || cuts_off k b) rest) h (λ e. all_reached (jumped || cuts_off k b) rest e)

@@ -29,6 +29,7 @@ use Rattle.steps_allowed.specs.KnownSide.{right_side_counts, left_side_decides}
 use Rattle.steps_allowed.specs.KnownIf.{an_if, KnownIf, consequent_is_run, alternate_is_run}
 use Rattle.steps_allowed.specs.Unreached.{Unreached, never_runs}
 use Rattle.steps_allowed.specs.Untaken.{Untaken, never_taken}
+use Rattle.steps_allowed.specs.IdleStatement.{IdleStatement, idle_leaves}
 use Rattle.steps_allowed.specs.EmptyBlock.{EmptyBlock, empty_block_leaves}
 use Rattle.steps_allowed.specs.DeadIf.{DeadIf, nothing_is_run}
 use Rattle.steps_allowed.specs.UnusedOperation.{needed_at, one_operand_acts}
@@ -39,8 +40,8 @@ use Rattle.steps_allowed.specs.IdleParts.{idle_parts_leave}
 use Rattle.steps_allowed.specs.TwoSides.{both_sides_act}
 use Rattle.steps_allowed.specs.UnusedObject.{acting_values_stay}
 use Rattle.steps_allowed.specs.KnownOperation.{known_literal, value_is_known}
-use Rattle.steps_allowed.specs.Edits.{Edit, leaves, becomes, empty_statement, empty_block, silent_statement, unused_function, unused_declaration, unused_import, unreached, untaken, known_conditional, known_side, known_if, dead_if, unused_operation, unused_list, indirect_choice, one_sided_choice, idle_parts, two_sides, unused_object, known_operation}
-use Rattle.steps_allowed.specs.Rows.{labeled, branch_of_if, in_branch, in_function, debugger, throwing_block, throwing_branch, broken_label, past, in_list, before, throws, behind_throw, call_of_a, null, if_one, if_null, either_way, conditional, logical, may_be_named, o_f, parenthesized, in_statement, called, called_in_parentheses, called_in_with, argument, operand, applied, equals, assigned, statement, ComesOut, Stays, StaysUnused, array, spread, hole, sequence, ListStays, ChoiceStays, PartsStay, SidesStay, object, a_is, b_is, getter_of_a, ObjectStays, literal, operation, OperationStays, behind_zero, placed, StaysDirect, with_a, in_with_a, empty, a_is_read, a_is_exported, imports_nothing, only_import, tried, loop}
+use Rattle.steps_allowed.specs.Edits.{Edit, leaves, becomes, empty_statement, empty_block, silent_statement, unused_function, unused_declaration, unused_import, unreached, untaken, idle_statement, known_conditional, known_side, known_if, dead_if, unused_operation, unused_list, indirect_choice, one_sided_choice, idle_parts, two_sides, unused_object, known_operation}
+use Rattle.steps_allowed.specs.Rows.{labeled, branch_of_if, in_branch, in_function, debugger, throwing_block, throwing_branch, broken_label, past, in_list, before, throws, behind_throw, call_of_a, null, if_one, if_null, either_way, conditional, logical, may_be_named, o_f, parenthesized, in_statement, called, called_in_parentheses, called_in_with, argument, operand, applied, equals, assigned, statement, ComesOut, Stays, StaysUnused, array, spread, hole, sequence, ListStays, ChoiceStays, PartsStay, SidesStay, object, a_is, b_is, getter_of_a, ObjectStays, literal, operation, OperationStays, behind_zero, placed, StaysDirect, with_a, in_with_a, empty, a_is_read, a_is_exported, imports_nothing, only_import, tried, tried_finally, while_, for_, loop}
 
 pub empties_in_list : Edit (a_module (does one ∷ [])) (a_module (empty ∷ []))
 empties_in_list = becomes (before []) _ _ (silent_statement (silent_statement_empties nowhere nowhere nowhere _ nothing (inl refl, tt)))
@@ -545,3 +546,41 @@ may_be_taken_stays x (never_taken item never runs none) = true≢false (sym neve
 
 pub function_code_stays : (x : Tree) → Untaken (in_function null) x → ⊥
 function_code_stays x (never_taken item never runs none) = true≢false (sym never)
+
+-- ---- what does nothing
+
+pub idle_while_leaves : Edit (a_module (while_ null (block (does call_of_a ∷ let_ a ∷ [])) ∷ [])) (a_module [])
+idle_while_leaves = leaves (before []) _ (idle_statement (idle_leaves refl refl refl))
+
+pub idle_for_leaves : Edit (a_module (for_ null (does call_of_a) ∷ [])) (a_module [])
+idle_for_leaves = leaves (before []) _ (idle_statement (idle_leaves refl refl refl))
+
+pub idle_label_leaves : Edit (a_module (labeled (while_ null (does call_of_a)) ∷ [])) (a_module [])
+idle_label_leaves = leaves (before []) _ (idle_statement (idle_leaves refl refl refl))
+
+pub idle_try_leaves : Edit (a_module (tried (does call_of_a ∷ []) ∷ [])) (a_module [])
+idle_try_leaves = leaves (before []) _ (idle_statement (idle_leaves refl refl refl))
+
+pub idle_finally_leaves : Edit (a_module (tried_finally (does call_of_a ∷ []) (empty ∷ []) ∷ [])) (a_module [])
+idle_finally_leaves = leaves (before []) _ (idle_statement (idle_leaves refl refl refl))
+
+pub while_of_variable_stays : (items : List Forest) (n : Note) → IdleStatement (before items) (record { kind = Kind.WhileStatement; note = n; below = joined null (block (var_ a ∷ [])) }) → ⊥
+while_of_variable_stays items n (idle_leaves item idle none) = true≢false (sym none)
+
+pub turning_stays : (items : List Forest) (n : Note) (body : Forest) → IdleStatement (before items) (record { kind = Kind.WhileStatement; note = n; below = joined one body }) → ⊥
+turning_stays items n body (idle_leaves item idle none) = true≢false (sym idle)
+
+pub may_turn_stays : (items : List Forest) (n : Note) (body : Forest) → IdleStatement (before items) (record { kind = Kind.WhileStatement; note = n; below = joined (reads a) body }) → ⊥
+may_turn_stays items n body (idle_leaves item idle none) = true≢false (sym idle)
+
+pub test_at_end_stays : (items : List Forest) (n : Note) (body : Forest) → IdleStatement (before items) (record { kind = Kind.DoWhileStatement; note = n; below = joined body null }) → ⊥
+test_at_end_stays items n body (idle_leaves item idle none) = true≢false (sym idle)
+
+pub finally_stays : (items : List Forest) (n : Note) → IdleStatement (before items) (record { kind = Kind.TryStatement; note = n; below = joined (block []) (joined no (block (does call_of_a ∷ []))) }) → ⊥
+finally_stays items n (idle_leaves item idle none) = true≢false (sym idle)
+
+pub tried_call_stays : (items : List Forest) (n : Note) → IdleStatement (before items) (record { kind = Kind.TryStatement; note = n; below = joined (block (does call_of_a ∷ [])) (joined no (block [])) }) → ⊥
+tried_call_stays items n (idle_leaves item idle none) = true≢false (sym idle)
+
+pub idle_branch_stays : (x : Tree) → IdleStatement branch_of_if x → ⊥
+idle_branch_stays x (idle_leaves item idle none) = absurd cc

@@ -12,6 +12,7 @@ use Rattle.steps_allowed.specs.UnusedDeclaration.{UnusedDeclaration}
 use Rattle.steps_allowed.specs.UnusedImport.{UnusedImport}
 use Rattle.steps_allowed.specs.Unreached.{Unreached}
 use Rattle.steps_allowed.specs.Untaken.{Untaken}
+use Rattle.steps_allowed.specs.IdleStatement.{IdleStatement}
 use Rattle.steps_allowed.specs.SilentStatement.{SilentStatementEmpties}
 use Rattle.steps_allowed.specs.KnownConditional.{KnownConditional}
 use Rattle.steps_allowed.specs.KnownSide.{KnownSide}
@@ -36,6 +37,7 @@ pub data Leaves (a : Around) (x : Tree) : Type 0 where
   unused_import : UnusedImport a x → Leaves a x
   unreached : Unreached a x → Leaves a x
   untaken : Untaken a x → Leaves a x
+  idle_statement : IdleStatement a x → Leaves a x
 
 -- which nodes may become others in their places
 pub data Becomes (a : Around) (x y : Tree) : Type 0 where

@@ -29,6 +29,7 @@ pub mod KnownIf
 pub mod DeadIf
 pub mod Unreached
 pub mod Untaken
+pub mod IdleStatement
 pub mod Edits
 pub mod Arranged
 pub mod Rows

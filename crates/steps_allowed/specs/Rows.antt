@@ -101,6 +101,18 @@ if_null consequent alternate = over Kind.IfStatement (joined null (joined conseq
 abbrev pub tried : (items : List Forest) → Forest
 tried items = over Kind.TryStatement (joined (block []) (joined (over Kind.CatchClause (joined (binds a) (block items))) no))
 
+-- the same with a finalizer
+abbrev pub tried_finally : (items finally : List Forest) → Forest
+tried_finally items finally = over Kind.TryStatement (joined (block []) (joined (over Kind.CatchClause (joined (binds a) (block items))) (block finally)))
+
+-- while (test) body
+abbrev pub while_ : (test body : Forest) → Forest
+while_ test body = over Kind.WhileStatement (joined test body)
+
+-- for (; test;) body
+abbrev pub for_ : (test body : Forest) → Forest
+for_ test body = over Kind.ForStatement (joined no (joined test (joined no body)))
+
 -- for (declaration;;) body
 abbrev pub loop : (declaration body : Forest) → Forest
 loop declaration body = over Kind.ForStatement (joined declaration (joined no (joined no body)))

@@ -22,9 +22,10 @@ ghost use Rattle.steps_allowed.specs.KnownIf.{an_if, KnownIf};
 ghost use Rattle.steps_allowed.specs.DeadIf.{DeadIf};
 ghost use Rattle.steps_allowed.specs.Unreached.{Unreached};
 ghost use Rattle.steps_allowed.specs.Untaken.{Untaken};
+ghost use Rattle.steps_allowed.specs.IdleStatement.{IdleStatement};
 ghost use Rattle.steps_allowed.specs.EmptyBlock.{EmptyBlock};
 ghost use Rattle.steps_allowed.specs.Edits.{Edit};
-ghost use Rattle.steps_allowed.specs.Rows.{before, labeled, tried, loop, branch_of_if, in_list, past, in_branch, in_function, debugger, throwing_block, throwing_branch, broken_label, throws, behind_throw, call_of_a, null, if_one, if_null, either_way, conditional, logical, may_be_named, o_f, parenthesized, called, called_in_parentheses, called_in_with, argument, operand, applied, equals, assigned, statement, ComesOut, Stays, StaysUnused, array, spread, hole, sequence, ListStays, ChoiceStays, PartsStay, SidesStay, object, a_is, b_is, getter_of_a, ObjectStays, literal, operation, OperationStays, behind_zero, placed, StaysDirect, with_a, in_with_a, empty, a_is_read, a_is_exported, imports_nothing};
+ghost use Rattle.steps_allowed.specs.Rows.{before, labeled, tried, tried_finally, while_, for_, loop, branch_of_if, in_list, past, in_branch, in_function, debugger, throwing_block, throwing_branch, broken_label, throws, behind_throw, call_of_a, null, if_one, if_null, either_way, conditional, logical, may_be_named, o_f, parenthesized, called, called_in_parentheses, called_in_with, argument, operand, applied, equals, assigned, statement, ComesOut, Stays, StaysUnused, array, spread, hole, sequence, ListStays, ChoiceStays, PartsStay, SidesStay, object, a_is, b_is, getter_of_a, ObjectStays, literal, operation, OperationStays, behind_zero, placed, StaysDirect, with_a, in_with_a, empty, a_is_read, a_is_exported, imports_nothing};
 
 /// A statement of a literal becomes empty, in a list and alone, and leaves the list then.
 pub fn silent_statements_go()
@@ -130,6 +131,23 @@ pub fn what_is_not_taken_leaves()
     ensures runs { (x : Tree) → Untaken (in_branch one (first nothing)) x → ⊥ }
     ensures may_run { (x : Tree) → Untaken (in_branch (reads a) (first nothing)) x → ⊥ }
     ensures function { (x : Tree) → Untaken (in_function null) x → ⊥ }
+{}
+
+/// A loop of which the test is false from the start leaves its list, and so do a `try` around nothing and what stands behind a label so,
+/// unless it declares a name around it. A loop that may turn stays, and so does a `try` of which the block or the finalizer holds something.
+pub fn what_does_nothing_leaves()
+    ensures while_loop { Edit (a_module (while_ null (block (does call_of_a ∷ let_ a ∷ [])) ∷ [])) (a_module []) }
+    ensures for_loop { Edit (a_module (for_ null (does call_of_a) ∷ [])) (a_module []) }
+    ensures labeled { Edit (a_module (labeled (while_ null (does call_of_a)) ∷ [])) (a_module []) }
+    ensures tried { Edit (a_module (tried (does call_of_a ∷ []) ∷ [])) (a_module []) }
+    ensures finally { Edit (a_module (tried_finally (does call_of_a ∷ []) (empty ∷ []) ∷ [])) (a_module []) }
+    ensures variable { (items : List Forest) (n : Note) → IdleStatement (before items) (record { kind = Kind.WhileStatement; note = n; below = joined null (block (var_ a ∷ [])) }) → ⊥ }
+    ensures turns { (items : List Forest) (n : Note) (body : Forest) → IdleStatement (before items) (record { kind = Kind.WhileStatement; note = n; below = joined one body }) → ⊥ }
+    ensures may_turn { (items : List Forest) (n : Note) (body : Forest) → IdleStatement (before items) (record { kind = Kind.WhileStatement; note = n; below = joined (reads a) body }) → ⊥ }
+    ensures at_end { (items : List Forest) (n : Note) (body : Forest) → IdleStatement (before items) (record { kind = Kind.DoWhileStatement; note = n; below = joined body null }) → ⊥ }
+    ensures ends { (items : List Forest) (n : Note) → IdleStatement (before items) (record { kind = Kind.TryStatement; note = n; below = joined (block []) (joined no (block (does call_of_a ∷ []))) }) → ⊥ }
+    ensures tries { (items : List Forest) (n : Note) → IdleStatement (before items) (record { kind = Kind.TryStatement; note = n; below = joined (block (does call_of_a ∷ [])) (joined no (block [])) }) → ⊥ }
+    ensures branch { (x : Tree) → IdleStatement branch_of_if x → ⊥ }
 {}
 
 /// A branch that declares a function isn't left out, in a block either: in code that isn't strict its name is one of the

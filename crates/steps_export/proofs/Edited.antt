@@ -30,14 +30,16 @@ use Rattle.steps_allowed.specs.SilentStatement.{SilentStatement, silent_statemen
 use Rattle.steps_allowed.specs.Branches.{declares_none}
 use Rattle.steps_allowed.specs.Unreached.{only_runs, never_runs}
 use Rattle.steps_allowed.specs.Untaken.{never_taken}
+use Rattle.steps_allowed.specs.IdleStatement.{idle_leaves}
 use Rattle.steps_allowed.specs.DeadIf.{DeadIf, nothing_is_run}
-use Rattle.steps_allowed.specs.Edits.{Leaves, empty_statement, empty_block, unused_function, unused_declarator, unused_declaration, unused_import, unreached, untaken, Becomes, silent_statement, known_conditional, known_side, known_if, dead_if, unused_operation, unused_list, indirect_choice, one_sided_choice, idle_parts, two_sides, unused_object, known_operation, Edit, leaves, becomes, TreeEdits, no_tree_edit, one_tree_edit}
+use Rattle.steps_allowed.specs.Edits.{Leaves, empty_statement, empty_block, unused_function, unused_declarator, unused_declaration, unused_import, unreached, untaken, idle_statement, Becomes, silent_statement, known_conditional, known_side, known_if, dead_if, unused_operation, unused_list, indirect_choice, one_sided_choice, idle_parts, two_sides, unused_object, known_operation, Edit, leaves, becomes, TreeEdits, no_tree_edit, one_tree_edit}
 use Rattle.steps_owed.specs.Kept.{is_program}
 use Rattle.steps_owed.specs.Owed.{ByPart, ByParts}
 use Rattle.steps_owed.specs.Part.{DeclaresNothing}
 use Rattle.steps_owed.proofs.ChoiceParts.{parts_of_if}
 use Rattle.steps_owed.proofs.Expressions.{expression_declares_none, expression_declares_nothing}
 use Rattle.steps_owed.proofs.EmptyBlock.{holding_declares_none}
+use Rattle.steps_owed.proofs.IdleStatement.{idle_runs}
 use Rattle.steps_owed.proofs.FitsEdits.{edit_fits}
 use Rattle.steps_owed.proofs.ImportFacts.{import_facts}
 use Rattle.steps_owed.proofs.Inside.{enclosed_below, enclosed_rest}
@@ -168,6 +170,7 @@ module _ (e : BindingSite) (top : e.layer.scope ≡ 0) where
       (λ w c next some holds. gone_stays e k n below None c next (import_gone t e h top c next some w k n m x binds holds)) h
   left a x (unreached (never_runs item jump runs none)) l fits h = never_running a x runs none l fits h
   left a x (untaken (never_taken item taken runs none)) l fits h = never_running a x runs none l fits h
+  left a x (idle_statement (idle_leaves item idle none)) l fits h = never_running a x (idle_runs x.kind x.below idle) none l fits h
 
   changed : (a : Around) (x y : Tree) → Becomes a x y → Fits root (plug a (Some x)) → Among e (exported_declarations (plug a (Some x))) → ExportedBy (plug a (Some y))
   changed a x y (silent_statement (silent_statement_empties n m l k inner silent)) fits h =

@@ -1,7 +1,6 @@
 -- Edits of small programs.
-use Rattle.std.proofs.Common.{[], ◌∷◌, pos, inl, refl}
+use Rattle.std.proofs.Common.{[], ◌∷◌, inl, refl}
 use Rattle.js_syntax.specs.declared.operator.LogicalOperator.TheVariants as operator
-use Rattle.js_syntax.specs.declared.value.LiteralValue.TheVariants as value
 use Rattle.js_syntax.specs.Node.{nothing, nowhere}
 use Rattle.form_rules.specs.Samples.{a_module, a, reads, one, does}
 use Rattle.scope_laws.specs.Place.{Around, first}

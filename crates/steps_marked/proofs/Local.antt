@@ -1,5 +1,5 @@
 -- What an edit makes of the row in which it is made, whose other nodes keep their marks.
-use Rattle.std.proofs.Common.{◌≡◌, ◌∙◌, ◌≤◌, ◌<◌, true, false, Some, is_some, arith, sym, ap}
+use Rattle.std.proofs.Common.{◌≡◌, ◌∙◌, ◌≤◌, ◌<◌, true, false, Some, is_some, sym, ap}
 use Rattle.js_syntax.specs.declared.node_kind.NodeKind.{NodeKind as Kind}
 use Rattle.js_syntax.specs.declared.node_kind.NodeKind.TheVariants.{ExpressionStatement as expression_statement, IfStatement as if_statement, EmptyStatement as empty_statement}
 use Rattle.js_syntax.specs.Class.{root, expression}
@@ -12,10 +12,6 @@ use Rattle.json_shape.specs.Shape.{is_directive_kind, Fits}
 use Rattle.scope_laws.specs.Place as places
 use Rattle.scope_counts.specs.Edits.{Around, plug, in_list}
 use Rattle.steps_keep_form.specs.Part.{gives_way, is_asked_for}
-use Rattle.steps_allowed.specs.EmptyStatement.{empty_statement_leaves}
-use Rattle.steps_allowed.specs.UnusedFunction.{unused_function_leaves}
-use Rattle.steps_allowed.specs.UnusedDeclarator.{unused_declarator_leaves}
-use Rattle.steps_allowed.specs.UnusedDeclaration.{unused_declaration_leaves}
 use Rattle.steps_allowed.specs.SilentStatement.{silent_statement_empties}
 use Rattle.steps_allowed.specs.DeadIf.{nothing_is_run}
 use Rattle.steps_allowed.specs.Edits as edits

@@ -80,18 +80,18 @@ starts_none (node k n a r) env m h =
 -- ---- it runs to its end, and that is all
 
 -- from a state
-data Ends (s : State) : Out → Type 0 where
+pub data Ends (s : State) : Out → Type 0 where
   ends_normally : Ends s (goes [] s normal)
   is_uncovered : Ends s (stops [] Ending.uncovered)
 
-record Nothing (m : M) : Type 0 where
-  ends : (s : State) → Ends s (m s)
+pub record Nothing (m : M) : Type 0 where
+  pub ends : (s : State) → Ends s (m s)
 
-nothing_known : Nothing unknown
+pub nothing_known : Nothing unknown
 unfolding stop
 nothing_known = record { ends = λ s. is_uncovered }
 
-nothing_done : Nothing (done normal)
+pub nothing_done : Nothing (done normal)
 unfolding done
 nothing_done = record { ends = λ s. ends_normally }
 
@@ -103,7 +103,7 @@ then_on : (m : M) (k : Completion → M) (s : State) (o : Out) → Ends s o → 
 then_on m k s _ ends_normally rest = again (rest.ends s)
 then_on m k s _ is_uncovered rest = is_uncovered
 
-bound : (m : M) (k : Completion → M) → Nothing m → Nothing (k normal) → Nothing (bind m k)
+pub bound : (m : M) (k : Completion → M) → Nothing m → Nothing (k normal) → Nothing (bind m k)
 unfolding bind
 bound m k before rest = record { ends = λ s. then_on m k s (m s) (before.ends s) rest }
 
@@ -114,12 +114,12 @@ in_scope a env m h ends =
     subst (λ ds. Nothing (declare ds env (λ e. start a e (m e)))) (sym (declares_none a h)) (subst Nothing (sym (starts_none a env (m env) h)) ends)
 
 -- what a row does: all of it; the one statement of a list or a block; and of a label
-record RowEnds (a : Forest) : Type 0 where
+pub record RowEnds (a : Forest) : Type 0 where
   all : (E : Enter) (q : Ask) (env : Env) → Nothing (each q (eval E a) env)
   one : (E : Enter) (q : Ask) (env : Env) → Nothing (need (eval E a) (λ m r. m q env))
   labeled : (E : Enter) (q : Ask) (env : Env) (k : Completion → M) → Nothing (k normal) → Nothing (need (eval E a) (λ m r. bind (m q env) k))
 
-node_ends : (E : Enter) (q : Ask) (k : Kind) (a : Forest) (env : Env) → is_idle k ≡ true → idles a ≡ true → RowEnds a → Nothing (meaning E k a q env)
+pub node_ends : (E : Enter) (q : Ask) (k : Kind) (a : Forest) (env : Env) → is_idle k ≡ true → idles a ≡ true → RowEnds a → Nothing (meaning E k a q env)
 node_ends E (run ls) empty_statement a env h below row = nothing_done
 node_ends E (run ls) statements a env h below row = row.all E (run ls) env
 node_ends E (run ls) block_statement a env h below row = in_scope a env (λ e. need (eval E a) (λ m r. m (run ls) e)) below (row.one E (run ls) env)
@@ -130,7 +130,7 @@ node_ends E q block_statement a env h below row = nothing_known
 node_ends E q (labeled_statement l) a env h below row = nothing_known
 node_ends E q k a env h below row = no_kind h
 
-rows_end : (t : Forest) → idles t ≡ true → RowEnds t
+pub rows_end : (t : Forest) → idles t ≡ true → RowEnds t
 unfolding each need eval
 rows_end nothing h = record { all = λ E q env. nothing_done; one = λ E q env. nothing_known; labeled = λ E q env k rest. nothing_known }
 rows_end (absent r) h = record { all = λ E q env. nothing_known; one = λ E q env. nothing_known; labeled = λ E q env k rest. nothing_known }
@@ -150,7 +150,7 @@ rows_end (node k n a r) h =
 same_state : (s : State) → OnlyAllocates s s
 same_state s = record { budget = refl; fresh = Prim.omega arith; store = λ i h. refl; globals = λ x. refl; imports = λ x y. refl; shown = refl; moves = refl; exports = refl; stars = refl }
 
-leads : {s : State} {o : Out} → Ends s o → LeadsFrom s (done normal) o
+pub leads : {s : State} {o : Out} → Ends s o → LeadsFrom s (done normal) o
 unfolding done
 leads {s = s} ends_normally = goes_on_as (same_state s)
 leads is_uncovered = stops_before

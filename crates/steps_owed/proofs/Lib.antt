@@ -58,6 +58,7 @@ pub mod Untaken
 mod UntakenRuns
 pub mod EmptyBlock
 pub mod IdleRuns
+pub mod IdleStatement
 pub mod LeftRuns
 pub mod SilentAnywhere
 pub mod UnusedPlace

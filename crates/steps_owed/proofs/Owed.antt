@@ -1,7 +1,7 @@
 -- Every case owes: a line each.
 use Rattle.js_syntax.specs.Node.{Tree}
 use Rattle.scope_laws.specs.Place.{Around}
-use Rattle.steps_allowed.specs.Edits.{Leaves, empty_statement, empty_block, unused_function, unused_declarator, unused_declaration, unused_import, unreached, untaken, Becomes, silent_statement, known_conditional, known_side, known_if, dead_if, unused_operation, unused_list, indirect_choice, one_sided_choice, idle_parts, two_sides, unused_object, known_operation}
+use Rattle.steps_allowed.specs.Edits.{Leaves, empty_statement, empty_block, unused_function, unused_declarator, unused_declaration, unused_import, unreached, untaken, idle_statement, Becomes, silent_statement, known_conditional, known_side, known_if, dead_if, unused_operation, unused_list, indirect_choice, one_sided_choice, idle_parts, two_sides, unused_object, known_operation}
 use Rattle.steps_owed.specs.Owed.{Leaving, Becoming}
 use Rattle.steps_owed.proofs.ByPart.{by_part}
 use Rattle.steps_owed.proofs.ByParts.{by_parts}
@@ -13,6 +13,7 @@ use Rattle.steps_owed.proofs.UnusedDeclaration.{unused_declaration_owes}
 use Rattle.steps_owed.proofs.UnusedImport.{unused_import_owes}
 use Rattle.steps_owed.proofs.Unreached.{unreached_owes}
 use Rattle.steps_owed.proofs.Untaken.{untaken_owes}
+use Rattle.steps_owed.proofs.IdleStatement.{idle_statement_owes}
 use Rattle.steps_owed.proofs.SilentStatement.{silent_statement_owes}
 use Rattle.steps_owed.proofs.KnownConditional.{known_conditional_owes}
 use Rattle.steps_owed.proofs.KnownSide.{known_side_owes}
@@ -36,6 +37,7 @@ leaving a x (unused_declaration c) = unused_declaration_owes a x c
 leaving a x (unused_import c) = unused_import_owes a x c
 leaving a x (unreached c) = unreached_owes a x c
 leaving a x (untaken c) = untaken_owes a x c
+leaving a x (idle_statement c) = idle_statement_owes a x c
 
 pub becoming : (a : Around) (x y : Tree) → Becomes a x y → Becoming a x y
 becoming a x y (silent_statement c) = silent_statement_owes a x y c

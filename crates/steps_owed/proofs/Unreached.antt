@@ -1,5 +1,5 @@
 -- What a statement behind a jump owes that leaves its list.
-use Rattle.std.proofs.Common.{◌≡◌, ◌∙◌, ◌≤◌, ℕ, ◌==◌, List, [], inl, inr, true, false, Some, arith, refl, sym, ap, subst, true≢false}
+use Rattle.std.proofs.Common.{◌≡◌, ◌∙◌, ◌≤◌, ◌⊎◌, ℕ, ◌==◌, List, [], inl, inr, true, false, Some, arith, refl, sym, ap, subst, true≢false}
 use Rattle.js_syntax.specs.Class.{root}
 use Rattle.js_syntax.specs.declared.node_kind.NodeKind.{NodeKind as Kind}
 use Rattle.js_syntax.specs.Facts.{weight}
@@ -24,7 +24,7 @@ use Rattle.steps_keep_form.specs.Part.{is_statement}
 use Rattle.steps_keep_form.specs.Sheds.{exports_none}
 use Rattle.steps_keep_form.proofs.Rules.{first_empty}
 use Rattle.steps_names.specs.Placed.{Place, declared, cases, others, place_below}
-use Rattle.steps_owed.specs.Owed.{NeverRuns, IsUnexported, by_change, Leaving}
+use Rattle.steps_owed.specs.Owed.{NeverRuns, Uncounted, IsIdleItem, MayChange, IsUnexported, by_change, Leaving}
 use Rattle.steps_owed.specs.Seeking.{Seeks}
 use Rattle.steps_owed.proofs.JumpRuns.{cut_is_local}
 use Rattle.steps_owed.proofs.ChoiceRuns.{no_imports_below}
@@ -78,17 +78,17 @@ no_catch t s es c h = refl
 
 -- ---- all of it
 
--- of a statement that never runs, wherever that is known from
-pub never_running_owes : (a : Around) (x : Tree) → IsItem a → NeverRuns false a → only_runs x.kind ≡ true → declares_none (forest_of x) ≡ true
+-- of a statement of which no run shows that it leaves
+pub unshown_owes : (a : Around) (x : Tree) → IsItem a → Uncounted false a x → MayChange a x ⊎ IsIdleItem a → only_runs x.kind ≡ true → declares_none (forest_of x) ≡ true
     → (is_statement x.kind ≡ true → local.DeclaresNothing x.kind x.below → Fits root (plug a (Some x)) → Local for_values fields (plug a (Some x)) (without a)) → Leaving a x
-never_running_owes a x item never runs none change =
+unshown_owes a x item uncounted may runs none change =
     let kind = of_kind x.kind runs in
     record {
       weighs = Prim.omega (arith, kind.weighs);
       listed = inl item;
       no_directive = kind.no_directive;
-      no_call = inr never;
-      may_change = inr (item, never);
+      no_call = uncounted;
+      may_change = may;
       unseen = λ e. inr (declares_nothing (forest_of x) none (enclosed_alone_there a x.kind x.note x.below e));
       unexported = follows_there (λ b c i. Unit {0}) (IsUnexported (plug a (Some x)) x)
           (λ b c i h z within right seeks. ap (exports_none z.exported) (nothing_declared z.sought 0 (forest_of x) (outside_as z.sought (forest_of x) (no_catch (plug a (Some x)) z.sought z.exported c seeks)) none)) (Some x) a false (λ at. outermost) 0 0
@@ -98,6 +98,11 @@ never_running_owes a x item never runs none change =
         imports = λ source. calm_specifier source x.kind x.below (import_decls source x.below) kind.calm ∙ no_imports_below n m b a x x is fits form core x.kind refl kind.calm kind.leads source;
       }) (subst (Fits root) (sym is) fits));
     }
+
+-- and of one that never runs, wherever that is known from
+pub never_running_owes : (a : Around) (x : Tree) → IsItem a → NeverRuns false a → only_runs x.kind ≡ true → declares_none (forest_of x) ≡ true
+    → (is_statement x.kind ≡ true → local.DeclaresNothing x.kind x.below → Fits root (plug a (Some x)) → Local for_values fields (plug a (Some x)) (without a)) → Leaving a x
+never_running_owes a x item never runs none change = unshown_owes a x item (inr never) (inr (item, never)) runs none change
 
 pub unreached_owes : (a : Around) (x : Tree) → Unreached a x → Leaving a x
 unreached_owes a x (never_runs item jump runs none) = never_running_owes a x item (inl jump) runs none (λ states declares fits. cut_is_local x (of_kind x.kind runs).calm states declares a item jump fits)

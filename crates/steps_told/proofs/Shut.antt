@@ -23,6 +23,7 @@ use Rattle.steps_allowed.specs.UnusedDeclarator.{unused_declarator_leaves}
 use Rattle.steps_allowed.specs.UnusedDeclaration.{unused_declaration_leaves}
 use Rattle.steps_allowed.specs.UnusedImport.{unused_import_leaves}
 use Rattle.steps_allowed.specs.Unreached.{is_behind_jump, never_runs}
+use Rattle.steps_allowed.specs.IdleStatement.{does_nothing, idle_leaves}
 use Rattle.steps_allowed.specs.Untaken.{is_untaken, never_taken}
 use Rattle.steps_allowed.specs.Edits as edits
 use Rattle.steps_allowed.specs.Edits.{Leaves}
@@ -134,29 +135,31 @@ block_no_name kind.BlockStatement n below rest h e = e
 block_no_name (kind.LabeledStatement l) n below rest h e = e
 block_no_name k n below rest h e = h
 
-no_call : (a : Around) (x : Tree) → Leaves a x → is_behind_jump false a ≡ false → is_untaken false a ≡ false → Fits root (places.plug a (Some x)) → has_call x.kind x.below ≡ false
-no_call a x (edits.empty_statement (empty_statement_leaves n item)) front taken fits = refl
-no_call a x (edits.empty_block (empty_block_leaves item nothing_held)) front taken fits = block_calls_none x.kind x.below nothing_held
-no_call a x (edits.unused_function (unused_function_leaves pure n m name rest item own free)) front taken fits =
+no_call : (a : Around) (x : Tree) → Leaves a x → is_behind_jump false a ≡ false → is_untaken false a ≡ false → does_nothing x.kind x.below ≡ false → Fits root (places.plug a (Some x)) → has_call x.kind x.below ≡ false
+no_call a x (edits.empty_statement (empty_statement_leaves n item)) front taken acts fits = refl
+no_call a x (edits.empty_block (empty_block_leaves item nothing_held)) front taken acts fits = block_calls_none x.kind x.below nothing_held
+no_call a x (edits.unused_function (unused_function_leaves pure n m name rest item own free)) front taken acts fits =
     let e = exposure a (Some x) in unless (has_call x.kind x.below) e.evaluates (there a x fits) (second_of_neither e.names_shared e.evaluates (first_of_neither (e.names_shared || e.evaluates) e.in_sloppy_block own))
-no_call a x (edits.unused_declarator (unused_declarator_leaves n m name value item other own silent free)) front taken fits =
+no_call a x (edits.unused_declarator (unused_declarator_leaves n m name value item other own silent free)) front taken acts fits =
     unless (has_call x.kind x.below) (evaluates_somewhere (places.plug a (Some x))) (somewhere a x fits) (second_of_neither (exposure a (Some x)).declared_shared (evaluates_somewhere (places.plug a (Some x))) own)
-no_call a x (edits.unused_declaration (unused_declaration_leaves how n m l j name value item own silent free)) front taken fits =
+no_call a x (edits.unused_declaration (unused_declaration_leaves how n m l j name value item own silent free)) front taken acts fits =
     unless (has_call x.kind x.below) (evaluates_somewhere (places.plug a (Some x))) (somewhere a x fits) (second_of_neither (shares (exposure a (Some x)) how) (evaluates_somewhere (places.plug a (Some x))) own)
-no_call a x (edits.unused_import (unused_import_leaves k n m name binds imported own free)) front taken fits = ap (λ o. is_some o || has_eval x.below) (import_facts k n x.below binds).no_call
-no_call a x (edits.unreached (never_runs item jump runs none)) front taken fits = absurd (true≢false (sym jump ∙ front))
-no_call a x (edits.untaken (never_taken item untaken runs none)) front taken fits = absurd (true≢false (sym untaken ∙ taken))
+no_call a x (edits.unused_import (unused_import_leaves k n m name binds imported own free)) front taken acts fits = ap (λ o. is_some o || has_eval x.below) (import_facts k n x.below binds).no_call
+no_call a x (edits.unreached (never_runs item jump runs none)) front taken acts fits = absurd (true≢false (sym jump ∙ front))
+no_call a x (edits.untaken (never_taken item untaken runs none)) front taken acts fits = absurd (true≢false (sym untaken ∙ taken))
+no_call a x (edits.idle_statement (idle_leaves item idle none)) front taken acts fits = absurd (true≢false (sym idle ∙ acts))
 
 -- and it isn't the name that is called
-no_name : (a : Around) (x : Tree) → Leaves a x → is_behind_jump false a ≡ false → is_untaken false a ≡ false → (rest : Forest) → is_some (eval_name (node x.kind x.note x.below rest)) ≡ true → false ≡ true
-no_name a x (edits.empty_statement (empty_statement_leaves n item)) front taken rest e = e
-no_name a x (edits.empty_block (empty_block_leaves item nothing_held)) front taken rest e = block_no_name x.kind x.note x.below rest nothing_held e
-no_name a x (edits.unused_function (unused_function_leaves pure n m name below item own free)) front taken rest e = e
-no_name a x (edits.unused_declarator (unused_declarator_leaves n m name value item other own silent free)) front taken rest e = e
-no_name a x (edits.unused_declaration (unused_declaration_leaves how n m l j name value item own silent free)) front taken rest e = e
-no_name a x (edits.unused_import (unused_import_leaves k n m name binds imported own free)) front taken rest e = sym (ap is_some ((import_facts k n x.below binds).no_name rest)) ∙ e
-no_name a x (edits.unreached (never_runs item jump runs none)) front taken rest e = absurd (true≢false (sym jump ∙ front))
-no_name a x (edits.untaken (never_taken item untaken runs none)) front taken rest e = absurd (true≢false (sym untaken ∙ taken))
+no_name : (a : Around) (x : Tree) → Leaves a x → is_behind_jump false a ≡ false → is_untaken false a ≡ false → does_nothing x.kind x.below ≡ false → (rest : Forest) → is_some (eval_name (node x.kind x.note x.below rest)) ≡ true → false ≡ true
+no_name a x (edits.empty_statement (empty_statement_leaves n item)) front taken acts rest e = e
+no_name a x (edits.empty_block (empty_block_leaves item nothing_held)) front taken acts rest e = block_no_name x.kind x.note x.below rest nothing_held e
+no_name a x (edits.unused_function (unused_function_leaves pure n m name below item own free)) front taken acts rest e = e
+no_name a x (edits.unused_declarator (unused_declarator_leaves n m name value item other own silent free)) front taken acts rest e = e
+no_name a x (edits.unused_declaration (unused_declaration_leaves how n m l j name value item own silent free)) front taken acts rest e = e
+no_name a x (edits.unused_import (unused_import_leaves k n m name binds imported own free)) front taken acts rest e = sym (ap is_some ((import_facts k n x.below binds).no_name rest)) ∙ e
+no_name a x (edits.unreached (never_runs item jump runs none)) front taken acts rest e = absurd (true≢false (sym jump ∙ front))
+no_name a x (edits.untaken (never_taken item untaken runs none)) front taken acts rest e = absurd (true≢false (sym untaken ∙ taken))
+no_name a x (edits.idle_statement (idle_leaves item idle none)) front taken acts rest e = absurd (true≢false (sym idle ∙ acts))
 
 none_there : (n : ℕ) (b : Bool) → (1 ≤ n → b ≡ true) → b ≡ false → n ≡ 0
 none_there zero b f e = refl
@@ -190,11 +193,11 @@ module _ (x : Tree) (nameless : (rest : Forest) → is_some (eval_name (node x.k
   evals_stay (places.behind_none a) = evals_stay a
   evals_stay (under k n a rest) = Prim.omega (arith, evals_stay a, calls_stay k a)
 
-pub leaving_keeps_calls : (a : Around) (x : Tree) → Leaves a x → is_behind_jump false a ≡ false → is_untaken false a ≡ false → Fits root (places.plug a (Some x)) → evals (without a) ≡ evals (places.plug a (Some x))
-leaving_keeps_calls a x c front taken fits =
-    let none = no_evals x (no_call a x c front taken fits) in
-    Prim.omega (arith, none, evals_stay x (no_name a x c front taken) a, fewer false (places.plug a (Some x)) (without a) (edit_cuts (places.plug a (Some x)) (without a) (edits.leaves a x c) fits))
+pub leaving_keeps_calls : (a : Around) (x : Tree) → Leaves a x → is_behind_jump false a ≡ false → is_untaken false a ≡ false → does_nothing x.kind x.below ≡ false → Fits root (places.plug a (Some x)) → evals (without a) ≡ evals (places.plug a (Some x))
+leaving_keeps_calls a x c front taken acts fits =
+    let none = no_evals x (no_call a x c front taken acts fits) in
+    Prim.omega (arith, none, evals_stay x (no_name a x c front taken acts) a, fewer false (places.plug a (Some x)) (without a) (edit_cuts (places.plug a (Some x)) (without a) (edits.leaves a x c) fits))
 
-pub leaving_tells_only : (s : Scoping) (a : Around) (x : Tree) → Leaves a x → is_behind_jump false a ≡ false → is_untaken false a ≡ false → Fits root (places.plug a (Some x)) → FlagsTellOnly s (places.plug a (Some x)) → FlagsTellOnly s (without a)
-leaving_tells_only s a x c front taken fits h =
-    edits_told_only s (places.plug a (Some x)) (without a) (edits.one_tree_edit (places.plug a (Some x)) (without a) (without a) (edits.leaves a x c) (edits.no_tree_edit (without a))) fits (leaving_keeps_calls a x c front taken fits) h
+pub leaving_tells_only : (s : Scoping) (a : Around) (x : Tree) → Leaves a x → is_behind_jump false a ≡ false → is_untaken false a ≡ false → does_nothing x.kind x.below ≡ false → Fits root (places.plug a (Some x)) → FlagsTellOnly s (places.plug a (Some x)) → FlagsTellOnly s (without a)
+leaving_tells_only s a x c front taken acts fits h =
+    edits_told_only s (places.plug a (Some x)) (without a) (edits.one_tree_edit (places.plug a (Some x)) (without a) (without a) (edits.leaves a x c) (edits.no_tree_edit (without a))) fits (leaving_keeps_calls a x c front taken acts fits) h

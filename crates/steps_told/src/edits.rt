@@ -10,6 +10,7 @@ ghost use Rattle.scope_laws.specs.Lists.{without};
 ghost use Rattle.steps_allowed.specs.Edits.{Leaves, TreeEdits};
 ghost use Rattle.steps_allowed.specs.Unreached.{is_behind_jump};
 ghost use Rattle.steps_allowed.specs.Untaken.{is_untaken};
+ghost use Rattle.steps_allowed.specs.IdleStatement.{does_nothing};
 ghost use Rattle.min_context.specs.Edited.{evals};
 ghost use Rattle.steps_told.specs.Nesting.{ScopesNest};
 ghost use Rattle.steps_told.specs.Parts.{FlagsTellOnly, CallsToldOnly, NamesToldOnly};
@@ -37,8 +38,8 @@ pub fn edits_keep_how_scopes_nest()
 {}
 
 /// Law: what leaves a list by an edit holds no direct call of `eval`, since its name would be exposed then, unless it stands behind a
-/// jump or in a branch that isn't taken: so all stays as it is told.
+/// jump or in a branch that isn't taken, or does nothing whatever it holds: so all stays as it is told.
 pub fn what_leaves_a_list_leaves_calls()
-    ensures calls { (a : Around) (x : Tree) → Leaves a x → is_behind_jump false a ≡ false → is_untaken false a ≡ false → Fits root (plug a (Some x)) → evals (without a) ≡ evals (plug a (Some x)) }
-    ensures told { (a : Around) (x : Tree) → Leaves a x → is_behind_jump false a ≡ false → is_untaken false a ≡ false → Fits root (plug a (Some x)) → (s : Scoping) → FlagsTellOnly s (plug a (Some x)) → FlagsTellOnly s (without a) }
+    ensures calls { (a : Around) (x : Tree) → Leaves a x → is_behind_jump false a ≡ false → is_untaken false a ≡ false → does_nothing x.kind x.below ≡ false → Fits root (plug a (Some x)) → evals (without a) ≡ evals (plug a (Some x)) }
+    ensures told { (a : Around) (x : Tree) → Leaves a x → is_behind_jump false a ≡ false → is_untaken false a ≡ false → does_nothing x.kind x.below ≡ false → Fits root (plug a (Some x)) → (s : Scoping) → FlagsTellOnly s (plug a (Some x)) → FlagsTellOnly s (without a) }
 {}

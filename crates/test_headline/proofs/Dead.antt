@@ -41,8 +41,10 @@ use Rattle.steps_allowed.specs.DeadIf.{nothing_is_run}
 use Rattle.steps_allowed.specs.EmptyBlock.{holds_nothing, empty_block_leaves}
 use Rattle.steps_allowed.specs.Unreached.{only_runs, never_runs}
 use Rattle.steps_allowed.specs.Untaken.{never_taken}
+use Rattle.steps_allowed.specs.IdleStatement.{idle_leaves}
 use Rattle.steps_allowed.specs.Uses.{Use}
-use Rattle.headline.specs.Clean.{IsDead, an_empty_statement, an_empty_block, a_silent_statement, an_unused_function, an_unused_declarator, an_unused_import, a_known_conditional, a_known_side, an_unused_operation, an_unused_list, an_indirect_choice, a_one_sided_choice, idle_parts, two_sides, an_unused_object, a_known_operation, a_known_if, a_dead_if, an_unreached_statement, an_untaken_statement, Clean}
+use Rattle.steps_owed.proofs.IdleStatement.{idle_runs}
+use Rattle.headline.specs.Clean.{IsDead, an_empty_statement, an_empty_block, a_silent_statement, an_unused_function, an_unused_declarator, an_unused_import, a_known_conditional, a_known_side, an_unused_operation, an_unused_list, an_indirect_choice, a_one_sided_choice, idle_parts, two_sides, an_unused_object, a_known_operation, a_known_if, a_dead_if, an_unreached_statement, an_untaken_statement, an_idle_statement, Clean}
 use Rattle.min_peephole.specs.Quiet.{is_quiet}
 use Rattle.min_peephole.proofs.Quieted.{quiet_clean}
 use Rattle.test_headline.specs.Rows as row
@@ -158,6 +160,10 @@ block_is_dead c = c.nothing_is_dead (before []) _ refl (an_empty_block (before [
 
 pub unreached_is_dead : Clean row.calls_behind_throw → ⊥
 unreached_is_dead c = c.nothing_is_dead behind_throw _ refl (an_unreached_statement behind_throw _ (never_runs refl refl refl refl))
+
+-- l: while (null) a();
+pub loop_is_dead : Clean row.never_turns → ⊥
+loop_is_dead c = c.nothing_is_dead (before []) _ refl (an_idle_statement (before []) _ (idle_leaves refl refl refl))
 
 -- if (null) { var a = 1; b(); } use(a);
 abbrev behind_variable : Around
@@ -656,6 +662,7 @@ dead_suspect t a x is (a_dead_if b y z (nothing_is_run n m i j v k c d truth non
 dead_suspect t a x is (an_empty_block b y (empty_block_leaves item held)) = ap has_suspect is ∙ suspect_there b y (block_suspect y.kind y.below held)
 dead_suspect t a x is (an_unreached_statement b y (never_runs item jump runs none)) = ap has_suspect is ∙ suspect_there b y (runs_suspect y.kind runs)
 dead_suspect t a x is (an_untaken_statement b y (never_taken item untaken runs none)) = ap has_suspect is ∙ suspect_there b y (runs_suspect y.kind runs)
+dead_suspect t a x is (an_idle_statement b y (idle_leaves item idle none)) = ap has_suspect is ∙ suspect_there b y (runs_suspect y.kind (idle_runs y.kind y.below idle))
 
 -- A declaration goes with the last of its declarators, and stays where it has none.
 pub nothing_declared_is_clean : Clean row.declares_nothing

@@ -10,7 +10,7 @@ use Rattle.js_syntax.specs.declared.value.Key.TheVariants as key
 use Rattle.js_syntax.specs.declared.value.LiteralValue.{LiteralValue as Literal}
 use Rattle.js_syntax.specs.Node.{Forest, joined}
 use Rattle.form_rules.specs.Samples as form
-use Rattle.steps_allowed.specs.Rows.{call_of_a, call_of_eval, exports_declaration, labeled, throws, null, if_null, either_way, conditional, logical as either, applied, equals, array, sequence, behind_zero}
+use Rattle.steps_allowed.specs.Rows.{call_of_a, call_of_eval, exports_declaration, labeled, throws, null, if_null, either_way, conditional, logical as either, applied, equals, array, sequence, behind_zero, while_}
 use Rattle.js_meaning.specs.Samples as sample
 use Rattle.js_meaning.specs.Examples.{g, o, function_g, says_number}
 
@@ -220,6 +220,10 @@ runs_no_branch = form.a_module (if_null (form.does call_of_a) form.no ∷ [])
 
 abbrev pub use_of_a : Forest
 use_of_a = calls (form.reads (codes "use")) (form.reads form.a ∷ [])
+
+-- l: while (null) a();
+abbrev pub never_turns : Forest
+never_turns = form.a_module (labeled (while_ null (form.does call_of_a)) ∷ [])
 
 -- if (null) { var a = 1; b(); } use(a);
 abbrev pub keeps_variable : Forest

@@ -1,10 +1,10 @@
 use Rattle.std.proofs.Common.{◌≡◌, false, length}
 use Rattle.js_syntax.specs.Node.{row}
-use Rattle.rules_expressions.specs.Jumps.{has_unreached}
-use Rattle.min_statements.proofs.unreached.has_unreached.Given as goal
+use Rattle.rules_expressions.specs.Jumps.{has_inert}
+use Rattle.min_statements.proofs.inert.has_inert.Given as goal
 
 abbrev pub invariant-loop-rest : goal.invariant-loop-rest
-invariant-loop-rest l = has_unreached l.jumped (row l.rest) ≡ has_unreached false (row l.children)
+invariant-loop-rest l = has_inert l.jumped (row l.rest) ≡ has_inert false (row l.children)
 
 abbrev pub decreases-loop-rest : goal.decreases-loop-rest
 decreases-loop-rest l = length l.rest

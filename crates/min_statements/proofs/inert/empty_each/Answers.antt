@@ -1,6 +1,6 @@
 use Rattle.std.proofs.Common.{◌∙◌, false, sym, arith}
 use Rattle.min_statements.proofs.Emptying.{emptying_first, emptying_next, emptied}
-use Rattle.min_statements.proofs.unreached.empty_each.Goals as goal
+use Rattle.min_statements.proofs.inert.empty_each.Goals as goal
 
 pub loop-item-init : goal.loop-item-init
 loop-item-init c = emptying_first false c.args.items.now

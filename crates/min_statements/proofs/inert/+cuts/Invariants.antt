@@ -2,7 +2,7 @@ use Rattle.std.proofs.Common.{◌≡◌, ◌≤◌, ◌+◌, ◌*◌, length}
 use Rattle.js_syntax.specs.Node.{row}
 use Rattle.js_tree.specs.Weight.{size_of, tree_size}
 use Rattle.js_meaning_near.specs.Near.{at_any, row_cuts}
-use Rattle.min_statements.proofs.unreached.+cuts.Given as goal
+use Rattle.min_statements.proofs.inert.+cuts.Given as goal
 
 abbrev pub decreases-cuts_off : goal.decreases-cuts_off
 decreases-cuts_off l = 4 * tree_size l.node.now

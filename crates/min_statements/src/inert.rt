@@ -1,4 +1,5 @@
-// What stands in its list behind a jump, or behind what cuts off as one does, and declares no name around it, never runs.
+// What stands in its list behind a jump, or behind what cuts off as one does, never runs, and some statements do nothing whatever they hold.
+// They leave, where they declare no name around them.
 ghost use Rattle.std.specs.Prelude.{◌≡◌, true, false};
 ghost use Rattle.js_syntax.specs.declared.node_kind.NodeKind.TheVariants.{EmptyStatement as empty_statement};
 ghost use Rattle.js_syntax.specs.Node.{nothing, row};
@@ -7,10 +8,11 @@ ghost use Rattle.scope_counts.specs.Counts.{ids};
 ghost use Rattle.min_context.specs.Edited.{evals, Leaves};
 ghost use Rattle.steps_allowed.specs.Unreached.{only_runs};
 ghost use Rattle.rules_expressions.specs.Lists.{new_note};
-ghost use Rattle.rules_expressions.specs.Jumps.{is_unreached, emptied_behind, has_unreached};
-ghost use Rattle.min_statements.specs.Shed.{unreached_shed};
-ghost use Rattle.min_statements.specs.Behind.{jumped_behind, empty_if_unreached};
+ghost use Rattle.rules_expressions.specs.Jumps.{is_inert, emptied_behind, has_inert};
+ghost use Rattle.min_statements.specs.Shed.{inert_shed};
+ghost use Rattle.min_statements.specs.Behind.{jumped_behind, empty_if_inert};
 
+use crate::idle::does_nothing;
 use crate::inside::declares_no_name;
 use js_syntax::NodeKind;
 use js_tree::Node;
@@ -112,24 +114,24 @@ pub(crate) fn only_runs(kind: &NodeKind) -> bool
     }
 }
 
-// `jumped` says whether such a statement stands before it in its list.
-fn is_unreached(jumped: bool, node: &Node) -> bool
-    ensures { result ≡ is_unreached jumped node.now.kind node.now.below }
+// `jumped` says whether what cuts off stands before it in its list.
+fn is_inert(jumped: bool, node: &Node, alloc: Global) -> bool
+    ensures { result ≡ is_inert jumped node.now.kind node.now.below }
 {
-    jumped && only_runs(node.kind()) && declares_no_name(node)
+    (jumped || does_nothing(node, alloc)) && (only_runs(node.kind()) && declares_no_name(node))
 }
 
 // ---- a list
 
-/// Whether anything of a list of statements never runs for what stands before it.
-pub(crate) fn has_unreached(children: &[Option<Node>]) -> bool
-    ensures { result ≡ has_unreached false (row children.now) }
+/// Whether anything of a list of statements never runs for what stands before it, or does nothing.
+pub(crate) fn has_inert(children: &[Option<Node>], alloc: Global) -> bool
+    ensures { result ≡ has_inert false (row children.now) }
 {
     let mut jumped = false;
     let mut rest = children;
     while let [first, others @ ..] = rest {
         if let Some(node) = first {
-            if is_unreached(jumped, node) {
+            if is_inert(jumped, node, alloc) {
                 return true;
             }
             jumped = jumped || cuts_off(node);
@@ -139,16 +141,16 @@ pub(crate) fn has_unreached(children: &[Option<Node>]) -> bool
     false
 }
 
-/// Tells the context of all that never runs.
-pub(crate) fn drop_unreached(items: &[Option<Node>], ctx: &mut MinifierTraverseCtx)
+/// Tells the context of all that never runs or does nothing.
+pub(crate) fn drop_inert(items: &[Option<Node>], ctx: &mut MinifierTraverseCtx)
     requires asked { ctx.old.requested ≡ true }
-    ensures left { Leaves ctx.old (λ r. unreached_shed (ids r) false (row items.now)) (unreached_shed evals false (row items.now)) ctx.new }
+    ensures left { Leaves ctx.old (λ r. inert_shed (ids r) false (row items.now)) (inert_shed evals false (row items.now)) ctx.new }
 {
     let mut jumped = false;
     let mut rest = items;
     while let [first, others @ ..] = rest {
         if let Some(node) = first {
-            if is_unreached(jumped, node) {
+            if is_inert(jumped, node, ctx.alloc()) {
                 ctx.drop_statement(node);
             } else {
                 jumped = jumped || cuts_off(node);
@@ -176,10 +178,10 @@ fn empty(alloc: Global, node: &mut Node)
 }
 
 fn empty_child(alloc: Global, jumped: bool, child: &mut Option<Node>)
-    ensures { child.new ≡ empty_if_unreached jumped child.old }
+    ensures { child.new ≡ empty_if_inert jumped child.old }
 {
     if let Some(node) = child {
-        if is_unreached(jumped, node) {
+        if is_inert(jumped, node, alloc) {
             empty(alloc, node);
         }
     }
@@ -196,8 +198,8 @@ fn empty_each(alloc: Global, items: &mut [Option<Node>])
     }
 }
 
-/// An empty statement comes in the place of each that never runs.
-pub(crate) fn empty_unreached(alloc: Global, node: &mut Node)
+/// An empty statement comes in the place of each that never runs or does nothing.
+pub(crate) fn empty_inert(alloc: Global, node: &mut Node)
     ensures { node.new ≡ record node.old { below = emptied_behind false node.old.below } }
 {
     let mut items = node.replace_children(Vec::new(alloc));

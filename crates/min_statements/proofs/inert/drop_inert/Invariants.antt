@@ -1,7 +1,7 @@
 use Rattle.std.proofs.Common.{◌≡◌, true, length}
 use Rattle.js_syntax.specs.Node.{row}
 use Rattle.min_statements.proofs.Emptying.{Until}
-use Rattle.min_statements.proofs.unreached.drop_unreached.Given as goal
+use Rattle.min_statements.proofs.inert.drop_inert.Given as goal
 
 abbrev pub invariant-loop-rest : goal.invariant-loop-rest
 invariant-loop-rest l =

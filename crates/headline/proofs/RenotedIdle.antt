@@ -1,0 +1,32 @@
+-- Whether a statement does nothing doesn't see notes.
+use Rattle.std.proofs.Common.{◌≡◌, false, ◌&&◌, Some, refl, ap, ap₂}
+use Rattle.js_syntax.specs.declared.node_kind.NodeKind.{NodeKind as Kind}
+use Rattle.js_syntax.specs.declared.node_kind.NodeKind.TheVariants.{LabeledStatement as labeled_statement, WhileStatement as while_statement, ForStatement as for_statement, TryStatement as try_statement}
+use Rattle.js_syntax.specs.Node.{Forest, nothing, node, absent, bare}
+use Rattle.steps_allowed.specs.EmptyBlock.{is_idle}
+use Rattle.steps_allowed.specs.IdleStatement.{finalizer_idles, does_nothing}
+use Rattle.steps_allowed.specs.Untaken.{is_known}
+use Rattle.steps_owed.proofs.EmptyBlock.{bare_idles}
+use Rattle.headline.proofs.RenotedKnown.{truth_bare}
+
+finalizer_bare : (t : Forest) → finalizer_idles (bare t) ≡ finalizer_idles t
+finalizer_bare nothing = refl
+finalizer_bare (absent rest) = bare_idles rest
+finalizer_bare (node k n below rest) = bare_idles rest
+
+pub idle_bare : (k : Kind) (t : Forest) → does_nothing k (bare t) ≡ does_nothing k t
+idle_bare while_statement nothing = refl
+idle_bare while_statement (absent rest) = refl
+idle_bare while_statement (node t m d rest) = ap (is_known (Some false)) (truth_bare t m d)
+idle_bare for_statement nothing = refl
+idle_bare for_statement (absent nothing) = refl
+idle_bare for_statement (absent (absent rest)) = refl
+idle_bare for_statement (absent (node t m d rest)) = ap (is_known (Some false)) (truth_bare t m d)
+idle_bare for_statement (node t m d rest) = refl
+idle_bare try_statement nothing = refl
+idle_bare try_statement (absent rest) = refl
+idle_bare try_statement (node k n block rest) = ap₂ (λ b c. (is_idle k && b) && c) (bare_idles block) (finalizer_bare rest)
+idle_bare (labeled_statement l) nothing = refl
+idle_bare (labeled_statement l) (absent rest) = refl
+idle_bare (labeled_statement l) (node k n below rest) = idle_bare k below
+idle_bare k t = refl
