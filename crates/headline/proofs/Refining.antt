@@ -20,12 +20,12 @@ use Rattle.steps_fit.specs.Sensible.{IsSensible, IsSensibleModule}
 use Rattle.steps_fit.proofs.Sensible.{of_module, module_renoted}
 use Rattle.steps_owed.specs.Comes.{Comes}
 use Rattle.steps_owed.specs.Good.{Good}
-use Rattle.steps_owed.specs.Owed.{LeavesRuns, by_going, by_change, SameRuns, by_step, by_coming}
+use Rattle.steps_owed.specs.Owed.{LeavesRuns, by_going, by_change, SameRuns, by_step, by_coming, by_changing}
 use Rattle.steps_owed.proofs.Edited.{edit_sensible}
 use Rattle.steps_owed.proofs.Here.{good_module}
 use Rattle.steps_owed.proofs.LeftRuns.{core_left, still_module, left_refines}
 use Rattle.steps_owed.proofs.Owed.{leaving, becoming}
-use Rattle.steps_owed.proofs.PartRuns.{core_stays, parts_stay_modules, comes_refines}
+use Rattle.steps_owed.proofs.PartRuns.{core_stays, parts_stay_modules, module_refines, comes_refines}
 use Rattle.headline.proofs.Sound.{Refines, step_refines, refines_joined}
 
 -- ---- other notes
@@ -59,6 +59,16 @@ becomes_refines : (a : Around) (x y : Tree) → SameRuns a x y → IsSensibleMod
 becomes_refines a x y (by_step step) h g = stepped (plug a (Some x)) (plug a (Some y)) step h g
 becomes_refines a x y (by_coming comes) h g =
     come a x y (comes h.note h.list_note h.items h.is (subst (Fits root) h.is h.sensible.fits) (subst IsWellFormed h.is h.sensible.well_formed) (subst (λ t. all_core t ≡ true) h.is h.core)) h g
+becomes_refines a x y (by_changing change) h g =
+    let fits = subst (Fits root) h.is h.sensible.fits in
+    let core = subst (λ t. all_core t ≡ true) h.is h.core in
+    let here = change h.note h.list_note h.items h.is fits (subst IsWellFormed h.is h.sensible.well_formed) core in
+    let local = subst (λ t. Local for_values fields t (plug a (Some y))) h.is here.0 in
+    let still = still_module h.note h.list_note h.items (plug a (Some y)) local in
+    record {
+      left = of_module (plug a (Some y)) (record { note = h.note; list_note = h.list_note; items = still.changed; is = still.is }) here.1 g;
+      refined = subst (λ t. Refined t (plug a (Some y))) (sym h.is) (module_refines h.note h.list_note h.items (plug a (Some y)) still g.fits g.well_formed here.1);
+    }
 
 -- an item that leaves
 leaves_refines : (a : Around) (x : Tree) → LeavesRuns a x → IsSensibleModule (plug a (Some x)) → IsSensible (without a) → Refines (plug a (Some x)) (without a)

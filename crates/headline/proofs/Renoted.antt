@@ -52,11 +52,12 @@ use Rattle.steps_allowed.specs.DeadIf.{DeadIf}
 use Rattle.steps_allowed.specs.EmptyBlock.{holds_nothing, EmptyBlock, empty_block_leaves}
 use Rattle.steps_allowed.specs.Unreached.{is_behind_jump, Unreached, never_runs}
 use Rattle.steps_allowed.specs.IdleStatement.{does_nothing, IdleStatement, idle_leaves}
+use Rattle.steps_allowed.specs.UnrunValue.{passes, is_unrun, is_value_of, is_value, a_zero, UnrunValue, value_never_given}
 use Rattle.steps_allowed.specs.Untaken.{untaken_where, is_known, leads_to_untaken, begins_untaken, runs_inside, is_untaken, Untaken, never_taken}
 use Rattle.steps_owed.proofs.Changing.{cuts_bare}
 use Rattle.steps_owed.proofs.ExposedBare.{bare_inside, bare_below, bare_exposed}
 use Rattle.steps_owed.proofs.Focus.{follows_there}
-use Rattle.headline.specs.Clean.{IsDead, an_empty_statement, an_empty_block, a_silent_statement, an_unused_function, an_unused_declarator, an_unused_import, a_known_conditional, a_known_side, an_unused_operation, an_unused_list, an_indirect_choice, a_one_sided_choice, idle_parts, two_sides, an_unused_object, a_known_operation, a_known_if, a_dead_if, an_unreached_statement, an_untaken_statement, an_idle_statement, CleanBut}
+use Rattle.headline.specs.Clean.{IsDead, an_empty_statement, an_empty_block, a_silent_statement, an_unused_function, an_unused_declarator, an_unused_import, a_known_conditional, a_known_side, an_unused_operation, an_unused_list, an_indirect_choice, a_one_sided_choice, idle_parts, two_sides, an_unused_object, a_known_operation, a_known_if, a_dead_if, an_unreached_statement, an_untaken_statement, an_unrun_value, an_idle_statement, CleanBut}
 use Rattle.headline.proofs.RenotedUnused.{stands_as, needed_as, child_as, list_as}
 use Rattle.headline.proofs.RenotedChoice.{counts_as}
 use Rattle.headline.proofs.RenotedParts.{side_as, sequence_as}
@@ -287,6 +288,43 @@ abbrev is_further : Around → Bool
 is_further (under k n a rest) = true
 is_further a = false
 
+-- a node in front of the rest of its row
+abbrev is_end : Around → Bool
+is_end (first rest) = true
+is_end a = false
+
+value_behind : (j k : Kind) (n : Note) (b : Forest) (a : Around) → is_value_of j (behind k n b a) ≡ (if is_end a then is_value_of j (behind k n b (first nothing)) else false)
+value_behind Kind.VariableDeclarator k n b (first rest) = refl
+value_behind Kind.VariableDeclarator k n b (behind l i c a) = refl
+value_behind Kind.VariableDeclarator k n b (behind_none a) = refl
+value_behind Kind.VariableDeclarator k n b (under l i a rest) = refl
+value_behind j k n b (first rest) = refl
+value_behind j k n b (behind l i c a) = refl
+value_behind j k n b (behind_none a) = refl
+value_behind j k n b (under l i a rest) = refl
+
+same_behind_value : (v j : Kind) (m i : Note) (c d : Forest) (a : Around) → (if is_end a then is_value_of v (behind j m c (first nothing)) else false) ≡ is_value_of v (behind j i d a)
+same_behind_value Kind.VariableDeclarator j m i c d (first rest) = refl
+same_behind_value Kind.VariableDeclarator j m i c d (behind l o e a) = refl
+same_behind_value Kind.VariableDeclarator j m i c d (behind_none a) = refl
+same_behind_value Kind.VariableDeclarator j m i c d (under l o a rest) = refl
+same_behind_value v j m i c d (first rest) = refl
+same_behind_value v j m i c d (behind l o e a) = refl
+same_behind_value v j m i c d (behind_none a) = refl
+same_behind_value v j m i c d (under l o a rest) = refl
+
+no_value_first : (v : Kind) (r s : Forest) → is_value_of v (first r) ≡ is_value_of v (first s)
+no_value_first Kind.VariableDeclarator r s = refl
+no_value_first v r s = refl
+
+no_value_behind_none : (v : Kind) (a b : Around) → is_value_of v (behind_none a) ≡ is_value_of v (behind_none b)
+no_value_behind_none Kind.VariableDeclarator a b = refl
+no_value_behind_none v a b = refl
+
+no_value_under : (v j : Kind) (m i : Note) (a b : Around) (r s : Forest) → is_value_of v (under j m a r) ≡ is_value_of v (under j i b s)
+no_value_under Kind.VariableDeclarator j m i a b r s = refl
+no_value_under v j m i a b r s = refl
+
 where_behind : (k : Kind) (n : Note) (b : Forest) (a : Around) → untaken_where (behind k n b a) ≡ (if is_further a then Some true else None)
 where_behind k n b (under l i a rest) = refl
 where_behind k n b (first rest) = refl
@@ -309,6 +347,10 @@ record Twin (t : Forest) (a : Around) (k : Kind) (n : Note) (b : Forest) : Type 
   unused : (us : ℕ → Bool) (at : ℕ) → unused_there us at around ≡ unused_there us at a
   jumped : (j : Bool) → is_behind_jump j around ≡ is_behind_jump j a
   untaken : (q : Bool) → is_untaken q around ≡ is_untaken q a
+  unrun : (q : Bool) → is_unrun q around ≡ is_unrun q a
+  value_of : (j : Kind) → is_value_of j around ≡ is_value_of j a
+  value : is_value around ≡ is_value a
+  ends : is_end around ≡ is_end a
   further : is_further around ≡ is_further a
   untaken_there : untaken_where around ≡ untaken_where a
   leads : leads_to_untaken around ≡ leads_to_untaken a
@@ -330,6 +372,10 @@ twin (first rest) k n b (node l m c r) e = record {
   unused = λ us at. refl;
   jumped = λ q. refl;
   untaken = λ q. refl;
+  unrun = λ q. refl;
+  value_of = λ j. no_value_first j _ _;
+  value = refl;
+  ends = refl;
   further = refl;
   untaken_there = refl;
   leads = refl;
@@ -352,6 +398,10 @@ twin (behind j i d a) k n b (node l m c r) e =
       unused = λ us at. o.unused us (suc at);
       jumped = λ q. o.jumped (q || cuts_off j c) ∙ ap (λ b. is_behind_jump (q || b) a) (unseen (cuts_off j) (cuts_bare j) c d (same_below e));
       untaken = o.untaken;
+      unrun = o.unrun;
+      value_of = λ v. value_behind v j m c o.around ∙ ap (λ b. if b then is_value_of v (behind j m c (first nothing)) else false) o.ends ∙ same_behind_value v j m i c d a;
+      value = o.value;
+      ends = refl;
       further = refl;
       untaken_there = where_behind j m c o.around ∙ ap (λ b. if b then Some true else None) o.further ∙ sym (where_behind j i d a);
       leads = ap₂ (λ x y. is_known x y) o.untaken_there (sym (truth_bare j m c) ∙ ap (truth_known j nowhere) (same_below e) ∙ truth_bare j i d);
@@ -374,6 +424,10 @@ twin (behind_none a) k n b (absent r) e =
       unused = λ us at. o.unused us (suc at);
       jumped = o.jumped;
       untaken = o.untaken;
+      unrun = o.unrun;
+      value_of = λ v. no_value_behind_none v o.around a;
+      value = o.value;
+      ends = refl;
       further = refl;
       untaken_there = refl;
       leads = refl;
@@ -399,6 +453,10 @@ twin (under j i a rest) k n b (node l m c r) e =
       unused = λ us at. o.unused (λ i. is_unused_below (us at) j i) 0;
       jumped = λ q. o.jumped false;
       untaken = λ q. ap (λ f. is_untaken f o.around) (ap (λ b. q && runs_inside j || b) (begins_as j o.around a o.leads)) ∙ o.untaken (q && runs_inside j || begins_untaken j a);
+      unrun = λ q. ap (λ f. is_unrun f o.around) (ap (λ b. q && passes j || b) (begins_as j o.around a o.leads)) ∙ o.unrun (q && passes j || begins_untaken j a);
+      value_of = λ v. no_value_under v j m i o.around a _ _;
+      value = ap₂ (λ b c. b || c) (o.value_of j) o.value;
+      ends = refl;
       further = refl;
       untaken_there = refl;
       leads = refl;
@@ -741,6 +799,12 @@ module _ (unused imports : Bool) (t u : Forest) (e : bare t ≡ bare u) (clean :
       let same = unseen declares_none declares_bare (forest_of now) (forest_of x) (ap (λ b. node x.kind nowhere b nothing) o.same) in
       clean.nothing_is_dead o.around (Some now) o.is (an_untaken_statement o.around now (never_taken (item_as a o item) (o.untaken false ∙ taken) runs (same ∙ none)))
 
+  no_value : (a : Around) (x y : Tree) → u ≡ plug a (Some x) → UnrunValue a x y → ⊥
+  no_value a x _ is (value_never_given n _ given unrun drops) =
+      let o = other_place a x.kind x.note x.below is in
+      let now : Tree = record { kind = x.kind; note = o.note; below = o.below } in
+      clean.nothing_is_dead o.around (Some now) o.is (an_unrun_value o.around now (a_zero n) (value_never_given n now (o.value ∙ given) (o.unrun false ∙ unrun) drops))
+
   no_idle : (a : Around) (x : Tree) → u ≡ plug a (Some x) → IdleStatement a x → ⊥
   no_idle a x is (idle_leaves item idle none) =
       let o = other_place a x.kind x.note x.below is in
@@ -770,6 +834,7 @@ module _ (unused imports : Bool) (t u : Forest) (e : bare t ≡ bare u) (clean :
   none_dead a x is (an_unreached_statement b y unreached) = no_unreached b y is unreached
   none_dead a x is (an_untaken_statement b y untaken) = no_untaken b y is untaken
   none_dead a x is (an_idle_statement b y idle) = no_idle b y is idle
+  none_dead a x is (an_unrun_value b y z value) = no_value b y z is value
 
 pub clean_as : (unused imports : Bool) (t u : Forest) → bare t ≡ bare u → CleanBut unused imports t → CleanBut unused imports u
 clean_as unused imports t u e clean = record { nothing_is_dead = none_dead unused imports t u e clean }

@@ -43,6 +43,8 @@ use Rattle.steps_allowed.specs.IdleStatement.{IdleStatement}
 -- and a statement in its list behind what cuts off, as a jump does, or in a branch that isn't taken
 use Rattle.steps_allowed.specs.Unreached.{Unreached}
 use Rattle.steps_allowed.specs.Untaken.{Untaken}
+-- and a value that a declaration gives in such a branch
+use Rattle.steps_allowed.specs.UnrunValue.{UnrunValue}
 -- whose names only the tree's references may use
 use Rattle.steps_allowed.specs.Exposure.{IsOwnFunction, IsOwnDeclarator}
 
@@ -100,6 +102,8 @@ pub data IsDead (unused imports : Bool) (t : Forest) : Around → Option Tree �
   an_unreached_statement : (a : Around) (x : Tree) → Unreached a x → IsDead unused imports t a (Some x)
   -- a statement in a branch that isn't taken, which declares no name around it: it never runs
   an_untaken_statement : (a : Around) (x : Tree) → Untaken a x → IsDead unused imports t a (Some x)
+  -- the value of a declaration in a branch that isn't taken, which is no name, literal, function or class: it is never evaluated
+  an_unrun_value : (a : Around) (x y : Tree) → UnrunValue a x y → IsDead unused imports t a (Some x)
   -- a loop that never turns or a `try` around nothing in a list of statements, or one behind labels, which declares no name around it: it
   -- does nothing
   an_idle_statement : (a : Around) (x : Tree) → IdleStatement a x → IsDead unused imports t a (Some x)

@@ -12,3 +12,4 @@ mod Ending
 mod Seeing
 mod Emptying
 mod Thinning
+mod Valuing

@@ -1,10 +1,11 @@
 -- What the calls on a branch that isn't taken do is what the rule answers, and the context is told of exactly what goes.
-use Rattle.std.proofs.Common.{◌≡◌, ◌∙◌, ◌<◌, ◌≤◌, ◌+◌, ◌-◌, ℕ, zero, suc, Bool, true, false, not, ◌&&◌, if◌then◌else◌, cond, List, [], ◌∷◌, Option, Some, None, map, length, take, drop, get_or, set, refl, sym, ap, subst, arith, true≢false}
+use Rattle.std.proofs.Common.{◌≡◌, ◌∙◌, ◌<◌, ◌≤◌, ◌+◌, ◌-◌, ℕ, zero, suc, Bool, true, false, not, if◌then◌else◌, List, [], ◌∷◌, Option, Some, None, map, length, take, drop, get_or, set, refl, sym, ap, subst, arith, true≢false}
 use Rattle.std.specs.Prelude.{filter}
-use Rattle.std.proofs.lemmas.List.{take_all, drop-set-lt}
+use Rattle.std.proofs.lemmas.List.{drop-set-lt}
 use Rattle.js_syntax.specs.declared.node_kind.NodeKind.{NodeKind as Kind}
-use Rattle.js_syntax.specs.declared.node_kind.NodeKind.TheVariants.{Statements as statements, BlockStatement as block_statement, IfStatement as if_statement, LabeledStatement as labeled_statement, WhileStatement as while_statement, DoWhileStatement as do_while_statement, ForStatement as for_statement, ForInStatement as for_in_statement, ForOfStatement as for_of_statement, WithStatement as with_statement, SwitchStatement as switch_statement, Cases as cases, SwitchCase as switch_case, TryStatement as try_statement, CatchClause as catch_clause}
+use Rattle.js_syntax.specs.declared.node_kind.NodeKind.TheVariants.{Statements as statements, BlockStatement as block_statement, IfStatement as if_statement, LabeledStatement as labeled_statement, WhileStatement as while_statement, DoWhileStatement as do_while_statement, ForStatement as for_statement, ForInStatement as for_in_statement, ForOfStatement as for_of_statement, WithStatement as with_statement, SwitchStatement as switch_statement, Cases as cases, SwitchCase as switch_case, TryStatement as try_statement, CatchClause as catch_clause, VariableDeclaration as variable_declaration, Declarators as declarators, VariableDeclarator as variable_declarator}
 use Rattle.js_syntax.specs.Node.{Forest, Tree, Note, nothing, node, absent, alone, forest_of, row}
+use Rattle.js_syntax.proofs.Truth.{first_of_either}
 use Rattle.js_tree.specs.Weight.{size_of}
 use Rattle.js_tree.proofs.Rows.{front_of}
 use Rattle.js_tree.proofs.Sizes.{rest_smaller}
@@ -15,13 +16,13 @@ use Rattle.min_expressions.specs.Kept.{kept_if}
 use Rattle.min_traverse.specs.Lawful.{Does}
 use Rattle.min_traverse.proofs.Joining.{does_some, does_none}
 use Rattle.rules_expressions.specs.Ifs.{given_if}
-use Rattle.rules_expressions.specs.Untaken.{is_list, may_go, rid, row_loses, branch_loses, what_stays, if_left, rid_if}
+use Rattle.rules_expressions.specs.Untaken.{is_list, may_go, is_declarator, zero_for, value_left, values_of, values_rid, rid, branch_left, branch_loses, what_stays, if_left, rid_if}
 use Rattle.steps_allowed.specs.KnownConditional.{truth_known}
-use Rattle.steps_allowed.specs.KnownIf.{an_if}
 use Rattle.steps_allowed.specs.Untaken.{runs_inside}
+use Rattle.steps_allowed.specs.UnrunValue.{declares, passes, may_be_dropped}
 use Rattle.steps_allowed.specs.Uses.{Use, use_at, stands_bare}
 use Rattle.scope_laws.specs.Place as places
-use Rattle.min_statements.specs.Untaken.{by_truth, untaken_at, row_shed, inside_shed, one_shed, shed_of, shed_at, inside_left, goes_there, kept_of, each_rid, rid_one, rid_at}
+use Rattle.min_statements.specs.Untaken.{by_truth, untaken_at, value_shed, declarator_shed, values_shed_of, values_shed, row_shed, inside_shed, one_shed, shed_of, shed_at, goes_there, kept_of, each_rid, rid_one, rid_at}
 use Rattle.min_statements.proofs.Calls.{is_no_name, CallsStay}
 use Rattle.min_statements.proofs.Emptying.{others}
 use Rattle.min_statements.proofs.Kept.{kept}
@@ -37,18 +38,12 @@ chosen_left : (g : Bool) (i : ℕ) (n : Note) (k : Kind) (t : Forest) → left_b
 chosen_left true i n k t = refl
 chosen_left false i n k t = refl
 
-left_where : (runs h : Bool) (x : Forest → Tree) (b c : Forest) → given_if (runs && h) (x (if runs then c else b)) ≡ given_if (runs && h) (x c)
-left_where true h x b c = refl
-left_where false h x b c = refl
-
 module _ (n t_note : Note) (t : Kind) (a : Forest) where
   left_so : (truth : Option Bool) (branches : Forest) → left_by n if_statement (node t t_note a branches) (by_truth truth branches) ≡ what_stays n t t_note a truth branches
   left_so (Some false) (node k i b alternate) =
       chosen_left (branch_loses k b) 1 n if_statement (node t t_note a (node k i b alternate))
-      ∙ left_where (runs_inside k) (row_loses (is_list k) b) (λ z. an_if n t t_note a (node k i z alternate)) b (rid (is_list k) b)
   left_so (Some true) (node k i b (node l j c rest)) =
       chosen_left (branch_loses l c) 2 n if_statement (node t t_note a (node k i b (node l j c rest)))
-      ∙ left_where (runs_inside l) (row_loses (is_list l) c) (λ z. an_if n t t_note a (node k i b (node l j z rest))) c (rid (is_list l) c)
   left_so (Some false) nothing = refl
   left_so (Some false) (absent rest) = refl
   left_so (Some true) nothing = refl
@@ -72,7 +67,7 @@ none_inside e = absurd (true≢false (sym e))
 
 -- what lies in a statement counts for itself
 abbrev CountsInside : (Forest → ℕ) → Type 0
-CountsInside m = (k : Kind) (n : Note) (b c : Forest) → runs_inside k ≡ true → m (alone k n b) + m c ≡ m (alone k n c) + m b
+CountsInside m = (k : Kind) (n : Note) (b c : Forest) → passes k ≡ true → m (alone k n b) + m c ≡ m (alone k n c) + m b
 
 ids_inside : (r : ℕ) → CountsInside (ids r)
 ids_inside r k n b c e = Prim.omega arith
@@ -93,26 +88,92 @@ evals_inside cases n b c e = Prim.omega arith
 evals_inside switch_case n b c e = Prim.omega arith
 evals_inside try_statement n b c e = Prim.omega arith
 evals_inside catch_clause n b c e = Prim.omega arith
+evals_inside (variable_declaration how) n b c e = Prim.omega arith
+evals_inside declarators n b c e = Prim.omega arith
+evals_inside variable_declarator n b c e = Prim.omega arith
 evals_inside k n b c e = none_inside e
 
-module _ (m : Forest → ℕ) (a : Adds m) (inside : CountsInside m) where
-  inside_splits : (runs : Bool) (k : Kind) (n : Note) (b left : Forest) (s : ℕ) → runs_inside k ≡ runs → m b ≡ s + m left → m (alone k n b) ≡ (if runs then s else 0) + m (alone k n (if runs then left else b))
-  inside_splits true k n b left s e h = Prim.omega (arith, inside k n b left e, h)
-  inside_splits false k n b left s e h = Prim.omega arith
+-- a value holds no declaration around it, and a zero counts nothing
+plain_value : (l : Kind) → may_be_dropped l ≡ true → passes l ≡ false
+plain_value Kind.ThisExpression h = refl
+plain_value Kind.ArrayExpression h = refl
+plain_value Kind.ObjectExpression h = refl
+plain_value Kind.SequenceExpression h = refl
+plain_value (Kind.UnaryExpression o) h = refl
+plain_value (Kind.UpdateExpression o prefix) h = refl
+plain_value (Kind.BinaryExpression o) h = refl
+plain_value (Kind.LogicalExpression o) h = refl
+plain_value (Kind.AssignmentExpression o) h = refl
+plain_value Kind.ConditionalExpression h = refl
+plain_value (Kind.CallExpression optional pure) h = refl
+plain_value (Kind.NewExpression pure) h = refl
+plain_value (Kind.MemberExpression key optional) h = refl
+plain_value Kind.TemplateLiteral h = refl
+plain_value Kind.TaggedTemplateExpression h = refl
+plain_value k h = none_inside h
 
-  one_splits : (goes runs : Bool) (k : Kind) (n : Note) (b left rest stays : Forest) (s t : ℕ) → runs_inside k ≡ runs → m b ≡ s + m left → m rest ≡ t + m stays
-      → m (node k n b rest) ≡ ((if goes then m (alone k n b) else if runs then s else 0) + t) + m (if goes then stays else node k n (if runs then left else b) stays)
-  one_splits true runs k n b left rest stays s t e h g = Prim.omega (arith, a.joins k n b rest, g)
-  one_splits false runs k n b left rest stays s t e h g = Prim.omega (arith, a.joins k n b rest, a.joins k n (if runs then left else b) stays, inside_splits runs k n b left s e h, g)
+runs_pass : (k : Kind) → runs_inside k ≡ true → passes k ≡ true
+runs_pass k h = first_of_either (runs_inside k) (declares k) h
+
+abbrev CountsZero : (Forest → ℕ) → Type 0
+CountsZero m = (n : Note) → m (forest_of (zero_for n)) ≡ 0
+
+module _ (m : Forest → ℕ) (a : Adds m) (inside : CountsInside m) (blank : CountsZero m) where
+  value_by : (k : Kind) (n : Note) (b : Forest) (l : Kind) (o : Note) (c d r s : Forest) (drops : Bool) → may_be_dropped l ≡ drops → (passes l ≡ false → d ≡ c)
+      → m (node k n b (node l o d r)) ≡ (if drops then m (alone l o c) else 0) + m (node k n b (if drops then node (zero_for o).kind (zero_for o).note nothing r else node l o d r))
+  value_by k n b l o c d r s true is same =
+      Prim.omega (arith, a.joins k n b (node l o d r), a.joins k n b (node (zero_for o).kind (zero_for o).note nothing r), a.joins l o d r, a.joins (zero_for o).kind (zero_for o).note nothing r, blank o, ap (λ e. m (alone l o e)) (same (plain_value l is)))
+  value_by k n b l o c d r s false is same = Prim.omega arith
+
+  unpassed : (l : Kind) (c : Forest) → passes l ≡ false → values_of l c (values_rid c) ≡ c
+  unpassed l c e = ap (λ p. if p then (if is_declarator l then value_left (values_rid c) else values_rid c) else c) e
+
+  value_splits : (t : Forest) → m (values_rid t) ≡ value_shed m t + m (value_left (values_rid t))
+  value_splits nothing = Prim.omega arith
+  value_splits (absent r) = Prim.omega arith
+  value_splits (node k n b nothing) = Prim.omega arith
+  value_splits (node k n b (absent r)) = Prim.omega arith
+  value_splits (node k n b (node l o c r)) = value_by k n (values_of k b (values_rid b)) l o c (values_of l c (values_rid c)) (values_rid r) nothing (may_be_dropped l) refl (unpassed l c)
+
+  of_splits : (k : Kind) (t : Forest) (s : ℕ) (p d : Bool) → m t ≡ s + m (values_rid t)
+      → m t ≡ (if p then s + (if d then value_shed m t else 0) else 0) + m (if p then (if d then value_left (values_rid t) else values_rid t) else t)
+  of_splits k t s true true h = Prim.omega (arith, h, value_splits t)
+  of_splits k t s true false h = Prim.omega (arith, h)
+  of_splits k t s false d h = Prim.omega arith
+
+  alone_splits : (p : Bool) (k : Kind) (n : Note) (b c : Forest) (s : ℕ) → passes k ≡ p → m b ≡ (if p then s else 0) + m (if p then c else b) → m (alone k n b) ≡ (if p then s else 0) + m (alone k n (if p then c else b))
+  alone_splits true k n b c s e h = Prim.omega (arith, inside k n b c e, h)
+  alone_splits false k n b c s e h = Prim.omega arith
+
+  values_alone : (k : Kind) (n : Note) (b : Forest) → m b ≡ values_shed m b + m (values_rid b) → m (alone k n b) ≡ values_shed_of m k b (values_shed m b) + m (alone k n (values_of k b (values_rid b)))
+  values_alone k n b h =
+      alone_splits (passes k) k n b (if is_declarator k then value_left (values_rid b) else values_rid b) (values_shed m b + declarator_shed m k b) refl (of_splits k b (values_shed m b) (passes k) (is_declarator k) h)
+
+  values_split : (t : Forest) → m t ≡ values_shed m t + m (values_rid t)
+  values_split nothing = Prim.omega arith
+  values_split (absent rest) = Prim.omega (arith, a.gap rest, a.gap (values_rid rest), values_split rest)
+  values_split (node k n b rest) = Prim.omega (arith, a.joins k n b rest, a.joins k n (values_of k b (values_rid b)) (values_rid rest), values_alone k n b (values_split b), values_split rest)
+
+  inside_splits : (runs : Bool) (k : Kind) (n : Note) (b left : Forest) (s : ℕ) → runs_inside k ≡ runs → m b ≡ s + m left
+      → m (alone k n b) ≡ (if runs then s else values_shed_of m k b (values_shed m b)) + m (alone k n (if runs then left else values_of k b (values_rid b)))
+  inside_splits true k n b left s e h = Prim.omega (arith, inside k n b left (runs_pass k e), h)
+  inside_splits false k n b left s e h = values_alone k n b (values_split b)
+
+  one_splits : (goes : Bool) (k : Kind) (n : Note) (b left rest stays : Forest) (s t : ℕ) → m (alone k n b) ≡ s + m (alone k n left) → m rest ≡ t + m stays
+      → m (node k n b rest) ≡ ((if goes then m (alone k n b) else s) + t) + m (if goes then stays else node k n left stays)
+  one_splits true k n b left rest stays s t h g = Prim.omega (arith, a.joins k n b rest, g)
+  one_splits false k n b left rest stays s t h g = Prim.omega (arith, a.joins k n b rest, a.joins k n left stays, h, g)
 
   rid_splits : (listed : Bool) (t : Forest) → m t ≡ row_shed m listed t + m (rid listed t)
   rid_splits listed nothing = Prim.omega arith
   rid_splits listed (absent rest) = Prim.omega (arith, a.gap rest, a.gap (rid listed rest), rid_splits listed rest)
   rid_splits listed (node k n b rest) =
-      one_splits (may_go listed k b) (runs_inside k) k n b (rid (is_list k) b) rest (rid listed rest) (row_shed m (is_list k) b) (row_shed m listed rest) refl (rid_splits (is_list k) b) (rid_splits listed rest)
+      one_splits (may_go listed k b) k n b (branch_left k b) rest (rid listed rest) (inside_shed m k b) (row_shed m listed rest)
+      (inside_splits (runs_inside k) k n b (rid (is_list k) b) (row_shed m (is_list k) b) refl (rid_splits (is_list k) b)) (rid_splits listed rest)
 
-  branch_splits : (k : Kind) (n : Note) (b rest : Forest) → m (node k n b rest) ≡ inside_shed m k b + m (node k n (inside_left k b) rest)
-  branch_splits k n b rest = Prim.omega (arith, a.joins k n b rest, a.joins k n (inside_left k b) rest, inside_splits (runs_inside k) k n b (rid (is_list k) b) (row_shed m (is_list k) b) refl (rid_splits (is_list k) b))
+  branch_splits : (k : Kind) (n : Note) (b rest : Forest) → m (node k n b rest) ≡ inside_shed m k b + m (node k n (branch_left k b) rest)
+  branch_splits k n b rest =
+      Prim.omega (arith, a.joins k n b rest, a.joins k n (branch_left k b) rest, inside_splits (runs_inside k) k n b (rid (is_list k) b) (row_shed m (is_list k) b) refl (rid_splits (is_list k) b))
 
   at_splits : (i : ℕ) (t : Forest) → m t ≡ shed_at m i t + m (rid_at i t)
   at_splits zero nothing = Prim.omega arith
@@ -122,7 +183,7 @@ module _ (m : Forest → ℕ) (a : Adds m) (inside : CountsInside m) where
   at_splits (suc i) (absent rest) = Prim.omega (arith, a.gap rest, a.gap (rid_at i rest), at_splits i rest)
   at_splits (suc i) (node k n b rest) = Prim.omega (arith, a.joins k n b rest, a.joins k n b (rid_at i rest), at_splits i rest)
 
-  if_splits : (x : Tree) (i : ℕ) → runs_inside x.kind ≡ true → m (forest_of x) ≡ shed_at m i x.below + m (alone x.kind x.note (rid_at i x.below))
+  if_splits : (x : Tree) (i : ℕ) → passes x.kind ≡ true → m (forest_of x) ≡ shed_at m i x.below + m (alone x.kind x.note (rid_at i x.below))
   if_splits x i e = Prim.omega (arith, inside x.kind x.note x.below (rid_at i x.below) e, at_splits i x.below)
 
 -- ---- what the call does
@@ -131,8 +192,14 @@ is_if : (k : Kind) (t : Forest) (i : ℕ) → untaken_at k t ≡ Some i → k �
 is_if if_statement t i e = refl
 is_if k t i e = absurd Prim.cc
 
-runs_there : (k : Kind) (t : Forest) (i : ℕ) → untaken_at k t ≡ Some i → runs_inside k ≡ true
-runs_there k t i e = ap runs_inside (is_if k t i e)
+zero_ids : (r : ℕ) → CountsZero (ids r)
+zero_ids r n = refl
+
+zero_evals : CountsZero evals
+zero_evals n = refl
+
+runs_there : (k : Kind) (t : Forest) (i : ℕ) → untaken_at k t ≡ Some i → passes k ≡ true
+runs_there k t i e = ap passes (is_if k t i e)
 
 pub left_does : {c k d : Seen} (x y : Tree) (i : ℕ) (b : Forest) → untaken_at x.kind x.below ≡ Some i → k ≡ record c { requested = true } → b ≡ x.below → Leaves k (λ r. shed_at (ids r) i b) (shed_at evals i b) d → y ≡ record x { below = rid_at i x.below } → Does rid_if c x true d y
 left_does {c = c} {k = k} {d = d} x y i b at asked is left tree =
@@ -141,7 +208,7 @@ left_does {c = c} {k = k} {d = d} x y i b at asked is left tree =
     let runs = runs_there x.kind x.below i at in
     let does : Does rid_if c x true d z =
     does_some rid_if c x z (sym (left_as_ruled x.note x.kind x.below) ∙ ap (left_by x.note x.kind x.below) at)
-    (edited x z asked there (λ r. if_splits (ids r) (ids_add r) (ids_inside r) x i runs) (if_splits evals evals_add evals_inside x i runs)) in
+    (edited x z asked there (λ r. if_splits (ids r) (ids_add r) (ids_inside r) (zero_ids r) x i runs) (if_splits evals evals_add evals_inside zero_evals x i runs)) in
     subst (λ t. Does rid_if c x true d t) (sym tree) does
 
 pub left_none : (c : Seen) (x : Tree) → untaken_at x.kind x.below ≡ None → Does rid_if c x false c x
@@ -167,7 +234,7 @@ left_calls a x y e = by (untaken_at x.kind x.below) refl
         let z : Tree = record { kind = x.kind; note = x.note; below = rid_at i x.below } in
         let same : z ≡ y = some_same (sym (ap (left_by x.note x.kind x.below) at) ∙ left_as_ruled x.note x.kind x.below ∙ e) in
         let stay : CallsStay a x z = record {
-          fewer = Prim.omega (arith, if_splits evals evals_add evals_inside x i (runs_there x.kind x.below i at));
+          fewer = Prim.omega (arith, if_splits evals evals_add evals_inside zero_evals x i (runs_there x.kind x.below i at));
           old = ap is_no_name (is_if x.kind x.below i at);
           in_with = false;
           bare = if_bare (use_at a) x.kind (rid_at i x.below) (is_if x.kind x.below i at);
@@ -245,9 +312,9 @@ kept_there listed [] = refl
 kept_there listed (None ∷ ts) = ap absent (kept_there listed ts)
 kept_there listed (Some t ∷ ts) = kept (may_go listed t.kind t.below) t (filter (λ x. not (goes_there listed x)) ts) (kept_of listed (row ts)) (kept_there listed ts)
 
-one_rid : (g : Bool) (k : Kind) (n : Note) (b r l : Forest) → each_rid r ≡ l → each_rid (if g then r else node k n b r) ≡ (if g then l else node k n (inside_left k b) l)
+one_rid : (g : Bool) (k : Kind) (n : Note) (b r l : Forest) → each_rid r ≡ l → each_rid (if g then r else node k n b r) ≡ (if g then l else node k n (branch_left k b) l)
 one_rid true k n b r l e = e
-one_rid false k n b r l e = ap (node k n (inside_left k b)) e
+one_rid false k n b r l e = ap (node k n (branch_left k b)) e
 
 pub kept_rid : (listed : Bool) (t : Forest) → each_rid (kept_of listed t) ≡ rid listed t
 kept_rid listed nothing = refl
@@ -257,7 +324,7 @@ kept_rid listed (node k n b rest) = one_rid (may_go listed k b) k n b (kept_of l
 pub each_is_rid : (ts : List (Option Tree)) → row (map rid_one ts) ≡ each_rid (row ts)
 each_is_rid [] = refl
 each_is_rid (None ∷ ts) = ap absent (each_is_rid ts)
-each_is_rid (Some t ∷ ts) = ap (node t.kind t.note (inside_left t.kind t.below)) (each_is_rid ts)
+each_is_rid (Some t ∷ ts) = ap (node t.kind t.note (branch_left t.kind t.below)) (each_is_rid ts)
 
 -- ---- and are no larger
 

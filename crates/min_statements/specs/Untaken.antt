@@ -4,9 +4,10 @@ use Rattle.js_syntax.specs.declared.node_kind.NodeKind.{NodeKind as Kind}
 use Rattle.js_syntax.specs.declared.node_kind.NodeKind.TheVariants.{IfStatement as if_statement}
 use Rattle.js_syntax.specs.Node.{Forest, Tree, nothing, node, absent, alone}
 use Rattle.min_expressions.specs.Kept.{kept_if}
-use Rattle.rules_expressions.specs.Untaken.{is_list, may_go, rid, branch_loses}
+use Rattle.rules_expressions.specs.Untaken.{is_list, may_go, is_declarator, zero_for, value_left, values_of, values_rid, branch_left, branch_loses}
 use Rattle.steps_allowed.specs.KnownConditional.{truth_known}
 use Rattle.steps_allowed.specs.Untaken.{runs_inside}
+use Rattle.steps_allowed.specs.UnrunValue.{passes, may_be_dropped}
 
 -- ---- which branch
 
@@ -27,13 +28,29 @@ untaken_at k parts = None
 
 -- `m` says what a row counts
 module _ (m : Forest → ℕ) where
+  -- the value of a declarator
+  abbrev pub value_shed : Forest → ℕ
+  value_shed (node k n b (node l o c rest)) = if may_be_dropped l then m (alone l o c) else 0
+  value_shed t = 0
+
+  abbrev pub declarator_shed : Kind → (below : Forest) → ℕ
+  declarator_shed k below = if is_declarator k then value_shed below else 0
+
+  abbrev pub values_shed_of : Kind → (below : Forest) → (inner : ℕ) → ℕ
+  values_shed_of k below inner = if passes k then inner + declarator_shed k below else 0
+
+  abbrev pub values_shed : Forest → ℕ
+  values_shed nothing = 0
+  values_shed (absent rest) = values_shed rest
+  values_shed (node k n below rest) = values_shed_of k below (values_shed below) + values_shed rest
+
   abbrev pub row_shed : (listed : Bool) → Forest → ℕ
   row_shed listed nothing = 0
   row_shed listed (absent rest) = row_shed listed rest
-  row_shed listed (node k n below rest) = (if may_go listed k below then m (alone k n below) else if runs_inside k then row_shed (is_list k) below else 0) + row_shed listed rest
+  row_shed listed (node k n below rest) = (if may_go listed k below then m (alone k n below) else if runs_inside k then row_shed (is_list k) below else values_shed_of k below (values_shed below)) + row_shed listed rest
 
   abbrev pub inside_shed : Kind → (below : Forest) → ℕ
-  inside_shed k below = if runs_inside k then row_shed (is_list k) below else 0
+  inside_shed k below = if runs_inside k then row_shed (is_list k) below else values_shed_of k below (values_shed below)
 
   abbrev pub one_shed : (listed : Bool) → Tree → ℕ
   one_shed listed x = if may_go listed x.kind x.below then m (alone x.kind x.note x.below) else inside_shed x.kind x.below
@@ -52,8 +69,21 @@ module _ (m : Forest → ℕ) where
 
 -- ---- let go
 
-abbrev pub inside_left : Kind → (below : Forest) → Forest
-inside_left k below = if runs_inside k then rid (is_list k) below else below
+-- a declarator's row, if it is one, without its value
+abbrev pub zero_row : (declarator : Bool) → Forest → Forest
+zero_row declarator t = if declarator then value_left t else t
+
+abbrev pub zero_one : Option Tree → Option Tree
+zero_one None = None
+zero_one (Some x) = Some (if may_be_dropped x.kind then zero_for x.note else x)
+
+abbrev pub has_value : Forest → Bool
+has_value (node k n b (node l m c rest)) = true
+has_value t = false
+
+abbrev pub values_one : Option Tree → Option Tree
+values_one None = None
+values_one (Some x) = Some (record { kind = x.kind; note = x.note; below = values_of x.kind x.below (values_rid x.below) })
 
 abbrev pub goes_there : (listed : Bool) → Option Tree → Bool
 goes_there listed None = false
@@ -68,15 +98,15 @@ kept_of listed (node k n below rest) = if may_go listed k below then kept_of lis
 abbrev pub each_rid : Forest → Forest
 each_rid nothing = nothing
 each_rid (absent rest) = absent (each_rid rest)
-each_rid (node k n below rest) = node k n (inside_left k below) (each_rid rest)
+each_rid (node k n below rest) = node k n (branch_left k below) (each_rid rest)
 
 abbrev pub rid_one : Option Tree → Option Tree
 rid_one None = None
-rid_one (Some x) = Some (record { kind = x.kind; note = x.note; below = inside_left x.kind x.below })
+rid_one (Some x) = Some (record { kind = x.kind; note = x.note; below = branch_left x.kind x.below })
 
 abbrev pub rid_at : ℕ → Forest → Forest
 rid_at at nothing = nothing
 rid_at zero (absent rest) = absent rest
-rid_at zero (node k n below rest) = node k n (inside_left k below) rest
+rid_at zero (node k n below rest) = node k n (branch_left k below) rest
 rid_at (suc at) (absent rest) = absent (rid_at at rest)
 rid_at (suc at) (node k n below rest) = node k n below (rid_at at rest)

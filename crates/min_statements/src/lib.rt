@@ -3,7 +3,7 @@
 //! `Statements` is the walker (min_traverse): behind a list it takes out what stands behind a jump there and declares nothing around it,
 //! and what rules_dead_code says goes of it (`trim_statements`), behind a silent statement elsewhere it leaves an empty one
 //! (`empty_statement`), behind an `if` on a test that is known the branch that runs, or an empty statement, or the `if` without what
-//! declares no name in the other branch (`try_fold_if`), behind an import the import without the names that nobody uses
+//! declares no name in the other branch, and without the values there (`try_fold_if`), behind an import the import without the names that nobody uses
 //! (`remove_unused_import_specifiers`), behind an expression that a known test decides the part that counts, alone or behind a zero,
 //! behind an operation of which nobody takes the value the operands that act, behind such an array, object or sequence its parts that act,
 //! and behind an operation that doesn't act its value (min_expressions).
@@ -26,6 +26,7 @@ mod names;
 mod statements;
 mod trimmed;
 mod untaken;
+mod values;
 mod walk;
 
 pub use emptied::empty_statement;

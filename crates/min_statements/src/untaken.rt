@@ -1,15 +1,16 @@
-// Of a branch that isn't taken, what declares no name around it leaves its lists.
+// Of a branch that isn't taken, what declares no name around it leaves its lists, and the values of declarations become zeros.
 ghost use Rattle.std.specs.Prelude.{◌≡◌, Some, true, false};
 ghost use Rattle.js_syntax.specs.Node.{row};
 ghost use Rattle.scope_counts.specs.Counts.{ids};
 ghost use Rattle.min_context.specs.Edited.{evals, Leaves};
 ghost use Rattle.min_expressions.specs.Kept.{kept_if};
 ghost use Rattle.steps_allowed.specs.Untaken.{runs_inside};
-ghost use Rattle.rules_expressions.specs.Untaken.{is_list, may_go, row_loses, branch_loses};
-ghost use Rattle.min_statements.specs.Untaken.{by_truth, among, untaken_at, row_shed, inside_shed, one_shed, shed_of, shed_at, inside_left, goes_there, kept_of, each_rid, rid_one, rid_at};
+ghost use Rattle.rules_expressions.specs.Untaken.{is_list, may_go, row_loses, branch_left, branch_loses};
+ghost use Rattle.min_statements.specs.Untaken.{by_truth, among, untaken_at, row_shed, inside_shed, one_shed, shed_of, shed_at, goes_there, kept_of, each_rid, rid_one, rid_at};
 
 use crate::inert::only_runs;
 use crate::inside::declares_no_name;
+use crate::values::{tell_values, values_drop_inside, zero_values};
 use js_syntax::NodeKind;
 use js_tree::Node;
 use min_context::MinifierTraverseCtx;
@@ -25,7 +26,7 @@ fn is_list(kind: &NodeKind) -> bool
 }
 
 // Statements, and what they hold that is run where they are.
-fn runs_inside(kind: &NodeKind) -> bool
+pub(crate) fn runs_inside(kind: &NodeKind) -> bool
     ensures { result ≡ runs_inside kind.now }
 {
     match kind {
@@ -61,7 +62,11 @@ fn may_go(listed: bool, node: &Node) -> bool
 fn branch_loses(node: &Node) -> bool
     ensures { result ≡ branch_loses node.now.kind node.now.below }
 {
-    runs_inside(node.kind()) && row_loses(is_list(node.kind()), node.children())
+    if runs_inside(node.kind()) {
+        row_loses(is_list(node.kind()), node.children())
+    } else {
+        values_drop_inside(node)
+    }
 }
 
 #[cycle(loses)]
@@ -152,6 +157,8 @@ fn drop_inside(node: &Node, ctx: &mut MinifierTraverseCtx)
 {
     if runs_inside(node.kind()) {
         drop_row(is_list(node.kind()), node.children(), ctx);
+    } else {
+        tell_values(node, ctx);
     }
 }
 
@@ -219,7 +226,7 @@ fn keep_items(listed: bool, items: &mut Vec<Option<Node>>)
 
 #[cycle(rid)]
 fn rid_inside(alloc: Global, node: &mut Node)
-    ensures { node.new ≡ record node.old { below = inside_left node.old.kind node.old.below } }
+    ensures { node.new ≡ record node.old { below = branch_left node.old.kind node.old.below } }
 {
     if runs_inside(node.kind()) {
         let listed = is_list(node.kind());
@@ -227,6 +234,8 @@ fn rid_inside(alloc: Global, node: &mut Node)
         keep_items(listed, &mut items);
         rid_each(alloc, items.as_mut_slice());
         node.replace_children(items);
+    } else {
+        zero_values(alloc, node);
     }
 }
 

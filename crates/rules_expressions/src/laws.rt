@@ -22,6 +22,7 @@ ghost use Rattle.steps_allowed.specs.DeadIf.{DeadIf};
 ghost use Rattle.steps_allowed.specs.Unreached.{Unreached};
 ghost use Rattle.steps_allowed.specs.Untaken.{Untaken};
 ghost use Rattle.steps_allowed.specs.IdleStatement.{IdleStatement};
+ghost use Rattle.steps_allowed.specs.UnrunValue.{UnrunValue};
 ghost use Rattle.steps_allowed.specs.Edits.{TreeEdits};
 ghost use Rattle.steps_allowed.specs.Uses.{use_at};
 ghost use Rattle.rules_dead_code.specs.Before.{before};
@@ -102,6 +103,7 @@ pub fn what_is_settled_has_no_edits()
     ensures unreached { (t : Forest) → IsSettled t → (a : places.Around) (x : Tree) → t ≡ places.plug a (Some x) → Unreached a x → ⊥ }
     ensures untaken { (t : Forest) → IsSettled t → (a : places.Around) (x : Tree) → t ≡ places.plug a (Some x) → Untaken a x → ⊥ }
     ensures idle { (t : Forest) → IsSettled t → (a : places.Around) (x : Tree) → t ≡ places.plug a (Some x) → IdleStatement a x → ⊥ }
+    ensures unrun { (t : Forest) → IsSettled t → (a : places.Around) (x y : Tree) → t ≡ places.plug a (Some x) → UnrunValue a x y → ⊥ }
     ensures settled { (t : Forest)
         → ((a : places.Around) (x y : Tree) → t ≡ places.plug a (Some x) → KnownConditional a x y → ⊥)
         → ((a : places.Around) (x y : Tree) → t ≡ places.plug a (Some x) → KnownSide a x y → ⊥)
@@ -118,5 +120,6 @@ pub fn what_is_settled_has_no_edits()
         → ((a : places.Around) (x : Tree) → t ≡ places.plug a (Some x) → Unreached a x → ⊥)
         → ((a : places.Around) (x : Tree) → t ≡ places.plug a (Some x) → Untaken a x → ⊥)
         → ((a : places.Around) (x : Tree) → t ≡ places.plug a (Some x) → IdleStatement a x → ⊥)
+        → ((a : places.Around) (x y : Tree) → t ≡ places.plug a (Some x) → UnrunValue a x y → ⊥)
         → IsSettled t }
 {}

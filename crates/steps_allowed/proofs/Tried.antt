@@ -30,6 +30,7 @@ use Rattle.steps_allowed.specs.KnownIf.{an_if, KnownIf, consequent_is_run, alter
 use Rattle.steps_allowed.specs.Unreached.{Unreached, never_runs}
 use Rattle.steps_allowed.specs.Untaken.{Untaken, never_taken}
 use Rattle.steps_allowed.specs.IdleStatement.{IdleStatement, idle_leaves}
+use Rattle.steps_allowed.specs.UnrunValue.{UnrunValue, value_never_given}
 use Rattle.steps_allowed.specs.EmptyBlock.{EmptyBlock, empty_block_leaves}
 use Rattle.steps_allowed.specs.DeadIf.{DeadIf, nothing_is_run}
 use Rattle.steps_allowed.specs.UnusedOperation.{needed_at, one_operand_acts}
@@ -40,8 +41,8 @@ use Rattle.steps_allowed.specs.IdleParts.{idle_parts_leave}
 use Rattle.steps_allowed.specs.TwoSides.{both_sides_act}
 use Rattle.steps_allowed.specs.UnusedObject.{acting_values_stay}
 use Rattle.steps_allowed.specs.KnownOperation.{known_literal, value_is_known}
-use Rattle.steps_allowed.specs.Edits.{Edit, leaves, becomes, empty_statement, empty_block, silent_statement, unused_function, unused_declaration, unused_import, unreached, untaken, idle_statement, known_conditional, known_side, known_if, dead_if, unused_operation, unused_list, indirect_choice, one_sided_choice, idle_parts, two_sides, unused_object, known_operation}
-use Rattle.steps_allowed.specs.Rows.{labeled, branch_of_if, in_branch, in_function, debugger, throwing_block, throwing_branch, broken_label, past, in_list, before, throws, behind_throw, call_of_a, null, if_one, if_null, either_way, conditional, logical, may_be_named, o_f, parenthesized, in_statement, called, called_in_parentheses, called_in_with, argument, operand, applied, equals, assigned, statement, ComesOut, Stays, StaysUnused, array, spread, hole, sequence, ListStays, ChoiceStays, PartsStay, SidesStay, object, a_is, b_is, getter_of_a, ObjectStays, literal, operation, OperationStays, behind_zero, placed, StaysDirect, with_a, in_with_a, empty, a_is_read, a_is_exported, imports_nothing, only_import, tried, tried_finally, while_, for_, loop}
+use Rattle.steps_allowed.specs.Edits.{Edit, leaves, becomes, empty_statement, empty_block, silent_statement, unused_function, unused_declaration, unused_import, unreached, untaken, idle_statement, known_conditional, known_side, known_if, dead_if, unused_operation, unused_list, indirect_choice, one_sided_choice, idle_parts, two_sides, unused_object, known_operation, unrun_value}
+use Rattle.steps_allowed.specs.Rows.{labeled, branch_of_if, in_branch, in_function, in_function_by, value_of_a, zero, loop, debugger, throwing_block, throwing_branch, broken_label, past, in_list, before, throws, behind_throw, call_of_a, null, if_one, if_null, either_way, conditional, logical, may_be_named, o_f, parenthesized, in_statement, called, called_in_parentheses, called_in_with, argument, operand, applied, equals, assigned, statement, ComesOut, Stays, StaysUnused, array, spread, hole, sequence, ListStays, ChoiceStays, PartsStay, SidesStay, object, a_is, b_is, getter_of_a, ObjectStays, literal, operation, OperationStays, behind_zero, placed, StaysDirect, with_a, in_with_a, empty, a_is_read, a_is_exported, imports_nothing, only_import, tried, tried_finally, while_, for_, loop}
 
 pub empties_in_list : Edit (a_module (does one ∷ [])) (a_module (empty ∷ []))
 empties_in_list = becomes (before []) _ _ (silent_statement (silent_statement_empties nowhere nowhere nowhere _ nothing (inl refl, tt)))
@@ -584,3 +585,27 @@ tried_call_stays items n (idle_leaves item idle none) = true≢false (sym idle)
 
 pub idle_branch_stays : (x : Tree) → IdleStatement branch_of_if x → ⊥
 idle_branch_stays x (idle_leaves item idle none) = absurd cc
+
+-- ---- values that are never given
+
+pub unrun_variable_drops : Edit (a_module (if_null (block (declares variable.Var (binds a) call_of_a ∷ [])) no ∷ [])) (a_module (if_null (block (declares variable.Var (binds a) zero ∷ [])) no ∷ []))
+unrun_variable_drops = becomes (in_branch null (value_of_a variable.Var nothing)) _ _ (unrun_value (value_never_given nowhere _ refl refl refl))
+
+pub unrun_head_drops : Edit (a_module (if_null (loop (declares variable.Let (binds a) call_of_a) empty) no ∷ [])) (a_module (if_null (loop (declares variable.Let (binds a) zero) empty) no ∷ []))
+unrun_head_drops =
+    becomes (in_list (under Kind.IfStatement nowhere (past null (under Kind.ForStatement nowhere (value_of_a variable.Let (joined no (joined no empty))) no)) nothing)) _ _ (unrun_value (value_never_given nowhere _ refl refl refl))
+
+pub unrun_name_stays : (n : Note) (y : Tree) → UnrunValue (in_branch null (value_of_a variable.Var nothing)) (record { kind = Kind.ReferenceName a; note = n; below = nothing }) y → ⊥
+unrun_name_stays n y (value_never_given m x value unrun drops) = true≢false (sym drops)
+
+pub run_value_stays : (x y : Tree) → UnrunValue (in_branch one (value_of_a variable.Var nothing)) x y → ⊥
+run_value_stays x y (value_never_given m z value unrun drops) = true≢false (sym unrun)
+
+pub may_run_value_stays : (x y : Tree) → UnrunValue (in_branch (reads a) (value_of_a variable.Var nothing)) x y → ⊥
+may_run_value_stays x y (value_never_given m z value unrun drops) = true≢false (sym unrun)
+
+pub function_value_stays : (x y : Tree) → UnrunValue (in_function_by null (value_of_a variable.Var nothing)) x y → ⊥
+function_value_stays x y (value_never_given m z value unrun drops) = true≢false (sym unrun)
+
+pub statement_is_no_value : (x y : Tree) → UnrunValue (in_branch null (under Kind.ExpressionStatement nowhere (first nothing) nothing)) x y → ⊥
+statement_is_no_value x y (value_never_given m z value unrun drops) = true≢false (sym value)

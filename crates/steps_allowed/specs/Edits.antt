@@ -26,6 +26,7 @@ use Rattle.steps_allowed.specs.IdleParts.{IdleParts}
 use Rattle.steps_allowed.specs.TwoSides.{TwoSides}
 use Rattle.steps_allowed.specs.UnusedObject.{UnusedObject}
 use Rattle.steps_allowed.specs.KnownOperation.{KnownOperation}
+use Rattle.steps_allowed.specs.UnrunValue.{UnrunValue}
 
 -- which items may leave the list in which they stand
 pub data Leaves (a : Around) (x : Tree) : Type 0 where
@@ -54,6 +55,7 @@ pub data Becomes (a : Around) (x y : Tree) : Type 0 where
   two_sides : TwoSides a x y → Becomes a x y
   unused_object : UnusedObject a x y → Becomes a x y
   known_operation : KnownOperation a x y → Becomes a x y
+  unrun_value : UnrunValue a x y → Becomes a x y
 
 pub data Edit : (t u : Forest) → Type 0 where
   leaves : (a : Around) (x : Tree) → Leaves a x → Edit (plug a (Some x)) (without a)

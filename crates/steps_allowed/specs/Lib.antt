@@ -30,6 +30,7 @@ pub mod DeadIf
 pub mod Unreached
 pub mod Untaken
 pub mod IdleStatement
+pub mod UnrunValue
 pub mod Edits
 pub mod Arranged
 pub mod Rows

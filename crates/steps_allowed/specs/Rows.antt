@@ -4,6 +4,7 @@ use Rattle.js_syntax.specs.declared.node_kind.NodeKind.{NodeKind as Kind}
 use Rattle.js_syntax.specs.declared.scalar.SourceType.TheVariants as source_type
 use Rattle.js_syntax.specs.declared.kind.FunctionKind.TheVariants as function_kind
 use Rattle.js_syntax.specs.declared.kind.PropertyKind.TheVariants as property
+use Rattle.js_syntax.specs.declared.kind.VariableKind.{VariableKind}
 use Rattle.js_syntax.specs.declared.kind.VariableKind.TheVariants as variable
 use Rattle.js_syntax.specs.declared.operator.AssignmentOperator.TheVariants as assignment
 use Rattle.js_syntax.specs.declared.operator.BinaryOperator.{BinaryOperator}
@@ -75,8 +76,11 @@ abbrev pub in_branch : (test : Forest) → Around → Around
 in_branch test place = in_list (under Kind.IfStatement nowhere (past test (under Kind.BlockStatement nowhere (under Kind.Statements nowhere place nothing) no)) nothing)
 
 -- and there in the code of a function
+abbrev pub in_function_by : (test : Forest) → Around → Around
+in_function_by test place = in_branch test (under (Kind.Function function_kind.Declaration false) nowhere (past (binds a) (past (listed Kind.Parameters []) (under Kind.FunctionBody nowhere (under Kind.Statements nowhere place nothing) nothing))) nothing)
+
 abbrev pub in_function : (test : Forest) → Around
-in_function test = in_branch test (under (Kind.Function function_kind.Declaration false) nowhere (past (binds a) (past (listed Kind.Parameters []) (under Kind.FunctionBody nowhere (under Kind.Statements nowhere (first nothing) nothing) nothing))) nothing)
+in_function test = in_function_by test (first nothing)
 
 -- a();
 abbrev pub call_of_a : Forest
@@ -85,6 +89,13 @@ call_of_a = over (Kind.CallExpression false false) (joined (reads a) (listed Kin
 -- eval();
 abbrev pub call_of_eval : Forest
 call_of_eval = over (Kind.CallExpression false false) (joined (reads (codes "eval")) (listed Kind.Arguments []))
+
+-- the place of the value of `a` in its declaration
+abbrev pub value_of_a : VariableKind → (more : Forest) → Around
+value_of_a how more = under (Kind.VariableDeclaration how) nowhere (under Kind.Declarators nowhere (under Kind.VariableDeclarator nowhere (past (binds a) (first nothing)) nothing) nothing) more
+
+abbrev pub zero : Forest
+zero = leaf (Kind.Literal (value.Number (pos 0)))
 
 abbrev pub null : Forest
 null = leaf (Kind.Literal value.Null)

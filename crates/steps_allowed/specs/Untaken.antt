@@ -50,12 +50,15 @@ runs_inside try_statement = true
 runs_inside catch_clause = true
 runs_inside k = false
 
--- whether a branch is around that isn't taken, or was around this part of the place
+-- Whether a branch is around that isn't taken, or was around this part of the place, by the nodes that may stand between.
+abbrev pub led_by : (passes : Kind → Bool) → (untaken : Bool) → Around → Bool
+led_by passes untaken (first rest) = untaken
+led_by passes untaken (behind k n below a) = led_by passes untaken a
+led_by passes untaken (behind_none a) = led_by passes untaken a
+led_by passes untaken (under k n a rest) = led_by passes (untaken && passes k || begins_untaken k a) a
+
 abbrev pub is_untaken : (untaken : Bool) → Around → Bool
-is_untaken untaken (first rest) = untaken
-is_untaken untaken (behind k n below a) = is_untaken untaken a
-is_untaken untaken (behind_none a) = is_untaken untaken a
-is_untaken untaken (under k n a rest) = is_untaken (untaken && runs_inside k || begins_untaken k a) a
+is_untaken untaken a = led_by runs_inside untaken a
 
 pub data Untaken (a : Around) (x : Tree) : Type 0 where
   never_taken : IsItem a → is_untaken false a ≡ true → only_runs x.kind ≡ true → declares_none (forest_of x) ≡ true → Untaken a x

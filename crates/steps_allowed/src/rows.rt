@@ -12,7 +12,7 @@ ghost use Rattle.form_rules.specs.Samples.{a_module, a, binds, reads, listed, no
 ghost use Rattle.scope_rules.specs.Context.{body_of};
 ghost use Rattle.scope_rules.specs.Binding.{named_in};
 ghost use Rattle.scope_rules.specs.Samples.{imports};
-ghost use Rattle.scope_laws.specs.Place.{Around, first};
+ghost use Rattle.scope_laws.specs.Place.{Around, first, under};
 ghost use Rattle.steps_allowed.specs.Places.{a_node, At};
 ghost use Rattle.steps_allowed.specs.Free.{IsFree};
 ghost use Rattle.steps_allowed.specs.SilentStatement.{SilentStatement};
@@ -23,9 +23,10 @@ ghost use Rattle.steps_allowed.specs.DeadIf.{DeadIf};
 ghost use Rattle.steps_allowed.specs.Unreached.{Unreached};
 ghost use Rattle.steps_allowed.specs.Untaken.{Untaken};
 ghost use Rattle.steps_allowed.specs.IdleStatement.{IdleStatement};
+ghost use Rattle.steps_allowed.specs.UnrunValue.{UnrunValue};
 ghost use Rattle.steps_allowed.specs.EmptyBlock.{EmptyBlock};
 ghost use Rattle.steps_allowed.specs.Edits.{Edit};
-ghost use Rattle.steps_allowed.specs.Rows.{before, labeled, tried, tried_finally, while_, for_, loop, branch_of_if, in_list, past, in_branch, in_function, debugger, throwing_block, throwing_branch, broken_label, throws, behind_throw, call_of_a, null, if_one, if_null, either_way, conditional, logical, may_be_named, o_f, parenthesized, called, called_in_parentheses, called_in_with, argument, operand, applied, equals, assigned, statement, ComesOut, Stays, StaysUnused, array, spread, hole, sequence, ListStays, ChoiceStays, PartsStay, SidesStay, object, a_is, b_is, getter_of_a, ObjectStays, literal, operation, OperationStays, behind_zero, placed, StaysDirect, with_a, in_with_a, empty, a_is_read, a_is_exported, imports_nothing};
+ghost use Rattle.steps_allowed.specs.Rows.{before, labeled, tried, tried_finally, while_, for_, loop, branch_of_if, in_list, past, in_branch, in_function, in_function_by, value_of_a, zero, debugger, throwing_block, throwing_branch, broken_label, throws, behind_throw, call_of_a, null, if_one, if_null, either_way, conditional, logical, may_be_named, o_f, parenthesized, called, called_in_parentheses, called_in_with, argument, operand, applied, equals, assigned, statement, ComesOut, Stays, StaysUnused, array, spread, hole, sequence, ListStays, ChoiceStays, PartsStay, SidesStay, object, a_is, b_is, getter_of_a, ObjectStays, literal, operation, OperationStays, behind_zero, placed, StaysDirect, with_a, in_with_a, empty, a_is_read, a_is_exported, imports_nothing};
 
 /// A statement of a literal becomes empty, in a list and alone, and leaves the list then.
 pub fn silent_statements_go()
@@ -148,6 +149,18 @@ pub fn what_does_nothing_leaves()
     ensures ends { (items : List Forest) (n : Note) → IdleStatement (before items) (record { kind = Kind.TryStatement; note = n; below = joined (block []) (joined no (block (does call_of_a ∷ []))) }) → ⊥ }
     ensures tries { (items : List Forest) (n : Note) → IdleStatement (before items) (record { kind = Kind.TryStatement; note = n; below = joined (block (does call_of_a ∷ [])) (joined no (block [])) }) → ⊥ }
     ensures branch { (x : Tree) → IdleStatement branch_of_if x → ⊥ }
+{}
+
+/// The value of a declaration in a branch that isn't taken becomes a zero, in the head of a loop too. A name stays, and so does what stands
+/// in a branch that runs or may run, in the code of a function, or elsewhere than behind a declared name.
+pub fn what_is_never_given_becomes_a_zero()
+    ensures variable { Edit (a_module (if_null (block (declares variable.Var (binds a) call_of_a ∷ [])) no ∷ [])) (a_module (if_null (block (declares variable.Var (binds a) zero ∷ [])) no ∷ [])) }
+    ensures head { Edit (a_module (if_null (loop (declares variable.Let (binds a) call_of_a) empty) no ∷ [])) (a_module (if_null (loop (declares variable.Let (binds a) zero) empty) no ∷ [])) }
+    ensures name { (n : Note) (y : Tree) → UnrunValue (in_branch null (value_of_a variable.Var nothing)) (record { kind = Kind.ReferenceName a; note = n; below = nothing }) y → ⊥ }
+    ensures runs { (x y : Tree) → UnrunValue (in_branch one (value_of_a variable.Var nothing)) x y → ⊥ }
+    ensures may_run { (x y : Tree) → UnrunValue (in_branch (reads a) (value_of_a variable.Var nothing)) x y → ⊥ }
+    ensures function { (x y : Tree) → UnrunValue (in_function_by null (value_of_a variable.Var nothing)) x y → ⊥ }
+    ensures statement { (x y : Tree) → UnrunValue (in_branch null (under Kind.ExpressionStatement nowhere (first nothing) nothing)) x y → ⊥ }
 {}
 
 /// A branch that declares a function isn't left out, in a block either: in code that isn't strict its name is one of the

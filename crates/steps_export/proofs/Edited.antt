@@ -4,7 +4,7 @@ use Rattle.js_syntax.specs.declared.node_kind.NodeKind.{NodeKind as Kind}
 use Rattle.js_syntax.specs.declared.node_kind.NodeKind.TheVariants as kind
 use Rattle.js_syntax.specs.declared.kind.FunctionKind.TheVariants as function_kind
 use Rattle.js_syntax.specs.declared.kind.VariableKind.TheVariants as variable
-use Rattle.js_syntax.specs.Class.{root}
+use Rattle.js_syntax.specs.Class.{root, expression}
 use Rattle.js_syntax.specs.Node.{Forest, Tree, Note, nothing, node, absent, alone, forest_of}
 use Rattle.js_syntax.proofs.Truth.{both}
 use Rattle.js_effects.specs.Silence.{is_marked}
@@ -16,6 +16,7 @@ use Rattle.scope_laws.specs.Exact.{Among}
 use Rattle.scope_laws.specs.Place.{Around, first, behind, behind_none, under, plug}
 use Rattle.steps_names.specs.Standing.{exported_declarations}
 use Rattle.steps_fit.proofs.Enclosing.{fits_enclosed}
+use Rattle.steps_keep_form.specs.Part.{is_asked_for}
 use Rattle.steps_fit.proofs.Modules.{fits_program}
 use Rattle.steps_allowed.specs.Silent.{HoldsThere}
 use Rattle.steps_allowed.specs.Places.{a_node, At}
@@ -31,8 +32,9 @@ use Rattle.steps_allowed.specs.Branches.{declares_none}
 use Rattle.steps_allowed.specs.Unreached.{only_runs, never_runs}
 use Rattle.steps_allowed.specs.Untaken.{never_taken}
 use Rattle.steps_allowed.specs.IdleStatement.{idle_leaves}
+use Rattle.steps_allowed.specs.UnrunValue.{value_never_given}
 use Rattle.steps_allowed.specs.DeadIf.{DeadIf, nothing_is_run}
-use Rattle.steps_allowed.specs.Edits.{Leaves, empty_statement, empty_block, unused_function, unused_declarator, unused_declaration, unused_import, unreached, untaken, idle_statement, Becomes, silent_statement, known_conditional, known_side, known_if, dead_if, unused_operation, unused_list, indirect_choice, one_sided_choice, idle_parts, two_sides, unused_object, known_operation, Edit, leaves, becomes, TreeEdits, no_tree_edit, one_tree_edit}
+use Rattle.steps_allowed.specs.Edits.{Leaves, empty_statement, empty_block, unused_function, unused_declarator, unused_declaration, unused_import, unreached, untaken, idle_statement, Becomes, silent_statement, known_conditional, known_side, known_if, dead_if, unused_operation, unused_list, indirect_choice, one_sided_choice, idle_parts, two_sides, unused_object, known_operation, unrun_value, Edit, leaves, becomes, TreeEdits, no_tree_edit, one_tree_edit}
 use Rattle.steps_owed.specs.Kept.{is_program}
 use Rattle.steps_owed.specs.Owed.{ByPart, ByParts}
 use Rattle.steps_owed.specs.Part.{DeclaresNothing}
@@ -54,6 +56,7 @@ use Rattle.steps_owed.proofs.IdleParts.{idle_parts_owes}
 use Rattle.steps_owed.proofs.TwoSides.{two_sides_owes}
 use Rattle.steps_owed.proofs.UnusedObject.{unused_object_owes}
 use Rattle.steps_owed.proofs.KnownOperation.{known_operation_owes}
+use Rattle.steps_owed.proofs.UnrunValue.{dropped, old_fits}
 use Rattle.steps_owed.proofs.Outward.{declares_nothing}
 use Rattle.steps_owed.proofs.Owed.{leaving}
 use Rattle.steps_owed.proofs.TableKept as tables
@@ -113,11 +116,15 @@ module _ (e : BindingSite) (top : e.layer.scope ≡ 0) where
       (settled a x (Some y) Anything fits (λ rest. no_program x.kind x.note x.below rest (owed.stands fits).gives) (λ f. absurd (true≢false f)) (anywhere (Some x) false (λ at. outermost) 0 0 a)
       (λ w c next some any. part_stays e top x y (owed.stands fits).gives (owed.part fits) c next some) h)
 
-  parts_settled : (a : Around) (x y : Tree) → ByParts a x y → Fits root (plug a (Some x)) → Among e (exported_declarations (plug a (Some x))) → ExportedBy (plug a (Some y))
-  parts_settled a x y owed fits h =
+  -- an expression, which declares nothing
+  undeclared_settled : (a : Around) (x y : Tree) → is_asked_for x.kind ≡ false → Fits expression (forest_of x) → Fits root (plug a (Some x)) → Among e (exported_declarations (plug a (Some x))) → ExportedBy (plug a (Some y))
+  undeclared_settled a x y unasked expresses fits h =
       subst ExportedBy (made_plug a y)
-      (settled a x (Some y) Anything fits (λ rest. part_no_program x.kind x.note x.below rest (owed.old_unasked fits)) (λ f. absurd (true≢false f)) (anywhere (Some x) false (λ at. outermost) 0 0 a)
-      (λ w c next some any. undeclared_stays e top x (Some y) (expression_declares_nothing (forest_of x) (owed.fits_expression fits)) c next some) h)
+      (settled a x (Some y) Anything fits (λ rest. part_no_program x.kind x.note x.below rest unasked) (λ f. absurd (true≢false f)) (anywhere (Some x) false (λ at. outermost) 0 0 a)
+      (λ w c next some any. undeclared_stays e top x (Some y) (expression_declares_nothing (forest_of x) expresses) c next some) h)
+
+  parts_settled : (a : Around) (x y : Tree) → ByParts a x y → Fits root (plug a (Some x)) → Among e (exported_declarations (plug a (Some x))) → ExportedBy (plug a (Some y))
+  parts_settled a x y owed fits h = undeclared_settled a x y (owed.old_unasked fits) (owed.fits_expression fits) fits h
 
   -- ---- every case
 
@@ -196,6 +203,8 @@ module _ (e : BindingSite) (top : e.layer.scope ≡ 0) where
   changed a x y (two_sides c) fits h = parts_settled a x y (two_sides_owes a x y c) fits h
   changed a x y (unused_object c) fits h = parts_settled a x y (unused_object_owes a x y c) fits h
   changed a x y (known_operation c) fits h = parts_settled a x y (known_operation_owes a x y c) fits h
+  changed a x y (unrun_value (value_never_given n _ given unrun drops)) fits h =
+      undeclared_settled a x y (dropped x.kind drops).unasked (old_fits a n x given unrun drops fits) fits h
 
   edited : (t u : Forest) → Edit t u → Fits root t → Among e (exported_declarations t) → ExportedBy u
   edited _ _ (leaves a x c) fits h = subst ExportedBy (made_without a) (left a x c (λ f. tables.in_list a (leaving a x c).listed) fits h)

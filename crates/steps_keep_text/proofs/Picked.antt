@@ -10,7 +10,7 @@ use Rattle.js_syntax.specs.declared.value.LiteralValue.TheVariants as value
 use Rattle.js_syntax.specs.Node.{Forest, total}
 use Rattle.steps_owed.proofs.KnownSizes.{IsSmall}
 use Rattle.js_tree.specs.Count.{one_each}
-use Rattle.steps_marked.proofs.Picked.{SomeOf, none, stays, leaves, opens, absent_leaves, absent_stays, Picks, one_part, several, part_behind_zero, two_parts, known, in_turn}
+use Rattle.steps_marked.proofs.Picked.{SomeOf, none, stays, leaves, opens, absent_leaves, absent_stays, Picks, one_part, several, part_behind_zero, two_parts, known, zeroed, in_turn}
 
 -- counts by which what edits build counts no more than what it is built of
 pub record IsSparing (counts : Kind → ℕ) : Type 0 where
@@ -69,3 +69,4 @@ module _ (counts : Kind → ℕ) where
   picked_counts spares (known (unary_expression o) below w operator small) = Prim.omega (arith, spares.of_one o w small)
   picked_counts spares (known (binary_expression o) below w operator small) = Prim.omega (arith, spares.of_two o w small)
   picked_counts spares (known k below w operator small) = absurd cc
+  picked_counts spares (zeroed k below one) = Prim.omega (arith, spares.zero k one)

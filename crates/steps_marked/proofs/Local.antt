@@ -1,5 +1,5 @@
 -- What an edit makes of the row in which it is made, whose other nodes keep their marks.
-use Rattle.std.proofs.Common.{◌≡◌, ◌∙◌, ◌≤◌, ◌<◌, true, false, Some, is_some, sym, ap}
+use Rattle.std.proofs.Common.{◌≡◌, ◌∙◌, ◌≤◌, ◌<◌, true, false, Some, is_some, arith, refl, sym, ap}
 use Rattle.js_syntax.specs.declared.node_kind.NodeKind.{NodeKind as Kind}
 use Rattle.js_syntax.specs.declared.node_kind.NodeKind.TheVariants.{ExpressionStatement as expression_statement, IfStatement as if_statement, EmptyStatement as empty_statement}
 use Rattle.js_syntax.specs.Class.{root, expression}
@@ -14,6 +14,7 @@ use Rattle.scope_counts.specs.Edits.{Around, plug, in_list}
 use Rattle.steps_keep_form.specs.Part.{gives_way, is_asked_for}
 use Rattle.steps_allowed.specs.SilentStatement.{silent_statement_empties}
 use Rattle.steps_allowed.specs.DeadIf.{nothing_is_run}
+use Rattle.steps_allowed.specs.UnrunValue.{a_zero, value_never_given}
 use Rattle.steps_allowed.specs.Edits as edits
 use Rattle.steps_allowed.specs.Edits.{Leaves, Edit}
 use Rattle.steps_owed.specs.Owed.{ByPart, ByParts}
@@ -31,11 +32,12 @@ use Rattle.steps_owed.proofs.IdleParts.{idle_parts_owes}
 use Rattle.steps_owed.proofs.TwoSides.{two_sides_owes}
 use Rattle.steps_owed.proofs.UnusedObject.{unused_object_owes}
 use Rattle.steps_owed.proofs.KnownOperation.{known_operation_owes}
+use Rattle.steps_owed.proofs.UnrunValue.{dropped, new_fits, rebuilt}
 use Rattle.steps_owed.proofs.Owed.{leaving}
 use Rattle.steps_owed.proofs.Places.{place_of, rest_of, placed_is, without_is, listed_is}
 use Rattle.steps_owed.proofs.TableKept as tables
 use Rattle.steps_marked.proofs.Called.{called_at, used_as_callee}
-use Rattle.steps_marked.proofs.Picked.{Picks, unused_list_picks, indirect_choice_picks, one_sided_choice_picks, idle_parts_picks, two_sides_picks, unused_object_picks, known_operation_picks}
+use Rattle.steps_marked.proofs.Picked.{Picks, zeroed, unused_list_picks, indirect_choice_picks, one_sided_choice_picks, idle_parts_picks, two_sides_picks, unused_object_picks, known_operation_picks}
 
 -- An expression is rebuilt of its parts. No rule of form asks for what it was or for what it is, which declares nothing, weighs less and
 -- has no more levels.
@@ -140,3 +142,21 @@ is_local t u (edits.becomes a x y (edits.idle_parts c)) fits = by_parts a x y (i
 is_local t u (edits.becomes a x y (edits.two_sides c)) fits = by_parts a x y (two_sides_owes a x y c) (two_sides_picks a x y c) fits
 is_local t u (edits.becomes a x y (edits.unused_object c)) fits = by_parts a x y (unused_object_owes a x y c) (unused_object_picks a x y c) fits
 is_local t u (edits.becomes a x y (edits.known_operation c)) fits = by_parts a x y (known_operation_owes a x y c) (known_operation_picks a x y c) fits
+is_local t u (edits.becomes a x y (edits.unrun_value (value_never_given n _ given unrun drops))) fits = record {
+  place = place_of a;
+  old = node x.kind x.note x.below (rest_of a);
+  new = node (a_zero n).kind n nothing (rest_of a);
+  local = rebuilds x.kind (a_zero n).kind x.note n x.below nothing (rest_of a)
+      (record {
+        rebuilt = rebuilt a n x given unrun drops;
+        old_unasked = (dropped x.kind drops).unasked;
+        unasked = refl;
+        declares = expression_declares_nothing (forest_of (a_zero n)) (new_fits a n x given unrun drops);
+        lighter = Prim.omega (arith, (dropped x.kind drops).weighs);
+        no_deeper = Prim.omega (arith, (dropped x.kind drops).deep x.note x.below);
+        picks = zeroed x.kind x.below (dropped x.kind drops).one;
+      })
+      (λ c. refl);
+  old_is = placed_is a x;
+  new_is = placed_is a (a_zero n);
+}

@@ -62,6 +62,7 @@ pub data Picks : (k : Kind) (below : Forest) (l : Kind) (inner : Forest) → Typ
   part_behind_zero : (k l t : Kind) (o m i p : Note) (d parts inner : Forest) → is_choice k ≡ true → one_each t ≡ 1 → SomeOf parts (alone l p inner) → Picks k (node t o d parts) sequence_expression (node expressions m (node (literal (value.Number (pos 0))) i nothing (alone l p inner)) nothing)
   two_parts : (o : LogicalOperator) (parts left : Forest) → SomeOf parts left → Picks conditional_expression parts (logical_expression o) left
   known : (k : Kind) (below : Forest) (w : LiteralValue) → is_operator k ≡ true → IsSmall w → Picks k below (literal w) nothing
+  zeroed : (k : Kind) (below : Forest) → one_each k ≡ 1 → Picks k below (literal (value.Number (pos 0))) nothing
   in_turn : (o : BinaryOperator) (m : Note) (sides : Forest) → Picks (binary_expression o) sides sequence_expression (node expressions m sides nothing)
 
 -- ---- the parts that act

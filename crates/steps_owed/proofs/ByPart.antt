@@ -5,6 +5,7 @@ use Rattle.js_syntax.specs.Facts.{weight}
 use Rattle.js_syntax.specs.Node.{Forest, Tree, Note, nothing, node, absent, joined, total}
 use Rattle.scope_laws.specs.Place.{Around, plug}
 use Rattle.steps_owed.specs.Owed.{ByPart, Becoming, by_coming}
+use Rattle.steps_owed.proofs.Calling.{other_uncalled}
 use Rattle.steps_owed.proofs.FitsBecoming.{becoming_fits}
 use Rattle.steps_fit.proofs.Modules.{fits_program}
 use Rattle.steps_owed.proofs.PartForm.{part_sheds}
@@ -27,9 +28,9 @@ part_lighter k l n i below b before after weighs is =
 pub by_part : (a : Around) (x y : Tree) → ByPart a x y → Becoming a x y
 by_part a x y owed = record {
   lighter = owed.lighter;
-  no_call = owed.no_call;
+  no_call = other_uncalled a x owed.no_call;
   ends = inl owed.ends;
-  may_change = owed.may_change;
+  may_change = inl owed.may_change;
   fits = λ fits. becoming_fits a x y (owed.takes fits) fits;
   sheds = λ fits. part_sheds a x y (owed.stands fits) owed.comes_out.undeleted fits;
   kept = λ fits s kept. parts_kept a x y (owed.part fits) (fits_program (plug a (Some x)) fits) s kept;

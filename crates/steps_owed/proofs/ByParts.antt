@@ -20,6 +20,7 @@ use Rattle.steps_owed.specs.Owed.{is_read_name, ByParts, Becoming}
 use Rattle.steps_owed.specs.TakesPlace.{is_told_by_class}
 use Rattle.steps_owed.proofs.BranchKinds.{no_statement}
 use Rattle.steps_owed.proofs.Expressions.{expression_declares_none, expression_stays_outside, expression_declares_nothing}
+use Rattle.steps_owed.proofs.Calling.{other_uncalled}
 use Rattle.steps_owed.proofs.FitsBecoming.{told_no_list, becoming_fits}
 use Rattle.steps_owed.proofs.PartForm.{nothing_declared, replaced_sheds}
 use Rattle.steps_owed.proofs.RebuiltCounts.{rebuilt_kept}
@@ -31,7 +32,7 @@ not_apart hole told no_name = absurd cc
 not_apart (reference_name x) told no_name = absurd cc
 not_apart k told no_name = refl
 
-moves : (k : Kind) → is_told_by_class k ≡ true → is_read_name k ≡ false → is_statement k ≡ false → is_asked_for k ≡ false → gives k ≡ true
+pub moves : (k : Kind) → is_told_by_class k ≡ true → is_read_name k ≡ false → is_statement k ≡ false → is_asked_for k ≡ false → gives k ≡ true
 moves k told no_name no_one unasked = all (gives_way k) (is_statement k) (is_asked_for k) (is_list_kind k) (is_told_apart k) no_one unasked (told_no_list k told) (not_apart k told no_name)
   where
     all : (g s q l h : Bool) → s ≡ false → q ≡ false → l ≡ false → h ≡ false → (g || (not (s || q) && not (l || h))) ≡ true
@@ -75,9 +76,9 @@ module _ (a : Around) (x y : Tree) (owed : ByParts a x y) (fits : Fits root (plu
 pub by_parts : (a : Around) (x y : Tree) → ByParts a x y → Becoming a x y
 by_parts a x y owed = record {
   lighter = owed.lighter;
-  no_call = owed.no_call;
+  no_call = other_uncalled a x owed.no_call;
   ends = inl owed.ends;
-  may_change = owed.may_change;
+  may_change = inl owed.may_change;
   fits = λ fits. becoming_fits a x y (owed.takes fits) fits;
   sheds = λ fits. replaced_sheds a x y (replaced_by_parts (rebuilds a x y owed fits)) (old_moves a x y owed fits) owed.comes_out.undeleted fits;
   kept = λ fits s kept. rebuilt_kept a x y (owed.rebuilt fits) (expression_declares_nothing (forest_of x) (old_fits a x y owed fits)) (owed.old_unasked fits) (fits_program (plug a (Some x)) fits) s kept;

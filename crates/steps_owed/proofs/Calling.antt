@@ -16,7 +16,8 @@ use Rattle.steps_allowed.specs.Imports.{ImportRow, in_names, elsewhere, import_r
 use Rattle.steps_allowed.specs.Places.{asked_at}
 use Rattle.steps_allowed.specs.Unreached.{is_behind_jump}
 use Rattle.steps_allowed.specs.Untaken.{begins_untaken, is_untaken}
-use Rattle.steps_owed.specs.Owed.{IsOther, Uncounted}
+use Rattle.steps_allowed.specs.UnrunValue.{is_value_of, is_value}
+use Rattle.steps_owed.specs.Owed.{IsOther, IsUncalled, Uncounted}
 use Rattle.js_meaning_near.specs.Near.{cuts_off}
 use Rattle.std.proofs.lemmas.Bool.{or_cases}
 use Rattle.steps_allowed.specs.Calls.{is_call, begins_with_call, counted, may_end, calls_in, of_list, calls_listed, of_program, root_calls}
@@ -53,14 +54,26 @@ no_more : (k : Kind) (b c : Bool) → b ≡ false → counted k b ≤ counted k 
 no_more expression_statement b c e = subst (λ x. counted expression_statement x ≤ counted expression_statement c) (sym e) (Prim.omega arith)
 no_more k b c e = Prim.omega arith
 
-replaced_begins : (a : Around) (x y : Tree) → IsOther x → (begins_with_call (plug a (Some x)) ≡ false) ⊎ (begins_with_call (plug a (Some x)) ≡ begins_with_call (plug a (Some y)))
-replaced_begins (first rest) x y h = inl h.calls
-replaced_begins (behind k n below a) x y h = inr refl
-replaced_begins (behind_none a) x y h = inr refl
-replaced_begins (under k n a rest) x y h = inr refl
+pub other_uncalled : (a : Around) (x : Tree) → IsOther x → IsUncalled a x
+other_uncalled a x h = record { counts = h.counts; lists = h.lists; begins = h.begins; calls = inl h.calls }
 
-replaced_below : (k : Kind) (a : Around) (x y : Tree) → IsOther x → counted k (begins_with_call (plug a (Some x))) ≤ counted k (begins_with_call (plug a (Some y)))
-replaced_below k a x y h = elim (replaced_begins a x y h) [
+-- what is no call, or stands behind a declared name in a row below this one
+abbrev UncalledBelow : Kind → Around → Tree → Type 0
+UncalledBelow k a x = (is_call x.kind ≡ false) ⊎ ((is_value_of k a || is_value a) ≡ true)
+
+no_value_first : (k : Kind) (rest : Forest) → is_value_of k (first rest) || false ≡ false
+no_value_first Kind.VariableDeclarator rest = refl
+no_value_first k rest = refl
+
+replaced_begins : (k : Kind) (a : Around) (x y : Tree) → UncalledBelow k a x → (begins_with_call (plug a (Some x)) ≡ false) ⊎ (begins_with_call (plug a (Some x)) ≡ begins_with_call (plug a (Some y)))
+replaced_begins k (first rest) x y (inl h) = inl h
+replaced_begins k (first rest) x y (inr v) = absurd (true≢false (sym v ∙ no_value_first k rest))
+replaced_begins k (behind l n below a) x y h = inr refl
+replaced_begins k (behind_none a) x y h = inr refl
+replaced_begins k (under l n a rest) x y h = inr refl
+
+replaced_below : (k : Kind) (a : Around) (x y : Tree) → UncalledBelow k a x → counted k (begins_with_call (plug a (Some x))) ≤ counted k (begins_with_call (plug a (Some y)))
+replaced_below k a x y h = elim (replaced_begins k a x y h) [
   | inl e ↦ no_more k (begins_with_call (plug a (Some x))) (begins_with_call (plug a (Some y))) e
   | inr e ↦ Prim.omega (arith, ap (counted k) e)
 ]
@@ -77,11 +90,16 @@ ends_earlier false true n (inl e) = absurd (true≢false (sym e))
 ends_earlier false true n (inr e) = absurd (true≢false e)
 ends_earlier false false n h = Prim.omega arith
 
-replaced_calls : (a : Around) (x y : Tree) → IsOther x → (may_end x.kind ≡ true) ⊎ (may_end y.kind ≡ false) → calls_in (plug a (Some x)) ≤ calls_in (plug a (Some y))
-replaced_calls (first rest) x y h e = Prim.omega (arith, h.counts, ends_earlier (may_end x.kind) (may_end y.kind) (calls_in rest) e)
-replaced_calls (behind k n below a) x y h e = Prim.omega (arith, unless (may_end k) (calls_in (plug a (Some x))) (calls_in (plug a (Some y))) (replaced_calls a x y h e))
-replaced_calls (behind_none a) x y h e = replaced_calls a x y h e
-replaced_calls (under k n a rest) x y h e = Prim.omega (arith, replaced_below k a x y h)
+module _ (x y : Tree) (counts : counted x.kind (begins_with_call x.below) ≡ 0) (end : (may_end x.kind ≡ true) ⊎ (may_end y.kind ≡ false)) where
+  replaced_calls : (a : Around) → (is_call x.kind ≡ false) ⊎ (is_value a ≡ true) → calls_in (plug a (Some x)) ≤ calls_in (plug a (Some y))
+  replaced_calls (first rest) h = Prim.omega (arith, counts, ends_earlier (may_end x.kind) (may_end y.kind) (calls_in rest) end)
+  replaced_calls (behind k n below a) h = Prim.omega (arith, unless (may_end k) (calls_in (plug a (Some x))) (calls_in (plug a (Some y))) (replaced_calls a h))
+  replaced_calls (behind_none a) h = replaced_calls a h
+  replaced_calls (under k n a rest) h = Prim.omega (arith, replaced_below k a x y h)
+
+  replaced_list : (k : Kind) (a : Around) → UncalledBelow k a x → of_list k (calls_in (plug a (Some x))) ≤ of_list k (calls_in (plug a (Some y)))
+  replaced_list statements a h = replaced_calls a h
+  replaced_list k a h = Prim.omega arith
 
 list_no_less : (k : Kind) (n m : ℕ) → n ≤ m → of_list k n ≤ of_list k m
 list_no_less statements n m h = h
@@ -91,17 +109,21 @@ program_no_less : (k : Kind) (n m : ℕ) → n ≤ m → of_program k n ≤ of_p
 program_no_less (program source) n m h = h
 program_no_less k n m h = Prim.omega arith
 
-replaced_listed : (a : Around) (x y : Tree) → IsOther x → (may_end x.kind ≡ true) ⊎ (may_end y.kind ≡ false) → calls_listed (plug a (Some x)) ≤ calls_listed (plug a (Some y))
+replaced_listed : (a : Around) (x y : Tree) → IsUncalled a x → (may_end x.kind ≡ true) ⊎ (may_end y.kind ≡ false) → calls_listed (plug a (Some x)) ≤ calls_listed (plug a (Some y))
 replaced_listed (first rest) x y h e = Prim.omega (arith, h.lists (calls_in x.below))
 replaced_listed (behind k n below a) x y h e = Prim.omega arith
 replaced_listed (behind_none a) x y h e = Prim.omega arith
-replaced_listed (under k n a rest) x y h e = list_no_less k _ _ (replaced_calls a x y h e)
+replaced_listed (under k n a rest) x y h e = replaced_list x y h.counts e k a h.calls
 
-pub replaced_root : (a : Around) (x y : Tree) → IsOther x → (may_end x.kind ≡ true) ⊎ (may_end y.kind ≡ false) → root_calls (plug a (Some x)) ≤ root_calls (plug a (Some y))
+replaced_program : (k : Kind) (n : Note) (a : Around) (rest : Forest) (x y : Tree) → IsUncalled (under k n a rest) x → (may_end x.kind ≡ true) ⊎ (may_end y.kind ≡ false) → of_program k (calls_listed (plug a (Some x))) ≤ of_program k (calls_listed (plug a (Some y)))
+replaced_program (program source) n a rest x y h e = replaced_listed a x y (record { counts = h.counts; lists = h.lists; begins = h.begins; calls = h.calls }) e
+replaced_program k n a rest x y h e = Prim.omega arith
+
+pub replaced_root : (a : Around) (x y : Tree) → IsUncalled a x → (may_end x.kind ≡ true) ⊎ (may_end y.kind ≡ false) → root_calls (plug a (Some x)) ≤ root_calls (plug a (Some y))
 replaced_root (first rest) x y h e = Prim.omega (arith, h.begins (calls_listed x.below))
 replaced_root (behind k n below a) x y h e = Prim.omega arith
 replaced_root (behind_none a) x y h e = Prim.omega arith
-replaced_root (under k n a rest) x y h e = program_no_less k _ _ (replaced_listed a x y h e)
+replaced_root (under k n a rest) x y h e = replaced_program k n a rest x y h e
 
 -- ---- the rows that something leaves
 

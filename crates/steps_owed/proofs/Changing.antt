@@ -14,7 +14,8 @@ use Rattle.steps_owed.specs.Owed.{MayChange, IsIdleItem}
 use Rattle.js_meaning_near.specs.Near.{Glance, glance_below, glance_behind, is_any, cuts_by, cuts_so, row_cuts, cuts_off}
 use Rattle.min_pass.specs.declared.around.Row.TheVariants.{Items as items}
 use Rattle.steps_allowed.specs.Unreached.{is_behind_jump}
-use Rattle.steps_allowed.specs.Untaken.{begins_untaken, runs_inside, is_untaken}
+use Rattle.steps_allowed.specs.Untaken.{begins_untaken, runs_inside, led_by}
+use Rattle.steps_allowed.specs.UnrunValue.{passes, is_unrun}
 use Rattle.steps_owed.proofs.Calling.{bare_begins}
 use Rattle.steps_owed.proofs.EmptyBlock.{bare_idles}
 use Rattle.steps_owed.proofs.ExposedBare.{bare_inside, bare_below, bare_exposed}
@@ -89,19 +90,19 @@ module _ (evaluates : Bool) where
   if_may w e kind.IfStatement a below h = refl
   if_may w e k a below h = absurd (true≢false (sym h))
 
-  untaken_there : (w : Asked) (es : ℕ → Exposure) (at : ℕ) (a : Around) (x : Tree) (untaken : Bool) → is_untaken untaken a ≡ true → (untaken ≡ true) ⊎ (may_change evaluates w es at (plug a (Some x)) ≡ true)
-  untaken_there w es at (first rest) x untaken e = inl e
-  untaken_there w es at (behind k n below a) x untaken e =
-      elim (untaken_there w es (suc at) a x untaken e) [
+  untaken_there : (passes : Kind → Bool) (w : Asked) (es : ℕ → Exposure) (at : ℕ) (a : Around) (x : Tree) (untaken : Bool) → led_by passes untaken a ≡ true → (untaken ≡ true) ⊎ (may_change evaluates w es at (plug a (Some x)) ≡ true)
+  untaken_there passes w es at (first rest) x untaken e = inl e
+  untaken_there passes w es at (behind k n below a) x untaken e =
+      elim (untaken_there passes w es (suc at) a x untaken e) [
         | inl found ↦ inl found
         | inr may ↦ inr (later_may w es at k below (plug a (Some x)) may)
       ]
-  untaken_there w es at (behind_none a) x untaken e = untaken_there w es (suc at) a x untaken e
-  untaken_there w es at (under k n a rest) x untaken e =
+  untaken_there passes w es at (behind_none a) x untaken e = untaken_there passes w es (suc at) a x untaken e
+  untaken_there passes w es at (under k n a rest) x untaken e =
       let t = plug a (Some x) in
-      elim (untaken_there (asked_below w k) (exposed_inside (es at) k t) 0 a x (untaken && runs_inside k || begins_untaken k a) e) [
-        | inl found ↦ elim (or_cases (untaken && runs_inside k) (begins_untaken k a) found) [
-          | inl around ↦ inl (first_of_both untaken (runs_inside k) around)
+      elim (untaken_there passes (asked_below w k) (exposed_inside (es at) k t) 0 a x (untaken && passes k || begins_untaken k a) e) [
+        | inl found ↦ elim (or_cases (untaken && passes k) (begins_untaken k a) found) [
+          | inl around ↦ inl (first_of_both untaken (passes k) around)
           | inr here ↦ inr (first_of_either (may_here w es at k t) (ends_before w.row k t rest || may_change evaluates w es (suc at) rest) (first_of_either (may_change_at evaluates w (es at) k t) (may_change evaluates (asked_below w k) (exposed_inside (es at) k t) 0 t) (if_may w (es at) k a t here)))
         ]
         | inr may ↦ inr (inner_may w es at k t rest may)
@@ -111,9 +112,21 @@ somewhere : (a : Around) (k : Kind) (n : Note) (below : Forest)
     → may_change_at (evaluates_somewhere (plug a (a_node k n below))) (asked_at (asked_of_program true) a) (exposure a (a_node k n below)) k below ≡ true → may_change_somewhere (plug a (a_node k n below)) ≡ true
 somewhere a k n below e = let t = plug a (a_node k n below) in at_place (evaluates_somewhere t) (asked_of_program true) (exposed_of t) 0 a k n below e
 
+led_may_change : (passes : Kind → Bool) (a : Around) (x : Tree) → led_by passes false a ≡ true → may_change_somewhere (plug a (Some x)) ≡ true
+led_may_change passes a x untaken =
+    let t = plug a (Some x) in
+    elim (untaken_there (evaluates_somewhere t) passes (asked_of_program true) (exposed_of t) 0 a x false untaken) [
+      | inl e ↦ absurd (true≢false (sym e))
+      | inr may ↦ may
+    ]
+
 -- by shape
 pub owed_may_change : (a : Around) (x : Tree) → MayChange a x → may_change_somewhere (plug a (Some x)) ≡ true
 owed_may_change a x may = somewhere a x.kind x.note x.below may
+
+pub node_may_change : (a : Around) (x : Tree) → MayChange a x ⊎ (is_unrun false a ≡ true) → may_change_somewhere (plug a (Some x)) ≡ true
+node_may_change a x (inl may) = owed_may_change a x may
+node_may_change a x (inr unrun) = led_may_change passes a x unrun
 
 pub item_may_change : (a : Around) (x : Tree) → MayChange a x ⊎ IsIdleItem a → may_change_somewhere (plug a (Some x)) ≡ true
 item_may_change a x (inl may) = owed_may_change a x may
@@ -123,12 +136,7 @@ item_may_change a x (inr (item, inl jump)) =
       | inl e ↦ absurd (true≢false (sym e.0))
       | inr may ↦ may
     ]
-item_may_change a x (inr (item, inr untaken)) =
-    let t = plug a (Some x) in
-    elim (untaken_there (evaluates_somewhere t) (asked_of_program true) (exposed_of t) 0 a x false untaken) [
-      | inl e ↦ absurd (true≢false (sym e))
-      | inr may ↦ may
-    ]
+item_may_change a x (inr (item, inr untaken)) = led_may_change runs_inside a x untaken
 
 -- ---- spans and ids don't tell
 

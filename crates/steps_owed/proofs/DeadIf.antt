@@ -76,9 +76,9 @@ module _ (a : Around) (n m i o : Note) (t k : Kind) (d b : Forest) (truth : trut
   owes : Becoming a x y
   owes = record {
     lighter = Prim.omega (arith, test_weighs t m d false truth);
-    no_call = record { counts = refl; lists = λ j. refl; begins = λ j. refl; calls = refl };
+    no_call = record { counts = refl; lists = λ j. refl; begins = λ j. refl; calls = inl refl };
     ends = inl refl;
-    may_change = refl;
+    may_change = inl refl;
     fits = becoming_fits a x y takes;
     sheds = λ fits. emptied_if_sheds a n o below (λ s at. nothing_declared s at (forest_of x) (if_stays_outside s n below) (none_there fits)) fits;
     kept = λ fits s kept. idle_empties a x (idle fits) (fits_program (plug a (Some x)) fits) (inside_program a x (fits_program (plug a (Some x)) fits) (λ rest. refl)) o s kept;

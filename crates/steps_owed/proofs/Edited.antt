@@ -19,7 +19,7 @@ use Rattle.steps_fit.proofs.Enclosing.{fits_enclosed}
 use Rattle.steps_fit.proofs.Modules.{fits_program}
 use Rattle.steps_owed.specs.Kept.{IsKept}
 use Rattle.steps_owed.proofs.Calling.{takes, leave_root, replaced_root, bare_root}
-use Rattle.steps_owed.proofs.Changing.{owed_may_change, item_may_change, bare_changes}
+use Rattle.steps_owed.proofs.Changing.{node_may_change, item_may_change, bare_changes}
 use Rattle.steps_owed.proofs.FitsEdits.{edit_fits}
 use Rattle.steps_owed.proofs.Owed.{leaving, becoming}
 use Rattle.steps_owed.proofs.Shedding.{leaving_sheds}
@@ -92,7 +92,7 @@ edits_keep_calls (one_edit t v w u same e more) = Prim.omega (arith, bare_calls 
 
 pub edit_may_change : (t u : Forest) → Edit t u → may_change_somewhere t ≡ true
 edit_may_change t u (leaves a x c) = item_may_change a x (leaving a x c).may_change
-edit_may_change t u (becomes a x y c) = owed_may_change a x (becoming a x y c).may_change
+edit_may_change t u (becomes a x y c) = node_may_change a x (becoming a x y c).may_change
 
 pub nothing_changes : (t u : Forest) → may_change_somewhere t ≡ false → Edits t u → bare t ≡ bare u
 nothing_changes t u still (no_edit x y same) = same

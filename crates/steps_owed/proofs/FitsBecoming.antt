@@ -36,10 +36,10 @@ told_no_list Kind.Quasis told = absurd cc
 told_no_list Kind.Specifiers told = absurd cc
 told_no_list k told = refl
 
-no_such_list : (k kind : Kind) → is_told_by_class k ≡ true → is_list_kind kind ≡ true → k ≡ kind → ⊥
+pub no_such_list : (k kind : Kind) → is_told_by_class k ≡ true → is_list_kind kind ≡ true → k ≡ kind → ⊥
 no_such_list k kind told list_kind same = absurd (cc (told_no_list k told, list_kind, ap is_list_kind same))
 
-told_no_hole : (k : Kind) → is_told_by_class k ≡ true → k ≡ hole → ⊥
+pub told_no_hole : (k : Kind) → is_told_by_class k ≡ true → k ≡ hole → ⊥
 told_no_hole k told same = absurd (cc (told, ap is_told_by_class same))
 
 -- ---- one node in the place of another

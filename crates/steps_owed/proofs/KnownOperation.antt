@@ -259,14 +259,14 @@ comes_to_value u st _ n below w (on_two o _ _ _ idle is) = record { old_hoists =
 
 -- ---- by the table of node types, and by the rules of form
 
-literal_expression : (w : LiteralValue) → IsExpression (literal w) nothing
+pub literal_expression : (w : LiteralValue) → IsExpression (literal w) nothing
 literal_expression w = (a_literal, (w, tt), refl, tt, refl, tt)
 
 no_break : (b : Bool) (place : ℕ) → b ≡ true → unless b place 12 ≡ []
 no_break true place h = refl
 no_break false place h = absurd cc
 
-literal_is_built : (w : LiteralValue) → IsSmall w → MayBeBuilt (literal w) nothing
+pub literal_is_built : (w : LiteralValue) → IsSmall w → MayBeBuilt (literal w) nothing
 literal_is_built (value.Number (pos n)) small = record { operation = refl; calls_none = refl; breaks_none = λ c place. no_break (nat_lt n (2 ^ 53)) place small }
 literal_is_built (value.Number (negsuc n)) small = absurd small
 literal_is_built value.Null small = record { operation = refl; calls_none = refl; breaks_none = λ c place. refl }

@@ -59,6 +59,8 @@ mod UntakenRuns
 pub mod EmptyBlock
 pub mod IdleRuns
 pub mod IdleStatement
+mod UnrunRuns
+pub mod UnrunValue
 pub mod LeftRuns
 pub mod SilentAnywhere
 pub mod UnusedPlace

@@ -12,6 +12,7 @@ use Rattle.json_shape.specs.Shape as shape
 use Rattle.json_shape.proofs.Choice.{is_list_kind}
 use Rattle.scope_laws.specs.Place.{Around, first, behind, behind_none, under, plug}
 use Rattle.steps_fit.specs.Hoisted.{holds_variables}
+use Rattle.steps_owed.specs.Owed.{is_read_name}
 use Rattle.steps_fit.proofs.Calm.{is_calm_class}
 use Rattle.steps_fit.proofs.Holding.{is_sound, planned_below}
 use Rattle.steps_fit.proofs.Passing.{plan_passes, first_passes, behind_passes}
@@ -124,6 +125,14 @@ row_of_export exported r vs private a is st = absurd (true≢false (ap is_export
 
 pub export_stands : (exported : ModuleName) (a : Forest) → MadeBy (Kind.ExportSpecifier exported) a → Stand (these (one read_name ∷ [])) a
 export_stands exported a made = row_of_export exported made.row made.values (has is_private a) a made.is made.stands
+
+-- what stands where a name is read is one
+row_is_name : (r : Row) (vs : Values (fields_of r)) → stands read_name (type_of r) ≡ Some (first_of r) → is_read_name (kind_in r vs) ≡ true
+row_is_name a_reference_name vs is = refl
+row_is_name r vs is = absurd cc
+
+pub name_is_read : (k : Kind) (a : Forest) → IsOf k a (λ p. Stand p a) read_name → is_read_name k ≡ true
+name_is_read k a of = ap is_read_name of.4 ∙ row_is_name of.0 of.1 of.2
 
 -- a name that is read is no calm node
 row_of_name : (r : Row) (vs : Values (fields_of r)) → stands read_name (type_of r) ≡ Some (first_of r) → is_calm (kind_in r vs) ≡ true → ⊥

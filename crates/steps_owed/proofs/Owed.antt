@@ -1,7 +1,7 @@
 -- Every case owes: a line each.
 use Rattle.js_syntax.specs.Node.{Tree}
 use Rattle.scope_laws.specs.Place.{Around}
-use Rattle.steps_allowed.specs.Edits.{Leaves, empty_statement, empty_block, unused_function, unused_declarator, unused_declaration, unused_import, unreached, untaken, idle_statement, Becomes, silent_statement, known_conditional, known_side, known_if, dead_if, unused_operation, unused_list, indirect_choice, one_sided_choice, idle_parts, two_sides, unused_object, known_operation}
+use Rattle.steps_allowed.specs.Edits.{Leaves, empty_statement, empty_block, unused_function, unused_declarator, unused_declaration, unused_import, unreached, untaken, idle_statement, Becomes, silent_statement, known_conditional, known_side, known_if, dead_if, unused_operation, unused_list, indirect_choice, one_sided_choice, idle_parts, two_sides, unused_object, known_operation, unrun_value}
 use Rattle.steps_owed.specs.Owed.{Leaving, Becoming}
 use Rattle.steps_owed.proofs.ByPart.{by_part}
 use Rattle.steps_owed.proofs.ByParts.{by_parts}
@@ -27,6 +27,7 @@ use Rattle.steps_owed.proofs.IdleParts.{idle_parts_owes}
 use Rattle.steps_owed.proofs.TwoSides.{two_sides_owes}
 use Rattle.steps_owed.proofs.UnusedObject.{unused_object_owes}
 use Rattle.steps_owed.proofs.KnownOperation.{known_operation_owes}
+use Rattle.steps_owed.proofs.UnrunValue.{unrun_value_owes}
 
 pub leaving : (a : Around) (x : Tree) → Leaves a x → Leaving a x
 leaving a x (empty_statement c) = empty_statement_owes a x c
@@ -53,3 +54,4 @@ becoming a x y (idle_parts c) = by_parts a x y (idle_parts_owes a x y c)
 becoming a x y (two_sides c) = by_parts a x y (two_sides_owes a x y c)
 becoming a x y (unused_object c) = by_parts a x y (unused_object_owes a x y c)
 becoming a x y (known_operation c) = by_parts a x y (known_operation_owes a x y c)
+becoming a x y (unrun_value c) = unrun_value_owes a x y c

@@ -1,14 +1,15 @@
 -- Where a node of a core module becomes a part that it comes to, the new module refines the old one.
-use Rattle.std.proofs.Common.{◌≡◌, ◌∙◌, inl, inr, [], ◌∷◌, Bool, true, false, ◌&&◌, None, Some, refl, sym, ap, subst, true≢false}
+use Rattle.std.proofs.Common.{◌≡◌, ◌∙◌, ◌⊎◌, inl, inr, [], ◌∷◌, Bool, true, false, ◌&&◌, None, Some, refl, sym, ap, subst, true≢false}
 use Rattle.js_syntax.specs.Class.{root}
 use Rattle.js_syntax.specs.declared.node_kind.NodeKind.{NodeKind as Kind}
 use Rattle.js_syntax.specs.declared.kind.FunctionKind.TheVariants as function_kind
 use Rattle.js_syntax.specs.declared.scalar.SourceType.TheVariants as source_type
 use Rattle.js_syntax.specs.Facts.{is_core}
-use Rattle.js_syntax.specs.Node.{Note, Forest, Tree, nothing, node, absent, nowhere, bare, below_of}
+use Rattle.js_syntax.specs.Node.{Note, Forest, Tree, nothing, node, absent, nowhere, bare, below_of, forest_of}
 use Rattle.js_syntax.specs.declared.value.ModuleName.{ModuleName}
 use Rattle.js_meaning.specs.Kept.{Refined}
 use Rattle.js_meaning.specs.Module.{specifier_of}
+use Rattle.js_meaning.specs.Scope.{names_of, bound_names}
 use Rattle.js_meaning.proofs.Kept.{refined_joined}
 use Rattle.js_meaning_near.specs.Names.{no_names}
 use Rattle.js_meaning_near.specs.Purpose.{Purpose, Purposes, for_values, purpose_here, purposes_behind, wanted_below}
@@ -31,10 +32,12 @@ use Rattle.steps_fit.proofs.Held.{core_here, core_below, core_behind, core_alone
 use Rattle.steps_fit.proofs.Holding.{is_sound, planned_below}
 use Rattle.steps_fit.proofs.Passing.{plan_passes, first_passes, behind_passes}
 use Rattle.steps_fit.proofs.Place.{program_in_place}
+use Rattle.steps_keep_form.specs.Part.{is_statement}
 use Rattle.steps_owed.specs.Comes.{Comes}
+use Rattle.steps_owed.specs.Owed.{is_read_name}
 use Rattle.steps_owed.proofs.Binders.{variables_bind, handler_binds, function_binds, plugged_bind, plugged_first_binds, plugged_parameters_bind}
 use Rattle.steps_owed.proofs.ExportsStay.{same_local, entries_stay, stars_stay, requests_stay}
-use Rattle.steps_owed.proofs.Made.{MadeBy, is_single, made_at, not_calm, object_stands, export_stands, name_not_calm}
+use Rattle.steps_owed.proofs.Made.{MadeBy, is_single, made_at, object_stands, export_stands, name_is_read}
 use Rattle.js_syntax.proofs.Truth.{both}
 
 -- ---- what is around stays
@@ -57,61 +60,74 @@ new_hoists (for_waste e w s) = (w no_names).new_hoists
 new_hoists (for_sides e s) = refl
 new_hoists (for_sequence s) = refl
 
-module _ (place : Around) (x y : Tree) (c : Comes place x y) where
-  pub core_stays : (a : Around) → all_core (plug a (Some x)) ≡ true → all_core (plug a (Some y)) ≡ true
-  core_stays (first rest) h =
-      let part = c.core (core_alone x.kind x.note x.below rest h) in
+calm_unread : (k : Kind) → is_calm k ≡ true → is_read_name k ≡ false
+calm_unread (Kind.ReferenceName x) h = absurd (true≢false (sym h))
+calm_unread k h = refl
+
+no_properties : (k : Kind) → k ≡ Kind.Properties → hoists_nothing k ≡ true → ⊥
+no_properties k is h = true≢false (sym h ∙ ap hoists_nothing is)
+
+module _ (x y : Tree) (core : all_core (forest_of x) ≡ true → all_core (forest_of y) ≡ true) where
+  pub core_kept : (a : Around) → all_core (plug a (Some x)) ≡ true → all_core (plug a (Some y)) ≡ true
+  core_kept (first rest) h =
+      let part = core (core_alone x.kind x.note x.below rest h) in
       both (is_core y.kind) (all_core y.below && all_core rest) (core_here y.kind y.note y.below nothing part)
       (both (all_core y.below) (all_core rest) (core_below y.kind y.note y.below nothing part) (core_behind x.kind x.note x.below rest h))
-  core_stays (behind k n below a) h =
+  core_kept (behind k n below a) h =
       both (is_core k) (all_core below && all_core (plug a (Some y))) (core_here k n below (plug a (Some x)) h)
-      (both (all_core below) (all_core (plug a (Some y))) (core_below k n below (plug a (Some x)) h) (core_stays a (core_behind k n below (plug a (Some x)) h)))
-  core_stays (behind_none a) h = core_stays a h
-  core_stays (under k n a rest) h =
+      (both (all_core below) (all_core (plug a (Some y))) (core_below k n below (plug a (Some x)) h) (core_kept a (core_behind k n below (plug a (Some x)) h)))
+  core_kept (behind_none a) h = core_kept a h
+  core_kept (under k n a rest) h =
       both (is_core k) (all_core (plug a (Some y)) && all_core rest) (core_here k n (plug a (Some x)) rest h)
-      (both (all_core (plug a (Some y))) (all_core rest) (core_stays a (core_below k n (plug a (Some x)) rest h)) (core_behind k n (plug a (Some x)) rest h))
+      (both (all_core (plug a (Some y))) (all_core rest) (core_kept a (core_below k n (plug a (Some x)) rest h)) (core_behind k n (plug a (Some x)) rest h))
 
-  -- what comes, but for notes below it
-  abbrev pub what_comes : Tree
-  what_comes = record { kind = y.kind; note = y.note; below = c.inner }
-
-  -- the keys of an object literal are of its properties, and no property is calm
-  keys_of_row : (a : Around) → keys (plug a (Some x)) ≡ keys (plug a (Some what_comes))
-  keys_of_row (first rest) = ap (λ k. k ∷ keys rest) (no_key x.kind (calm_hoists x.kind c.old_calm) ∙ sym (no_key what_comes.kind (new_hoists c.stands)))
+-- nodes that start nothing, of which the first is no name, and that bind the same where that is read
+module _ (x y : Tree) (old_hoists : hoists_nothing x.kind ≡ true) (unread : is_read_name x.kind ≡ false) (hoists : hoists_nothing y.kind ≡ true)
+    (binds : (is_statement x.kind ≡ true) ⊎ (names_of x.kind (bound_names x.below) ≡ names_of y.kind (bound_names y.below))) where
+  -- the keys of an object literal are of its properties, and no property starts nothing
+  keys_of_row : (a : Around) → keys (plug a (Some x)) ≡ keys (plug a (Some y))
+  keys_of_row (first rest) = ap (λ k. k ∷ keys rest) (no_key x.kind old_hoists ∙ sym (no_key y.kind hoists))
   keys_of_row (behind k n below a) = ap (λ ks. key_of k ∷ ks) (keys_of_row a)
   keys_of_row (behind_none a) = refl
   keys_of_row (under k n a rest) = refl
 
-  keys_of_object : (a : Around) → MadeBy Kind.ObjectExpression (plug a (Some x)) → keys (below_of (plug a (Some x))) ≡ keys (below_of (plug a (Some what_comes)))
-  keys_of_object (first rest) made = absurd (not_calm x.kind Kind.Properties (object_stands (plug (first rest) (Some x)) made).0.0 refl c.old_calm)
+  keys_of_object : (a : Around) → MadeBy Kind.ObjectExpression (plug a (Some x)) → keys (below_of (plug a (Some x))) ≡ keys (below_of (plug a (Some y)))
+  keys_of_object (first rest) made = absurd (no_properties x.kind (object_stands (plug (first rest) (Some x)) made).0.0 old_hoists)
   keys_of_object (behind k n below a) made = refl
   keys_of_object (behind_none a) made = refl
   keys_of_object (under k n a rest) made = keys_of_row a
 
   -- below a specifier of an export stands a name
-  exported_name : (exported : ModuleName) (a : Around) → MadeBy (Kind.ExportSpecifier exported) (plug a (Some x))
-      → specifier_of (Kind.ExportSpecifier exported) (plug a (Some x)) ≡ specifier_of (Kind.ExportSpecifier exported) (plug a (Some what_comes))
-  exported_name exported (first rest) made = absurd (name_not_calm x.kind x.below (export_stands exported (plug (first rest) (Some x)) made).0 c.old_calm)
-  exported_name exported (behind k n below a) made = same_local exported k n below below (plug a (Some x)) (plug a (Some what_comes))
+  exported_name : (exported : ModuleName) (a : Around) → MadeBy (Kind.ExportSpecifier exported) (plug a (Some x)) → specifier_of (Kind.ExportSpecifier exported) (plug a (Some x)) ≡ specifier_of (Kind.ExportSpecifier exported) (plug a (Some y))
+  exported_name exported (first rest) made = absurd (true≢false (sym (name_is_read x.kind x.below (export_stands exported (plug (first rest) (Some x)) made).0) ∙ unread))
+  exported_name exported (behind k n below a) made = same_local exported k n below below (plug a (Some x)) (plug a (Some y))
   exported_name exported (behind_none a) made = refl
-  exported_name exported (under k n a rest) made = same_local exported k n (plug a (Some x)) (plug a (Some what_comes)) rest rest
+  exported_name exported (under k n a rest) made = same_local exported k n (plug a (Some x)) (plug a (Some y)) rest rest
 
-  reads_same : (k : Kind) (a : Around) → (is_single k ≡ true → MadeBy k (plug a (Some x))) → ReadsSame k (plug a (Some x)) (plug a (Some what_comes))
+  pub reads_same : (k : Kind) (a : Around) → (is_single k ≡ true → MadeBy k (plug a (Some x))) → ReadsSame k (plug a (Some x)) (plug a (Some y))
   reads_same Kind.ObjectExpression a made = keys_of_object a (made refl)
   reads_same (Kind.ExportSpecifier exported) a made = exported_name exported a (made refl)
-  reads_same (Kind.VariableDeclaration how) a made = elim c.declares.binds [
-    | inl states ↦ variables_bind x states (λ a. plug a (Some what_comes)) (λ k n b a. refl) (λ a. refl) (λ k n a r. refl) how a (made refl)
-    | inr same ↦ plugged_bind x what_comes same a
+  reads_same (Kind.VariableDeclaration how) a made = elim binds [
+    | inl states ↦ variables_bind x states (λ a. plug a (Some y)) (λ k n b a. refl) (λ a. refl) (λ k n a r. refl) how a (made refl)
+    | inr same ↦ plugged_bind x y same a
   ]
-  reads_same Kind.CatchClause a made = elim c.declares.binds [
-    | inl states ↦ handler_binds x states (λ a. plug a (Some what_comes)) (λ k n b a. refl) (λ a. refl) (λ k n a r. refl) a (made refl)
-    | inr same ↦ plugged_first_binds x what_comes same a
+  reads_same Kind.CatchClause a made = elim binds [
+    | inl states ↦ handler_binds x states (λ a. plug a (Some y)) (λ k n b a. refl) (λ a. refl) (λ k n a r. refl) a (made refl)
+    | inr same ↦ plugged_first_binds x y same a
   ]
-  reads_same (Kind.Function how pure) a made = elim c.declares.binds [
-    | inl states ↦ function_binds x states (λ a. plug a (Some what_comes)) (λ k n b a. refl) (λ a. refl) (λ k n a r. refl) how pure a (made refl)
-    | inr same ↦ plugged_parameters_bind x what_comes same a
+  reads_same (Kind.Function how pure) a made = elim binds [
+    | inl states ↦ function_binds x states (λ a. plug a (Some y)) (λ k n b a. refl) (λ a. refl) (λ k n a r. refl) how pure a (made refl)
+    | inr same ↦ plugged_parameters_bind x y same a
   ]
   reads_same k a made = tt
+
+module _ (place : Around) (x y : Tree) (c : Comes place x y) where
+  pub core_stays : (a : Around) → all_core (plug a (Some x)) ≡ true → all_core (plug a (Some y)) ≡ true
+  core_stays a h = core_kept x y c.core a h
+
+  -- what comes, but for notes below it
+  abbrev pub what_comes : Tree
+  what_comes = record { kind = y.kind; note = y.note; below = c.inner }
 
   local_as_planned : (us : Purposes) (o : NearRow) (a : Around) → wanted_in us a ≡ wanted_at place → (plan : Plan) → plan_passes is_sound plan ≡ true → Stand plan (plug a (Some x)) → Local us o (plug a (Some x)) (plug a (Some what_comes))
   local_as_planned us o (first rest) e plan h st = at_place (subst (λ u. Stands u x.kind x.below what_comes.kind what_comes.below) (sym e) c.stands) c.declares.plainly
@@ -119,7 +135,7 @@ module _ (place : Around) (x y : Tree) (c : Comes place x y) where
   local_as_planned us o (behind_none a) e plan h st = in_absent (local_as_planned (purposes_behind us) o a e (shape.behind plan Kind.Hole) (behind_passes is_sound plan Kind.Hole h) st.1)
   local_as_planned us o (under k n a rest) e plan h st =
       let planned = planned_below (plug a (Some x)) (first_place plan) k st.0 in
-      in_below (reads_same k a (λ single. made_at (plug a (Some x)) k single (first_place plan) (first_passes is_sound plan refl h) st.0)) (local_as_planned (wanted_below (purpose_here us (is_row rest)) k) (near_row_below k) a e planned.0 planned.1 planned.2)
+      in_below (reads_same x what_comes (calm_hoists x.kind c.old_calm) (calm_unread x.kind c.old_calm) (new_hoists c.stands) c.declares.binds k a (λ single. made_at (plug a (Some x)) k single (first_place plan) (first_passes is_sound plan refl h) st.0)) (local_as_planned (wanted_below (purpose_here us (is_row rest)) k) (near_row_below k) a e planned.0 planned.1 planned.2)
 
 pub part_is_local : (a : Around) (x y : Tree) (c : Comes a x y) → Fits root (plug a (Some x)) → Local for_values fields (plug a (Some x)) (plug a (Some (what_comes a x y c)))
 part_is_local a x y c fits = local_as_planned a x y c for_values fields a refl (these (one root ∷ [])) refl fits

@@ -1,5 +1,5 @@
 -- What a statement of a silent expression owes, which becomes empty.
-use Rattle.std.proofs.Common.{inr, ◌≡◌, false, not, Some, arith, refl, ap}
+use Rattle.std.proofs.Common.{inl, inr, ◌≡◌, false, not, Some, arith, refl, ap}
 use Rattle.js_syntax.specs.Class.{Class}
 use Rattle.js_syntax.specs.declared.node_kind.NodeKind.{NodeKind as Kind}
 use Rattle.js_syntax.specs.Node.{Tree, alone}
@@ -33,9 +33,9 @@ silent_statement_owes a x y (silent_statement_empties n m l k inner silent) =
     let t = plug a (Some old) in
     record {
       lighter = Prim.omega arith;
-      no_call = record { counts = ap (counted Kind.ExpressionStatement) no_call; lists = λ i. refl; begins = λ i. refl; calls = refl };
+      no_call = record { counts = ap (counted Kind.ExpressionStatement) no_call; lists = λ i. refl; begins = λ i. refl; calls = inl refl };
       ends = inr refl;
-      may_change = ap not no_call;
+      may_change = inl (ap not no_call);
       fits = becoming_fits a old y (empty_takes old y a (silent_statement_empties n m l k inner silent));
       sheds = λ fits. emptied_sheds a n m expression (fits_laid_out t fits);
       kept = λ fits s kept. emptied_keeps a n m l k inner silent (fits_program t fits) (fits_enclosed t fits) s kept;

@@ -170,25 +170,37 @@ not_nothing (behind k n below a) x e = cc
 not_nothing (behind_none a) x e = cc
 not_nothing (under k n a rest) x e = cc
 
-abbrev begins_calm : Forest → Bool
-begins_calm (node k n a r) = is_calm k
-begins_calm t = false
+abbrev pub is_root : Kind → Bool
+is_root (Kind.Program source) = true
+is_root k = false
 
-placed_in : (a : Around) (x : Tree) (source : SourceType) (n : Note) (t : Forest) (ps : ℕ → Place) → is_calm x.kind ≡ true
+calm_no_root : (k : Kind) → is_calm k ≡ true → is_root k ≡ false
+calm_no_root (Kind.Program source) h = absurd (true≢false (sym h))
+calm_no_root k h = refl
+
+abbrev begins_root : Forest → Bool
+begins_root (node k n a r) = is_root k
+begins_root t = false
+
+placed_in : (a : Around) (x : Tree) (source : SourceType) (n : Note) (t : Forest) (ps : ℕ → Place) → is_root x.kind ≡ false
     → plug a (Some x) ≡ node (Kind.Program source) n t nothing → well_placed ps 0 t ≡ true → PlacedBelow x
-placed_in (first rest) x source n t ps calm e w = absurd (true≢false (sym calm ∙ ap begins_calm e))
-placed_in (behind k i below a) x source n t ps calm e w = absurd (not_nothing a x (ap scope.behind e))
-placed_in (behind_none a) x source n t ps calm e w = absurd cc
-placed_in (under k i a rest) x source n t ps calm e w = placed_there a x ps 0 (subst (λ u. well_placed ps 0 u ≡ true) (sym (ap below_of e)) w)
+placed_in (first rest) x source n t ps inner e w = absurd (true≢false (sym (ap begins_root e) ∙ inner))
+placed_in (behind k i below a) x source n t ps inner e w = absurd (not_nothing a x (ap scope.behind e))
+placed_in (behind_none a) x source n t ps inner e w = absurd cc
+placed_in (under k i a rest) x source n t ps inner e w = placed_there a x ps 0 (subst (λ u. well_placed ps 0 u ≡ true) (sym (ap below_of e)) w)
 
 -- a node below which no place leads to imports
-pub no_imports_there : (n m : Note) (b : Forest) (a : Around) (x : Tree) → plug a (Some x) ≡ module_of n m b → is_well_placed (module_of n m b) ≡ true → is_calm x.kind ≡ true
+pub no_imports_inside : (n m : Note) (b : Forest) (a : Around) (x : Tree) → plug a (Some x) ≡ module_of n m b → is_well_placed (module_of n m b) ≡ true → is_root x.kind ≡ false
     → ((p : Place) (i : ℕ) → lead_to_imports (place_below p x.kind i) ≡ false) → (source : Text) → import_decls source x.below ≡ []
-no_imports_there n m b a x e w calm leads source =
+no_imports_inside n m b a x e w inner leads source =
     let list = node Kind.Statements m b nothing in
     let ps = place_below others (Kind.Program source_type.Module) in
-    let there = placed_in a x source_type.Module n list ps calm e (first_of_both (well_placed ps 0 list) (has_plain_values list) w) in
+    let there = placed_in a x source_type.Module n list ps inner e (first_of_both (well_placed ps 0 list) (has_plain_values list) w) in
     no_imports source (place_below there.0 x.kind) 0 x.below (leads there.0) there.1
+
+pub no_imports_there : (n m : Note) (b : Forest) (a : Around) (x : Tree) → plug a (Some x) ≡ module_of n m b → is_well_placed (module_of n m b) ≡ true → is_calm x.kind ≡ true
+    → ((p : Place) (i : ℕ) → lead_to_imports (place_below p x.kind i) ≡ false) → (source : Text) → import_decls source x.below ≡ []
+no_imports_there n m b a x e w calm leads source = no_imports_inside n m b a x e w (calm_no_root x.kind calm) leads source
 
 -- ---- what declares nothing
 

@@ -32,9 +32,9 @@ use Rattle.steps_owed.proofs.Made.{MadeBy, is_single, made_at}
 
 -- ---- outside of a row that never runs it shows what it declares there
 
-record Outside (t u : Forest) : Type 0 where
-  vars : var_names t ≡ var_names u
-  imports : (source : Text) → import_decls source t ≡ import_decls source u
+pub record Outside (t u : Forest) : Type 0 where
+  pub vars : var_names t ≡ var_names u
+  pub imports : (source : Text) → import_decls source t ≡ import_decls source u
 
 no_kind : {A : Type 0} → false ≡ true → A
 no_kind e = absurd (true≢false (sym e))
@@ -62,7 +62,7 @@ outside_under k n rest {t} {u} h o = record {
 
 -- ---- below an `if`
 
-known_so : (b : Bool) (o : Option Bool) → is_known (Some b) o ≡ true → o ≡ Some b
+pub known_so : (b : Bool) (o : Option Bool) → is_known (Some b) o ≡ true → o ≡ Some b
 known_so true (Some true) h = refl
 known_so false (Some false) h = refl
 known_so true (Some false) h = no_kind h
@@ -94,31 +94,51 @@ one_field nothing st = absurd st
 one_field (absent r) st = subst (λ u. IsField (absent u)) (sym (no_more r st.1)) tt
 one_field (node k n a r) st = subst (λ u. IsField (node k n a u)) (sym (no_more r st.1)) tt
 
-module _ (x : Tree) where
-  branch_changes : (us : Purposes) (o : NearRow) (n : Note) (a : Around) (rest : Forest) → leads_to_untaken a ≡ true → Stand Parts (plug a (Some x)) → Outside (plug a (Some x)) (without a)
-      → Local us o (node Kind.IfStatement n (plug a (Some x)) rest) (node Kind.IfStatement n (without a) rest)
+-- a place with another node in it, or without one in its row
+abbrev pub put : Option Tree → Around → Forest
+put (Some y) (first rest) = node y.kind y.note y.below rest
+put None (first rest) = rest
+put o (behind k n b a) = node k n b (put o a)
+put o (behind_none a) = absent (put o a)
+put o (under k n a rest) = node k n (put o a) rest
+
+put_none : (a : Around) → put None a ≡ without a
+put_none (first rest) = refl
+put_none (behind k n b a) = ap (λ t. node k n b t) (put_none a)
+put_none (behind_none a) = ap absent (put_none a)
+put_none (under k n a rest) = ap (λ t. node k n t rest) (put_none a)
+
+pub put_some : (y : Tree) (a : Around) → put (Some y) a ≡ plug a (Some y)
+put_some y (first rest) = refl
+put_some y (behind k n b a) = ap (λ t. node k n b t) (put_some y a)
+put_some y (behind_none a) = ap absent (put_some y a)
+put_some y (under k n a rest) = ap (λ t. node k n t rest) (put_some y a)
+
+module _ (x : Tree) (z : Option Tree) where
+  branch_changes : (us : Purposes) (o : NearRow) (n : Note) (a : Around) (rest : Forest) → leads_to_untaken a ≡ true → Stand Parts (plug a (Some x)) → Outside (plug a (Some x)) (put z a)
+      → Local us o (node Kind.IfStatement n (plug a (Some x)) rest) (node Kind.IfStatement n (put z a) rest)
   branch_changes us o n (behind t m d (behind k i b (under l j a r))) rest leads st same =
       let tells = test_tells t m d true (known_so true (truth_known t m d) leads) in
-      let goes : (r : Forest) → r ≡ nothing → Outside (node t m d (node k i b (node l j (plug a (Some x)) r))) (node t m d (node k i b (node l j (without a) r)))
-      → Local us o (node Kind.IfStatement n (node t m d (node k i b (node l j (plug a (Some x)) r))) rest) (node Kind.IfStatement n (node t m d (node k i b (node l j (without a) r))) rest)
-      = λ r e. subst (λ r. Outside (node t m d (node k i b (node l j (plug a (Some x)) r))) (node t m d (node k i b (node l j (without a) r)))
-      → Local us o (node Kind.IfStatement n (node t m d (node k i b (node l j (plug a (Some x)) r))) rest) (node Kind.IfStatement n (node t m d (node k i b (node l j (without a) r))) rest)) (sym e)
-      (λ s. at_place (for_part (λ st. alternate_changes t m i d k (purpose_here us (is_row rest)) st b j l (plug a (Some x)) (without a) tells)) (record { vars = s.vars; imports = s.imports })) in
+      let goes : (r : Forest) → r ≡ nothing → Outside (node t m d (node k i b (node l j (plug a (Some x)) r))) (node t m d (node k i b (node l j (put z a) r)))
+      → Local us o (node Kind.IfStatement n (node t m d (node k i b (node l j (plug a (Some x)) r))) rest) (node Kind.IfStatement n (node t m d (node k i b (node l j (put z a) r))) rest)
+      = λ r e. subst (λ r. Outside (node t m d (node k i b (node l j (plug a (Some x)) r))) (node t m d (node k i b (node l j (put z a) r)))
+      → Local us o (node Kind.IfStatement n (node t m d (node k i b (node l j (plug a (Some x)) r))) rest) (node Kind.IfStatement n (node t m d (node k i b (node l j (put z a) r))) rest)) (sym e)
+      (λ s. at_place (for_part (λ st. alternate_changes t m i d k (purpose_here us (is_row rest)) st b j l (plug a (Some x)) (put z a) tells)) (record { vars = s.vars; imports = s.imports })) in
       goes r (no_more r st.1.1.1) same
   branch_changes us o n (behind t m d (behind k i b (first r))) rest leads st same = no_kind leads
   branch_changes us o n (behind t m d (behind k i b (behind l j c a))) rest leads st same = no_kind leads
   branch_changes us o n (behind t m d (behind k i b (behind_none a))) rest leads st same = no_kind leads
   branch_changes us o n (behind t m d (under k i a r)) rest leads st same =
       let tells = test_tells t m d false (known_so false (truth_known t m d) leads) in
-      at_place (for_part (λ s. consequent_changes t m i d k (purpose_here us (is_row rest)) s (plug a (Some x)) (without a) r tells (one_field r st.1.1))) (record { vars = same.vars; imports = same.imports })
+      at_place (for_part (λ s. consequent_changes t m i d k (purpose_here us (is_row rest)) s (plug a (Some x)) (put z a) r tells (one_field r st.1.1))) (record { vars = same.vars; imports = same.imports })
   branch_changes us o n (behind t m d (first r)) rest leads st same = no_kind leads
   branch_changes us o n (behind t m d (behind_none a)) rest leads st same = no_kind leads
   branch_changes us o n (first r) rest leads st same = no_kind leads
   branch_changes us o n (behind_none a) rest leads st same = no_kind leads
   branch_changes us o n (under k i a r) rest leads st same = no_kind leads
 
-  begins : (us : Purposes) (o : NearRow) (k : Kind) (n : Note) (a : Around) (rest : Forest) → begins_untaken k a ≡ true → (is_single k ≡ true → MadeBy k (plug a (Some x)))
-      → Outside (plug a (Some x)) (without a) → Local us o (node k n (plug a (Some x)) rest) (node k n (without a) rest)
+  pub begins : (us : Purposes) (o : NearRow) (k : Kind) (n : Note) (a : Around) (rest : Forest) → begins_untaken k a ≡ true → (is_single k ≡ true → MadeBy k (plug a (Some x)))
+      → Outside (plug a (Some x)) (put z a) → Local us o (node k n (plug a (Some x)) rest) (node k n (put z a) rest)
   begins us o Kind.IfStatement n a rest here made same = branch_changes us o n a rest here (if_parts (plug a (Some x)) (made refl)) same
   begins us o k n a rest here made same = no_kind here
 
@@ -144,7 +164,7 @@ module _ (x : Tree) (states : is_statement x.kind ≡ true) (declares : Declares
       elim (local_untaken (wanted_below (purpose_here us (is_row rest)) k) (near_row_below k) (asked_below w k) a (u && runs_inside k || begins_untaken k a) item is planned.0 planned.1 planned.2) [
         | inl found ↦ elim (or_cases (u && runs_inside k) (begins_untaken k a) found.0) [
           | inl around ↦ inl (first_of_both u (runs_inside k) around, outside_under k n rest (second_of_both u (runs_inside k) around) found.1)
-          | inr here ↦ inr (begins x us o k n a rest here single found.1)
+          | inr here ↦ inr (subst (λ t. Local us o (node k n (plug a (Some x)) rest) (node k n t rest)) (put_none a) (begins x None us o k n a rest here single (subst (Outside (plug a (Some x))) (sym (put_none a)) found.1)))
         ]
         | inr change ↦ inr (in_below (reads_same x states w k a item single) change)
       ]

@@ -36,6 +36,7 @@ use Rattle.steps_allowed.specs.Exposure.{exposure, evaluates_somewhere}
 use Rattle.steps_allowed.specs.Changing.{may_change_at}
 use Rattle.steps_allowed.specs.Unreached.{is_behind_jump}
 use Rattle.steps_allowed.specs.Untaken.{is_untaken}
+use Rattle.steps_allowed.specs.UnrunValue.{is_unrun, is_value}
 use Rattle.steps_owed.specs.Comes.{Comes}
 use Rattle.steps_owed.specs.Good.{Good}
 use Rattle.steps_owed.specs.Kept.{IsKept}
@@ -51,6 +52,13 @@ pub record IsOther (x : Tree) : Type 0 where
   pub lists : (m : ℕ) → of_list x.kind m ≡ 0
   pub begins : (m : ℕ) → of_program x.kind m ≡ 0
   pub calls : is_call x.kind ≡ false
+
+-- a kind that counts no calls; and it is none itself, or stands behind a declared name
+pub record IsUncalled (a : Around) (x : Tree) : Type 0 where
+  pub counts : counted x.kind (begins_with_call x.below) ≡ 0
+  pub lists : (m : ℕ) → of_list x.kind m ≡ 0
+  pub begins : (m : ℕ) → of_program x.kind m ≡ 0
+  pub calls : (is_call x.kind ≡ false) ⊎ (is_value a ≡ true)
 
 -- a place behind a jump, or in a branch that isn't taken
 abbrev pub NeverRuns : (jumped : Bool) → Around → Type 0
@@ -96,17 +104,20 @@ pub record Leaving (a : Around) (x : Tree) : Type 0 where
   pub unexported : At a (Some x) (IsUnexported (plug a (Some x)) x)
   pub runs : LeavesRuns a x
 
--- How it is known that a core module does what it did: by a step, or since the old node comes to what the new one does.
+-- How it is known that a core module does what it did: by a step, since the old node comes to what the new one does, or since the change is
+-- one that no run shows.
 pub data SameRuns (a : Around) (x y : Tree) : Type 0 where
   by_step : (is_well_placed (plug a (Some x)) ≡ true → Good (plug a (Some x)) → Step steps.outermost (plug a (Some x)) (plug a (Some y))) → SameRuns a x y
   by_coming : ((n m : Note) (b : Forest) → plug a (Some x) ≡ module_of n m b → Fits root (module_of n m b) → IsWellFormed (module_of n m b) → all_core (module_of n m b) ≡ true → Comes a x y) → SameRuns a x y
+  by_changing : ((n m : Note) (b : Forest) → plug a (Some x) ≡ module_of n m b → Fits root (module_of n m b) → IsWellFormed (module_of n m b) → all_core (module_of n m b) ≡ true → Local for_values fields (plug a (Some x)) (plug a (Some y)) × (all_core (plug a (Some y)) ≡ true))
+      → SameRuns a x y
 
 -- A node that becomes another in its place.
 pub record Becoming (a : Around) (x y : Tree) : Type 0 where
   pub lighter : total weight (forest_of y) < total weight (forest_of x)
-  pub no_call : IsOther x
+  pub no_call : IsUncalled a x
   pub ends : (may_end x.kind ≡ true) ⊎ (may_end y.kind ≡ false)
-  pub may_change : MayChange a x
+  pub may_change : MayChange a x ⊎ (is_unrun false a ≡ true)
   -- the table of node types, the rules of form, and the table of scopes, symbols and references
   pub fits : Fits root (plug a (Some x)) → Fits root (plug a (Some y))
   pub sheds : Fits root (plug a (Some x)) → Sheds shed.outermost (plug a (Some x)) (plug a (Some y))

@@ -1,6 +1,6 @@
 -- Which small programs have dead code.
 use Rattle.std.proofs.Common.{◌≡◌, ◌∙◌, inl, inr, ℕ, [], ◌∷◌, pos, Bool, true, false, ◌||◌, true≢false, Option, Some, None, bytes_eq, codes, refl, sym, ap, arith}
-use Rattle.std.proofs.lemmas.Bool.{or_left, or_right}
+use Rattle.std.proofs.lemmas.Bool.{or_cases, or_left, or_right}
 use Rattle.js_syntax.specs.Class.{root, expression, object_item, callee, declared_name, binding_element, function_block}
 use Rattle.js_syntax.specs.declared.node_kind.NodeKind.{NodeKind as Kind}
 use Rattle.js_syntax.specs.declared.scalar.SourceType.TheVariants as source_type
@@ -25,7 +25,7 @@ use Rattle.scope_laws.specs.Exact.{Among}
 use Rattle.scope_laws.specs.Place.{Around, first, behind, behind_none, under, plug}
 use Rattle.steps_names.specs.Standing.{exported_declarations}
 use Rattle.steps.specs.Steps.{binds_import}
-use Rattle.steps_allowed.specs.Rows.{null, in_list, in_statement, past, throws, statement, called, argument, before, sequence, applied, call_of_a, call_of_eval, exports_declaration, empty, only_import}
+use Rattle.steps_allowed.specs.Rows.{null, value_of_a, in_list, in_statement, past, throws, statement, called, argument, before, sequence, applied, call_of_a, call_of_eval, exports_declaration, empty, only_import}
 use Rattle.steps_allowed.specs.KnownConditional.{consequent_is_taken, alternate_is_taken}
 use Rattle.steps_allowed.specs.KnownSide.{right_side_counts, left_side_decides}
 use Rattle.steps_allowed.specs.UnusedOperation.{needed_at, one_operand_acts}
@@ -42,9 +42,10 @@ use Rattle.steps_allowed.specs.EmptyBlock.{holds_nothing, empty_block_leaves}
 use Rattle.steps_allowed.specs.Unreached.{only_runs, never_runs}
 use Rattle.steps_allowed.specs.Untaken.{never_taken}
 use Rattle.steps_allowed.specs.IdleStatement.{idle_leaves}
+use Rattle.steps_allowed.specs.UnrunValue.{is_value_of, is_value, value_never_given}
 use Rattle.steps_allowed.specs.Uses.{Use}
 use Rattle.steps_owed.proofs.IdleStatement.{idle_runs}
-use Rattle.headline.specs.Clean.{IsDead, an_empty_statement, an_empty_block, a_silent_statement, an_unused_function, an_unused_declarator, an_unused_import, a_known_conditional, a_known_side, an_unused_operation, an_unused_list, an_indirect_choice, a_one_sided_choice, idle_parts, two_sides, an_unused_object, a_known_operation, a_known_if, a_dead_if, an_unreached_statement, an_untaken_statement, an_idle_statement, Clean}
+use Rattle.headline.specs.Clean.{IsDead, an_empty_statement, an_empty_block, a_silent_statement, an_unused_function, an_unused_declarator, an_unused_import, a_known_conditional, a_known_side, an_unused_operation, an_unused_list, an_indirect_choice, a_one_sided_choice, idle_parts, two_sides, an_unused_object, a_known_operation, a_known_if, a_dead_if, an_unreached_statement, an_untaken_statement, an_unrun_value, an_idle_statement, Clean}
 use Rattle.min_peephole.specs.Quiet.{is_quiet}
 use Rattle.min_peephole.proofs.Quieted.{quiet_clean}
 use Rattle.test_headline.specs.Rows as row
@@ -164,6 +165,12 @@ unreached_is_dead c = c.nothing_is_dead behind_throw _ refl (an_unreached_statem
 -- l: while (null) a();
 pub loop_is_dead : Clean row.never_turns → ⊥
 loop_is_dead c = c.nothing_is_dead (before []) _ refl (an_idle_statement (before []) _ (idle_leaves refl refl refl))
+
+-- if (null) var a = b(); use(a);
+pub value_is_dead : Clean row.gives_call → ⊥
+value_is_dead c =
+    let place = in_list (under Kind.IfStatement nowhere (past null (value_of_a variable.Var no)) row.use_of_a) in
+    c.nothing_is_dead place _ refl (an_unrun_value place _ _ (value_never_given nowhere _ refl refl refl))
 
 -- if (null) { var a = 1; b(); } use(a);
 abbrev behind_variable : Around
@@ -571,6 +578,22 @@ suspect_there (behind k n b a) x h = or_right (is_suspect k) (has_suspect b || h
 suspect_there (behind_none a) x h = suspect_there a x h
 suspect_there (under k n a rest) x h = or_right (is_suspect k) (has_suspect (plug a (Some x)) || has_suspect rest) (or_left (has_suspect (plug a (Some x))) (has_suspect rest) (suspect_there a x h))
 
+-- a value stands in a declarator
+declarator_suspect : (k : Kind) (a : Around) → is_value_of k a ≡ true → is_suspect k ≡ true
+declarator_suspect Kind.VariableDeclarator a h = refl
+declarator_suspect k a h = absurd (true≢false (sym h))
+
+value_suspect : (a : Around) (x : Tree) → is_value a ≡ true → has_suspect (plug a (Some x)) ≡ true
+value_suspect (first rest) x h = absurd (true≢false (sym h))
+value_suspect (behind k n b a) x h = or_right (is_suspect k) (has_suspect b || has_suspect (plug a (Some x))) (or_right (has_suspect b) (has_suspect (plug a (Some x))) (value_suspect a x h))
+value_suspect (behind_none a) x h = value_suspect a x h
+value_suspect (under k n a rest) x h =
+    let t = plug a (Some x) in
+    elim (or_cases (is_value_of k a) (is_value a) h) [
+      | inl here ↦ or_left (is_suspect k) (has_suspect t || has_suspect rest) (declarator_suspect k a here)
+      | inr further ↦ or_right (is_suspect k) (has_suspect t || has_suspect rest) (or_left (has_suspect t) (has_suspect rest) (value_suspect a x further))
+    ]
+
 needed_suspect : (k : Kind) (below : Forest) (i : ℕ) → needed_at k below ≡ Some i → is_suspect k ≡ true
 needed_suspect Kind.ConditionalExpression below i h = refl
 needed_suspect (Kind.LogicalExpression o) below i h = refl
@@ -662,6 +685,7 @@ dead_suspect t a x is (a_dead_if b y z (nothing_is_run n m i j v k c d truth non
 dead_suspect t a x is (an_empty_block b y (empty_block_leaves item held)) = ap has_suspect is ∙ suspect_there b y (block_suspect y.kind y.below held)
 dead_suspect t a x is (an_unreached_statement b y (never_runs item jump runs none)) = ap has_suspect is ∙ suspect_there b y (runs_suspect y.kind runs)
 dead_suspect t a x is (an_untaken_statement b y (never_taken item untaken runs none)) = ap has_suspect is ∙ suspect_there b y (runs_suspect y.kind runs)
+dead_suspect t a x is (an_unrun_value b y _ (value_never_given n _ given unrun drops)) = ap has_suspect is ∙ value_suspect b y given
 dead_suspect t a x is (an_idle_statement b y (idle_leaves item idle none)) = ap has_suspect is ∙ suspect_there b y (runs_suspect y.kind (idle_runs y.kind y.below idle))
 
 -- A declaration goes with the last of its declarators, and stays where it has none.

@@ -221,6 +221,10 @@ runs_no_branch = form.a_module (if_null (form.does call_of_a) form.no ∷ [])
 abbrev pub use_of_a : Forest
 use_of_a = calls (form.reads (codes "use")) (form.reads form.a ∷ [])
 
+-- if (null) var a = b(); use(a);
+abbrev pub gives_call : Forest
+gives_call = form.a_module (if_null (form.declares variable.Var (form.binds form.a) call_of_b) form.no ∷ use_of_a ∷ [])
+
 -- l: while (null) a();
 abbrev pub never_turns : Forest
 never_turns = form.a_module (labeled (while_ null (form.does call_of_a)) ∷ [])

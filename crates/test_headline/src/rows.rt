@@ -66,7 +66,8 @@ pub fn what_others_may_use_stays()
 /// `1;` doesn't stay, nor does the conditional of `a(true ? a : b);`, of `(1 ? o.g : null)();` or of `a ? b() : 1;`, what stands right in
 /// `null && a();`, what of `!(a() === 1);`, of `[a(), 1];` and of `({ a: a() });` is no call, the `1` of `use((1, a));`, the comparison
 /// of `a() === b();`, the negation of `use(!0);`, the `if` of `if (1) a(); else b();` and of `if (null) a();`, the call of `throw 1; a();`,
-/// that of `b` in `if (null) { var a = 1; b(); } use(a);`, `l: { {} }`, or `l: while (null) a();`.
+/// that of `b` in `if (null) { var a = 1; b(); } use(a);`, `l: { {} }`, `l: while (null) a();`, or the call of
+/// `if (null) var a = b(); use(a);`.
 pub fn dead_code_goes()
     ensures number { Headline row.dead row.dead → ⊥ }
     ensures conditional { Headline row.takes_branch row.takes_branch → ⊥ }
@@ -85,6 +86,7 @@ pub fn dead_code_goes()
     ensures untaken { Headline row.keeps_variable row.keeps_variable → ⊥ }
     ensures block { Headline row.labels_nothing row.labels_nothing → ⊥ }
     ensures never_turns { Headline row.never_turns row.never_turns → ⊥ }
+    ensures unrun { Headline row.gives_call row.gives_call → ⊥ }
 {}
 
 /// `1;` is dead code, and so are `{ ; }`'s empty statement, a function that nothing calls, one of two declarators, a name of an import that
@@ -95,8 +97,8 @@ pub fn dead_code_goes()
 /// both sides act: `a() === b();`, an object literal of which nobody takes the value, that holds a call: `({ a: a() });`, an operation
 /// on a literal, of which the value is known: `use(!0);`, an `if` on a literal, whether a branch of it runs: `if (1) a(); else b();`, or
 /// none: `if (null) a();`, a statement behind a jump: `throw 1; a();`, one of a branch that isn't taken and has to stay for
-/// the name that it declares: `if (null) { var a = 1; b(); } use(a);`, a block of nothing, or what labels one: `l: { {} }`, and a loop that
-/// never turns: `l: while (null) a();`.
+/// the name that it declares: `if (null) { var a = 1; b(); } use(a);`, a block of nothing, or what labels one: `l: { {} }`, a loop that
+/// never turns: `l: while (null) a();`, and a value that is never given: `if (null) var a = b(); use(a);`.
 pub fn dead_code_is_told()
     ensures number { Clean (a_module (does one ∷ [])) → ⊥ }
     ensures empty { Clean (a_module (block (empty ∷ []) ∷ [])) → ⊥ }
@@ -120,6 +122,7 @@ pub fn dead_code_is_told()
     ensures untaken { Clean row.keeps_variable → ⊥ }
     ensures block { Clean row.labels_nothing → ⊥ }
     ensures never_turns { Clean row.never_turns → ⊥ }
+    ensures unrun { Clean row.gives_call → ⊥ }
 {}
 
 /// A call is none, nor a function that is exported, a variable beside a direct call of `eval`, a function of a script, a

@@ -1,7 +1,7 @@
 use Rattle.std.proofs.Common.{◌≡◌, ◌∙◌, ◌+◌, Bool, true, if◌then◌else◌, ap, drop, set, length, sym, arith}
 use Rattle.js_syntax.specs.Node.{row}
 use Rattle.js_tree.specs.Weight.{size_of}
-use Rattle.rules_expressions.specs.Untaken.{is_list, rid}
+use Rattle.rules_expressions.specs.Untaken.{is_list, values_of, values_rid, rid}
 use Rattle.steps_allowed.specs.Untaken.{runs_inside}
 use Rattle.min_statements.specs.Untaken.{kept_of, each_rid, rid_one}
 use Rattle.min_statements.proofs.Kept.{changing, changing_first, changing_next, changed, same_tree, written}
@@ -42,4 +42,4 @@ rid_inside-returns-then-runs_inside t c =
     ∙ ap each_rid (ap row c.as_mut_slice.ensures.value ∙ c.keep_items.ensures ∙ ap (kept_of c.is_list-listed.result) c.replace_children-items.ensures.taken)
     ∙ kept_rid c.is_list-listed.result below
     ∙ ap (λ (b : Bool). rid b below) listed
-    ∙ sym (ap (λ (b : Bool). if b then rid (is_list k) below else below) runs))
+    ∙ sym (ap (λ (b : Bool). if b then rid (is_list k) below else values_of k below (values_rid below)) runs))

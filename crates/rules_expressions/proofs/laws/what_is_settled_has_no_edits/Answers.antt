@@ -1,4 +1,4 @@
-use Rattle.rules_expressions.proofs.Settled.{no_conditional, no_side, no_unused, no_list, no_indirect, no_one_sided, no_sequence, no_two_sides, no_object, no_known, no_known_if, no_dead_if, no_unreached, no_untaken, no_idle, is_settled}
+use Rattle.rules_expressions.proofs.Settled.{no_conditional, no_side, no_unused, no_list, no_indirect, no_one_sided, no_sequence, no_two_sides, no_object, no_known, no_known_if, no_dead_if, no_unreached, no_untaken, no_idle, no_value, is_settled}
 use Rattle.rules_expressions.proofs.laws.what_is_settled_has_no_edits.Goals as goal
 
 pub returns-clause-conditional : goal.returns-clause-conditional
@@ -45,6 +45,9 @@ returns-clause-untaken c = no_untaken
 
 pub returns-clause-idle : goal.returns-clause-idle
 returns-clause-idle c = no_idle
+
+pub returns-clause-unrun : goal.returns-clause-unrun
+returns-clause-unrun c = no_value
 
 pub returns-clause-settled : goal.returns-clause-settled
 returns-clause-settled c = is_settled
