@@ -36,7 +36,7 @@ use Rattle.steps_allowed.specs.SilentStatement.{SilentStatement}
 use Rattle.steps_allowed.specs.UnusedFunction.{a_function}
 use Rattle.steps_allowed.specs.UnusedDeclarator.{a_declarator, SilentDeclarator}
 use Rattle.steps_allowed.specs.UnusedImport.{an_imported}
-use Rattle.steps_allowed.specs.KnownConditional.{truth_known, KnownConditional, consequent_is_taken, alternate_is_taken}
+use Rattle.steps_allowed.specs.KnownConditional.{KnownConditional, consequent_is_taken, alternate_is_taken}
 use Rattle.steps_allowed.specs.KnownSide.{KnownSide, right_side_counts, left_side_decides}
 use Rattle.steps_allowed.specs.UnusedOperation.{UnusedOperation, one_operand_acts}
 use Rattle.steps_allowed.specs.UnusedList.{UnusedList, acting_parts_stay}
@@ -53,7 +53,7 @@ use Rattle.steps_allowed.specs.EmptyBlock.{holds_nothing, EmptyBlock, empty_bloc
 use Rattle.steps_allowed.specs.Unreached.{is_behind_jump, Unreached, never_runs}
 use Rattle.steps_allowed.specs.IdleStatement.{does_nothing, IdleStatement, idle_leaves}
 use Rattle.steps_allowed.specs.UnrunValue.{passes, is_unrun, is_value_of, is_value, a_zero, UnrunValue, value_never_given}
-use Rattle.steps_allowed.specs.Untaken.{untaken_where, is_known, leads_to_untaken, begins_untaken, runs_inside, is_untaken, Untaken, never_taken}
+use Rattle.steps_allowed.specs.Untaken.{truth_given, untaken_where, is_known, leads_to_untaken, begins_untaken, runs_inside, is_untaken, Untaken, never_taken}
 use Rattle.steps_owed.proofs.Changing.{cuts_bare}
 use Rattle.steps_owed.proofs.ExposedBare.{bare_inside, bare_below, bare_exposed}
 use Rattle.steps_owed.proofs.Focus.{follows_there}
@@ -62,7 +62,7 @@ use Rattle.headline.proofs.RenotedUnused.{stands_as, needed_as, child_as, list_a
 use Rattle.headline.proofs.RenotedChoice.{counts_as}
 use Rattle.headline.proofs.RenotedParts.{side_as, sequence_as}
 use Rattle.headline.proofs.RenotedSides.{two_sides_as, object_as}
-use Rattle.headline.proofs.RenotedKnown.{known_as, truth_bare, truth_as, side_as as known_side_as}
+use Rattle.headline.proofs.RenotedKnown.{known_as, given_bare, truth_as, side_as as known_side_as}
 use Rattle.steps_owed.proofs.EmptyBlock.{holds_bare}
 use Rattle.headline.proofs.RenotedIdle.{idle_bare}
 use Rattle.headline.proofs.RenotedIf.{declares_bare, known_if_as, dead_if_as}
@@ -404,7 +404,7 @@ twin (behind j i d a) k n b (node l m c r) e =
       ends = refl;
       further = refl;
       untaken_there = where_behind j m c o.around ∙ ap (λ b. if b then Some true else None) o.further ∙ sym (where_behind j i d a);
-      leads = ap₂ (λ x y. is_known x y) o.untaken_there (sym (truth_bare j m c) ∙ ap (truth_known j nowhere) (same_below e) ∙ truth_bare j i d);
+      leads = ap₂ (λ x y. is_known x y) o.untaken_there (sym (given_bare j m c) ∙ ap (truth_given j nowhere) (same_below e) ∙ given_bare j i d);
       imported = o.imported;
       exposed = λ es at. o.exposed es (suc at);
       holds = λ P w cs at next h. subst (λ (q : ℕ). HoldsThere w cs (suc at) q o.around (a_node k o.note o.below) P) (sym (place_as next j m i c d (same_below e))) (o.holds P w cs (suc at) (next + scope_count (node j i d nothing)) h);

@@ -18,6 +18,7 @@ use Rattle.js_tree.specs.Walk.{is_list}
 use Rattle.known_tests.specs.Tells.{nullish_type, opposite, way_known}
 use Rattle.steps_allowed.specs.KnownConditional.{truth_known}
 use Rattle.steps_allowed.specs.KnownSide.{side_known}
+use Rattle.steps_allowed.specs.Untaken.{truth_given}
 use Rattle.steps_allowed.specs.KnownOperation.{has_operand, as_literal, known_literal}
 use Rattle.headline.proofs.RenotedUnused.{acts_bare}
 
@@ -93,16 +94,18 @@ known_as k n m f g v e h = sym (known_bare k n f) ∙ ap (known_literal k nowher
 
 -- ---- tests, and left sides
 
+pub given_bare : (k : Kind) (n : Note) (t : Forest) → truth_given k nowhere (bare t) ≡ truth_given k n t
+given_bare k n t = ap truth (ap (known_from bare_answers k nowhere (bare t)) (knowns_bare t) ∙ same_known k nowhere n t (knowns bare_answers t))
+
 pub truth_bare : (k : Kind) (n : Note) (t : Forest) → truth_known k nowhere (bare t) ≡ truth_known k n t
-truth_bare k n t =
-    ap₂ (λ (b : Bool) (j : Known). if b || is_list k then None else truth j) (acts_bare k n t) (ap (known_from bare_answers k nowhere (bare t)) (knowns_bare t) ∙ same_known k nowhere n t (knowns bare_answers t))
+truth_bare k n t = ap₂ (λ (b : Bool) (o : Option Bool). if b || is_list k then None else o) (acts_bare k n t) (given_bare k n t)
 
 pub truth_as : (k : Kind) (n m : Note) (f g : Forest) (b : Bool) → bare f ≡ bare g → truth_known k m g ≡ Some b → truth_known k n f ≡ Some b
 truth_as k n m f g b e h = sym (truth_bare k n f) ∙ ap (truth_known k nowhere) e ∙ truth_bare k m g ∙ h
 
 way_bare : (o : LogicalOperator) (k : Kind) (n : Note) (t : Forest) → way_known o (alone k nowhere (bare t)) ≡ way_known o (alone k n t)
-way_bare And k n t = ap truth (ap (known_from bare_answers k nowhere (bare t)) (knowns_bare t) ∙ same_known k nowhere n t (knowns bare_answers t))
-way_bare Or k n t = ap (λ j. opposite (truth j)) (ap (known_from bare_answers k nowhere (bare t)) (knowns_bare t) ∙ same_known k nowhere n t (knowns bare_answers t))
+way_bare And k n t = given_bare k n t
+way_bare Or k n t = ap opposite (given_bare k n t)
 way_bare Coalesce k n t = ap nullish_type (ap (type_from bare_answers k nowhere (bare t)) (types_bare t) ∙ same_type k nowhere n (bare t) t (types bare_answers t))
 
 pub side_bare : (o : LogicalOperator) (k : Kind) (n : Note) (t : Forest) → side_known o k nowhere (bare t) ≡ side_known o k n t

@@ -22,7 +22,7 @@ use Rattle.js_meaning.specs.Operator.{truthy, is_nullish, goes_right}
 use Rattle.js_meaning.specs.Host.{Enter}
 use Rattle.js_meaning.specs.Node.{itself, now}
 use Rattle.js_meaning_near.specs.Near.{meaning}
-use Rattle.known_tests.specs.Tells.{Tells, nullish_type, opposite, way_known}
+use Rattle.known_tests.specs.Tells.{Tells, GivesOnly, nullish_type, opposite, way_known}
 
 gives_less : {P Q : Value → Type 0} {m : M} → ((v : Value) → P v → Q v) → Gives P m → Gives Q m
 gives_less {P} {Q} {m} f h = record { at = λ s. out (m s) (h.at s) }
@@ -67,10 +67,13 @@ not_not false = refl
 silent : (k : Kind) (n : Note) (a : Forest) → may_have_effects [] true (alone k n a) ≡ false → (E : Enter) (env : Env) → Quiet (meaning E k a now env)
 silent k n a idle E env = quiet_node env E k n a (silent_row [] true env (alone k n a) idle (λ w. absurd (true≢false w))) now
 
+pub truth_gives : (k : Kind) (n : Note) (a : Forest) (b : Bool) → truth_of bare_answers (alone k n a) ≡ Some b → GivesOnly (λ v. truthy v ≡ b) k a
+truth_gives k n a b is E env = gives_less (λ v told. truth_is _ v b told.known is) ((told_by_form env E (alone k n a)).0 itself)
+
 pub truth_tells : (k : Kind) (n : Note) (a : Forest) (b : Bool) → may_have_effects [] true (alone k n a) ≡ false → truth_of bare_answers (alone k n a) ≡ Some b → Tells (λ v. truthy v ≡ b) k a
 truth_tells k n a b idle is = record {
   quiet = silent k n a idle;
-  told = λ E env. gives_less (λ v told. truth_is _ v b told.known is) ((told_by_form env E (alone k n a)).0 itself);
+  told = truth_gives k n a b is;
 }
 
 pub way_tells : (o : LogicalOperator) (k : Kind) (n : Note) (a : Forest) (b : Bool) → may_have_effects [] true (alone k n a) ≡ false → way_known o (alone k n a) ≡ Some b → Tells (λ v. goes_right o v ≡ b) k a

@@ -17,7 +17,7 @@ use Rattle.js_meaning_near.specs.Local.{IsField}
 use Rattle.js_meaning_near.specs.Purpose.{Purpose, asked}
 use Rattle.js_meaning_near.specs.Bare.{stands_bare}
 use Rattle.js_meaning_near.proofs.Branches.{bare_asks, bare_hoists}
-use Rattle.known_tests.specs.Tells.{Tells, GivesAlone}
+use Rattle.known_tests.specs.Tells.{Tells, GivesOnly, GivesAlone}
 use Rattle.known_tests.proofs.Told.{more_nothing, told_leads, value_leads, alike_leads}
 
 pub unknown_leads : (m : M) → Leads unknown m
@@ -141,29 +141,29 @@ same_other : (b : Bool) (x y z : M) → b ≡ true → choose b x y ≡ choose b
 same_other b x y z e = chosen b x y e ∙ sym (chosen b x z e)
 
 module _ (t : Kind) (n i : Note) (a : Forest) (k : Kind) where
-  consequent : (E : Enter) (env : Env) (q : Ask) (b c r : Forest) → Tells (λ v. truthy v ≡ false) t a → IsField r → Leads (meaning E Kind.IfStatement (node t n a (node k i b r)) q env) (meaning E Kind.IfStatement (node t n a (node k i c r)) q env)
+  consequent : (E : Enter) (env : Env) (q : Ask) (b c r : Forest) → GivesOnly (λ v. truthy v ≡ false) t a → IsField r → Leads (meaning E Kind.IfStatement (node t n a (node k i b r)) q env) (meaning E Kind.IfStatement (node t n a (node k i c r)) q env)
   unfolding need may eval
-  consequent E env (run ls) b c (absent nothing) tells f = alike_leads (λ v. truthy v ≡ false) (meaning E t a now env) _ _ (λ v h. same_choice (truthy v) (meaning E k b (run ls) env) (meaning E k c (run ls) env) _ h) (tells.quiet E env) (tells.told E env)
-  consequent E env (run ls) b c (node l j d nothing) tells f = alike_leads (λ v. truthy v ≡ false) (meaning E t a now env) _ _ (λ v h. same_choice (truthy v) (meaning E k b (run ls) env) (meaning E k c (run ls) env) _ h) (tells.quiet E env) (tells.told E env)
-  consequent E env q b c (absent nothing) tells f = unknown_leads _
-  consequent E env q b c (node l j d nothing) tells f = unknown_leads _
-  consequent E env q b c nothing tells f = absurd f
-  consequent E env q b c (absent (node l j d r)) tells f = absurd f
-  consequent E env q b c (absent (absent r)) tells f = absurd f
-  consequent E env q b c (node l j d (node z y e r)) tells f = absurd f
-  consequent E env q b c (node l j d (absent r)) tells f = absurd f
+  consequent E env (run ls) b c (absent nothing) given f = alike_leads (λ v. truthy v ≡ false) (meaning E t a now env) _ _ (λ v h. same_choice (truthy v) (meaning E k b (run ls) env) (meaning E k c (run ls) env) _ h) (given E env)
+  consequent E env (run ls) b c (node l j d nothing) given f = alike_leads (λ v. truthy v ≡ false) (meaning E t a now env) _ _ (λ v h. same_choice (truthy v) (meaning E k b (run ls) env) (meaning E k c (run ls) env) _ h) (given E env)
+  consequent E env q b c (absent nothing) given f = unknown_leads _
+  consequent E env q b c (node l j d nothing) given f = unknown_leads _
+  consequent E env q b c nothing given f = absurd f
+  consequent E env q b c (absent (node l j d r)) given f = absurd f
+  consequent E env q b c (absent (absent r)) given f = absurd f
+  consequent E env q b c (node l j d (node z y e r)) given f = absurd f
+  consequent E env q b c (node l j d (absent r)) given f = absurd f
 
-  alternate : (E : Enter) (env : Env) (q : Ask) (b : Forest) (j : Note) (l : Kind) (c d : Forest) → Tells (λ v. truthy v ≡ true) t a → Leads (meaning E Kind.IfStatement (node t n a (node k i b (node l j c nothing))) q env) (meaning E Kind.IfStatement (node t n a (node k i b (node l j d nothing))) q env)
+  alternate : (E : Enter) (env : Env) (q : Ask) (b : Forest) (j : Note) (l : Kind) (c d : Forest) → GivesOnly (λ v. truthy v ≡ true) t a → Leads (meaning E Kind.IfStatement (node t n a (node k i b (node l j c nothing))) q env) (meaning E Kind.IfStatement (node t n a (node k i b (node l j d nothing))) q env)
   unfolding need may eval
-  alternate E env (run ls) b j l c d tells = alike_leads (λ v. truthy v ≡ true) (meaning E t a now env) _ _ (λ v h. same_other (truthy v) (meaning E k b (run ls) env) (meaning E l c (run ls) env) (meaning E l d (run ls) env) h) (tells.quiet E env) (tells.told E env)
-  alternate E env q b j l c d tells = unknown_leads _
+  alternate E env (run ls) b j l c d given = alike_leads (λ v. truthy v ≡ true) (meaning E t a now env) _ _ (λ v h. same_other (truthy v) (meaning E k b (run ls) env) (meaning E l c (run ls) env) (meaning E l d (run ls) env) h) (given E env)
+  alternate E env q b j l c d given = unknown_leads _
 
-  pub consequent_changes : (u : Purpose) (st : Names) (b c r : Forest) → Tells (λ v. truthy v ≡ false) t a → IsField r → ComesTo u st Kind.IfStatement (node t n a (node k i b r)) Kind.IfStatement (node t n a (node k i c r))
-  consequent_changes u st b c r tells f = record { old_hoists = refl; new_hoists = refl; comes = λ E env binds q p. consequent E env q b c r tells f }
+  pub consequent_changes : (u : Purpose) (st : Names) (b c r : Forest) → GivesOnly (λ v. truthy v ≡ false) t a → IsField r → ComesTo u st Kind.IfStatement (node t n a (node k i b r)) Kind.IfStatement (node t n a (node k i c r))
+  consequent_changes u st b c r given f = record { old_hoists = refl; new_hoists = refl; comes = λ E env binds q p. consequent E env q b c r given f }
 
-  pub alternate_changes : (u : Purpose) (st : Names) (b : Forest) (j : Note) (l : Kind) (c d : Forest) → Tells (λ v. truthy v ≡ true) t a
+  pub alternate_changes : (u : Purpose) (st : Names) (b : Forest) (j : Note) (l : Kind) (c d : Forest) → GivesOnly (λ v. truthy v ≡ true) t a
       → ComesTo u st Kind.IfStatement (node t n a (node k i b (node l j c nothing))) Kind.IfStatement (node t n a (node k i b (node l j d nothing)))
-  alternate_changes u st b j l c d tells = record { old_hoists = refl; new_hoists = refl; comes = λ E env binds q p. alternate E env q b j l c d tells }
+  alternate_changes u st b j l c d given = record { old_hoists = refl; new_hoists = refl; comes = λ E env binds q p. alternate E env q b j l c d given }
 
 -- ---- a loop of which the test fails from the start does nothing
 

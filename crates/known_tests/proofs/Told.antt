@@ -61,22 +61,22 @@ module _ (P : Value → Type 0) (m : M) (k : Value → M) where
     unfolding bind
     value_leads silent told alone = record { leads = λ s. at_state s (m s) refl (silent.at s) (told.at s) (alone.at s) }
 
-  -- two that go on alike from all values that are known do the same
+  -- two that go on alike from all values that are known do the same, whatever is done before
   module _ (l : Value → M) (e : (v : Value) → P v → k v ≡ l v) where
-    alike_from : (z : State) (c : Completion) → quiet.IsValue c → OfValue P c → more [] (if_gives (λ v r. k v) c z) ≡ more [] (if_gives (λ v r. l v) c z)
-    alike_from z (gives v r) i told = ap (λ f. more [] (f z)) (e v told)
-    alike_from z normal i told = absurd i
-    alike_from z (gives_all vs) i told = absurd i
-    alike_from z (refers p) i told = absurd i
-    alike_from z (breaks o) i told = absurd i
-    alike_from z (continues o) i told = absurd i
-    alike_from z (returns v) i told = absurd i
-    alike_from z (throws v) i told = absurd i
+    alike_from : (z : State) (c : Completion) → OfValue P c → if_gives (λ v r. k v) c z ≡ if_gives (λ v r. l v) c z
+    alike_from z (gives v r) told = ap (λ f. f z) (e v told)
+    alike_from z normal told = refl
+    alike_from z (gives_all vs) told = refl
+    alike_from z (refers p) told = refl
+    alike_from z (breaks o) told = refl
+    alike_from z (continues o) told = refl
+    alike_from z (returns v) told = refl
+    alike_from z (throws v) told = refl
 
-    alike : (s : State) (o : Out) → quiet.Silently quiet.IsValue s o → IsSo (OfValue P) o → go_on o (if_gives (λ v r. k v)) ≡ go_on o (if_gives (λ v r. l v))
-    alike s _ (quiet.goes_on {z = z} {c = c} a i) told = alike_from z c i told
-    alike s _ quiet.is_uncovered told = refl
+    alike : (o : Out) → IsSo (OfValue P) o → go_on o (if_gives (λ v r. k v)) ≡ go_on o (if_gives (λ v r. l v))
+    alike (goes es z c) told = ap (λ x. more es x) (alike_from z c told)
+    alike (stops es e) told = refl
 
-    pub alike_leads : quiet.Quiet m → Gives P m → Leads (with_value m k) (with_value m l)
+    pub alike_leads : Gives P m → Leads (with_value m k) (with_value m l)
     unfolding bind
-    alike_leads silent told = record { leads = λ s. subst (LeadsFrom s (with_value m l)) (sym (alike s (m s) (silent.at s) (told.at s))) (goes_on_as (itself s)) }
+    alike_leads told = record { leads = λ s. subst (LeadsFrom s (with_value m l)) (sym (alike (m s) (told.at s))) (goes_on_as (itself s)) }

@@ -1,4 +1,4 @@
--- Tests of which nobody can tell that they ran, and of whose values something is known.
+-- Tests of whose values something is known, and of which nobody can tell that they ran.
 use Rattle.std.specs.Prelude.{◌≡◌, Bool, true, false, not, Option, Some, None}
 use Rattle.js_syntax.specs.declared.node_kind.NodeKind.{NodeKind as Kind}
 use Rattle.js_syntax.specs.declared.operator.LogicalOperator.{LogicalOperator}
@@ -21,6 +21,10 @@ use Rattle.js_values.specs.Gives.{Ends, Gives}
 pub record Tells (P : Value → Type 0) (k : Kind) (a : Forest) : Type 0 where
   pub quiet : (E : Enter) (env : Env) → Quiet (meaning E k a now env)
   pub told : (E : Enter) (env : Env) → Gives P (meaning E k a now env)
+
+-- of an expression that may act: each value that it gives is so
+abbrev pub GivesOnly : (P : Value → Type 0) → Kind → (below : Forest) → Type 0
+GivesOnly P k a = (E : Enter) (env : Env) → Gives P (meaning E k a now env)
 
 -- without a receiver (13.3.6.1): the value isn't that of a member of an object
 abbrev pub Alone : Completion → Type 0

@@ -12,12 +12,14 @@ ghost use Rattle.js_meaning_near.specs.Near.{is_calm, ComesTo, DoesNothing};
 ghost use Rattle.js_meaning_near.specs.Local.{IsField};
 ghost use Rattle.js_meaning_near.specs.Purpose.{Purpose, asked};
 ghost use Rattle.js_meaning_near.specs.Bare.{stands_bare};
-ghost use Rattle.known_tests.specs.Tells.{Tells, GivesAlone, way_known};
+ghost use Rattle.known_tests.specs.Tells.{Tells, GivesOnly, GivesAlone, way_known};
 
 /// An expression tells that has no effects where no name is known and of which js_effects tells by its form
-/// whether it is true in a test, or whether a logical expression goes on to its right side.
+/// whether it is true in a test, or whether a logical expression goes on to its right side. Of one that has effects
+/// each value that it gives is so.
 pub fn forms_tell()
     ensures truth { (k : Kind) (n : Note) (a : Forest) (b : Bool) → may_have_effects [] true (alone k n a) ≡ false → truth_of bare_answers (alone k n a) ≡ Some b → Tells (λ v. truthy v ≡ b) k a }
+    ensures given { (k : Kind) (n : Note) (a : Forest) (b : Bool) → truth_of bare_answers (alone k n a) ≡ Some b → GivesOnly (λ v. truthy v ≡ b) k a }
     ensures way { (o : LogicalOperator) (k : Kind) (n : Note) (a : Forest) (b : Bool) → may_have_effects [] true (alone k n a) ≡ false → way_known o (alone k n a) ≡ Some b → Tells (λ v. goes_right o v ≡ b) k a }
 {}
 
@@ -55,11 +57,11 @@ pub fn a_statement_is_taken()
         ComesTo u st Kind.IfStatement (node t n a (node k i b (absent nothing))) Kind.EmptyStatement nothing }
 {}
 
-/// Of a branch that isn't taken it doesn't matter what lies below it.
+/// Of a branch that isn't taken it doesn't matter what lies below it, whatever the test does.
 pub fn a_branch_that_is_not_taken_may_change()
-    ensures consequent { (u : Purpose) (st : Names) (t : Kind) (n i : Note) (a : Forest) (k : Kind) (b c r : Forest) → Tells (λ v. truthy v ≡ false) t a → IsField r →
+    ensures consequent { (u : Purpose) (st : Names) (t : Kind) (n i : Note) (a : Forest) (k : Kind) (b c r : Forest) → GivesOnly (λ v. truthy v ≡ false) t a → IsField r →
         ComesTo u st Kind.IfStatement (node t n a (node k i b r)) Kind.IfStatement (node t n a (node k i c r)) }
-    ensures alternate { (u : Purpose) (st : Names) (t : Kind) (n i j : Note) (a : Forest) (k l : Kind) (b c d : Forest) → Tells (λ v. truthy v ≡ true) t a →
+    ensures alternate { (u : Purpose) (st : Names) (t : Kind) (n i j : Note) (a : Forest) (k l : Kind) (b c d : Forest) → GivesOnly (λ v. truthy v ≡ true) t a →
         ComesTo u st Kind.IfStatement (node t n a (node k i b (node l j c nothing))) Kind.IfStatement (node t n a (node k i b (node l j d nothing))) }
 {}
 

@@ -1,11 +1,10 @@
-// What is known by its form of what doesn't act.
+// What is known by its form of values.
 ghost use Rattle.std.specs.Prelude.{◌≡◌};
 ghost use Rattle.js_syntax.specs.Node.{forest_of};
-ghost use Rattle.js_effects.specs.Answers.{bare_answers};
-ghost use Rattle.js_effects.specs.Values.{truth_of};
 ghost use Rattle.known_tests.specs.Tells.{nullish_type, opposite, way_known};
 ghost use Rattle.steps_allowed.specs.KnownConditional.{truth_known};
 ghost use Rattle.steps_allowed.specs.KnownSide.{side_known};
+ghost use Rattle.steps_allowed.specs.Untaken.{truth_given};
 
 use crate::list::acts_or_is_list;
 use js_effects::{BareContext, ValueType, evaluate_value_to_boolean, value_type};
@@ -13,10 +12,12 @@ use js_syntax::LogicalOperator;
 use js_tree::Node;
 use std::alloc::Global;
 
-fn truth_of(node: &Node, alloc: Global) -> Option<bool>
-    ensures { result ≡ truth_of bare_answers (forest_of node.now) }
+/// Whether the value of a test is true (ECMA-262 7.1.2), where its form tells, whatever it does before. The recursion goes as deep as
+/// the tree.
+pub fn truth_given(test: &Node, alloc: Global) -> Option<bool>
+    ensures known { result ≡ truth_given test.now.kind test.now.note test.now.below }
 {
-    evaluate_value_to_boolean(node, &BareContext::new(alloc))
+    evaluate_value_to_boolean(test, &BareContext::new(alloc))
 }
 
 /// Whether a test is true (ECMA-262 7.1.2), if it does nothing but give its value, wherever it stands, and its form tells. The recursion
@@ -27,7 +28,7 @@ pub fn truth_known(test: &Node, alloc: Global) -> Option<bool>
     if acts_or_is_list(test) {
         None
     } else {
-        truth_of(test, alloc)
+        truth_given(test, alloc)
     }
 }
 
@@ -54,8 +55,8 @@ fn way_known(operator: LogicalOperator, left: &Node, alloc: Global) -> Option<bo
     ensures { result ≡ way_known operator (forest_of left.now) }
 {
     match operator {
-        LogicalOperator::And => truth_of(left, alloc),
-        LogicalOperator::Or => opposite(truth_of(left, alloc)),
+        LogicalOperator::And => truth_given(left, alloc),
+        LogicalOperator::Or => opposite(truth_given(left, alloc)),
         LogicalOperator::Coalesce => nullish_type(value_type(left, &BareContext::new(alloc))),
     }
 }

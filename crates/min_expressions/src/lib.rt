@@ -41,6 +41,6 @@ mod uses;
 
 pub use fold::PeepholeOptimizations;
 pub use kept::keep_child;
-pub use known::truth_known;
+pub use known::{truth_given, truth_known};
 pub use list::has_spread;
 pub use uses::has_with;

@@ -17,8 +17,7 @@ use Rattle.min_traverse.specs.Lawful.{Does}
 use Rattle.min_traverse.proofs.Joining.{does_some, does_none}
 use Rattle.rules_expressions.specs.Ifs.{given_if}
 use Rattle.rules_expressions.specs.Untaken.{is_list, may_go, is_declarator, zero_for, value_left, values_of, values_rid, rid, branch_left, branch_loses, what_stays, if_left, rid_if}
-use Rattle.steps_allowed.specs.KnownConditional.{truth_known}
-use Rattle.steps_allowed.specs.Untaken.{runs_inside}
+use Rattle.steps_allowed.specs.Untaken.{truth_given, runs_inside}
 use Rattle.steps_allowed.specs.UnrunValue.{declares, passes, may_be_dropped}
 use Rattle.steps_allowed.specs.Uses.{Use, use_at, stands_bare}
 use Rattle.scope_laws.specs.Place as places
@@ -55,7 +54,7 @@ module _ (n t_note : Note) (t : Kind) (a : Forest) where
   left_so None (node k i b rest) = refl
 
 left_as_ruled : (n : Note) (k : Kind) (t : Forest) → left_by n k t (untaken_at k t) ≡ if_left n k t
-left_as_ruled n if_statement (node t m a branches) = left_so n m t a (truth_known t m a) branches
+left_as_ruled n if_statement (node t m a branches) = left_so n m t a (truth_given t m a) branches
 left_as_ruled n if_statement nothing = refl
 left_as_ruled n if_statement (absent rest) = refl
 left_as_ruled n k t = refl

@@ -5,8 +5,7 @@ use Rattle.js_syntax.specs.declared.node_kind.NodeKind.TheVariants.{IfStatement 
 use Rattle.js_syntax.specs.Node.{Forest, Tree, nothing, node, absent, alone}
 use Rattle.min_expressions.specs.Kept.{kept_if}
 use Rattle.rules_expressions.specs.Untaken.{is_list, may_go, is_declarator, zero_for, value_left, values_of, values_rid, branch_left, branch_loses}
-use Rattle.steps_allowed.specs.KnownConditional.{truth_known}
-use Rattle.steps_allowed.specs.Untaken.{runs_inside}
+use Rattle.steps_allowed.specs.Untaken.{truth_given, runs_inside}
 use Rattle.steps_allowed.specs.UnrunValue.{passes, may_be_dropped}
 
 -- ---- which branch
@@ -17,7 +16,7 @@ by_truth (Some true) (node k i b (node l j c rest)) = kept_if (branch_loses l c)
 by_truth truth branches = None
 
 abbrev pub among : (parts : Forest) → Option ℕ
-among (node t n a branches) = by_truth (truth_known t n a) branches
+among (node t n a branches) = by_truth (truth_given t n a) branches
 among parts = None
 
 abbrev pub untaken_at : Kind → (parts : Forest) → Option ℕ

@@ -14,7 +14,7 @@ use crate::values::{tell_values, values_drop_inside, zero_values};
 use js_syntax::NodeKind;
 use js_tree::Node;
 use min_context::MinifierTraverseCtx;
-use min_expressions::truth_known;
+use min_expressions::truth_given;
 use std::alloc::Global;
 
 // ---- one statement
@@ -132,7 +132,7 @@ fn among(parts: &[Option<Node>], alloc: Global) -> Option<usize>
     ensures { result ≡ among (row parts.now) }
 {
     match parts {
-        [Some(test), branches @ ..] => by_truth(truth_known(test, alloc), branches),
+        [Some(test), branches @ ..] => by_truth(truth_given(test, alloc), branches),
         [None, ..] => None,
         [] => None,
     }

@@ -18,11 +18,10 @@ use Rattle.scope_laws.specs.Place as places
 use Rattle.scope_laws.specs.Place.{first}
 use Rattle.steps_allowed.specs.Branches.{declares_none, declares_no_name}
 use Rattle.steps_allowed.specs.Edits.{Edit, leaves, becomes, untaken, unrun_value, TreeEdits, no_tree_edit, one_tree_edit}
-use Rattle.steps_allowed.specs.KnownConditional.{truth_known}
 use Rattle.steps_allowed.specs.KnownIf.{an_if}
 use Rattle.steps_allowed.specs.Places.{asked_at, IsItem}
 use Rattle.steps_allowed.specs.Unreached.{only_runs}
-use Rattle.steps_allowed.specs.Untaken.{is_known, begins_untaken, runs_inside, led_by, is_untaken, Untaken, never_taken}
+use Rattle.steps_allowed.specs.Untaken.{truth_given, is_known, begins_untaken, runs_inside, led_by, is_untaken, Untaken, never_taken}
 use Rattle.steps_allowed.specs.UnrunValue.{declares, passes, is_unrun, is_value_of, is_value, may_be_dropped, UnrunValue, value_never_given}
 use Rattle.steps_owed.proofs.Unreached.{runs_weigh}
 use Rattle.steps_owed.proofs.UnrunValue.{dropped}
@@ -81,13 +80,13 @@ or_true : (a : Bool) → (a || true) ≡ true
 or_true true = refl
 or_true false = refl
 
-in_consequent : (p : Kind → Bool) (n : Note) (t : Kind) (m : Note) (d : Forest) (k : Kind) (i : Note) (r rest : Forest) → truth_known t m d ≡ Some false → p k ≡ true → All p (under if_statement n (behind t m d (under k i here r)) rest)
+in_consequent : (p : Kind → Bool) (n : Note) (t : Kind) (m : Note) (d : Forest) (k : Kind) (i : Note) (r rest : Forest) → truth_given t m d ≡ Some false → p k ≡ true → All p (under if_statement n (behind t m d (under k i here r)) rest)
 in_consequent p n t m d k i r rest truth runs u b =
     ap (λ o. led_by p (u && p if_statement || is_known (Some false) o) (places.behind t m d (places.under k i b r))) truth
     ∙ flagged p (u && p if_statement || true) (places.behind t m d (places.under k i b r)) (or_true (u && p if_statement))
     ∙ flagged p (p k || begins_untaken k b) b (runs_on p k b runs)
 
-in_alternate : (p : Kind → Bool) (n : Note) (t : Kind) (m : Note) (d : Forest) (k : Kind) (i : Note) (e : Forest) (l : Kind) (j : Note) (r rest : Forest) → truth_known t m d ≡ Some true → p l ≡ true
+in_alternate : (p : Kind → Bool) (n : Note) (t : Kind) (m : Note) (d : Forest) (k : Kind) (i : Note) (e : Forest) (l : Kind) (j : Note) (r rest : Forest) → truth_given t m d ≡ Some true → p l ≡ true
     → All p (under if_statement n (behind t m d (behind k i e (under l j here r))) rest)
 in_alternate p n t m d k i e l j r rest truth runs u b =
     ap (λ o. led_by p (u && p if_statement || is_known (Some true) o) (places.behind t m d (places.behind k i e (places.under l j b r)))) truth
@@ -248,7 +247,7 @@ branch_edits a c k below at =
     (λ runs. rid_edits (is_list k) (join a c) below at.items (record { items = all_from runs_inside a c (at.led runs_inside runs); values = all_from passes a c (at.led passes (runs_pass k runs)) }))
     (values_below (join a c) k below (λ h. all_from passes a c (at.led passes h)) at.value))
 
-at_consequent : (a : counts.Around) (n : Note) (t : Kind) (m : Note) (d : Forest) (k : Kind) (i : Note) (alternate rest : Forest) → truth_known t m d ≡ Some false → Branch a (under if_statement n (behind t m d (under k i here alternate)) rest) k
+at_consequent : (a : counts.Around) (n : Note) (t : Kind) (m : Note) (d : Forest) (k : Kind) (i : Note) (alternate rest : Forest) → truth_given t m d ≡ Some false → Branch a (under if_statement n (behind t m d (under k i here alternate)) rest) k
 at_consequent a n t m d k i alternate rest is =
     let c = under if_statement n (behind t m d (under k i here alternate)) rest in
     record {
@@ -257,7 +256,7 @@ at_consequent a n t m d k i alternate rest is =
       value = λ h l o b r. ap (λ x. is_value x) (to_join a c (places.behind l o b (first r))) ∙ value_to a (to c (places.behind l o b (first r))) (declarator_row (under if_statement n (behind t m d here) rest) k i alternate h l o b r);
     }
 
-at_alternate : (a : counts.Around) (n : Note) (t : Kind) (m : Note) (d : Forest) (k : Kind) (i : Note) (b : Forest) (l : Kind) (j : Note) (r rest : Forest) → truth_known t m d ≡ Some true
+at_alternate : (a : counts.Around) (n : Note) (t : Kind) (m : Note) (d : Forest) (k : Kind) (i : Note) (b : Forest) (l : Kind) (j : Note) (r rest : Forest) → truth_given t m d ≡ Some true
     → Branch a (under if_statement n (behind t m d (behind k i b (under l j here r))) rest) l
 at_alternate a n t m d k i b l j r rest is =
     let c = under if_statement n (behind t m d (behind k i b (under l j here r))) rest in
@@ -268,7 +267,7 @@ at_alternate a n t m d k i b l j r rest is =
     }
 
 module _ (n : Note) (t : Kind) (m : Note) (d : Forest) where
-  by_truth : (a : counts.Around) (rest : Forest) (truth : Option Bool) (branches : Forest) (y : Tree) → truth_known t m d ≡ truth → what_stays n t m d truth branches ≡ Some y → TreeEdits (plug a (node if_statement n (node t m d branches) rest)) (plug a (node y.kind y.note y.below rest))
+  by_truth : (a : counts.Around) (rest : Forest) (truth : Option Bool) (branches : Forest) (y : Tree) → truth_given t m d ≡ truth → what_stays n t m d truth branches ≡ Some y → TreeEdits (plug a (node if_statement n (node t m d branches) rest)) (plug a (node y.kind y.note y.below rest))
   by_truth a rest (Some false) (node k i b alternate) y is e =
       elim (chosen_if (branch_loses k b) (an_if n t m d (node k i (branch_left k b) alternate)) y e) [
         | chosen has same ↦
@@ -290,7 +289,7 @@ module _ (n : Note) (t : Kind) (m : Note) (d : Forest) where
   by_truth a rest (Some true) (node k i b (absent r)) y is e = no_answer e
 
 left_edits_at : (a : counts.Around) (n : Note) (k : Kind) (below : Forest) (y : Tree) (rest : Forest) → if_left n k below ≡ Some y → TreeEdits (plug a (node k n below rest)) (plug a (node y.kind y.note y.below rest))
-left_edits_at a n if_statement (node t m d branches) y rest e = by_truth n t m d a rest (truth_known t m d) branches y refl e
+left_edits_at a n if_statement (node t m d branches) y rest e = by_truth n t m d a rest (truth_given t m d) branches y refl e
 left_edits_at a n if_statement nothing y rest e = no_answer e
 left_edits_at a n if_statement (absent r) y rest e = no_answer e
 left_edits_at a n k below y rest e = no_answer e
@@ -462,7 +461,7 @@ less_by_truth n t m d (Some true) (node k i b nothing) y e = no_answer e
 less_by_truth n t m d (Some true) (node k i b (absent r)) y e = no_answer e
 
 left_is_less_at : (n : Note) (k : Kind) (below : Forest) (y : Tree) → if_left n k below ≡ Some y → IsLess (record { kind = k; note = n; below = below }) y
-left_is_less_at n if_statement (node t m d branches) y e = less_by_truth n t m d (truth_known t m d) branches y e
+left_is_less_at n if_statement (node t m d branches) y e = less_by_truth n t m d (truth_given t m d) branches y e
 left_is_less_at n if_statement nothing y e = no_answer e
 left_is_less_at n if_statement (absent r) y e = no_answer e
 left_is_less_at n k below y e = no_answer e
@@ -548,10 +547,10 @@ module _ (x : Tree) (p : Kind → Bool) (at_branch : Asked → Kind → places.A
 
   at_if : (w : Asked) (n : Note) (b : places.Around) → begins_untaken if_statement b ≡ true → AtIf w b → leads_on p b ≡ true → is_some (if_left n if_statement (places.plug b (Some x))) ≡ true
   at_if w n (places.behind t m d (places.under k i b r)) begins item way =
-      ap (λ o. is_some (what_stays n t m d o (node k i (places.plug b (Some x)) r))) (known_so false (truth_known t m d) begins)
+      ap (λ o. is_some (what_stays n t m d o (node k i (places.plug b (Some x)) r))) (known_so false (truth_given t m d) begins)
       ∙ given_some (branch_loses k (places.plug b (Some x))) (an_if n t m d (node k i (branch_left k (places.plug b (Some x))) r)) (loses (asked_below w if_statement) k b item way)
   at_if w n (places.behind t m d (places.behind k i c (places.under l j b r))) begins item way =
-      ap (λ o. is_some (what_stays n t m d o (node k i c (node l j (places.plug b (Some x)) r)))) (known_so true (truth_known t m d) begins)
+      ap (λ o. is_some (what_stays n t m d o (node k i c (node l j (places.plug b (Some x)) r)))) (known_so true (truth_given t m d) begins)
       ∙ given_some (branch_loses l (places.plug b (Some x))) (an_if n t m d (node k i c (node l j (branch_left l (places.plug b (Some x))) r))) (loses (asked_below w if_statement) l b item way)
   at_if w n (places.behind t m d (places.behind k i c (first r))) begins item way = no_kind begins
   at_if w n (places.behind t m d (places.behind k i c (places.behind l j e b))) begins item way = no_kind begins
@@ -835,7 +834,7 @@ branch_stands a c k below at has =
     (λ runs inner. some_stand (is_list k) (join a c) below at.items (record { items = all_from runs_inside a c (at.led runs_inside runs); values = all_from passes a c (at.led passes (runs_pass k runs)) }) inner)
     (values_below_stand (join a c) k below (λ e. all_from passes a c (at.led passes e)) at.value))
 
-stands_by_truth : (n : Note) (t : Kind) (m : Note) (d : Forest) (a : counts.Around) (rest : Forest) (truth : Option Bool) (branches : Forest) (y : Tree) → truth_known t m d ≡ truth → what_stays n t m d truth branches ≡ Some y
+stands_by_truth : (n : Note) (t : Kind) (m : Note) (d : Forest) (a : counts.Around) (rest : Forest) (truth : Option Bool) (branches : Forest) (y : Tree) → truth_given t m d ≡ truth → what_stays n t m d truth branches ≡ Some y
     → Stands (plug a (node if_statement n (node t m d branches) rest))
 stands_by_truth n t m d a rest (Some false) (node k i b alternate) y is e =
     elim (chosen_if (branch_loses k b) (an_if n t m d (node k i (branch_left k b) alternate)) y e) [
@@ -854,7 +853,7 @@ stands_by_truth n t m d a rest (Some true) (node k i b nothing) y is e = no_answ
 stands_by_truth n t m d a rest (Some true) (node k i b (absent r)) y is e = no_answer e
 
 stands_at : (a : counts.Around) (n : Note) (k : Kind) (below : Forest) (y : Tree) (rest : Forest) → if_left n k below ≡ Some y → Stands (plug a (node k n below rest))
-stands_at a n if_statement (node t m d branches) y rest e = stands_by_truth n t m d a rest (truth_known t m d) branches y refl e
+stands_at a n if_statement (node t m d branches) y rest e = stands_by_truth n t m d a rest (truth_given t m d) branches y refl e
 stands_at a n if_statement nothing y rest e = no_answer e
 stands_at a n if_statement (absent r) y rest e = no_answer e
 stands_at a n k below y rest e = no_answer e

@@ -6,10 +6,9 @@ use Rattle.js_syntax.specs.declared.node_kind.NodeKind.TheVariants.{Statements a
 use Rattle.js_syntax.specs.Node.{Forest, Tree, Note, nothing, node, absent}
 use Rattle.min_traverse.specs.Lawful.{Rule, or_else}
 use Rattle.steps_allowed.specs.Branches.{declares_no_name}
-use Rattle.steps_allowed.specs.KnownConditional.{truth_known}
 use Rattle.steps_allowed.specs.KnownIf.{an_if}
 use Rattle.steps_allowed.specs.Unreached.{only_runs}
-use Rattle.steps_allowed.specs.Untaken.{runs_inside}
+use Rattle.steps_allowed.specs.Untaken.{truth_given, runs_inside}
 use Rattle.steps_allowed.specs.UnrunValue.{passes, may_be_dropped, a_zero}
 use Rattle.rules_expressions.specs.Lists.{new_note}
 use Rattle.rules_expressions.specs.Ifs.{given_if, if_becomes}
@@ -85,7 +84,7 @@ what_stays n t m d (Some true) (node k i b (node l j c rest)) = given_if (branch
 what_stays n t m d truth branches = None
 
 abbrev pub if_left : (note : Note) → Kind → (below : Forest) → Option Tree
-if_left n if_statement (node t m d branches) = what_stays n t m d (truth_known t m d) branches
+if_left n if_statement (node t m d branches) = what_stays n t m d (truth_given t m d) branches
 if_left n k below = None
 
 -- ---- as a rule of a walk

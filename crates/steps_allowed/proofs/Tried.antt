@@ -521,6 +521,10 @@ front_stays items x (never_runs item jump runs none) = true≢false (sym jump)
 pub untaken_consequent_leaves : Edit (a_module (if_null (block (var_ a ∷ does call_of_a ∷ [])) no ∷ [])) (a_module (if_null (block (var_ a ∷ [])) no ∷ []))
 untaken_consequent_leaves = leaves (in_branch null (past (var_ a) (first nothing))) _ (untaken (never_taken refl refl refl refl))
 
+-- of a test that acts
+pub untaken_acting_leaves : Edit (a_module (either_way (logical operator.And (reads a) null) (block (var_ a ∷ does call_of_a ∷ [])) no ∷ [])) (a_module (either_way (logical operator.And (reads a) null) (block (var_ a ∷ [])) no ∷ []))
+untaken_acting_leaves = leaves (in_branch (logical operator.And (reads a) null) (past (var_ a) (first nothing))) _ (untaken (never_taken refl refl refl refl))
+
 -- if (1) ; else { a(); var a; }
 abbrev in_alternate : Around
 in_alternate =

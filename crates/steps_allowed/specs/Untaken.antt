@@ -2,10 +2,11 @@
 use Rattle.std.specs.Prelude.{◌≡◌, Bool, true, false, not, ◌&&◌, ◌||◌, Option, Some, None}
 use Rattle.js_syntax.specs.declared.node_kind.NodeKind.{NodeKind as Kind}
 use Rattle.js_syntax.specs.declared.node_kind.NodeKind.TheVariants.{Statements as statements, BlockStatement as block_statement, IfStatement as if_statement, LabeledStatement as labeled_statement, WhileStatement as while_statement, DoWhileStatement as do_while_statement, ForStatement as for_statement, ForInStatement as for_in_statement, ForOfStatement as for_of_statement, WithStatement as with_statement, SwitchStatement as switch_statement, Cases as cases, SwitchCase as switch_case, TryStatement as try_statement, CatchClause as catch_clause}
-use Rattle.js_syntax.specs.Node.{Tree, forest_of}
+use Rattle.js_syntax.specs.Node.{Forest, Tree, Note, alone, forest_of}
+use Rattle.js_effects.specs.Answers.{bare_answers}
+use Rattle.js_effects.specs.Values.{truth_of}
 use Rattle.scope_laws.specs.Place.{Around, first, behind, behind_none, under}
 use Rattle.steps_allowed.specs.Branches.{declares_none}
-use Rattle.steps_allowed.specs.KnownConditional.{truth_known}
 use Rattle.steps_allowed.specs.Places.{IsItem}
 use Rattle.steps_allowed.specs.Unreached.{only_runs}
 
@@ -16,6 +17,10 @@ untaken_where (under k n a rest) = Some false
 untaken_where (behind k n b (under l i a rest)) = Some true
 untaken_where a = None
 
+-- Whether a value is true, where it is known by its form, which may act all the same: `x && false` is false, if it gives a value.
+abbrev pub truth_given : Kind → Note → (below : Forest) → Option Bool
+truth_given k n a = truth_of bare_answers (alone k n a)
+
 -- whether it is known by its form to be that
 abbrev pub is_known : (so truth : Option Bool) → Bool
 is_known (Some true) (Some b) = b
@@ -24,7 +29,7 @@ is_known so truth = false
 
 -- whether the row below an `if` leads into a branch that isn't taken
 abbrev pub leads_to_untaken : Around → Bool
-leads_to_untaken (behind t m d a) = is_known (untaken_where a) (truth_known t m d)
+leads_to_untaken (behind t m d a) = is_known (untaken_where a) (truth_given t m d)
 leads_to_untaken a = false
 
 abbrev pub begins_untaken : Kind → Around → Bool

@@ -122,12 +122,13 @@ pub fn what_never_runs_leaves()
     ensures front { (items : List Forest) (x : Tree) → Unreached (before items) x → ⊥ }
 {}
 
-/// A statement in a branch that isn't taken leaves its list, further in too, unless it declares a name around it. What stands in a branch
-/// that runs or may run stays, and so does the code of a function.
+/// A statement in a branch that isn't taken leaves its list, further in too, whatever the test does, unless it declares a name around it.
+/// What stands in a branch that runs or may run stays, and so does the code of a function.
 pub fn what_is_not_taken_leaves()
     ensures consequent { Edit (a_module (if_null (block (var_ a ∷ does call_of_a ∷ [])) no ∷ [])) (a_module (if_null (block (var_ a ∷ [])) no ∷ [])) }
     ensures alternate { Edit (a_module (either_way one empty (block (does call_of_a ∷ var_ a ∷ [])) ∷ [])) (a_module (either_way one empty (block (var_ a ∷ [])) ∷ [])) }
     ensures further { Edit (a_module (if_null (block (if_one (block (does call_of_a ∷ var_ a ∷ [])) ∷ [])) no ∷ [])) (a_module (if_null (block (if_one (block (var_ a ∷ [])) ∷ [])) no ∷ [])) }
+    ensures acting { Edit (a_module (either_way (logical operator.And (reads a) null) (block (var_ a ∷ does call_of_a ∷ [])) no ∷ [])) (a_module (either_way (logical operator.And (reads a) null) (block (var_ a ∷ [])) no ∷ [])) }
     ensures declaration { (how : VariableKind) (n : Note) (below : Forest) → Untaken (in_branch null (first nothing)) (record { kind = Kind.VariableDeclaration how; note = n; below = below }) → ⊥ }
     ensures runs { (x : Tree) → Untaken (in_branch one (first nothing)) x → ⊥ }
     ensures may_run { (x : Tree) → Untaken (in_branch (reads a) (first nothing)) x → ⊥ }

@@ -14,19 +14,18 @@ use Rattle.js_meaning_near.specs.Near.{is_row, Row as NearRow, fields, row_below
 use Rattle.js_meaning_near.specs.Local.{DeclaresNothing, IsField, for_part, Local, at_place, in_below, in_rest, in_absent}
 use Rattle.json_shape.specs.Shape.{Values, kind_in, one, maybe_one, places, Plan, these, first_place, Stand, Fits}
 use Rattle.json_shape.specs.Shape as shape
+use Rattle.known_tests.proofs.ByForm.{truth_gives}
 use Rattle.known_tests.proofs.Taken.{consequent_changes, alternate_changes}
 use Rattle.min_pass.specs.declared.around.Around.{Around as Asked}
 use Rattle.min_pass.specs.declared.around.Row.TheVariants.{Items as items}
 use Rattle.min_pass.specs.Around.{entered as asked_below, outermost as asked_of_program}
 use Rattle.scope_laws.specs.Place.{Around, first, behind, behind_none, under, plug}
 use Rattle.scope_laws.specs.Lists.{without}
-use Rattle.steps_allowed.specs.KnownConditional.{truth_known}
 use Rattle.steps_allowed.specs.Places.{asked_at, IsItem}
-use Rattle.steps_allowed.specs.Untaken.{is_known, leads_to_untaken, begins_untaken, runs_inside, is_untaken}
+use Rattle.steps_allowed.specs.Untaken.{truth_given, is_known, leads_to_untaken, begins_untaken, runs_inside, is_untaken}
 use Rattle.steps_fit.proofs.Holding.{is_sound, planned_below}
 use Rattle.steps_fit.proofs.Passing.{plan_passes, first_passes, behind_passes}
 use Rattle.steps_keep_form.specs.Part.{is_statement}
-use Rattle.steps_owed.proofs.KnownTests.{test_tells}
 use Rattle.steps_owed.proofs.LeftRuns.{reads_same}
 use Rattle.steps_owed.proofs.Made.{MadeBy, is_single, made_at}
 
@@ -118,19 +117,19 @@ module _ (x : Tree) (z : Option Tree) where
   branch_changes : (us : Purposes) (o : NearRow) (n : Note) (a : Around) (rest : Forest) → leads_to_untaken a ≡ true → Stand Parts (plug a (Some x)) → Outside (plug a (Some x)) (put z a)
       → Local us o (node Kind.IfStatement n (plug a (Some x)) rest) (node Kind.IfStatement n (put z a) rest)
   branch_changes us o n (behind t m d (behind k i b (under l j a r))) rest leads st same =
-      let tells = test_tells t m d true (known_so true (truth_known t m d) leads) in
+      let given = truth_gives t m d true (known_so true (truth_given t m d) leads) in
       let goes : (r : Forest) → r ≡ nothing → Outside (node t m d (node k i b (node l j (plug a (Some x)) r))) (node t m d (node k i b (node l j (put z a) r)))
       → Local us o (node Kind.IfStatement n (node t m d (node k i b (node l j (plug a (Some x)) r))) rest) (node Kind.IfStatement n (node t m d (node k i b (node l j (put z a) r))) rest)
       = λ r e. subst (λ r. Outside (node t m d (node k i b (node l j (plug a (Some x)) r))) (node t m d (node k i b (node l j (put z a) r)))
       → Local us o (node Kind.IfStatement n (node t m d (node k i b (node l j (plug a (Some x)) r))) rest) (node Kind.IfStatement n (node t m d (node k i b (node l j (put z a) r))) rest)) (sym e)
-      (λ s. at_place (for_part (λ st. alternate_changes t m i d k (purpose_here us (is_row rest)) st b j l (plug a (Some x)) (put z a) tells)) (record { vars = s.vars; imports = s.imports })) in
+      (λ s. at_place (for_part (λ st. alternate_changes t m i d k (purpose_here us (is_row rest)) st b j l (plug a (Some x)) (put z a) given)) (record { vars = s.vars; imports = s.imports })) in
       goes r (no_more r st.1.1.1) same
   branch_changes us o n (behind t m d (behind k i b (first r))) rest leads st same = no_kind leads
   branch_changes us o n (behind t m d (behind k i b (behind l j c a))) rest leads st same = no_kind leads
   branch_changes us o n (behind t m d (behind k i b (behind_none a))) rest leads st same = no_kind leads
   branch_changes us o n (behind t m d (under k i a r)) rest leads st same =
-      let tells = test_tells t m d false (known_so false (truth_known t m d) leads) in
-      at_place (for_part (λ s. consequent_changes t m i d k (purpose_here us (is_row rest)) s (plug a (Some x)) (put z a) r tells (one_field r st.1.1))) (record { vars = same.vars; imports = same.imports })
+      let given = truth_gives t m d false (known_so false (truth_given t m d) leads) in
+      at_place (for_part (λ s. consequent_changes t m i d k (purpose_here us (is_row rest)) s (plug a (Some x)) (put z a) r given (one_field r st.1.1))) (record { vars = same.vars; imports = same.imports })
   branch_changes us o n (behind t m d (first r)) rest leads st same = no_kind leads
   branch_changes us o n (behind t m d (behind_none a)) rest leads st same = no_kind leads
   branch_changes us o n (first r) rest leads st same = no_kind leads
