@@ -432,6 +432,107 @@ S("import { a } from 'm'; use(0 && a); import { b } from 'n'; whose use goes fir
 S("import { a, b } from 'm'; function h() { a(); } export function k() { return b; h(); }",[IMPORT('m',NAMED('a'),NAMED('b')),F_('h',[],do('a')),export(F_('k',[],RETURN(b),do('h')))],[IMPORT('m',NAMED('b')),export(F_('k',[],RETURN(b)))],3,1)
 
 
+# What one pass leaves of a statement, or `None` where it leaves it alone, with the passes and references that are counted.
+Y=I('y')
+CALL=do('f')
+FINE=L('text')
+SWITCH=lambda on,*cases: N('SwitchStatement',discriminant=on,cases=[N('SwitchCase',test=test,consequent=list(body)) for test,*body in cases])
+CLASS_OF=lambda *members: N('ClassDeclaration',id=I('C'),superClass=None,body=N('ClassBody',body=list(members)))
+DEFAULT_OF=lambda d: N('ExportDefaultDeclaration',declaration=d)
+THROW=lambda e: N('ThrowStatement',argument=e)
+CONTINUE=lambda l=None: N('ContinueStatement',label=l)
+DO=lambda body,test: N('DoWhileStatement',body=body,test=test)
+HOLDS=lambda *body: export(F_('h',[],*body))
+STATEMENTS=[
+ # statements of expressions
+ ("f(); 'text';",[CALL,ES(FINE)],[CALL],1,0),
+ ('null; true; 7;',[ES(L(None)),ES(L(True)),ES(L(7))],[],1,0),
+ ('a;',[ES(a)],None,0,0),
+ ('void 0;',[ES(un('void',L(0)))],[],1,0),
+ ('typeof a;',[ES(un('typeof',a))],[],1,0),
+ ('!f();',[ES(NOT(call(f)))],[CALL],1,0),
+ ('f() + 1;',[ES(bi('+',call(f),L(1)))],None,0,0),
+ ('f() === g();',[ES(SAME(call(f),call(I('g'))))],[ES(SEQ(call(f),call(I('g'))))],1,0),
+ ('[f(), 1];',[ES(ARR(call(f),L(1)))],[CALL],1,0),
+ ('({ p: f() });',[ES(OBJ(prop(I('p'),call(f))))],[CALL],1,0),
+ ('1, f();',[ES(SEQ(L(1),call(f)))],[CALL],1,0),
+ ('f(), 1;',[ES(SEQ(call(f),L(1)))],[CALL],1,0),
+ ('a ? 1 : f();',[ES(COND(a,L(1),call(f)))],[ES(OR(a,call(f)))],1,0),
+ ('true ? f() : a();',[ES(COND(L(True),call(f),call(a)))],[CALL],1,0),
+ ('0 && f();',[ES(AND(L(0),call(f)))],[],1,0),
+ ('1 || f();',[ES(OR(L(1),call(f)))],[],1,0),
+ ('null ?? f();',[ES(ELSE(L(None),call(f)))],[CALL],1,0),
+ ('(() => { f(); });',[ES(ARROW(CALL))],[],1,0),
+ ('new a();',[ES(N('NewExpression',callee=a,arguments=[]))],None,0,0),
+ ('a.b;',[ES(mem(a,b))],None,0,0),
+ ('a = 1;',[ES(asg('=',a,L(1)))],None,0,0),
+ ('delete a.b;',[ES(un('delete',mem(a,b)))],None,0,0),
+ ('use(1 + 2);',[use(bi('+',L(1),L(2)))],[use(L(3))],1,0),
+ # blocks, labels
+ ('f(); {}',[CALL,B()],[CALL],1,0),
+ ('{ { ; } }',[B(B(EMPTY))],[],1,0),
+ ('{ f(); }',[B(CALL)],None,0,0),
+ ('{ let x = 1; }',[B(x_is(L(1)))],[],1,0),
+ ('l: ;',[LABEL('l',EMPTY)],[],1,0),
+ ('l: { break l; f(); }',[LABEL('l',B(BREAK(I('l')),CALL))],[LABEL('l',B(BREAK(I('l'))))],1,0),
+ # variables
+ ('let x = 1;',[x_is(L(1))],[],1,0),
+ ('let x = f();',[x_is(call(f))],None,0,0),
+ ('var x = 1, y = f();',[var('var',(x,L(1)),(Y,call(f)))],[var('var',(Y,call(f)))],1,0),
+ ('const x = function () { f(); };',[x_is(fn('FunctionExpression',None,[],B(CALL)),'const')],[],1,0),
+ ('let x; use(x);',[x_is(None),use(x)],None,0,1),
+ ('let [x] = a;',[var('let',(N('ArrayPattern',elements=[x]),a))],None,0,0),
+ ('var x = 1; in a script',[x_is(L(1),'var')],None,0,0,'script'),
+ # functions, classes
+ ('function h() { f(); }',[F_('h',[],CALL)],[],1,0),
+ ('function h() {} h();',[F_('h',[]),do('h')],None,0,1),
+ ('function h() { h(); }',[F_('h',[],do('h'))],None,0,1),
+ ('export function h() { 1; return; f(); }',[HOLDS(ES(L(1)),RETURN(None),CALL)],[HOLDS(RETURN(None))],1,0),
+ ('class C {}',[CLASS_OF()],None,0,0),
+ ('class C { static { 1; } }',[CLASS_OF(N('StaticBlock',body=[ES(L(1))]))],[CLASS_OF(N('StaticBlock',body=[]))],1,0),
+ # `if`
+ ('if (true) f();',[WHEN(L(True),CALL)],[CALL],1,0),
+ ('if (false) f();',[WHEN(L(False),CALL)],[],1,0),
+ ('if (0) a(); else f();',[WHEN(L(0),do('a'),CALL)],[CALL],1,0),
+ ('if ([]) { f(); } else a();',[WHEN(ARR(),B(CALL),do('a'))],[B(CALL)],1,0),
+ ('if (a) f(); else 1;',[WHEN(a,CALL,ES(L(1)))],[WHEN(a,CALL,EMPTY)],1,0),
+ ('if (a) { 1; }',[WHEN(a,B(ES(L(1))))],[WHEN(a,B())],1,0),
+ ('if (a && 0) { f(); }',[WHEN(AND(a,L(0)),B(CALL))],[WHEN(AND(a,L(0)),B())],1,0),
+ ('if (0) { var x = f(); } use(x);',[WHEN(L(0),B(x_is(call(f),'var'))),use(x)],[WHEN(L(0),B(x_is(L(0),'var'))),use(x)],1,1),
+ ('if (1) while (a) f();',[WHEN(L(1),N('WhileStatement',test=a,body=CALL))],None,0,0),
+ # loops
+ ('while (0) f();',[N('WhileStatement',test=L(0),body=CALL)],[],1,0),
+ ('while (a) 1;',[N('WhileStatement',test=a,body=ES(L(1)))],[N('WhileStatement',test=a,body=EMPTY)],1,0),
+ ('while (1) { break; f(); }',[WHILE(L(1),BREAK(),CALL)],[WHILE(L(1),BREAK())],1,0),
+ ('do f(); while (0);',[DO(CALL,L(0))],None,0,0),
+ ('do { 1; } while (a);',[DO(B(ES(L(1))),a)],[DO(B(),a)],1,0),
+ ('for (; null;) f();',[N('ForStatement',init=None,test=L(None),update=None,body=CALL)],[],1,0),
+ ('for (f(); 0;) a();',[N('ForStatement',init=call(f),test=L(0),update=None,body=do('a'))],None,0,0),
+ ('for (let x = 0; x;) 1;',[N('ForStatement',init=x_is(L(0)),test=x,update=None,body=ES(L(1)))],[N('ForStatement',init=x_is(L(0)),test=x,update=None,body=EMPTY)],1,1),
+ ('for (const x of a) { 1; }',[IN_EACH(True,x_is(None,'const'),a,ES(L(1)))],[IN_EACH(True,x_is(None,'const'),a)],1,0),
+ ('for (x in a) { f(); {} }',[IN_EACH(False,x,a,CALL,B())],[IN_EACH(False,x,a,CALL)],1,0),
+ ('l: for (;;) { continue l; f(); }',[LABEL('l',EACH(CONTINUE(I('l')),CALL))],[LABEL('l',EACH(CONTINUE(I('l'))))],1,0),
+ # `switch`, `try`, `with`, jumps
+ ('switch (a) { case 1: f(); break; f(); default: 1; }',[SWITCH(a,(L(1),CALL,BREAK(),CALL),(None,ES(L(1))))],[SWITCH(a,(L(1),CALL,BREAK()),(None,))],1,0),
+ ('switch (1) { default: }',[SWITCH(L(1),(None,))],None,0,0),
+ ('try { 1; } catch (e) { f(e); }',[TRY(B(ES(L(1))),I('e'),ES(call(f,I('e'))))],[],1,0),
+ ('try { f(); } catch (e) { 1; }',[TRY(B(CALL),I('e'),ES(L(1)))],[TRY(B(CALL),I('e'))],1,0),
+ ('try { f(); } finally { 1; }',[FINALLY(B(CALL),ES(L(1)))],[FINALLY(B(CALL))],1,0),
+ ('try {} finally { f(); }',[FINALLY(B(),CALL)],None,0,0),
+ ('with (a) { 1; } in a script',[N('WithStatement',object=a,body=B(ES(L(1))))],[N('WithStatement',object=a,body=B())],1,0,'script'),
+ ('throw a; f(); { f(); }',[THROW(a),CALL,B(CALL)],[THROW(a)],1,0),
+ ('throw a; let x = f();',[THROW(a),x_is(call(f))],None,0,0),
+ ('debugger; 1;',[DEBUGGER,ES(L(1))],[DEBUGGER],1,0),
+ # imports, exports
+ ("import { a } from 'm';",[IMPORT('m',NAMED('a'))],[IMPORT('m')],1,0),
+ ("import { a, b } from 'm'; use(b);",[IMPORT('m',NAMED('a'),NAMED('b')),use(b)],[IMPORT('m',NAMED('b')),use(b)],1,1),
+ ('let x = 1; export { x };',[x_is(L(1)),exports('x')],None,0,1),
+ ('export default 1;',[DEFAULT_OF(L(1))],None,0,0),
+ ('export default function () { 1; }',[DEFAULT_OF(fn('FunctionDeclaration',None,[],B(ES(L(1)))))],[DEFAULT_OF(fn('FunctionDeclaration',None,[],B()))],1,0),
+]
+for row in STATEMENTS: S(*row)
+assert all(row[3] <= 1 for row in STATEMENTS)
+
 def text(tree): return json.dumps(tree, sort_keys=True, separators=(',', ':'))
 
 
