@@ -25,7 +25,7 @@ use Rattle.scope_laws.specs.Exact.{Among}
 use Rattle.scope_laws.specs.Place.{Around, first, behind, behind_none, under, plug}
 use Rattle.steps_names.specs.Standing.{exported_declarations}
 use Rattle.steps.specs.Steps.{binds_import}
-use Rattle.steps_allowed.specs.Rows.{null, value_of_a, in_list, in_statement, past, throws, statement, called, argument, before, sequence, applied, call_of_a, call_of_eval, exports_declaration, empty, only_import}
+use Rattle.steps_allowed.specs.Rows.{null, logical as either, value_of_a, in_list, in_statement, past, throws, statement, called, argument, before, sequence, applied, call_of_a, call_of_eval, exports_declaration, empty, only_import}
 use Rattle.steps_allowed.specs.KnownConditional.{consequent_is_taken, alternate_is_taken}
 use Rattle.steps_allowed.specs.KnownSide.{right_side_counts, left_side_decides}
 use Rattle.steps_allowed.specs.UnusedOperation.{needed_at, one_operand_acts}
@@ -179,6 +179,12 @@ behind_variable =
 
 pub untaken_is_dead : Clean row.keeps_variable → ⊥
 untaken_is_dead c = c.nothing_is_dead behind_variable _ refl (an_untaken_statement behind_variable _ (never_taken refl refl refl refl))
+
+-- if (a && null) { b(); }
+pub acting_is_dead : Clean row.never_holds → ⊥
+acting_is_dead c =
+    let place = in_list (under Kind.IfStatement nowhere (past (either logical.And (reads a) null) (under Kind.BlockStatement nowhere (under Kind.Statements nowhere (first nothing) nothing) no)) nothing) in
+    c.nothing_is_dead place _ refl (an_untaken_statement place _ (never_taken refl refl refl refl))
 
 -- ---- what has none
 

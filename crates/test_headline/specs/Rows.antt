@@ -229,6 +229,10 @@ gives_call = form.a_module (if_null (form.declares variable.Var (form.binds form
 abbrev pub never_turns : Forest
 never_turns = form.a_module (labeled (while_ null (form.does call_of_a)) ∷ [])
 
+-- if (a && null) { b(); }
+abbrev pub never_holds : Forest
+never_holds = form.a_module (either_way (either logical.And (form.reads form.a) null) (form.block (form.does call_of_b ∷ [])) form.no ∷ [])
+
 -- if (null) { var a = 1; b(); } use(a);
 abbrev pub keeps_variable : Forest
 keeps_variable = form.a_module (if_null (form.block (form.declares variable.Var (form.binds form.a) form.one ∷ form.does call_of_b ∷ [])) form.no ∷ use_of_a ∷ [])

@@ -66,7 +66,7 @@ pub fn what_others_may_use_stays()
 /// `1;` doesn't stay, nor does the conditional of `a(true ? a : b);`, of `(1 ? o.g : null)();` or of `a ? b() : 1;`, what stands right in
 /// `null && a();`, what of `!(a() === 1);`, of `[a(), 1];` and of `({ a: a() });` is no call, the `1` of `use((1, a));`, the comparison
 /// of `a() === b();`, the negation of `use(!0);`, the `if` of `if (1) a(); else b();` and of `if (null) a();`, the call of `throw 1; a();`,
-/// that of `b` in `if (null) { var a = 1; b(); } use(a);`, `l: { {} }`, `l: while (null) a();`, or the call of
+/// that of `b` in `if (null) { var a = 1; b(); } use(a);` and in `if (a && null) { b(); }`, `l: { {} }`, `l: while (null) a();`, or the call of
 /// `if (null) var a = b(); use(a);`.
 pub fn dead_code_goes()
     ensures number { Headline row.dead row.dead → ⊥ }
@@ -84,6 +84,7 @@ pub fn dead_code_goes()
     ensures if_fails { Headline row.runs_no_branch row.runs_no_branch → ⊥ }
     ensures unreached { Headline row.calls_behind_throw row.calls_behind_throw → ⊥ }
     ensures untaken { Headline row.keeps_variable row.keeps_variable → ⊥ }
+    ensures acting { Headline row.never_holds row.never_holds → ⊥ }
     ensures block { Headline row.labels_nothing row.labels_nothing → ⊥ }
     ensures never_turns { Headline row.never_turns row.never_turns → ⊥ }
     ensures unrun { Headline row.gives_call row.gives_call → ⊥ }
@@ -97,7 +98,7 @@ pub fn dead_code_goes()
 /// both sides act: `a() === b();`, an object literal of which nobody takes the value, that holds a call: `({ a: a() });`, an operation
 /// on a literal, of which the value is known: `use(!0);`, an `if` on a literal, whether a branch of it runs: `if (1) a(); else b();`, or
 /// none: `if (null) a();`, a statement behind a jump: `throw 1; a();`, one of a branch that isn't taken and has to stay for
-/// the name that it declares: `if (null) { var a = 1; b(); } use(a);`, a block of nothing, or what labels one: `l: { {} }`, a loop that
+/// the name that it declares: `if (null) { var a = 1; b(); } use(a);`, or for its test: `if (a && null) { b(); }`, a block of nothing, or what labels one: `l: { {} }`, a loop that
 /// never turns: `l: while (null) a();`, and a value that is never given: `if (null) var a = b(); use(a);`.
 pub fn dead_code_is_told()
     ensures number { Clean (a_module (does one ∷ [])) → ⊥ }
@@ -120,6 +121,7 @@ pub fn dead_code_is_told()
     ensures if_fails { Clean row.runs_no_branch → ⊥ }
     ensures unreached { Clean row.calls_behind_throw → ⊥ }
     ensures untaken { Clean row.keeps_variable → ⊥ }
+    ensures acting { Clean row.never_holds → ⊥ }
     ensures block { Clean row.labels_nothing → ⊥ }
     ensures never_turns { Clean row.never_turns → ⊥ }
     ensures unrun { Clean row.gives_call → ⊥ }
