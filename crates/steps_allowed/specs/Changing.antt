@@ -47,7 +47,7 @@ may_change_at evaluates w e variable_declarator below = holds_declarators w.row 
 may_change_at evaluates w e (variable_declaration how) below = holds_items w.row && not (shares e how || evaluates)
 may_change_at evaluates w e k below = not (always_stays k)
 
--- whether something stands behind a jump in a list of statements
+-- whether something stands behind a jump, or what cuts off as one does, in a list of statements
 abbrev pub ends_before : Row → Kind → (below rest : Forest) → Bool
 ends_before row k below rest = holds_items row && (cuts_off k below && has_node rest)
 

@@ -1,4 +1,5 @@
--- A statement behind a jump in its list leaves it, where it declares no name around it: it never runs (ECMA-262 14.2.2).
+-- A statement behind a jump in its list, or behind what cuts off as one does, leaves it, where it declares no name around it: it never
+-- runs (ECMA-262 14.2.2).
 use Rattle.std.specs.Prelude.{◌≡◌, Bool, true, false, ◌||◌}
 use Rattle.js_syntax.specs.declared.node_kind.NodeKind.{NodeKind as Kind}
 use Rattle.js_syntax.specs.declared.node_kind.NodeKind.TheVariants.{ExpressionStatement as expression_statement, BlockStatement as block_statement, LabeledStatement as labeled_statement, IfStatement as if_statement, BreakStatement as break_statement, ContinueStatement as continue_statement, ReturnStatement as return_statement, ThrowStatement as throw_statement, WhileStatement as while_statement, DoWhileStatement as do_while_statement, ForStatement as for_statement, ForInStatement as for_in_statement, ForOfStatement as for_of_statement, WithStatement as with_statement, DebuggerStatement as debugger_statement, SwitchStatement as switch_statement, TryStatement as try_statement}
@@ -8,7 +9,7 @@ use Rattle.scope_laws.specs.Place.{Around, first, behind, behind_none, under}
 use Rattle.steps_allowed.specs.Branches.{declares_none}
 use Rattle.steps_allowed.specs.Places.{IsItem}
 
--- whether a jump stands before it in its row, or stood before this part of that
+-- whether a jump, or what cuts off as one does, stands before it in its row, or stood before this part of that
 abbrev pub is_behind_jump : (jumped : Bool) → Around → Bool
 is_behind_jump jumped (first rest) = jumped
 is_behind_jump jumped (behind k n below a) = is_behind_jump (jumped || cuts_off k below) a

@@ -101,14 +101,6 @@ module _ (x y : Tree) (counts : counted x.kind (begins_with_call x.below) ≡ 0)
   replaced_list statements a h = replaced_calls a h
   replaced_list k a h = Prim.omega arith
 
-list_no_less : (k : Kind) (n m : ℕ) → n ≤ m → of_list k n ≤ of_list k m
-list_no_less statements n m h = h
-list_no_less k n m h = Prim.omega arith
-
-program_no_less : (k : Kind) (n m : ℕ) → n ≤ m → of_program k n ≤ of_program k m
-program_no_less (program source) n m h = h
-program_no_less k n m h = Prim.omega arith
-
 replaced_listed : (a : Around) (x y : Tree) → IsUncalled a x → (may_end x.kind ≡ true) ⊎ (may_end y.kind ≡ false) → calls_listed (plug a (Some x)) ≤ calls_listed (plug a (Some y))
 replaced_listed (first rest) x y h e = Prim.omega (arith, h.lists (calls_in x.below))
 replaced_listed (behind k n below a) x y h e = Prim.omega arith

@@ -1,10 +1,10 @@
 -- A value that becomes another in a branch that isn't taken is a change that no run shows.
-use Rattle.std.proofs.Common.{◌≡◌, ◌∙◌, ◌⊎◌, inl, inr, List, [], ◌∷◌, ◌++◌, Bool, true, false, ◌&&◌, ◌||◌, Some, refl, sym, ap, ap₂, subst, true≢false}
+use Rattle.std.proofs.Common.{◌≡◌, ◌∙◌, ◌⊎◌, inl, inr, List, [], ◌∷◌, ◌++◌, Bool, true, false, ◌&&◌, ◌||◌, Some, refl, sym, ap, subst, true≢false}
 use Rattle.std.proofs.lemmas.Bool.{or_cases}
 use Rattle.js_syntax.specs.Class.{root}
 use Rattle.js_syntax.specs.declared.node_kind.NodeKind.{NodeKind as Kind}
 use Rattle.js_syntax.specs.declared.kind.VariableKind.TheVariants as variable
-use Rattle.js_syntax.specs.Node.{Note, Forest, Tree, node, absent}
+use Rattle.js_syntax.specs.Node.{Note, Forest, Tree, node}
 use Rattle.js_syntax.proofs.Truth.{first_of_both, second_of_both}
 use Rattle.js_meaning.specs.Value.{Text}
 use Rattle.js_meaning.specs.Scope.{Decl, names_of, bound_names, vars_of, var_names, specifier_decls, import_decls}
@@ -14,14 +14,14 @@ use Rattle.js_meaning_near.specs.Local.{Local, in_below, in_rest, in_absent}
 use Rattle.json_shape.specs.Shape.{one, Plan, these, first_place, Stand, Fits}
 use Rattle.json_shape.specs.Shape as shape
 use Rattle.scope_laws.specs.Place.{Around, first, behind, behind_none, under, plug}
-use Rattle.steps_allowed.specs.Untaken.{begins_untaken, runs_inside}
-use Rattle.steps_allowed.specs.UnrunValue.{declares, passes, is_unrun}
+use Rattle.steps_allowed.specs.Untaken.{begins_untaken}
+use Rattle.steps_allowed.specs.UnrunValue.{passes, is_unrun}
 use Rattle.steps_fit.proofs.Holding.{is_sound, planned_below}
 use Rattle.steps_fit.proofs.Passing.{plan_passes, first_passes, behind_passes}
 use Rattle.steps_owed.specs.Owed.{is_read_name}
 use Rattle.steps_owed.proofs.Made.{MadeBy, is_single, made_at}
 use Rattle.steps_owed.proofs.PartRuns.{reads_same}
-use Rattle.steps_owed.proofs.UntakenRuns.{put, put_some, begins}
+use Rattle.steps_owed.proofs.UntakenRuns.{put_some, begins}
 
 no_kind : {A : Type 0} → false ≡ true → A
 no_kind e = absurd (true≢false (sym e))

@@ -3,35 +3,34 @@ use Rattle.std.proofs.Common.{◌≡◌, ◌∙◌, ◌≤◌, ℕ, List, [], �
 use Rattle.std.proofs.lemmas.Bool.{or_cases}
 use Rattle.js_syntax.specs.Class.{Class, root, a_prologue, expression, private_key, binding}
 use Rattle.js_syntax.specs.declared.node_kind.NodeKind.{NodeKind as Kind}
-use Rattle.js_syntax.specs.declared.node_kind.NodeKind.TheVariants.{VariableDeclarator as variable_declarator, Literal as literal}
+use Rattle.js_syntax.specs.declared.node_kind.NodeKind.TheVariants.{VariableDeclarator as variable_declarator}
 use Rattle.js_syntax.specs.declared.value.LiteralValue.TheVariants as value
 use Rattle.js_syntax.specs.Facts.{weight, is_core}
 use Rattle.js_syntax.specs.Hint.{has, is_private}
-use Rattle.js_syntax.specs.Node.{Note, Forest, Tree, nothing, node, absent, alone, forest_of}
-use Rattle.js_syntax.specs.Table.{Row, a_literal, a_variable_declarator, fields_of}
+use Rattle.js_syntax.specs.Node.{Note, Forest, Tree, nothing, node, alone, forest_of}
+use Rattle.js_syntax.specs.Table.{Row, a_variable_declarator, fields_of}
 use Rattle.js_meaning.specs.Value.{Text}
 use Rattle.js_meaning.specs.Scope.{Decl, names_of, bound_names, vars_of, var_names, specifier_decls, import_decls}
 use Rattle.js_meaning_near.specs.Near.{hoists_nothing, module_of}
 use Rattle.js_tree.specs.Count.{one_each, levels}
 use Rattle.js_rebuilt.specs.Rebuilt.{Rebuilt, built, leaves, ends}
-use Rattle.json_shape.specs.Shape.{Values, kind_in, IsChosen, Place, one, maybe_one, beyond, key_node, key_apart, list, list_with_holes, body, item_or_hole, item_of_body, places, Plan, these, first_place, behind as plan_behind, IsOf, IsAt, Stand, Fits}
+use Rattle.json_shape.specs.Shape.{Values, kind_in, Place, one, maybe_one, beyond, key_node, key_apart, list, list_with_holes, body, item_or_hole, item_of_body, places, Plan, these, first_place, behind as plan_behind, IsOf, IsAt, Stand, Fits}
 use Rattle.form_rules.specs.Form.{IsWellFormed}
 use Rattle.scope_laws.specs.Place.{Around, first, behind, behind_none, under, plug}
 use Rattle.steps.specs.Steps.{all_core}
-use Rattle.steps_allowed.specs.Calls.{is_call, begins_with_call, counted, may_end, of_list, of_program}
+use Rattle.steps_allowed.specs.Calls.{begins_with_call, counted, may_end, of_list, of_program}
 use Rattle.steps_allowed.specs.UnrunValue.{is_value_of, is_value, is_unrun, may_be_dropped, a_zero, UnrunValue, value_never_given}
 use Rattle.steps_fit.proofs.CoreCalm.{nameless_as_planned}
 use Rattle.steps_fit.proofs.Held.{core_here}
 use Rattle.steps_fit.proofs.Holding.{is_sound, planned_below}
 use Rattle.steps_fit.proofs.Modules.{fits_program}
 use Rattle.steps_fit.proofs.Passing.{plan_passes, first_passes, behind_passes}
-use Rattle.steps_keep_form.specs.Part.{is_asked_for, is_statement, RebuildsTo, by_parts as replaced_by_parts}
+use Rattle.steps_keep_form.specs.Part.{is_asked_for, RebuildsTo, by_parts as replaced_by_parts}
 use Rattle.steps_keep_form.proofs.Rules.{first_empty}
 use Rattle.steps_keep_table.proofs.Planned.{place_ok, plan_ok, first_ok, behind_ok}
 use Rattle.steps_keep_table.proofs.Inside.{at_inside}
 use Rattle.steps_names.specs.Placed.{Place as NamePlace, place_below}
 use Rattle.steps_owed.specs.Owed.{is_read_name, Becoming, by_changing}
-use Rattle.steps_owed.specs.Part as part
 use Rattle.steps_owed.specs.TakesPlace.{is_told_by_class}
 use Rattle.steps_owed.proofs.BranchKinds.{no_statement}
 use Rattle.steps_owed.proofs.ByParts.{moves}
