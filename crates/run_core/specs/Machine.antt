@@ -23,5 +23,5 @@ abbrev pub run_of : World → List Frame → Control → meant.Run
 run_of w fs c = seen (at w (onto enter_fully fs (controls enter_fully c)))
 
 abbrev pub after_step : World → List Frame → Step → meant.Run
-after_step w fs (GoesOn c) = run_of w fs c
+after_step w fs (GoesOn c) = run_of w fs c.value
 after_step w fs (Ends e) = seen (at w (stop (ending_of e)))

@@ -64,7 +64,7 @@ fn run_module<'a>(
     let env = enter_module(world, alloc, nodes)?;
     match env {
         Some(env) => load_and_run(world, alloc, nodes, env),
-        None => Ok(uncovered(alloc)),
+        None => uncovered(alloc),
     }
 }
 
@@ -104,8 +104,8 @@ fn do_alone<'a>(
 {
     match first_field(others) {
         Front::End => do_module(world, alloc, nodes),
-        Front::Node(_, _) => Ok(uncovered(alloc)),
-        Front::Absent(_) => Ok(uncovered(alloc)),
+        Front::Node(_, _) => uncovered(alloc),
+        Front::Absent(_) => uncovered(alloc),
     }
 }
 
@@ -119,7 +119,7 @@ fn do_list<'a>(
 {
     match list.kind() {
         NodeKind::Statements => do_alone(world, alloc, list.children(), others),
-        _ => Ok(uncovered(alloc)),
+        _ => uncovered(alloc),
     }
 }
 
@@ -132,8 +132,8 @@ fn do_statements<'a>(
 {
     match first_field(nodes) {
         Front::Node(list, others) => do_list(world, alloc, list, others),
-        Front::Absent(_) => Ok(uncovered(alloc)),
-        Front::End => Ok(uncovered(alloc)),
+        Front::Absent(_) => uncovered(alloc),
+        Front::End => uncovered(alloc),
     }
 }
 
@@ -149,6 +149,6 @@ pub fn enter_program<'a>(
     let root = program.root();
     match root.kind() {
         NodeKind::Program(SourceType::Module) => do_statements(world, alloc, root.children()),
-        _ => Ok(uncovered(alloc)),
+        _ => uncovered(alloc),
     }
 }

@@ -27,7 +27,7 @@ fn go_on<'a>(
         None => resume_normal(world, alloc, Box::into_inner(after)),
         Some(reply) => {
             discard(Frame::Normal(after));
-            Ok(replies(alloc, reply))
+            replies(alloc, reply)
         }
     }
 }
@@ -44,7 +44,7 @@ fn take_value<'a>(
         Ok((value, _)) => resume_statement(world, alloc, Box::into_inner(after), value),
         Err(reply) => {
             discard(Frame::Statement(after));
-            Ok(replies(alloc, reply))
+            replies(alloc, reply)
         }
     }
 }
@@ -61,7 +61,7 @@ fn take_operand<'a>(
         Ok((value, this)) => resume_operand(world, alloc, Box::into_inner(after), value, this),
         Err(reply) => {
             discard(Frame::Operand(after));
-            Ok(replies(alloc, reply))
+            replies(alloc, reply)
         }
     }
 }
@@ -78,7 +78,7 @@ fn take_target<'a>(
         Ok((value, _)) => resume_target(world, alloc, Box::into_inner(after), value),
         Err(reply) => {
             discard(Frame::Target(after));
-            Ok(replies(alloc, reply))
+            replies(alloc, reply)
         }
     }
 }
@@ -95,7 +95,7 @@ fn take_values<'a>(
         Ok(values) => resume_values(world, alloc, Box::into_inner(after), values),
         Err(reply) => {
             discard(Frame::Values(after));
-            Ok(replies(alloc, reply))
+            replies(alloc, reply)
         }
     }
 }
@@ -112,7 +112,7 @@ fn take_place<'a>(
         Ok(place) => resume_place(world, alloc, Box::into_inner(after), place),
         Err(reply) => {
             discard(Frame::Place(after));
-            Ok(replies(alloc, reply))
+            replies(alloc, reply)
         }
     }
 }

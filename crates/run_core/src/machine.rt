@@ -10,7 +10,8 @@ ghost use Rattle.run_core.specs.Machine.{enter_fully, run_of, after_step};
 
 use crate::{enter_node, enter_task, resume_frame};
 use run_plan::{
-    Ask, Control, Frame, NodeRef, Plan, Task, discard_all, discard_control, push_plan, take_nearest,
+    Ask, Control, Frame, NodeRef, Plan, Task, discard_all, discard_completion, discard_control,
+    push_plan, take_nearest,
 };
 use run_value::{Ending, Env};
 use run_world::{Completion, Reply, World};
@@ -18,7 +19,7 @@ use std::alloc::{AllocError, Global};
 
 // A step goes on with what is computed next, or the run ends.
 pub(crate) enum Step<'a> {
-    GoesOn(Control<'a>),
+    GoesOn(Box<Control<'a>>),
     Ends(Ending),
 }
 
@@ -78,7 +79,7 @@ fn completes<'a>(
     match take_nearest(frames) {
         Some(frame) => resumes(world, alloc, frames, frame, completion),
         None => {
-            discard_control(Control::Reply(Reply::Completes(completion)));
+            discard_completion(completion);
             Ok(Step::Ends(Ending::Uncovered))
         }
     }
@@ -114,7 +115,7 @@ pub(crate) fn go_on<'a>(
     let mut control = control;
     let mut frames = then;
     'steps: for _ in 0..u64::MAX {
-        match next_step(world, alloc, &mut frames, control) {
+        match next_step(world, alloc, &mut frames, Box::into_inner(control)) {
             Ok(Step::GoesOn(next)) => control = next,
             Ok(Step::Ends(ending)) => {
                 discard_all(frames);

@@ -36,7 +36,7 @@ fn enter_taking<'a>(
             take_name(world, alloc, name, node.children(), value, env)
         }
         NodeKind::CatchClause => enter_catch_clause(world, alloc, node.children(), value, env),
-        _ => Ok(uncovered(alloc)),
+        _ => uncovered(alloc),
     }
 }
 
@@ -50,7 +50,7 @@ fn enter_parameters<'a>(
 {
     match node.kind() {
         NodeKind::Parameters => give_each(alloc, node.children(), values, env),
-        _ => Ok(uncovered(alloc)),
+        _ => uncovered(alloc),
     }
 }
 
@@ -65,7 +65,7 @@ fn enter_declaring<'a>(
     match node.kind() {
         NodeKind::Declarators => declare_each(alloc, how, node.children(), env),
         NodeKind::VariableDeclarator => enter_declarator(alloc, how, node.children(), env),
-        _ => Ok(uncovered(alloc)),
+        _ => uncovered(alloc),
     }
 }
 
@@ -82,7 +82,7 @@ fn enter_matching<'a>(
     match node.kind() {
         NodeKind::Cases => enter_cases(world, alloc, node.children(), value, env),
         NodeKind::SwitchCase => test_case(alloc, node.children(), value, env),
-        _ => Ok(uncovered(alloc)),
+        _ => uncovered(alloc),
     }
 }
 
@@ -103,7 +103,7 @@ fn enter_covered<'a>(
         Ask::TakeAll(values) => enter_parameters(alloc, node, values, env),
         Ask::Declares(how) => enter_declaring(alloc, node, how, env),
         Ask::Collect => enter_collection(alloc, node, env),
-        Ask::Entry => Ok(enter_entry(alloc, node, env)),
+        Ask::Entry => enter_entry(alloc, node, env),
         Ask::Matches(value) => enter_matching(world, alloc, node, value, env),
     }
 }
@@ -123,7 +123,7 @@ fn enter_if_core<'a>(
         enter_covered(world, alloc, node, ask, env)
     } else {
         discard_ask(ask);
-        Ok(uncovered(alloc))
+        uncovered(alloc)
     }
 }
 

@@ -14,8 +14,8 @@ ghost use Rattle.run_plan.specs.Frame.{again, meaning, plans, start_body};
 
 use js_tree::Node;
 use run_plan::{
-    AfterCompletion, AfterNormal, Ask, Control, Front, Labels, Loop, Nodes, Plan, Task, asks,
-    discard_control, first_field, replies, then_completion, then_normal, uncovered,
+    AfterCompletion, AfterNormal, Ask, Front, Labels, Loop, Nodes, Plan, Task, asks, first_field,
+    replies, then_completion, then_normal, uncovered,
 };
 use run_scope::enter_function;
 use run_value::{Ending, Env, Value};
@@ -33,7 +33,7 @@ fn body_plan<'a>(
     ensures { IfOk result (λ p. (E : Enter) → plans E p ≡ seq (meaning E parameters.now (take_all (values_of arguments.entry.items)) env.entry) (start_body E (row body.now) env.entry)) }
 {
     let around = env.copy()?;
-    let plan = asks(alloc, parameters, Ask::TakeAll(arguments), around);
+    let plan = asks(alloc, parameters, Ask::TakeAll(arguments), around)?;
     then_normal(alloc, plan, AfterNormal::Body(Nodes::new(body), env))
 }
 
@@ -49,8 +49,8 @@ fn run_behind_parameters<'a>(
 {
     match first_field(body) {
         Front::Node(_, _) => body_plan(alloc, parameters, body, arguments, env),
-        Front::Absent(_) => Ok(uncovered(alloc)),
-        Front::End => Ok(uncovered(alloc)),
+        Front::Absent(_) => uncovered(alloc),
+        Front::End => uncovered(alloc),
     }
 }
 
@@ -68,8 +68,8 @@ fn run_behind_name<'a>(
         Front::Node(parameters, body) => {
             run_behind_parameters(alloc, parameters, body, arguments, env)
         }
-        Front::Absent(_) => Ok(uncovered(alloc)),
-        Front::End => Ok(uncovered(alloc)),
+        Front::Absent(_) => uncovered(alloc),
+        Front::End => uncovered(alloc),
     }
 }
 
@@ -85,7 +85,7 @@ fn run_code<'a>(
     match first_field(nodes) {
         Front::Node(_, fields) => run_behind_name(alloc, fields, arguments, env),
         Front::Absent(fields) => run_behind_name(alloc, fields, arguments, env),
-        Front::End => Ok(uncovered(alloc)),
+        Front::End => uncovered(alloc),
     }
 }
 
@@ -107,7 +107,7 @@ fn enter_code<'a>(
     let env = enter_function(world, alloc, kind, below, env, this)?;
     match env {
         Some(env) => run_code(alloc, below, arguments, env),
-        None => Ok(uncovered(alloc)),
+        None => uncovered(alloc),
     }
 }
 
@@ -147,7 +147,7 @@ fn turn<'a>(
     ensures { IfOk result (λ p. (E : Enter) → plans E p ≡ bind (meaning E body.now (run []) env.entry) (after_turn labels.entry (again E (loop_of kind) (row nodes.now) (eval E (row nodes.now)) labels.entry env.entry))) }
 {
     let around = env.copy()?;
-    let plan = asks(alloc, body, Ask::Run(Labels::none()), around);
+    let plan = asks(alloc, body, Ask::Run(Labels::none()), around)?;
     then_completion(
         alloc,
         plan,
@@ -169,8 +169,8 @@ fn turn_first<'a>(
 {
     match first_field(fields) {
         Front::Node(body, _) => turn(alloc, kind, body, nodes, labels, env),
-        Front::Absent(_) => Ok(uncovered(alloc)),
-        Front::End => Ok(uncovered(alloc)),
+        Front::Absent(_) => uncovered(alloc),
+        Front::End => uncovered(alloc),
     }
 }
 
@@ -187,8 +187,8 @@ fn turn_second<'a>(
 {
     match first_field(fields) {
         Front::Node(_, rest) => turn_first(alloc, Loop::While, rest, nodes, labels, env),
-        Front::Absent(_) => Ok(uncovered(alloc)),
-        Front::End => Ok(uncovered(alloc)),
+        Front::Absent(_) => uncovered(alloc),
+        Front::End => uncovered(alloc),
     }
 }
 
@@ -206,7 +206,7 @@ fn turn_behind_test<'a>(
     match first_field(fields) {
         Front::Node(_, rest) => turn_first(alloc, Loop::For, rest, nodes, labels, env),
         Front::Absent(rest) => turn_first(alloc, Loop::For, rest, nodes, labels, env),
-        Front::End => Ok(uncovered(alloc)),
+        Front::End => uncovered(alloc),
     }
 }
 
@@ -223,7 +223,7 @@ fn turn_behind_init<'a>(
     match first_field(fields) {
         Front::Node(_, rest) => turn_behind_test(alloc, rest, nodes, labels, env),
         Front::Absent(rest) => turn_behind_test(alloc, rest, nodes, labels, env),
-        Front::End => Ok(uncovered(alloc)),
+        Front::End => uncovered(alloc),
     }
 }
 
@@ -240,7 +240,7 @@ fn turn_for<'a>(
     match first_field(fields) {
         Front::Node(_, rest) => turn_behind_init(alloc, rest, nodes, labels, env),
         Front::Absent(rest) => turn_behind_init(alloc, rest, nodes, labels, env),
-        Front::End => Ok(uncovered(alloc)),
+        Front::End => uncovered(alloc),
     }
 }
 
@@ -273,6 +273,9 @@ fn do_task<'a>(world: &mut World<'a>, alloc: Global, task: Task<'a>) -> Result<P
     }
 }
 
+// Lets an entry go.
+fn discard<'a>(task: Task<'a>) {}
+
 /// An entry: it costs one, and the run stops where none is left.
 pub fn enter_task<'a>(
     world: &mut World<'a>,
@@ -284,7 +287,7 @@ pub fn enter_task<'a>(
     if world.spend() {
         do_task(world, alloc, task)
     } else {
-        discard_control(Control::Enter(task));
-        Ok(replies(alloc, Reply::Stops(Ending::Out)))
+        discard(task);
+        replies(alloc, Reply::Stops(Ending::Out))
     }
 }

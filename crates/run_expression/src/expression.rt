@@ -41,11 +41,11 @@ fn enter_name<'a>(
     match wanted {
         Wanted::ForTypeof => {
             let reply = world.typeof_name(slot, name.as_str())?;
-            Ok(replies(alloc, reply))
+            replies(alloc, reply)
         }
         _ => {
             let reply = world.name_value(slot, name.as_str())?;
-            Ok(replies(alloc, reply))
+            replies(alloc, reply)
         }
     }
 }
@@ -62,14 +62,14 @@ fn enter_this<'a>(
 {
     let slot = env.look("this");
     let reply = world.name_value(slot, "this")?;
-    Ok(replies(alloc, reply))
+    replies(alloc, reply)
 }
 
 fn enter_literal<'a>(alloc: Global, literal: &LiteralValue) -> Result<Plan<'a>, AllocError>
     ensures { IfOk result (λ p. (E : Enter) → plans E p ≡ give (literal_value literal.now)) }
 {
     let value = literal_value(alloc, literal)?;
-    Ok(replies(alloc, gives(value)))
+    replies(alloc, gives(value))
 }
 
 // A function expression (15.2.5) or an arrow (15.3.4).
@@ -83,7 +83,7 @@ fn enter_function<'a>(
     ensures does { IfOk result (λ p. (E : Enter) → at world.old (function_value kind (row nodes.now) env.entry) ≡ at world.new (plans E p)) }
 {
     let reply = make_function(world, alloc, kind, nodes, env)?;
-    Ok(replies(alloc, reply))
+    replies(alloc, reply)
 }
 
 /// The first step of a node that is asked for its value.
@@ -111,9 +111,9 @@ pub fn enter_value<'a>(
         } => enter_function(world, alloc, FunctionKind::Arrow, nodes, env),
         NodeKind::ArrayExpression => enter_array(alloc, nodes, wanted, env),
         NodeKind::ObjectExpression => enter_object(alloc, nodes, wanted, env),
-        NodeKind::ParenthesizedExpression => Ok(asks_first(alloc, nodes, Ask::Value(wanted), env)),
+        NodeKind::ParenthesizedExpression => asks_first(alloc, nodes, Ask::Value(wanted), env),
         NodeKind::SequenceExpression => {
-            Ok(asks_first(alloc, nodes, Ask::Value(Wanted::Itself), env))
+            asks_first(alloc, nodes, Ask::Value(Wanted::Itself), env)
         }
         NodeKind::Expressions => run_in_turn(alloc, nodes, env),
         NodeKind::UnaryExpression(operator) => enter_unary(alloc, *operator, nodes, wanted, env),
@@ -137,6 +137,6 @@ pub fn enter_value<'a>(
             key,
             optional: false,
         } => enter_member(alloc, key, nodes, wanted, env),
-        _ => Ok(uncovered(alloc)),
+        _ => uncovered(alloc),
     }
 }

@@ -28,12 +28,13 @@ pub(crate) fn enter_array<'a>(
 ) -> Result<Plan<'a>, AllocError>
     ensures { IfOk result (λ p. (E : Enter) → plans E p ≡ does E Kind.ArrayExpression (row nodes.now) (eval E (row nodes.now)) (value (wanted_of wanted)) env.entry) }
 {
-    match nodes {
-        [Some(elements), ..] => {
-            let plan = asks(alloc, elements, Ask::Collect, env);
+    match first_field(nodes) {
+        Front::Node(elements, _) => {
+            let plan = asks(alloc, elements, Ask::Collect, env)?;
             then_values(alloc, plan, AfterValues::Array)
         }
-        _ => Ok(uncovered(alloc)),
+        Front::Absent(_) => uncovered(alloc),
+        Front::End => uncovered(alloc),
     }
 }
 
@@ -45,7 +46,7 @@ fn object_plan<'a>(
     ensures { IfOk result (λ p. (E : Enter) → plans E p ≡ with_all (meaning E properties.now collect env.entry) (λ vs. identity (λ i. give (object i (object_content properties.now.below vs no_content))))) }
 {
     let below = Nodes::new(properties.children());
-    let plan = asks(alloc, properties, Ask::Collect, env);
+    let plan = asks(alloc, properties, Ask::Collect, env)?;
     then_values(alloc, plan, AfterValues::Object(below))
 }
 
@@ -61,7 +62,7 @@ pub(crate) fn enter_object<'a>(
 {
     match first_field(nodes) {
         Front::Node(properties, _) => object_plan(alloc, properties, env),
-        Front::Absent(_) => Ok(uncovered(alloc)),
-        Front::End => Ok(uncovered(alloc)),
+        Front::Absent(_) => uncovered(alloc),
+        Front::End => uncovered(alloc),
     }
 }

@@ -48,7 +48,7 @@ fn used_plan<'a>(
 {
     let key = copy_key(alloc, key)?;
     let around = env.copy()?;
-    let plan = asks(alloc, object, Ask::Value(Wanted::Itself), around);
+    let plan = asks(alloc, object, Ask::Value(Wanted::Itself), around)?;
     then_operand(
         alloc,
         plan,
@@ -68,8 +68,8 @@ fn enter_used<'a>(
 {
     match first_field(nodes) {
         Front::Node(object, rest) => used_plan(alloc, key, object, rest, aim, env),
-        Front::Absent(_) => Ok(uncovered(alloc)),
-        Front::End => Ok(uncovered(alloc)),
+        Front::Absent(_) => uncovered(alloc),
+        Front::End => uncovered(alloc),
     }
 }
 

@@ -55,7 +55,7 @@ fn unary<'a>(
     ensures { IfOk result (λ p. (E : Enter) → plans E p ≡ unary_of operator (value_of value.now)) }
 {
     let found = unary_of(alloc, operator, value)?;
-    Ok(given(alloc, found))
+    given(alloc, found)
 }
 
 fn left<'a>(
@@ -67,7 +67,7 @@ fn left<'a>(
 ) -> Result<Plan<'a>, AllocError>
     ensures { IfOk result (λ p. (E : Enter) → plans E p ≡ with_value (meaning E right.now now env.entry) (binary_value E operator (value_of value.entry))) }
 {
-    let plan = asks(alloc, right.node(), Ask::Value(NOW), env);
+    let plan = asks(alloc, right.node(), Ask::Value(NOW), env)?;
     then_operand(alloc, plan, AfterOperand::Right(operator, value))
 }
 
@@ -82,9 +82,9 @@ fn logical<'a>(
     ensures { IfOk result (λ p. (E : Enter) → plans E p ≡ logical_value operator (value_of value.entry) (meaning E right.now now env.entry)) }
 {
     if goes_right(operator, &value) {
-        Ok(asks(alloc, right.node(), Ask::Value(NOW), env))
+        asks(alloc, right.node(), Ask::Value(NOW), env)
     } else {
-        Ok(replies(alloc, gives(value)))
+        replies(alloc, gives(value))
     }
 }
 
@@ -95,8 +95,8 @@ fn conditional<'a>(
     yes: &NodeRef<'a>,
     no: &NodeRef<'a>,
     env: Env<'a>,
-) -> Plan<'a>
-    ensures { (E : Enter) → plans E result ≡ choose (truthy (value_of value.now)) (meaning E yes.now now env.entry) (meaning E no.now now env.entry) }
+) -> Result<Plan<'a>, AllocError>
+    ensures { IfOk result (λ p. (E : Enter) → plans E p ≡ choose (truthy (value_of value.now)) (meaning E yes.now now env.entry) (meaning E no.now now env.entry)) }
 {
     if truthy(value) {
         asks(alloc, yes.node(), Ask::Value(NOW), env)
@@ -117,11 +117,11 @@ fn key_below<'a>(
 {
     match first_field(nodes.nodes()) {
         Front::Node(node, _) => {
-            let plan = asks(alloc, node, Ask::Value(NOW), env);
+            let plan = asks(alloc, node, Ask::Value(NOW), env)?;
             then_operand(alloc, plan, AfterOperand::MemberKey(object, aim))
         }
-        Front::Absent(_) => Ok(uncovered(alloc)),
-        Front::End => Ok(uncovered(alloc)),
+        Front::Absent(_) => uncovered(alloc),
+        Front::End => uncovered(alloc),
     }
 }
 
@@ -165,7 +165,7 @@ fn at_key<'a>(
     ensures does { IfOk result (λ p. (E : Enter) → at world.old (known_key (used E aim (value_of object.entry)) (value_of key.entry)) ≡ at world.new (plans E p)) }
 {
     if is_other(&key) {
-        Ok(uncovered(alloc))
+        uncovered(alloc)
     } else {
         used(world, alloc, aim, object, key)
     }
@@ -186,31 +186,28 @@ pub fn resume_operand<'a>(
             collected(alloc, entries, &rest, env, before, value)
         }
         AfterOperand::InTurn(rest, env) => run_in_turn(alloc, rest.nodes(), env),
-        AfterOperand::Given(other) => Ok(replies(alloc, gives(other))),
-        AfterOperand::Receiver(receiver) => Ok(completes(
-            alloc,
-            Completion::Gives(value, receiver),
-        )),
+        AfterOperand::Given(other) => replies(alloc, gives(other)),
+        AfterOperand::Receiver(receiver) => completes(alloc, Completion::Gives(value, receiver)),
         AfterOperand::Unary(operator) => unary(alloc, operator, &value),
         AfterOperand::Left(operator, right, env) => left(alloc, operator, value, &right, env),
         AfterOperand::Right(operator, left) => binary_value(world, alloc, operator, &left, &value),
         AfterOperand::Logical(operator, right, env) => {
             logical(alloc, operator, value, &right, env)
         }
-        AfterOperand::Conditional(yes, no, env) => Ok(conditional(alloc, &value, &yes, &no, env)),
+        AfterOperand::Conditional(yes, no, env) => conditional(alloc, &value, &yes, &no, env),
         AfterOperand::Callee(arguments, env) => {
-            let plan = asks(alloc, arguments.node(), Ask::Collect, env);
+            let plan = asks(alloc, arguments.node(), Ask::Collect, env)?;
             then_values(alloc, plan, AfterValues::Call(value, this))
         }
         AfterOperand::NewCallee(arguments, env) => {
-            let plan = asks(alloc, arguments.node(), Ask::Collect, env);
+            let plan = asks(alloc, arguments.node(), Ask::Collect, env)?;
             then_values(alloc, plan, AfterValues::New(value))
         }
         AfterOperand::MemberOf(key, nodes, env, aim) => {
             member_of(world, alloc, &key, &nodes, env, aim, value)
         }
         AfterOperand::MemberKey(object, aim) => at_key(world, alloc, aim, object, value),
-        AfterOperand::OnlyBoolean => Ok(only_boolean(alloc, value)),
-        AfterOperand::OnlyObject => Ok(only_object(alloc, value)),
+        AfterOperand::OnlyBoolean => only_boolean(alloc, value),
+        AfterOperand::OnlyObject => only_object(alloc, value),
     }
 }

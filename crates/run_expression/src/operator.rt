@@ -17,7 +17,8 @@ use js_syntax::{
 };
 use js_tree::Node;
 use run_plan::{
-    AfterOperand, AfterPlace, Ask, NodeRef, Plan, Wanted, asks, then_operand, then_place, uncovered,
+    AfterOperand, AfterPlace, Ask, Front, NodeRef, Plan, Wanted, asks, first_field, then_operand,
+    then_place, uncovered,
 };
 use run_value::Env;
 use std::alloc::{AllocError, Global};
@@ -42,12 +43,13 @@ pub(crate) fn enter_unary<'a>(
 ) -> Result<Plan<'a>, AllocError>
     ensures { IfOk result (λ p. (E : Enter) → plans E p ≡ does E (Kind.UnaryExpression operator) (row nodes.now) (eval E (row nodes.now)) (value (wanted_of wanted)) env.entry) }
 {
-    match nodes {
-        [Some(operand), ..] => {
-            let plan = asks(alloc, operand, Ask::Value(wanted_by(operator)), env);
+    match first_field(nodes) {
+        Front::Node(operand, _) => {
+            let plan = asks(alloc, operand, Ask::Value(wanted_by(operator)), env)?;
             then_operand(alloc, plan, AfterOperand::Unary(operator))
         }
-        _ => Ok(uncovered(alloc)),
+        Front::Absent(_) => uncovered(alloc),
+        Front::End => uncovered(alloc),
     }
 }
 
@@ -63,12 +65,13 @@ pub(crate) fn enter_update<'a>(
 ) -> Result<Plan<'a>, AllocError>
     ensures { IfOk result (λ p. (E : Enter) → plans E p ≡ does E (Kind.UpdateExpression operator prefix) (row nodes.now) (eval E (row nodes.now)) (value (wanted_of wanted)) env.entry) }
 {
-    match nodes {
-        [Some(target), ..] => {
-            let plan = asks(alloc, target, Ask::Place, env);
+    match first_field(nodes) {
+        Front::Node(target, _) => {
+            let plan = asks(alloc, target, Ask::Place, env)?;
             then_place(alloc, plan, AfterPlace::Update(operator, prefix))
         }
-        _ => Ok(uncovered(alloc)),
+        Front::Absent(_) => uncovered(alloc),
+        Front::End => uncovered(alloc),
     }
 }
 
@@ -82,7 +85,7 @@ fn binary_plan<'a>(
     ensures { IfOk result (λ p. (E : Enter) → plans E p ≡ with_value (meaning E left.now now env.entry) (λ v. with_value (meaning E right.now now env.entry) (binary_value E operator v))) }
 {
     let around = env.copy()?;
-    let plan = asks(alloc, left, Ask::Value(Wanted::Itself), around);
+    let plan = asks(alloc, left, Ask::Value(Wanted::Itself), around)?;
     then_operand(
         alloc,
         plan,
@@ -102,7 +105,7 @@ pub(crate) fn enter_binary<'a>(
 {
     match first_two(nodes) {
         Pair::Both(left, right) => binary_plan(alloc, operator, left, right, env),
-        Pair::Fewer => Ok(uncovered(alloc)),
+        Pair::Fewer => uncovered(alloc),
     }
 }
 
@@ -116,7 +119,7 @@ fn logical_plan<'a>(
     ensures { IfOk result (λ p. (E : Enter) → plans E p ≡ with_value (meaning E left.now now env.entry) (λ v. logical_value operator v (meaning E right.now now env.entry))) }
 {
     let around = env.copy()?;
-    let plan = asks(alloc, left, Ask::Value(Wanted::Itself), around);
+    let plan = asks(alloc, left, Ask::Value(Wanted::Itself), around)?;
     then_operand(
         alloc,
         plan,
@@ -136,7 +139,7 @@ pub(crate) fn enter_logical<'a>(
 {
     match first_two(nodes) {
         Pair::Both(left, right) => logical_plan(alloc, operator, left, right, env),
-        Pair::Fewer => Ok(uncovered(alloc)),
+        Pair::Fewer => uncovered(alloc),
     }
 }
 
@@ -150,7 +153,7 @@ fn assignment_plan<'a>(
     ensures { IfOk result (λ p. (E : Enter) → plans E p ≡ with_place (meaning E target.now place env.entry) (λ p. assign E operator p (meaning E right.now now env.entry))) }
 {
     let around = env.copy()?;
-    let plan = asks(alloc, target, Ask::Place, around);
+    let plan = asks(alloc, target, Ask::Place, around)?;
     then_place(
         alloc,
         plan,
@@ -170,7 +173,7 @@ pub(crate) fn enter_assignment<'a>(
 {
     match first_two(nodes) {
         Pair::Both(target, right) => assignment_plan(alloc, operator, target, right, env),
-        Pair::Fewer => Ok(uncovered(alloc)),
+        Pair::Fewer => uncovered(alloc),
     }
 }
 
@@ -184,7 +187,7 @@ fn conditional_plan<'a>(
     ensures { IfOk result (λ p. (E : Enter) → plans E p ≡ with_value (meaning E test.now now env.entry) (λ v. choose (truthy v) (meaning E taken.now now env.entry) (meaning E other.now now env.entry))) }
 {
     let around = env.copy()?;
-    let plan = asks(alloc, test, Ask::Value(Wanted::Itself), around);
+    let plan = asks(alloc, test, Ask::Value(Wanted::Itself), around)?;
     then_operand(
         alloc,
         plan,
@@ -203,7 +206,7 @@ pub(crate) fn enter_conditional<'a>(
 {
     match first_three(nodes) {
         Triple::All(test, taken, other) => conditional_plan(alloc, test, taken, other, env),
-        Triple::Fewer => Ok(uncovered(alloc)),
+        Triple::Fewer => uncovered(alloc),
     }
 }
 
@@ -216,7 +219,7 @@ fn call_plan<'a>(
     ensures { IfOk result (λ p. (E : Enter) → plans E p ≡ with_receiver (meaning E callee.now (value to_call) env.entry) (λ f this. with_all (meaning E arguments.now collect env.entry) (call_value E f this))) }
 {
     let around = env.copy()?;
-    let plan = asks(alloc, callee, Ask::Value(Wanted::ToCall), around);
+    let plan = asks(alloc, callee, Ask::Value(Wanted::ToCall), around)?;
     then_operand(
         alloc,
         plan,
@@ -236,7 +239,7 @@ pub(crate) fn enter_call<'a>(
 {
     match first_two(nodes) {
         Pair::Both(callee, arguments) => call_plan(alloc, callee, arguments, env),
-        Pair::Fewer => Ok(uncovered(alloc)),
+        Pair::Fewer => uncovered(alloc),
     }
 }
 
@@ -249,7 +252,7 @@ fn new_plan<'a>(
     ensures { IfOk result (λ p. (E : Enter) → plans E p ≡ with_value (meaning E callee.now now env.entry) (λ f. with_all (meaning E arguments.now collect env.entry) (construct_value E f))) }
 {
     let around = env.copy()?;
-    let plan = asks(alloc, callee, Ask::Value(Wanted::Itself), around);
+    let plan = asks(alloc, callee, Ask::Value(Wanted::Itself), around)?;
     then_operand(
         alloc,
         plan,
@@ -269,6 +272,6 @@ pub(crate) fn enter_new<'a>(
 {
     match first_two(nodes) {
         Pair::Both(callee, arguments) => new_plan(alloc, callee, arguments, env),
-        Pair::Fewer => Ok(uncovered(alloc)),
+        Pair::Fewer => uncovered(alloc),
     }
 }

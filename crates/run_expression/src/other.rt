@@ -10,7 +10,9 @@ ghost use Rattle.run_plan.specs.Frame.{plans};
 use crate::member::enter_member_place;
 use js_syntax::NodeKind;
 use js_tree::Node;
-use run_plan::{Ask, Plan, Wanted, asks_first, collect_values, replies, uncovered};
+use run_plan::{
+    Ask, Front, Plan, Wanted, asks_first, collect_values, first_field, replies, uncovered,
+};
 use run_value::Env;
 use run_world::World;
 use std::alloc::{AllocError, Global};
@@ -29,14 +31,14 @@ pub fn enter_place<'a>(
         NodeKind::TargetName(name) => {
             let slot = env.look(name.as_str());
             let reply = world.name_place(slot, name.as_str())?;
-            Ok(replies(alloc, reply))
+            replies(alloc, reply)
         }
-        NodeKind::ParenthesizedExpression => Ok(asks_first(alloc, nodes, Ask::Place, env)),
+        NodeKind::ParenthesizedExpression => asks_first(alloc, nodes, Ask::Place, env),
         NodeKind::MemberExpression {
             key,
             optional: false,
         } => enter_member_place(alloc, key, nodes, env),
-        _ => Ok(uncovered(alloc)),
+        _ => uncovered(alloc),
     }
 }
 
@@ -54,24 +56,28 @@ pub fn enter_collection<'a>(
             collect_values(alloc, false, nodes, env, Vec::new(alloc))
         }
         NodeKind::Properties => collect_values(alloc, true, nodes, env, Vec::new(alloc)),
-        _ => Ok(uncovered(alloc)),
+        _ => uncovered(alloc),
     }
 }
 
 #[tactic(auto, unfolding(js_meaning::specs::Node::may, js_meaning::specs::Meaning::eval))]
-fn property_value<'a>(alloc: Global, nodes: &'a [Option<Node>], env: Env<'a>) -> Plan<'a>
-    ensures { (E : Enter) → plans E result ≡ may (eval E (row nodes.now)) (λ k r. need r (λ m r. m now env.entry)) }
+fn property_value<'a>(
+    alloc: Global,
+    nodes: &'a [Option<Node>],
+    env: Env<'a>,
+) -> Result<Plan<'a>, AllocError>
+    ensures { IfOk result (λ p. (E : Enter) → plans E p ≡ may (eval E (row nodes.now)) (λ k r. need r (λ m r. m now env.entry))) }
 {
-    match nodes {
-        [Some(_), others @ ..] => asks_first(alloc, others, Ask::Value(Wanted::Itself), env),
-        [None, others @ ..] => asks_first(alloc, others, Ask::Value(Wanted::Itself), env),
-        [] => uncovered(alloc),
+    match first_field(nodes) {
+        Front::Node(_, others) => asks_first(alloc, others, Ask::Value(Wanted::Itself), env),
+        Front::Absent(others) => asks_first(alloc, others, Ask::Value(Wanted::Itself), env),
+        Front::End => uncovered(alloc),
     }
 }
 
 /// The first step of a property that is asked for its value.
-pub fn enter_entry<'a>(alloc: Global, node: &'a Node, env: Env<'a>) -> Plan<'a>
-    ensures { (E : Enter) → plans E result ≡ does E node.now.kind node.now.below (eval E node.now.below) entry env.entry }
+pub fn enter_entry<'a>(alloc: Global, node: &'a Node, env: Env<'a>) -> Result<Plan<'a>, AllocError>
+    ensures { IfOk result (λ p. (E : Enter) → plans E p ≡ does E node.now.kind node.now.below (eval E node.now.below) entry env.entry) }
 {
     match node.kind() {
         NodeKind::Property { .. } => property_value(alloc, node.children(), env),

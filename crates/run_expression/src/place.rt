@@ -57,7 +57,7 @@ fn assign<'a>(
 {
     match operator {
         AssignmentOperator::Assign => {
-            let plan = asks(alloc, right.node(), Ask::Value(Wanted::Itself), env);
+            let plan = asks(alloc, right.node(), Ask::Value(Wanted::Itself), env)?;
             then_target(alloc, plan, AfterTarget::Put(place))
         }
         AssignmentOperator::Addition => {
@@ -91,7 +91,7 @@ fn assign<'a>(
         AssignmentOperator::LogicalNullish => {
             short(world, alloc, LogicalOperator::Coalesce, place, right, env)
         }
-        _ => Ok(uncovered(alloc)),
+        _ => uncovered(alloc),
     }
 }
 

@@ -50,7 +50,7 @@ fn write_updated<'a>(
             let plan = put_place(world, alloc, place, new)?;
             then_operand(alloc, plan, AfterOperand::Given(value))
         }
-        None => Ok(uncovered(alloc)),
+        None => uncovered(alloc),
     }
 }
 
@@ -67,10 +67,10 @@ fn short<'a>(
     ensures { IfOk result (λ p. (E : Enter) → plans E p ≡ logical_value operator (value_of value.entry) (then_put E (place_of place.entry) (meaning E right.now now env.entry))) }
 {
     if goes_right(operator, &value) {
-        let plan = asks(alloc, right.node(), Ask::Value(Wanted::Itself), env);
+        let plan = asks(alloc, right.node(), Ask::Value(Wanted::Itself), env)?;
         then_target(alloc, plan, AfterTarget::Put(place))
     } else {
-        Ok(replies(alloc, gives(value)))
+        replies(alloc, gives(value))
     }
 }
 
@@ -90,7 +90,7 @@ pub fn resume_target<'a>(
         }
         AfterTarget::Put(place) => put_place(world, alloc, &place, value),
         AfterTarget::Compound(operator, place, right, env) => {
-            let plan = asks(alloc, right.node(), Ask::Value(Wanted::Itself), env);
+            let plan = asks(alloc, right.node(), Ask::Value(Wanted::Itself), env)?;
             then_target(
                 alloc,
                 plan,

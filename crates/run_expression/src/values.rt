@@ -88,7 +88,7 @@ fn make_array<'a>(
 {
     let number = world.identity()?;
     let content = Rc::new(alloc, Content::array(alloc, values))?;
-    Ok(replies(alloc, gives(Value::Array(number, content))))
+    replies(alloc, gives(Value::Array(number, content)))
 }
 
 fn make_object<'a>(
@@ -102,7 +102,7 @@ fn make_object<'a>(
     let number = world.identity()?;
     let properties = object_content(alloc, nodes, values, Properties::new(alloc))?;
     let content = Rc::new(alloc, properties.into_content())?;
-    Ok(replies(alloc, gives(Value::Object(number, content))))
+    replies(alloc, gives(Value::Object(number, content)))
 }
 
 /// What an expression does with a list of values.

@@ -80,7 +80,7 @@ pub fn call_value<'a>(
                 this,
                 arguments,
             };
-            Ok(enters(alloc, Task::Body(call)))
+            enters(alloc, Task::Body(call))
         }
         Value::Plain(callee) => call_plain(world, alloc, callee, &this, arguments.as_slice()),
         Value::Object(..) | Value::Array(..) | Value::Error(..) => {
@@ -121,7 +121,7 @@ pub fn construct_value<'a>(
     ensures does { IfOk result (λ p. (E : Enter) → at world.old (construct_value E (value_of callee.now) (values_of arguments.now)) ≡ at world.new (plans E p)) }
 {
     if is_other(callee) {
-        Ok(uncovered(alloc))
+        uncovered(alloc)
     } else {
         construct_shown(world, alloc, callee, arguments)
     }

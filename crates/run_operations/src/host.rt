@@ -20,12 +20,12 @@ pub fn consults<'a>(world: &mut World<'a>, alloc: Global, act: Act) -> Result<Pl
     ensures follows { IfOk result (λ p. (E : Enter) (k : Completion → M) → at world.old (bind (consult E (act_of act)) k) ≡ at world.new (bind (plans E p) k)) }
 {
     let next = consult(world, alloc, act)?;
-    Ok(goes(alloc, next))
+    goes(alloc, next)
 }
 
 /// A value that is there, or nothing is said of what follows.
-pub fn given<'a>(alloc: Global, found: Option<Value<'a>>) -> Plan<'a>
-    ensures { (E : Enter) → plans E result ≡ value.gives found.entry }
+pub fn given<'a>(alloc: Global, found: Option<Value<'a>>) -> Result<Plan<'a>, AllocError>
+    ensures { IfOk result (λ p. (E : Enter) → plans E p ≡ value.gives found.entry) }
 {
     match found {
         Some(found) => replies(alloc, gives(found)),
@@ -42,5 +42,5 @@ pub fn throws<'a>(
     ensures does { IfOk result (λ p. (E : Enter) → at world.old (raise (error_of kind)) ≡ at world.new (plans E p)) }
 {
     let thrown = world.raise(kind)?;
-    Ok(completes(alloc, thrown))
+    completes(alloc, thrown)
 }

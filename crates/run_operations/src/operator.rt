@@ -19,8 +19,8 @@ use std::alloc::{AllocError, Global};
 
 /// The host has to answer with a truth value, or the run stops.
 #[tactic(auto, unfolding(js_meaning::specs::State::choose))]
-pub fn only_boolean<'a>(alloc: Global, value: Value<'a>) -> Plan<'a>
-    ensures { (E : Enter) → plans E result ≡ choose (is_boolean (value_of value.entry)) (give (value_of value.entry)) (stop trace.Ending.host_stopped) }
+pub fn only_boolean<'a>(alloc: Global, value: Value<'a>) -> Result<Plan<'a>, AllocError>
+    ensures { IfOk result (λ p. (E : Enter) → plans E p ≡ choose (is_boolean (value_of value.entry)) (give (value_of value.entry)) (stop trace.Ending.host_stopped)) }
 {
     if is_boolean(&value) {
         replies(alloc, gives(value))
@@ -31,8 +31,8 @@ pub fn only_boolean<'a>(alloc: Global, value: Value<'a>) -> Plan<'a>
 
 /// The host has to answer with an object, or the run stops.
 #[tactic(auto, unfolding(js_meaning::specs::State::choose))]
-pub fn only_object<'a>(alloc: Global, value: Value<'a>) -> Plan<'a>
-    ensures { (E : Enter) → plans E result ≡ choose (is_object (value_of value.entry)) (give (value_of value.entry)) (stop trace.Ending.host_stopped) }
+pub fn only_object<'a>(alloc: Global, value: Value<'a>) -> Result<Plan<'a>, AllocError>
+    ensures { IfOk result (λ p. (E : Enter) → plans E p ≡ choose (is_object (value_of value.entry)) (give (value_of value.entry)) (stop trace.Ending.host_stopped)) }
 {
     if is_object(&value) {
         replies(alloc, gives(value))
@@ -79,7 +79,7 @@ fn in_value<'a>(
     ensures does { IfOk result (λ p. (E : Enter) → at world.old (binary_value E binary.In (value_of left.now) (value_of right.now)) ≡ at world.new (plans E p)) }
 {
     if either_other(left, right) {
-        Ok(uncovered(alloc))
+        uncovered(alloc)
     } else {
         asks_in(world, alloc, left, right)
     }
@@ -95,7 +95,7 @@ fn instanceof_value<'a>(
     ensures does { IfOk result (λ p. (E : Enter) → at world.old (binary_value E binary.Instanceof (value_of left.now) (value_of right.now)) ≡ at world.new (plans E p)) }
 {
     if either_other(left, right) {
-        Ok(uncovered(alloc))
+        uncovered(alloc)
     } else {
         asks_instanceof(world, alloc, left, right)
     }
@@ -116,7 +116,7 @@ pub fn binary_value<'a>(
         BinaryOperator::Instanceof => instanceof_value(world, alloc, left, right),
         _ => {
             let found = binary_of(alloc, operator, left, right)?;
-            Ok(given(alloc, found))
+            given(alloc, found)
         }
     }
 }

@@ -61,11 +61,11 @@ fn get<'a>(world: &mut World<'a>, alloc: Global, place: &Place<'a>) -> Result<Pl
     match place {
         Place::Slot(slot) => {
             let reply = world.slot_value(*slot)?;
-            Ok(replies(alloc, reply))
+            replies(alloc, reply)
         }
         Place::Global(name, _) => {
             let reply = world.global_value(name)?;
-            Ok(replies(alloc, reply))
+            replies(alloc, reply)
         }
         Place::Member(object, key) => get_member(world, alloc, object, key),
     }
@@ -95,11 +95,11 @@ fn put<'a>(
     match place {
         Place::Slot(slot) => {
             let reply = world.assign_slot(*slot, value)?;
-            Ok(replies(alloc, reply))
+            replies(alloc, reply)
         }
         Place::Global(name, there) => {
             let reply = world.assign_global(alloc, name, *there, value)?;
-            Ok(replies(alloc, reply))
+            replies(alloc, reply)
         }
         Place::Member(object, key) => set_member(world, alloc, object, key, value),
     }
@@ -130,7 +130,7 @@ pub fn put_given<'a>(
 {
     match found {
         Some(found) => put_place(world, alloc, place, found),
-        None => Ok(uncovered(alloc)),
+        None => uncovered(alloc),
     }
 }
 
@@ -161,6 +161,6 @@ pub fn used<'a>(
             let plan = get_place(world, alloc, &place)?;
             then_operand(alloc, plan, AfterOperand::Receiver(receiver(wanted, this)))
         }
-        Use::Refer => Ok(completes(alloc, Completion::Refers(Place::Member(object, key)))),
+        Use::Refer => completes(alloc, Completion::Refers(Place::Member(object, key))),
     }
 }

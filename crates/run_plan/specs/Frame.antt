@@ -170,4 +170,4 @@ controls E (control.Enter task) = E (task_of task)
 controls E (control.Reply r) = replies r
 
 abbrev pub plans : Enter → Plan → M
-plans E p = onto E p.then.items (controls E p.control)
+plans E p = onto E p.then.items (controls E p.control.value)

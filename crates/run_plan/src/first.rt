@@ -1,5 +1,5 @@
 // What stands first in a row, and what it is asked.
-ghost use Rattle.std.specs.Prelude.{◌≡◌};
+ghost use Rattle.std.specs.Prelude.{IfOk, ◌≡◌};
 ghost use Rattle.js_syntax.specs.Node.{row};
 ghost use Rattle.js_meaning.specs.Node.{is_statement, first_ask, need};
 ghost use Rattle.js_meaning.specs.Meaning.{eval};
@@ -12,7 +12,7 @@ use crate::{Ask, Labels, Plan, Wanted, asks, discard_ask, uncovered};
 use js_syntax::NodeKind;
 use js_tree::Node;
 use run_value::Env;
-use std::alloc::Global;
+use std::alloc::{AllocError, Global};
 
 /// What a row begins with: a node, a field that is not there, or nothing.
 pub enum Front<'a> {
@@ -65,16 +65,16 @@ pub fn asks_first<'a>(
     nodes: &'a [Option<Node>],
     ask: Ask<'a>,
     env: Env<'a>,
-) -> Plan<'a>
-    ensures { (E : Enter) → plans E result ≡ need (eval E (row nodes.now)) (λ m r. m (ask_of ask.entry) env.entry) }
+) -> Result<Plan<'a>, AllocError>
+    ensures { IfOk result (λ p. (E : Enter) → plans E p ≡ need (eval E (row nodes.now)) (λ m r. m (ask_of ask.entry) env.entry)) }
 {
-    match nodes {
-        [Some(node), ..] => asks(alloc, node, ask, env),
-        [None, ..] => {
+    match first_field(nodes) {
+        Front::Node(node, _) => asks(alloc, node, ask, env),
+        Front::Absent(_) => {
             discard_ask(ask);
             uncovered(alloc)
         }
-        [] => {
+        Front::End => {
             discard_ask(ask);
             uncovered(alloc)
         }

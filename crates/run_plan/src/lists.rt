@@ -38,15 +38,15 @@ pub fn run_each<'a>(
         Front::Node(node, others) => {
             let under = labels.copy()?;
             let around = env.copy()?;
-            let plan = asks(alloc, node, Ask::Run(under), around);
+            let plan = asks(alloc, node, Ask::Run(under), around)?;
             then_normal(
                 alloc,
                 plan,
                 AfterNormal::Each(labels, Nodes::new(others), env),
             )
         }
-        Front::Absent(_) => Ok(uncovered(alloc)),
-        Front::End => Ok(completes(alloc, Completion::Normal)),
+        Front::Absent(_) => uncovered(alloc),
+        Front::End => completes(alloc, Completion::Normal),
     }
 }
 
@@ -63,15 +63,15 @@ pub fn declare_each<'a>(
     match first_field(nodes) {
         Front::Node(node, others) => {
             let around = env.copy()?;
-            let plan = asks(alloc, node, Ask::Declares(how), around);
+            let plan = asks(alloc, node, Ask::Declares(how), around)?;
             then_normal(
                 alloc,
                 plan,
                 AfterNormal::Declare(how, Nodes::new(others), env),
             )
         }
-        Front::Absent(_) => Ok(uncovered(alloc)),
-        Front::End => Ok(completes(alloc, Completion::Normal)),
+        Front::Absent(_) => uncovered(alloc),
+        Front::End => completes(alloc, Completion::Normal),
     }
 }
 
@@ -96,7 +96,7 @@ fn collect_first<'a>(
     ensures { IfOk result (λ p. (E : Enter) → plans E p ≡ with_value (meaning E node.now (entry_or_now entries) env.entry) (λ v. values (entry_or_now entries) (eval E (row others.now)) env.entry (λ vs. done (gives_all (values_of before.entry.items ++ (v ∷ vs)))))) }
 {
     let around = env.copy()?;
-    let plan = asks(alloc, node, asked(entries), around);
+    let plan = asks(alloc, node, asked(entries), around)?;
     then_operand(
         alloc,
         plan,
@@ -105,8 +105,8 @@ fn collect_first<'a>(
 }
 
 // None but those that are there already.
-fn collected<'a>(alloc: Global, before: Vec<Value<'a>>) -> Plan<'a>
-    ensures { (E : Enter) → plans E result ≡ done (gives_all (values_of before.entry.items ++ [])) }
+fn collected<'a>(alloc: Global, before: Vec<Value<'a>>) -> Result<Plan<'a>, AllocError>
+    ensures { IfOk result (λ p. (E : Enter) → plans E p ≡ done (gives_all (values_of before.entry.items ++ []))) }
 {
     completes(alloc, Completion::GivesAll(before))
 }
@@ -124,8 +124,8 @@ pub fn collect_values<'a>(
 {
     match first_field(nodes) {
         Front::Node(node, others) => collect_first(alloc, entries, node, others, env, before),
-        Front::Absent(_) => Ok(uncovered(alloc)),
-        Front::End => Ok(collected(alloc, before)),
+        Front::Absent(_) => uncovered(alloc),
+        Front::End => collected(alloc, before),
     }
 }
 
@@ -141,7 +141,7 @@ fn run_first<'a>(
     match first_field(others) {
         Front::Node(_, _) => run_before(alloc, node, others, env),
         Front::Absent(_) => run_before(alloc, node, others, env),
-        Front::End => Ok(asks(alloc, node, Ask::Value(Wanted::Itself), env)),
+        Front::End => asks(alloc, node, Ask::Value(Wanted::Itself), env),
     }
 }
 
@@ -154,7 +154,7 @@ fn run_before<'a>(
     ensures { IfOk result (λ p. (E : Enter) → plans E p ≡ with_value (meaning E node.now now env.entry) (λ v. in_turn (eval E (row others.now)) env.entry)) }
 {
     let around = env.copy()?;
-    let plan = asks(alloc, node, Ask::Value(Wanted::Itself), around);
+    let plan = asks(alloc, node, Ask::Value(Wanted::Itself), around)?;
     then_operand(alloc, plan, AfterOperand::InTurn(Nodes::new(others), env))
 }
 
@@ -169,8 +169,8 @@ pub fn run_in_turn<'a>(
 {
     match first_field(nodes) {
         Front::Node(node, others) => run_first(alloc, node, others, env),
-        Front::Absent(_) => Ok(uncovered(alloc)),
-        Front::End => Ok(uncovered(alloc)),
+        Front::Absent(_) => uncovered(alloc),
+        Front::End => uncovered(alloc),
     }
 }
 
@@ -184,7 +184,7 @@ fn run_default<'a>(
 {
     match default {
         Some(nodes) => run_each(alloc, Labels::none(), nodes.nodes(), env),
-        None => Ok(completes(alloc, Completion::Normal)),
+        None => completes(alloc, Completion::Normal),
     }
 }
 
@@ -203,14 +203,14 @@ pub fn find_case<'a>(
         Front::Node(node, _) => {
             let sought = value.copy()?;
             let around = env.copy()?;
-            let plan = asks(alloc, node, Ask::Matches(sought), around);
+            let plan = asks(alloc, node, Ask::Matches(sought), around)?;
             then_statement(
                 alloc,
                 plan,
                 AfterStatement::Case(Nodes::new(nodes), value, default, env),
             )
         }
-        Front::Absent(_) => Ok(uncovered(alloc)),
+        Front::Absent(_) => uncovered(alloc),
         Front::End => run_default(alloc, default, env),
     }
 }
@@ -242,7 +242,7 @@ fn give_first<'a>(
 {
     let (first, values) = first_value(alloc, values)?;
     let around = env.copy()?;
-    let plan = asks(alloc, node, Ask::Take(first), around);
+    let plan = asks(alloc, node, Ask::Take(first), around)?;
     then_normal(
         alloc,
         plan,
@@ -262,7 +262,7 @@ pub fn give_each<'a>(
 {
     match first_field(nodes) {
         Front::Node(node, others) => give_first(alloc, node, others, values, env),
-        Front::Absent(_) => Ok(uncovered(alloc)),
-        Front::End => Ok(completes(alloc, Completion::Normal)),
+        Front::Absent(_) => uncovered(alloc),
+        Front::End => completes(alloc, Completion::Normal),
     }
 }

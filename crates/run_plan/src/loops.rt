@@ -31,7 +31,7 @@ fn test<'a>(
     ensures { IfOk result (λ p. (E : Enter) → plans E p ≡ with_value (meaning E test.now now env.entry) (enter_if E (loop_of kind) (row_of nodes.now) labels.entry env.entry)) }
 {
     let around = env.copy()?;
-    let plan = asks(alloc, test, Ask::Value(Wanted::Itself), around);
+    let plan = asks(alloc, test, Ask::Value(Wanted::Itself), around)?;
     then_statement(
         alloc,
         plan,
@@ -53,13 +53,18 @@ fn test_first<'a>(
 {
     match first_field(row) {
         Front::Node(node, _) => test(alloc, kind, node, nodes, labels, env),
-        Front::Absent(_) => Ok(uncovered(alloc)),
-        Front::End => Ok(uncovered(alloc)),
+        Front::Absent(_) => uncovered(alloc),
+        Front::End => uncovered(alloc),
     }
 }
 
-fn turn<'a>(alloc: Global, nodes: &'a [Option<Node>], labels: Labels<'a>, env: Env<'a>) -> Plan<'a>
-    ensures { (E : Enter) → plans E result ≡ E (host.turn for_loop (row_of nodes.now) labels.entry env.entry) }
+fn turn<'a>(
+    alloc: Global,
+    nodes: &'a [Option<Node>],
+    labels: Labels<'a>,
+    env: Env<'a>,
+) -> Result<Plan<'a>, AllocError>
+    ensures { IfOk result (λ p. (E : Enter) → plans E p ≡ E (host.turn for_loop (row_of nodes.now) labels.entry env.entry)) }
 {
     enters(alloc, Task::Turn(Loop::For, Nodes::new(nodes), labels, env))
 }
@@ -77,8 +82,8 @@ fn test_maybe<'a>(
 {
     match first_field(row) {
         Front::Node(node, _) => test(alloc, Loop::For, node, nodes, labels, env),
-        Front::Absent(_) => Ok(turn(alloc, nodes, labels, env)),
-        Front::End => Ok(uncovered(alloc)),
+        Front::Absent(_) => turn(alloc, nodes, labels, env),
+        Front::End => uncovered(alloc),
     }
 }
 
@@ -93,8 +98,8 @@ fn test_do<'a>(
 {
     match first_field(nodes) {
         Front::Node(_, others) => test_first(alloc, Loop::DoWhile, others, nodes, labels, env),
-        Front::Absent(_) => Ok(uncovered(alloc)),
-        Front::End => Ok(uncovered(alloc)),
+        Front::Absent(_) => uncovered(alloc),
+        Front::End => uncovered(alloc),
     }
 }
 
@@ -110,7 +115,7 @@ fn test_for<'a>(
     match first_field(nodes) {
         Front::Node(_, others) => test_maybe(alloc, others, nodes, labels, env),
         Front::Absent(others) => test_maybe(alloc, others, nodes, labels, env),
-        Front::End => Ok(uncovered(alloc)),
+        Front::End => uncovered(alloc),
     }
 }
 

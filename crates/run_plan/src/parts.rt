@@ -17,44 +17,45 @@ use run_value::{Ending, Env};
 use run_world::{Completion, Next, Reply};
 use std::alloc::{AllocError, Global};
 
-fn alone<'a>(alloc: Global, control: Control<'a>) -> Plan<'a>
-    ensures { (E : Enter) → plans E result ≡ controls E control.entry }
+fn alone<'a>(alloc: Global, control: Control<'a>) -> Result<Plan<'a>, AllocError>
+    ensures { IfOk result (λ p. (E : Enter) → plans E p ≡ controls E control.entry) }
 {
+    let control = Box::new(alloc, control)?;
     let then = Vec::new(alloc);
-    Plan { control, then }
+    Ok(Plan { control, then })
 }
 
 /// It completed, or the run stops.
-pub fn replies<'a>(alloc: Global, reply: Reply<'a>) -> Plan<'a>
-    ensures { (E : Enter) → plans E result ≡ replies reply.entry }
+pub fn replies<'a>(alloc: Global, reply: Reply<'a>) -> Result<Plan<'a>, AllocError>
+    ensures { IfOk result (λ p. (E : Enter) → plans E p ≡ replies reply.entry) }
 {
     alone(alloc, Control::Reply(reply))
 }
 
 /// It completed in this way.
-pub fn completes<'a>(alloc: Global, completion: Completion<'a>) -> Plan<'a>
-    ensures { (E : Enter) → plans E result ≡ done (completion_of completion.entry) }
+pub fn completes<'a>(alloc: Global, completion: Completion<'a>) -> Result<Plan<'a>, AllocError>
+    ensures { IfOk result (λ p. (E : Enter) → plans E p ≡ done (completion_of completion.entry)) }
 {
     replies(alloc, Reply::Completes(completion))
 }
 
 /// Nothing is said of what follows.
-pub fn uncovered<'a>(alloc: Global) -> Plan<'a>
-    ensures { (E : Enter) → plans E result ≡ unknown }
+pub fn uncovered<'a>(alloc: Global) -> Result<Plan<'a>, AllocError>
+    ensures { IfOk result (λ p. (E : Enter) → plans E p ≡ unknown) }
 {
     replies(alloc, Reply::Stops(Ending::Uncovered))
 }
 
 /// An entry.
-pub fn enters<'a>(alloc: Global, task: Task<'a>) -> Plan<'a>
-    ensures { (E : Enter) → plans E result ≡ E (task_of task.entry) }
+pub fn enters<'a>(alloc: Global, task: Task<'a>) -> Result<Plan<'a>, AllocError>
+    ensures { IfOk result (λ p. (E : Enter) → plans E p ≡ E (task_of task.entry)) }
 {
     alone(alloc, Control::Enter(task))
 }
 
 /// How it goes on where the host may have called.
-pub fn goes<'a>(alloc: Global, next: Next<'a>) -> Plan<'a>
-    ensures { (E : Enter) → plans E result ≡ goes E next.entry }
+pub fn goes<'a>(alloc: Global, next: Next<'a>) -> Result<Plan<'a>, AllocError>
+    ensures { IfOk result (λ p. (E : Enter) → plans E p ≡ goes E next.entry) }
 {
     match next {
         Next::Replies(reply) => replies(alloc, reply),
@@ -63,8 +64,13 @@ pub fn goes<'a>(alloc: Global, next: Next<'a>) -> Plan<'a>
 }
 
 /// What a node does that is asked this.
-pub fn asks<'a>(alloc: Global, node: &'a Node, ask: Ask<'a>, env: Env<'a>) -> Plan<'a>
-    ensures { (E : Enter) → plans E result ≡ meaning E node.now (ask_of ask.entry) env.entry }
+pub fn asks<'a>(
+    alloc: Global,
+    node: &'a Node,
+    ask: Ask<'a>,
+    env: Env<'a>,
+) -> Result<Plan<'a>, AllocError>
+    ensures { IfOk result (λ p. (E : Enter) → plans E p ≡ meaning E node.now (ask_of ask.entry) env.entry) }
 {
     alone(alloc, Control::Node(NodeRef::new(node), ask, env))
 }
@@ -75,8 +81,8 @@ pub fn asks_maybe<'a>(
     node: Option<NodeRef<'a>>,
     ask: Ask<'a>,
     env: Env<'a>,
-) -> Plan<'a>
-    ensures { (E : Enter) → plans E result ≡ ask_maybe (maybe_meaning E node.entry) (ask_of ask.entry) env.entry }
+) -> Result<Plan<'a>, AllocError>
+    ensures { IfOk result (λ p. (E : Enter) → plans E p ≡ ask_maybe (maybe_meaning E node.entry) (ask_of ask.entry) env.entry) }
 {
     match node {
         Some(node) => alone(alloc, Control::Node(node, ask, env)),

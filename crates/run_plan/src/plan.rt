@@ -37,9 +37,10 @@ pub enum Control<'a> {
     Reply(Reply<'a>),
 }
 
-/// What is computed next, and the frames that follow it, the nearest last.
+/// What is computed next, and the frames that follow it, the nearest last. What is computed next stands behind a pointer: each step of
+/// a proof looks through all that a function owns by value, and so many functions own a plan.
 pub struct Plan<'a> {
-    pub control: Control<'a>,
+    pub control: Box<Control<'a>>,
     pub then: Vec<Frame<'a>>,
 }
 
@@ -54,7 +55,7 @@ impl<'a> Drop for Plan<'a> {
 
 impl<'a> Plan<'a> {
     /// What is computed next, and the frames that follow it.
-    pub fn into_parts(self) -> (Control<'a>, Vec<Frame<'a>>)
+    pub fn into_parts(self) -> (Box<Control<'a>>, Vec<Frame<'a>>)
         ensures control { result.0 ≡ self.entry.control }
         ensures then { result.1 ≡ self.entry.then }
     {

@@ -15,7 +15,7 @@ pub fn discard<'a>(frame: Frame<'a>) {}
 pub fn discard_all<'a>(frames: Vec<Frame<'a>>) {}
 
 /// Lets go what would be computed next.
-pub fn discard_control<'a>(control: Control<'a>) {}
+pub fn discard_control<'a>(control: Box<Control<'a>>) {}
 
 /// Lets go what a node would be asked.
 pub fn discard_ask<'a>(ask: Ask<'a>) {}
@@ -31,8 +31,11 @@ pub fn take_nearest<'a>(frames: &mut Vec<Frame<'a>>) -> Option<Frame<'a>>
 }
 
 /// Puts the frames of a plan onto others, and answers what is computed next.
-pub fn push_plan<'a>(frames: &mut Vec<Frame<'a>>, plan: Plan<'a>) -> Result<Control<'a>, AllocError>
-    ensures onto { IfOk result (λ c. (E : Enter) → onto E frames.old.items (plans E plan.entry) ≡ onto E frames.new.items (controls E c)) }
+pub fn push_plan<'a>(
+    frames: &mut Vec<Frame<'a>>,
+    plan: Plan<'a>,
+) -> Result<Box<Control<'a>>, AllocError>
+    ensures onto { IfOk result (λ c. (E : Enter) → onto E frames.old.items (plans E plan.entry) ≡ onto E frames.new.items (controls E c.value)) }
 {
     let (control, then) = plan.into_parts();
     push_all(frames, then)?;

@@ -33,7 +33,7 @@ fn if_plan<'a>(
     ensures { IfOk result (λ p. (E : Enter) → plans E p ≡ with_value (meaning E test.now now env.entry) (λ v. choose (truthy v) (meaning E taken.now (run labels.entry) env.entry) (ask_maybe (maybe_meaning E other.entry) (run labels.entry) env.entry))) }
 {
     let around = env.copy()?;
-    let plan = asks(alloc, test, Ask::Value(Wanted::Itself), around);
+    let plan = asks(alloc, test, Ask::Value(Wanted::Itself), around)?;
     then_statement(
         alloc,
         plan,
@@ -58,7 +58,7 @@ fn if_behind_taken<'a>(
             if_plan(alloc, test, taken, Some(NodeRef::new(other)), labels, env)
         }
         Front::Absent(_) => if_plan(alloc, test, taken, None, labels, env),
-        Front::End => Ok(uncovered(alloc)),
+        Front::End => uncovered(alloc),
     }
 }
 
@@ -74,8 +74,8 @@ fn if_behind_test<'a>(
 {
     match first_field(fields) {
         Front::Node(taken, others) => if_behind_taken(alloc, test, taken, others, labels, env),
-        Front::Absent(_) => Ok(uncovered(alloc)),
-        Front::End => Ok(uncovered(alloc)),
+        Front::Absent(_) => uncovered(alloc),
+        Front::End => uncovered(alloc),
     }
 }
 
@@ -91,8 +91,8 @@ pub(crate) fn enter_if<'a>(
 {
     match first_field(nodes) {
         Front::Node(test, others) => if_behind_test(alloc, test, others, labels, env),
-        Front::Absent(_) => Ok(uncovered(alloc)),
-        Front::End => Ok(uncovered(alloc)),
+        Front::Absent(_) => uncovered(alloc),
+        Front::End => uncovered(alloc),
     }
 }
 
@@ -105,7 +105,7 @@ fn switch_plan<'a>(
     ensures { IfOk result (λ p. (E : Enter) → plans E p ≡ with_value (meaning E value.now now env.entry) (λ v. bind (meaning E cases.now (matches v) env.entry) after_switch)) }
 {
     let around = env.copy()?;
-    let plan = asks(alloc, value, Ask::Value(Wanted::Itself), around);
+    let plan = asks(alloc, value, Ask::Value(Wanted::Itself), around)?;
     then_statement(
         alloc,
         plan,
@@ -125,8 +125,8 @@ fn switch_behind_value<'a>(
 {
     match first_field(fields) {
         Front::Node(cases, _) => switch_plan(alloc, value, cases, env),
-        Front::Absent(_) => Ok(uncovered(alloc)),
-        Front::End => Ok(uncovered(alloc)),
+        Front::Absent(_) => uncovered(alloc),
+        Front::End => uncovered(alloc),
     }
 }
 
@@ -142,8 +142,8 @@ pub(crate) fn enter_switch<'a>(
 {
     match first_field(nodes) {
         Front::Node(value, others) => switch_behind_value(alloc, value, others, env),
-        Front::Absent(_) => Ok(uncovered(alloc)),
-        Front::End => Ok(uncovered(alloc)),
+        Front::Absent(_) => uncovered(alloc),
+        Front::End => uncovered(alloc),
     }
 }
 
@@ -160,7 +160,7 @@ pub fn enter_cases<'a>(
     let env = enter_block(world, alloc, nodes, env)?;
     match env {
         Some(env) => find_case(alloc, nodes, value, None, env),
-        None => Ok(uncovered(alloc)),
+        None => uncovered(alloc),
     }
 }
 
@@ -176,11 +176,11 @@ pub fn test_case<'a>(
 {
     match nodes {
         [Some(test), ..] => {
-            let plan = asks(alloc, test, Ask::Value(Wanted::Itself), env);
+            let plan = asks(alloc, test, Ask::Value(Wanted::Itself), env)?;
             then_statement(alloc, plan, AfterStatement::CaseTest(value))
         }
-        [None, ..] => Ok(replies(alloc, gives(Value::Plain(Plain::Undefined)))),
-        [] => Ok(uncovered(alloc)),
+        [None, ..] => replies(alloc, gives(Value::Plain(Plain::Undefined))),
+        [] => uncovered(alloc),
     }
 }
 
@@ -191,13 +191,13 @@ pub(crate) fn enter_case<'a>(
     nodes: &'a [Option<Node>],
     labels: Labels<'a>,
     env: Env<'a>,
-) -> Plan<'a>
-    ensures { (E : Enter) → plans E result ≡ does E Kind.SwitchCase (row nodes.now) (eval E (row nodes.now)) (run labels.entry) env.entry }
+) -> Result<Plan<'a>, AllocError>
+    ensures { IfOk result (λ p. (E : Enter) → plans E p ≡ does E Kind.SwitchCase (row nodes.now) (eval E (row nodes.now)) (run labels.entry) env.entry) }
 {
-    match nodes {
-        [Some(_), others @ ..] => asks_first(alloc, others, Ask::Run(Labels::none()), env),
-        [None, others @ ..] => asks_first(alloc, others, Ask::Run(Labels::none()), env),
-        [] => uncovered(alloc),
+    match first_field(nodes) {
+        Front::Node(_, others) => asks_first(alloc, others, Ask::Run(Labels::none()), env),
+        Front::Absent(others) => asks_first(alloc, others, Ask::Run(Labels::none()), env),
+        Front::End => uncovered(alloc),
     }
 }
 
@@ -211,7 +211,7 @@ fn try_block<'a>(
     ensures { IfOk result (λ p. (E : Enter) → plans E p ≡ bind (meaning E block.now (run []) env.entry) (after_block (maybe_meaning E handler.entry) env.entry)) }
 {
     let inside = env.copy()?;
-    let plan = asks(alloc, block, Ask::Run(Labels::none()), inside);
+    let plan = asks(alloc, block, Ask::Run(Labels::none()), inside)?;
     then_completion(alloc, plan, AfterCompletion::Handler(handler, env))
 }
 
@@ -245,7 +245,7 @@ fn try_finalizer<'a>(
             try_plan(alloc, block, handler, Some(NodeRef::new(finalizer)), env)
         }
         Front::Absent(_) => try_plan(alloc, block, handler, None, env),
-        Front::End => Ok(uncovered(alloc)),
+        Front::End => uncovered(alloc),
     }
 }
 
@@ -263,7 +263,7 @@ fn try_handler<'a>(
             try_finalizer(alloc, block, Some(NodeRef::new(handler)), others, env)
         }
         Front::Absent(others) => try_finalizer(alloc, block, None, others, env),
-        Front::End => Ok(uncovered(alloc)),
+        Front::End => uncovered(alloc),
     }
 }
 
@@ -279,7 +279,7 @@ pub(crate) fn enter_try<'a>(
 {
     match first_field(nodes) {
         Front::Node(block, others) => try_handler(alloc, block, others, env),
-        Front::Absent(_) => Ok(uncovered(alloc)),
-        Front::End => Ok(uncovered(alloc)),
+        Front::Absent(_) => uncovered(alloc),
+        Front::End => uncovered(alloc),
     }
 }

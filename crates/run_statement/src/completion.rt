@@ -24,8 +24,8 @@ fn after_block<'a>(
     handler: Option<NodeRef<'a>>,
     env: Env<'a>,
     completion: Completion<'a>,
-) -> Plan<'a>
-    ensures { (E : Enter) → plans E result ≡ after_block (maybe_meaning E handler.entry) env.entry (completion_of completion.entry) }
+) -> Result<Plan<'a>, AllocError>
+    ensures { IfOk result (λ p. (E : Enter) → plans E p ≡ after_block (maybe_meaning E handler.entry) env.entry (completion_of completion.entry)) }
 {
     match handler {
         Some(handler) => match completion {
@@ -44,7 +44,7 @@ fn run_finalizer<'a>(
 ) -> Result<Plan<'a>, AllocError>
     ensures { IfOk result (λ p. (E : Enter) → plans E p ≡ bind (ask_maybe (maybe_meaning E finalizer.entry) (run []) env.entry) (after_finally (completion_of completion.entry))) }
 {
-    let plan = asks_maybe(alloc, finalizer, Ask::Run(Labels::none()), env);
+    let plan = asks_maybe(alloc, finalizer, Ask::Run(Labels::none()), env)?;
     then_completion(alloc, plan, AfterCompletion::Finalized(completion))
 }
 
@@ -81,22 +81,20 @@ pub fn resume_completion<'a>(
     ensures does { IfOk result (λ p. (E : Enter) → at world.old (after_completion_of E frame.entry (completion_of completion.entry)) ≡ at world.new (plans E p)) }
 {
     match frame {
-        AfterCompletion::Label(label) => Ok(replies(alloc, after_label(label, completion))),
+        AfterCompletion::Label(label) => replies(alloc, after_label(label, completion)),
         AfterCompletion::Turn(kind, nodes, labels, env) => {
             end_turn(world, alloc, kind, &nodes, labels, env, completion)
         }
         AfterCompletion::Init(nodes, labels, env) => {
             end_init(world, alloc, &nodes, labels, env, completion)
         }
-        AfterCompletion::Cases => Ok(replies(alloc, after_switch(completion))),
-        AfterCompletion::Handler(handler, env) => Ok(after_block(alloc, handler, env, completion)),
+        AfterCompletion::Cases => replies(alloc, after_switch(completion)),
+        AfterCompletion::Handler(handler, env) => after_block(alloc, handler, env, completion),
         AfterCompletion::Finalizer(finalizer, env) => {
             run_finalizer(alloc, finalizer, env, completion)
         }
-        AfterCompletion::Finalized(before) => {
-            Ok(replies(alloc, after_finally(before, completion)))
-        }
-        AfterCompletion::Call => Ok(replies(alloc, after_call(completion))),
+        AfterCompletion::Finalized(before) => { replies(alloc, after_finally(before, completion)) }
+        AfterCompletion::Call => replies(alloc, after_call(completion)),
         AfterCompletion::Report(awaited) => {
             let plan = report(world, alloc, awaited, &completion);
             discard_completion(completion);

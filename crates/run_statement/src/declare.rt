@@ -34,15 +34,20 @@ pub fn take_name<'a>(
     ensures does { IfOk result (λ p. (E : Enter) → at world.old (does E (Kind.BindingName name.now) (row nodes.now) (eval E (row nodes.now)) (take (value_of value.entry)) env.entry) ≡ at world.new (plans E p)) }
 {
     if world.fill(env.look(name.as_str()), value)? {
-        Ok(completes(alloc, Completion::Normal))
+        completes(alloc, Completion::Normal)
     } else {
-        Ok(uncovered(alloc))
+        uncovered(alloc)
     }
 }
 
 // A declarator without a value: `let` gives undefined, `var` does nothing.
-fn declare_without<'a>(alloc: Global, how: VariableKind, name: &'a Node, env: Env<'a>) -> Plan<'a>
-    ensures { (E : Enter) → plans E result ≡ declarator how (meaning E name.now) None env.entry }
+fn declare_without<'a>(
+    alloc: Global,
+    how: VariableKind,
+    name: &'a Node,
+    env: Env<'a>,
+) -> Result<Plan<'a>, AllocError>
+    ensures { IfOk result (λ p. (E : Enter) → plans E p ≡ declarator how (meaning E name.now) None env.entry) }
 {
     match how {
         VariableKind::Var => completes(alloc, Completion::Normal),
@@ -62,7 +67,7 @@ fn initial_plan<'a>(
     ensures { IfOk result (λ p. (E : Enter) → plans E p ≡ with_value (meaning E value.now now env.entry) (λ v. meaning E name.now (take v) env.entry)) }
 {
     let around = env.copy()?;
-    let plan = asks(alloc, value, Ask::Value(Wanted::Itself), around);
+    let plan = asks(alloc, value, Ask::Value(Wanted::Itself), around)?;
     then_statement(
         alloc,
         plan,
@@ -83,8 +88,8 @@ fn declare_with<'a>(
 {
     match first_field(fields) {
         Front::Node(value, _) => initial_plan(alloc, name, value, env),
-        Front::Absent(_) => Ok(declare_without(alloc, how, name, env)),
-        Front::End => Ok(uncovered(alloc)),
+        Front::Absent(_) => declare_without(alloc, how, name, env),
+        Front::End => uncovered(alloc),
     }
 }
 
@@ -100,8 +105,8 @@ pub fn enter_declarator<'a>(
 {
     match first_field(nodes) {
         Front::Node(name, others) => declare_with(alloc, how, name, others, env),
-        Front::Absent(_) => Ok(uncovered(alloc)),
-        Front::End => Ok(uncovered(alloc)),
+        Front::Absent(_) => uncovered(alloc),
+        Front::End => uncovered(alloc),
     }
 }
 
@@ -110,8 +115,8 @@ fn take_parameter<'a>(
     parameter: Option<NodeRef<'a>>,
     value: Value<'a>,
     env: Env<'a>,
-) -> Plan<'a>
-    ensures { (E : Enter) → plans E result ≡ take_maybe (maybe_meaning E parameter.entry) (value_of value.entry) env.entry }
+) -> Result<Plan<'a>, AllocError>
+    ensures { IfOk result (λ p. (E : Enter) → plans E p ≡ take_maybe (maybe_meaning E parameter.entry) (value_of value.entry) env.entry) }
 {
     match parameter {
         Some(parameter) => asks(alloc, parameter.node(), Ask::Take(value), env),
@@ -129,7 +134,7 @@ fn caught_plan<'a>(
     ensures { IfOk result (λ p. (E : Enter) → plans E p ≡ seq (take_maybe (maybe_meaning E parameter.entry) (value_of value.entry) env.entry) (meaning E block.now (run []) env.entry)) }
 {
     let around = env.copy()?;
-    let plan = take_parameter(alloc, parameter, value, around);
+    let plan = take_parameter(alloc, parameter, value, around)?;
     then_normal(alloc, plan, AfterNormal::Run(NodeRef::new(block), env))
 }
 
@@ -146,8 +151,8 @@ fn catch_block<'a>(
 {
     match first_field(fields) {
         Front::Node(block, _) => caught_plan(alloc, parameter, block, value, env),
-        Front::Absent(_) => Ok(uncovered(alloc)),
-        Front::End => Ok(uncovered(alloc)),
+        Front::Absent(_) => uncovered(alloc),
+        Front::End => uncovered(alloc),
     }
 }
 
@@ -166,7 +171,7 @@ fn catch_value<'a>(
             catch_block(alloc, Some(NodeRef::new(parameter)), others, value, env)
         }
         Front::Absent(others) => catch_block(alloc, None, others, value, env),
-        Front::End => Ok(uncovered(alloc)),
+        Front::End => uncovered(alloc),
     }
 }
 

@@ -27,8 +27,8 @@ pub(crate) fn enter_do<'a>(
     nodes: &'a [Option<Node>],
     labels: Labels<'a>,
     env: Env<'a>,
-) -> Plan<'a>
-    ensures { (E : Enter) → plans E result ≡ does E Kind.DoWhileStatement (row nodes.now) (eval E (row nodes.now)) (run labels.entry) env.entry }
+) -> Result<Plan<'a>, AllocError>
+    ensures { IfOk result (λ p. (E : Enter) → plans E p ≡ does E Kind.DoWhileStatement (row nodes.now) (eval E (row nodes.now)) (run labels.entry) env.entry) }
 {
     let turn = Task::Turn(Loop::DoWhile, Nodes::new(nodes), labels, env);
     enters(alloc, turn)
@@ -45,7 +45,7 @@ fn init_plan<'a>(
     ensures { IfOk result (λ p. (E : Enter) → plans E p ≡ bind (ask_maybe (maybe_meaning E init.entry) (first_ask (row nodes.now)) env.entry) (after_init (copy (lexical (first_of (row nodes.now))) env.entry (test_then E for_loop (row nodes.now) (eval E (row nodes.now)) labels.entry)))) }
 {
     let around = env.copy()?;
-    let plan = asks_maybe(alloc, init, first_ask(nodes), around);
+    let plan = asks_maybe(alloc, init, first_ask(nodes), around)?;
     then_completion(
         alloc,
         plan,
@@ -67,7 +67,7 @@ fn init_for<'a>(
     match first_field(fields) {
         Front::Node(init, _) => init_plan(alloc, Some(NodeRef::new(init)), nodes, labels, env),
         Front::Absent(_) => init_plan(alloc, None, nodes, labels, env),
-        Front::End => Ok(uncovered(alloc)),
+        Front::End => uncovered(alloc),
     }
 }
 

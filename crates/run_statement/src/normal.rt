@@ -25,9 +25,9 @@ fn start_body<'a>(
 {
     if world.start(nodes, &env)? {
         let ask = first_ask(nodes);
-        Ok(asks_first(alloc, nodes, ask, env))
+        asks_first(alloc, nodes, ask, env)
     } else {
-        Ok(uncovered(alloc))
+        uncovered(alloc)
     }
 }
 
@@ -42,9 +42,7 @@ pub fn resume_normal<'a>(
     match frame {
         AfterNormal::Each(labels, rest, env) => run_each(alloc, labels, rest.nodes(), env),
         AfterNormal::Declare(how, rest, env) => declare_each(alloc, how, rest.nodes(), env),
-        AfterNormal::Run(node, env) => {
-            Ok(asks(alloc, node.node(), Ask::Run(Labels::none()), env))
-        }
+        AfterNormal::Run(node, env) => { asks(alloc, node.node(), Ask::Run(Labels::none()), env) }
         AfterNormal::TakeEach(rest, values, env) => give_each(alloc, rest.nodes(), values, env),
         AfterNormal::Body(nodes, env) => start_body(world, alloc, nodes.nodes(), env),
     }

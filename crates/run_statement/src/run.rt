@@ -56,7 +56,7 @@ pub fn load_all<'a>(
 {
     match split_first(sources) {
         Some((first, others)) => load_first(world, alloc, first, others),
-        None => Ok(completes(alloc, Completion::Normal)),
+        None => completes(alloc, Completion::Normal),
     }
 }
 
@@ -71,9 +71,9 @@ fn tells<'a>(
 {
     if world.emit(alloc, act)? {
         let next = host_moves(world, alloc, awaited)?;
-        Ok(goes(alloc, next))
+        goes(alloc, next)
     } else {
-        Ok(uncovered(alloc))
+        uncovered(alloc)
     }
 }
 
@@ -124,7 +124,7 @@ pub(crate) fn report<'a>(
     match completion {
         Completion::Gives(value, _) => returned(world, alloc, value, awaited),
         Completion::Throws(value) => threw(world, alloc, value, awaited),
-        _ => Ok(uncovered(alloc)),
+        _ => uncovered(alloc),
     }
 }
 
@@ -139,7 +139,7 @@ pub(crate) fn finish<'a>(
     match completion {
         Completion::Normal => tells(world, alloc, Act::Finished, false),
         Completion::Throws(value) => failed(world, alloc, value),
-        _ => Ok(uncovered(alloc)),
+        _ => uncovered(alloc),
     }
 }
 
@@ -148,8 +148,8 @@ fn end<'a>(world: &mut World<'a>, alloc: Global) -> Result<Plan<'a>, AllocError>
 {
     let exports = world.shown_exports(alloc)?;
     match exports {
-        Some(exports) => Ok(replies(alloc, Reply::Stops(Ending::Ended(exports)))),
-        None => Ok(uncovered(alloc)),
+        Some(exports) => replies(alloc, Reply::Stops(Ending::Ended(exports))),
+        None => uncovered(alloc),
     }
 }
 
@@ -163,6 +163,6 @@ pub(crate) fn finally<'a>(
 {
     match completion {
         Completion::Normal => end(world, alloc),
-        _ => Ok(uncovered(alloc)),
+        _ => uncovered(alloc),
     }
 }

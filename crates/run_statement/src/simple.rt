@@ -32,12 +32,13 @@ pub(crate) fn enter_expression_statement<'a>(
 ) -> Result<Plan<'a>, AllocError>
     ensures { IfOk result (λ p. (E : Enter) → plans E p ≡ does E Kind.ExpressionStatement (row nodes.now) (eval E (row nodes.now)) (run labels.entry) env.entry) }
 {
-    match nodes {
-        [Some(node), ..] => {
-            let plan = asks(alloc, node, Ask::Value(Wanted::Itself), env);
+    match first_field(nodes) {
+        Front::Node(node, _) => {
+            let plan = asks(alloc, node, Ask::Value(Wanted::Itself), env)?;
             then_statement(alloc, plan, AfterStatement::Discard)
         }
-        _ => Ok(uncovered(alloc)),
+        Front::Absent(_) => uncovered(alloc),
+        Front::End => uncovered(alloc),
     }
 }
 
@@ -51,16 +52,16 @@ pub(crate) fn enter_return<'a>(
 ) -> Result<Plan<'a>, AllocError>
     ensures { IfOk result (λ p. (E : Enter) → plans E p ≡ does E Kind.ReturnStatement (row nodes.now) (eval E (row nodes.now)) (run labels.entry) env.entry) }
 {
-    match nodes {
-        [Some(node), ..] => {
-            let plan = asks(alloc, node, Ask::Value(Wanted::Itself), env);
+    match first_field(nodes) {
+        Front::Node(node, _) => {
+            let plan = asks(alloc, node, Ask::Value(Wanted::Itself), env)?;
             then_statement(alloc, plan, AfterStatement::Return)
         }
-        [None, ..] => {
+        Front::Absent(_) => {
             let value = Value::Plain(Plain::Undefined);
-            Ok(completes(alloc, Completion::Returns(value)))
+            completes(alloc, Completion::Returns(value))
         }
-        [] => Ok(uncovered(alloc)),
+        Front::End => uncovered(alloc),
     }
 }
 
@@ -74,12 +75,13 @@ pub(crate) fn enter_throw<'a>(
 ) -> Result<Plan<'a>, AllocError>
     ensures { IfOk result (λ p. (E : Enter) → plans E p ≡ does E Kind.ThrowStatement (row nodes.now) (eval E (row nodes.now)) (run labels.entry) env.entry) }
 {
-    match nodes {
-        [Some(node), ..] => {
-            let plan = asks(alloc, node, Ask::Value(Wanted::Itself), env);
+    match first_field(nodes) {
+        Front::Node(node, _) => {
+            let plan = asks(alloc, node, Ask::Value(Wanted::Itself), env)?;
             then_statement(alloc, plan, AfterStatement::Throw)
         }
-        _ => Ok(uncovered(alloc)),
+        Front::Absent(_) => uncovered(alloc),
+        Front::End => uncovered(alloc),
     }
 }
 
@@ -94,7 +96,7 @@ fn labeled_plan<'a>(
 {
     let text = label.as_str();
     let under = labels.with(alloc, text)?;
-    let plan = asks(alloc, node, Ask::Run(under), env);
+    let plan = asks(alloc, node, Ask::Run(under), env)?;
     then_completion(alloc, plan, AfterCompletion::Label(text))
 }
 
@@ -111,8 +113,8 @@ pub(crate) fn enter_labeled<'a>(
 {
     match first_field(nodes) {
         Front::Node(node, _) => labeled_plan(alloc, label, node, labels, env),
-        Front::Absent(_) => Ok(uncovered(alloc)),
-        Front::End => Ok(uncovered(alloc)),
+        Front::Absent(_) => uncovered(alloc),
+        Front::End => uncovered(alloc),
     }
 }
 
@@ -126,15 +128,15 @@ fn label_text(label: &Option<Ident>) -> Option<&str>
 }
 
 /// `break` (14.9).
-pub(crate) fn breaks<'a>(alloc: Global, label: &'a Option<Ident>) -> Plan<'a>
-    ensures { (E : Enter) → plans E result ≡ done (breaks label.now) }
+pub(crate) fn breaks<'a>(alloc: Global, label: &'a Option<Ident>) -> Result<Plan<'a>, AllocError>
+    ensures { IfOk result (λ p. (E : Enter) → plans E p ≡ done (breaks label.now)) }
 {
     completes(alloc, Completion::Breaks(label_text(label)))
 }
 
 /// `continue` (14.8).
-pub(crate) fn continues<'a>(alloc: Global, label: &'a Option<Ident>) -> Plan<'a>
-    ensures { (E : Enter) → plans E result ≡ done (continues label.now) }
+pub(crate) fn continues<'a>(alloc: Global, label: &'a Option<Ident>) -> Result<Plan<'a>, AllocError>
+    ensures { IfOk result (λ p. (E : Enter) → plans E p ≡ done (continues label.now)) }
 {
     completes(alloc, Completion::Continues(label_text(label)))
 }
@@ -144,7 +146,7 @@ fn kept_plan<'a>(alloc: Global, node: &'a Node, env: Env<'a>) -> Result<Plan<'a>
     ensures { IfOk result (λ p. (E : Enter) → plans E p ≡ with_value (meaning E node.now now env.entry) (λ v. fill (look env.entry default_name) v (done normal))) }
 {
     let around = env.copy()?;
-    let plan = asks(alloc, node, Ask::Value(Wanted::Itself), around);
+    let plan = asks(alloc, node, Ask::Value(Wanted::Itself), around)?;
     then_statement(alloc, plan, AfterStatement::Default(env))
 }
 
@@ -169,7 +171,7 @@ fn default_by<'a>(
     ensures { IfOk result (λ p. (E : Enter) → plans E p ≡ default_by function (meaning E node.now) env.entry) }
 {
     if function {
-        Ok(completes(alloc, Completion::Normal))
+        completes(alloc, Completion::Normal)
     } else {
         kept_plan(alloc, node, env)
     }
@@ -194,7 +196,7 @@ pub(crate) fn enter_default<'a>(
 {
     match first_field(nodes) {
         Front::Node(node, _) => default_plan(alloc, node, env),
-        Front::Absent(_) => Ok(uncovered(alloc)),
-        Front::End => Ok(uncovered(alloc)),
+        Front::Absent(_) => uncovered(alloc),
+        Front::End => uncovered(alloc),
     }
 }

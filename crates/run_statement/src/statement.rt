@@ -35,8 +35,8 @@ fn enter_block_statement<'a>(
 {
     let env = enter_block(world, alloc, nodes, env)?;
     match env {
-        Some(env) => Ok(asks_first(alloc, nodes, Ask::Run(labels), env)),
-        None => Ok(uncovered(alloc)),
+        Some(env) => asks_first(alloc, nodes, Ask::Run(labels), env),
+        None => uncovered(alloc),
     }
 }
 
@@ -62,29 +62,27 @@ pub fn enter_statement<'a>(
             ..
         }
         | NodeKind::ImportDeclaration(_)
-        | NodeKind::ExportAllDeclaration { .. } => Ok(completes(alloc, Completion::Normal)),
+        | NodeKind::ExportAllDeclaration { .. } => completes(alloc, Completion::Normal),
         NodeKind::ExpressionStatement => enter_expression_statement(alloc, nodes, labels, env),
         NodeKind::BlockStatement => enter_block_statement(world, alloc, nodes, labels, env),
         NodeKind::IfStatement => enter_if(alloc, nodes, labels, env),
         NodeKind::ReturnStatement => enter_return(alloc, nodes, labels, env),
         NodeKind::ThrowStatement => enter_throw(alloc, nodes, labels, env),
-        NodeKind::BreakStatement(label) => Ok(breaks(alloc, label)),
-        NodeKind::ContinueStatement(label) => Ok(continues(alloc, label)),
+        NodeKind::BreakStatement(label) => breaks(alloc, label),
+        NodeKind::ContinueStatement(label) => continues(alloc, label),
         NodeKind::LabeledStatement(label) => enter_labeled(alloc, label, nodes, labels, env),
         NodeKind::WhileStatement => test_loop(alloc, Loop::While, nodes, labels, env),
-        NodeKind::DoWhileStatement => Ok(enter_do(alloc, nodes, labels, env)),
+        NodeKind::DoWhileStatement => enter_do(alloc, nodes, labels, env),
         NodeKind::ForStatement => enter_for(world, alloc, nodes, labels, env),
         NodeKind::SwitchStatement => enter_switch(alloc, nodes, labels, env),
-        NodeKind::SwitchCase => Ok(enter_case(alloc, nodes, labels, env)),
+        NodeKind::SwitchCase => enter_case(alloc, nodes, labels, env),
         NodeKind::TryStatement => enter_try(alloc, nodes, labels, env),
-        NodeKind::VariableDeclaration(how) => {
-            Ok(asks_first(alloc, nodes, Ask::Declares(*how), env))
-        }
-        NodeKind::FunctionBody => Ok(asks_first(alloc, nodes, Ask::Run(Labels::none()), env)),
+        NodeKind::VariableDeclaration(how) => { asks_first(alloc, nodes, Ask::Declares(*how), env) }
+        NodeKind::FunctionBody => asks_first(alloc, nodes, Ask::Run(Labels::none()), env),
         NodeKind::ExportNamedDeclaration(_) => {
-            Ok(asks_first_maybe(alloc, nodes, Ask::Run(Labels::none()), env))
+            asks_first_maybe(alloc, nodes, Ask::Run(Labels::none()), env)
         }
         NodeKind::ExportDefaultDeclaration => enter_default(alloc, nodes, labels, env),
-        _ => Ok(uncovered(alloc)),
+        _ => uncovered(alloc),
     }
 }

@@ -99,7 +99,7 @@ fn update<'a>(
 {
     let env = copy_loop_names(world, alloc, nodes, env)?;
     let around = env.copy()?;
-    let plan = asks(alloc, node, Ask::Value(Wanted::Itself), around);
+    let plan = asks(alloc, node, Ask::Value(Wanted::Itself), around)?;
     then_statement(
         alloc,
         plan,
@@ -135,7 +135,7 @@ fn update_maybe<'a>(
     match first_field(row) {
         Front::Node(node, _) => update(world, alloc, node, nodes, labels, env),
         Front::Absent(_) => first_turn(world, alloc, nodes, labels, env),
-        Front::End => Ok(uncovered(alloc)),
+        Front::End => uncovered(alloc),
     }
 }
 
@@ -154,7 +154,7 @@ fn update_behind<'a>(
     match first_field(row) {
         Front::Node(_, others) => update_maybe(world, alloc, others, nodes, labels, env),
         Front::Absent(others) => update_maybe(world, alloc, others, nodes, labels, env),
-        Front::End => Ok(uncovered(alloc)),
+        Front::End => uncovered(alloc),
     }
 }
 
@@ -172,7 +172,7 @@ fn again_for<'a>(
     match first_field(nodes) {
         Front::Node(_, others) => update_behind(world, alloc, others, nodes, labels, env),
         Front::Absent(others) => update_behind(world, alloc, others, nodes, labels, env),
-        Front::End => Ok(uncovered(alloc)),
+        Front::End => uncovered(alloc),
     }
 }
 
@@ -206,7 +206,7 @@ pub(crate) fn end_turn<'a>(
     ensures does { IfOk result (λ p. (E : Enter) → at world.old (after_turn labels.entry (again E (loop_of kind) nodes.now (eval E nodes.now) labels.entry env.entry) (completion_of completion.entry)) ≡ at world.new (plans E p)) }
 {
     match after_turn(&labels, completion) {
-        Some(reply) => Ok(replies(alloc, reply)),
+        Some(reply) => replies(alloc, reply),
         None => again(world, alloc, kind, nodes, labels, env),
     }
 }
@@ -223,7 +223,7 @@ pub(crate) fn end_init<'a>(
     ensures does { IfOk result (λ p. (E : Enter) → at world.old (after_init (copy (lexical (first_of nodes.now)) env.entry (test_then E for_loop nodes.now (eval E nodes.now) labels.entry)) (completion_of completion.entry)) ≡ at world.new (plans E p)) }
 {
     match after_init(completion) {
-        Some(reply) => Ok(replies(alloc, reply)),
+        Some(reply) => replies(alloc, reply),
         None => first_turn(world, alloc, nodes.nodes(), labels, env),
     }
 }

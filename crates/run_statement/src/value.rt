@@ -33,8 +33,8 @@ fn branch<'a>(
     other: Option<NodeRef<'a>>,
     labels: Labels<'a>,
     env: Env<'a>,
-) -> Plan<'a>
-    ensures { (E : Enter) → plans E result ≡ choose (truthy (value_of value.now)) (meaning E taken.now (run labels.entry) env.entry) (ask_maybe (maybe_meaning E other.entry) (run labels.entry) env.entry) }
+) -> Result<Plan<'a>, AllocError>
+    ensures { IfOk result (λ p. (E : Enter) → plans E p ≡ choose (truthy (value_of value.now)) (meaning E taken.now (run labels.entry) env.entry) (ask_maybe (maybe_meaning E other.entry) (run labels.entry) env.entry)) }
 {
     if truthy(value) {
         asks(alloc, taken.node(), Ask::Run(labels), env)
@@ -51,8 +51,8 @@ fn enter_if<'a>(
     labels: Labels<'a>,
     env: Env<'a>,
     value: &Value<'a>,
-) -> Plan<'a>
-    ensures { (E : Enter) → plans E result ≡ enter_if E (loop_of kind) nodes.entry labels.entry env.entry (value_of value.now) }
+) -> Result<Plan<'a>, AllocError>
+    ensures { IfOk result (λ p. (E : Enter) → plans E p ≡ enter_if E (loop_of kind) nodes.entry labels.entry env.entry (value_of value.now)) }
 {
     if truthy(value) {
         enters(alloc, Task::Turn(kind, nodes, labels, env))
@@ -69,7 +69,7 @@ fn run_cases<'a>(
 ) -> Result<Plan<'a>, AllocError>
     ensures { IfOk result (λ p. (E : Enter) → plans E p ≡ bind (meaning E cases.now (matches (value_of value.entry)) env.entry) after_switch) }
 {
-    let plan = asks(alloc, cases.node(), Ask::Matches(value), env);
+    let plan = asks(alloc, cases.node(), Ask::Matches(value), env)?;
     then_completion(alloc, plan, AfterCompletion::Cases)
 }
 
@@ -113,7 +113,7 @@ fn test_value<'a>(
     ensures { IfOk result (λ p. (E : Enter) → plans E p ≡ binary_of binary.StrictEquality (value_of sought.now) (value_of value.now)) }
 {
     let found = binary_of(alloc, BinaryOperator::StrictEquality, sought, value)?;
-    Ok(given(alloc, found))
+    given(alloc, found)
 }
 
 fn keep_default<'a>(
@@ -125,9 +125,9 @@ fn keep_default<'a>(
     ensures does { IfOk result (λ p. (E : Enter) → at world.old (fill (look env.now default_name) (value_of value.entry) (done normal)) ≡ at world.new (plans E p)) }
 {
     if world.fill(env.look("*default*"), value)? {
-        Ok(completes(alloc, Completion::Normal))
+        completes(alloc, Completion::Normal)
     } else {
-        Ok(uncovered(alloc))
+        uncovered(alloc)
     }
 }
 
@@ -141,14 +141,14 @@ pub fn resume_statement<'a>(
     ensures does { IfOk result (λ p. (E : Enter) → at world.old (after_statement_of E frame.entry (value_of value.entry)) ≡ at world.new (plans E p)) }
 {
     match frame {
-        AfterStatement::Discard => Ok(completes(alloc, Completion::Normal)),
+        AfterStatement::Discard => completes(alloc, Completion::Normal),
         AfterStatement::If(taken, other, labels, env) => {
-            Ok(branch(alloc, &value, &taken, other, labels, env))
+            branch(alloc, &value, &taken, other, labels, env)
         }
-        AfterStatement::Return => Ok(completes(alloc, Completion::Returns(value))),
-        AfterStatement::Throw => Ok(completes(alloc, Completion::Throws(value))),
+        AfterStatement::Return => completes(alloc, Completion::Returns(value)),
+        AfterStatement::Throw => completes(alloc, Completion::Throws(value)),
         AfterStatement::Test(kind, nodes, labels, env) => {
-            Ok(enter_if(alloc, kind, nodes, labels, env, &value))
+            enter_if(alloc, kind, nodes, labels, env, &value)
         }
         AfterStatement::Update(nodes, labels, env) => {
             test_loop(alloc, Loop::For, nodes.nodes(), labels, env)
@@ -158,7 +158,7 @@ pub fn resume_statement<'a>(
             case_found(alloc, here, sought, default, env, &value)
         }
         AfterStatement::CaseTest(sought) => test_value(alloc, &sought, &value),
-        AfterStatement::Initial(name, env) => Ok(asks(alloc, name.node(), Ask::Take(value), env)),
+        AfterStatement::Initial(name, env) => asks(alloc, name.node(), Ask::Take(value), env),
         AfterStatement::Default(env) => keep_default(world, alloc, value, &env),
         AfterStatement::Load(sources) => load_all(world, alloc, sources),
     }

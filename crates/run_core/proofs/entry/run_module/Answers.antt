@@ -19,8 +19,8 @@ returns-in-Some c = record {
 
 pub returns-in-None : goal.returns-in-None
 returns-in-None c = record {
-  does = λ E.
+  does = IfOk-weaker c.uncovered.result _ _ (λ p h E.
       c.in_ok-env.ensures.does (λ env. seq (load_all E (distinct (requests (row c.args.nodes.now)))) (each (run []) (eval E (row c.args.nodes.now)) env))
       ∙ ap (λ o. at c.enter_module.new.world (with_env o (λ env. seq (load_all E (distinct (requests (row c.args.nodes.now)))) (each (run []) (eval E (row c.args.nodes.now)) env)))) c.in-None.is
-      ∙ ap (λ m. at c.enter_module.new.world m) (sym (c.uncovered.ensures E));
+      ∙ ap (λ m. at c.enter_module.new.world m) (sym (h E))) c.uncovered.ensures;
 }

@@ -10,5 +10,5 @@ pub returns : goal.returns
 returns c = record {
   does =
       let does = ap (λ t. at c.args.world.now (meaning enter_fully t (ask_of c.args.ask) c.args.env)) (sym c.node.ensures) ∙ c.in_ok-plan.ensures.does enter_fully in
-      planned c.args.world.now c.enter_node.new.world c.args.frames.now.items c.push_plan.new.frames.items (meaning enter_fully c.args.node (ask_of c.args.ask) c.args.env) c.in_ok-plan.plan c.in_ok-control.control does (c.in_ok-control.ensures.onto enter_fully);
+      planned c.args.world.now c.enter_node.new.world c.args.frames.now.items c.push_plan.new.frames.items (meaning enter_fully c.args.node (ask_of c.args.ask) c.args.env) c.in_ok-plan.plan c.in_ok-control.control.value does (c.in_ok-control.ensures.onto enter_fully);
 }

@@ -16,8 +16,8 @@ returns-in-Some c = record {
 
 pub returns : goal.returns
 returns c = record {
-  does = λ E.
+  does = IfOk-weaker c.uncovered.result _ _ (λ p h E.
       c.in_ok-env.ensures.does (run_code (row c.args.call.below.now) (eval E (row c.args.call.below.now)) (values_of c.args.call.arguments.items))
       ∙ ap (λ o. at c.enter_function.new.world (with_env o (run_code (row c.args.call.below.now) (eval E (row c.args.call.below.now)) (values_of c.args.call.arguments.items)))) c.in-None.is
-      ∙ ap (λ m. at c.enter_function.new.world m) (sym (c.uncovered.ensures E));
+      ∙ ap (λ m. at c.enter_function.new.world m) (sym (h E))) c.uncovered.ensures;
 }

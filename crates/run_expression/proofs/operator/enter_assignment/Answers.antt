@@ -13,6 +13,7 @@ returns-in-Both c =
     made E ∙ sym (c.first_two.ensures E k ∙ ap (λ t. both E t k) c.in-Both.is)) c.assignment_plan.ensures
 
 pub returns : goal.returns
-returns c = λ E.
+returns c =
+    IfOk-weaker c.uncovered.result _ _ (λ p made E.
     let k : Meaning → Meaning → M = λ t r. with_place (t place c.args.env) (λ p. assign E c.args.operator p (r now c.args.env)) in
-    c.uncovered.ensures E ∙ sym (c.first_two.ensures E k ∙ ap (λ t. both E t k) c.in-Fewer.is)
+    made E ∙ sym (c.first_two.ensures E k ∙ ap (λ t. both E t k) c.in-Fewer.is)) c.uncovered.ensures

@@ -13,6 +13,7 @@ returns-in-Both c =
     made E ∙ sym (c.first_two.ensures E k ∙ ap (λ t. both E t k) c.in-Both.is)) c.binary_plan.ensures
 
 pub returns : goal.returns
-returns c = λ E.
+returns c =
+    IfOk-weaker c.uncovered.result _ _ (λ p made E.
     let k : Meaning → Meaning → M = λ l r. with_value (l now c.args.env) (λ v. with_value (r now c.args.env) (binary_value E c.args.operator v)) in
-    c.uncovered.ensures E ∙ sym (c.first_two.ensures E k ∙ ap (λ t. both E t k) c.in-Fewer.is)
+    made E ∙ sym (c.first_two.ensures E k ∙ ap (λ t. both E t k) c.in-Fewer.is)) c.uncovered.ensures

@@ -13,6 +13,7 @@ returns-in-All c =
     made E ∙ sym (c.first_three.ensures E k ∙ ap (λ t. all_three E t k) c.in-All.is)) c.conditional_plan.ensures
 
 pub returns : goal.returns
-returns c = λ E.
+returns c =
+    IfOk-weaker c.uncovered.result _ _ (λ p made E.
     let k : Meaning → Meaning → Meaning → M = λ t a b. with_value (t now c.args.env) (λ v. choose (truthy v) (a now c.args.env) (b now c.args.env)) in
-    c.uncovered.ensures E ∙ sym (c.first_three.ensures E k ∙ ap (λ t. all_three E t k) c.in-Fewer.is)
+    made E ∙ sym (c.first_three.ensures E k ∙ ap (λ t. all_three E t k) c.in-Fewer.is)) c.uncovered.ensures

@@ -5,4 +5,4 @@ use Rattle.run_expression.proofs.operator.logical_plan.Goals as goal
 
 pub returns : goal.returns
 returns c =
-    IfOk-weaker c.then_operand.result _ _ (λ p made E. made E ∙ left_decides E c.args.operator c.args.left.now _ _ _ _ _ (c.asks-plan.ensures E) c.in_ok-around.ensures c.new.ensures) c.then_operand.ensures
+    IfOk-weaker c.then_operand.result _ _ (λ p made E. made E ∙ left_decides E c.args.operator c.args.left.now _ _ _ _ _ (c.in_ok-plan.ensures E) c.in_ok-around.ensures c.new.ensures) c.then_operand.ensures

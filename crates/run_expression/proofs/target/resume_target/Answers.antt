@@ -22,7 +22,7 @@ pub returns-in-Compound : goal.returns-in-Compound
 returns-in-Compound c = record {
   does = IfOk-weaker c.then_target.result _ _ (λ p h E.
       ap (λ f. at c.args.world.now (after_target_of E f (value_of c.args.value))) c.in-Compound.is
-      ∙ ap (at c.args.world.now) (sym (h E ∙ ap (λ m. with_value m (λ u. then_put E (place_of c.in-Compound.place) (binary_of c.in-Compound.operator (value_of c.args.value) u))) (c.asks-plan.ensures E ∙ ap (λ t. meaning E t now c.in-Compound.env) c.node.ensures)))) c.then_target.ensures;
+      ∙ ap (at c.args.world.now) (sym (h E ∙ ap (λ m. with_value m (λ u. then_put E (place_of c.in-Compound.place) (binary_of c.in-Compound.operator (value_of c.args.value) u))) (c.in_ok-plan-in-Compound.ensures E ∙ ap (λ t. meaning E t now c.in-Compound.env) c.node.ensures)))) c.then_target.ensures;
 }
 
 pub returns-in-CompoundRight : goal.returns-in-CompoundRight

@@ -21,5 +21,5 @@ returns-in-Some c = record {
 
 pub returns : goal.returns
 returns c = record {
-  does = λ E. ap (λ o. at c.args.world.now (with_value (given.gives o) (λ new. with_value (put_place E (place_of c.args.place.now) new) (λ u. update_gives c.args.prefix (value_of c.args.old) new)))) c.in-None.is ∙ ap (at c.args.world.now) (after_stop _ _ ∙ sym (c.uncovered.ensures E));
+  does = IfOk-weaker c.uncovered.result _ _ (λ p h E. ap (λ o. at c.args.world.now (with_value (given.gives o) (λ new. with_value (put_place E (place_of c.args.place.now) new) (λ u. update_gives c.args.prefix (value_of c.args.old) new)))) c.in-None.is ∙ ap (at c.args.world.now) (after_stop _ _ ∙ sym (h E))) c.uncovered.ensures;
 }

@@ -14,5 +14,5 @@ returns-in-Some c = record {
 
 pub returns-in-None : goal.returns-in-None
 returns-in-None c = record {
-  does = λ E. ap (λ o. at c.args.world.now (with_value (value.gives o) (put_place E (place_of c.args.place.now)))) c.in-None.is ∙ ap (at c.args.world.now) (after_stop _ _ ∙ sym (c.uncovered.ensures E));
+  does = IfOk-weaker c.uncovered.result _ _ (λ p h E. ap (λ o. at c.args.world.now (with_value (value.gives o) (put_place E (place_of c.args.place.now)))) c.in-None.is ∙ ap (at c.args.world.now) (after_stop _ _ ∙ sym (h E))) c.uncovered.ensures;
 }

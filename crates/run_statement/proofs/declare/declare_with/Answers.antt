@@ -14,4 +14,5 @@ returns-in-Node c =
 
 pub returns-in-Absent : goal.returns-in-Absent
 unfolding may eval
-returns-in-Absent c = λ E. c.declare_without.ensures E ∙ ap (λ t. may (eval E t) (λ m r. declarator c.args.how (meaning E c.args.name.now) m c.args.env)) (sym (sym c.first_field.ensures ∙ ap front_of c.in-Absent.is))
+returns-in-Absent c =
+    IfOk-weaker c.declare_without.result _ _ (λ p made E. made E ∙ ap (λ t. may (eval E t) (λ m r. declarator c.args.how (meaning E c.args.name.now) m c.args.env)) (sym (sym c.first_field.ensures ∙ ap front_of c.in-Absent.is))) c.declare_without.ensures

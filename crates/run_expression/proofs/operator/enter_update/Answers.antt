@@ -1,0 +1,15 @@
+use Rattle.std.proofs.Common.{◌∙◌, ap, sym}
+use Rattle.std.proofs.lemmas.Result.{IfOk-weaker}
+use Rattle.js_syntax.specs.declared.node_kind.NodeKind.{NodeKind as Kind}
+use Rattle.js_meaning.specs.State.{with_place}
+use Rattle.js_meaning.specs.Expression.{update_place}
+use Rattle.js_meaning.specs.Node.{value, need}
+use Rattle.js_meaning.specs.Meaning.{does, eval}
+use Rattle.run_plan.specs.Ask.{wanted_of}
+use Rattle.run_plan.specs.Front.{front_of}
+use Rattle.run_expression.proofs.operator.enter_update.Goals as goal
+
+pub returns-in-Node : goal.returns-in-Node
+unfolding need eval
+returns-in-Node c =
+    IfOk-weaker c.then_place.result _ _ (λ p made E. made E ∙ ap (λ m. with_place m (update_place E c.args.operator c.args.prefix)) (c.in_ok-plan-in-Node.ensures E) ∙ ap (λ t. does E (Kind.UpdateExpression c.args.operator c.args.prefix) t (eval E t) (value (wanted_of c.args.wanted)) c.args.env) (sym (sym c.first_field.ensures ∙ ap front_of c.in-Node.is))) c.then_place.ensures
