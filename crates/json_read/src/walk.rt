@@ -1,5 +1,5 @@
 // Nodes, with all that lies below them.
-ghost use Rattle.std.specs.Prelude.{◌≡◌, ◌≢◌};
+ghost use Rattle.std.specs.Prelude.{◌≡◌, ◌≢◌, ◌≤◌, length};
 ghost use Rattle.serde_json.specs.View.{view, items_view};
 ghost use Rattle.js_syntax.specs.Node.{forest_of};
 ghost use Rattle.js_syntax.specs.Node as tree;
@@ -17,9 +17,10 @@ use crate::node_kind;
 use js_syntax::{NodeKind, NodeType, SPAN};
 use js_tree::Node;
 use json_scan::{
-    Place, Slot, check_extras, is_directive, place_of, row_at, slot_of, span_of, type_at,
+    Place, Slot, check_extras, is_computed, is_directive, place_of, row_at, slot_of, span_of,
+    type_at,
 };
-use json_table::{Field, Row, Wanted};
+use json_table::{Field, Row, Sort, Wanted};
 use json_text::TreeError;
 use serde_json::Value;
 use std::alloc::Global;
@@ -75,6 +76,25 @@ fn read_parenthesized(alloc: Global, node: &Value, levels: usize) -> Result<Node
     Ok(inner)
 }
 
+// How many nodes these fields mostly hold. A node takes more room than all else that is kept of a small one, and a vector that grows by
+// itself begins with room for four.
+fn room_for(fields: &[Field], node: &Value) -> usize
+    ensures { result ≤ length fields.now }
+{
+    let mut found = 0;
+    'fields: for field in fields {
+        let holds = match field.sort {
+            Sort::Keeps(_) | Sort::Checks(_) => false,
+            Sort::Key(_) => is_computed(node),
+            _ => true,
+        };
+        if holds {
+            found += 1;
+        }
+    }
+    found
+}
+
 // What lies below a node of this row.
 #[cycle(walk)]
 fn read_below(
@@ -87,7 +107,7 @@ fn read_below(
 {
     let kind = row.node_type();
     let all = row.fields();
-    let mut children = Vec::new(alloc);
+    let mut children = Vec::with_capacity(alloc, room_for(all, node))?;
     'fields: for field in all {
         if let Some(child) = read_held(alloc, kind, field, node, levels)? {
             children.push(child)?;
@@ -144,6 +164,7 @@ fn read_items(
     ensures { Gives (λ cs. tree.row cs.items) result (reading.before (tree.row front.items) (reading.read_items (one_item holes (reading.read_node levels (class_view wanted) (fault_at place))) (items_view items.now))) }
 {
     let mut found = front;
+    found.reserve_exact(items.len())?;
     'items: for item in items {
         let child = if holes && item.is_null() {
             Node::new(NodeKind::Hole, SPAN, Vec::new(alloc))
@@ -166,7 +187,7 @@ fn read_body(
 ) -> Result<Vec<Option<Node>>, TreeError>
     ensures { Gives (λ cs. tree.row cs.items) result (reading.read_body (reading.read_node levels) (class_view wanted) (fault_at place) (items_view items.now)) }
 {
-    let mut found = Vec::new(alloc);
+    let mut found = Vec::with_capacity(alloc, items.len())?;
     let mut rest = items;
     'directives: while let [first, others @ ..] = rest {
         if !is_directive(first) {

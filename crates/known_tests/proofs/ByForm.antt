@@ -76,12 +76,10 @@ truth_tells k n a b idle is = record {
   told = truth_gives k n a b is;
 }
 
+pub way_gives : (o : LogicalOperator) (k : Kind) (n : Note) (a : Forest) (b : Bool) → way_known o (alone k n a) ≡ Some b → GivesOnly (λ v. goes_right o v ≡ b) k a
+way_gives And k n a b is E env = truth_gives k n a b is E env
+way_gives Or k n a b is E env = gives_less (λ v h. ap not h ∙ not_not b) (truth_gives k n a (not b) (opposite_is (truth_of bare_answers (alone k n a)) b is) E env)
+way_gives Coalesce k n a b is E env = gives_less (λ v told. nullish_is _ v b told.type is) ((told_by_form env E (alone k n a)).0 itself)
+
 pub way_tells : (o : LogicalOperator) (k : Kind) (n : Note) (a : Forest) (b : Bool) → may_have_effects [] true (alone k n a) ≡ false → way_known o (alone k n a) ≡ Some b → Tells (λ v. goes_right o v ≡ b) k a
-way_tells And k n a b idle is = truth_tells k n a b idle is
-way_tells Or k n a b idle is =
-    let tells = truth_tells k n a (not b) idle (opposite_is (truth_of bare_answers (alone k n a)) b is) in
-    record { quiet = tells.quiet; told = λ E env. gives_less (λ v h. ap not h ∙ not_not b) (tells.told E env) }
-way_tells Coalesce k n a b idle is = record {
-  quiet = silent k n a idle;
-  told = λ E env. gives_less (λ v told. nullish_is _ v b told.type is) ((told_by_form env E (alone k n a)).0 itself);
-}
+way_tells o k n a b idle is = record { quiet = silent k n a idle; told = way_gives o k n a b is }

@@ -9,6 +9,7 @@ use Rattle.js_meaning.specs.State.{M, Completion, normal, bind, done, choose, un
 use Rattle.js_meaning.specs.Host.{Enter}
 use Rattle.js_meaning.specs.Scope.{copy, declare}
 use Rattle.js_meaning.specs.Node.{Wanted, Ask, value, run, now, need, may}
+use Rattle.js_meaning.specs.Expression.{in_turn}
 use Rattle.js_meaning.specs.Meaning.{eval}
 use Rattle.js_meaning_near.specs.Quiet.{Leads, LeadsFrom, stops_before}
 use Rattle.js_meaning_near.specs.Names.{Names}
@@ -164,6 +165,41 @@ module _ (t : Kind) (n i : Note) (a : Forest) (k : Kind) where
   pub alternate_changes : (u : Purpose) (st : Names) (b : Forest) (j : Note) (l : Kind) (c d : Forest) → GivesOnly (λ v. truthy v ≡ true) t a
       → ComesTo u st Kind.IfStatement (node t n a (node k i b (node l j c nothing))) Kind.IfStatement (node t n a (node k i b (node l j d nothing)))
   alternate_changes u st b j l c d given = record { old_hoists = refl; new_hoists = refl; comes = λ E env binds q p. alternate E env q b j l c d given }
+
+-- ---- a part comes behind a test that acts
+
+-- (test, part)
+abbrev pub in_sequence : (m n : Note) (t : Kind) (a : Forest) (i : Note) (k : Kind) (b : Forest) → Forest
+in_sequence m n t a i k b = node Kind.Expressions m (node t n a (node k i b nothing)) nothing
+
+module _ (t : Kind) (n i m : Note) (a : Forest) (k : Kind) (b : Forest) where
+  module _ (j : Note) (l : Kind) (c : Forest) where
+    first_behind : (E : Enter) (env : Env) (q : Ask) → GivesOnly (λ v. truthy v ≡ true) t a → Leads (meaning E Kind.ConditionalExpression (node t n a (node k i b (node l j c nothing))) q env) (meaning E Kind.SequenceExpression (in_sequence m n t a i k b) q env)
+    unfolding need eval in_turn
+    first_behind E env (value u) given = alike_leads (λ v. truthy v ≡ true) (meaning E t a now env) _ _ (λ v h. chosen (truthy v) (meaning E k b now env) _ h) (given E env)
+    first_behind E env q given = unknown_leads _
+
+    second_behind : (E : Enter) (env : Env) (q : Ask) → GivesOnly (λ v. truthy v ≡ false) t a → Leads (meaning E Kind.ConditionalExpression (node t n a (node k i b (node l j c nothing))) q env) (meaning E Kind.SequenceExpression (in_sequence m n t a j l c) q env)
+    unfolding need eval in_turn
+    second_behind E env (value u) given = alike_leads (λ v. truthy v ≡ false) (meaning E t a now env) _ _ (λ v h. not_chosen (truthy v) _ (meaning E l c now env) h) (given E env)
+    second_behind E env q given = unknown_leads _
+
+  right_behind : (o : LogicalOperator) (E : Enter) (env : Env) (q : Ask) → GivesOnly (λ v. goes_right o v ≡ true) t a → Leads (meaning E (Kind.LogicalExpression o) (node t n a (node k i b nothing)) q env) (meaning E Kind.SequenceExpression (in_sequence m n t a i k b) q env)
+  unfolding need eval in_turn
+  right_behind o E env (value u) given = alike_leads (λ v. goes_right o v ≡ true) (meaning E t a now env) _ _ (λ v h. chosen (goes_right o v) (meaning E k b now env) _ h) (given E env)
+  right_behind o E env q given = unknown_leads _
+
+pub consequent_behind : (u : Purpose) (st : Names) (t : Kind) (n i j m : Note) (a : Forest) (k l : Kind) (b c : Forest) → GivesOnly (λ v. truthy v ≡ true) t a
+    → ComesTo u st Kind.ConditionalExpression (node t n a (node k i b (node l j c nothing))) Kind.SequenceExpression (in_sequence m n t a i k b)
+consequent_behind u st t n i j m a k l b c given = record { old_hoists = refl; new_hoists = refl; comes = λ E env binds q p. first_behind t n i m a k b j l c E env q given }
+
+pub alternate_behind : (u : Purpose) (st : Names) (t : Kind) (n i j m : Note) (a : Forest) (k l : Kind) (b c : Forest) → GivesOnly (λ v. truthy v ≡ false) t a
+    → ComesTo u st Kind.ConditionalExpression (node t n a (node k i b (node l j c nothing))) Kind.SequenceExpression (in_sequence m n t a j l c)
+alternate_behind u st t n i j m a k l b c given = record { old_hoists = refl; new_hoists = refl; comes = λ E env binds q p. second_behind t n i m a k b j l c E env q given }
+
+pub right_side_behind : (u : Purpose) (st : Names) (o : LogicalOperator) (t : Kind) (n i m : Note) (a : Forest) (k : Kind) (b : Forest) → GivesOnly (λ v. goes_right o v ≡ true) t a
+    → ComesTo u st (Kind.LogicalExpression o) (node t n a (node k i b nothing)) Kind.SequenceExpression (in_sequence m n t a i k b)
+right_side_behind u st o t n i m a k b given = record { old_hoists = refl; new_hoists = refl; comes = λ E env binds q p. right_behind t n i m a k b o E env q given }
 
 -- ---- a loop of which the test fails from the start does nothing
 

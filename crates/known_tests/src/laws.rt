@@ -20,6 +20,7 @@ ghost use Rattle.known_tests.specs.Tells.{Tells, GivesOnly, GivesAlone, way_know
 pub fn forms_tell()
     ensures truth { (k : Kind) (n : Note) (a : Forest) (b : Bool) → may_have_effects [] true (alone k n a) ≡ false → truth_of bare_answers (alone k n a) ≡ Some b → Tells (λ v. truthy v ≡ b) k a }
     ensures given { (k : Kind) (n : Note) (a : Forest) (b : Bool) → truth_of bare_answers (alone k n a) ≡ Some b → GivesOnly (λ v. truthy v ≡ b) k a }
+    ensures way_given { (o : LogicalOperator) (k : Kind) (n : Note) (a : Forest) (b : Bool) → way_known o (alone k n a) ≡ Some b → GivesOnly (λ v. goes_right o v ≡ b) k a }
     ensures way { (o : LogicalOperator) (k : Kind) (n : Note) (a : Forest) (b : Bool) → may_have_effects [] true (alone k n a) ≡ false → way_known o (alone k n a) ≡ Some b → Tells (λ v. goes_right o v ≡ b) k a }
 {}
 
@@ -44,6 +45,17 @@ pub fn a_side_is_taken()
         ComesTo u st (Kind.LogicalExpression o) (node t n a (node k i b nothing)) k b }
     ensures left { (u : Purpose) (st : Names) (o : LogicalOperator) (t : Kind) (n i : Note) (a : Forest) (k : Kind) (b : Forest) → Tells (λ v. goes_right o v ≡ false) t a → GivesAlone t a → stands_bare (asked u) t a ≡ true →
         ComesTo u st (Kind.LogicalExpression o) (node t n a (node k i b nothing)) t a }
+{}
+
+/// Whatever a test does of which each value is so, a conditional on it comes to the sequence of the test and the branch that is taken,
+/// and a logical expression of which the right side counts to the sequence of both sides. No part of it stands bare.
+pub fn a_part_comes_behind_its_test()
+    ensures holds { (u : Purpose) (st : Names) (t : Kind) (n i j m : Note) (a : Forest) (k l : Kind) (b c : Forest) → GivesOnly (λ v. truthy v ≡ true) t a →
+        ComesTo u st Kind.ConditionalExpression (node t n a (node k i b (node l j c nothing))) Kind.SequenceExpression (node Kind.Expressions m (node t n a (node k i b nothing)) nothing) }
+    ensures fails { (u : Purpose) (st : Names) (t : Kind) (n i j m : Note) (a : Forest) (k l : Kind) (b c : Forest) → GivesOnly (λ v. truthy v ≡ false) t a →
+        ComesTo u st Kind.ConditionalExpression (node t n a (node k i b (node l j c nothing))) Kind.SequenceExpression (node Kind.Expressions m (node t n a (node l j c nothing)) nothing) }
+    ensures right { (u : Purpose) (st : Names) (o : LogicalOperator) (t : Kind) (n i m : Note) (a : Forest) (k : Kind) (b : Forest) → GivesOnly (λ v. goes_right o v ≡ true) t a →
+        ComesTo u st (Kind.LogicalExpression o) (node t n a (node k i b nothing)) Kind.SequenceExpression (node Kind.Expressions m (node t n a (node k i b nothing)) nothing) }
 {}
 
 /// A statement `if` comes to the branch that is taken, whether it has another one or not, and to an empty statement where there is

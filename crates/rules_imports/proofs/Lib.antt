@@ -4,6 +4,7 @@ pub mod Places
 pub mod LaidOut
 pub mod Splitting
 pub mod Leaving
+pub mod Repeating
 pub mod Pruning
 pub mod Used
 pub mod Walked

@@ -89,7 +89,7 @@ module _ (f : Facts) where
       let unused = and_from (is_unlisted f j.id) (not (is_global f w.scope || scope_has f.scoping 0 scope_flag.direct_eval)) (unlisted f t g.knows unkept g.exactly site stands free_there) (ap not apart) in
       let goes = and_from (binds_import k) (variable_is_unused f w.scope j.id) binds unused in
       let one : one_goes f w names ≡ true = ap (λ v. one_goes f w v) (plugged d (first more) (Some y)) ∙ some_goes f w d k i below more row goes in
-      not_pruned (not f.keeps_imports && one_goes f w names) (an_import_of source n l (names_left f w names)) (and_from (not f.keeps_imports) (one_goes f w names) (ap not named) one) (here_.used a (an_import_of source n l names) rest refl)
+      not_pruned (not f.keeps_imports && one_goes f w names) (an_import_of source n l (names_left f w names)) (and_from (not f.keeps_imports) (one_goes f w names) (ap not named) one) (here_.used a (an_import_of source n l names) rest refl).0
 
 pub no_unused_name : (f : Facts) (t : Forest) → Knows f unmarked t → Exactly f t → ImportsUsed f t → (a : Around) (k : Kind) (n m : Note) (x : List ℕ) → t ≡ places.plug a (an_imported k n m x) → f.keeps_unused ≡ false → f.keeps_imports ≡ false → binds_import k ≡ true → IsImported a
     → IsOwnDeclarator a (an_imported k n m x) → At a (an_imported k n m x) (FreeDeclarator t x) → ⊥

@@ -1,3 +1,4 @@
 pub mod Rules
+pub mod Repeated
 pub mod Quiet
 pub mod Samples

@@ -8,6 +8,7 @@ use Rattle.scope_rules.specs.Samples.{b}
 use Rattle.scope_counts.specs.Tried.{with_marks}
 use Rattle.rules_dead_code.specs.Rules.{Facts}
 use Rattle.rules_dead_code.specs.Samples.{facts_of, items_of, at_top}
+use Rattle.rules_imports.specs.Repeated.{each_once}
 use Rattle.rules_imports.specs.Rules.{pruned}
 
 -- import a, { b } from 'm';
@@ -34,3 +35,7 @@ left exported t = first_left (facts_of exported t) (items_of (with_marks t))
 -- where such names are kept
 abbrev pub left_kept : Forest → Forest
 left_kept t = first_left (record (facts_of [] t) { keeps_imports = true }) (items_of (with_marks t))
+
+-- what is left of a program's list by the rule on repeated imports, without notes
+abbrev pub once : Forest → Forest
+once t = bare (each_once [] (items_of t))

@@ -1,6 +1,6 @@
 // Why unused names of imports may go, and what a program has no more of which none goes. Each law is a contract, so that the check
 // proves it.
-ghost use Rattle.std.specs.Prelude.{◌≡◌, ◌≤◌, ◌+◌, ℕ, List, Bool, true, false, Some};
+ghost use Rattle.std.specs.Prelude.{◌≡◌, ◌≤◌, ◌+◌, ℕ, List, Bool, true, false, Some, None};
 ghost use Rattle.js_syntax.specs.declared.node_kind.NodeKind.{NodeKind as Kind};
 ghost use Rattle.js_syntax.specs.Facts.{weight};
 ghost use Rattle.js_syntax.specs.Node.{Forest, Tree, Note, node, forest_of, total};
@@ -16,10 +16,12 @@ ghost use Rattle.steps_allowed.specs.Exposure.{IsOwnDeclarator};
 ghost use Rattle.steps_allowed.specs.Free.{FreeDeclarator};
 ghost use Rattle.steps_allowed.specs.Imports.{IsImported};
 ghost use Rattle.steps_allowed.specs.Places.{At};
+ghost use Rattle.steps_allowed.specs.RepeatedImport.{RepeatedImport};
 ghost use Rattle.steps_allowed.specs.UnusedImport.{an_imported};
 ghost use Rattle.rules_dead_code.specs.Rules.{Facts, Where, where_of};
 ghost use Rattle.rules_dead_code.specs.Knows.{Knows};
 ghost use Rattle.rules_dead_code.specs.Quiet.{Exactly, EachNode};
+ghost use Rattle.rules_imports.specs.Repeated.{asked_once};
 ghost use Rattle.rules_imports.specs.Rules.{pruned};
 ghost use Rattle.rules_imports.specs.Quiet.{ImportsUsed, IsUsedAt};
 
@@ -50,4 +52,22 @@ pub fn walks_see_that_imports_are_used()
 pub fn no_name_is_left_unused()
     ensures { (f : Facts) (t : Forest) → Knows f unmarked t → Exactly f t → ImportsUsed f t → (a : places.Around) (k : Kind) (n m : Note) (x : List ℕ) → t ≡ places.plug a (an_imported k n m x) → f.keeps_unused ≡ false → f.keeps_imports ≡ false → binds_import k ≡ true → IsImported a
         → IsOwnDeclarator a (an_imported k n m x) → At a (an_imported k n m x) (FreeDeclarator t x) → ⊥ }
+{}
+
+/// Law: an import without names whose module is asked for before in its list may leave it, one after the other.
+pub fn repeated_imports_may_go()
+    ensures { (a : Around) (x y : Tree) (rest : Forest) → asked_once x ≡ Some y → TreeEdits (plug a (node x.kind x.note x.below rest)) (plug a (node y.kind y.note y.below rest)) }
+{}
+
+/// Law: the list is lighter then, and has the same references and direct calls of `eval`.
+pub fn repeated_imports_hold_nothing()
+    ensures lighter { (x y : Tree) → asked_once x ≡ Some y → total weight (forest_of y) + 1 ≤ total weight (forest_of x) }
+    ensures references { (x y : Tree) → asked_once x ≡ Some y → (r : ℕ) → ids r (forest_of y) ≡ ids r (forest_of x) }
+    ensures calls { (x y : Tree) → asked_once x ≡ Some y → evals (forest_of y) ≡ evals (forest_of x) }
+{}
+
+/// Law: none goes from any list of a program exactly where none stands in the program that may.
+pub fn repeated_imports_are_found()
+    ensures goes { (t : Forest) → ((a : Around) (x : Tree) (rest : Forest) → t ≡ plug a (node x.kind x.note x.below rest) → asked_once x ≡ None) → (b : places.Around) (x : Tree) → t ≡ places.plug b (Some x) → RepeatedImport b x → ⊥ }
+    ensures stays { (t : Forest) → ((b : places.Around) (x : Tree) → t ≡ places.plug b (Some x) → RepeatedImport b x → ⊥) → (a : Around) (x : Tree) (rest : Forest) → t ≡ plug a (node x.kind x.note x.below rest) → asked_once x ≡ None }
 {}

@@ -6,6 +6,9 @@
 //! weighs less and has the same references and calls, and that a program of which none goes (`specs/Quiet.antt`) has no name of an
 //! import that is dead code, as it is read off the tree alone. `rows` are small programs and what is left of their imports, by computing.
 //!
+//! `specs/Repeated.antt` has the rule on imports without names: behind another request of its module in its list such an import leaves.
+//! `laws` states that of it too, and that none leaves a program exactly where none stands there that may.
+//!
 //! The code is empty: each function's contract is a law.
 #![tactic(auto)]
 

@@ -1,7 +1,7 @@
 -- A node breaks the same rules in contexts that differ in what is said of a node alone.
 use Rattle.std.proofs.Common.{◌≡◌, ℕ, pos, negsuc, List, [], ◌++◌, ◌==◌, None, Some, Bool, true, false, ◌&&◌, if◌then◌else◌, refl, sym, ap, ◌∙◌}
 use Rattle.js_syntax.specs.declared.node_kind.NodeKind.{NodeKind as Kind}
-use Rattle.js_syntax.specs.declared.node_kind.NodeKind.TheVariants.{IfStatement as if_statement, ConditionalExpression as conditional_expression, BinaryExpression as binary_expression, LogicalExpression as logical_expression, Function as function, Class as class, VariableDeclaration as variable_declaration, BreakStatement as break_statement, ContinueStatement as continue_statement, UnaryExpression as unary_expression, Literal as literal}
+use Rattle.js_syntax.specs.declared.node_kind.NodeKind.TheVariants.{IfStatement as if_statement, TryStatement as try_statement, ConditionalExpression as conditional_expression, BinaryExpression as binary_expression, LogicalExpression as logical_expression, Function as function, Class as class, VariableDeclaration as variable_declaration, BreakStatement as break_statement, ContinueStatement as continue_statement, UnaryExpression as unary_expression, Literal as literal}
 use Rattle.js_syntax.specs.declared.value.LiteralValue.TheVariants as value
 use Rattle.js_syntax.specs.declared.operator.UnaryOperator.TheVariants as unary
 use Rattle.js_syntax.specs.Node.{Forest}
@@ -21,6 +21,7 @@ passed_on c if_statement a at h = either (at == 0)
     either : (is_test : Bool) → below_it (if is_test then below_it c else as_body c) ≡ below_it c
     either true = refl
     either false = refl
+passed_on c try_statement a at h = refl
 passed_on c conditional_expression a at h = refl
 passed_on c (logical_expression operator) a at h = refl
 passed_on c (unary_expression operator) a at h = refl

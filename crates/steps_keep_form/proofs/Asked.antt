@@ -21,6 +21,7 @@ use Rattle.js_syntax.proofs.Truth.{not_true, first_of_both, second_of_both}
 
 pub given_not : (k : Kind) → gives_way k ≡ true → is_asked_for k ≡ false
 given_not if_statement h = refl
+given_not try_statement h = refl
 given_not conditional_expression h = refl
 given_not (logical_expression operator) h = refl
 given_not (unary_expression operator) h = refl
@@ -206,6 +207,7 @@ no_parameter k h = refl
 -- below a part that stands for a node the same is sought as below the part in the node
 variables_alike : (k l : Kind) → gives_way k ≡ true → is_asked_for l ≡ false → is_statement l ≡ is_statement k → variables_below l ≡ sought_below (variables_below k) l
 variables_alike if_statement l gives unasked alike = refl
+variables_alike try_statement l gives unasked alike = refl
 variables_alike conditional_expression l gives unasked alike = no_variables l unasked alike
 variables_alike (logical_expression operator) l gives unasked alike = no_variables l unasked alike
 variables_alike (unary_expression operator) l gives unasked alike = no_variables l unasked alike

@@ -5,12 +5,12 @@ use Rattle.js_syntax.specs.Class.{Class, root, a_prologue, module_item, statemen
 use Rattle.js_syntax.specs.declared.value.Key.{Key}
 use Rattle.js_syntax.specs.declared.value.Key.TheVariants.{Name as key_name, Text as key_text, Number as key_number, Below as key_below}
 use Rattle.js_syntax.specs.declared.node_kind.NodeKind.{NodeKind as Kind}
-use Rattle.js_syntax.specs.declared.node_kind.NodeKind.TheVariants.{IfStatement as if_statement, ReferenceName as reference_name, Hole as hole, Statements as statements}
+use Rattle.js_syntax.specs.declared.node_kind.NodeKind.TheVariants.{IfStatement as if_statement, TryStatement as try_statement, ReferenceName as reference_name, Hole as hole, Statements as statements}
 use Rattle.js_syntax.specs.declared.node_type.NodeType.TheVariants as type
 use Rattle.js_syntax.specs.Hint.{has, is_private}
 use Rattle.js_syntax.specs.Field.{Keys, keeps, checks, a_key, child, maybe, each, each_or_hole, a_body, Field, field}
 use Rattle.js_syntax.specs.Node.{Forest, nothing, node, absent}
-use Rattle.js_syntax.specs.Table.{Row as TableRow, a_program, a_block_statement, a_function_body, an_if_statement, a_variable_declaration, a_variable_declarator, a_function_declaration, a_default_function, a_class_declaration, a_default_class, a_binding_name, a_reference_name, a_target_name, a_binding_object, a_target_object, a_binding_array, a_target_array, fields_of, type_of, stands}
+use Rattle.js_syntax.specs.Table.{Row as TableRow, a_try_statement, a_program, a_block_statement, a_function_body, an_if_statement, a_variable_declaration, a_variable_declarator, a_function_declaration, a_default_function, a_class_declaration, a_default_class, a_binding_name, a_reference_name, a_target_name, a_binding_object, a_target_object, a_binding_array, a_target_array, fields_of, type_of, stands}
 use Rattle.json_shape.specs.Shape.{Values, kind_in, first_of, Place, one, maybe_one, beyond, key_node, key_apart, key_place, list, list_with_holes, body, item_or_hole, item_of_body, places, Plan, these, all, all_or_holes, all_of_body, first_place, behind, after_body_item, is_directive_kind, IsOf, IsAt, Stand, Fits}
 use Rattle.json_shape.proofs.Choice.{is_list_kind}
 use Rattle.steps_keep_form.specs.Part.{gives_way, is_statement, is_asked_for}
@@ -76,6 +76,11 @@ firm_node read_name r vs f h = stands_nowhere h
 firm_node no_node a_program vs f h = stands_nowhere h
 firm_node no_node r vs f h = stands_nowhere h
 firm_node c r vs f h = absurd (true≢false (sym f))
+
+try_class : (c : Class) → stands c type.TryStatement ≡ Some a_try_statement → takes_statement c ≡ true
+try_class module_item h = refl
+try_class statement h = refl
+try_class c h = absurd cc
 
 if_class : (c : Class) → stands c type.IfStatement ≡ Some an_if_statement → takes_statement c ≡ true
 if_class a_prologue h = absurd cc
@@ -181,15 +186,17 @@ module _ (row : Row) (asked : Bool) where
 abbrev IsRight : Row → (is_asked : Bool) → Kind → Type 0
 IsRight row asked k = (not (gives k) || may_give_way row asked k) ≡ true
 
-abbrev is_if : Kind → Bool
-is_if if_statement = true
-is_if k = false
+abbrev is_if_or_try : Kind → Bool
+is_if_or_try if_statement = true
+is_if_or_try try_statement = true
+is_if_or_try k = false
 
-no_statement : (k : Kind) → is_if k ≡ false → (gives k && is_statement k) ≡ false
+no_statement : (k : Kind) → is_if_or_try k ≡ false → (gives k && is_statement k) ≡ false
 no_statement if_statement h = absurd cc
+no_statement try_statement h = absurd cc
 no_statement k h = refl
 
-other_right : (row : Row) (asked : Bool) (k : Kind) → is_if k ≡ false → not asked ≡ true → IsRight row asked k
+other_right : (row : Row) (asked : Bool) (k : Kind) → is_if_or_try k ≡ false → not asked ≡ true → IsRight row asked k
 other_right row asked k other_than unasked = right (gives k) (is_statement k) asked (no_statement k other_than) unasked
   where
     right : (g s a : Bool) → (g && s) ≡ false → not a ≡ true → (not g || (not a && (not s || may_empty row))) ≡ true
@@ -204,6 +211,9 @@ open_right : (row : Row) (asked : Bool) (c : Class) (r : TableRow) (vs : Values 
 open_right row asked c an_if_statement vs may h =
     both (not asked) (may_empty row) (first_of_both (not asked) (not (takes_statement c) || may_empty row) may)
     (ap (λ x. not x || may_empty row) (sym (if_class c h)) ∙ second_of_both (not asked) (not (takes_statement c) || may_empty row) may)
+open_right row asked c a_try_statement vs may h =
+    both (not asked) (may_empty row) (first_of_both (not asked) (not (takes_statement c) || may_empty row) may)
+    (ap (λ x. not x || may_empty row) (sym (try_class c h)) ∙ second_of_both (not asked) (not (takes_statement c) || may_empty row) may)
 open_right row asked c r vs may h = other_right row asked (kind_in r vs) refl (first_of_both (not asked) (not (takes_statement c) || may_empty row) may)
 
 class_right : (row : Row) (asked : Bool) (c : Class) (r : TableRow) (vs : Values (fields_of r)) → (is_firm c || (not asked && (not (takes_statement c) || may_empty row))) ≡ true

@@ -1,12 +1,12 @@
 -- What is left of a tree is laid out as the tree was.
 use Rattle.std.proofs.Common.{◌≡◌, Bool, true, false, not, ◌&&◌, ◌||◌, refl, sym, ap, ◌∙◌}
 use Rattle.js_syntax.specs.declared.node_kind.NodeKind.{NodeKind as Kind}
-use Rattle.js_syntax.specs.declared.node_kind.NodeKind.TheVariants.{Program as program, Directive as directive, Statements as statements, FunctionBody as function_body, ExpressionStatement as expression_statement, BlockStatement as block_statement, StaticBlock as static_block, SwitchCase as switch_case, LabeledStatement as labeled_statement, IfStatement as if_statement, WithStatement as with_statement, WhileStatement as while_statement, DoWhileStatement as do_while_statement, ForStatement as for_statement, ForInStatement as for_in_statement, ForOfStatement as for_of_statement, ConditionalExpression as conditional_expression, UnaryExpression as unary_expression, BinaryExpression as binary_expression, LogicalExpression as logical_expression, Function as function, VariableDeclaration as variable_declaration, Declarators as declarators, BindingName as binding_name, Specifiers as specifiers, ImportDeclaration as import_declaration, ExportNamedDeclaration as export_named_declaration}
+use Rattle.js_syntax.specs.declared.node_kind.NodeKind.TheVariants.{Program as program, Directive as directive, Statements as statements, FunctionBody as function_body, ExpressionStatement as expression_statement, BlockStatement as block_statement, StaticBlock as static_block, SwitchCase as switch_case, LabeledStatement as labeled_statement, IfStatement as if_statement, TryStatement as try_statement, WithStatement as with_statement, WhileStatement as while_statement, DoWhileStatement as do_while_statement, ForStatement as for_statement, ForInStatement as for_in_statement, ForOfStatement as for_of_statement, ConditionalExpression as conditional_expression, UnaryExpression as unary_expression, BinaryExpression as binary_expression, LogicalExpression as logical_expression, Function as function, VariableDeclaration as variable_declaration, Declarators as declarators, BindingName as binding_name, Specifiers as specifiers, ImportDeclaration as import_declaration, ExportNamedDeclaration as export_named_declaration}
 use Rattle.js_syntax.specs.Node.{Note, Forest, nothing, node, absent, joined}
 use Rattle.form_rules.specs.Context.{has_use_strict}
 use Rattle.json_shape.specs.Shape.{is_directive_kind}
 use Rattle.steps_keep_form.specs.Part.{gives_way, is_statement, is_asked_for, Replaces, by_part, by_parts}
-use Rattle.steps_keep_form.specs.Sheds.{Row, parts, items, row_below, may_leave, may_empty, may_give_way, Around, entered, Sheds, ends, keeps_absent, keeps, leaves, empties, empties_if, becomes}
+use Rattle.steps_keep_form.specs.Sheds.{Row, other, parts, items, row_below, may_leave, may_empty, may_give_way, Around, entered, Sheds, ends, keeps_absent, keeps, leaves, empties, empties_if, becomes}
 use Rattle.steps_keep_form.proofs.Rows.{stays_below, behind_left, is_usual, is_other}
 use Rattle.steps_keep_form.proofs.Asked.{old_unasked, new_unasked, alike, statement_may}
 use Rattle.steps_keep_form.proofs.Seen.{strict_same}
@@ -34,16 +34,23 @@ no_directive k h = refl
 
 -- ---- a part stands for a node
 
--- statements may become empty among the parts of a node that gives way, where the node is one
-row_of_statement : (row : Row) (k : Kind) → gives_way k ≡ true → is_statement k ≡ true → may_empty row ≡ true → row_below row k ≡ parts
-row_of_statement parts if_statement g i may = refl
-row_of_statement items if_statement g i may = refl
-row_of_statement row if_statement g i may = absurd cc
-row_of_statement row conditional_expression g i may = absurd cc
-row_of_statement row (logical_expression operator) g i may = absurd cc
-row_of_statement row (unary_expression operator) g i may = absurd cc
-row_of_statement row (binary_expression operator) g i may = absurd cc
-row_of_statement row k g i may = absurd cc
+-- below a part of a statement that gives way nodes stand as below one among whose parts statements may become empty
+below_part : (l : Kind) → is_asked_for l ≡ false → row_below other l ≡ row_below parts l
+below_part statements h = absurd cc
+below_part l h = refl
+
+row_of_statement : (row : Row) (k l : Kind) → is_asked_for l ≡ false → gives_way k ≡ true → is_statement k ≡ true → may_empty row ≡ true → row_below (row_below row k) l ≡ row_below parts l
+row_of_statement parts if_statement l h g i may = refl
+row_of_statement items if_statement l h g i may = refl
+row_of_statement row if_statement l h g i may = absurd cc
+row_of_statement parts try_statement l h g i may = below_part l h
+row_of_statement items try_statement l h g i may = below_part l h
+row_of_statement row try_statement l h g i may = absurd cc
+row_of_statement row conditional_expression l h g i may = absurd cc
+row_of_statement row (logical_expression operator) l h g i may = absurd cc
+row_of_statement row (unary_expression operator) l h g i may = absurd cc
+row_of_statement row (binary_expression operator) l h g i may = absurd cc
+row_of_statement row k l h g i may = absurd cc
 
 below_statement : (row : Row) (l : Kind) → is_asked_for l ≡ false → may_empty row ≡ true → row_below row l ≡ row_below parts l
 below_statement row statements h may = absurd cc
@@ -80,7 +87,7 @@ same_row w k l gives unasked alike may = of (is_statement k) refl
     of : (x : Bool) → is_statement k ≡ x → row_below w.row l ≡ row_below (row_below w.row k) l
     of true is =
         let emptied = statement_may w k may is in
-        below_statement w.row l unasked emptied ∙ ap (λ x. row_below x l) (sym (row_of_statement w.row k gives is emptied))
+        below_statement w.row l unasked emptied ∙ sym (row_of_statement w.row k l unasked gives is emptied)
     of false is =
         let usual = of_expression l unasked (alike ∙ is) in
         is_other w.row l usual ∙ sym (is_other (row_below w.row k) l usual)

@@ -12,6 +12,7 @@ use Rattle.steps_keep_form.specs.Layout.{is_laid_out}
 -- Nodes in whose place a part of them may stand: what lies below one is in the context and the scope that the node is in.
 abbrev pub gives_way : Kind → Bool
 gives_way if_statement = true
+gives_way try_statement = true
 gives_way conditional_expression = true
 gives_way (logical_expression operator) = true
 gives_way (unary_expression operator) = true

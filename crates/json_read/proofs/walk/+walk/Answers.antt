@@ -21,7 +21,7 @@ use Rattle.json_read.proofs.walk.+walk.Goals as goal
 pub read_below-fields-preserved : goal.read_below-fields-preserved
 read_below-fields-preserved z c =
     let so_far = field_next (read_node c.args.levels) c.node_type-kind.result (view c.args.node.now) _ c.fields-all.result.now c.fields.field-index _ (row c.fields.children.items) (held_row c.in_ok-child.field-0) c.fields-test.true c.fields.invariant c.in_ok-child.ensures in
-    elim c.match-branch-2.branch [
+    elim c.match-branch-3.branch [
       | read_below-in-Some+in_ok-push w ↦ rw (w.children-is, w.in_ok-push.ensures.items, row_push) (rw w.in-Some.is at so_far)
       | read_below-in_default w ↦ rw w.children-is (rw (w.in_default.is, joined_nothing) at so_far)
     ]
@@ -38,7 +38,7 @@ read_items-returns-in_err-child z c =
     let one = one_item c.args.holes (read_node c.args.levels (class_view c.args.wanted) (fault_at c.args.place)) in
     let below = read_node c.args.levels (class_view c.args.wanted) (fault_at c.args.place) in
     let d = view c.item-item.result in
-    let p = err_from_is_err_and c.from_residual.result c.from_residual.ensures.1 in
+    let p = err_from_is_err_and c.from_residual-in_err-child.result c.from_residual-in_err-child.ensures.1 in
     let node : one d ≡ below d =
     elim c.else-holes.branch [
       | read_items-else-holes-via-then-holes+else-is_null w ↦ node_item c.args.holes below d (sym w.is_null.ensures ∙ w.if-is_null.false)
