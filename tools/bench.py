@@ -1,16 +1,22 @@
 #!/usr/bin/env python3
-"""Times the compiled program beside one that only parses and prints JSON, on 10 MB made here, and alone on modules of 1, 2, 4
-and 8 thousand groups of declarations that leave in two passes.
+"""Measures the compiled program beside one that only parses JSON and prints it: seconds and memory on 10 MB made here, and
+instructions, which don't depend on what else a machine does, on modules made here and on a real one.
 
 Run at the repository's top, after `./shake.sh build` and `(cd crates/test_json_echo && rt run < stdin)`
-have built both programs: python3 tools/bench.py
+have built both programs: python3 tools/bench.py [seconds|instructions]
+
+Instructions are counted by callgrind, and the real module is acorn's own as acorn gives it (Debian's valgrind and node-acorn).
 """
 import json
 import os
+import re
 import subprocess
 import sys
+import tempfile
 import time
 
+INPUT = "/tmp/diwagbo_bench.json"
+ACORN = "/usr/share/nodejs/acorn/dist/acorn.mjs"
 PROGRAMS = [
     ("shake dce", ["crates/shake_cli/out/shake_cli", "dce"]),
     ("test_json_echo", ["crates/test_json_echo/out/test_json_echo"]),
@@ -73,9 +79,9 @@ def inputs(size):
     yield "functions, calls and members", program([real_item(number) for number in range(size // (len(real_item(0)) + 3))])
 
 
-def run(command, data):
+def run(command):
     """Seconds and peak bytes of memory of one run."""
-    with open("/tmp/diwagbo_bench.json", "rb") as stdin, open(os.devnull, "wb") as out:
+    with open(INPUT, "rb") as stdin, open(os.devnull, "wb") as out:
         start = time.perf_counter()
         child = subprocess.Popen(command, stdin=stdin, stdout=out)
         _, status, usage = os.wait4(child.pid, 0)
@@ -85,26 +91,80 @@ def run(command, data):
     return seconds, usage.ru_maxrss * 1024
 
 
-def main():
-    size = 10_000_000
-    for name, text in inputs(size):
-        data = text.encode()
-        with open("/tmp/diwagbo_bench.json", "wb") as file:
-            file.write(data)
+def seconds():
+    for name, text in inputs(10_000_000):
+        data = given(text)
         print(f"{name}: {len(data)} bytes")
         for label, command in PROGRAMS:
-            runs = [run(command, data) for _ in range(7)]
-            seconds = min(r[0] for r in runs)
+            runs = [run(command) for _ in range(7)]
+            best = min(r[0] for r in runs)
             peak = max(r[1] for r in runs)
-            print(f"  {label:10} {len(data) / seconds / 1e6:7.0f} MB/s {seconds * 1000:6.0f} ms {peak / len(data):5.1f} bytes of memory a byte")
-    before = None
-    for thousands in (1, 2, 4, 8):
-        with open("/tmp/diwagbo_bench.json", "w") as file:
-            file.write(program([group(number) for number in range(thousands * 1000)]))
-        seconds = min(run(PROGRAMS[0][1], None)[0] for _ in range(15))
-        print(f"{thousands},000 groups: {seconds * 1000:.1f} ms" + (f", {seconds / before:.2f} times as much" if before else ""))
-        before = seconds
-    os.remove("/tmp/diwagbo_bench.json")
+            print(f"  {label:10} {len(data) / best / 1e6:7.0f} MB/s {best * 1000:6.0f} ms {peak / len(data):5.1f} bytes of memory a byte")
+
+
+# ---- instructions
+
+def groups(count): return program([group(number) for number in range(count)])
+
+
+def chain(count):
+    """let a0 = 1; let a1 = a0; .. of which nothing uses the last, so that each pass takes one."""
+    def declares(number): return {"type": "VariableDeclaration", "kind": "let", "declarations": [{"type": "VariableDeclarator", "id": name("a%d" % number), "init": name("a%d" % (number - 1)) if number else literal(1)}]}
+    return program([json.dumps(declares(number), separators=(",", ":")) for number in range(count)])
+
+
+def acorn(file):
+    """The module's tree as acorn gives it."""
+    return subprocess.run(["acorn", "--ecma2022", "--module", "--compact", file], check=True, capture_output=True, text=True).stdout
+
+
+def without_places(node):
+    if isinstance(node, list): return [without_places(n) for n in node]
+    if not isinstance(node, dict): return node
+    return {key: without_places(value) for key, value in node.items() if key not in ("start", "end")}
+
+
+def counted():
+    """Programs of which instructions are counted, by name."""
+    yield "2,000 groups, of which all but the calls leave", groups(2000)
+    yield "4,000 groups", groups(4000)
+    real = acorn(ACORN)
+    yield "acorn's own module, with places", real
+    yield "acorn's own module", json.dumps(without_places(json.loads(real)), separators=(",", ":"))
+    yield "10 MB of functions, calls and members", list(inputs(10_000_000))[-1][1]
+    yield "a chain of 300 unused names", chain(300)
+
+
+def instructions_of(command):
+    """Million instructions of one run."""
+    with tempfile.TemporaryDirectory() as room, open(INPUT, "rb") as stdin, open(os.devnull, "wb") as out:
+        done = subprocess.run(["valgrind", "--tool=callgrind", f"--callgrind-out-file={room}/out", *command], stdin=stdin, stdout=out, stderr=subprocess.PIPE, text=True)
+    found = re.search(r"Collected : (\d+)", done.stderr)
+    if done.returncode or not found:
+        sys.exit(f"{command[0]}: status {done.returncode}\n{done.stderr[-400:]}")
+    return int(found[1]) / 1e6
+
+
+def instructions():
+    for name, text in counted():
+        data = given(text)
+        (ours, kept), (echoed, held) = [(instructions_of(command), run(command)[1] / len(data)) for _, command in PROGRAMS]
+        print(f"{name}: {len(data)} bytes, {ours:.1f} and {echoed:.1f} million instructions, {ours / echoed:.2f} times; {kept:.1f} and {held:.1f} bytes of memory a byte", flush=True)
+
+
+def given(text):
+    """Puts the text where the programs read it, and answers its bytes."""
+    data = text.encode()
+    with open(INPUT, "wb") as file:
+        file.write(data)
+    return data
+
+
+def main():
+    wanted = sys.argv[1:] or ["seconds", "instructions"]
+    if "seconds" in wanted: seconds()
+    if "instructions" in wanted: instructions()
+    os.remove(INPUT)
 
 
 main()

@@ -306,7 +306,7 @@ CLASS=lambda name: N('ClassDeclaration',id=I(name),superClass=None,body=N('Class
 S('export function h() { if (a) { return 1; g(); } return f(); g(); for (;;) { g(); } { g(); } }',[export(F_('h',[],WHEN(a,B(RETURN(L(1)),do('g'))),RETURN(call(f)),do('g'),EACH(do('g')),B(do('g'))))],[export(F_('h',[],WHEN(a,B(RETURN(L(1)))),RETURN(call(f))))],1,0)
 S('l: for (;;) { break l; f(); let x = g(); h(); } for (;;) { if (a) continue; else break; f(); }',[LABEL('l',EACH(BREAK(I('l')),do('f'),x_is(call(g)),do('h'))),EACH(WHEN(a,N('ContinueStatement',label=None),BREAK()),do('f'))],[LABEL('l',EACH(BREAK(I('l')),x_is(call(g)))),EACH(WHEN(a,N('ContinueStatement',label=None),BREAK()))],1,0)
 S('export function h() { if (1) { return 1; } g(); for (;;) { { { break; } } f(); } }',[export(F_('h',[],WHEN(L(1),B(RETURN(L(1)))),do('g'),EACH(B(B(BREAK())),do('f'))))],[export(F_('h',[],B(RETURN(L(1)))))],1,0)
-S('for (;;) { { f(); { break; } } var v = g(); h(v); { h(); } } l: { break l; } f();',[EACH(B(do('f'),B(BREAK())),var('var',(I('v'),call(g))),do('h',I('v')),B(do('h'))),LABEL('l',B(BREAK(I('l')))),do('f')],[EACH(B(do('f'),B(BREAK())),var('var',(I('v'),call(g)))),LABEL('l',B(BREAK(I('l')))),do('f')],1,0)
+S('for (;;) { { f(); { break; } } var v = g(); h(v); { h(); } } l: { break l; } f();',[EACH(B(do('f'),B(BREAK())),var('var',(I('v'),call(g))),do('h',I('v')),B(do('h'))),LABEL('l',B(BREAK(I('l')))),do('f')],[EACH(B(do('f'),B(BREAK())),var('var',(I('v'),call(g)))),do('f')],1,0)
 S('export function h() { if (a) return 1; else { return 2; } f(); } for (;;) { if (a) { if (b) break; else continue; } else throw c; f(); }',[export(F_('h',[],WHEN(a,RETURN(L(1)),B(RETURN(L(2)))),do('f'))),EACH(WHEN(a,B(WHEN(b,BREAK(),N('ContinueStatement',label=None))),N('ThrowStatement',argument=c)),do('f'))],[export(F_('h',[],WHEN(a,RETURN(L(1)),B(RETURN(L(2)))))),EACH(WHEN(a,B(WHEN(b,BREAK(),N('ContinueStatement',label=None))),N('ThrowStatement',argument=c)))],1,0)
 S('export function h() { if (a) { return 1; } else f(); g(); } for (;;) { if (a) break; f(); } where one branch goes on',[export(F_('h',[],WHEN(a,B(RETURN(L(1))),do('f')),do('g'))),EACH(WHEN(a,BREAK()),do('f'))],None,0,0)
 S('{} { ; {} } l: {} m: n: ; f();',[B(),B(EMPTY,B()),LABEL('l',B()),LABEL('m',LABEL('n',EMPTY)),do('f')],[do('f')],1,0)
@@ -315,7 +315,7 @@ S('{ let x = 1; } { function g() {} } l: { { 1; } }',[B(x_is(L(1))),B(F_('g',[])
 S('{ let x; { let y = x; } }',[B(x_is(None),B(var('let',(I('y'),x))))],[],2,0)
 S('if (1) {} else f(); if (0) f(); else { 1; }',[WHEN(L(1),B(),do('f')),WHEN(L(0),do('f'),B(ES(L(1))))],[],1,0)
 S('export function h() { {} return; {} } switch (a) { case 1: {} break; default: { ; } }',[export(F_('h',[],B(),RETURN(None),B())),N('SwitchStatement',discriminant=a,cases=[N('SwitchCase',test=L(1),consequent=[B(),BREAK()]),N('SwitchCase',test=None,consequent=[B(EMPTY)])])],[export(F_('h',[],RETURN(None))),N('SwitchStatement',discriminant=a,cases=[N('SwitchCase',test=L(1),consequent=[BREAK()]),N('SwitchCase',test=None,consequent=[])])],1,0)
-S('{ f(); } { { f(); } } l: { break l; } m: while (a) {} whose blocks hold something',[B(do('f')),B(B(do('f'))),LABEL('l',B(BREAK(I('l')))),LABEL('m',N('WhileStatement',test=a,body=B()))],None,0,0)
+S('{ f(); } { { f(); } } m: while (a) {} whose blocks hold something',[B(do('f')),B(B(do('f'))),LABEL('m',N('WhileStatement',test=a,body=B()))],None,0,0)
 S('if (a) {} else {} while (b) {} whose blocks stand in no list',[IF(B(),B()),N('WhileStatement',test=b,body=B())],None,0,0)
 S('if (0) { var x = f(); let y = g(x); { const z = new h(); use(z); } use(y); } use(x); whose values are never given',[WHEN(L(0),B(var('var',(x,call(f))),var('let',(I('y'),call(g,x))),B(var('const',(I('z'),N('NewExpression',callee=I('h'),arguments=[]))),use(I('z'))),use(I('y')))),use(x)],[WHEN(L(0),B(var('var',(x,L(0))))),use(x)],2,1)
 S("if (false) { var w = h('w'); w(f()); } else g();",[WHEN(L(False),B(var('var',(I('w'),call(I('h'),L('w')))),ES(call(I('w'),call(f)))),do('g'))],[do('g')],2,0)
@@ -333,12 +333,32 @@ LOOP=lambda init,test,*body: N('ForStatement',init=init,test=test,update=None,bo
 FINALLY=lambda block,*body: N('TryStatement',block=block,handler=None,finalizer=B(*body))
 S('while (0) f(); for (; null;) { g(); let x = f(); } l: m: while (![]) { continue l; } f();',[WHILE(L(0),do('f')),LOOP(None,L(None),do('g'),x_is(call(f))),LABEL('l',LABEL('m',WHILE(un('!',N('ArrayExpression',elements=[])),N('ContinueStatement',label=I('l'))))),do('f')],[do('f')],1,0)
 S('try {} catch (e) { f(e); } try { ; } catch { g(); } finally { {} } l: try {} finally {}',[TRY(B(),I('e'),ES(call(f,I('e')))),{**TRY(B(EMPTY),None,do('g')),'finalizer':B(B())},LABEL('l',FINALLY(B()))],[],1,0)
-S('while (a) f(); do f(); while (0); for (f(); 0;) g(); for (let x = f(); 0;) g(); try {} finally { f(); } try { f(); } catch (e) {}',[WHILE(a,do('f')),N('DoWhileStatement',body=do('f'),test=L(0)),LOOP(call(f),L(0),do('g')),LOOP(x_is(call(f)),L(0),do('g')),FINALLY(B(),do('f')),TRY(B(do('f')),I('e'))],None,0,0)
-S('if (a) while (0) f(); else try {} catch (e) { g(); } which stand in no list',[WHEN(a,WHILE(L(0),do('f')),TRY(B(),I('e'),do('g')))],None,0,0)
+S('while (a) f(); do f(); while (0); for (f(); 0;) g(); for (let x = f(); 0;) g(); try { f(); } catch (e) {}',[WHILE(a,do('f')),N('DoWhileStatement',body=do('f'),test=L(0)),LOOP(call(f),L(0),do('g')),LOOP(x_is(call(f)),L(0),do('g')),TRY(B(do('f')),I('e'))],None,0,0)
+S('if (a) while (0) f(); which stands in no list',[WHEN(a,WHILE(L(0),do('f')))],None,0,0)
 S('while (0) { var x = 1; } use(x); while (0) { var y = 1; }',[WHILE(L(0),var('var',(x,L(1)))),use(x),WHILE(L(0),var('var',(I('y'),L(1))))],[WHILE(L(0),var('var',(x,L(1)))),use(x)],1,1)
 S('let x = 1; while (0) { use(x); } for (;;) { for (; 0;) continue; }',[x_is(L(1)),WHILE(L(0),use(x)),EACH(LOOP(None,L(0),N('ContinueStatement',label=None)))],[EACH()],2,0)
 S("export function h() { while (0) { eval('x'); } let x = 1; }",[export(F_('h',[],WHILE(L(0),do('eval',L('x'))),x_is(L(1))))],[export(F_('h',[]))],2,0)
 S('while (0) f(); in a script',[WHILE(L(0),do('f'))],[],1,0,'script')
+HANDLED=lambda block,handler,*body: {**TRY(block,I('e'),*handler),'finalizer':B(*body)}
+S('try {} finally { f(); } try { ; } catch (e) { g(); } finally { f(); } l: try {} finally { f(); }',[FINALLY(B(),do('f')),HANDLED(B(EMPTY),[do('g')],do('f')),LABEL('l',FINALLY(B(),do('f')))],[B(do('f')),B(do('f')),LABEL('l',B(do('f')))],1,0)
+S('if (a) try {} finally { f(); } else try {} catch (e) { g(); } while (a) try {} catch (e) {}',[WHEN(a,FINALLY(B(),do('f')),TRY(B(),I('e'),do('g'))),N('WhileStatement',test=a,body=TRY(B(),I('e')))],[WHEN(a,B(do('f')),B()),N('WhileStatement',test=a,body=B())],1,0)
+S('try {} finally { while (a) f(); } try {} finally { l: for (;;) f(); } whose loops labels around would reach',[FINALLY(B(),N('WhileStatement',test=a,body=do('f'))),FINALLY(B(),LABEL('l',N('ForStatement',init=None,test=None,update=None,body=do('f'))))],None,0,0)
+S('try {} catch (e) { var x = f(); } finally { g(); } use(x);',[HANDLED(B(),[var('var',(x,call(f)))],do('g')),use(x)],None,0,1)
+S('export function h() { try {} finally { return 1; } f(); }',[export(F_('h',[],FINALLY(B(),RETURN(L(1))),do('f')))],[export(F_('h',[],B(RETURN(L(1)))))],1,0)
+S('try {} finally {} try { let y; } catch (e) {} finally { ; } try { f(); } finally {}',[FINALLY(B()),HANDLED(B(var('let',(I('y'),None))),[],EMPTY),FINALLY(B(do('f')))],[FINALLY(B(do('f')))],1,0)
+S('let x = 1; try {} catch (e) { use(x); } finally { f(); }',[x_is(L(1)),HANDLED(B(),[use(x)],do('f'))],[B(do('f'))],2,0)
+S("export function h() { let x = 1; try {} catch (e) { eval('x'); } finally { f(); } }",[export(F_('h',[],x_is(L(1)),HANDLED(B(),[do('eval',L('x'))],do('f'))))],[export(F_('h',[],B(do('f'))))],2,0)
+S('try {} finally { f(); } in a script',[FINALLY(B(),do('f'))],[B(do('f'))],1,0,'script')
+JUMP=lambda l='l': BREAK(I(l))
+S('l: break l; l: { break l; f(); } l: m: { break l; } m: l: break m; f();',[LABEL('l',JUMP()),LABEL('l',B(JUMP(),do('f'))),LABEL('l',LABEL('m',B(JUMP()))),LABEL('m',LABEL('l',JUMP('m'))),do('f')],[do('f')],1,0)
+S('l: { { break l; } f(); } l: { m: { break l; } f(); } l: { ; break l; } l: { break l; let y = f(); }',[LABEL('l',B(B(JUMP()),do('f'))),LABEL('l',B(LABEL('m',B(JUMP())),do('f'))),LABEL('l',B(EMPTY,JUMP())),LABEL('l',B(JUMP(),var('let',(I('y'),call(f)))))],[],1,0)
+S('l: { f(); break l; } l: { m: { break m; f(); } g(); } l: { if (a) break l; f(); } l: try { break l; } finally { f(); }',[LABEL('l',B(do('f'),JUMP())),LABEL('l',B(LABEL('m',B(JUMP('m'),do('f'))),do('g'))),LABEL('l',B(IF(JUMP()),do('f'))),LABEL('l',FINALLY(B(JUMP()),do('f')))],[LABEL('l',B(do('f'),JUMP())),LABEL('l',B(do('g'))),LABEL('l',B(IF(JUMP()),do('f'))),LABEL('l',FINALLY(B(JUMP()),do('f')))],1,0)
+S('l: for (;;) { m: { break l; } f(); m: { break m; } }',[LABEL('l',EACH(LABEL('m',B(JUMP())),do('f'),LABEL('m',B(JUMP('m')))))],[LABEL('l',EACH(LABEL('m',B(JUMP())),do('f')))],1,0)
+S('l: { break l; var x = f(); } use(x); whose name stays around',[LABEL('l',B(JUMP(),var('var',(x,call(f))))),use(x)],None,0,1)
+S('l: { break l; function g() {} g(); } l: { break l; class c { static { f(); } } }',[LABEL('l',B(JUMP(),F_('g',[]),do('g'))),LABEL('l',B(JUMP(),N('ClassDeclaration',id=I('c'),superClass=None,body=N('ClassBody',body=[N('StaticBlock',body=[do('f')])]))))],[],2,0)
+S('if (a) l: { break l; } which stands in no list',[IF(LABEL('l',B(JUMP())))],None,0,0)
+S('let x = 1; l: { break l; let y = x; } export function h() { l: { break l; eval(x); } }',[x_is(L(1)),LABEL('l',B(JUMP(),var('let',(I('y'),x)))),export(F_('h',[],LABEL('l',B(JUMP(),do('eval',x)))))],[export(F_('h',[]))],2,0)
+S('l: { break l; f(); } l: { break l; var x; } in a script',[LABEL('l',B(JUMP(),do('f'))),LABEL('l',B(JUMP(),var('var',(x,None))))],[LABEL('l',B(JUMP(),var('var',(x,None))))],1,0,'script')
 S('class c { static { {} } } use(c);',[N('ClassDeclaration',id=I('c'),superClass=None,body=N('ClassBody',body=[N('StaticBlock',body=[B()])])),use(I('c'))],[N('ClassDeclaration',id=I('c'),superClass=None,body=N('ClassBody',body=[N('StaticBlock',body=[])])),use(I('c'))],1,1)
 S('export function h() { return k(); function k() {} var y = 1; { var z; } use(y, z); class c {} }',[export(F_('h',[],RETURN(call(I('k'))),F_('k',[]),var('var',(I('y'),L(1))),B(var('var',(I('z'),None))),ES(call(I('use'),I('y'),I('z'))),CLASS('c')))],[export(F_('h',[],RETURN(call(I('k'))),F_('k',[]),CLASS('c')))],2,1)
 S('throw f(); g(); export let x = 1; behind a jump of a module',[N('ThrowStatement',argument=call(f)),do('g'),export(x_is(L(1)))],[N('ThrowStatement',argument=call(f)),export(x_is(L(1)))],1,0)
@@ -385,7 +405,7 @@ S('a && [f(), 1];',[ES(AND(a,ARR(call(f),L(1))))],[ES(AND(a,call(f)))],1,0)
 S('for (;; 1, f()) g();',[FOR(SEQ(L(1),call(f)),do('g'))],[FOR(call(f),do('g'))],1,0)
 S('[...f(), g()]; f(), g();',[ES(ARR(N('SpreadElement',argument=call(f)),call(g))),ES(SEQ(call(f),call(g)))],None,0,0)
 S('use([f(), 1]); use((f(), 1)); whose values are taken',[use(ARR(call(f),L(1))),use(SEQ(call(f),L(1)))],None,0,0)
-S("(1, o.f)(); (0, eval)('x'); which call by another reference",[ES(call(SEQ(L(1),mem(o,f)))),ES(call(SEQ(L(0),I('eval')),L('x')))],None,0,0)
+S("(1, o.f)(); (0, eval)('x'); which call by another reference",[ES(call(SEQ(L(1),mem(o,f)))),ES(call(SEQ(L(0),I('eval')),L('x')))],[ES(call(SEQ(L(0),mem(o,f)))),ES(call(SEQ(L(0),I('eval')),L('x')))],1,0)
 S('[class extends f() {}, 1];',[ES(ARR(N('ClassExpression',id=None,superClass=call(f),body=N('ClassBody',body=[])),L(1)))],None,0,0)
 
 S('a ? f() : 1; a ? null : f();',[ES(COND(a,call(f),L(1))),ES(COND(a,L(None),call(f)))],[ES(AND(a,call(f))),ES(OR(a,call(f)))],1,0)
@@ -393,8 +413,11 @@ S('a ? (b ? f() : 1) : 2;',[ES(COND(a,COND(b,call(f),L(1)),L(2)))],[ES(AND(a,AND
 S('use(a ? f() : 1); whose value is taken',[use(COND(a,call(f),L(1)))],None,0,0)
 S('use((1, f())); use((1, 2, f()));',[use(SEQ(L(1),call(f))),use(SEQ(L(1),L(2),call(f)))],[use(call(f)),use(call(f))],1,0)
 S('use((f(), 1, a)); use((1, f(), 2));',[use(SEQ(call(f),L(1),a)),use(SEQ(L(1),call(f),L(2)))],[use(SEQ(call(f),a)),use(SEQ(call(f),L(2)))],1,0)
-S('(1, g)(); (1, 2, o.f)(); typeof (1, g);',[ES(call(SEQ(L(1),g))),ES(call(SEQ(L(1),L(2),mem(o,f)))),use(un('typeof',SEQ(L(1),g)))],[do('g'),ES(call(SEQ(L(1),L(2),mem(o,f)))),use(un('typeof',SEQ(L(1),g)))],1,0)
-S('use((1, function () {})); which might take a name',[use(SEQ(L(1),fn('FunctionExpression',None,[],B())))],None,0,0)
+S('(1, g)(); (1, 2, o.f)(); typeof (1, g);',[ES(call(SEQ(L(1),g))),ES(call(SEQ(L(1),L(2),mem(o,f)))),use(un('typeof',SEQ(L(1),g)))],[do('g'),ES(call(SEQ(L(0),mem(o,f)))),use(un('typeof',SEQ(L(0),g)))],1,0)
+S('use((1, function () {})); which might take a name',[use(SEQ(L(1),fn('FunctionExpression',None,[],B())))],[use(SEQ(L(0),fn('FunctionExpression',None,[],B())))],1,0)
+S('(0, o.f)(); typeof (0, g); delete (0, o.f); which have their zero',[ES(call(SEQ(L(0),mem(o,f)))),use(un('typeof',SEQ(L(0),g))),ES(un('delete',SEQ(L(0),mem(o,f))))],None,0,0)
+S("(1, eval)('x'); delete (null, o.f); ((1), o.f)(); ((0, o.f))();",[ES(call(SEQ(L(1),I('eval')),L('x'))),ES(un('delete',SEQ(L(None),mem(o,f)))),ES(call(SEQ(PAREN(L(1)),mem(o,f)))),ES(call(PAREN(SEQ(L(0),mem(o,f)))))],[ES(call(SEQ(L(0),I('eval')),L('x'))),ES(un('delete',SEQ(L(0),mem(o,f)))),ES(call(SEQ(L(0),mem(o,f)))),ES(call(PAREN(SEQ(L(0),mem(o,f)))))],1,0)
+S('(1, g(), 2, o.f)(); (0, 0, o.f)(); ((1, o.f))();',[ES(call(SEQ(L(1),call(g),L(2),mem(o,f)))),ES(call(SEQ(L(0),L(0),mem(o,f)))),ES(call(PAREN(SEQ(L(1),mem(o,f)))))],[ES(call(SEQ(call(g),mem(o,f)))),ES(call(SEQ(L(0),mem(o,f)))),ES(call(PAREN(SEQ(L(0),mem(o,f)))))],1,0)
 
 OBJ=lambda *es: N('ObjectExpression',properties=list(es))
 S('f() === g(); a < b; which compare what they evaluate',[ES(SAME(call(f),call(g))),ES(SAME(a,b,'<'))],[ES(SEQ(call(f),call(g))),ES(SEQ(a,b))],1,0)
@@ -409,9 +432,19 @@ S('use(!(1 === 2)); use(1 + 2 + 3);',[use(NOT(SAME(L(1),L(2)))),use(SAME(SAME(L(
 S("use('a' + 'b'); use('a' + 'b' + 'c' === 'abc'); use(typeof ('' + ''));",[use(SAME(L('a'),L('b'),'+')),use(SAME(SAME(SAME(L('a'),L('b'),'+'),L('c'),'+'),L('abc'))),use(un('typeof',PAREN(SAME(L(''),L(''),'+'))))],[use(L('ab')),use(L(True)),use(L('string'))],1,0)
 S('use(-1 + 3); use(-1 < 0); use(typeof -1); use(!-1); use(- -1); use((1) + (2)); use(void 0 == null);',[use(SAME(un('-',L(1)),L(3),'+')),use(SAME(un('-',L(1)),L(0),'<')),use(un('typeof',un('-',L(1)))),use(NOT(un('-',L(1)))),use(un('-',un('-',L(1)))),use(SAME(PAREN(L(1)),PAREN(L(2)),'+')),use(SAME(un('void',L(0)),L(None),'=='))],[use(L(2)),use(L(True)),use(L('number')),use(L(False)),use(L(1)),use(L(3)),use(L(True))],1,0)
 S('let x; use(![]); use(!{ a: 1 }); use(!function () { return x; });',[x_is(None),use(NOT(N('ArrayExpression',elements=[]))),use(NOT(N('ObjectExpression',properties=[prop(a,L(1))]))),use(NOT(fn('FunctionExpression',None,[],B(RETURN(x)))))],[use(L(False)),use(L(False)),use(L(False))],2,0)
-S('use(![a]); use(!(f(), 1)); use(1 + -3); use(typeof null); use(-(1)); use(-x);',[use(NOT(N('ArrayExpression',elements=[a]))),use(NOT(PAREN(SEQ(call(f),L(1))))),use(SAME(L(1),un('-',L(3)),'+')),use(un('typeof',L(None))),use(un('-',PAREN(L(1)))),use(un('-',x))],None,0,0)
+S('use(![a]); use(!(f(), 1)); use(typeof null); use(-x);',[use(NOT(N('ArrayExpression',elements=[a]))),use(NOT(PAREN(SEQ(call(f),L(1))))),use(un('typeof',L(None))),use(un('-',x))],None,0,0)
 S('(p?.()); (1, p)?.(); of a chain what is called',[ES(PAREN(N('ChainExpression',expression=call(I('p'),optional=True)))),ES(N('ChainExpression',expression=call(SEQ(L(1),I('p')),optional=True)))],[ES(PAREN(N('ChainExpression',expression=call(I('p'),optional=True)))),ES(N('ChainExpression',expression=call(I('p'),optional=True)))],1,0)
 S("use(-1); use(0 * -1); use(1 / 2); use(1 / 0); use(9007199254740991 + 1); use('a' + 1); use(void 0);",[use(un('-',L(1))),use(SAME(L(0),un('-',L(1)),'*')),use(SAME(L(1),L(2),'/')),use(SAME(L(1),L(0),'/')),use(SAME(L(9007199254740991),L(1),'+')),use(SAME(L('a'),L(1),'+')),use(un('void',L(0)))],None,0,0)
+S('use(1 - 3); use(0 - 3); use(-2 * 3); use(1 + -3); use(-7 / 7); use(-7 % 4);',[use(SAME(L(1),L(3),'-')),use(SAME(L(0),L(3),'-')),use(SAME(un('-',L(2)),L(3),'*')),use(SAME(L(1),un('-',L(3)),'+')),use(SAME(un('-',L(7)),L(7),'/')),use(SAME(un('-',L(7)),L(4),'%'))],[use(un('-',L(2))),use(un('-',L(3))),use(un('-',L(6))),use(un('-',L(2))),use(un('-',L(1))),use(un('-',L(3)))],1,0)
+S('use(-(-2)); use(-(1 + 1)); use(+-2); use(- - -2); a sign before a sign',[use(un('-',un('-',L(2)))),use(un('-',SAME(L(1),L(1),'+'))),use(un('+',un('-',L(2)))),use(un('-',un('-',un('-',L(2)))))],[use(L(2)),use(un('-',L(2))),use(un('-',L(2))),use(un('-',L(2)))],1,0)
+S('use(-(1)); use((1 - 3)); use(-(-(2)));',[use(un('-',PAREN(L(1)))),use(PAREN(SAME(L(1),L(3),'-'))),use(un('-',PAREN(un('-',PAREN(L(2))))))],[use(un('-',L(1))),use(PAREN(un('-',L(2)))),use(L(2))],1,0)
+S('use(1 - 3 + 5); use(1 - 3 - 5); use(-1 - 1 < 0); use(typeof (0 - 1)); use(1 - 3 ? a : b);',[use(SAME(SAME(L(1),L(3),'-'),L(5),'+')),use(SAME(SAME(L(1),L(3),'-'),L(5),'-')),use(SAME(SAME(un('-',L(1)),L(1),'-'),L(0),'<')),use(un('typeof',PAREN(SAME(L(0),L(1),'-')))),use(COND(SAME(L(1),L(3),'-'),a,b))],[use(L(3)),use(un('-',L(7))),use(L(True)),use(L('number')),use(a)],1,0)
+S('use(-2); use(0 * -1); use(-0); use(0 / -5); use(-4 % 2); use(-9007199254740991 - 1); use(-7 / 2); which are written as they are',[use(un('-',L(2))),use(SAME(L(0),un('-',L(1)),'*')),use(un('-',L(0))),use(SAME(L(0),un('-',L(5)),'/')),use(SAME(un('-',L(4)),L(2),'%')),use(SAME(un('-',L(9007199254740991)),L(1),'-')),use(SAME(un('-',L(7)),L(2),'/'))],None,0,0)
+S('use(0 - 9007199254740991); use(-9007199254740990 - 1); the least that is exact',[use(SAME(L(0),L(9007199254740991),'-')),use(SAME(un('-',L(9007199254740990)),L(1),'-'))],[use(un('-',L(9007199254740991))),use(un('-',L(9007199254740991)))],1,0)
+S('use(-2); use(+-2); of a literal whose value is negative',[use(L(-2)),use(un('+',L(-2)))],[use(un('-',L(2))),use(un('+',un('-',L(2))))],0,0)
+S('use(-(-2)); use(-2 - 1); of such a literal',[use(un('-',L(-2))),use(SAME(L(-2),L(1),'-'))],[use(L(2)),use(un('-',L(3)))],1,0)
+S('let x = 1 - 3; use(x); use([0 - 1]); use(a ? 1 - 2 : 3 - 5);',[x_is(SAME(L(1),L(3),'-')),use(x),use(N('ArrayExpression',elements=[SAME(L(0),L(1),'-')])),use(COND(a,SAME(L(1),L(2),'-'),SAME(L(3),L(5),'-')))],[x_is(un('-',L(2))),use(x),use(N('ArrayExpression',elements=[un('-',L(1))])),use(COND(a,un('-',L(1)),un('-',L(2))))],1,1)
+S("use(f() - 3); use(1 - f()); use(-x); use(-true); use(-'1'); use(1 - '3'); use(~1 - 3); 1 - 3;",[use(SAME(call(f),L(3),'-')),use(SAME(L(1),call(f),'-')),use(un('-',x)),use(un('-',L(True))),use(un('-',L('1'))),use(SAME(L(1),L('3'),'-')),use(SAME(un('~',L(1)),L(3),'-')),ES(SAME(L(1),L(3),'-'))],[use(SAME(call(f),L(3),'-')),use(SAME(L(1),call(f),'-')),use(un('-',x)),use(un('-',L(True))),use(un('-',L('1'))),use(SAME(L(1),L('3'),'-')),use(SAME(un('~',L(1)),L(3),'-'))],1,0)
 S('(1 < 2 ? a : b)(); use(!1 || a);',[ES(call(COND(SAME(L(1),L(2),'<'),a,b))),use(OR(NOT(L(1)),a))],[do('a'),use(a)],1,0)
 
 NAMED=lambda local,imported=None: N('ImportSpecifier',imported=I(imported or local),local=I(local))
@@ -430,6 +463,20 @@ S("import { a } from 'm'; use(typeof a); export function h() { return a; } a; of
 S("import { a } from 'm'; export function h(a) { return a; } whose a is another",[IMPORT('m',NAMED('a')),export(F_('h',['a'],RETURN(a)))],[IMPORT('m'),export(F_('h',['a'],RETURN(a)))],1,1)
 S("import { a } from 'm'; use(0 && a); import { b } from 'n'; whose use goes first",[IMPORT('m',NAMED('a')),use(AND(L(0),a)),IMPORT('n',NAMED('b'))],[IMPORT('m'),use(L(0)),IMPORT('n')],2,0)
 S("import { a, b } from 'm'; function h() { a(); } export function k() { return b; h(); }",[IMPORT('m',NAMED('a'),NAMED('b')),F_('h',[],do('a')),export(F_('k',[],RETURN(b),do('h')))],[IMPORT('m',NAMED('b')),export(F_('k',[],RETURN(b)))],3,1)
+FROM_X=N('ExportNamedDeclaration',declaration=None,specifiers=[N('ExportSpecifier',local=b,exported=b)],source=L('x'))
+ALL_X=N('ExportAllDeclaration',exported=None,source=L('x'))
+S("import 'x'; import 'x';",[IMPORT('x'),IMPORT('x')],[IMPORT('x')],1,0)
+S("import { a } from 'x'; import 'x'; use(a);",[IMPORT('x',NAMED('a')),IMPORT('x'),use(a)],[IMPORT('x',NAMED('a')),use(a)],1,1)
+S("export { b } from 'x'; import 'x';",[FROM_X,IMPORT('x')],[FROM_X],1,0)
+S("export * from 'x'; use(1); import 'x'; whatever stands between",[ALL_X,use(L(1)),IMPORT('x')],[ALL_X,use(L(1))],1,0)
+S("import 'x'; import { a } from 'x'; use(a); of which the first says when the module is loaded",[IMPORT('x'),IMPORT('x',NAMED('a')),use(a)],None,0,1)
+S("import 'x'; export { b } from 'x'; in which the export has a name",[IMPORT('x'),FROM_X],None,0,0)
+S("import { a } from 'x'; import { b } from 'x'; use(a); whose second import has no name then",[IMPORT('x',NAMED('a')),IMPORT('x',NAMED('b')),use(a)],[IMPORT('x',NAMED('a')),use(a)],1,1)
+S("import { a } from 'x'; import { b } from 'x'; use(b); whose first import has none",[IMPORT('x',NAMED('a')),IMPORT('x',NAMED('b')),use(b)],[IMPORT('x'),IMPORT('x',NAMED('b')),use(b)],1,1)
+S("import 'x'; import 'y'; import 'x'; import 'y'; import 'x';",[IMPORT('x'),IMPORT('y'),IMPORT('x'),IMPORT('y'),IMPORT('x')],[IMPORT('x'),IMPORT('y')],1,0)
+S("import 'x'; 1; import 'x'; whose list loses the literal first",[IMPORT('x'),ES(L(1)),IMPORT('x')],[IMPORT('x')],2,0)
+S("import 'x'; import 'X'; import 'x/'; import 'xx'; of four modules",[IMPORT('x'),IMPORT('X'),IMPORT('x/'),IMPORT('xx')],None,0,0)
+S("import { a } from 'x'; import 'x'; eval('a'); which may use the name",[IMPORT('x',NAMED('a')),IMPORT('x'),do('eval',L('a'))],[IMPORT('x',NAMED('a')),do('eval',L('a'))],1,0)
 
 
 # What one pass leaves of a statement, or `None` where it leaves it alone, with the passes and references that are counted.
@@ -474,7 +521,7 @@ STATEMENTS=[
  ('{ f(); }',[B(CALL)],None,0,0),
  ('{ let x = 1; }',[B(x_is(L(1)))],[],1,0),
  ('l: ;',[LABEL('l',EMPTY)],[],1,0),
- ('l: { break l; f(); }',[LABEL('l',B(BREAK(I('l')),CALL))],[LABEL('l',B(BREAK(I('l'))))],1,0),
+ ('l: { break l; f(); }',[LABEL('l',B(BREAK(I('l')),CALL))],[],1,0),
  # variables
  ('let x = 1;',[x_is(L(1))],[],1,0),
  ('let x = f();',[x_is(call(f))],None,0,0),
@@ -518,7 +565,7 @@ STATEMENTS=[
  ('try { 1; } catch (e) { f(e); }',[TRY(B(ES(L(1))),I('e'),ES(call(f,I('e'))))],[],1,0),
  ('try { f(); } catch (e) { 1; }',[TRY(B(CALL),I('e'),ES(L(1)))],[TRY(B(CALL),I('e'))],1,0),
  ('try { f(); } finally { 1; }',[FINALLY(B(CALL),ES(L(1)))],[FINALLY(B(CALL))],1,0),
- ('try {} finally { f(); }',[FINALLY(B(),CALL)],None,0,0),
+ ('try {} finally { f(); }',[FINALLY(B(),CALL)],[B(CALL)],1,0),
  ('with (a) { 1; } in a script',[N('WithStatement',object=a,body=B(ES(L(1))))],[N('WithStatement',object=a,body=B())],1,0,'script'),
  ('throw a; f(); { f(); }',[THROW(a),CALL,B(CALL)],[THROW(a)],1,0),
  ('throw a; let x = f();',[THROW(a),x_is(call(f))],None,0,0),
@@ -628,6 +675,10 @@ def rows():
         ('call imports:', prog(kept), 'passes 1 scopes 1\n%s\n' % text(prog(kept[:1]))),
         ('call imports:', prog(kept[:1]), 'passes 0 scopes 1\n%s\n' % text(prog(kept[:1]))),
         ('call safest:', prog(kept), 'passes 1 scopes 2\n%s\n' % text(prog(kept[:3])))]
+    again = [IMPORT('m', NAMED('a')), IMPORT('m')]
+    yield "and an import without names is none of it: import { a } from 'm'; import 'm';", [
+        ('call imports:', prog(again), 'passes 1 scopes 1\n%s\n' % text(prog(again[:1]))),
+        ('call safest:', prog(again), 'passes 1 scopes 1\n%s\n' % text(prog(again[:1])))]
     loop = lambda *body: N('WhileStatement', test=a, body=B(*body))
     yield 'the scopes are those of what is left: let x; { ; } () => { x; }; and, with while (a) { ; } as well', [
         ('call dce:', prog([LET_X, B(EMPTY), ES(ARROW(ES(x)))]), 'passes 2 scopes 1\n%s\n' % text(prog([]))),

@@ -11,7 +11,11 @@ use Rattle.steps_fit.proofs.Sensible.{sensible_module}
 use Rattle.headline.specs.Clean.{Clean}
 use Rattle.headline.specs.Headline.{is_core_module, Headline}
 use Rattle.headline.proofs.Sound.{Refines}
+use Rattle.steps_owed.proofs.FitsEdits.{edits_fit}
+use Rattle.headline.proofs.Loading.{edits_load}
 use Rattle.headline.proofs.Refining.{edits_refine}
+use Rattle.headline.proofs.Rooted.{edits_names}
+use Rattle.headline.proofs.UsedImports.{imports_used}
 
 -- ---- of core modules
 
@@ -30,4 +34,7 @@ headline_of t u fits form steps clean = record {
   kept = kept_by t u fits form steps;
   back = back_by t u fits form steps;
   clean = clean;
+  loads = edits_load steps fits;
+  shared = edits_names steps fits;
+  imports = λ script calls. imports_used u (edits_fit t u steps fits) script calls clean;
 }

@@ -3,6 +3,9 @@ pub mod Cells
 pub mod Once
 pub mod Sound
 pub mod Refining
+pub mod Loading
+pub mod Rooted
+pub mod UsedImports
 pub mod Headline
 mod RenotedUnused
 mod RenotedChoice
@@ -11,4 +14,6 @@ mod RenotedSides
 mod RenotedKnown
 mod RenotedIf
 mod RenotedIdle
+mod RenotedTry
+mod RenotedSites
 pub mod Renoted

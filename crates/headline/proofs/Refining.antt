@@ -20,7 +20,7 @@ use Rattle.steps_fit.specs.Sensible.{IsSensible, IsSensibleModule}
 use Rattle.steps_fit.proofs.Sensible.{of_module, module_renoted}
 use Rattle.steps_owed.specs.Comes.{Comes}
 use Rattle.steps_owed.specs.Good.{Good}
-use Rattle.steps_owed.specs.Owed.{LeavesRuns, by_going, by_change, SameRuns, by_step, by_coming, by_changing}
+use Rattle.steps_owed.specs.Owed.{LeavesRuns, by_going, by_change, by_refining, SameRuns, by_step, by_coming, by_changing}
 use Rattle.steps_owed.proofs.Edited.{edit_sensible}
 use Rattle.steps_owed.proofs.Here.{good_module}
 use Rattle.steps_owed.proofs.LeftRuns.{core_left, still_module, left_refines}
@@ -81,6 +81,14 @@ leaves_refines a x (by_change change) h g =
     record {
       left = of_module (without a) (record { note = h.note; list_note = h.list_note; items = still.changed; is = still.is }) (core_left x a h.core) g;
       refined = subst (λ t. Refined t (without a)) (sym h.is) (left_refines h.note h.list_note h.items a x h.is here core g.fits g.well_formed);
+    }
+leaves_refines a x (by_refining refines) h g =
+    let fits = subst (Fits root) h.is h.sensible.fits in
+    let core = subst (λ t. all_core t ≡ true) h.is h.core in
+    let made = refines h.note h.list_note h.items h.is fits (subst IsWellFormed h.is h.sensible.well_formed) core in
+    record {
+      left = of_module (without a) (record { note = h.note; list_note = h.list_note; items = made.items; is = made.is }) (core_left x a h.core) g;
+      refined = subst (λ t. Refined t (without a)) (sym h.is) made.refined;
     }
 
 edit_refines : (t u : Forest) → Edit t u → IsSensibleModule t → Refines t u

@@ -1,10 +1,8 @@
 -- A program without dead code has none with other notes.
-use Rattle.std.proofs.Common.{◌≡◌, ◌∙◌, ◌+◌, ℕ, suc, List, [], ◌∷◌, ◌++◌, map, Bool, true, false, ◌&&◌, ◌||◌, Option, Some, None, is_some, option_map, if◌then◌else◌, refl, sym, ap, ap₂, subst, inl, inr}
-use Rattle.std.proofs.lemmas.List.{map-append}
-use Rattle.std.specs.Str.{bytes_eq}
+use Rattle.std.proofs.Common.{◌≡◌, ◌∙◌, ◌+◌, ℕ, suc, List, Bool, true, false, ◌&&◌, ◌||◌, Option, Some, None, is_some, if◌then◌else◌, refl, sym, ap, ap₂, subst, inl, inr}
 use mathlib.Core.Path.{fun_ext}
 use Rattle.js_syntax.specs.declared.node_kind.NodeKind.{NodeKind as Kind}
-use Rattle.js_syntax.specs.declared.node_kind.NodeKind.TheVariants.{Function as function, UnaryExpression as unary_expression, BindingName as binding_name, ReferenceName as reference_name, TargetName as target_name, EmptyStatement as empty_statement, ExpressionStatement as expression_statement, VariableDeclarator as variable_declarator, ConditionalExpression as conditional_expression, LogicalExpression as logical_expression}
+use Rattle.js_syntax.specs.declared.node_kind.NodeKind.TheVariants.{Function as function, UnaryExpression as unary_expression, BindingName as binding_name, ReferenceName as reference_name, Specifiers as specifiers, EmptyStatement as empty_statement, ExpressionStatement as expression_statement, VariableDeclarator as variable_declarator, ConditionalExpression as conditional_expression, LogicalExpression as logical_expression}
 use Rattle.js_syntax.specs.declared.kind.FunctionKind.TheVariants as function_kind
 use Rattle.js_syntax.specs.declared.kind.VariableKind.TheVariants as variable
 use Rattle.js_syntax.specs.declared.operator.UnaryOperator.TheVariants as unary
@@ -15,15 +13,11 @@ use Rattle.js_meaning_near.specs.Near.{cuts_off}
 use Rattle.min_pass.specs.declared.around.Around.{Around as Asked}
 use Rattle.min_pass.specs.Around.{is_with, entered as asked_below, outermost as asked_of_program}
 use Rattle.min_pass.specs.Pass.{is_given}
-use Rattle.scope_rules.specs.declared.layer.Layer.{Layer}
-use Rattle.scope_rules.specs.Context.{Context, opens, inside, outermost}
-use Rattle.scope_rules.specs.Site.{Site, scope_site, binding_site, reference_site, ScopeSite, BindingSite, ReferenceSite, scope_bits, name_sites, own_sites, opens_one, scope_count, sites, sites_of, bindings_among, references_among}
-use Rattle.scope_rules.specs.Binding.{Binding, same_layer, is_declared, binding_layer, named_in, binding_of}
-use Rattle.scope_laws.specs.Exact.{Among}
+use Rattle.scope_rules.specs.Context.{Context, inside, outermost}
+use Rattle.scope_rules.specs.Site.{BindingSite, ReferenceSite, opens_one, scope_count, sites_of, bindings_among}
+use Rattle.scope_rules.specs.Binding.{named_in, binding_of}
 use Rattle.scope_laws.specs.Place.{Around, first, behind, behind_none, under, plug}
-use Rattle.scope_laws.proofs.Notes.{unseen, opens_bare, scope_count_bare, scope_bits_bare, inside_bare}
-use Rattle.scope_laws.proofs.Among.{among_map, image}
-use Rattle.steps_names.specs.Standing.{is_export, exported_sites, exported_declarations}
+use Rattle.scope_laws.proofs.Notes.{unseen, scope_count_bare}
 use Rattle.steps_allowed.specs.Silent.{read_in, IsFound, IsSilentNode, IsSilent, HoldsThere}
 use Rattle.steps_allowed.specs.Exposure.{Exposure, exposed_inside, exposed_of, exposed_at, exposure, function_is_exposed, evaluates_somewhere, IsOwnFunction, IsOwnDeclarator}
 use Rattle.steps_allowed.specs.Uses.{Use, use_below, use_there, use_at, matters, stands_bare}
@@ -31,7 +25,7 @@ use Rattle.steps_allowed.specs.Unused.{is_unused_below, unused_there}
 use Rattle.steps.specs.Steps.{binds_import}
 use Rattle.steps_allowed.specs.Imports.{ImportRow, elsewhere, import_row_below, import_row, IsImported}
 use Rattle.steps_allowed.specs.Places.{a_node, asked_at, IsItem, IsDeclarator, At, MayStandBare}
-use Rattle.steps_allowed.specs.Free.{IsFree, Free, FreeDeclarator}
+use Rattle.steps_allowed.specs.Free.{Free, FreeDeclarator}
 use Rattle.steps_allowed.specs.SilentStatement.{SilentStatement}
 use Rattle.steps_allowed.specs.UnusedFunction.{a_function}
 use Rattle.steps_allowed.specs.UnusedDeclarator.{a_declarator, SilentDeclarator}
@@ -45,174 +39,31 @@ use Rattle.steps_allowed.specs.OneSidedChoice.{OneSidedChoice, one_branch_acts}
 use Rattle.steps_allowed.specs.IdleParts.{sequence_becomes, IdleParts, idle_parts_leave}
 use Rattle.steps_allowed.specs.TwoSides.{TwoSides, both_sides_act}
 use Rattle.steps_allowed.specs.UnusedObject.{UnusedObject, acting_values_stay}
-use Rattle.steps_allowed.specs.KnownOperation.{KnownOperation, value_is_known}
+use Rattle.steps_allowed.specs.KnownOperation.{KnownOperation, value_is_known, negative_is_known}
 use Rattle.steps_allowed.specs.Branches.{declares_none}
 use Rattle.steps_allowed.specs.KnownIf.{KnownIf}
 use Rattle.steps_allowed.specs.DeadIf.{DeadIf}
 use Rattle.steps_allowed.specs.EmptyBlock.{holds_nothing, EmptyBlock, empty_block_leaves}
 use Rattle.steps_allowed.specs.Unreached.{is_behind_jump, Unreached, never_runs}
+use Rattle.steps_allowed.specs.RepeatedImport.{asks_for, is_asked_before, import_of, RepeatedImport, repeated_import_leaves}
+use Rattle.steps_allowed.specs.IdleTry.{IdleTry}
 use Rattle.steps_allowed.specs.IdleStatement.{does_nothing, IdleStatement, idle_leaves}
 use Rattle.steps_allowed.specs.UnrunValue.{passes, is_unrun, is_value_of, is_value, a_zero, UnrunValue, value_never_given}
 use Rattle.steps_allowed.specs.Untaken.{truth_given, untaken_where, is_known, leads_to_untaken, begins_untaken, runs_inside, is_untaken, Untaken, never_taken}
 use Rattle.steps_owed.proofs.Changing.{cuts_bare}
 use Rattle.steps_owed.proofs.ExposedBare.{bare_inside, bare_below, bare_exposed}
 use Rattle.steps_owed.proofs.Focus.{follows_there}
-use Rattle.headline.specs.Clean.{IsDead, an_empty_statement, an_empty_block, a_silent_statement, an_unused_function, an_unused_declarator, an_unused_import, a_known_conditional, a_known_side, an_unused_operation, an_unused_list, an_indirect_choice, a_one_sided_choice, idle_parts, two_sides, an_unused_object, a_known_operation, a_known_if, a_dead_if, an_unreached_statement, an_untaken_statement, an_unrun_value, an_idle_statement, CleanBut}
+use Rattle.headline.specs.Clean.{IsDead, an_empty_statement, an_empty_block, a_silent_statement, an_unused_function, an_unused_declarator, an_unused_import, a_known_conditional, a_known_side, an_unused_operation, an_unused_list, an_indirect_choice, a_one_sided_choice, idle_parts, two_sides, an_unused_object, a_known_operation, a_known_if, a_dead_if, an_unreached_statement, an_untaken_statement, an_unrun_value, an_idle_statement, a_repeated_import, an_idle_try, CleanBut}
 use Rattle.headline.proofs.RenotedUnused.{stands_as, needed_as, child_as, list_as}
 use Rattle.headline.proofs.RenotedChoice.{counts_as}
 use Rattle.headline.proofs.RenotedParts.{side_as, sequence_as}
 use Rattle.headline.proofs.RenotedSides.{two_sides_as, object_as}
-use Rattle.headline.proofs.RenotedKnown.{known_as, given_bare, truth_as, side_as as known_side_as}
+use Rattle.headline.proofs.RenotedKnown.{known_as, negative_as, given_bare, truth_as, side_as as known_side_as}
 use Rattle.steps_owed.proofs.EmptyBlock.{holds_bare}
 use Rattle.headline.proofs.RenotedIdle.{idle_bare}
+use Rattle.headline.proofs.RenotedTry.{idle_try_as}
 use Rattle.headline.proofs.RenotedIf.{declares_bare, known_if_as, dead_if_as}
-
--- ---- sites without ids and spans
-
-abbrev bare_binding : BindingSite → BindingSite
-bare_binding b = record { id = None; name = b.name; layer = b.layer; flags = b.flags; is_pure = b.is_pure; span = nowhere.span }
-
-abbrev bare_reference : ReferenceSite → ReferenceSite
-bare_reference r = record { id = None; name = r.name; scope = r.scope; layers = r.layers; flags = r.flags }
-
-abbrev bare_scope : ScopeSite → ScopeSite
-bare_scope s = record { id = None; parent = s.parent; flags = s.flags }
-
-abbrev bare_site : Site → Site
-bare_site (scope_site s) = scope_site (bare_scope s)
-bare_site (binding_site b) = binding_site (bare_binding b)
-bare_site (reference_site r) = reference_site (bare_reference r)
-
-scope_or_none : (b : Bool) (s : ScopeSite) → (if b then scope_site (bare_scope s) ∷ [] else []) ≡ map bare_site (if b then scope_site s ∷ [] else [])
-scope_or_none true s = refl
-scope_or_none false s = refl
-
-names_bare : (c : Context) (n : Note) (k : Kind) → name_sites c nowhere k ≡ map bare_site (name_sites c n k)
-names_bare c n (binding_name x) = refl
-names_bare c n (reference_name x) = refl
-names_bare c n (target_name x) = refl
-names_bare c n k = refl
-
-own_bare : (c : Context) (n : Note) (k : Kind) (t : Forest) → own_sites c nowhere k (bare t) ≡ map bare_site (own_sites c n k t)
-own_bare c n k t =
-    let here : ScopeSite = record { id = n.id; parent = c.scope; flags = scope_bits c k t } in
-    ap₂ (λ xs ys. xs ++ ys)
-    (ap₂ (λ b flags. if b then scope_site (record { id = None; parent = c.scope; flags = flags }) ∷ [] else []) (opens_bare k t) (scope_bits_bare c k t) ∙ scope_or_none (opens k t) here)
-    (names_bare c n k)
-    ∙ sym (map-append bare_site (if opens k t then scope_site here ∷ [] else []) (name_sites c n k))
-
-inside_same : (c : Context) (next : ℕ) (k : Kind) (f g : Forest) → bare f ≡ bare g → inside c next k f ≡ inside c next k g
-inside_same c next k f g e = fun_ext (λ i. unseen (λ t. inside c next k t i) (λ t. inside_bare c next k t i) f g e)
-
-opens_same : (k : Kind) (f g : Forest) → bare f ≡ bare g → opens_one k f ≡ opens_one k g
-opens_same k f g e = ap (λ b. if b then 1 else 0) (unseen (opens k) (opens_bare k) f g e)
-
-bare_bare : (t : Forest) → bare (bare t) ≡ bare t
-bare_bare nothing = refl
-bare_bare (absent rest) = ap absent (bare_bare rest)
-bare_bare (node k n below rest) = ap₂ (λ x y. node k nowhere x y) (bare_bare below) (bare_bare rest)
-
-place_same : (next : ℕ) (k : Kind) (n : Note) (below : Forest) → next + scope_count (node k nowhere (bare below) nothing) ≡ next + scope_count (node k n below nothing)
-place_same next k n below = ap (λ (i : ℕ). next + i) (scope_count_bare (node k n below nothing))
-
-sites_bare : (cs : ℕ → Context) (at next : ℕ) (t : Forest) → sites cs at next (bare t) ≡ map bare_site (sites cs at next t)
-sites_bare cs at next nothing = refl
-sites_bare cs at next (absent rest) = sites_bare cs (suc at) next rest
-sites_bare cs at next (node k n below rest) =
-    let c = cs at in
-    let own = own_sites c n k below in
-    let inner = sites (inside c next k below) 0 (next + opens_one k below) below in
-    let outer = sites cs (suc at) (next + scope_count (node k n below nothing)) rest in
-    ap₂ (λ xs ys. xs ++ ys)
-    (ap₂ (λ xs ys. xs ++ ys) (own_bare c n k below)
-    (ap₂ (λ f (i : ℕ). sites f 0 (next + i) (bare below)) (inside_same c next k (bare below) below (bare_bare below)) (opens_same k (bare below) below (bare_bare below)) ∙ sites_bare (inside c next k below) 0 (next + opens_one k below) below))
-    (ap (λ (i : ℕ). sites cs (suc at) i (bare rest)) (place_same next k n below) ∙ sites_bare cs (suc at) (next + scope_count (node k n below nothing)) rest)
-    ∙ sym (map-append bare_site (own ++ inner) outer ∙ ap (λ xs. xs ++ map bare_site outer) (map-append bare_site own inner))
-
-exported_bare : (cs : ℕ → Context) (at next : ℕ) (t : Forest) → exported_sites cs at next (bare t) ≡ map bare_site (exported_sites cs at next t)
-exported_bare cs at next nothing = refl
-exported_bare cs at next (absent rest) = exported_bare cs (suc at) next rest
-exported_bare cs at next (node k n below rest) =
-    let c = cs at in
-    let all = sites (inside c next k below) 0 (next + opens_one k below) below in
-    let some = exported_sites (inside c next k below) 0 (next + opens_one k below) below in
-    let outer = exported_sites cs (suc at) (next + scope_count (node k n below nothing)) rest in
-    ap₂ (λ xs ys. xs ++ ys)
-    (ap₂ (λ f (i : ℕ). if is_export k then sites f 0 (next + i) (bare below) else exported_sites f 0 (next + i) (bare below)) (inside_same c next k (bare below) below (bare_bare below)) (opens_same k (bare below) below (bare_bare below))
-    ∙ either (is_export k) (exported_bare (inside c next k below) 0 (next + opens_one k below) below))
-    (ap (λ (i : ℕ). exported_sites cs (suc at) i (bare rest)) (place_same next k n below) ∙ exported_bare cs (suc at) (next + scope_count (node k n below nothing)) rest)
-    ∙ sym (map-append bare_site (if is_export k then all else some) outer)
-  where
-    either : (b : Bool)
-        → exported_sites (inside (cs at) next k below) 0 (next + opens_one k below) (bare below) ≡ map bare_site (exported_sites (inside (cs at) next k below) 0 (next + opens_one k below) below)
-        → (if b then sites (inside (cs at) next k below) 0 (next + opens_one k below) (bare below) else exported_sites (inside (cs at) next k below) 0 (next + opens_one k below) (bare below))
-        ≡ map bare_site (if b then sites (inside (cs at) next k below) 0 (next + opens_one k below) below else exported_sites (inside (cs at) next k below) 0 (next + opens_one k below) below)
-    either true e = sites_bare (inside (cs at) next k below) 0 (next + opens_one k below) below
-    either false e = e
-
-bindings_bare : (ss : List Site) → bindings_among (map bare_site ss) ≡ map bare_binding (bindings_among ss)
-bindings_bare [] = refl
-bindings_bare (scope_site s ∷ ss) = bindings_bare ss
-bindings_bare (binding_site s ∷ ss) = ap (λ zs. bare_binding s ∷ zs) (bindings_bare ss)
-bindings_bare (reference_site s ∷ ss) = bindings_bare ss
-
-references_bare : (ss : List Site) → references_among (map bare_site ss) ≡ map bare_reference (references_among ss)
-references_bare [] = refl
-references_bare (scope_site s ∷ ss) = references_bare ss
-references_bare (binding_site s ∷ ss) = references_bare ss
-references_bare (reference_site s ∷ ss) = ap (λ zs. bare_reference s ∷ zs) (references_bare ss)
-
--- ---- bindings
-
-declared_bare : (bs : List BindingSite) (l : Layer) (x : List ℕ) → is_declared (map bare_binding bs) l x ≡ is_declared bs l x
-declared_bare [] l x = refl
-declared_bare (b ∷ bs) l x = ap (λ d. same_layer b.layer l && bytes_eq b.name x || d) (declared_bare bs l x)
-
-layer_bare : (bs : List BindingSite) (ls : List Layer) (x : List ℕ) → binding_layer (map bare_binding bs) ls x ≡ binding_layer bs ls x
-layer_bare bs [] x = refl
-layer_bare bs (l ∷ ls) x = ap₂ (λ d o. if d then Some l else o) (declared_bare bs l x) (layer_bare bs ls x)
-
-binding_bare : (bs : List BindingSite) (r : ReferenceSite) → binding_of (map bare_binding bs) r ≡ binding_of bs r
-binding_bare bs r = ap (option_map (named_in r.name)) (layer_bare bs r.layers r.name)
-
-module _ (t u : Forest) (e : bare t ≡ bare u) where
-  same_bindings : map bare_binding (bindings_among (sites_of t)) ≡ map bare_binding (bindings_among (sites_of u))
-  same_bindings = unseen (λ f. map bare_binding (bindings_among (sites_of f)))
-      (λ f. ap (λ ss. map bare_binding (bindings_among ss)) (sites_bare (λ at. outermost) 0 0 f) ∙ ap (map bare_binding) (bindings_bare (sites_of f)) ∙ twice (bindings_among (sites_of f))) t u e
-    where
-      twice : (bs : List BindingSite) → map bare_binding (map bare_binding bs) ≡ map bare_binding bs
-      twice [] = refl
-      twice (b ∷ bs) = ap (λ zs. bare_binding b ∷ zs) (twice bs)
-
-  same_references : map bare_reference (references_among (sites_of t)) ≡ map bare_reference (references_among (sites_of u))
-  same_references = unseen (λ f. map bare_reference (references_among (sites_of f)))
-      (λ f. ap (λ ss. map bare_reference (references_among ss)) (sites_bare (λ at. outermost) 0 0 f) ∙ ap (map bare_reference) (references_bare (sites_of f)) ∙ twice (references_among (sites_of f))) t u e
-    where
-      twice : (rs : List ReferenceSite) → map bare_reference (map bare_reference rs) ≡ map bare_reference rs
-      twice [] = refl
-      twice (r ∷ rs) = ap (λ zs. bare_reference r ∷ zs) (twice rs)
-
-  same_exports : map bare_binding (exported_declarations t) ≡ map bare_binding (exported_declarations u)
-  same_exports = unseen (λ f. map bare_binding (exported_declarations f))
-      (λ f. ap (λ ss. map bare_binding (bindings_among ss)) (exported_bare (λ at. outermost) 0 0 f) ∙ ap (map bare_binding) (bindings_bare (exported_sites (λ at. outermost) 0 0 f)) ∙ twice (exported_declarations f)) t u e
-    where
-      twice : (bs : List BindingSite) → map bare_binding (map bare_binding bs) ≡ map bare_binding bs
-      twice [] = refl
-      twice (b ∷ bs) = ap (λ zs. bare_binding b ∷ zs) (twice bs)
-
-  same_binding : (r : ReferenceSite) → binding_of (bindings_among (sites_of t)) r ≡ binding_of (bindings_among (sites_of u)) r
-  same_binding r = sym (binding_bare (bindings_among (sites_of t)) r) ∙ ap (λ bs. binding_of bs r) same_bindings ∙ binding_bare (bindings_among (sites_of u)) r
-
-  -- what is free in the one is free in the other
-  free_as : (b : Binding) → IsFree u b → IsFree t b
-  free_as b f = record {
-    unreferred = λ r h is.
-        let i = image bare_reference (references_among (sites_of u)) (bare_reference r) (subst (Among (bare_reference r)) same_references (among_map bare_reference r (references_among (sites_of t)) h)) in
-        f.unreferred i.item i.stands (ap (binding_of (bindings_among (sites_of u))) i.gives ∙ sym (same_binding r) ∙ is);
-    unexported = λ d h outer is.
-        let i = image bare_binding (exported_declarations u) (bare_binding d) (subst (Among (bare_binding d)) same_exports (among_map bare_binding d (exported_declarations t) h)) in
-        f.unexported i.item i.stands (ap (λ (x : BindingSite). x.layer.scope) i.gives ∙ outer) (ap (λ (x : BindingSite). named_in x.name x.layer) i.gives ∙ is);
-  }
+use Rattle.headline.proofs.RenotedSites.{free_as, inside_same, opens_same, same_binding}
 
 -- ---- two trees node by node
 
@@ -346,6 +197,7 @@ record Twin (t : Forest) (a : Around) (k : Kind) (n : Note) (b : Forest) : Type 
   used : (us : ℕ → Use) (at : ℕ) → use_there us at around ≡ use_there us at a
   unused : (us : ℕ → Bool) (at : ℕ) → unused_there us at around ≡ unused_there us at a
   jumped : (j : Bool) → is_behind_jump j around ≡ is_behind_jump j a
+  requested : (source : List ℕ) (q : Bool) → is_asked_before source q around ≡ is_asked_before source q a
   untaken : (q : Bool) → is_untaken q around ≡ is_untaken q a
   unrun : (q : Bool) → is_unrun q around ≡ is_unrun q a
   value_of : (j : Kind) → is_value_of j around ≡ is_value_of j a
@@ -371,6 +223,7 @@ twin (first rest) k n b (node l m c r) e = record {
   used = λ us at. refl;
   unused = λ us at. refl;
   jumped = λ q. refl;
+  requested = λ source q. refl;
   untaken = λ q. refl;
   unrun = λ q. refl;
   value_of = λ j. no_value_first j _ _;
@@ -397,6 +250,7 @@ twin (behind j i d a) k n b (node l m c r) e =
       used = λ us at. o.used us (suc at);
       unused = λ us at. o.unused us (suc at);
       jumped = λ q. o.jumped (q || cuts_off j c) ∙ ap (λ b. is_behind_jump (q || b) a) (unseen (cuts_off j) (cuts_bare j) c d (same_below e));
+      requested = λ source q. o.requested source (q || asks_for source j);
       untaken = o.untaken;
       unrun = o.unrun;
       value_of = λ v. value_behind v j m c o.around ∙ ap (λ b. if b then is_value_of v (behind j m c (first nothing)) else false) o.ends ∙ same_behind_value v j m i c d a;
@@ -423,6 +277,7 @@ twin (behind_none a) k n b (absent r) e =
       used = λ us at. o.used us (suc at);
       unused = λ us at. o.unused us (suc at);
       jumped = o.jumped;
+      requested = o.requested;
       untaken = o.untaken;
       unrun = o.unrun;
       value_of = λ v. no_value_behind_none v o.around a;
@@ -452,6 +307,7 @@ twin (under j i a rest) k n b (node l m c r) e =
       used = λ us at. o.used (λ i. use_below (us at) j i) 0;
       unused = λ us at. o.unused (λ i. is_unused_below (us at) j i) 0;
       jumped = λ q. o.jumped false;
+      requested = λ source q. o.requested source false;
       untaken = λ q. ap (λ f. is_untaken f o.around) (ap (λ b. q && runs_inside j || b) (begins_as j o.around a o.leads)) ∙ o.untaken (q && runs_inside j || begins_untaken j a);
       unrun = λ q. ap (λ f. is_unrun f o.around) (ap (λ b. q && passes j || b) (begins_as j o.around a o.leads)) ∙ o.unrun (q && passes j || begins_untaken j a);
       value_of = λ v. no_value_under v j m i o.around a _ _;
@@ -763,6 +619,10 @@ module _ (unused imports : Bool) (t u : Forest) (e : bare t ≡ bare u) (clean :
       let o = other_place a x.kind x.note x.below is in
       let now : Tree = record { kind = x.kind; note = o.note; below = o.below } in
       clean.nothing_is_dead o.around (Some now) o.is (a_known_operation o.around now _ (value_is_known i v now (known_as x.kind o.note x.note o.below x.below v o.same known)))
+  no_known a _ _ is (negative_is_known i j m x known) =
+      let o = other_place a x.kind x.note x.below is in
+      let now : Tree = record { kind = x.kind; note = o.note; below = o.below } in
+      clean.nothing_is_dead o.around (Some now) o.is (a_known_operation o.around now _ (negative_is_known i j m now (negative_as x.kind o.note x.note o.below x.below m o.same known)))
 
   no_known_if : (a : Around) (x y : Tree) → u ≡ plug a (Some x) → KnownIf x y → ⊥
   no_known_if a x y is known =
@@ -770,6 +630,13 @@ module _ (unused imports : Bool) (t u : Forest) (e : bare t ≡ bare u) (clean :
       let now : Tree = record { kind = x.kind; note = o.note; below = o.below } in
       let z = known_if_as o.note o.below x y o.same known in
       clean.nothing_is_dead o.around (Some now) o.is (a_known_if o.around now z.0 z.1)
+
+  no_idle_try : (a : Around) (x y : Tree) → u ≡ plug a (Some x) → IdleTry x y → ⊥
+  no_idle_try a x y is idle =
+      let o = other_place a x.kind x.note x.below is in
+      let now : Tree = record { kind = x.kind; note = o.note; below = o.below } in
+      let z = idle_try_as o.note o.below x y o.same idle in
+      clean.nothing_is_dead o.around (Some now) o.is (an_idle_try o.around now z.0 z.1)
 
   no_dead_if : (a : Around) (x y : Tree) → u ≡ plug a (Some x) → DeadIf x y → ⊥
   no_dead_if a x y is dead =
@@ -812,6 +679,15 @@ module _ (unused imports : Bool) (t u : Forest) (e : bare t ≡ bare u) (clean :
       let same = unseen declares_none declares_bare (forest_of now) (forest_of x) (ap (λ b. node x.kind nowhere b nothing) o.same) in
       clean.nothing_is_dead o.around (Some now) o.is (an_idle_statement o.around now (idle_leaves (item_as a o item) (unseen (does_nothing x.kind) (idle_bare x.kind) o.below x.below o.same ∙ idle) (same ∙ none)))
 
+  no_repeated : (a : Around) (x : Tree) → u ≡ plug a (Some x) → RepeatedImport a x → ⊥
+  no_repeated a _ is (repeated_import_leaves source n m item asked) =
+      let o = other_place a (import_of source n m).kind n (import_of source n m).below is in
+      let f = opened o.below specifiers m nothing nothing o.same in
+      let now = import_of source o.note f.note in
+      let below : o.below ≡ now.below = f.is ∙ ap₂ (λ b r. node specifiers f.note b r) (nothing_bare f.below_now f.same_below) (nothing_bare f.rest_now f.same_rest) in
+      clean.nothing_is_dead o.around (Some now) (o.is ∙ ap (λ b. plug o.around (a_node now.kind o.note b)) below)
+      (a_repeated_import o.around now (repeated_import_leaves source o.note f.note (item_as a o item) (o.requested source false ∙ asked)))
+
   none_dead : (a : Around) (x : Option Tree) → u ≡ plug a x → IsDead unused imports u a x → ⊥
   none_dead a x is (an_empty_statement b n item) = no_empty b n is item
   none_dead a x is (an_empty_block b y held) = no_block b y is held
@@ -834,7 +710,9 @@ module _ (unused imports : Bool) (t u : Forest) (e : bare t ≡ bare u) (clean :
   none_dead a x is (an_unreached_statement b y unreached) = no_unreached b y is unreached
   none_dead a x is (an_untaken_statement b y untaken) = no_untaken b y is untaken
   none_dead a x is (an_idle_statement b y idle) = no_idle b y is idle
+  none_dead a x is (an_idle_try b y z idle) = no_idle_try b y z is idle
   none_dead a x is (an_unrun_value b y z value) = no_value b y z is value
+  none_dead a x is (a_repeated_import b y repeated) = no_repeated b y is repeated
 
 pub clean_as : (unused imports : Bool) (t u : Forest) → bare t ≡ bare u → CleanBut unused imports t → CleanBut unused imports u
 clean_as unused imports t u e clean = record { nothing_is_dead = none_dead unused imports t u e clean }

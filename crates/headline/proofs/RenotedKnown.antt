@@ -19,7 +19,7 @@ use Rattle.known_tests.specs.Tells.{nullish_type, opposite, way_known}
 use Rattle.steps_allowed.specs.KnownConditional.{truth_known}
 use Rattle.steps_allowed.specs.KnownSide.{side_known}
 use Rattle.steps_allowed.specs.Untaken.{truth_given}
-use Rattle.steps_allowed.specs.KnownOperation.{has_operand, as_literal, known_literal}
+use Rattle.steps_allowed.specs.KnownOperation.{has_operand, as_literal, known_literal, as_negative, is_literal, gives_negative, known_negative}
 use Rattle.headline.proofs.RenotedUnused.{acts_bare}
 
 -- ---- types
@@ -91,6 +91,25 @@ known_bare k n t = refl
 
 pub known_as : (k : Kind) (n m : Note) (f g : Forest) (v : LiteralValue) → bare f ≡ bare g → known_literal k m g ≡ Some v → known_literal k n f ≡ Some v
 known_as k n m f g v e h = sym (known_bare k n f) ∙ ap (known_literal k nowhere) e ∙ known_bare k m g ∙ h
+
+-- ---- the negative number
+
+literal_bare : (t : Forest) → is_literal (bare t) ≡ is_literal t
+literal_bare nothing = refl
+literal_bare (absent r) = refl
+literal_bare (node (Kind.Literal v) n a r) = refl
+literal_bare (node k n a r) = refl
+
+gives_bare : (k : Kind) (t : Forest) → gives_negative k (bare t) ≡ gives_negative k t
+gives_bare (unary_expression o) t = ap₂ (λ (b c : Bool). b && not c) (operand_bare t) (literal_bare t)
+gives_bare (binary_expression o) t = operand_bare t
+gives_bare k t = refl
+
+negative_bare : (k : Kind) (n : Note) (t : Forest) → known_negative k nowhere (bare t) ≡ known_negative k n t
+negative_bare k n t = ap₂ (λ (b : Bool) v. if b then None else as_negative v) (ap₂ (λ (b c : Bool). b || not c) (acts_bare k n t) (gives_bare k t)) (value_bare k n t)
+
+pub negative_as : (k : Kind) (n m : Note) (f g : Forest) (i : ℕ) → bare f ≡ bare g → known_negative k m g ≡ Some i → known_negative k n f ≡ Some i
+negative_as k n m f g i e h = sym (negative_bare k n f) ∙ ap (known_negative k nowhere) e ∙ negative_bare k m g ∙ h
 
 -- ---- tests, and left sides
 

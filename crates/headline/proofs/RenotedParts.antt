@@ -1,15 +1,15 @@
 -- The branch that acts alone, and what counts of a sequence, don't see notes.
-use Rattle.std.proofs.Common.{◌≡◌, ◌∙◌, Bool, true, false, ◌&&◌, ◌||◌, Some, None, is_some, if◌then◌else◌, refl, sym, ap, ap₂}
+use Rattle.std.proofs.Common.{◌≡◌, ◌∙◌, Bool, true, false, ◌&&◌, ◌||◌, Some, None, is_some, if◌then◌else◌, refl, ap, ap₂}
 use Rattle.js_syntax.specs.declared.node_kind.NodeKind.{NodeKind as Kind}
-use Rattle.js_syntax.specs.declared.node_kind.NodeKind.TheVariants.{ConditionalExpression as conditional_expression, SequenceExpression as sequence_expression, Expressions as expressions}
+use Rattle.js_syntax.specs.declared.node_kind.NodeKind.TheVariants.{ConditionalExpression as conditional_expression, SequenceExpression as sequence_expression, Expressions as expressions, ParenthesizedExpression as parenthesized_expression}
 use Rattle.js_syntax.specs.declared.operator.LogicalOperator.TheVariants as logical
 use Rattle.js_syntax.specs.Node.{Forest, Tree, Note, nothing, node, absent, nowhere, bare}
 use Rattle.scope_laws.proofs.Notes.{unseen}
 use Rattle.steps_allowed.specs.Uses.{Use, stands_bare}
 use Rattle.steps_allowed.specs.UnusedOperation.{acts}
 use Rattle.steps_allowed.specs.OneSidedChoice.{sides, one_side, one_sided}
-use Rattle.steps_allowed.specs.IdleParts.{stays_before, counting, all_count, as_value_of, sequence_becomes}
-use Rattle.headline.proofs.RenotedUnused.{stands_bare_bare, acts_bare, some_if, some_tree}
+use Rattle.steps_allowed.specs.IdleParts.{stays_before, counting, all_count, is_more, more_before, itself_or_behind, as_value_of, sequence_becomes}
+use Rattle.headline.proofs.RenotedUnused.{stands_bare_bare, acts_bare, some_tree}
 
 -- ---- the branch that acts
 
@@ -72,21 +72,44 @@ all_count_bare (node k n a nothing) = refl
 all_count_bare (node k n a (absent rest)) = ap₂ (λ x y. x && y) (before_bare k n a) (all_count_bare rest)
 all_count_bare (node k n a (node l m b rest)) = ap₂ (λ x y. x && y) (before_bare k n a) (all_count_bare (node l m b rest))
 
-value_bare : (u : Use) (w : Bool) (n m : Note) (t : Forest) → is_some (as_value_of u w n m (bare t)) ≡ is_some (as_value_of u w n m t)
-value_bare u w n m nothing = refl
-value_bare u w n m (absent rest) = refl
-value_bare u w n m (node k i a nothing) =
-    some_if (stands_bare u w k (bare a)) (record { kind = k; note = nowhere; below = bare a }) ∙ stands_bare_bare u w k a ∙ sym (some_if (stands_bare u w k a) (record { kind = k; note = i; below = a }))
-value_bare u w n m (node k i a (absent rest)) = refl
-value_bare u w n m (node k i a (node l j b rest)) = refl
+more_is_bare : (k : Kind) (t : Forest) → is_more k (bare t) ≡ is_more k t
+more_is_bare parenthesized_expression nothing = refl
+more_is_bare parenthesized_expression (absent rest) = refl
+more_is_bare parenthesized_expression (node k n a rest) = refl
+more_is_bare k t = refl
 
-unless : (u : Use) (w : Bool) (n m : Note) (b : Bool) (parts : Forest) → is_some (if b then None else as_value_of u w n m (bare parts)) ≡ is_some (if b then None else as_value_of u w n m parts)
-unless u w n m true parts = refl
-unless u w n m false parts = value_bare u w n m parts
+more_bare : (t : Forest) → more_before (bare t) ≡ more_before t
+more_bare (node k n a (node l m b nothing)) = more_is_bare k a
+more_bare (node k n a (node l m b (absent rest))) = refl
+more_bare (node k n a (node l m b (node h g c rest))) = refl
+more_bare (node k n a (absent rest)) = refl
+more_bare (node k n a nothing) = refl
+more_bare (absent rest) = refl
+more_bare nothing = refl
+
+some_itself : (b c : Bool) (n : Note) (x y : Tree) → is_some (itself_or_behind b c n x) ≡ is_some (itself_or_behind b c n y)
+some_itself true c n x y = refl
+some_itself false true n x y = refl
+some_itself false false n x y = refl
+
+value_bare : (u : Use) (w more : Bool) (n m : Note) (t : Forest) → is_some (as_value_of u w more n m (bare t)) ≡ is_some (as_value_of u w more n m t)
+value_bare u w more n m nothing = refl
+value_bare u w more n m (absent rest) = refl
+value_bare u w more n m (node k i a nothing) =
+    let x : Tree = record { kind = k; note = nowhere; below = bare a } in
+    ap (λ b. is_some (itself_or_behind b more n x)) (stands_bare_bare u w k a) ∙ some_itself (stands_bare u w k a) more n x (record { kind = k; note = i; below = a })
+value_bare u w more n m (node k i a (absent rest)) = refl
+value_bare u w more n m (node k i a (node l j b rest)) = refl
+
+unless : (u : Use) (w more : Bool) (n m : Note) (b : Bool) (parts : Forest) → is_some (if b then None else as_value_of u w more n m (bare parts)) ≡ is_some (if b then None else as_value_of u w more n m parts)
+unless u w more n m true parts = refl
+unless u w more n m false parts = value_bare u w more n m parts
 
 sequence_bare : (u : Use) (w : Bool) (n m : Note) (k : Kind) (t : Forest) → is_some (sequence_becomes u w n m k (bare t)) ≡ is_some (sequence_becomes u w n m k t)
 sequence_bare u w n m sequence_expression (node expressions i parts nothing) =
-    ap₂ (λ b ps. is_some (if b then None else as_value_of u w n m ps)) (all_count_bare parts) (counting_bare parts) ∙ unless u w n m (all_count parts) (counting parts)
+    ap₂ (λ b ps. is_some (if b then None else as_value_of u w (more_before (bare parts)) n m ps)) (all_count_bare parts) (counting_bare parts)
+    ∙ ap (λ more. is_some (if all_count parts then None else as_value_of u w more n m (bare (counting parts)))) (more_bare parts)
+    ∙ unless u w (more_before parts) n m (all_count parts) (counting parts)
 sequence_bare u w n m k t = refl
 
 pub sequence_as : (u : Use) (w : Bool) (n m : Note) (k : Kind) (f g : Forest) (y : Tree) → bare f ≡ bare g → sequence_becomes u w n m k g ≡ Some y → (z : Tree) × (sequence_becomes u w n m k f ≡ Some z)

@@ -40,9 +40,13 @@ use Rattle.steps_allowed.specs.DeadIf.{DeadIf}
 use Rattle.steps_allowed.specs.EmptyBlock.{EmptyBlock}
 -- and a loop that never turns, or a `try` around nothing
 use Rattle.steps_allowed.specs.IdleStatement.{IdleStatement}
+-- and a `try` around nothing that comes to its finalizer
+use Rattle.steps_allowed.specs.IdleTry.{IdleTry}
 -- and a statement in its list behind what cuts off, as a jump does, or in a branch that isn't taken
 use Rattle.steps_allowed.specs.Unreached.{Unreached}
 use Rattle.steps_allowed.specs.Untaken.{Untaken}
+-- and an import without names behind another request of its module
+use Rattle.steps_allowed.specs.RepeatedImport.{RepeatedImport}
 -- and a value that a declaration gives in such a branch
 use Rattle.steps_allowed.specs.UnrunValue.{UnrunValue}
 -- whose names only the tree's references may use
@@ -83,15 +87,16 @@ pub data IsDead (unused imports : Bool) (t : Forest) : Around → Option Tree �
   an_indirect_choice : (a : Around) (x y : Tree) → IndirectChoice a x y → IsDead unused imports t a (Some x)
   -- a conditional of which nobody takes the value and one branch alone acts: the other does nothing
   a_one_sided_choice : (a : Around) (x y : Tree) → OneSidedChoice a x y → IsDead unused imports t a (Some x)
-  -- a sequence of which a part before the last doesn't act, unless the last one would be left alone and may not stand there itself: the
-  -- part does nothing
+  -- a sequence of which a part before the last doesn't act, unless that is the one zero before a last part that may not stand there
+  -- itself: it does nothing
   idle_parts : (a : Around) (x y : Tree) → IdleParts a x y → IsDead unused imports t a (Some x)
   -- a comparison of which nobody takes the value and both sides act: it does nothing itself
   two_sides : (a : Around) (x y : Tree) → TwoSides a x y → IsDead unused imports t a (Some x)
   -- an object literal of which nobody takes the value, with plain keys, of which a value acts, and each that does may come out of it: it
   -- does nothing itself, nor do the values that don't act
   an_unused_object : (a : Around) (x y : Tree) → UnusedObject a x y → IsDead unused imports t a (Some x)
-  -- an operation that doesn't act, of which the value is known and has a literal: the operation does nothing that the literal doesn't
+  -- an operation that doesn't act, of which the value is known and has a literal, or is a negative number that the operation isn't the sign
+  -- of: it does nothing that the literal doesn't, or unary minus on one
   a_known_operation : (a : Around) (x y : Tree) → KnownOperation a x y → IsDead unused imports t a (Some x)
   -- an `if` whose condition does nothing but give a value, of which its form tells whether it is true, if the branch that runs may stand
   -- in its place and the other one declares no name around it: that one never runs
@@ -107,6 +112,12 @@ pub data IsDead (unused imports : Bool) (t : Forest) : Around → Option Tree �
   -- a loop that never turns or a `try` around nothing in a list of statements, or one behind labels, which declares no name around it: it
   -- does nothing
   an_idle_statement : (a : Around) (x : Tree) → IdleStatement a x → IsDead unused imports t a (Some x)
+  -- a `try` around nothing, if its handler declares no name around it and no loop in its finalizer is reached by labels: its finalizer, or
+  -- its block where it has none, does what it does
+  an_idle_try : (a : Around) (x y : Tree) → IdleTry x y → IsDead unused imports t a (Some x)
+  -- an import without names in a list of statements in which something before it asks for the same module: the module is loaded before,
+  -- whatever is kept, for it has no name
+  a_repeated_import : (a : Around) (x : Tree) → RepeatedImport a x → IsDead unused imports t a (Some x)
 
 -- No part of the program is dead code, but for what is kept.
 pub record CleanBut (unused imports : Bool) (t : Forest) : Type 0 where

@@ -2,7 +2,7 @@
 --
 -- A program is its tree (`Forest`, js_syntax/specs/Node). A host runs it by a script, with a bound on entries of functions and
 -- loops; a run is what the host sees, event by event, and how it ends (js_meaning/specs/Run, Trace, docs/MEANING.md).
-use Rattle.std.specs.Prelude.{◌≡◌, true}
+use Rattle.std.specs.Prelude.{◌≡◌, true, false}
 use Rattle.js_syntax.specs.Node.{Forest}
 -- each run of the first is one of the second: the same where it ends or the host stops it, else a front of it; and the way back
 pub use Rattle.js_meaning.specs.Kept.{Kept, KeptBack}
@@ -10,6 +10,9 @@ pub use Rattle.js_meaning.specs.Kept.{Kept, KeptBack}
 pub use Rattle.steps_allowed.specs.Edits.{Edits}
 -- whether a part of the tree is dead code
 pub use Rattle.headline.specs.Clean.{Clean}
+-- what is asked to be loaded, and which names stay that other code may use
+use Rattle.steps_allowed.specs.Exposure.{is_script, evaluates_somewhere}
+pub use Rattle.headline.specs.Lasting.{loaded, root_names, HasSharedNames, ImportsAreUsed}
 -- a module whose nodes are all of the core of the language, for which runs are defined
 pub use Rattle.steps_fit.specs.Sensible.{is_core_module}
 
@@ -24,3 +27,9 @@ pub record Headline (t u : Forest) : Type 0 where
   pub back : is_core_module t ≡ true → KeptBack t u
   -- no part of it is dead code
   pub clean : Clean u
+  -- the same modules are loaded, in the same order, of whatever source type the program is
+  pub loads : loaded u ≡ loaded t
+  -- a script declares the same names in its own scope, and so does any program in which a direct call of `eval` is left
+  pub shared : HasSharedNames t u → root_names u ≡ root_names t
+  -- no name of an import is left to which nothing refers, but in a script or beside such a call
+  pub imports : is_script u ≡ false → evaluates_somewhere u ≡ false → ImportsAreUsed u

@@ -17,4 +17,5 @@
 pub mod clean;
 pub mod edits;
 pub mod kept_runs;
+pub mod lasting;
 pub mod promise;

@@ -1,5 +1,5 @@
 -- What stands in a program's place has what is promised of it.
-use Rattle.std.proofs.Common.{◌≡◌, ◌∙◌, ◌+◌, ◌≤◌, ℕ, true, Option, Some, None, is_some, Result, Ok, Err, IfOk, refl, sym, subst, ap, arith}
+use Rattle.std.proofs.Common.{◌≡◌, ◌∙◌, ◌+◌, ◌≤◌, ℕ, true, false, Option, Some, None, is_some, Result, Ok, Err, IfOk, refl, sym, subst, ap, arith}
 use Rattle.std.specs.List.{count_by}
 use Rattle.js_syntax.specs.Class.{root}
 use Rattle.js_syntax.specs.Facts.{weight}
@@ -15,7 +15,12 @@ use Rattle.scope_rules.specs.Table.{Scoping}
 use Rattle.steps_allowed.specs.Edits.{Edits, no_edit}
 use Rattle.steps_allowed.proofs.Composing.{edits_follow}
 use Rattle.json_shape.specs.Shape.{Fits}
+use Rattle.headline.specs.Clean.{CleanBut}
+use Rattle.headline.specs.Headline.{loaded, root_names, HasSharedNames, ImportsAreUsed}
 use Rattle.headline.proofs.Headline.{kept_by, back_by}
+use Rattle.headline.proofs.Loading.{edits_load}
+use Rattle.headline.proofs.Rooted.{edits_names}
+use Rattle.headline.proofs.UsedImports.{imports_used}
 use Rattle.headline.proofs.Renoted.{clean_as}
 use Rattle.min_pass.specs.Pass.{cleared}
 use Rattle.min_pass.proofs.Lighter.{cleared_lighter}
@@ -28,7 +33,10 @@ use Rattle.steps_keep_text.proofs.Along.{edits_shed}
 use Rattle.steps_keep_text.proofs.Smaller.{nodes_shed, levels_shed}
 use Rattle.min_driver.specs.Left.{IsLeft}
 use Rattle.min_driver.specs.Limit.{IsWithinLimits}
-use Rattle.min_driver.specs.Minify.{IsCleanBy}
+use Rattle.min_driver.specs.Minify.{IsCleanBy, KeepsNothing}
+use Rattle.min_peephole.specs.CleanBy.{keeps_unused, keeps_imports}
+pub use Rattle.min_peephole.proofs.Keeping.{dce_clean}
+use Rattle.steps_allowed.specs.Exposure.{is_script, evaluates_somewhere}
 use Rattle.min_driver.proofs.Cleared.{cleared_levels}
 use Rattle.min_options.specs.declared.options.CompressOptions.{CompressOptions}
 
@@ -58,6 +66,10 @@ clean_by : (o : Option CompressOptions) (u : Forest) → IsCleanBy o u → IsCle
 clean_by None u clean = tt
 clean_by (Some options) u clean = clean_as _ _ u (numbered u) (sym (numbered_same u)) clean
 
+used_by : (o : Option CompressOptions) (u : Forest) → KeepsNothing o → Fits root u → is_script u ≡ false → evaluates_somewhere u ≡ false → IsCleanBy o u → ImportsAreUsed u
+used_by None u keeps fits script calls clean = absurd keeps
+used_by (Some options) u keeps fits script calls clean = imports_used u fits script calls (subst (λ b. CleanBut b false u) keeps.0 (subst (λ b. CleanBut (keeps_unused options) b u) keeps.1 clean))
+
 module _ (o : Option CompressOptions) (t u new : Forest) (s : Scoping) (iterations : ℕ) (within : IsWithinLimits t) (form : IsWellFormed t) (came : Came o t u iterations) (tree : new ≡ numbered u) (m : IsMarked new s) where
   same : bare new ≡ bare u
   same = ap bare tree ∙ numbered_same u
@@ -79,6 +91,9 @@ module _ (o : Option CompressOptions) (t u new : Forest) (s : Scoping) (iteratio
     fits = λ fits. edits_fit t new (edits fits) fits;
     formed = λ fits. (edits_sensible (edits fits) (sensible t fits form)).well_formed;
     clean = λ fits. subst (IsCleanBy o) (sym tree) (clean_by o u (came.clean fits));
+    loads = λ fits. edits_load (edits fits) fits;
+    shared = λ fits shared. edits_names (edits fits) fits shared;
+    imports = λ fits keeps script calls. used_by o new keeps (edits_fit t new (edits fits) fits) script calls (subst (IsCleanBy o) (sym tree) (clean_by o u (came.clean fits)));
     nodes = nodes;
     levels = deep;
     small = record { nodes = Prim.omega (arith, nodes, within.nodes); levels = Prim.omega (arith, deep, within.levels) };

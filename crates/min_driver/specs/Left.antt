@@ -1,5 +1,5 @@
 -- What holds of what the library call leaves of a program that is within the limits and breaks no rule of form, whatever made it.
-use Rattle.std.specs.Prelude.{◌≡◌, ◌+◌, ◌≤◌, ℕ, Option, None, true, is_some}
+use Rattle.std.specs.Prelude.{◌≡◌, ◌+◌, ◌≤◌, ℕ, Option, None, true, false, is_some}
 use Rattle.std.specs.List.{count_by}
 use Rattle.js_syntax.specs.Class.{root}
 use Rattle.js_syntax.specs.Facts.{weight}
@@ -13,9 +13,10 @@ use Rattle.scope_laws.specs.Exact.{Exact}
 use Rattle.scope_match.specs.Matches.{Matches}
 use Rattle.scope_rules.specs.Binding.{resolved_references}
 use Rattle.scope_rules.specs.Table.{Scoping}
-use Rattle.headline.specs.Headline.{Edits, Kept, KeptBack, is_core_module}
+use Rattle.headline.specs.Headline.{Edits, Kept, KeptBack, is_core_module, loaded, root_names, HasSharedNames, ImportsAreUsed}
+use Rattle.steps_allowed.specs.Exposure.{is_script, evaluates_somewhere}
 use Rattle.min_driver.specs.Limit.{IsWithinLimits}
-use Rattle.min_driver.specs.Minify.{IsCleanBy}
+use Rattle.min_driver.specs.Minify.{IsCleanBy, KeepsNothing}
 use Rattle.min_options.specs.declared.options.CompressOptions.{CompressOptions}
 
 -- of the tree `t`, by these options, the tree `new` is left, with its table, behind the last of so many passes that changed
@@ -29,6 +30,12 @@ pub record IsLeft (o : Option CompressOptions) (t new : Forest) (s : Scoping) (i
   pub fits : Fits root t → Fits root new
   pub formed : Fits root t → IsWellFormed new
   pub clean : Fits root t → IsCleanBy o new
+  -- it asks for the modules that the program asked for, in the same order; a script declares the same names in its own scope, and so does
+  -- any program in which a direct call of `eval` is left; and no name of an import is left to which nothing refers, but in a script,
+  -- beside such a call, or where the options keep it
+  pub loads : Fits root t → loaded new ≡ loaded t
+  pub shared : Fits root t → HasSharedNames t new → root_names new ≡ root_names t
+  pub imports : Fits root t → KeepsNothing o → is_script new ≡ false → evaluates_somewhere new ≡ false → ImportsAreUsed new
   -- it is no larger, and no deeper
   pub nodes : node_count new ≤ node_count t
   pub levels : levels new ≤ levels t
@@ -54,6 +61,9 @@ pub record IsShaken (o : Option CompressOptions) (t new : Forest) (s : Scoping) 
   pub fits : Fits root new
   pub formed : IsWellFormed new
   pub clean : IsCleanBy o new
+  pub loads : loaded new ≡ loaded t
+  pub shared : HasSharedNames t new → root_names new ≡ root_names t
+  pub imports : KeepsNothing o → is_script new ≡ false → evaluates_somewhere new ≡ false → ImportsAreUsed new
   pub nodes : node_count new ≤ node_count t
   pub levels : levels new ≤ levels t
   pub small : IsWithinLimits new

@@ -1,12 +1,12 @@
 -- When what the library call leaves has no dead code, and why it refuses a program.
-use Rattle.std.specs.Prelude.{◌≡◌, ◌+◌, ℕ, Option, Some, None, min}
+use Rattle.std.specs.Prelude.{◌≡◌, ◌+◌, ℕ, Option, Some, None, false, min}
 use Rattle.js_syntax.specs.Node.{Forest}
 use Rattle.js_tree.specs.Count.{node_count, levels}
 use Rattle.form_rules.specs.Break.{at_place}
 use Rattle.form_rules.specs.Form.{first_broken}
 use Rattle.min_driver.specs.Limit.{IsWithinLimits, IsTooLarge, max_nodes, max_levels}
 use Rattle.min_options.specs.declared.options.CompressOptions.{CompressOptions}
-use Rattle.min_peephole.specs.CleanBy.{CleanBy}
+use Rattle.min_peephole.specs.CleanBy.{CleanBy, keeps_unused, keeps_imports}
 use Rattle.min_driver.specs.declared.error.MinifyError.{MinifyError}
 use Rattle.min_driver.specs.declared.error.MinifyError.TheVariants.{TooLarge, IllFormed, OutOfMemory}
 
@@ -14,6 +14,11 @@ use Rattle.min_driver.specs.declared.error.MinifyError.TheVariants.{TooLarge, Il
 abbrev pub IsCleanBy : Option CompressOptions → Forest → Type 0
 IsCleanBy None t = Unit {0}
 IsCleanBy (Some options) t = CleanBy options t
+
+-- the options compress, and keep nothing that nobody uses
+abbrev pub KeepsNothing : Option CompressOptions → Type 0
+KeepsNothing None = ⊥
+KeepsNothing (Some options) = (keeps_unused options ≡ false) × (keeps_imports options ≡ false)
 
 -- both counts, each capped one past its limit
 abbrev pub IsCounted : (nodes levels : ℕ) → Forest → Type 0

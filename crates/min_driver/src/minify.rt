@@ -1,5 +1,5 @@
 // The library call.
-ghost use Rattle.std.specs.Prelude.{◌≡◌, ◌+◌, ◌≤◌, ◌<◌, ◌^◌, IfOk, IfErr, IsSomeAnd, Some, None, is_some, true};
+ghost use Rattle.std.specs.Prelude.{◌≡◌, ◌+◌, ◌≤◌, ◌<◌, ◌^◌, IfOk, IfErr, IsSomeAnd, Some, None, is_some, true, false};
 ghost use Rattle.std.specs.List.{count_by};
 ghost use Rattle.js_syntax.specs.Class.{root};
 ghost use Rattle.js_syntax.specs.Facts.{weight};
@@ -9,15 +9,16 @@ ghost use Rattle.form_rules.specs.Form.{IsWellFormed};
 ghost use Rattle.js_scoping.specs.Build.{table_of, numbered};
 ghost use Rattle.min_driver.specs.Left.{IsLeft, IsShaken};
 ghost use Rattle.min_driver.specs.Limit.{IsWithinLimits};
-ghost use Rattle.min_driver.specs.Minify.{IsCleanBy, IsCause};
+ghost use Rattle.min_driver.specs.Minify.{IsCleanBy, KeepsNothing, IsCause};
 ghost use Rattle.min_options.specs.Options.{IsSmallest};
 ghost use Rattle.min_pass.specs.Pass.{cleared};
 ghost use Rattle.min_peephole.specs.Shaken.{IsMarked};
 ghost use Rattle.scope_laws.specs.Exact.{Exact};
 ghost use Rattle.scope_rules.specs.Binding.{resolved_references};
 ghost use Rattle.scope_match.specs.Matches.{Matches};
-ghost use Rattle.headline.specs.Headline.{Edits, Kept, KeptBack, is_core_module};
+ghost use Rattle.headline.specs.Headline.{Edits, Kept, KeptBack, is_core_module, loaded, root_names, HasSharedNames, ImportsAreUsed};
 ghost use Rattle.json_shape.specs.Shape.{Fits};
+ghost use Rattle.steps_allowed.specs.Exposure.{is_script, evaluates_somewhere};
 
 use crate::error::MinifyError;
 use crate::limits::check_limits;
@@ -222,7 +223,9 @@ impl Minifier {
 
     /// Dead code elimination: what is left of the program is put in its place, its nodes marked with the numbers of
     /// their scopes, symbols and references. Where the program fits the table of node types, edits that are allowed lead
-    /// to what is left, and no part of that is dead code, by the options. The program is tested for its limits first, and
+    /// to what is left, and no part of that is dead code, by the options: it asks for the same modules, no name of an import
+    /// is left to which nothing refers, but in a script or beside a direct call of `eval`, and there the names of the
+    /// program's own scope stay. The program is tested for its limits first, and
     /// then for the rules of form; what is left is of a copy. After an error it is as it was.
     pub fn dce(self, alloc: Global, program: &mut Program) -> Result<MinifierReturn, MinifyError>
         ensures edits { IfOk result (λ _. Fits root (forest_of program.old) → Edits (forest_of program.old) (forest_of program.new)) }
@@ -231,6 +234,9 @@ impl Minifier {
         ensures fits { IfOk result (λ _. Fits root (forest_of program.old) → Fits root (forest_of program.new)) }
         ensures formed { IfOk result (λ _. Fits root (forest_of program.old) → IsWellFormed (forest_of program.new)) }
         ensures clean { IfOk result (λ _. Fits root (forest_of program.old) → IsCleanBy self.options.compress (forest_of program.new)) }
+        ensures loads { IfOk result (λ _. Fits root (forest_of program.old) → loaded (forest_of program.new) ≡ loaded (forest_of program.old)) }
+        ensures shared { IfOk result (λ _. Fits root (forest_of program.old) → HasSharedNames (forest_of program.old) (forest_of program.new) → root_names (forest_of program.new) ≡ root_names (forest_of program.old)) }
+        ensures imports { IfOk result (λ _. Fits root (forest_of program.old) → KeepsNothing self.options.compress → is_script (forest_of program.new) ≡ false → evaluates_somewhere (forest_of program.new) ≡ false → ImportsAreUsed (forest_of program.new)) }
         ensures nodes { IfOk result (λ _. node_count (forest_of program.new) ≤ node_count (forest_of program.old)) }
         ensures levels { IfOk result (λ _. levels (forest_of program.new) ≤ levels (forest_of program.old)) }
         ensures small { IfOk result (λ _. IsWithinLimits (forest_of program.new)) }

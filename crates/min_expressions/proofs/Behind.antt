@@ -16,7 +16,7 @@ use Rattle.min_context.specs.Seen.{Seen}
 use Rattle.min_traverse.specs.Lawful.{Rule, Does, or_same}
 use Rattle.rules_expressions.specs.Uses.{Spot}
 use Rattle.rules_expressions.specs.Indirect.{behind_if, indirect_becomes}
-use Rattle.min_expressions.specs.Kept.{matters_at, child_at, kept_if, parts_of, is_call}
+use Rattle.min_expressions.specs.Kept.{matters_at, child_at, parts_of, is_call}
 use Rattle.min_expressions.specs.Indirect.{branch_behind, branch_of, side_behind, side_of, goes_behind, put_behind}
 use Rattle.min_expressions.proofs.Chosen.{chosen, no_index, three, two, some_kept, second_kept, third_kept, right_kept}
 use Rattle.min_expressions.proofs.Lists.{no_tree}

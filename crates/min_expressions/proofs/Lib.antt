@@ -8,4 +8,5 @@ pub mod Sided
 pub mod Sequences
 pub mod TwoSides
 pub mod Objects
+pub mod Negative
 pub mod Pairing

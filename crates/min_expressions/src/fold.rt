@@ -9,7 +9,7 @@ ghost use Rattle.rules_expressions.specs.OneSided.{fold_one_sided};
 ghost use Rattle.rules_expressions.specs.Sequences.{fold_sequence};
 ghost use Rattle.rules_expressions.specs.TwoSides.{fold_two_sides};
 ghost use Rattle.rules_expressions.specs.Objects.{fold_object};
-ghost use Rattle.rules_expressions.specs.Operations.{fold_known};
+ghost use Rattle.rules_expressions.specs.Operations.{fold_to_literal, fold_to_negative, fold_known};
 ghost use Rattle.rules_expressions.specs.Uses.{spot_of};
 ghost use Rattle.min_expressions.specs.Kept.{matters_at};
 
@@ -19,7 +19,7 @@ use crate::kept::{conditional_keeps, keep_child, logical_keeps};
 use crate::list::{keep_list, list_goes};
 use crate::object::{keep_object, object_goes};
 use crate::one_sided::{keep_one_side, stays_one_sided};
-use crate::operation::{known_literal, put_literal};
+use crate::operation::{known_literal, known_negative, put_literal, put_negative};
 use crate::sequence::{keep_sequence, sequence_goes};
 use crate::two_sides::{keep_two_sides, sides_go};
 use crate::unused::{keep_needed, unused_keeps};
@@ -102,6 +102,34 @@ fn fold_but_operations(node: &mut Node, ctx: &mut MinifierTraverseCtx) -> Result
         return Ok(true);
     }
     Ok(PeepholeOptimizations::remove_unused_object(node, ctx))
+}
+
+// What becomes of an operation of which the value is known and has a literal.
+fn fold_to_literal(node: &mut Node, ctx: &mut MinifierTraverseCtx) -> Result<bool, AllocError>
+    ensures does { IfOk result (λ b. Does fold_to_literal ctx.old node.old b ctx.new node.new) }
+    ensures refused { IfErr result (λ e. (node.new ≡ node.old) × (ctx.new ≡ ctx.old)) }
+{
+    match known_literal(node, ctx.alloc())? {
+        Some(value) => {
+            put_literal(node, value, ctx);
+            Ok(true)
+        }
+        None => Ok(false),
+    }
+}
+
+// What becomes of one that gives a negative number.
+fn fold_to_negative(node: &mut Node, ctx: &mut MinifierTraverseCtx) -> Result<bool, AllocError>
+    ensures does { IfOk result (λ b. Does fold_to_negative ctx.old node.old b ctx.new node.new) }
+    ensures refused { IfErr result (λ e. (node.new ≡ node.old) × (ctx.new ≡ ctx.old)) }
+{
+    match known_negative(node, ctx.alloc())? {
+        Some(magnitude) => {
+            put_negative(node, magnitude, ctx)?;
+            Ok(true)
+        }
+        None => Ok(false),
+    }
 }
 
 /// What a walk does behind a node, to that node alone. Each call answers whether it did anything.
@@ -193,8 +221,8 @@ impl PeepholeOptimizations {
         }
     }
 
-    /// Of a sequence the parts leave that don't act, but the last. Where that is left alone it takes the place of the whole, unless it
-    /// matters there that this stands there itself.
+    /// Of a sequence the parts leave that don't act, but the last. Where that is left alone it takes the place of the whole: behind a
+    /// zero, as in `(0, o.f)()`, if it matters there that this doesn't stand there itself.
     pub fn remove_sequence_expression(node: &mut Node, ctx: &mut MinifierTraverseCtx) -> bool
         ensures does { Does fold_sequence ctx.old node.old result ctx.new node.new }
     {
@@ -235,8 +263,8 @@ impl PeepholeOptimizations {
         }
     }
 
-    /// An operation that doesn't act becomes a literal of its value, as `1 + 2` becomes `3`, as far as that is known. It fails only for
-    /// want of memory; then all is as it was.
+    /// An operation that doesn't act becomes a literal of its value, as `1 + 2` becomes `3`, or unary minus on one, as `1 - 3` becomes
+    /// `-2`, as far as that is known. It fails only for want of memory; then all is as it was.
     pub fn fold_known_operation(
         node: &mut Node,
         ctx: &mut MinifierTraverseCtx,
@@ -244,13 +272,10 @@ impl PeepholeOptimizations {
         ensures does { IfOk result (λ b. Does fold_known ctx.old node.old b ctx.new node.new) }
         ensures refused { IfErr result (λ e. (node.new ≡ node.old) × (ctx.new ≡ ctx.old)) }
     {
-        match known_literal(node, ctx.alloc())? {
-            Some(value) => {
-                put_literal(node, value, ctx);
-                Ok(true)
-            }
-            None => Ok(false),
+        if fold_to_literal(node, ctx)? {
+            return Ok(true);
         }
+        fold_to_negative(node, ctx)
     }
 
     /// What becomes of an expression behind which the walk is. It fails only for want of memory; then all is as it was.

@@ -1,20 +1,24 @@
 // What is left of a sequence whose value may be taken.
-ghost use Rattle.std.specs.Prelude.{◌≡◌, ◌-◌, ◌<◌, [], ◌∷◌, ◌++◌, length, take, slice_index_or, slice_set, Some, None, true};
-ghost use Rattle.js_syntax.specs.Node.{row};
+ghost use Rattle.std.specs.Prelude.{◌≡◌, ◌-◌, ◌<◌, ◌≤◌, [], ◌∷◌, ◌++◌, Bool, true, false, length, take, slice_index_or, slice_set, Some, None};
+ghost use Rattle.js_syntax.specs.declared.node_kind.NodeKind.{NodeKind as Kind};
+ghost use Rattle.js_syntax.specs.Node.{Tree, row};
 ghost use Rattle.scope_counts.specs.Counts.{ids};
 ghost use Rattle.min_context.specs.Edited.{evals, Leaves, Edited};
-ghost use Rattle.steps_allowed.specs.IdleParts.{counting, as_value_of, sequence_becomes};
+ghost use Rattle.steps_allowed.specs.IdleParts.{is_zero, is_more, more_before, counting, as_value_of, sequence_becomes};
 ghost use Rattle.rules_expressions.specs.Lists.{new_note, list_note};
-ghost use Rattle.rules_expressions.specs.Uses.{spot_of};
+ghost use Rattle.rules_expressions.specs.Uses.{Spot, spot_of};
 ghost use Rattle.min_expressions.specs.Lists.{only};
-ghost use Rattle.min_expressions.specs.Sequences.{item_stays, some_stay, leaving, last_stands, parts_go, list_goes, only_goes, sequence_goes};
+ghost use Rattle.min_expressions.specs.Indirect.{put_behind};
+ghost use Rattle.min_expressions.specs.Sequences.{item_stays, some_stay, more_alone, leaving, last_stands, are_value, comes_behind, parts_go, list_goes, only_goes, sequence_goes};
 
 use crate::bare::may_stand_bare;
+use crate::indirect::{behind_zero, zero};
 use crate::kept::take_at;
-use crate::list::{acts_or_is_list, has_idle, only, sequence, take_only};
-use js_syntax::{NodeKind, Span};
+use crate::list::{acts_or_is_list, has_idle, is_list, only, sequence, take_only};
+use js_syntax::{LiteralValue, NodeKind, Span};
 use js_tree::Node;
 use min_context::MinifierTraverseCtx;
+use std::alloc::Global;
 use std::mem::replace;
 
 // ---- whether it becomes anything
@@ -49,12 +53,73 @@ fn last_stands(last: &Option<Node>, ctx: &MinifierTraverseCtx) -> bool
     }
 }
 
-// Whether not all parts stay, and those that do are one expression.
+fn is_zero(value: &LiteralValue) -> bool
+    ensures { result ≡ is_zero value.now }
+{
+    match value {
+        LiteralValue::Number(number) => *number == 0,
+        _ => false,
+    }
+}
+
+fn holds_more(children: &[Option<Node>]) -> bool
+    ensures { result ≡ is_more Kind.ParenthesizedExpression (row children.now) }
+{
+    match children {
+        [Some(first), ..] => !is_list(first.kind()),
+        [] => false,
+        [None, ..] => false,
+    }
+}
+
+// Whether a part is more than a zero in its place.
+fn is_more(node: &Node) -> bool
+    ensures { result ≡ is_more node.now.kind node.now.below }
+{
+    match node.kind() {
+        NodeKind::Literal(value) => !is_zero(value),
+        NodeKind::Hole => false,
+        NodeKind::ClassBody => false,
+        NodeKind::ParenthesizedExpression => holds_more(node.children()),
+        _ => true,
+    }
+}
+
+// Of the parts before the last.
+fn more_alone(front: &[Option<Node>]) -> bool
+    ensures { result ≡ more_alone (row front.now) }
+{
+    match front {
+        [Some(node)] => is_more(node),
+        [] => true,
+        [None, ..] => true,
+        [Some(_), None, ..] => true,
+        [Some(_), Some(_), ..] => true,
+    }
+}
+
+// Whether the last part is left alone, and may not stand where the whole did.
+fn comes_behind(parts: &[Option<Node>], ctx: &MinifierTraverseCtx) -> bool
+    ensures { result ≡ comes_behind (spot_of ctx.now.place) (row parts.now) }
+{
+    match parts {
+        [front @ .., last] => {
+            if some_stay(front) {
+                false
+            } else {
+                !last_stands(last, ctx)
+            }
+        }
+        [] => true,
+    }
+}
+
+// Whether not all parts stay, and those that do are one expression, or come to be one behind a zero.
 fn parts_go(parts: &[Option<Node>], ctx: &MinifierTraverseCtx) -> bool
     ensures { result ≡ parts_go (spot_of ctx.now.place) (row parts.now) }
 {
     match parts {
-        [front @ .., last] => has_idle(front) && (some_stay(front) || last_stands(last, ctx)),
+        [front @ .., _] => has_idle(front) && (!comes_behind(parts, ctx) || more_alone(front)),
         [] => false,
     }
 }
@@ -146,6 +211,43 @@ fn keep_staying(parts: &mut Vec<Option<Node>>)
     replace_last(parts, last);
 }
 
+// The last part comes to stand behind a zero.
+fn last_behind_zero(
+    alloc: Global,
+    span: Span,
+    field: Vec<Option<Node>>,
+    mut parts: Vec<Option<Node>>,
+) -> Node
+    requires field { length field.items ≡ 1 }
+    requires several { 2 ≤ length parts.items }
+    ensures { (x : Tree) → slice_index_or parts.items (length parts.items - 1) None ≡ Some x → result ≡ put_behind (record { span = span; id = None }) x }
+{
+    let end = parts.len() - 1;
+    match replace_at(parts.as_mut_slice(), end, None) {
+        Some(part) => behind_zero(alloc, span, field, parts, part),
+        None => zero(alloc, span),
+    }
+}
+
+// The parts that stay: one itself, or several.
+fn staying(
+    span: Span,
+    children: Vec<Option<Node>>,
+    list_span: Span,
+    mut parts: Vec<Option<Node>>,
+) -> Node
+    requires field { length children.items ≡ 1 }
+    requires some { 0 < length parts.items }
+    ensures { (s : Spot) (more : Bool) → are_value s false (counting (row parts.items)) ≡ true
+        → as_value_of s.used_as s.in_with more (record { span = span; id = None }) (record { span = list_span; id = None }) (counting (row parts.items)) ≡ Some result }
+{
+    keep_staying(&mut parts);
+    match take_only(&mut parts) {
+        Some(part) => part,
+        None => sequence(span, children, list_span, parts),
+    }
+}
+
 // What is left of the list of a sequence.
 fn left_of(
     span: Span,
@@ -155,20 +257,21 @@ fn left_of(
 ) -> Node
     requires field { length children.items ≡ 1 }
     requires goes { parts_go (spot_of ctx.old.place) list.below ≡ true }
-    ensures kept { as_value_of (spot_of ctx.old.place).used_as (spot_of ctx.old.place).in_with (record { span = span; id = None }) (new_note list.note) (counting list.below) ≡ Some result }
+    ensures kept { as_value_of (spot_of ctx.old.place).used_as (spot_of ctx.old.place).in_with (more_before list.below) (record { span = span; id = None }) (new_note list.note) (counting list.below) ≡ Some result }
     ensures left { Leaves ctx.old (λ r. ids r list.below - ids r (counting list.below)) (evals list.below - evals (counting list.below)) ctx.new }
 {
     let list_span = list.span();
-    let mut parts = list.into_children();
+    let parts = list.into_children();
+    let behind = comes_behind(parts.as_slice(), ctx);
     mark_before_last(parts.as_slice(), ctx);
-    keep_staying(&mut parts);
-    match take_only(&mut parts) {
-        Some(part) => part,
-        None => sequence(span, children, list_span, parts),
+    if behind {
+        last_behind_zero(ctx.alloc(), span, children, parts)
+    } else {
+        staying(span, children, list_span, parts)
     }
 }
 
-// What stays of a sequence takes the place of the whole. The context is told of what leaves.
+// What stays of a sequence takes the place of the whole, itself or behind a zero. The context is told of what leaves.
 pub(crate) fn keep_sequence(node: &mut Node, ctx: &mut MinifierTraverseCtx)
     requires goes { sequence_goes (spot_of ctx.old.place) node.old.kind node.old.below ≡ true }
     ensures kept { sequence_becomes (spot_of ctx.old.place).used_as (spot_of ctx.old.place).in_with (new_note node.old.note) (new_note (list_note node.old.below)) node.old.kind node.old.below ≡ Some node.new }

@@ -17,6 +17,7 @@ use Rattle.exported_names.proofs.New.{known, only}
 use Rattle.rules_dead_code.specs.Quiet.{EachNode, IsQuietAt}
 use Rattle.rules_dead_code.specs.Rules.{Facts, where_of, is_silent_statement, has_dead}
 use Rattle.rules_dead_code.proofs.Walked.{quiet_nodes}
+use Rattle.rules_imports.specs.Repeated.{list_once}
 use Rattle.rules_imports.specs.Rules.{pruned}
 use Rattle.rules_imports.specs.Quiet.{IsUsedAt}
 use Rattle.rules_imports.proofs.Walked.{imports_used}
@@ -88,7 +89,10 @@ module _ (f : Facts) (p : Place) (n : Note) (k : Kind) (inner : Forest) (h : sta
   quiet_here = record { list = list_stays k (has_dead f (where_of p) inner) at_node.0; statement = none_empty is_silent _ at_statement.0 }
 
   used_here : IsUsedAt f p (record { kind = k; note = n; below = inner })
-  used_here = none_there (pruned f (where_of p) (record { kind = k; note = n; below = inner })) at_import.0
+  used_here =
+      let named = not (is_some (pruned f (where_of p) (record { kind = k; note = n; below = inner }))) in
+      let used = and_parts named (not (is_some (list_once n k inner))) at_import.0 in
+      (none_there (pruned f (where_of p) (record { kind = k; note = n; below = inner })) used.0, none_there (list_once n k inner) used.1)
 
   settled_here : IsSettledAt p (record { kind = k; note = n; below = inner })
   settled_here =

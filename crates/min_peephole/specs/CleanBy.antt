@@ -2,7 +2,7 @@
 use Rattle.js_syntax.specs.Node.{Forest}
 use Rattle.headline.specs.Clean.{CleanBut}
 use Rattle.min_options.specs.declared.options.CompressOptions.{CompressOptions}
-use Rattle.min_statements.specs.Walker.{keeps_unused, keeps_imports}
+pub use Rattle.min_statements.specs.Walker.{keeps_unused, keeps_imports}
 
 abbrev pub CleanBy : CompressOptions → Forest → Type 0
 CleanBy o t = CleanBut (keeps_unused o) (keeps_imports o) t

@@ -10,6 +10,7 @@ use Rattle.min_context.specs.Place.{Place, Spot, place_of, next_of, below, top}
 use Rattle.exported_names.specs.Answers.{bound_of}
 use Rattle.exported_names.specs.Exported.{exported_of}
 use Rattle.rules_dead_code.specs.Rules.{Facts, where_of, is_silent_statement, has_dead}
+use Rattle.rules_imports.specs.Repeated.{list_once}
 use Rattle.rules_imports.specs.Rules.{pruned}
 use Rattle.rules_expressions.specs.Uses.{spot_of}
 use Rattle.rules_expressions.specs.Known.{conditional_becomes, logical_becomes}
@@ -50,9 +51,9 @@ keeps_parts p n k inner = not (is_some (sequence_left (spot_of p) n k inner)) &&
 abbrev pub computes_none : Note → Kind → (inner : Forest) → Bool
 computes_none n k inner = not (is_some (known_becomes n k inner)) && (not (is_some (if_becomes n k inner)) && (not (is_some (list_reached n k inner)) && not (is_some (if_left n k inner))))
 
--- and is no import that a name leaves
+-- and is no import that a name leaves, nor a list that an import leaves
 abbrev pub uses_names : Facts → Place → Note → Kind → (inner : Forest) → Bool
-uses_names f p n k inner = not (is_some (pruned f (where_of p) (record { kind = k; note = n; below = inner })))
+uses_names f p n k inner = not (is_some (pruned f (where_of p) (record { kind = k; note = n; below = inner }))) && not (is_some (list_once n k inner))
 
 -- a node at a place: no item of a list goes, no statement becomes empty, no name leaves an import, and no expression comes to its parts or its value
 abbrev pub stays : Facts → Place → Note → Kind → (inner : Forest) → Bool

@@ -4,16 +4,19 @@ use Rattle.js_syntax.specs.declared.node_kind.NodeKind.{NodeKind as Kind}
 use Rattle.js_syntax.specs.declared.node_kind.NodeKind.TheVariants.{IfStatement as if_statement, EmptyStatement as empty_statement, ExpressionStatement as expression_statement, BlockStatement as block_statement, BreakStatement as break_statement, ContinueStatement as continue_statement, ReturnStatement as return_statement, ThrowStatement as throw_statement, SwitchStatement as switch_statement, TryStatement as try_statement}
 use Rattle.js_syntax.specs.Node.{Forest, Note, Tree, nothing, node, absent, forest_of}
 use Rattle.scope_laws.specs.Place as places
+use Rattle.steps_allowed.specs.Branches as branches
 use Rattle.steps_allowed.specs.Branches.{is_branch}
 use Rattle.steps_allowed.specs.DeadIf.{DeadIf, nothing_is_run}
+use Rattle.steps_allowed.specs.EmptyBlock.{idles}
+use Rattle.steps_allowed.specs.IdleTry.{has_no_loop, IdleTry, finalizer_is_run, finalizer_is_run_alone, block_is_run}
 use Rattle.steps_allowed.specs.KnownConditional.{truth_known}
 use Rattle.steps_allowed.specs.KnownIf.{KnownIf, consequent_is_run, alternate_is_run}
 use Rattle.steps_allowed.specs.Uses.{Use, use_at, stands_bare}
 use Rattle.min_pass.specs.Pass.{unmarked}
-use Rattle.rules_expressions.specs.Ifs.{given_if, what_runs, if_becomes}
+use Rattle.rules_expressions.specs.Ifs.{given_if, what_runs, try_becomes, if_becomes}
 use Rattle.rules_expressions.proofs.Ifs.{if_edits}
 use Rattle.min_expressions.specs.Kept.{child_at, is_call}
-use Rattle.min_statements.specs.Ifs.{branches_of, declares_no_name, index_if, one_of_two, one_or_none, branch_of, branch_at}
+use Rattle.min_statements.specs.Ifs.{branches_of, declares_no_name, index_if, one_of_two, one_or_none, branch_of, is_block, are_blocks, try_of, branch_at}
 use Rattle.min_statements.proofs.Calls.{CallsStay}
 
 -- ---- what stands there then
@@ -73,31 +76,96 @@ module _ (n : Note) where
       let y : Tree = record { kind = k; note = i; below = b } in
       ap (λ u. outcome n (one_or_none u y) (two x y)) w ∙ of_one truth x y
   by_truth None t m a nothing w = refl
-  by_truth None t m a (absent rest) w = refl
+  by_truth None t m a (absent nothing) w = refl
+  by_truth None t m a (absent (absent rest)) w = refl
+  by_truth None t m a (absent (node k i b nothing)) w = refl
+  by_truth None t m a (absent (node k i b (absent rest))) w = refl
+  by_truth None t m a (absent (node k i b (node l j c rest))) w = refl
   by_truth None t m a (node k i b nothing) w = refl
   by_truth None t m a (node k i b (absent (absent rest))) w = refl
   by_truth None t m a (node k i b (absent (node l j c rest))) w = refl
   by_truth None t m a (node k i b (node l j c (absent rest))) w = refl
   by_truth None t m a (node k i b (node l j c (node h p d rest))) w = refl
   by_truth (Some true) t m a nothing w = refl
-  by_truth (Some true) t m a (absent rest) w = refl
+  by_truth (Some true) t m a (absent nothing) w = refl
+  by_truth (Some true) t m a (absent (absent rest)) w = refl
+  by_truth (Some true) t m a (absent (node k i b nothing)) w = refl
+  by_truth (Some true) t m a (absent (node k i b (absent rest))) w = refl
+  by_truth (Some true) t m a (absent (node k i b (node l j c rest))) w = refl
   by_truth (Some true) t m a (node k i b nothing) w = unfielded (is_branch k) (record { kind = k; note = i; below = b })
   by_truth (Some true) t m a (node k i b (absent (absent rest))) w = unfielded (is_branch k) (record { kind = k; note = i; below = b })
   by_truth (Some true) t m a (node k i b (absent (node l j c rest))) w = unfielded (is_branch k) (record { kind = k; note = i; below = b })
   by_truth (Some true) t m a (node k i b (node l j c (absent rest))) w = unfielded (is_branch k) (record { kind = k; note = i; below = b })
   by_truth (Some true) t m a (node k i b (node l j c (node h p d rest))) w = unfielded (is_branch k) (record { kind = k; note = i; below = b })
   by_truth (Some false) t m a nothing w = refl
-  by_truth (Some false) t m a (absent rest) w = refl
+  by_truth (Some false) t m a (absent nothing) w = refl
+  by_truth (Some false) t m a (absent (absent rest)) w = refl
+  by_truth (Some false) t m a (absent (node k i b nothing)) w = refl
+  by_truth (Some false) t m a (absent (node k i b (absent rest))) w = refl
+  by_truth (Some false) t m a (absent (node k i b (node l j c rest))) w = refl
   by_truth (Some false) t m a (node k i b nothing) w = refl
   by_truth (Some false) t m a (node k i b (absent (absent rest))) w = refl
   by_truth (Some false) t m a (node k i b (absent (node l j c rest))) w = refl
   by_truth (Some false) t m a (node k i b (node l j c (absent rest))) w = refl
   by_truth (Some false) t m a (node k i b (node l j c (node h p d rest))) w = refl
 
+-- ---- of a `try`
+
+module _ (n : Note) where
+  third_of : (b : Bool) (x y z : Tree) → outcome n (index_if b (Some 2)) (three x y z) ≡ given_if b z
+  third_of true x y z = refl
+  third_of false x y z = refl
+
+  last_of : (b : Bool) (x z : Tree) → outcome n (index_if b (Some 2)) (node x.kind x.note x.below (absent (forest_of z))) ≡ given_if b z
+  last_of true x z = refl
+  last_of false x z = refl
+
+  first_of : (b : Bool) (x y : Tree) → outcome n (index_if b (Some 0)) (two x y) ≡ given_if b x
+  first_of true x y = refl
+  first_of false x y = refl
+
+  try_as_ruled : (t : Forest) → outcome n (try_of (branches_of t)) t ≡ try_becomes t
+  try_as_ruled nothing = refl
+  try_as_ruled (absent r) = refl
+  try_as_ruled (node block_statement i b (absent (node block_statement j c nothing))) = last_of (idles b && has_no_loop c) (record { kind = block_statement; note = i; below = b }) (record { kind = block_statement; note = j; below = c })
+  try_as_ruled (node block_statement i b (node k h d (node block_statement j c nothing))) =
+      third_of (idles b && (branches.declares_no_name k d && has_no_loop c)) (record { kind = block_statement; note = i; below = b }) (record { kind = k; note = h; below = d }) (record { kind = block_statement; note = j; below = c })
+  try_as_ruled (node block_statement i b (node k h d (absent nothing))) = first_of (idles b && branches.declares_no_name k d) (record { kind = block_statement; note = i; below = b }) (record { kind = k; note = h; below = d })
+  try_as_ruled (node block_statement i b nothing) = refl
+  try_as_ruled (node block_statement i b (absent nothing)) = refl
+  try_as_ruled (node block_statement i b (absent (absent r))) = refl
+  try_as_ruled (node block_statement i b (absent (node l j c nothing))) = refl
+  try_as_ruled (node block_statement i b (absent (node block_statement j c (absent r)))) = refl
+  try_as_ruled (node block_statement i b (absent (node l j c (absent r)))) = refl
+  try_as_ruled (node block_statement i b (absent (node block_statement j c (node p q f r)))) = refl
+  try_as_ruled (node block_statement i b (absent (node l j c (node p q f r)))) = refl
+  try_as_ruled (node block_statement i b (node k h d nothing)) = refl
+  try_as_ruled (node block_statement i b (node k h d (absent (absent r)))) = refl
+  try_as_ruled (node block_statement i b (node k h d (absent (node l j c r)))) = refl
+  try_as_ruled (node block_statement i b (node k h d (node l j c nothing))) = refl
+  try_as_ruled (node block_statement i b (node k h d (node block_statement j c (absent r)))) = refl
+  try_as_ruled (node block_statement i b (node k h d (node l j c (absent r)))) = refl
+  try_as_ruled (node block_statement i b (node k h d (node block_statement j c (node p q f r)))) = refl
+  try_as_ruled (node block_statement i b (node k h d (node l j c (node p q f r)))) = refl
+  try_as_ruled (node k i b nothing) = refl
+  try_as_ruled (node k i b (absent nothing)) = refl
+  try_as_ruled (node k i b (absent (absent r))) = refl
+  try_as_ruled (node k i b (absent (node l j c nothing))) = refl
+  try_as_ruled (node k i b (absent (node l j c (absent r)))) = refl
+  try_as_ruled (node k i b (absent (node l j c (node p q f r)))) = refl
+  try_as_ruled (node k i b (node l h d nothing)) = refl
+  try_as_ruled (node k i b (node l h d (absent nothing))) = refl
+  try_as_ruled (node k i b (node l h d (absent (absent r)))) = refl
+  try_as_ruled (node k i b (node l h d (absent (node m j c r)))) = refl
+  try_as_ruled (node k i b (node l h d (node m j c nothing))) = refl
+  try_as_ruled (node k i b (node l h d (node m j c (absent r)))) = refl
+  try_as_ruled (node k i b (node l h d (node m j c (node p q f r)))) = refl
+
 pub runs_as_ruled : (n : Note) (k : Kind) (t : Forest) → outcome n (branch_at k t) t ≡ if_becomes n k t
 runs_as_ruled n if_statement (node t m a branches) = by_truth n (truth_known t m a) t m a branches refl
 runs_as_ruled n if_statement nothing = refl
 runs_as_ruled n if_statement (absent rest) = refl
+runs_as_ruled n try_statement t = try_as_ruled n t
 runs_as_ruled n k t = refl
 
 -- ---- it is there, and an `if` is no call
@@ -135,19 +203,52 @@ parts_there (node t m a (node k n b (absent nothing))) i e = one_there (truth_kn
 parts_there nothing i e = no_index e
 parts_there (absent rest) i e = no_index e
 parts_there (node t m a nothing) i e = no_index e
-parts_there (node t m a (absent rest)) i e = no_index e
+parts_there (node t m a (absent nothing)) i e = no_index e
+parts_there (node t m a (absent (absent rest))) i e = no_index e
+parts_there (node t m a (absent (node k n b nothing))) i e = no_index e
+parts_there (node t m a (absent (node k n b (absent rest)))) i e = no_index e
+parts_there (node t m a (absent (node k n b (node l j c rest)))) i e = no_index e
 parts_there (node t m a (node k n b nothing)) i e = no_index e
 parts_there (node t m a (node k n b (absent (absent rest)))) i e = no_index e
 parts_there (node t m a (node k n b (absent (node l j c rest)))) i e = no_index e
 parts_there (node t m a (node k n b (node l j c (absent rest)))) i e = no_index e
 parts_there (node t m a (node k n b (node l j c (node h p d rest)))) i e = no_index e
 
+tried_there : (t : Forest) (i : ℕ) → try_of (branches_of t) ≡ Some (Some i) → is_some (child_at i t) ≡ true
+tried_there (node k m a (node h n d (node l j c nothing))) i e =
+    let x : Tree = record { kind = k; note = m; below = a } in
+    let y : Tree = record { kind = h; note = n; below = d } in
+    let z : Tree = record { kind = l; note = j; below = c } in
+    index_there (are_blocks x z && (idles a && (declares_no_name y && has_no_loop c))) i 2 (three x y z) refl e
+tried_there (node k m a (node h n d (absent nothing))) i e =
+    let x : Tree = record { kind = k; note = m; below = a } in
+    let y : Tree = record { kind = h; note = n; below = d } in
+    index_there (is_block k && (idles a && declares_no_name y)) i 0 (two x y) refl e
+tried_there (node k m a (absent (node l j c nothing))) i e =
+    let x : Tree = record { kind = k; note = m; below = a } in
+    let z : Tree = record { kind = l; note = j; below = c } in
+    index_there (are_blocks x z && (idles a && has_no_loop c)) i 2 (node k m a (absent (node l j c nothing))) refl e
+tried_there nothing i e = no_index e
+tried_there (absent rest) i e = no_index e
+tried_there (node k m a nothing) i e = no_index e
+tried_there (node k m a (absent nothing)) i e = no_index e
+tried_there (node k m a (absent (absent rest))) i e = no_index e
+tried_there (node k m a (absent (node l j c (absent rest)))) i e = no_index e
+tried_there (node k m a (absent (node l j c (node h p d rest)))) i e = no_index e
+tried_there (node k m a (node h n d nothing)) i e = no_index e
+tried_there (node k m a (node h n d (absent (absent rest)))) i e = no_index e
+tried_there (node k m a (node h n d (absent (node l j c rest)))) i e = no_index e
+tried_there (node k m a (node h n d (node l j c (absent rest)))) i e = no_index e
+tried_there (node k m a (node h n d (node l j c (node q p f rest)))) i e = no_index e
+
 pub branch_there : (k : Kind) (t : Forest) (i : ℕ) → branch_at k t ≡ Some (Some i) → is_some (child_at i t) ≡ true
 branch_there if_statement t i e = parts_there t i e
+branch_there try_statement t i e = tried_there t i e
 branch_there k t i e = no_index e
 
 pub no_call : (k : Kind) (t : Forest) (i : ℕ) → branch_at k t ≡ Some (Some i) → is_call k ≡ false
 no_call if_statement t i e = refl
+no_call try_statement t i e = refl
 no_call k t i e = no_index e
 
 -- ---- no call of it is a direct one of `eval`
@@ -172,8 +273,16 @@ known_if_calls a _ _ (alternate_is_run n m i j t k l d b c truth branch none) = 
 dead_if_calls : (a : places.Around) (x y : Tree) → DeadIf x y → CallsStay a x y
 dead_if_calls a _ _ (nothing_is_run n m i o t k d b truth none) = record { fewer = Prim.omega arith; old = refl; in_with = false; bare = refl }
 
+idle_try_calls : (a : places.Around) (x y : Tree) → IdleTry x y → CallsStay a x y
+idle_try_calls a _ _ (finalizer_is_run n i j b c idle loops) = record { fewer = Prim.omega arith; old = refl; in_with = false; bare = refl }
+idle_try_calls a _ _ (finalizer_is_run_alone n i h j k b d c idle none loops) = record { fewer = Prim.omega arith; old = refl; in_with = false; bare = refl }
+idle_try_calls a _ _ (block_is_run n i h k b d idle none) = record { fewer = Prim.omega arith; old = refl; in_with = false; bare = refl }
+
 pub if_calls : (a : places.Around) (x y : Tree) → if_becomes x.note x.kind x.below ≡ Some y → CallsStay a x y
 if_calls a x y e = elim (if_edits x y e) [
   | inl known ↦ known_if_calls a x y known
-  | inr dead ↦ dead_if_calls a x y dead
+  | inr other ↦ elim other [
+    | inl dead ↦ dead_if_calls a x y dead
+    | inr idle ↦ idle_try_calls a x y idle
+  ]
 ]

@@ -24,26 +24,26 @@ use Rattle.min_statements.proofs.Thinning.{left_calls}
 use Rattle.min_statements.proofs.Pruning.{prune_moves}
 
 -- a call that did nothing
-record Stayed (c : Seen) (x : Tree) (d : Seen) (y : Tree) : Type 0 where
-  tree : y ≡ x
-  context : d ≡ c
+pub record Stayed (c : Seen) (x : Tree) (d : Seen) (y : Tree) : Type 0 where
+  pub tree : y ≡ x
+  pub context : d ≡ c
 
 none_is : (o : Option Tree) → false ≡ is_some o → o ≡ None
 none_is None e = refl
 none_is (Some y) e = absurd (true≢false (sym e))
 
-nothing_done : {c d : Seen} {x y : Tree} (rule : Rule) → Does rule c x false d y → Stayed c x d y
+pub nothing_done : {c d : Seen} {x y : Tree} (rule : Rule) → Does rule c x false d y → Stayed c x d y
 nothing_done {c = c} {x = x} rule does = record { tree = does.tree ∙ ap (or_same x) (none_is (rule c x) (sym (sym does.answers))); context = does.edited.none (sym does.answers) }
 
 -- the next call finds what it left as it was
-after_nothing : {c k d : Seen} {x z y : Tree} {answer : Bool} (rule next : Rule) → Does rule c x false k z → Does next k z answer d y → Does next c x answer d y
+pub after_nothing : {c k d : Seen} {x z y : Tree} {answer : Bool} (rule next : Rule) → Does rule c x false k z → Does next k z answer d y → Does next c x answer d y
 after_nothing {c = c} {k = k} {d = d} {x = x} {z = z} {y = y} {answer = answer} rule next first second =
     let same = nothing_done rule first in
     let here : Does next c z answer d y = subst (λ q. Does next q z answer d y) same.context second in
     subst (λ q. Does next c q answer d y) same.tree here
 
 -- and one that did something asked for another pass
-done_asks : {P : Type 0} {c d : Seen} {x y : Tree} (rule : Rule) → Does rule c x true d y → d.requested ≡ false → P
+pub done_asks : {P : Type 0} {c d : Seen} {x y : Tree} (rule : Rule) → Does rule c x true d y → d.requested ≡ false → P
 done_asks {c = c} {d = d} {x = x} {y = y} rule does quiet =
     let e : Edited c x y true d = subst (λ b. Edited c x y b d) (sym does.answers) does.edited in
     asked_true c.requested (sym e.asked ∙ quiet)

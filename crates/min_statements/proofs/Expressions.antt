@@ -1,5 +1,5 @@
 -- What the hook of expressions does, and that it may.
-use Rattle.std.proofs.Common.{◌≡◌, ◌∙◌, ◌≤◌, ◌⊎◌, inl, inr, Bool, true, false, not, ◌||◌, Option, Some, None, is_some, if◌then◌else◌, refl, sym, ap, ap₂, subst, arith, true≢false}
+use Rattle.std.proofs.Common.{◌≡◌, ◌∙◌, ◌≤◌, ◌⊎◌, inl, inr, ℕ, Bool, true, false, not, ◌||◌, Option, Some, None, is_some, if◌then◌else◌, refl, sym, ap, ap₂, subst, arith, true≢false}
 use Rattle.js_syntax.specs.declared.node_kind.NodeKind.{NodeKind as Kind}
 use Rattle.js_syntax.specs.declared.node_kind.NodeKind.TheVariants.{ArrayExpression as array_expression, Elements as elements, MemberExpression as member_expression, ChainExpression as chain_expression, ParenthesizedExpression as parenthesized_expression, SequenceExpression as sequence_expression, Expressions as expressions, ObjectExpression as object_expression, Properties as properties, Property as property, UnaryExpression as unary_expression, BinaryExpression as binary_expression, ConditionalExpression as conditional_expression, LogicalExpression as logical_expression}
 use Rattle.js_syntax.specs.declared.operator.BinaryOperator.{BinaryOperator}
@@ -16,10 +16,11 @@ use Rattle.steps_allowed.specs.UnusedOperation.{acts, UnusedOperation, one_opera
 use Rattle.steps_allowed.specs.UnusedList.{acting, all_act, has_spread, as_one, list_becomes, UnusedList, acting_parts_stay}
 use Rattle.steps_allowed.specs.IndirectChoice.{one_of as branch_of, if_so, part_counts, IndirectChoice, value_alone_counts}
 use Rattle.steps_allowed.specs.OneSidedChoice.{sides, one_side, one_sided, OneSidedChoice, one_branch_acts}
-use Rattle.steps_allowed.specs.IdleParts.{stays_before, counting, all_count, as_value_of, sequence_becomes, IdleParts, idle_parts_leave}
+use Rattle.steps_allowed.specs.IdleParts.{stays_before, counting, all_count, more_before, itself_or_behind, as_value_of, sequence_becomes, IdleParts, idle_parts_leave}
 use Rattle.steps_allowed.specs.TwoSides.{two_sides, TwoSides, both_sides_act}
 use Rattle.steps_allowed.specs.UnusedObject.{are_plain, acting_values, object_becomes, UnusedObject, acting_values_stay}
-use Rattle.steps_allowed.specs.KnownOperation.{known_literal, KnownOperation, value_is_known}
+use Rattle.steps_allowed.specs.KnownOperation.{known_literal, KnownOperation, value_is_known, negative_is_known}
+use Rattle.steps_owed.proofs.KnownOperation.{Negative, under_one, under_two, is_negative_known}
 use Rattle.steps_allowed.specs.Uses.{Use, as_value, as_typed, use_at, matters, may_take_name, stands_bare}
 use Rattle.steps_owed.proofs.UnusedPlace.{unused_as_value}
 use Rattle.steps_owed.proofs.UnusedOperation.{Needed, the_operand, first_side, second_side, left_side, the_condition, needed_part}
@@ -222,16 +223,22 @@ counting_calls (node k n b rest) = at rest (counting_calls rest)
     at (absent others) h = if_stays (stays_before k n b) (absent others) (counting (absent others)) h
     at (node l m c others) h = if_stays (stays_before k n b) (node l m c others) (counting (node l m c others)) h
 
-value_calls : (u : Use) (w : Bool) (n m : Note) (parts : Forest) (y : Tree) → as_value_of u w n m parts ≡ Some y → LeavesCalls u w parts y
-value_calls u w n m nothing y e = no_answer e
-value_calls u w n m (absent rest) y e = several_call u w n m (absent rest) y e
-value_calls u w n m (node k i b nothing) y e = alone_calls u w k i b y e
-value_calls u w n m (node k i b (node l j c rest)) y e = several_call u w n m (node k i b (node l j c rest)) y e
-value_calls u w n m (node k i b (absent rest)) y e = several_call u w n m (node k i b (absent rest)) y e
+itself_calls : (u : Use) (w : Bool) (b more : Bool) (n : Note) (k : Kind) (i : Note) (a : Forest) (y : Tree) → stands_bare u w k a ≡ b → itself_or_behind b more n (record { kind = k; note = i; below = a }) ≡ Some y → LeavesCalls u w (node k i a nothing) y
+itself_calls u w true more n k i a y may e = subst (LeavesCalls u w (node k i a nothing)) (same_answer e) (record { fewer = Prim.omega arith; bare = may })
+itself_calls u w false true n k i a y may e = subst (LeavesCalls u w (node k i a nothing)) (same_answer e) (record { fewer = Prim.omega arith; bare = refl })
+itself_calls u w false false n k i a y may e = no_answer e
+
+value_calls : (u : Use) (w more : Bool) (n m : Note) (parts : Forest) (y : Tree) → as_value_of u w more n m parts ≡ Some y → LeavesCalls u w parts y
+value_calls u w more n m nothing y e = no_answer e
+value_calls u w more n m (absent rest) y e = several_call u w n m (absent rest) y e
+value_calls u w more n m (node k i b nothing) y e = itself_calls u w (stands_bare u w k b) more n k i b y refl e
+value_calls u w more n m (node k i b (node l j c rest)) y e = several_call u w n m (node k i b (node l j c rest)) y e
+value_calls u w more n m (node k i b (absent rest)) y e = several_call u w n m (node k i b (absent rest)) y e
 
 sequence_call : (a : places.Around) (w : Bool) (n m i : Note) (k : Kind) (below : Forest) (y : Tree) → sequence_becomes (use_at a) w n m k below ≡ Some y → CallsStay a (record { kind = k; note = i; below = below }) y
 sequence_call a w n m i sequence_expression (node expressions j parts nothing) y e =
-    let left = value_calls (use_at a) w n m (counting parts) y (unless (all_count parts) (as_value_of (use_at a) w n m (counting parts)) y e) in
+    let more = more_before parts in
+    let left = value_calls (use_at a) w more n m (counting parts) y (unless (all_count parts) (as_value_of (use_at a) w more n m (counting parts)) y e) in
     record { fewer = Prim.omega (arith, left.fewer, counting_calls parts); old = refl; in_with = w; bare = left.bare }
 sequence_call a w n m i k below y e = no_answer e
 
@@ -278,7 +285,7 @@ module _ (a : places.Around) (i : Note) (used : use_at a ≡ as_value) where
 object_calls : (a : places.Around) (x y : Tree) → UnusedObject a x y → CallsStay a x y
 object_calls a _ _ (acting_values_stay n m x y unused becomes) = object_call a x.note (unused_as_value a unused) n m x.kind x.below y becomes
 
--- ---- what becomes a literal
+-- ---- what becomes a literal, or unary minus on one
 
 no_literal : {P : Type 0} {v : LiteralValue} → None ≡ Some v → P
 no_literal e = absurd Prim.cc
@@ -288,8 +295,13 @@ known_is_no_name (unary_expression o) n below v e = refl
 known_is_no_name (binary_expression o) n below v e = refl
 known_is_no_name k n below v e = no_literal e
 
+negative_is_no_name : (k : Kind) (n : Note) (below : Forest) (i : ℕ) → Negative k n below i → is_no_name k ≡ true
+negative_is_no_name _ n below i (under_one o _ _ _ idle may is) = refl
+negative_is_no_name _ n below i (under_two o _ _ _ idle may is) = refl
+
 known_calls : (a : places.Around) (x y : Tree) → KnownOperation a x y → CallsStay a x y
 known_calls a _ _ (value_is_known i v x known) = record { fewer = Prim.omega arith; old = known_is_no_name x.kind x.note x.below v known; in_with = false; bare = refl }
+known_calls a _ _ (negative_is_known i j m x known) = record { fewer = Prim.omega arith; old = negative_is_no_name x.kind x.note x.below m (is_negative_known x.kind x.note x.below m known); in_with = false; bare = refl }
 
 -- ---- what the rules answer
 

@@ -9,6 +9,7 @@ mod Expressions
 mod Branches
 mod Pruning
 mod Ending
+mod Repeating
 mod Seeing
 mod Emptying
 mod Thinning

@@ -1,11 +1,11 @@
 -- A walk that asked for no other pass saw each node, and nothing of it goes or comes to its parts or its value.
-use Rattle.std.proofs.Common.{◌≡◌, ◌∙◌, Bool, false, true, ◌||◌, if◌then◌else◌, Option, Some, None, is_some, refl, sym, ap, subst, true≢false}
+use Rattle.std.proofs.Common.{◌≡◌, ◌∙◌, [], ℕ, Bool, false, true, not, ◌||◌, if◌then◌else◌, Option, Some, None, is_some, refl, sym, ap, subst, true≢false}
 use Rattle.js_syntax.specs.Class.{root}
 use Rattle.js_syntax.specs.declared.node_kind.NodeKind.{NodeKind as Kind}
-use Rattle.js_syntax.specs.declared.node_kind.NodeKind.TheVariants.{ExpressionStatement as expression_statement, EmptyStatement as empty_statement, IfStatement as if_statement, ImportDeclaration as import_declaration, ArrayExpression as array_expression, ObjectExpression as object_expression, UnaryExpression as unary_expression, BinaryExpression as binary_expression, SequenceExpression as sequence_expression, ConditionalExpression as conditional_expression, LogicalExpression as logical_expression}
+use Rattle.js_syntax.specs.declared.node_kind.NodeKind.TheVariants.{ExpressionStatement as expression_statement, EmptyStatement as empty_statement, IfStatement as if_statement, TryStatement as try_statement, ImportDeclaration as import_declaration, ArrayExpression as array_expression, ObjectExpression as object_expression, UnaryExpression as unary_expression, BinaryExpression as binary_expression, SequenceExpression as sequence_expression, ConditionalExpression as conditional_expression, LogicalExpression as logical_expression}
 use Rattle.json_shape.specs.Shape.{Fits}
 use Rattle.min_pass.specs.Pass.{unmarked}
-use Rattle.js_syntax.specs.Node.{Forest, Tree, Note, nothing, node, absent, forest_of}
+use Rattle.js_syntax.specs.Node.{Forest, Tree, Note, nothing, node, absent, alone, forest_of}
 use Rattle.min_context.specs.Above.{above_of}
 use Rattle.min_context.specs.Place.{Place, Spot, place_of, next_of, below, outside, top}
 use Rattle.min_context.specs.Seen.{Seen}
@@ -19,7 +19,7 @@ use Rattle.min_traverse.specs.declared.slot.Inner.{Inner}
 use Rattle.min_traverse.specs.declared.slot.Inner.TheVariants as inner
 use Rattle.rules_dead_code.specs.Rules.{Facts, Where, where_of, has_dead, is_silent_statement}
 use Rattle.rules_expressions.specs.Jumps.{has_inert, left_if, list_reached}
-use Rattle.min_statements.specs.Acts.{has_gone}
+use Rattle.min_statements.specs.Acts.{has_gone, list_changes}
 use Rattle.min_statements.specs.Own.{Visited, is_written, statement_changes}
 use Rattle.rules_dead_code.specs.Quiet.{EachNode, IsQuietAt, IsQuiet}
 use Rattle.rules_dead_code.proofs.Walked.{each_both, quiet_nodes}
@@ -33,11 +33,16 @@ use Rattle.rules_expressions.specs.OneSided.{one_sided_becomes}
 use Rattle.rules_expressions.specs.Sequences.{sequence_left}
 use Rattle.rules_expressions.specs.TwoSides.{two_sides_become}
 use Rattle.rules_expressions.specs.Objects.{object_left}
-use Rattle.rules_expressions.specs.Operations.{known_becomes}
+use Rattle.rules_expressions.specs.Operations.{minus_there, known_becomes}
+use Rattle.js_effects.specs.Answers.{bare_answers}
+use Rattle.js_effects.specs.Values.{value_of}
+use Rattle.steps_allowed.specs.KnownOperation.{as_negative, gives_negative, known_negative}
+use Rattle.steps_allowed.specs.UnusedOperation.{acts}
 use Rattle.rules_expressions.specs.Ifs.{if_becomes}
 use Rattle.rules_expressions.specs.Untaken.{if_left, if_ends}
 use Rattle.rules_expressions.specs.Settled.{IsSettledAt, IsSettled}
 use Rattle.rules_expressions.proofs.Walked.{settled_nodes}
+use Rattle.rules_imports.specs.Repeated.{has_repeated, once_if, list_once}
 use Rattle.rules_imports.specs.Rules.{pruned}
 use Rattle.rules_imports.specs.Quiet.{IsUsedAt, ImportsUsed}
 use Rattle.rules_imports.proofs.Walked.{imports_used}
@@ -56,7 +61,7 @@ becomes p x = becomes_so (spot_of p) x.note x.kind x.below
 
 -- of a list of statements, of a statement and of an expression that has its own slot
 record IsAlive (f : Facts) (p : Place) (x : Tree) : Type 0 where
-  list : outer_slot (above_place p) x.kind ≡ outer.Statements → has_gone f (where_of p) x.below ≡ false
+  list : outer_slot (above_place p) x.kind ≡ outer.Statements → list_changes f (where_of p) x.below ≡ false
   statement : outer_slot (above_place p) x.kind ≡ outer.Statement → statement_changes f (where_of p) x ≡ false
   expression : middle_slot (above_place p) x.kind ≡ middle.Expression → is_some (becomes p x) ≡ false
 
@@ -103,7 +108,7 @@ module _ (s : Names) (k : Seen) (x : Tree) (s' : Names) (k' : Seen) where
 
   record Left (o : Outer) : Type 0 where
     same : Same s k s' k'
-    list : o ≡ outer.Statements → has_gone (facts_of s k) (where_of k.place) x.below ≡ false
+    list : o ≡ outer.Statements → list_changes (facts_of s k) (where_of k.place) x.below ≡ false
     statement : o ≡ outer.Statement → statement_changes (facts_of s k) (where_of k.place) x ≡ false
 
   left_outer : (o : Outer) → Called Visited is_written (exit_outer o) s k x s' k' → Left o
@@ -148,7 +153,7 @@ at_node p x s k s' k' at v inside =
       sym f.same.0 ∙ names_2,
       sym f.same.1 ∙ context_2,
       record {
-        list = λ q. subst (λ g. has_gone g (where_of p) x.below ≡ false) facts_2 (subst (λ z. has_gone (facts_of v.exits.s2 v.exits.k2) (where_of z) x.below ≡ false) place_2 (f.list q));
+        list = λ q. subst (λ g. list_changes g (where_of p) x.below ≡ false) facts_2 (subst (λ z. list_changes (facts_of v.exits.s2 v.exits.k2) (where_of z) x.below ≡ false) place_2 (f.list q));
         statement = λ q.
             subst (λ g. statement_changes g (where_of p) x ≡ false) facts_2 (subst (λ z. statement_changes (facts_of v.exits.s2 v.exits.k2) (where_of z) x ≡ false) place_2 (f.statement q));
         expression = λ q. subst (λ z. is_some (becomes z x) ≡ false) place_1 (e.expression q);
@@ -220,6 +225,7 @@ second_none (Some y) p e = absurd (true≢false e)
 
 not_known : (f : Facts) (w : Where) (n : Note) (k : Kind) (b : Forest) → Unchanged f w n k b → if_becomes n k b ≡ None
 not_known f w n if_statement b h = first_none (if_becomes n if_statement b) (if_left n if_statement b) (neither (is_some (if_ends n if_statement b)) false (h refl)).0
+not_known f w n try_statement b h = first_none (if_becomes n try_statement b) (if_left n try_statement b) (neither (is_some (if_ends n try_statement b)) false (h refl)).0
 not_known f w n k b h = refl
 
 not_left : (f : Facts) (w : Where) (n : Note) (k : Kind) (b : Forest) → Unchanged f w n k b → if_left n k b ≡ None
@@ -230,12 +236,17 @@ none_unused : (f : Facts) (w : Where) (n : Note) (k : Kind) (b : Forest) → Unc
 none_unused f w n (import_declaration source) b h = none_is (pruned f w (record { kind = import_declaration source; note = n; below = b })) (h refl)
 none_unused f w n k b h = refl
 
+-- no import leaves a list
+none_again : (f : Facts) (w : Where) (n : Note) (k : Kind) (b : Forest) → (k ≡ Kind.Statements → list_changes f w b ≡ false) → list_once n k b ≡ None
+none_again f w n Kind.Statements b h = ap (λ c. once_if c n b) (neither (has_gone f w b) (has_repeated [] b) (h refl)).1
+none_again f w n k b h = refl
+
 used_at : (f : Facts) (p : Place) (x : Tree) → IsAlive f p x → HasSlots p x → IsUsedAt f p x
-used_at f p x h slots = none_unused f (where_of p) x.note x.kind x.below (λ e. h.statement (slots.statement e))
+used_at f p x h slots = (none_unused f (where_of p) x.note x.kind x.below (λ e. h.statement (slots.statement e)), none_again f (where_of p) x.note x.kind x.below (λ e. h.list (slots.list e)))
 
 quiet_at : (f : Facts) (p : Place) (x : Tree) → IsAlive f p x → HasSlots p x → IsQuietAt f p x
 quiet_at f p x h slots = record {
-  list = λ e. (neither (has_inert false x.below) (has_dead f (where_of p) x.below) (h.list (slots.list e))).1;
+  list = λ e. (neither (has_inert false x.below) (has_dead f (where_of p) x.below) (neither (has_gone f (where_of p) x.below) (has_repeated [] x.below) (h.list (slots.list e))).0).1;
   statement = none_left (record { kind = empty_statement; note = unmarked x.note; below = nothing }) (not_silent f (where_of p) x.note x.kind x.below (λ e. h.statement (slots.statement e)));
 }
 
@@ -256,6 +267,16 @@ last_three v o q p e =
     let w = last_none v o q (ap is_some (first_none (or_else (or_else v o) q) p e)) in
     (w.0, w.1, w.2, second_none (or_else (or_else v o) q) p e)
 
+-- what is no operation gives no negative number
+never : (b : Bool) (o : Option ℕ) → (if b || true then None else o) ≡ None
+never true o = refl
+never false o = refl
+
+no_negative : (n : Note) (k : Kind) (b : Forest) → gives_negative k b ≡ false → minus_there n (known_negative k n b) ≡ None
+no_negative n k b none =
+    ap (λ (g : Bool). minus_there n (if acts k n b || not g then None else as_negative (value_of bare_answers (alone k n b)))) none
+    ∙ ap (minus_there n) (never (acts k n b) (as_negative (value_of bare_answers (alone k n b))))
+
 -- which rules speak of which kinds of nodes
 settled_kind : (s : Asked) (n : Note) (k : Kind) (b : Forest) → (is_always_expression k ≡ true → is_some (becomes_so s n k b) ≡ false)
     → (conditional_becomes s k b ≡ None) × (logical_becomes s k b ≡ None) × (unused_becomes s k b ≡ None) × (unused_list_becomes s n k b ≡ None) × (indirect_becomes s n k b ≡ None) × (one_sided_becomes s n k b ≡ None) × (sequence_left s n k b ≡ None) × (two_sides_become s n k b ≡ None) × (object_left s n k b ≡ None) × (known_becomes n k b ≡ None)
@@ -269,7 +290,7 @@ settled_kind s n conditional_expression b h =
     let w = last_none (or_else (or_else (or_else (or_else c None) u) l) i) o None v.0 in
     let d = ap is_some (first_none (or_else (or_else (or_else c None) u) l) i w.0) in
     let e = ap is_some (first_none (or_else (or_else c None) u) l d) in
-    (first_none c None (ap is_some (first_none (or_else c None) u e)), refl, second_none (or_else c None) u e, none_either_way s.is_unused, second_none (or_else (or_else (or_else c None) u) l) i w.0, w.1, refl, none_either_way s.is_unused, none_either_way s.is_unused, refl)
+    (first_none c None (ap is_some (first_none (or_else c None) u e)), refl, second_none (or_else c None) u e, none_either_way s.is_unused, second_none (or_else (or_else (or_else c None) u) l) i w.0, w.1, refl, none_either_way s.is_unused, none_either_way s.is_unused, no_negative n conditional_expression b refl)
 settled_kind s n (logical_expression p) b h =
     let c = logical_becomes s (logical_expression p) b in
     let u = unused_becomes s (logical_expression p) b in
@@ -280,7 +301,7 @@ settled_kind s n (logical_expression p) b h =
     let w = last_none (or_else (or_else (or_else c u) l) i) o None v.0 in
     let d = ap is_some (first_none (or_else (or_else c u) l) i w.0) in
     let e = ap is_some (first_none (or_else c u) l d) in
-    (refl, first_none c u e, second_none c u e, none_either_way s.is_unused, second_none (or_else (or_else c u) l) i w.0, none_either_way s.is_unused, refl, none_either_way s.is_unused, none_either_way s.is_unused, refl)
+    (refl, first_none c u e, second_none c u e, none_either_way s.is_unused, second_none (or_else (or_else c u) l) i w.0, none_either_way s.is_unused, refl, none_either_way s.is_unused, none_either_way s.is_unused, no_negative n (logical_expression p) b refl)
 settled_kind s n (unary_expression p) b h =
     let u = unused_becomes s (unary_expression p) b in
     let l = unused_list_becomes s n (unary_expression p) b in
@@ -298,24 +319,24 @@ settled_kind s n array_expression b h =
     let l = unused_list_becomes s n array_expression b in
     let v = last_three (or_else (or_else (or_else (or_else u l) None) (one_sided_becomes s n array_expression b)) None) (two_sides_become s n array_expression b) (object_left s n array_expression b) (known_becomes n array_expression b) (h refl) in
     let w = last_none (or_else (or_else u l) None) (one_sided_becomes s n array_expression b) None v.0 in
-    (refl, refl, none_either_way s.is_unused, second_none u l (ap is_some (first_none (or_else u l) None w.0)), refl, none_either_way s.is_unused, refl, none_either_way s.is_unused, none_either_way s.is_unused, refl)
+    (refl, refl, none_either_way s.is_unused, second_none u l (ap is_some (first_none (or_else u l) None w.0)), refl, none_either_way s.is_unused, refl, none_either_way s.is_unused, none_either_way s.is_unused, no_negative n array_expression b refl)
 settled_kind s n sequence_expression b h =
     let u = unused_becomes s sequence_expression b in
     let l = unused_list_becomes s n sequence_expression b in
     let v = last_three (or_else (or_else (or_else (or_else u l) None) (one_sided_becomes s n sequence_expression b)) (sequence_left s n sequence_expression b)) (two_sides_become s n sequence_expression b) (object_left s n sequence_expression b) (known_becomes n sequence_expression b) (h refl) in
     let w = last_none (or_else (or_else u l) None) (one_sided_becomes s n sequence_expression b) (sequence_left s n sequence_expression b) v.0 in
-    (refl, refl, none_either_way s.is_unused, second_none u l (ap is_some (first_none (or_else u l) None w.0)), refl, none_either_way s.is_unused, w.2, none_either_way s.is_unused, none_either_way s.is_unused, refl)
+    (refl, refl, none_either_way s.is_unused, second_none u l (ap is_some (first_none (or_else u l) None w.0)), refl, none_either_way s.is_unused, w.2, none_either_way s.is_unused, none_either_way s.is_unused, no_negative n sequence_expression b refl)
 settled_kind s n object_expression b h =
     let u = unused_becomes s object_expression b in
     let l = unused_list_becomes s n object_expression b in
     let o = one_sided_becomes s n object_expression b in
     let v = last_three (or_else (or_else (or_else (or_else u l) None) o) None) (two_sides_become s n object_expression b) (object_left s n object_expression b) (known_becomes n object_expression b) (h refl) in
-    (refl, refl, none_either_way s.is_unused, none_either_way s.is_unused, refl, none_either_way s.is_unused, refl, none_either_way s.is_unused, v.2, refl)
-settled_kind s n k b h = (refl, refl, none_either_way s.is_unused, none_either_way s.is_unused, refl, none_either_way s.is_unused, refl, none_either_way s.is_unused, none_either_way s.is_unused, refl)
+    (refl, refl, none_either_way s.is_unused, none_either_way s.is_unused, refl, none_either_way s.is_unused, refl, none_either_way s.is_unused, v.2, no_negative n object_expression b refl)
+settled_kind s n k b h = (refl, refl, none_either_way s.is_unused, none_either_way s.is_unused, refl, none_either_way s.is_unused, refl, none_either_way s.is_unused, none_either_way s.is_unused, no_negative n k b refl)
 
 -- nothing stands behind a jump
-none_behind : (f : Facts) (w : Where) (n : Note) (k : Kind) (b : Forest) → (k ≡ Kind.Statements → has_gone f w b ≡ false) → list_reached n k b ≡ None
-none_behind f w n Kind.Statements b h = ap (λ c. left_if c n b) (neither (has_inert false b) (has_dead f w b) (h refl)).0
+none_behind : (f : Facts) (w : Where) (n : Note) (k : Kind) (b : Forest) → (k ≡ Kind.Statements → list_changes f w b ≡ false) → list_reached n k b ≡ None
+none_behind f w n Kind.Statements b h = ap (λ c. left_if c n b) (neither (has_inert false b) (has_dead f w b) (neither (has_gone f w b) (has_repeated [] b) (h refl)).0).0
 none_behind f w n k b h = refl
 
 settled_at : (f : Facts) (p : Place) (x : Tree) → IsAlive f p x → HasSlots p x → IsSettledAt p x

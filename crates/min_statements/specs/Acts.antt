@@ -1,9 +1,11 @@
 -- What the walker does to a list of statements, to a statement and to an import.
-use Rattle.std.specs.Prelude.{Bool, false, ◌||◌, Option, Some, None, if◌then◌else◌}
+use Rattle.std.specs.Prelude.{[], Bool, false, ◌||◌, Option, Some, None, if◌then◌else◌}
 use Rattle.js_syntax.specs.Node.{Forest, Tree}
 use Rattle.min_context.specs.Seen.{Seen}
+use Rattle.min_traverse.specs.Lawful.{Rule}
 use Rattle.rules_dead_code.specs.Rules.{Facts, Where, where_of, has_dead, trimmed, emptied}
 use Rattle.rules_expressions.specs.Jumps.{has_inert, emptied_behind}
+use Rattle.rules_imports.specs.Repeated.{has_repeated, asked_once}
 use Rattle.rules_imports.specs.Rules.{pruned}
 use Rattle.min_statements.specs.Walker.{Names, facts_of}
 
@@ -20,6 +22,14 @@ list_left f w x = if has_gone f w x.below then Some (record { kind = x.kind; not
 -- of a list, what goes of it leaves
 abbrev pub trim : Names → Seen → Tree → Option Tree
 trim names c x = list_left (facts_of names c) (where_of c.place) x
+
+-- and an import without names whose module is asked for before
+abbrev pub drop_repeated : Rule
+drop_repeated c x = asked_once x
+
+-- whether any of this leaves a list
+abbrev pub list_changes : Facts → Where → Forest → Bool
+list_changes f w t = has_gone f w t || has_repeated [] t
 
 -- a silent statement becomes empty
 abbrev pub empty : Names → Seen → Tree → Option Tree

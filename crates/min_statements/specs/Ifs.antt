@@ -1,30 +1,35 @@
--- Which branch of an `if` takes its place, by its index, or that the `if` becomes empty.
+-- Which branch of an `if`, or which block of a `try`, takes its place, by its index, or that the `if` becomes empty.
 use Rattle.std.specs.Prelude.{ℕ, Bool, true, false, ◌&&◌, Option, Some, None, if◌then◌else◌}
 use Rattle.js_syntax.specs.declared.node_kind.NodeKind.{NodeKind as Kind}
-use Rattle.js_syntax.specs.declared.node_kind.NodeKind.TheVariants.{IfStatement as if_statement}
+use Rattle.js_syntax.specs.declared.node_kind.NodeKind.TheVariants.{BlockStatement as block_statement, IfStatement as if_statement, TryStatement as try_statement}
 use Rattle.js_syntax.specs.Node.{Forest, Tree, nothing, node, absent}
 use Rattle.steps_allowed.specs.Branches as branches
 use Rattle.steps_allowed.specs.Branches.{is_branch}
+use Rattle.steps_allowed.specs.EmptyBlock.{idles}
+use Rattle.steps_allowed.specs.IdleTry.{has_no_loop}
 use Rattle.steps_allowed.specs.KnownConditional.{truth_known}
 use Rattle.min_statements.specs.declared.ifs.Branches.{Branches as Answer}
 use Rattle.min_statements.specs.declared.ifs.Branches.TheVariants as answer
 
--- ---- the test, and two branches, or one
+-- ---- the test, and two branches, or one; of a `try`, the block, and a handler and a finalizer, or a handler, or a finalizer
 
 pub data Branches : Type 0 where
   both : (test consequent alternate : Tree) → Branches
   one : (test consequent : Tree) → Branches
+  last : (block finalizer : Tree) → Branches
   others : Branches
 
 abbrev pub branches_of : Forest → Branches
 branches_of (node t n a (node k m b (node l i c nothing))) = both (record { kind = t; note = n; below = a }) (record { kind = k; note = m; below = b }) (record { kind = l; note = i; below = c })
 branches_of (node t n a (node k m b (absent nothing))) = one (record { kind = t; note = n; below = a }) (record { kind = k; note = m; below = b })
+branches_of (node k n a (absent (node l m b nothing))) = last (record { kind = k; note = n; below = a }) (record { kind = l; note = m; below = b })
 branches_of parts = others
 
 -- as code says it
 abbrev pub told_branches : Answer → Branches
 told_branches (answer.Both a b c) = both a.now b.now c.now
 told_branches (answer.One a b) = one a.now b.now
+told_branches (answer.Last a b) = last a.now b.now
 told_branches answer.Others = others
 
 -- ---- which of them
@@ -49,8 +54,23 @@ one_or_none (Some false) x = index_if (declares_no_name x) None
 abbrev pub branch_of : Branches → Option (Option ℕ)
 branch_of (both t x y) = one_of_two (truth_known t.kind t.note t.below) x y
 branch_of (one t x) = one_or_none (truth_known t.kind t.note t.below) x
+branch_of (last x y) = None
 branch_of others = None
+
+abbrev pub is_block : Kind → Bool
+is_block block_statement = true
+is_block k = false
+
+abbrev pub are_blocks : (x y : Tree) → Bool
+are_blocks x y = is_block x.kind && is_block y.kind
+
+abbrev pub try_of : Branches → Option (Option ℕ)
+try_of (both b h f) = index_if (are_blocks b f && (idles b.below && (declares_no_name h && has_no_loop f.below))) (Some 2)
+try_of (one b h) = index_if (is_block b.kind && (idles b.below && declares_no_name h)) (Some 0)
+try_of (last b f) = index_if (are_blocks b f && (idles b.below && has_no_loop f.below)) (Some 2)
+try_of others = None
 
 abbrev pub branch_at : Kind → (parts : Forest) → Option (Option ℕ)
 branch_at if_statement parts = branch_of (branches_of parts)
+branch_at try_statement parts = try_of (branches_of parts)
 branch_at k parts = None

@@ -18,7 +18,7 @@ use Rattle.rules_dead_code.specs.Rules.{Facts, Where, where_of, is_silent_statem
 use Rattle.rules_expressions.specs.Known.{at_expression_end}
 use Rattle.rules_expressions.specs.Untaken.{if_ends}
 use Rattle.rules_imports.specs.Rules.{pruned}
-use Rattle.min_statements.specs.Acts.{has_gone}
+use Rattle.min_statements.specs.Acts.{list_changes}
 use Rattle.min_statements.specs.Walker.{Names, facts_of}
 
 -- an edit of a program, by whatever options
@@ -64,7 +64,7 @@ pub record Found (dead : Bool) (names : Names) (c : Seen) (later : Names) (d : S
   pub none : dead ≡ false
 
 abbrev pub Visited : Hook → Names → Seen → Tree → Names → Seen → Type 0
-Visited hook.ExitStatements names c x later d = Found (has_gone (facts_of names c) (where_of c.place) x.below) names c later d
+Visited hook.ExitStatements names c x later d = Found (list_changes (facts_of names c) (where_of c.place) x.below) names c later d
 Visited hook.ExitStatement names c x later d = Found (statement_changes (facts_of names c) (where_of c.place) x) names c later d
 Visited hook.ExitExpression names c x later d = Found (is_some (at_expression_end c x)) names c later d
 Visited h names c x later d = Unit {0}

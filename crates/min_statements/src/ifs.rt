@@ -1,14 +1,16 @@
-// What becomes of an `if` of which the test is known.
+// What becomes of an `if` of which the test is known, and of a `try` around nothing.
 ghost use Rattle.std.specs.Prelude.{◌≡◌};
 ghost use Rattle.js_syntax.specs.Node.{row};
 ghost use Rattle.min_traverse.specs.Lawful.{Does};
 ghost use Rattle.steps_allowed.specs.Branches.{is_branch};
 ghost use Rattle.steps_allowed.specs.KnownConditional.{truth_known};
 ghost use Rattle.rules_expressions.specs.Untaken.{rid_if, at_if_end};
-ghost use Rattle.min_statements.specs.Ifs.{branches_of, told_branches, index_if, one_of_two, one_or_none, branch_at};
+ghost use Rattle.min_statements.specs.Ifs.{branches_of, told_branches, index_if, one_of_two, one_or_none, branch_of, try_of, branch_at};
 
+use crate::blocks::idles;
 use crate::emptied::put_empty;
 use crate::inside::declares_no_name;
+use crate::tries::{are_blocks, has_no_loop, is_block};
 use crate::untaken::{drop_branch, rid_branch, untaken_at};
 use js_syntax::NodeKind;
 use js_tree::Node;
@@ -37,10 +39,12 @@ fn is_branch(kind: &NodeKind) -> bool
 
 // ---- the branches
 
-/// The test of an `if`, and its branches, or its one branch, or other parts.
+/// The test of an `if`, and its branches, or its one branch; the block of a `try`, a handler and a finalizer, or one of them; or other
+/// parts.
 enum Branches<'a> {
     Both(&'a Node, &'a Node, &'a Node),
     One(&'a Node, &'a Node),
+    Last(&'a Node, &'a Node),
     Others,
 }
 
@@ -52,10 +56,14 @@ fn branches_of<'a>(children: &'a [Option<Node>]) -> Branches<'a>
             Branches::Both(test, consequent, alternate)
         }
         [Some(test), Some(consequent), None] => Branches::One(test, consequent),
+        [Some(block), None, Some(finalizer)] => Branches::Last(block, finalizer),
         [] => Branches::Others,
         [None, ..] => Branches::Others,
         [Some(_)] => Branches::Others,
-        [Some(_), None, ..] => Branches::Others,
+        [Some(_), None] => Branches::Others,
+        [Some(_), None, None, ..] => Branches::Others,
+        [Some(_), None, Some(_), None, ..] => Branches::Others,
+        [Some(_), None, Some(_), Some(_), ..] => Branches::Others,
         [Some(_), Some(_)] => Branches::Others,
         [Some(_), Some(_), None, None, ..] => Branches::Others,
         [Some(_), Some(_), None, Some(_), ..] => Branches::Others,
@@ -101,19 +109,50 @@ fn one_or_none(test: &Node, consequent: &Node, alloc: Global) -> Option<Option<u
     }
 }
 
-// The child that takes the place of an `if`, by its index, or that there is none.
-fn branch_at(node: &Node, alloc: Global) -> Option<Option<usize>>
-    ensures { result ≡ branch_at node.now.kind node.now.below }
+fn branch_of(branches: Branches, alloc: Global) -> Option<Option<usize>>
+    ensures { result ≡ branch_of (told_branches branches.entry) }
 {
-    let NodeKind::IfStatement = node.kind() else {
-        return None;
-    };
-    match branches_of(node.children()) {
+    match branches {
         Branches::Both(test, consequent, alternate) => {
             one_of_two(test, consequent, alternate, alloc)
         }
         Branches::One(test, consequent) => one_or_none(test, consequent, alloc),
+        Branches::Last(_, _) => None,
         Branches::Others => None,
+    }
+}
+
+fn try_of(branches: Branches) -> Option<Option<usize>>
+    ensures { result ≡ try_of (told_branches branches.entry) }
+{
+    match branches {
+        Branches::Both(block, handler, finalizer) => index_if(
+            are_blocks(block, finalizer)
+                && (idles(block.children())
+                    && (declares_no_name(handler) && has_no_loop(finalizer.children()))),
+            Some(2),
+        ),
+        Branches::One(block, handler) => index_if(
+            is_block(block) && (idles(block.children()) && declares_no_name(handler)),
+            Some(0),
+        ),
+        Branches::Last(block, finalizer) => index_if(
+            are_blocks(block, finalizer)
+                && (idles(block.children()) && has_no_loop(finalizer.children())),
+            Some(2),
+        ),
+        Branches::Others => None,
+    }
+}
+
+// The child that takes the place of an `if` or a `try`, by its index, or that there is none.
+fn branch_at(node: &Node, alloc: Global) -> Option<Option<usize>>
+    ensures { result ≡ branch_at node.now.kind node.now.below }
+{
+    match node.kind() {
+        NodeKind::IfStatement => branch_of(branches_of(node.children()), alloc),
+        NodeKind::TryStatement => try_of(branches_of(node.children())),
+        _ => None,
     }
 }
 
@@ -133,7 +172,7 @@ fn thin_branch(node: &mut Node, ctx: &mut MinifierTraverseCtx) -> bool
 }
 
 /// An `if` on a test that is known becomes the branch that runs, if that means the same wherever it stands and the other one declares no
-/// name around it; and empty, if there is no branch to run. Else, what declares no name around it leaves the branch that isn't taken. The
+/// name around it; and empty, if there is no branch to run. A `try` around nothing becomes its finalizer, or its block. Else, what declares no name around it leaves the branch that isn't taken. The
 /// context is told.
 pub fn try_fold_if(node: &mut Node, ctx: &mut MinifierTraverseCtx) -> bool
     ensures does { Does at_if_end ctx.old node.old result ctx.new node.new }

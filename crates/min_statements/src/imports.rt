@@ -1,5 +1,6 @@
-// Names of imports that nobody uses leave them.
+// Names of imports that nobody uses leave them, and imports without names whose modules are asked for before.
 ghost use Rattle.std.specs.Prelude.{◌≡◌, ◌&&◌, [], ◌∷◌};
+ghost use Rattle.js_syntax.specs.declared.node_kind.NodeKind.TheVariants.{Statements as statements};
 ghost use Rattle.js_syntax.specs.Node.{row, forest_of};
 ghost use Rattle.min_traverse.specs.Lawful.{Does};
 ghost use Rattle.steps.specs.Steps as steps;
@@ -15,6 +16,7 @@ use crate::statements::{Statements, keeps_imports};
 use js_syntax::NodeKind;
 use js_tree::Node;
 use min_context::MinifierTraverseCtx;
+use min_imports::{has_repeated, keep_each_once};
 use std::alloc::Global;
 
 // ---- which go
@@ -171,6 +173,22 @@ pub fn remove_unused_import_specifiers(
     }
     let at = Where::of(ctx);
     prune_import(ctx.alloc(), &names.facts(ctx), at, node);
+    ctx.notice_change();
+    true
+}
+
+// ---- imports without names
+
+/// An import without names leaves a list of statements behind another request of its module, which is loaded there. Where none does,
+/// nothing is touched.
+pub fn remove_repeated_imports(node: &mut Node, ctx: &mut MinifierTraverseCtx) -> bool
+    requires list { node.old.kind ≡ statements }
+    ensures does { Does acts.drop_repeated ctx.old node.old result ctx.new node.new }
+{
+    if !has_repeated(node.children()) {
+        return false;
+    }
+    keep_each_once(ctx.alloc(), node);
     ctx.notice_change();
     true
 }

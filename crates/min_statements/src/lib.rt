@@ -1,7 +1,8 @@
 //! What takes dead code out of a program, node by node?
 //!
 //! `Statements` is the walker (min_traverse): behind a list it takes out what stands behind a jump there and declares nothing around it,
-//! and what rules_dead_code says goes of it (`trim_statements`), behind a silent statement elsewhere it leaves an empty one
+//! and what rules_dead_code says goes of it (`trim_statements`), or imports without names behind other requests of their modules
+//! (`remove_repeated_imports`), behind a silent statement elsewhere it leaves an empty one
 //! (`empty_statement`), behind an `if` on a test that is known the branch that runs, or an empty statement, or the `if` without what
 //! declares no name in the other branch, and without the values there (`try_fold_if`), behind an import the import without the names that nobody uses
 //! (`remove_unused_import_specifiers`), behind an expression that a known test decides the part that counts, alone or behind a zero,
@@ -24,6 +25,7 @@ mod inert;
 mod inside;
 mod names;
 mod statements;
+mod tries;
 mod trimmed;
 mod untaken;
 mod values;

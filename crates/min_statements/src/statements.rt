@@ -6,7 +6,7 @@ ghost use Rattle.min_statements.specs.Walker.{facts_of, keeps_imports, keeps_unu
 use crate::emptied::empty_statement;
 use crate::facts::Facts;
 use crate::ifs::try_fold_if;
-use crate::imports::remove_unused_import_specifiers;
+use crate::imports::{remove_repeated_imports, remove_unused_import_specifiers};
 use crate::trimmed::trim_statements;
 use exported_names::{bound_references, exported_symbols};
 use js_syntax::SourceType;
@@ -107,7 +107,10 @@ impl Traverse for Statements {
         node: &mut Node,
         ctx: &mut MinifierTraverseCtx,
     ) -> Result<(), AllocError> {
-        trim_statements(self, node, ctx);
+        if trim_statements(self, node, ctx) {
+            return Ok(());
+        }
+        remove_repeated_imports(node, ctx);
         Ok(())
     }
 

@@ -8,7 +8,7 @@ use Rattle.min_context.specs.Place.{place_at}
 use Rattle.scope_counts.specs.Edits as counts
 use Rattle.scope_counts.specs.Edits.{plug}
 use Rattle.steps_allowed.specs.UnusedImport.{an_imported}
-use Rattle.headline.specs.Clean.{CleanBut, an_unused_import}
+use Rattle.headline.specs.Clean.{CleanBut, an_unused_import, a_repeated_import}
 use Rattle.rules_dead_code.specs.Rules.{Facts, where_of}
 use Rattle.rules_dead_code.specs.Knows.{Knows}
 use Rattle.rules_dead_code.proofs.Keeping.{Known}
@@ -19,6 +19,7 @@ use Rattle.rules_imports.specs.Quiet.{ImportsUsed}
 use Rattle.rules_imports.proofs.Pruned.{an_import_of, Goes, a_name, goes_view, prunes}
 use Rattle.rules_imports.proofs.Places.{an_import, in_import, name_plugged, name_there, name_declares}
 use Rattle.rules_imports.proofs.Leaving.{name_unused}
+use Rattle.rules_imports.proofs.Repeating.{once_without}
 use Rattle.rules_clean.proofs.Finding.{unused_name}
 use Rattle.rules_clean.proofs.Dying.{HasDead, clean_has_none, here_dead, variable_unkept}
 
@@ -46,4 +47,7 @@ module _ (f : Facts) where
 
 pub imports_rest : (f : Facts) (marked : ℕ → Bool) (t : Forest) → Knows f marked t → CleanBut f.keeps_unused f.keeps_imports t → ImportsUsed f t
 imports_rest f marked t h clean =
-    λ a x rest is. none_of (pruned f (where_of (place_at a)) x) (λ y e. clean_has_none f t clean (subst (λ u. HasDead f u) (sym is) (import_dead f a x y rest (subst (λ u. Known f u) is (record { marked = marked; knows = h })) e)))
+    λ a x rest is. (
+      none_of (pruned f (where_of (place_at a)) x) (λ y e. clean_has_none f t clean (subst (λ u. HasDead f u) (sym is) (import_dead f a x y rest (subst (λ u. Known f u) is (record { marked = marked; knows = h })) e))),
+      once_without t (λ b y stands repeated. clean.nothing_is_dead b (Some y) stands (a_repeated_import b y repeated)) a x rest is,
+    )

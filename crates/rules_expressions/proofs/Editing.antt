@@ -1,11 +1,11 @@
 -- What the rules do is edits, and where they have an answer an edit applies.
-use Rattle.std.proofs.Common.{◌≡◌, ◌∙◌, ◌⊎◌, inl, inr, Some, refl, sym, ap, subst}
+use Rattle.std.proofs.Common.{◌≡◌, ◌∙◌, inl, inr, Some, refl, sym, ap, subst}
 use Rattle.js_syntax.specs.declared.node_kind.NodeKind.{NodeKind as Kind}
 use Rattle.js_syntax.specs.Node.{Forest, Tree, Note, nothing, node}
 use Rattle.min_context.specs.Place.{place_at}
 use Rattle.scope_laws.specs.Place as places
 use Rattle.scope_counts.specs.Edits.{Around, plug}
-use Rattle.steps_allowed.specs.Edits.{Becomes, Edit, becomes, known_conditional, known_side, known_if, dead_if, unused_operation, unused_list, indirect_choice, one_sided_choice, idle_parts, two_sides, unused_object, known_operation}
+use Rattle.steps_allowed.specs.Edits.{Becomes, Edit, becomes, known_conditional, known_side, known_if, dead_if, idle_try, unused_operation, unused_list, indirect_choice, one_sided_choice, idle_parts, two_sides, unused_object, known_operation}
 use Rattle.steps_allowed.specs.KnownConditional.{KnownConditional, a_conditional, consequent_is_taken, alternate_is_taken}
 use Rattle.steps_allowed.specs.KnownSide.{KnownSide, a_logical, right_side_counts, left_side_decides}
 use Rattle.steps_allowed.specs.UnusedOperation.{UnusedOperation}
@@ -16,13 +16,12 @@ use Rattle.steps_allowed.specs.IdleParts.{IdleParts}
 use Rattle.steps_allowed.specs.TwoSides.{TwoSides}
 use Rattle.steps_allowed.specs.UnusedObject.{UnusedObject}
 use Rattle.steps_allowed.specs.KnownOperation.{KnownOperation}
-use Rattle.steps_allowed.specs.KnownIf.{KnownIf}
-use Rattle.steps_allowed.specs.DeadIf.{DeadIf}
 use Rattle.rules_dead_code.specs.Before.{before}
 use Rattle.rules_expressions.specs.Uses.{spot_of}
 use Rattle.rules_expressions.specs.Known.{conditional_becomes, logical_becomes}
 use Rattle.rules_expressions.proofs.Uses.{spot_at, spot_before, plug_before}
 use Rattle.rules_expressions.proofs.Becoming.{Branch, consequent, alternate, branch, branch_is, Side, right_side, left_side, side, side_is}
+use Rattle.rules_expressions.specs.Ifs.{IfEdit}
 
 -- ---- at a place of edits
 
@@ -94,9 +93,10 @@ two_sides_edit a x y rest o = edit_there a x y rest (two_sides o)
 pub object_edit : (a : Around) (x y : Tree) (rest : Forest) → UnusedObject (before a rest) x y → Edit (plug a (node x.kind x.note x.below rest)) (plug a (node y.kind y.note y.below rest))
 object_edit a x y rest o = edit_there a x y rest (unused_object o)
 
-pub if_edit : (a : Around) (x y : Tree) (rest : Forest) → KnownIf x y ⊎ DeadIf x y → Edit (plug a (node x.kind x.note x.below rest)) (plug a (node y.kind y.note y.below rest))
+pub if_edit : (a : Around) (x y : Tree) (rest : Forest) → IfEdit x y → Edit (plug a (node x.kind x.note x.below rest)) (plug a (node y.kind y.note y.below rest))
 if_edit a x y rest (inl known) = edit_there a x y rest (known_if known)
-if_edit a x y rest (inr dead) = edit_there a x y rest (dead_if dead)
+if_edit a x y rest (inr (inl dead)) = edit_there a x y rest (dead_if dead)
+if_edit a x y rest (inr (inr idle)) = edit_there a x y rest (idle_try idle)
 
 pub known_edit : (a : Around) (x y : Tree) (rest : Forest) → KnownOperation (before a rest) x y → Edit (plug a (node x.kind x.note x.below rest)) (plug a (node y.kind y.note y.below rest))
 known_edit a x y rest o = edit_there a x y rest (known_operation o)

@@ -24,6 +24,7 @@ use Rattle.rules_expressions.specs.Jumps.{cut_list}
 use Rattle.rules_expressions.specs.Untaken.{rid_if, at_if_end}
 use Rattle.rules_expressions.proofs.Jumps.{list_edits, cut_is_less}
 use Rattle.rules_expressions.proofs.Untaken as untaken
+use Rattle.rules_expressions.proofs.Thinner as thinner
 use Rattle.rules_expressions.proofs.Becoming.{branch, branch_is_less, side, side_is_less}
 use Rattle.rules_expressions.proofs.Unused.{left_part, left_is_less, unused_edits_there}
 use Rattle.rules_expressions.proofs.Lists.{list_is_less, list_edits_there}
@@ -133,8 +134,8 @@ module _ (E : CompressOptions → Forest → Forest → Type 0) (makes : (o : Co
   pub ifs_rid : Lawful E rid_if
   ifs_rid = record {
     edits = λ c a x y r h at e. made_by c.options (untaken.left_edits a x y r e);
-    thins = λ c x y e. (untaken.left_is_less x y e).thins;
-    lighter = λ c x y e. (untaken.left_is_less x y e).lighter;
+    thins = λ c x y e. (thinner.left_is_less x y e).thins;
+    lighter = λ c x y e. (thinner.left_is_less x y e).lighter;
   }
 
   pub ifs_end : Lawful E at_if_end

@@ -10,6 +10,7 @@ pub mod Objects
 pub mod Operations
 pub mod Ifs
 pub mod Jumps
+mod Thinner
 pub mod Untaken
 pub mod Editing
 pub mod Folding

@@ -1,5 +1,5 @@
 -- What is left of sequences of which some part doesn't act.
-use Rattle.std.proofs.Common.{◌≡◌, ◌∙◌, ◌+◌, ◌≤◌, ℕ, Bool, true, false, ◌||◌, ◌&&◌, Some, if◌then◌else◌, refl, sym, ap, subst, arith}
+use Rattle.std.proofs.Common.{◌≡◌, ◌∙◌, ◌+◌, ◌≤◌, ◌<◌, ℕ, Bool, true, false, ◌||◌, ◌&&◌, Some, if◌then◌else◌, refl, sym, ap, subst, arith}
 use Rattle.js_syntax.specs.declared.node_kind.NodeKind.{NodeKind as Kind}
 use Rattle.js_syntax.specs.declared.node_kind.NodeKind.TheVariants.{SequenceExpression as sequence_expression, Expressions as expressions}
 use Rattle.js_syntax.specs.Facts.{weight}
@@ -11,28 +11,36 @@ use Rattle.scope_laws.specs.Lists.{is_list}
 use Rattle.scope_laws.specs.Place as places
 use Rattle.scope_counts.specs.Edits.{Around}
 use Rattle.steps_allowed.specs.UnusedOperation.{acts}
-use Rattle.steps_allowed.specs.IdleParts.{stays_before, counting, all_count, as_value_of, sequence_becomes, IdleParts, idle_parts_leave}
+use Rattle.steps_allowed.specs.IdleParts.{stays_before, counting, all_count, more_before, itself_or_behind, as_value_of, sequence_becomes, IdleParts, idle_parts_leave}
+use Rattle.steps_allowed.specs.IndirectChoice.{behind_zero}
 use Rattle.steps_allowed.specs.Uses.{Use, stands_bare}
+pub use Rattle.steps_owed.proofs.IdleParts.{some_left, first_leaves, none_behind, zero_lighter}
 use Rattle.rules_dead_code.specs.Before.{before}
 use Rattle.rules_expressions.specs.Uses.{Spot, spot_of}
 use Rattle.rules_expressions.specs.Lists.{new_note, list_note}
 use Rattle.rules_expressions.specs.Sequences.{sequence_left}
 use Rattle.rules_expressions.proofs.Uses.{spot_at, spot_before}
-use Rattle.rules_expressions.proofs.Becoming.{no_answer, chosen, chosen_if, IsLess}
-use Rattle.rules_expressions.proofs.Lists.{HasAnswer, several_as, unless_as, idle_weighs, IsLittle, several_little, unless}
+use Rattle.rules_expressions.proofs.Becoming.{no_answer, same_answer, IsLess}
+use Rattle.rules_expressions.proofs.Lists.{HasAnswer, answer, made, several_as, unless_as, idle_weighs, several_little, unless}
 
 -- ---- whether a sequence becomes anything doesn't depend on notes
 
-value_as : (u : Use) (in_with : Bool) (n m i j : Note) (parts : Forest) (y : Tree) → as_value_of u in_with n m parts ≡ Some y → HasAnswer (as_value_of u in_with i j parts) y
-value_as u in_with n m i j nothing y e = no_answer e
-value_as u in_with n m i j (absent rest) y e = several_as n m i j (absent rest) y e
-value_as u in_with n m i j (node k l a nothing) y e = record { left = y; answers = e; same = refl }
-value_as u in_with n m i j (node k l a (node h g b rest)) y e = several_as n m i j (node k l a (node h g b rest)) y e
-value_as u in_with n m i j (node k l a (absent rest)) y e = several_as n m i j (node k l a (absent rest)) y e
+itself_as : (bare more : Bool) (n i : Note) (x y : Tree) → itself_or_behind bare more n x ≡ Some y → HasAnswer (itself_or_behind bare more i x) y
+itself_as true more n i x y e = record { left = y; answers = e; same = refl }
+itself_as false true n i x y e = subst (λ z. HasAnswer (Some (behind_zero i i i x)) z) (same_answer e) (answer (behind_zero i i i x) (behind_zero n n n x) refl)
+itself_as false false n i x y e = no_answer e
+
+value_as : (u : Use) (in_with more : Bool) (n m i j : Note) (parts : Forest) (y : Tree) → as_value_of u in_with more n m parts ≡ Some y → HasAnswer (as_value_of u in_with more i j parts) y
+value_as u in_with more n m i j nothing y e = no_answer e
+value_as u in_with more n m i j (absent rest) y e = several_as n m i j (absent rest) y e
+value_as u in_with more n m i j (node k l a nothing) y e = itself_as (stands_bare u in_with k a) more n i (record { kind = k; note = l; below = a }) y e
+value_as u in_with more n m i j (node k l a (node h g b rest)) y e = several_as n m i j (node k l a (node h g b rest)) y e
+value_as u in_with more n m i j (node k l a (absent rest)) y e = several_as n m i j (node k l a (absent rest)) y e
 
 sequence_as : (u : Use) (in_with : Bool) (n m i j : Note) (k : Kind) (below : Forest) (y : Tree) → sequence_becomes u in_with n m k below ≡ Some y → HasAnswer (sequence_becomes u in_with i j k below) y
 sequence_as u in_with n m i j sequence_expression (node expressions l parts nothing) y e =
-    unless_as (all_count parts) (as_value_of u in_with n m (counting parts)) (as_value_of u in_with i j (counting parts)) y (value_as u in_with n m i j (counting parts) y) e
+    let more = more_before parts in
+    unless_as (all_count parts) (as_value_of u in_with more n m (counting parts)) (as_value_of u in_with more i j (counting parts)) y (value_as u in_with more n m i j (counting parts) y) e
 sequence_as u in_with n m i j k below y e = no_answer e
 
 -- ---- the answer is an edit, and where an edit applies there is an answer
@@ -102,6 +110,10 @@ leaving_weighs : (k : Kind) (n : Note) (a : Forest) → stays_before k n a ≡ f
 leaving_weighs k n a leaves = idle_weighs k n a (ap (λ b. acts k n a || b) (same_lists k) ∙ leaves)
 
 -- so of a sequence in which not all stay less is left
+pub record IsSmaller (y : Tree) (parts : Forest) : Type 0 where
+  pub fewer : (r : ℕ) → ids r (forest_of y) ≤ ids r parts
+  pub lighter : total weight (forest_of y) < total weight parts + 2
+
 less_there : (k : Kind) (n : Note) (a rest : Forest) (b : Bool) → stays_before k n a ≡ b → (all_count rest ≡ false → total weight (counting rest) + 1 ≤ total weight rest) → (b && all_count rest) ≡ false
     → total weight (if b then node k n a (counting rest) else counting rest) + 1 ≤ total weight (node k n a rest)
 less_there k n a rest true stays more e = Prim.omega (arith, more e)
@@ -119,21 +131,31 @@ lighter_row (node k n a rest) e = at rest (λ h. lighter_row rest h) e
 
 -- ---- what is left is less
 
-value_little : (u : Use) (in_with : Bool) (n m : Note) (parts : Forest) (y : Tree) → as_value_of u in_with n m parts ≡ Some y → IsLittle y parts
-value_little u in_with n m nothing y e = no_answer e
-value_little u in_with n m (absent rest) y e = several_little n m (absent rest) y e
-value_little u in_with n m (node k l a nothing) y e =
-    elim (chosen_if (stands_bare u in_with k a) (record { kind = k; note = l; below = a }) y e) [ chosen may is ↦ subst (λ z. IsLittle z (node k l a nothing)) is (record { fewer = λ r. Prim.omega arith; lighter = Prim.omega arith }) ]
-value_little u in_with n m (node k l a (node h g b rest)) y e = several_little n m (node k l a (node h g b rest)) y e
-value_little u in_with n m (node k l a (absent rest)) y e = several_little n m (node k l a (absent rest)) y e
+itself_little : (bare more : Bool) (n : Note) (k : Kind) (i : Note) (a : Forest) (y : Tree) (parts : Forest) → more_before parts ≡ more → counting parts ≡ node k i a nothing → all_count parts ≡ false
+    → itself_or_behind bare more n (record { kind = k; note = i; below = a }) ≡ Some y → IsSmaller y parts
+itself_little true more n k i a y parts is of idle e =
+    subst (λ z. IsSmaller z parts) (same_answer e) (record { fewer = λ r. Prim.omega (arith, no_more r parts, ap (ids r) of); lighter = Prim.omega (arith, lighter_row parts idle, ap (total weight) of) })
+itself_little false true n k i a y parts is of idle e =
+    subst (λ z. IsSmaller z parts) (same_answer e) (record { fewer = λ r. Prim.omega (arith, no_more r parts, ap (ids r) of); lighter = Prim.omega (arith, zero_lighter k i a parts of idle is) })
+itself_little false false n k i a y parts is of idle e = no_answer e
 
-less_sequence : (n l : Note) (parts : Forest) (y : Tree) → all_count parts ≡ false → IsLittle y (counting parts) → IsLess (record { kind = sequence_expression; note = n; below = node expressions l parts nothing }) y
-less_sequence n l parts y idle h = record { thins = λ r. Prim.omega (arith, h.fewer r, no_more r parts); lighter = Prim.omega (arith, h.lighter, lighter_row parts idle) }
+several_smaller : (n m : Note) (left parts : Forest) (y : Tree) → counting parts ≡ left → all_count parts ≡ false → Some (made n m left) ≡ Some y → IsSmaller y parts
+several_smaller n m left parts y of idle e =
+    let h = several_little n m left y e in
+    record { fewer = λ r. Prim.omega (arith, h.fewer r, no_more r parts, ap (ids r) of); lighter = Prim.omega (arith, h.lighter, lighter_row parts idle, ap (total weight) of) }
+
+value_smaller : (u : Use) (in_with : Bool) (n m : Note) (left parts : Forest) (y : Tree) → counting parts ≡ left → all_count parts ≡ false → as_value_of u in_with (more_before parts) n m left ≡ Some y → IsSmaller y parts
+value_smaller u in_with n m nothing parts y of idle e = no_answer e
+value_smaller u in_with n m (absent rest) parts y of idle e = several_smaller n m (absent rest) parts y of idle e
+value_smaller u in_with n m (node k l a nothing) parts y of idle e = itself_little (stands_bare u in_with k a) (more_before parts) n k l a y parts refl of idle e
+value_smaller u in_with n m (node k l a (node h g b rest)) parts y of idle e = several_smaller n m (node k l a (node h g b rest)) parts y of idle e
+value_smaller u in_with n m (node k l a (absent rest)) parts y of idle e = several_smaller n m (node k l a (absent rest)) parts y of idle e
 
 sequence_less : (u : Use) (in_with : Bool) (i j n : Note) (k : Kind) (parts : Forest) (y : Tree) → sequence_becomes u in_with i j k parts ≡ Some y → IsLess (record { kind = k; note = n; below = parts }) y
 sequence_less u in_with i j n sequence_expression (node expressions l parts nothing) y e =
-    let h = unless (all_count parts) (as_value_of u in_with i j (counting parts)) y e in
-    less_sequence n l parts y h.holds_not (value_little u in_with i j (counting parts) y h.answers)
+    let h = unless (all_count parts) (as_value_of u in_with (more_before parts) i j (counting parts)) y e in
+    let small = value_smaller u in_with i j (counting parts) parts y refl h.holds_not h.answers in
+    record { thins = λ r. Prim.omega (arith, small.fewer r); lighter = Prim.omega (arith, small.lighter) }
 sequence_less u in_with i j n k parts y e = no_answer e
 
 pub sequence_is_less : (s : Spot) (n : Note) (k : Kind) (parts : Forest) (y : Tree) → sequence_left s n k parts ≡ Some y → IsLess (record { kind = k; note = n; below = parts }) y

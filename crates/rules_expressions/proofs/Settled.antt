@@ -42,12 +42,13 @@ use Rattle.rules_expressions.proofs.Objects.{object_edits_there, object_answers}
 use Rattle.rules_expressions.proofs.Operations.{known_edits, known_answers}
 use Rattle.steps_allowed.specs.Unreached.{Unreached}
 use Rattle.steps_allowed.specs.IdleStatement.{IdleStatement}
+use Rattle.steps_allowed.specs.IdleTry.{IdleTry}
 use Rattle.steps_allowed.specs.UnrunValue.{UnrunValue}
 use Rattle.steps_allowed.specs.Untaken.{Untaken}
 use Rattle.rules_expressions.proofs.Jumps.{settled_lists, settled_items, settled_without}
 use Rattle.rules_expressions.proofs.Untaken as untaken
 use Rattle.rules_expressions.proofs.Untaken.{settled_ifs, settled_values}
-use Rattle.rules_expressions.proofs.Ifs.{if_edits, known_if_answers, dead_if_answers}
+use Rattle.rules_expressions.proofs.Ifs.{if_edits, known_if_answers, dead_if_answers, idle_try_answers}
 use Rattle.rules_expressions.proofs.Editing.{conditional_edits_there, logical_edits_there, conditional_answers, logical_answers}
 
 before_place : (a : places.Around) → before (place_of a) (rest_of a) ≡ a
@@ -99,6 +100,9 @@ module _ (t : Forest) (settled : IsSettled t) (a : places.Around) (x y : Tree) (
   pub no_dead_if : DeadIf x y → ⊥
   no_dead_if o = let w = dead_if_answers x y o in no_answer (sym settled_there.statement ∙ w.1)
 
+  pub no_try : IdleTry x y → ⊥
+  no_try o = no_answer (sym settled_there.statement ∙ idle_try_answers x y o)
+
 pub no_unreached : (t : Forest) → IsSettled t → (a : places.Around) (x : Tree) → t ≡ places.plug a (Some x) → Unreached a x → ⊥
 no_unreached t settled = settled_lists t (λ a x rest is. (settled.each a x rest is).jumps)
 
@@ -129,8 +133,9 @@ pub is_settled :
     → ((a : places.Around) (x : Tree) → t ≡ places.plug a (Some x) → Untaken a x → ⊥)
     → ((a : places.Around) (x : Tree) → t ≡ places.plug a (Some x) → IdleStatement a x → ⊥)
     → ((a : places.Around) (x y : Tree) → t ≡ places.plug a (Some x) → UnrunValue a x y → ⊥)
+    → ((a : places.Around) (x y : Tree) → t ≡ places.plug a (Some x) → IdleTry x y → ⊥)
     → IsSettled t
-is_settled t never_branch never_side never_unused never_list never_indirect never_one_sided never_sequence never_two_sides never_object never_known never_known_if never_dead_if never_unreached never_untaken never_idle never_value = record {
+is_settled t never_branch never_side never_unused never_list never_indirect never_one_sided never_sequence never_two_sides never_object never_known never_known_if never_dead_if never_unreached never_untaken never_idle never_value never_try = record {
   each = λ a x rest is. record {
     conditional = none_of (conditional_becomes (spot_of (place_at a)) x.kind x.below) (λ y e. never_branch (before a rest) x y (is ∙ sym (plug_before a x rest)) (conditional_edits_there a x y rest e));
     logical = none_of (logical_becomes (spot_of (place_at a)) x.kind x.below) (λ y e. never_side (before a rest) x y (is ∙ sym (plug_before a x rest)) (logical_edits_there a x y rest e));
@@ -144,7 +149,10 @@ is_settled t never_branch never_side never_unused never_list never_indirect neve
     known = none_of (known_becomes x.note x.kind x.below) (λ y e. never_known (before a rest) x y (is ∙ sym (plug_before a x rest)) (known_edits (before a rest) x y e));
     statement = none_of (if_becomes x.note x.kind x.below) (λ y e. elim (if_edits x y e) [
       | inl known ↦ never_known_if (before a rest) x y (is ∙ sym (plug_before a x rest)) known
-      | inr dead ↦ never_dead_if (before a rest) x y (is ∙ sym (plug_before a x rest)) dead
+      | inr other ↦ elim other [
+        | inl dead ↦ never_dead_if (before a rest) x y (is ∙ sym (plug_before a x rest)) dead
+        | inr idle ↦ never_try (before a rest) x y (is ∙ sym (plug_before a x rest)) idle
+      ]
     ]);
     jumps = settled_without t never_unreached never_idle a x rest is;
     untaken = untaken.settled_without t never_untaken never_value a x rest is;

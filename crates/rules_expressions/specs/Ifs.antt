@@ -1,12 +1,20 @@
--- Statements `if` of which the test is known.
-use Rattle.std.specs.Prelude.{Bool, true, false, ◌&&◌, Option, None, Some, if◌then◌else◌}
+-- Statements `if` of which the test is known, and `try` around nothing.
+use Rattle.std.specs.Prelude.{◌⊎◌, Bool, true, false, ◌&&◌, Option, None, Some, if◌then◌else◌}
 use Rattle.js_syntax.specs.declared.node_kind.NodeKind.{NodeKind as Kind}
-use Rattle.js_syntax.specs.declared.node_kind.NodeKind.TheVariants.{IfStatement as if_statement, EmptyStatement as empty_statement}
+use Rattle.js_syntax.specs.declared.node_kind.NodeKind.TheVariants.{IfStatement as if_statement, EmptyStatement as empty_statement, BlockStatement as block_statement, TryStatement as try_statement}
 use Rattle.js_syntax.specs.Node.{Forest, Tree, Note, nothing, node, absent}
 use Rattle.min_traverse.specs.Lawful.{Rule}
-use Rattle.steps_allowed.specs.Branches.{is_branch, declares_none}
+use Rattle.steps_allowed.specs.Branches.{is_branch, declares_none, declares_no_name}
+use Rattle.steps_allowed.specs.EmptyBlock.{idles}
+use Rattle.steps_allowed.specs.IdleTry.{has_no_loop, IdleTry}
+use Rattle.steps_allowed.specs.KnownIf.{KnownIf}
+use Rattle.steps_allowed.specs.DeadIf.{DeadIf}
 use Rattle.steps_allowed.specs.KnownConditional.{truth_known}
 use Rattle.rules_expressions.specs.Lists.{new_note}
+
+-- by which edit
+abbrev pub IfEdit : (x y : Tree) → Type 0
+IfEdit x y = KnownIf x y ⊎ (DeadIf x y ⊎ IdleTry x y)
 
 -- one field, or none in its place
 abbrev pub is_field : Forest → Bool
@@ -32,8 +40,20 @@ what_runs n (Some false) (node k i b (node l j c nothing)) = given_if (alternate
 what_runs n (Some false) (node k i b (absent nothing)) = given_if (declares_none (node k i b nothing)) (record { kind = empty_statement; note = new_note n; below = nothing })
 what_runs n truth branches = None
 
+-- what runs of a `try` around nothing: its finalizer, or its block where it has none
+abbrev pub try_runs : (note : Note) (block : Forest) → (rest : Forest) → Option Tree
+try_runs i b (absent (node block_statement j c nothing)) = given_if (idles b && has_no_loop c) (record { kind = block_statement; note = j; below = c })
+try_runs i b (node k h d (node block_statement j c nothing)) = given_if (idles b && (declares_no_name k d && has_no_loop c)) (record { kind = block_statement; note = j; below = c })
+try_runs i b (node k h d (absent nothing)) = given_if (idles b && declares_no_name k d) (record { kind = block_statement; note = i; below = b })
+try_runs i b rest = None
+
+abbrev pub try_becomes : (below : Forest) → Option Tree
+try_becomes (node block_statement i b rest) = try_runs i b rest
+try_becomes below = None
+
 abbrev pub if_becomes : (note : Note) → Kind → (below : Forest) → Option Tree
 if_becomes n if_statement (node t m a branches) = what_runs n (truth_known t m a) branches
+if_becomes n try_statement below = try_becomes below
 if_becomes n k below = None
 
 -- ---- as a rule of a walk

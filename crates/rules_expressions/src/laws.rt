@@ -22,6 +22,7 @@ ghost use Rattle.steps_allowed.specs.DeadIf.{DeadIf};
 ghost use Rattle.steps_allowed.specs.Unreached.{Unreached};
 ghost use Rattle.steps_allowed.specs.Untaken.{Untaken};
 ghost use Rattle.steps_allowed.specs.IdleStatement.{IdleStatement};
+ghost use Rattle.steps_allowed.specs.IdleTry.{IdleTry};
 ghost use Rattle.steps_allowed.specs.UnrunValue.{UnrunValue};
 ghost use Rattle.steps_allowed.specs.Edits.{TreeEdits};
 ghost use Rattle.steps_allowed.specs.Uses.{use_at};
@@ -36,7 +37,7 @@ ghost use Rattle.rules_expressions.specs.Sequences.{sequence_left};
 ghost use Rattle.rules_expressions.specs.TwoSides.{two_sides_become};
 ghost use Rattle.rules_expressions.specs.Objects.{object_left};
 ghost use Rattle.rules_expressions.specs.Operations.{known_becomes};
-ghost use Rattle.rules_expressions.specs.Ifs.{if_becomes};
+ghost use Rattle.rules_expressions.specs.Ifs.{if_becomes, IfEdit};
 ghost use Rattle.rules_expressions.specs.Jumps.{list_reached};
 ghost use Rattle.rules_expressions.specs.Untaken.{if_left};
 ghost use Rattle.rules_expressions.specs.Settled.{IsSettled};
@@ -63,7 +64,7 @@ pub fn answers_are_edits()
     ensures two_sides { (a : Around) (x y : Tree) (rest : Forest) → two_sides_become (spot_of (place_at a)) x.note x.kind x.below ≡ Some y → TwoSides (before a rest) x y }
     ensures object { (a : Around) (x y : Tree) (rest : Forest) → object_left (spot_of (place_at a)) x.note x.kind x.below ≡ Some y → UnusedObject (before a rest) x y }
     ensures known { (a : Around) (x y : Tree) (rest : Forest) → known_becomes x.note x.kind x.below ≡ Some y → KnownOperation (before a rest) x y }
-    ensures statement { (x y : Tree) → if_becomes x.note x.kind x.below ≡ Some y → KnownIf x y ⊎ DeadIf x y }
+    ensures statement { (x y : Tree) → if_becomes x.note x.kind x.below ≡ Some y → IfEdit x y }
     ensures untaken { (a : Around) (x y : Tree) (rest : Forest) → if_left x.note x.kind x.below ≡ Some y → TreeEdits (plug a (node x.kind x.note x.below rest)) (plug a (node y.kind y.note y.below rest)) }
     ensures items { (a : Around) (x y : Tree) (rest : Forest) → list_reached x.note x.kind x.below ≡ Some y → TreeEdits (plug a (node x.kind x.note x.below rest)) (plug a (node y.kind y.note y.below rest)) }
 {}
@@ -83,6 +84,7 @@ pub fn edits_are_answers()
     ensures object { (a : Around) (x z : Tree) (rest : Forest) → UnusedObject (before a rest) x z → (y : Tree) × (object_left (spot_of (place_at a)) x.note x.kind x.below ≡ Some y) × (bare (forest_of y) ≡ bare (forest_of z)) }
     ensures known { (a : Around) (x z : Tree) (rest : Forest) → KnownOperation (before a rest) x z → (y : Tree) × (known_becomes x.note x.kind x.below ≡ Some y) × (bare (forest_of y) ≡ bare (forest_of z)) }
     ensures known_if { (x y : Tree) → KnownIf x y → if_becomes x.note x.kind x.below ≡ Some y }
+    ensures idle_try { (x y : Tree) → IdleTry x y → if_becomes x.note x.kind x.below ≡ Some y }
     ensures dead_if { (x z : Tree) → DeadIf x z → (y : Tree) × (if_becomes x.note x.kind x.below ≡ Some y) × (bare (forest_of y) ≡ bare (forest_of z)) }
 {}
 
@@ -102,6 +104,7 @@ pub fn what_is_settled_has_no_edits()
     ensures dead_if { (t : Forest) → IsSettled t → (a : places.Around) (x y : Tree) → t ≡ places.plug a (Some x) → DeadIf x y → ⊥ }
     ensures unreached { (t : Forest) → IsSettled t → (a : places.Around) (x : Tree) → t ≡ places.plug a (Some x) → Unreached a x → ⊥ }
     ensures untaken { (t : Forest) → IsSettled t → (a : places.Around) (x : Tree) → t ≡ places.plug a (Some x) → Untaken a x → ⊥ }
+    ensures idle_try { (t : Forest) → IsSettled t → (a : places.Around) (x y : Tree) → t ≡ places.plug a (Some x) → IdleTry x y → ⊥ }
     ensures idle { (t : Forest) → IsSettled t → (a : places.Around) (x : Tree) → t ≡ places.plug a (Some x) → IdleStatement a x → ⊥ }
     ensures unrun { (t : Forest) → IsSettled t → (a : places.Around) (x y : Tree) → t ≡ places.plug a (Some x) → UnrunValue a x y → ⊥ }
     ensures settled { (t : Forest)
@@ -121,5 +124,6 @@ pub fn what_is_settled_has_no_edits()
         → ((a : places.Around) (x : Tree) → t ≡ places.plug a (Some x) → Untaken a x → ⊥)
         → ((a : places.Around) (x : Tree) → t ≡ places.plug a (Some x) → IdleStatement a x → ⊥)
         → ((a : places.Around) (x y : Tree) → t ≡ places.plug a (Some x) → UnrunValue a x y → ⊥)
+        → ((a : places.Around) (x y : Tree) → t ≡ places.plug a (Some x) → IdleTry x y → ⊥)
         → IsSettled t }
 {}

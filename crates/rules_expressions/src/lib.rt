@@ -10,7 +10,7 @@
 //! leave that don't act, but the last. `specs/TwoSides.antt` has that of comparisons of which nobody takes the value and both sides act:
 //! they become a sequence of these. `specs/Objects.antt` has that of object literals of which nobody takes the value: the values of their
 //! properties are left that act. `specs/Operations.antt` has that of operations that don't act and of which the value is known: they become a
-//! literal of it, wherever they stand. `specs/Ifs.antt` has that of statements `if` on a test that is known: they become the branch that
+//! literal of it, or unary minus on one, wherever they stand. `specs/Ifs.antt` has that of statements `if` on a test that is known: they become the branch that
 //! runs, or empty where there is none. `laws` states that what the context of a walk tells of a place
 //! is so, that a rule has an answer exactly where the edit of steps_allowed applies that it makes (of several operations it answers
 //! what the last edit leaves), and that they change nothing of a program exactly where no such edit applies (`specs/Settled.antt`),

@@ -112,14 +112,18 @@ pub fn one_branch_left()
 {}
 
 /// Of a sequence whose value is used the parts leave that don't act, but the last, and that stands there itself where it is left alone.
-/// A member that is called stays in the sequence (13.3.6.2), and a function, which might take a name (8.4).
+/// A member that is called keeps one zero before it (13.3.6.2), and so does a function, which might take a name (8.4).
 pub fn sequences_left()
     ensures last { left_of (uses (sequence (one ∷ reads a ∷ []))) ≡ doing (uses (reads a)) }
     ensures several { left_of (uses (sequence (calls (reads a) ∷ one ∷ reads a ∷ []))) ≡ doing (uses (sequence (calls (reads a) ∷ reads a ∷ []))) }
     ensures literal_last { left_of (uses (sequence (calls (reads a) ∷ one ∷ []))) ≡ doing (uses (sequence (calls (reads a) ∷ one ∷ []))) }
-    ensures member { left_of (calls (sequence (one ∷ member ∷ []))) ≡ doing (calls (sequence (one ∷ member ∷ []))) }
+    ensures member { left_of (calls (sequence (one ∷ member ∷ []))) ≡ doing (calls (indirect member)) }
+    ensures members { left_of (calls (sequence (one ∷ null ∷ member ∷ []))) ≡ doing (calls (indirect member)) }
+    ensures zero { left_of (calls (indirect member)) ≡ doing (calls (indirect member)) }
+    ensures parenthesized { left_of (calls (sequence (parenthesized one ∷ member ∷ []))) ≡ doing (calls (indirect member)) }
+    ensures acts { left_of (calls (sequence (one ∷ calls (reads a) ∷ member ∷ []))) ≡ doing (calls (sequence (calls (reads a) ∷ member ∷ []))) }
     ensures name { left_of (calls (sequence (one ∷ reads b ∷ []))) ≡ doing (calls (reads b)) }
-    ensures function { left_of (uses (sequence (one ∷ a_function ∷ []))) ≡ doing (uses (sequence (one ∷ a_function ∷ []))) }
+    ensures function { left_of (uses (sequence (one ∷ a_function ∷ []))) ≡ doing (uses (indirect a_function)) }
 {}
 
 /// Where nobody takes the value of a comparison, and both sides act, it becomes a sequence of these. No name is known.
@@ -158,8 +162,8 @@ pub fn known_values_left()
     ensures in_condition { left_of (uses (conditional (binary binary_operator.StrictEquality (word a) (word b)) (reads a) (reads b))) ≡ doing (uses (reads b)) }
 {}
 
-/// It stays where no literal has its value: a negative number is written with an operator again, and `undefined` is a name. It stays
-/// where the value isn't known, as a fraction, and where a number is joined to a text.
+/// It stays where it is the sign of a negative number, and where no literal has its value, as `undefined` is a name. It stays where the
+/// value isn't known, as a fraction, and where a number is joined to a text.
 pub fn operations_without_a_literal()
     ensures negative { left_of (uses (unary unary_operator.UnaryNegation (number 1))) ≡ doing (uses (unary unary_operator.UnaryNegation (number 1))) }
     ensures mixed { left_of (uses (binary binary_operator.Addition (word a) (number 1))) ≡ doing (uses (binary binary_operator.Addition (word a) (number 1))) }

@@ -8,12 +8,13 @@ use Rattle.json_text.specs.Fault.{untyped}
 use Rattle.json_shape.specs.Shape.{Fits}
 use Rattle.json_shape.proofs.FittingNodes.{nodes_fit}
 use Rattle.scope_rules.specs.Table.{Scoping}
+use Rattle.headline.proofs.Headline.{headline_of}
 use Rattle.headline_text.proofs.Promise.{text_headline}
 use Rattle.min_driver.specs.Left.{IsShaken}
 use Rattle.min_driver.specs.Minify.{IsCleanBy}
 use Rattle.min_options.specs.Options.{IsDce}
 use Rattle.min_options.specs.declared.options.CompressOptions.{CompressOptions}
-use Rattle.min_peephole.proofs.Keeping.{dce_clean}
+use Rattle.min_driver.proofs.Leaves.{dce_clean}
 use Rattle.shake.specs.Run.{WasRead, dce_output, Shaken, IsDceOutput, IsInUtf8}
 
 -- what was read fits the table of node types
@@ -23,7 +24,7 @@ read_fits t (bytes, is) = nodes_fit 128 root untyped is.1.0 t is.1.2
 module _ (t u : Forest) (s : Scoping) (passes : ℕ) (o : Option CompressOptions) (options : CompressOptions) (asked : o ≡ Some options) (dce : IsDce options) (left : IsShaken o t u s passes) (form : IsWellFormed t) (utf8 : IsInUtf8 u) where
   shaken : WasRead t → Shaken t u passes
   shaken (bytes, is) = record {
-    headline = record { edits = left.edits; kept = left.kept; back = left.back; clean = dce_clean options u dce (subst (λ (o : Option CompressOptions). IsCleanBy o u) asked left.clean) };
+    headline = headline_of t u (read_fits t (bytes, is)) form left.edits (dce_clean options u dce (subst (λ (o : Option CompressOptions). IsCleanBy o u) asked left.clean));
     utf8 = utf8;
     text = text_headline bytes t u is form left.edits utf8;
     few = left.few;

@@ -1,15 +1,15 @@
--- In a tree that fits the table of node types each list of statements, each statement of an expression, each `if` and each import has its
--- own slot.
+-- In a tree that fits the table of node types each list of statements, each statement of an expression, each `if`, each `try` and each import
+-- has its own slot.
 use Rattle.std.proofs.Common.{◌≡◌, ◌∙◌, inl, inr, ℕ, ◌==◌, List, [], ◌∷◌, Bool, true, false, not, ◌&&◌, ◌||◌, if◌then◌else◌, Some, refl, sym, ap, true≢false}
 use Rattle.js_syntax.specs.Class.{Class, root, a_prologue, module_item, statement, expression, private_key, method_value, binding_value, target_value}
 use Rattle.js_syntax.specs.declared.node_kind.NodeKind.{NodeKind as Kind}
-use Rattle.js_syntax.specs.declared.node_kind.NodeKind.TheVariants.{Statements as statements, ExpressionStatement as expression_statement, IfStatement as if_statement, ImportDeclaration as import_declaration}
+use Rattle.js_syntax.specs.declared.node_kind.NodeKind.TheVariants.{Statements as statements, ExpressionStatement as expression_statement, IfStatement as if_statement, TryStatement as try_statement, ImportDeclaration as import_declaration}
 use Rattle.js_syntax.specs.declared.node_type.NodeType.TheVariants as type
 use Rattle.js_syntax.specs.declared.value.Key.{Key}
 use Rattle.js_syntax.specs.declared.value.Key.TheVariants.{Name as key_name, Below as key_below}
 use Rattle.js_syntax.specs.Field.{Keys, class_key, property_key}
 use Rattle.js_syntax.specs.Node.{Forest}
-use Rattle.js_syntax.specs.Table.{Row, an_expression_statement, an_if_statement, an_import_declaration, a_method_definition, a_property_definition, a_property, a_method_property, a_binding_property, a_target_property, fields_of, type_of, stands}
+use Rattle.js_syntax.specs.Table.{Row, an_expression_statement, an_if_statement, a_try_statement, an_import_declaration, a_method_definition, a_property_definition, a_property, a_method_property, a_binding_property, a_target_property, fields_of, type_of, stands}
 use Rattle.json_shape.specs.Shape.{Values, kind_in, IsChosen, first_of, Place as Planned, one, maybe_one, beyond, key_node, key_apart, list, list_with_holes, body, item_or_hole, item_of_body, key_place, places, Plan, IsOf, IsAt, Fits}
 use Rattle.json_shape.proofs.Choice.{is_list_kind}
 use Rattle.min_context.specs.Above.{parent_of}
@@ -28,6 +28,7 @@ abbrev pub is_watched : Kind → Bool
 is_watched statements = true
 is_watched expression_statement = true
 is_watched if_statement = true
+is_watched try_statement = true
 is_watched (import_declaration source) = true
 is_watched k = false
 
@@ -50,12 +51,14 @@ statement_slot false false e = absurd (true≢false e)
 pub slot_of_statement : (a : Ancestor) (k : Kind) → is_always_statement k ≡ true → is_missed a ≡ false → outer_slot a k ≡ outer.Statement
 slot_of_statement a expression_statement is e = statement_slot (is_key_place a) (is_statement_place a) e
 slot_of_statement a if_statement is e = statement_slot (is_key_place a) (is_statement_place a) e
+slot_of_statement a try_statement is e = statement_slot (is_key_place a) (is_statement_place a) e
 slot_of_statement a (import_declaration source) is e = statement_slot (is_key_place a) (is_statement_place a) e
 slot_of_statement a k is e = absurd (true≢false (sym is))
 
 pub watched : (k : Kind) → is_always_statement k ≡ true → is_watched k ≡ true
 watched expression_statement is = refl
 watched if_statement is = refl
+watched try_statement is = refl
 watched (import_declaration source) is = refl
 watched k is = absurd (true≢false (sym is))
 
@@ -92,6 +95,11 @@ may_class_if module_item e = refl
 may_class_if statement e = refl
 may_class_if c e = absurd Prim.cc
 
+may_class_try : (c : Class) → stands c type.TryStatement ≡ Some a_try_statement → may_be_statement c ≡ true
+may_class_try module_item e = refl
+may_class_try statement e = refl
+may_class_try c e = absurd Prim.cc
+
 may_class_import : (c : Class) → stands c type.ImportDeclaration ≡ Some an_import_declaration → may_be_statement c ≡ true
 may_class_import module_item e = refl
 may_class_import c e = absurd Prim.cc
@@ -99,6 +107,7 @@ may_class_import c e = absurd Prim.cc
 may_row : (c : Class) (r : Row) (vs : Values (fields_of r)) → stands c (type_of r) ≡ Some (first_of r) → is_watched (kind_in r vs) ≡ true → may_be_statement c ≡ true
 may_row c an_expression_statement vs e h = may_class c e
 may_row c an_if_statement vs e h = may_class_if c e
+may_row c a_try_statement vs e h = may_class_try c e
 may_row c an_import_declaration vs e h = may_class_import c e
 may_row c r vs e h = absurd (true≢false (sym h))
 

@@ -1,7 +1,7 @@
 -- Which slots a node has, wherever the table of node types lets it stand.
 use Rattle.std.specs.Prelude.{◌≡◌, Bool, true, false, not, ◌&&◌}
 use Rattle.js_syntax.specs.declared.node_kind.NodeKind.{NodeKind as Kind}
-use Rattle.js_syntax.specs.declared.node_kind.NodeKind.TheVariants.{Statements as statements, ExpressionStatement as expression_statement, IfStatement as if_statement, ImportDeclaration as import_declaration, CallExpression as call_expression, MemberExpression as member_expression, Literal as literal, Function as function}
+use Rattle.js_syntax.specs.declared.node_kind.NodeKind.TheVariants.{Statements as statements, ExpressionStatement as expression_statement, IfStatement as if_statement, TryStatement as try_statement, ImportDeclaration as import_declaration, CallExpression as call_expression, MemberExpression as member_expression, Literal as literal, Function as function}
 use Rattle.js_syntax.specs.Node.{Tree}
 use Rattle.min_context.specs.Place.{Place}
 use Rattle.min_traverse.specs.Slot.{is_expression, outer_slot, middle_slot}
@@ -13,6 +13,7 @@ use Rattle.min_traverse.specs.declared.slot.Middle.TheVariants as middle
 abbrev pub is_always_statement : Kind → Bool
 is_always_statement expression_statement = true
 is_always_statement if_statement = true
+is_always_statement try_statement = true
 is_always_statement (import_declaration source) = true
 is_always_statement k = false
 

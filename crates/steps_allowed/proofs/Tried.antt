@@ -1,5 +1,5 @@
 -- The definitions, tried on small programs.
-use Rattle.std.proofs.Common.{◌≡◌, ◌∙◌, ℕ, Some, None, List, [], ◌∷◌, pos, Bool, true, false, true≢false, codes, inl, inr, refl, sym, ap}
+use Rattle.std.proofs.Common.{negsuc, ◌≡◌, ◌∙◌, ℕ, Some, None, List, [], ◌∷◌, pos, Bool, true, false, true≢false, codes, inl, inr, refl, sym, ap}
 use Rattle.js_syntax.specs.declared.node_kind.NodeKind.{NodeKind as Kind}
 use Rattle.js_syntax.specs.declared.kind.VariableKind.{VariableKind}
 use Rattle.js_syntax.specs.declared.kind.VariableKind.TheVariants as variable
@@ -10,7 +10,7 @@ use Rattle.js_syntax.specs.declared.value.Key.TheVariants as key
 use Rattle.js_syntax.specs.declared.value.LiteralValue.{LiteralValue}
 use Rattle.js_syntax.specs.declared.value.LiteralValue.TheVariants as value
 use Rattle.js_syntax.specs.Node.{Forest, Tree, Note, nothing, node, absent, nowhere, joined}
-use Rattle.form_rules.specs.Samples.{a_module, a, binds, reads, listed, no, one, does, declares, let_, var_, function_a, block}
+use Rattle.form_rules.specs.Samples.{over, a_module, a, binds, reads, listed, no, one, does, declares, let_, var_, function_a, block}
 use Rattle.scope_rules.specs.Context.{body_of}
 use Rattle.scope_rules.specs.Binding.{named_in}
 use Rattle.scope_rules.specs.Samples.{imports}
@@ -23,12 +23,14 @@ use Rattle.steps_allowed.specs.SilentStatement.{SilentStatement, silent_statemen
 use Rattle.steps_allowed.specs.EmptyStatement.{empty_statement_leaves}
 use Rattle.steps_allowed.specs.UnusedFunction.{unused_function_leaves}
 use Rattle.steps_allowed.specs.UnusedImport.{unused_import_leaves}
+use Rattle.steps_allowed.specs.RepeatedImport.{repeated_import_leaves}
 use Rattle.steps_allowed.specs.UnusedDeclaration.{a_declaration, SilentDeclaration, unused_declaration_leaves}
 use Rattle.steps_allowed.specs.KnownConditional.{a_conditional, KnownConditional, consequent_is_taken, alternate_is_taken}
 use Rattle.steps_allowed.specs.KnownSide.{right_side_counts, left_side_decides}
 use Rattle.steps_allowed.specs.KnownIf.{an_if, KnownIf, consequent_is_run, alternate_is_run}
 use Rattle.steps_allowed.specs.Unreached.{Unreached, never_runs}
 use Rattle.steps_allowed.specs.Untaken.{Untaken, never_taken}
+use Rattle.steps_allowed.specs.IdleTry.{IdleTry, finalizer_is_run, finalizer_is_run_alone, block_is_run}
 use Rattle.steps_allowed.specs.IdleStatement.{IdleStatement, idle_leaves}
 use Rattle.steps_allowed.specs.UnrunValue.{UnrunValue, value_never_given}
 use Rattle.steps_allowed.specs.EmptyBlock.{EmptyBlock, empty_block_leaves}
@@ -40,9 +42,9 @@ use Rattle.steps_allowed.specs.OneSidedChoice.{one_branch_acts}
 use Rattle.steps_allowed.specs.IdleParts.{idle_parts_leave}
 use Rattle.steps_allowed.specs.TwoSides.{both_sides_act}
 use Rattle.steps_allowed.specs.UnusedObject.{acting_values_stay}
-use Rattle.steps_allowed.specs.KnownOperation.{known_literal, value_is_known}
-use Rattle.steps_allowed.specs.Edits.{Edit, leaves, becomes, empty_statement, empty_block, silent_statement, unused_function, unused_declaration, unused_import, unreached, untaken, idle_statement, known_conditional, known_side, known_if, dead_if, unused_operation, unused_list, indirect_choice, one_sided_choice, idle_parts, two_sides, unused_object, known_operation, unrun_value}
-use Rattle.steps_allowed.specs.Rows.{labeled, branch_of_if, in_branch, in_function, in_function_by, value_of_a, zero, loop, debugger, throwing_block, throwing_branch, broken_label, past, in_list, before, throws, behind_throw, call_of_a, null, if_one, if_null, either_way, conditional, logical, may_be_named, o_f, parenthesized, in_statement, called, called_in_parentheses, called_in_with, argument, operand, applied, equals, assigned, statement, ComesOut, Stays, StaysUnused, array, spread, hole, sequence, ListStays, ChoiceStays, PartsStay, SidesStay, object, a_is, b_is, getter_of_a, ObjectStays, literal, operation, OperationStays, behind_zero, placed, StaysDirect, with_a, in_with_a, empty, a_is_read, a_is_exported, imports_nothing, only_import, tried, tried_finally, while_, for_, loop}
+use Rattle.steps_allowed.specs.KnownOperation.{known_literal, value_is_known, negative_is_known}
+use Rattle.steps_allowed.specs.Edits.{Edit, leaves, becomes, empty_statement, empty_block, silent_statement, unused_function, unused_declaration, unused_import, unreached, untaken, idle_statement, repeated_import, known_conditional, known_side, known_if, dead_if, unused_operation, unused_list, indirect_choice, one_sided_choice, idle_parts, two_sides, unused_object, known_operation, unrun_value, idle_try}
+use Rattle.steps_allowed.specs.Rows.{breaks_label, labeled_too, labeled, branch_of_if, in_branch, in_function, in_function_by, value_of_a, zero, loop, debugger, throwing_block, throwing_branch, broken_label, past, in_list, before, throws, behind_throw, call_of_a, null, if_one, if_null, either_way, conditional, logical, may_be_named, o_f, parenthesized, in_statement, called, called_in_parentheses, called_in_with, argument, operand, applied, equals, assigned, statement, ComesOut, Stays, StaysUnused, array, spread, hole, sequence, ListStays, ChoiceStays, PartsStay, SidesStay, object, a_is, b_is, getter_of_a, ObjectStays, literal, operation, OperationStays, behind_zero, placed, StaysDirect, with_a, in_with_a, empty, a_is_read, a_is_exported, imports_nothing, behind_import, only_import, tried, tried_finally, finally_alone, while_, for_, loop}
 
 pub empties_in_list : Edit (a_module (does one ∷ [])) (a_module (empty ∷ []))
 empties_in_list = becomes (before []) _ _ (silent_statement (silent_statement_empties nowhere nowhere nowhere _ nothing (inl refl, tt)))
@@ -94,6 +96,12 @@ exported_stays h = h.unexported _ (inl refl) refl refl
 
 pub import_goes : Edit (a_module (imports a ∷ [])) (a_module (imports_nothing ∷ []))
 import_goes = leaves only_import _ (unused_import (unused_import_leaves Kind.ImportDefaultSpecifier nowhere nowhere a refl refl refl (record { unreferred = λ r h e. h; unexported = λ e h s d. h })))
+
+pub import_goes_behind_bare : Edit (a_module (imports_nothing ∷ imports_nothing ∷ [])) (a_module (imports_nothing ∷ []))
+import_goes_behind_bare = leaves (in_list (behind (Kind.ImportDeclaration (codes "m")) nowhere (listed Kind.Specifiers []) (first nothing))) _ (repeated_import (repeated_import_leaves (codes "m") nowhere nowhere refl refl))
+
+pub import_goes_behind_names : Edit (a_module (imports a ∷ imports_nothing ∷ [])) (a_module (imports a ∷ []))
+import_goes_behind_names = leaves behind_import _ (repeated_import (repeated_import_leaves (codes "m") nowhere nowhere refl refl))
 
 pub imported_read_stays : IsFree (a_module (imports a ∷ does (reads a) ∷ [])) (named_in a (body_of 0)) → ⊥
 imported_read_stays h = h.unreferred _ (inl refl) refl
@@ -395,7 +403,16 @@ last_part_stays = becomes argument _ _ (idle_parts (idle_parts_leave nowhere now
 pub acting_parts_and_last_stay : Edit (placed argument (sequence (call_of_a ∷ one ∷ reads a ∷ []))) (placed argument (sequence (call_of_a ∷ reads a ∷ [])))
 acting_parts_and_last_stay = becomes argument _ _ (idle_parts (idle_parts_leave nowhere nowhere _ _ refl))
 
-pub called_member_stays_behind : PartsStay called (sequence (one ∷ o_f ∷ []))
+pub member_keeps_a_zero : Edit (placed called (sequence (one ∷ o_f ∷ []))) (placed called (behind_zero o_f))
+member_keeps_a_zero = becomes called _ _ (idle_parts (idle_parts_leave nowhere nowhere _ _ refl))
+
+pub member_keeps_one_zero : Edit (placed called (sequence (one ∷ zero ∷ o_f ∷ []))) (placed called (behind_zero o_f))
+member_keeps_one_zero = becomes called _ _ (idle_parts (idle_parts_leave nowhere nowhere _ _ refl))
+
+pub typed_name_keeps_a_zero : Edit (placed (operand unary.Typeof) (sequence (null ∷ reads a ∷ []))) (placed (operand unary.Typeof) (behind_zero (reads a)))
+typed_name_keeps_a_zero = becomes (operand unary.Typeof) _ _ (idle_parts (idle_parts_leave nowhere nowhere _ _ refl))
+
+pub called_member_stays_behind : PartsStay called (sequence (zero ∷ o_f ∷ []))
 called_member_stays_behind y (idle_parts_leave n m _ _ is) = no_list is
 
 pub acting_parts_all_stay : PartsStay argument (sequence (call_of_a ∷ one ∷ []))
@@ -452,20 +469,38 @@ comparison_is_known = becomes_literal (Kind.BinaryExpression binary.LessThan) _ 
 pub texts_are_joined : Edit (placed argument (operation binary.Addition (value.Text (codes "a")) (value.Text (codes "b")))) (placed argument (literal (value.Text (codes "ab"))))
 texts_are_joined = becomes_literal (Kind.BinaryExpression binary.Addition) _ _ refl
 
+pub difference_is_known : Edit (placed argument (operation binary.Subtraction (value.Number (pos 1)) (value.Number (pos 3)))) (placed argument (applied unary.UnaryNegation (literal (value.Number (pos 2)))))
+difference_is_known = becomes argument _ _ (known_operation (negative_is_known nowhere nowhere 1 (record { kind = Kind.BinaryExpression binary.Subtraction; note = nowhere; below = joined (literal (value.Number (pos 1))) (literal (value.Number (pos 3))) }) refl))
+
 no_literal : {v : LiteralValue} → None ≡ Some v → ⊥
 no_literal e = cc
 
+no_negative : {n : ℕ} → None ≡ Some n → ⊥
+no_negative e = cc
+
 pub negative_stays : OperationStays argument (applied unary.UnaryNegation one)
 negative_stays _ (value_is_known i v _ is) = no_literal is
+negative_stays _ (negative_is_known i j n _ is) = no_negative is
+
+pub signed_stays : OperationStays argument (applied unary.UnaryPlus (literal (value.Number (negsuc 1))))
+signed_stays _ (value_is_known i v _ is) = no_literal is
+signed_stays _ (negative_is_known i j n _ is) = no_negative is
+
+pub zero_stays : OperationStays argument (applied unary.UnaryNegation (literal (value.Number (pos 0))))
+zero_stays _ (value_is_known i v _ is) = no_literal is
+zero_stays _ (negative_is_known i j n _ is) = no_negative is
 
 pub fraction_stays : OperationStays argument (operation binary.Division (value.Number (pos 1)) (value.Number (pos 2)))
 fraction_stays _ (value_is_known i v _ is) = no_literal is
+fraction_stays _ (negative_is_known i j n _ is) = no_negative is
 
 pub text_and_number_stay : OperationStays argument (operation binary.Addition (value.Text (codes "a")) (value.Number (pos 1)))
 text_and_number_stay _ (value_is_known i v _ is) = no_literal is
+text_and_number_stay _ (negative_is_known i j n _ is) = no_negative is
 
 pub type_of_name_stays : OperationStays argument (applied unary.Typeof (reads a))
 type_of_name_stays _ (value_is_known i v _ is) = no_literal is
+type_of_name_stays _ (negative_is_known i j n _ is) = no_negative is
 
 pub block_leaves : Edit (a_module (block [] ∷ [])) (a_module [])
 block_leaves = leaves (before []) _ (empty_block (empty_block_leaves refl refl))
@@ -589,6 +624,53 @@ tried_call_stays items n (idle_leaves item idle none) = true≢false (sym idle)
 
 pub idle_branch_stays : (x : Tree) → IdleStatement branch_of_if x → ⊥
 idle_branch_stays x (idle_leaves item idle none) = absurd cc
+
+pub label_left_at_once_leaves : Edit (a_module (labeled breaks_label ∷ [])) (a_module [])
+label_left_at_once_leaves = leaves (before []) _ (idle_statement (idle_leaves refl refl refl))
+
+pub block_left_at_once_leaves : Edit (a_module (labeled (block (breaks_label ∷ let_ a ∷ does call_of_a ∷ [])) ∷ [])) (a_module [])
+block_left_at_once_leaves = leaves (before []) _ (idle_statement (idle_leaves refl refl refl))
+
+pub labels_left_at_once_leave : Edit (a_module (labeled (labeled_too (block (block (breaks_label ∷ []) ∷ does call_of_a ∷ []))) ∷ [])) (a_module [])
+labels_left_at_once_leave = leaves (before []) _ (idle_statement (idle_leaves refl refl refl))
+
+pub other_label_stays : (items : List Forest) (n : Note) → IdleStatement (before items) (record { kind = Kind.LabeledStatement (codes "m"); note = n; below = block (breaks_label ∷ []) }) → ⊥
+other_label_stays items n (idle_leaves item idle none) = true≢false (sym idle)
+
+pub late_jump_stays : (items : List Forest) (n : Note) → IdleStatement (before items) (record { kind = Kind.LabeledStatement (codes "l"); note = n; below = block (does call_of_a ∷ breaks_label ∷ []) }) → ⊥
+late_jump_stays items n (idle_leaves item idle none) = true≢false (sym idle)
+
+pub inner_jump_stays : (items : List Forest) (n : Note) → IdleStatement (before items) (record { kind = Kind.LabeledStatement (codes "m"); note = n; below = block (broken_label ∷ does call_of_a ∷ []) }) → ⊥
+inner_jump_stays items n (idle_leaves item idle none) = true≢false (sym idle)
+
+pub finally_behind_jump_stays : (items : List Forest) (n : Note) → IdleStatement (before items) (record { kind = Kind.LabeledStatement (codes "l"); note = n; below = over Kind.TryStatement (joined (block (breaks_label ∷ [])) (joined no (block (does call_of_a ∷ [])))) }) → ⊥
+finally_behind_jump_stays items n (idle_leaves item idle none) = true≢false (sym idle)
+
+pub jump_with_variable_stays : (items : List Forest) (n : Note) → IdleStatement (before items) (record { kind = Kind.LabeledStatement (codes "l"); note = n; below = block (breaks_label ∷ var_ a ∷ []) }) → ⊥
+jump_with_variable_stays items n (idle_leaves item idle none) = true≢false (sym none)
+
+-- ---- a `try` around nothing
+
+pub finally_comes : Edit (a_module (finally_alone (does call_of_a ∷ []) ∷ [])) (a_module (block (does call_of_a ∷ []) ∷ []))
+finally_comes = becomes (before []) _ _ (idle_try (finalizer_is_run nowhere nowhere nowhere _ _ refl refl))
+
+pub handled_finally_comes : Edit (a_module (tried_finally (let_ a ∷ []) (does call_of_a ∷ []) ∷ [])) (a_module (block (does call_of_a ∷ []) ∷ []))
+handled_finally_comes = becomes (before []) _ _ (idle_try (finalizer_is_run_alone nowhere nowhere nowhere nowhere _ _ _ _ refl refl refl))
+
+pub branch_finally_comes : Edit (a_module (if_one (finally_alone (does call_of_a ∷ [])) ∷ [])) (a_module (if_one (block (does call_of_a ∷ [])) ∷ []))
+branch_finally_comes = becomes consequent _ _ (idle_try (finalizer_is_run nowhere nowhere nowhere _ _ refl refl))
+
+pub block_comes : Edit (a_module (if_one (tried (does call_of_a ∷ [])) ∷ [])) (a_module (if_one (block []) ∷ []))
+block_comes = becomes consequent _ _ (idle_try (block_is_run nowhere nowhere nowhere _ _ _ refl refl))
+
+pub trying_stays : (n : Note) (y : Tree) → IdleTry (record { kind = Kind.TryStatement; note = n; below = joined (block (does call_of_a ∷ [])) (joined no (block (does call_of_a ∷ []))) }) y → ⊥
+trying_stays n y (finalizer_is_run _ _ _ _ _ idle loops) = true≢false (sym idle)
+
+pub handler_with_variable_stays : (n : Note) (y : Tree) → IdleTry (record { kind = Kind.TryStatement; note = n; below = joined (block []) (joined (over Kind.CatchClause (joined (binds a) (block (var_ a ∷ [])))) (block (does call_of_a ∷ []))) }) y → ⊥
+handler_with_variable_stays n y (finalizer_is_run_alone _ _ _ _ _ _ _ _ idle none loops) = true≢false (sym none)
+
+pub loop_finally_stays : (n : Note) (y : Tree) → IdleTry (record { kind = Kind.TryStatement; note = n; below = joined (block []) (joined no (block (while_ (reads a) (does call_of_a) ∷ []))) }) y → ⊥
+loop_finally_stays n y (finalizer_is_run _ _ _ _ _ idle loops) = true≢false (sym loops)
 
 -- ---- values that are never given
 

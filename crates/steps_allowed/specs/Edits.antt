@@ -10,6 +10,7 @@ use Rattle.steps_allowed.specs.UnusedFunction.{UnusedFunction}
 use Rattle.steps_allowed.specs.UnusedDeclarator.{UnusedDeclarator}
 use Rattle.steps_allowed.specs.UnusedDeclaration.{UnusedDeclaration}
 use Rattle.steps_allowed.specs.UnusedImport.{UnusedImport}
+use Rattle.steps_allowed.specs.RepeatedImport.{RepeatedImport}
 use Rattle.steps_allowed.specs.Unreached.{Unreached}
 use Rattle.steps_allowed.specs.Untaken.{Untaken}
 use Rattle.steps_allowed.specs.IdleStatement.{IdleStatement}
@@ -27,6 +28,7 @@ use Rattle.steps_allowed.specs.TwoSides.{TwoSides}
 use Rattle.steps_allowed.specs.UnusedObject.{UnusedObject}
 use Rattle.steps_allowed.specs.KnownOperation.{KnownOperation}
 use Rattle.steps_allowed.specs.UnrunValue.{UnrunValue}
+use Rattle.steps_allowed.specs.IdleTry.{IdleTry}
 
 -- which items may leave the list in which they stand
 pub data Leaves (a : Around) (x : Tree) : Type 0 where
@@ -39,6 +41,7 @@ pub data Leaves (a : Around) (x : Tree) : Type 0 where
   unreached : Unreached a x → Leaves a x
   untaken : Untaken a x → Leaves a x
   idle_statement : IdleStatement a x → Leaves a x
+  repeated_import : RepeatedImport a x → Leaves a x
 
 -- which nodes may become others in their places
 pub data Becomes (a : Around) (x y : Tree) : Type 0 where
@@ -56,6 +59,7 @@ pub data Becomes (a : Around) (x y : Tree) : Type 0 where
   unused_object : UnusedObject a x y → Becomes a x y
   known_operation : KnownOperation a x y → Becomes a x y
   unrun_value : UnrunValue a x y → Becomes a x y
+  idle_try : IdleTry x y → Becomes a x y
 
 pub data Edit : (t u : Forest) → Type 0 where
   leaves : (a : Around) (x : Tree) → Leaves a x → Edit (plug a (Some x)) (without a)

@@ -14,6 +14,7 @@ pub mod UnusedDeclarator
 pub mod UnusedDeclaration
 pub mod Imports
 pub mod UnusedImport
+pub mod RepeatedImport
 pub mod SilentStatement
 pub mod KnownConditional
 pub mod KnownSide
@@ -31,6 +32,7 @@ pub mod Unreached
 pub mod Untaken
 pub mod IdleStatement
 pub mod UnrunValue
+pub mod IdleTry
 pub mod Edits
 pub mod Arranged
 pub mod Rows

@@ -47,9 +47,13 @@ throwing_block = block (block (throws one ∷ []) ∷ [])
 abbrev pub throwing_branch : (alternate : Forest) → Forest
 throwing_branch alternate = over Kind.IfStatement (joined (reads a) (joined (throws one) alternate))
 
+-- break l;
+abbrev pub breaks_label : Forest
+breaks_label = leaf (Kind.BreakStatement (Some (codes "l")))
+
 -- l: { break l; }
 abbrev pub broken_label : Forest
-broken_label = over (Kind.LabeledStatement (codes "l")) (block (leaf (Kind.BreakStatement (Some (codes "l"))) ∷ []))
+broken_label = over (Kind.LabeledStatement (codes "l")) (block (breaks_label ∷ []))
 
 abbrev pub debugger : Forest
 debugger = leaf Kind.DebuggerStatement
@@ -61,6 +65,10 @@ behind_throw = in_list (behind Kind.ThrowStatement nowhere one (first nothing))
 -- l: statement
 abbrev pub labeled : Forest → Forest
 labeled statement = over (Kind.LabeledStatement (codes "l")) statement
+
+-- m: statement
+abbrev pub labeled_too : Forest → Forest
+labeled_too statement = over (Kind.LabeledStatement (codes "m")) statement
 
 -- the place of the consequent of an `if`
 abbrev pub branch_of_if : Around
@@ -115,6 +123,10 @@ tried items = over Kind.TryStatement (joined (block []) (joined (over Kind.Catch
 -- the same with a finalizer
 abbrev pub tried_finally : (items finally : List Forest) → Forest
 tried_finally items finally = over Kind.TryStatement (joined (block []) (joined (over Kind.CatchClause (joined (binds a) (block items))) (block finally)))
+
+-- try {} finally { items }
+abbrev pub finally_alone : (items : List Forest) → Forest
+finally_alone items = over Kind.TryStatement (joined (block []) (joined no (block items)))
 
 -- while (test) body
 abbrev pub while_ : (test body : Forest) → Forest
@@ -319,3 +331,15 @@ imports_nothing = over (Kind.ImportDeclaration (codes "m")) (listed Kind.Specifi
 -- the place of the only name of a module's only import
 abbrev pub only_import : Around
 only_import = in_list (under (Kind.ImportDeclaration (codes "m")) nowhere (under Kind.Specifiers nowhere (first nothing) nothing) nothing)
+
+-- the place behind an import of a module that binds a name
+abbrev pub behind_import : Around
+behind_import = in_list (behind (Kind.ImportDeclaration (codes "m")) nowhere (listed Kind.Specifiers (over Kind.ImportDefaultSpecifier (binds a) ∷ [])) (first nothing))
+
+-- import 'n'; of another module
+abbrev pub imports_other : Forest
+imports_other = over (Kind.ImportDeclaration (codes "n")) (listed Kind.Specifiers [])
+
+-- the place behind that
+abbrev pub behind_other : Around
+behind_other = in_list (behind (Kind.ImportDeclaration (codes "n")) nowhere (listed Kind.Specifiers []) (first nothing))

@@ -1,5 +1,5 @@
 // Small programs that the definitions are tried on.
-ghost use Rattle.std.specs.Prelude.{pos, List, [], ◌∷◌, true, false, ◌≡◌, codes};
+ghost use Rattle.std.specs.Prelude.{pos, negsuc, List, [], ◌∷◌, true, false, ◌≡◌, codes};
 ghost use Rattle.js_syntax.specs.declared.kind.VariableKind.{VariableKind};
 ghost use Rattle.js_syntax.specs.declared.kind.VariableKind.TheVariants as variable;
 ghost use Rattle.js_syntax.specs.declared.node_kind.NodeKind.{NodeKind as Kind};
@@ -8,7 +8,7 @@ ghost use Rattle.js_syntax.specs.declared.operator.LogicalOperator.TheVariants a
 ghost use Rattle.js_syntax.specs.declared.operator.UnaryOperator.TheVariants as unary;
 ghost use Rattle.js_syntax.specs.declared.value.LiteralValue.TheVariants as value;
 ghost use Rattle.js_syntax.specs.Node.{Tree, Note, Forest, nothing, nowhere, joined};
-ghost use Rattle.form_rules.specs.Samples.{a_module, a, binds, reads, listed, no, one, does, declares, let_, var_, function_a, block};
+ghost use Rattle.form_rules.specs.Samples.{a_module, over, a, binds, reads, listed, no, one, does, declares, let_, var_, function_a, block};
 ghost use Rattle.scope_rules.specs.Context.{body_of};
 ghost use Rattle.scope_rules.specs.Binding.{named_in};
 ghost use Rattle.scope_rules.specs.Samples.{imports};
@@ -20,13 +20,15 @@ ghost use Rattle.steps_allowed.specs.UnusedDeclaration.{a_declaration, SilentDec
 ghost use Rattle.steps_allowed.specs.KnownConditional.{a_conditional, KnownConditional};
 ghost use Rattle.steps_allowed.specs.KnownIf.{an_if, KnownIf};
 ghost use Rattle.steps_allowed.specs.DeadIf.{DeadIf};
+ghost use Rattle.steps_allowed.specs.RepeatedImport.{is_asked_before};
 ghost use Rattle.steps_allowed.specs.Unreached.{Unreached};
 ghost use Rattle.steps_allowed.specs.Untaken.{Untaken};
 ghost use Rattle.steps_allowed.specs.IdleStatement.{IdleStatement};
 ghost use Rattle.steps_allowed.specs.UnrunValue.{UnrunValue};
+ghost use Rattle.steps_allowed.specs.IdleTry.{IdleTry};
 ghost use Rattle.steps_allowed.specs.EmptyBlock.{EmptyBlock};
 ghost use Rattle.steps_allowed.specs.Edits.{Edit};
-ghost use Rattle.steps_allowed.specs.Rows.{before, labeled, tried, tried_finally, while_, for_, loop, branch_of_if, in_list, past, in_branch, in_function, in_function_by, value_of_a, zero, debugger, throwing_block, throwing_branch, broken_label, throws, behind_throw, call_of_a, null, if_one, if_null, either_way, conditional, logical, may_be_named, o_f, parenthesized, called, called_in_parentheses, called_in_with, argument, operand, applied, equals, assigned, statement, ComesOut, Stays, StaysUnused, array, spread, hole, sequence, ListStays, ChoiceStays, PartsStay, SidesStay, object, a_is, b_is, getter_of_a, ObjectStays, literal, operation, OperationStays, behind_zero, placed, StaysDirect, with_a, in_with_a, empty, a_is_read, a_is_exported, imports_nothing};
+ghost use Rattle.steps_allowed.specs.Rows.{before, breaks_label, labeled, labeled_too, tried, tried_finally, finally_alone, while_, for_, loop, branch_of_if, in_list, past, in_branch, in_function, in_function_by, value_of_a, zero, debugger, throwing_block, throwing_branch, broken_label, throws, behind_throw, call_of_a, null, if_one, if_null, either_way, conditional, logical, may_be_named, o_f, parenthesized, called, called_in_parentheses, called_in_with, argument, operand, applied, equals, assigned, statement, ComesOut, Stays, StaysUnused, array, spread, hole, sequence, ListStays, ChoiceStays, PartsStay, SidesStay, object, a_is, b_is, getter_of_a, ObjectStays, literal, operation, OperationStays, behind_zero, placed, StaysDirect, with_a, in_with_a, empty, a_is_read, a_is_exported, imports_nothing, behind_import, behind_other};
 
 /// A statement of a literal becomes empty, in a list and alone, and leaves the list then.
 pub fn silent_statements_go()
@@ -65,6 +67,16 @@ pub fn what_is_used_stays()
 pub fn unused_names_of_imports_go()
     ensures unused { Edit (a_module (imports a ∷ [])) (a_module (imports_nothing ∷ [])) }
     ensures read { IsFree (a_module (imports a ∷ does (reads a) ∷ [])) (named_in a (body_of 0)) → ⊥ }
+{}
+
+/// An import without names goes behind another of its module, with names or without, and not behind one of another module, nor before
+/// one of its own.
+pub fn repeated_imports_go()
+    ensures bare { Edit (a_module (imports_nothing ∷ imports_nothing ∷ [])) (a_module (imports_nothing ∷ [])) }
+    ensures behind_names { Edit (a_module (imports a ∷ imports_nothing ∷ [])) (a_module (imports a ∷ [])) }
+    ensures behind { is_asked_before (codes "m") false behind_import ≡ true }
+    ensures other { is_asked_before (codes "m") false behind_other ≡ false }
+    ensures first { is_asked_before (codes "m") false (before (imports a ∷ [])) ≡ false }
 {}
 
 /// A conditional and an `if` on a test that is known become the branch that is taken.
@@ -135,8 +147,9 @@ pub fn what_is_not_taken_leaves()
     ensures function { (x : Tree) → Untaken (in_function null) x → ⊥ }
 {}
 
-/// A loop of which the test is false from the start leaves its list, and so do a `try` around nothing and what stands behind a label so,
-/// unless it declares a name around it. A loop that may turn stays, and so does a `try` of which the block or the finalizer holds something.
+/// A loop of which the test is false from the start leaves its list, and so do a `try` around nothing, what stands behind a label so, and
+/// what a jump to its label leaves at once, unless it declares a name around it. A loop that may turn stays, and so do a `try` of which the
+/// block or the finalizer holds something, and a labeled statement that does something before a jump leaves it, or in that.
 pub fn what_does_nothing_leaves()
     ensures while_loop { Edit (a_module (while_ null (block (does call_of_a ∷ let_ a ∷ [])) ∷ [])) (a_module []) }
     ensures for_loop { Edit (a_module (for_ null (does call_of_a) ∷ [])) (a_module []) }
@@ -150,6 +163,26 @@ pub fn what_does_nothing_leaves()
     ensures ends { (items : List Forest) (n : Note) → IdleStatement (before items) (record { kind = Kind.TryStatement; note = n; below = joined (block []) (joined no (block (does call_of_a ∷ []))) }) → ⊥ }
     ensures tries { (items : List Forest) (n : Note) → IdleStatement (before items) (record { kind = Kind.TryStatement; note = n; below = joined (block (does call_of_a ∷ [])) (joined no (block [])) }) → ⊥ }
     ensures branch { (x : Tree) → IdleStatement branch_of_if x → ⊥ }
+    ensures jumps { Edit (a_module (labeled breaks_label ∷ [])) (a_module []) }
+    ensures jumps_in_block { Edit (a_module (labeled (block (breaks_label ∷ let_ a ∷ does call_of_a ∷ [])) ∷ [])) (a_module []) }
+    ensures jumps_out { Edit (a_module (labeled (labeled_too (block (block (breaks_label ∷ []) ∷ does call_of_a ∷ []))) ∷ [])) (a_module []) }
+    ensures jumps_elsewhere { (items : List Forest) (n : Note) → IdleStatement (before items) (record { kind = Kind.LabeledStatement (codes "m"); note = n; below = block (breaks_label ∷ []) }) → ⊥ }
+    ensures jumps_late { (items : List Forest) (n : Note) → IdleStatement (before items) (record { kind = Kind.LabeledStatement (codes "l"); note = n; below = block (does call_of_a ∷ breaks_label ∷ []) }) → ⊥ }
+    ensures jumps_inside { (items : List Forest) (n : Note) → IdleStatement (before items) (record { kind = Kind.LabeledStatement (codes "m"); note = n; below = block (broken_label ∷ does call_of_a ∷ []) }) → ⊥ }
+    ensures jumps_finally { (items : List Forest) (n : Note) → IdleStatement (before items) (record { kind = Kind.LabeledStatement (codes "l"); note = n; below = over Kind.TryStatement (joined (block (breaks_label ∷ [])) (joined no (block (does call_of_a ∷ [])))) }) → ⊥ }
+    ensures jump_with_var { (items : List Forest) (n : Note) → IdleStatement (before items) (record { kind = Kind.LabeledStatement (codes "l"); note = n; below = block (breaks_label ∷ var_ a ∷ []) }) → ⊥ }
+{}
+
+/// A `try` around nothing becomes its finalizer, wherever it stands, or its block where it has none. It stays where its block holds something,
+/// its handler declares a variable of the function around, or labels around would reach a loop in its finalizer.
+pub fn a_try_around_nothing_comes_to_a_block()
+    ensures finalizer { Edit (a_module (finally_alone (does call_of_a ∷ []) ∷ [])) (a_module (block (does call_of_a ∷ []) ∷ [])) }
+    ensures handled { Edit (a_module (tried_finally (let_ a ∷ []) (does call_of_a ∷ []) ∷ [])) (a_module (block (does call_of_a ∷ []) ∷ [])) }
+    ensures branch { Edit (a_module (if_one (finally_alone (does call_of_a ∷ [])) ∷ [])) (a_module (if_one (block (does call_of_a ∷ [])) ∷ [])) }
+    ensures alone { Edit (a_module (if_one (tried (does call_of_a ∷ [])) ∷ [])) (a_module (if_one (block []) ∷ [])) }
+    ensures tries { (n : Note) (y : Tree) → IdleTry (record { kind = Kind.TryStatement; note = n; below = joined (block (does call_of_a ∷ [])) (joined no (block (does call_of_a ∷ []))) }) y → ⊥ }
+    ensures variable { (n : Note) (y : Tree) → IdleTry (record { kind = Kind.TryStatement; note = n; below = joined (block []) (joined (over Kind.CatchClause (joined (binds a) (block (var_ a ∷ [])))) (block (does call_of_a ∷ []))) }) y → ⊥ }
+    ensures loops { (n : Note) (y : Tree) → IdleTry (record { kind = Kind.TryStatement; note = n; below = joined (block []) (joined no (block (while_ (reads a) (does call_of_a) ∷ []))) }) y → ⊥ }
 {}
 
 /// The value of a declaration in a branch that isn't taken becomes a zero, in the head of a loop too. A name stays, and so does what stands
@@ -283,15 +316,19 @@ pub fn other_choices_stay()
     ensures used { ChoiceStays argument (conditional (reads a) call_of_a one) }
 {}
 
-/// Of a sequence the parts leave that don't act, but for the last. Where that is left alone it stands there itself.
+/// Of a sequence the parts leave that don't act, but for the last. Where that is left alone it stands there itself, or behind a zero.
 pub fn idle_parts_go()
     ensures all_but_the_last { Edit (placed argument (sequence (one ∷ reads a ∷ []))) (placed argument (reads a)) }
     ensures one_between { Edit (placed argument (sequence (call_of_a ∷ one ∷ reads a ∷ []))) (placed argument (sequence (call_of_a ∷ reads a ∷ []))) }
+    ensures called_member { Edit (placed called (sequence (one ∷ o_f ∷ []))) (placed called (behind_zero o_f)) }
+    ensures several { Edit (placed called (sequence (one ∷ zero ∷ o_f ∷ []))) (placed called (behind_zero o_f)) }
+    ensures typed_name { Edit (placed (operand unary.Typeof) (sequence (null ∷ reads a ∷ []))) (placed (operand unary.Typeof) (behind_zero (reads a))) }
 {}
 
-/// It stays where it matters that the last doesn't stand there itself, and where the parts before it act.
+/// It stays where a zero stands before a last part for which it matters that it doesn't stand there itself, and where the parts before
+/// it act.
 pub fn needed_parts_stay()
-    ensures called_member { PartsStay called (sequence (one ∷ o_f ∷ [])) }
+    ensures called_member { PartsStay called (sequence (zero ∷ o_f ∷ [])) }
     ensures acting { PartsStay argument (sequence (call_of_a ∷ one ∷ [])) }
 {}
 
@@ -320,19 +357,22 @@ pub fn other_objects_stay()
     ensures spread { ObjectStays statement (object (spread (reads a) ∷ [])) }
 {}
 
-/// An operation of which the value is known becomes a literal of it.
+/// An operation of which the value is known becomes a literal of it, or unary minus on one.
 pub fn known_operations_become_literals()
     ensures negation { Edit (placed argument (applied unary.LogicalNot (literal (value.Number (pos 0))))) (placed argument (literal (value.Boolean true))) }
     ensures type_name { Edit (placed argument (applied unary.Typeof one)) (placed argument (literal (value.Text (codes "number")))) }
     ensures sum { Edit (placed argument (operation binary.Addition (value.Number (pos 1)) (value.Number (pos 2)))) (placed argument (literal (value.Number (pos 3)))) }
     ensures texts { Edit (placed argument (operation binary.Addition (value.Text (codes "a")) (value.Text (codes "b")))) (placed argument (literal (value.Text (codes "ab")))) }
     ensures comparison { Edit (placed argument (operation binary.LessThan (value.Number (pos 1)) (value.Number (pos 2)))) (placed argument (literal (value.Boolean true))) }
+    ensures difference { Edit (placed argument (operation binary.Subtraction (value.Number (pos 1)) (value.Number (pos 3)))) (placed argument (applied unary.UnaryNegation (literal (value.Number (pos 2))))) }
 {}
 
-/// It stays where that is a negative number, where it is no whole number, where a number is joined to a text, and where the operand is a
-/// name.
+/// It stays where it is how a negative number is written, where its value is a negative zero or no whole number, where a number is joined
+/// to a text, and where the operand is a name.
 pub fn other_operations_stay()
     ensures negative { OperationStays argument (applied unary.UnaryNegation one) }
+    ensures signed { OperationStays argument (applied unary.UnaryPlus (literal (value.Number (negsuc 1)))) }
+    ensures zero { OperationStays argument (applied unary.UnaryNegation (literal (value.Number (pos 0)))) }
     ensures fraction { OperationStays argument (operation binary.Division (value.Number (pos 1)) (value.Number (pos 2))) }
     ensures mixed { OperationStays argument (operation binary.Addition (value.Text (codes "a")) (value.Number (pos 1))) }
     ensures name { OperationStays argument (applied unary.Typeof (reads a)) }

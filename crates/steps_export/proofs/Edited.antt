@@ -32,9 +32,10 @@ use Rattle.steps_allowed.specs.Branches.{declares_none}
 use Rattle.steps_allowed.specs.Unreached.{only_runs, never_runs}
 use Rattle.steps_allowed.specs.Untaken.{never_taken}
 use Rattle.steps_allowed.specs.IdleStatement.{idle_leaves}
+use Rattle.steps_allowed.specs.RepeatedImport.{import_of, repeated_import_leaves}
 use Rattle.steps_allowed.specs.UnrunValue.{value_never_given}
 use Rattle.steps_allowed.specs.DeadIf.{DeadIf, nothing_is_run}
-use Rattle.steps_allowed.specs.Edits.{Leaves, empty_statement, empty_block, unused_function, unused_declarator, unused_declaration, unused_import, unreached, untaken, idle_statement, Becomes, silent_statement, known_conditional, known_side, known_if, dead_if, unused_operation, unused_list, indirect_choice, one_sided_choice, idle_parts, two_sides, unused_object, known_operation, unrun_value, Edit, leaves, becomes, TreeEdits, no_tree_edit, one_tree_edit}
+use Rattle.steps_allowed.specs.Edits.{Leaves, empty_statement, empty_block, unused_function, unused_declarator, unused_declaration, unused_import, unreached, untaken, idle_statement, repeated_import, Becomes, silent_statement, known_conditional, known_side, known_if, dead_if, unused_operation, unused_list, indirect_choice, one_sided_choice, idle_parts, two_sides, unused_object, known_operation, unrun_value, idle_try, Edit, leaves, becomes, TreeEdits, no_tree_edit, one_tree_edit}
 use Rattle.steps_owed.specs.Kept.{is_program}
 use Rattle.steps_owed.specs.Owed.{ByPart, ByParts}
 use Rattle.steps_owed.specs.Part.{DeclaresNothing}
@@ -48,6 +49,7 @@ use Rattle.steps_owed.proofs.Inside.{enclosed_below, enclosed_rest}
 use Rattle.steps_owed.proofs.KnownConditional.{known_conditional_owes}
 use Rattle.steps_owed.proofs.KnownSide.{known_side_owes}
 use Rattle.steps_owed.proofs.KnownIf.{tested_row, known_if_owes}
+use Rattle.steps_owed.proofs.IdleTry.{idle_try_owes}
 use Rattle.steps_owed.proofs.UnusedOperation.{unused_operation_owes}
 use Rattle.steps_owed.proofs.UnusedList.{unused_list_owes}
 use Rattle.steps_owed.proofs.IndirectChoice.{indirect_choice_owes}
@@ -178,6 +180,10 @@ module _ (e : BindingSite) (top : e.layer.scope ≡ 0) where
   left a x (unreached (never_runs item jump runs none)) l fits h = never_running a x runs none l fits h
   left a x (untaken (never_taken item taken runs none)) l fits h = never_running a x runs none l fits h
   left a x (idle_statement (idle_leaves item idle none)) l fits h = never_running a x (idle_runs x.kind x.below idle) none l fits h
+  left a _ (repeated_import (repeated_import_leaves source n m item asked)) l fits h =
+      let x = import_of source n m in
+      settled a x None Anything fits (λ rest. refl) l (anywhere (Some x) false (λ at. outermost) 0 0 a)
+      (λ w c next some any. undeclared_stays e top x None (declares_nothing (forest_of x) refl (enclosed_alone_there a x.kind x.note x.below (fits_enclosed (plug a (Some x)) fits))) c next some) h
 
   changed : (a : Around) (x y : Tree) → Becomes a x y → Fits root (plug a (Some x)) → Among e (exported_declarations (plug a (Some x))) → ExportedBy (plug a (Some y))
   changed a x y (silent_statement (silent_statement_empties n m l k inner silent)) fits h =
@@ -203,6 +209,7 @@ module _ (e : BindingSite) (top : e.layer.scope ≡ 0) where
   changed a x y (two_sides c) fits h = parts_settled a x y (two_sides_owes a x y c) fits h
   changed a x y (unused_object c) fits h = parts_settled a x y (unused_object_owes a x y c) fits h
   changed a x y (known_operation c) fits h = parts_settled a x y (known_operation_owes a x y c) fits h
+  changed a x y (idle_try c) fits h = part_settled a x y (idle_try_owes a x y c) fits h
   changed a x y (unrun_value (value_never_given n _ given unrun drops)) fits h =
       undeclared_settled a x y (dropped x.kind drops).unasked (old_fits a n x given unrun drops fits) fits h
 

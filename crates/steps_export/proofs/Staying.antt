@@ -199,6 +199,7 @@ module _ (e : BindingSite) (top : e.layer.scope ≡ 0) (x : Tree) (holds : Bool 
 no_export : (all : Bool) (k : Kind) → gives_way k ≡ true → all || is_export k ≡ all
 no_export true k g = refl
 no_export false kind.IfStatement g = refl
+no_export false kind.TryStatement g = refl
 no_export false kind.ConditionalExpression g = refl
 no_export false (kind.LogicalExpression operator) g = refl
 no_export false (kind.UnaryExpression operator) g = refl

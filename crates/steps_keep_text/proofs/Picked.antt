@@ -1,16 +1,17 @@
--- What comes of an array, an object literal, a sequence, a choice, a comparison or an operation on literals counts no more.
+-- What comes of an array, an object literal, a sequence, a choice, a comparison or an operation of known value counts no more.
 use Rattle.std.proofs.Common.{◌≡◌, ◌≤◌, ◌+◌, ℕ, pos, arith, refl}
 use Rattle.js_syntax.specs.declared.node_kind.NodeKind.{NodeKind as Kind}
 use Rattle.js_syntax.specs.declared.node_kind.NodeKind.TheVariants.{EmptyStatement as empty_statement, ExpressionStatement as expression_statement, IfStatement as if_statement, ArrayExpression as array_expression, Elements as elements, ObjectExpression as object_expression, Properties as properties, BinaryExpression as binary_expression, SequenceExpression as sequence_expression, Expressions as expressions, ConditionalExpression as conditional_expression, LogicalExpression as logical_expression, UnaryExpression as unary_expression, Literal as literal}
 use Rattle.js_syntax.specs.declared.operator.BinaryOperator.{BinaryOperator}
 use Rattle.js_syntax.specs.declared.operator.UnaryOperator.{UnaryOperator}
+use Rattle.js_syntax.specs.declared.operator.UnaryOperator.TheVariants.{UnaryNegation}
 use Rattle.js_syntax.specs.declared.operator.LogicalOperator.{LogicalOperator}
 use Rattle.js_syntax.specs.declared.value.LiteralValue.{LiteralValue}
 use Rattle.js_syntax.specs.declared.value.LiteralValue.TheVariants as value
 use Rattle.js_syntax.specs.Node.{Forest, total}
 use Rattle.steps_owed.proofs.KnownSizes.{IsSmall}
 use Rattle.js_tree.specs.Count.{one_each}
-use Rattle.steps_marked.proofs.Picked.{SomeOf, none, stays, leaves, opens, absent_leaves, absent_stays, Picks, one_part, several, part_behind_zero, two_parts, known, zeroed, in_turn}
+use Rattle.steps_marked.proofs.Picked.{SomeOf, none, stays, leaves, opens, absent_leaves, absent_stays, Picks, one_part, several, part_behind_zero, last_behind_zero, two_parts, known, signed, zeroed, in_turn}
 
 -- counts by which what edits build counts no more than what it is built of
 pub record IsSparing (counts : Kind → ℕ) : Type 0 where
@@ -27,10 +28,13 @@ pub record IsSparing (counts : Kind → ℕ) : Type 0 where
   pub zero : (t : Kind) → one_each t ≡ 1 → counts (literal (value.Number (pos 0))) ≤ counts t
   pub of_one : (o : UnaryOperator) (w : LiteralValue) → IsSmall w → counts (literal w) ≤ counts (unary_expression o)
   pub of_two : (o : BinaryOperator) (w : LiteralValue) → IsSmall w → counts (literal w) ≤ counts (binary_expression o)
+  pub minus_of_one : (o : UnaryOperator) → counts (unary_expression UnaryNegation) ≤ counts (unary_expression o)
+  pub minus_of_two : (o : BinaryOperator) → counts (unary_expression UnaryNegation) ≤ counts (binary_expression o)
+  pub operand : (t : Kind) (w : LiteralValue) → one_each t ≡ 1 → IsSmall w → counts (literal w) ≤ counts t
 
 -- as they are where none of that is counted
-pub uncounted : (counts : Kind → ℕ) → counts empty_statement ≡ 0 → counts sequence_expression ≡ 0 → counts expressions ≡ 0 → ((w : LiteralValue) → IsSmall w → counts (literal w) ≡ 0) → ((o : LogicalOperator) → counts (logical_expression o) ≡ 0) → IsSparing counts
-uncounted counts empty sequence list small logical = record {
+pub uncounted : (counts : Kind → ℕ) → counts empty_statement ≡ 0 → counts sequence_expression ≡ 0 → counts expressions ≡ 0 → ((w : LiteralValue) → IsSmall w → counts (literal w) ≡ 0) → ((o : LogicalOperator) → counts (logical_expression o) ≡ 0) → counts (unary_expression UnaryNegation) ≡ 0 → IsSparing counts
+uncounted counts empty sequence list small logical minus = record {
   empty = Prim.omega (arith, empty);
   empty_if = Prim.omega (arith, empty);
   of_array = Prim.omega (arith, sequence);
@@ -44,6 +48,9 @@ uncounted counts empty sequence list small logical = record {
   zero = λ t h. Prim.omega (arith, small (value.Number (pos 0)) refl);
   of_one = λ o w h. Prim.omega (arith, small w h);
   of_two = λ o w h. Prim.omega (arith, small w h);
+  minus_of_one = λ o. Prim.omega (arith, minus);
+  minus_of_two = λ o. Prim.omega (arith, minus);
+  operand = λ t w h s. Prim.omega (arith, small w s);
 }
 
 module _ (counts : Kind → ℕ) where
@@ -64,9 +71,13 @@ module _ (counts : Kind → ℕ) where
   picked_counts spares (part_behind_zero conditional_expression l t o m i p d parts inner choice one some) = Prim.omega (arith, spares.of_conditional, spares.zero t one, some_counts some)
   picked_counts spares (part_behind_zero (logical_expression q) l t o m i p d parts inner choice one some) = Prim.omega (arith, spares.of_logical q, spares.zero t one, some_counts some)
   picked_counts spares (part_behind_zero k l t o m i p d parts inner choice one some) = absurd cc
+  picked_counts spares (last_behind_zero j l i m o p q b parts inner one some) = Prim.omega (arith, spares.zero j one, some_counts some)
   picked_counts spares (two_parts o parts left some) = Prim.omega (arith, spares.of_choice o, some_counts some)
   picked_counts spares (in_turn o m sides) = Prim.omega (arith, spares.of_comparison o)
   picked_counts spares (known (unary_expression o) below w operator small) = Prim.omega (arith, spares.of_one o w small)
   picked_counts spares (known (binary_expression o) below w operator small) = Prim.omega (arith, spares.of_two o w small)
   picked_counts spares (known k below w operator small) = absurd cc
+  picked_counts spares (signed (unary_expression o) t i m d rest w operator one small) = Prim.omega (arith, spares.minus_of_one o, spares.operand t w one small)
+  picked_counts spares (signed (binary_expression o) t i m d rest w operator one small) = Prim.omega (arith, spares.minus_of_two o, spares.operand t w one small)
+  picked_counts spares (signed k t i m d rest w operator one small) = absurd cc
   picked_counts spares (zeroed k below one) = Prim.omega (arith, spares.zero k one)

@@ -82,4 +82,7 @@ nodes_shed = counts_shed one_each (record {
   zero = λ t h. Prim.omega (arith, h);
   of_one = λ o w h. Prim.omega arith;
   of_two = λ o w h. Prim.omega arith;
+  minus_of_one = λ o. Prim.omega arith;
+  minus_of_two = λ o. Prim.omega arith;
+  operand = λ t w h s. Prim.omega (arith, h);
 })

@@ -24,6 +24,7 @@ use Rattle.steps_owed.proofs.Bare.{eval_alone}
 use Rattle.steps_owed.proofs.Expressions.{expression_declares_nothing}
 use Rattle.steps_owed.proofs.KnownSide.{known_side_owes}
 use Rattle.steps_owed.proofs.KnownIf.{known_if_owes}
+use Rattle.steps_owed.proofs.IdleTry.{idle_try_owes}
 use Rattle.steps_owed.proofs.UnusedOperation.{unused_operation_owes}
 use Rattle.steps_owed.proofs.UnusedList.{unused_list_owes}
 use Rattle.steps_owed.proofs.IndirectChoice.{indirect_choice_owes}
@@ -126,6 +127,7 @@ is_local t u (edits.becomes a x y (edits.silent_statement (silent_statement_empt
 is_local t u (edits.becomes a x y (edits.known_conditional c)) fits = by_part a x y (known_conditional_owes a x y c) fits
 is_local t u (edits.becomes a x y (edits.known_side c)) fits = by_part a x y (known_side_owes a x y c) fits
 is_local t u (edits.becomes a x y (edits.known_if c)) fits = by_part a x y (known_if_owes a x y c) fits
+is_local t u (edits.becomes a x y (edits.idle_try c)) fits = by_part a x y (idle_try_owes a x y c) fits
 is_local t u (edits.becomes a x y (edits.dead_if (nothing_is_run n m i o tested k d b truth none))) fits = record {
   place = place_of a;
   old = node if_statement n (node tested m d (node k i b (absent nothing))) (rest_of a);

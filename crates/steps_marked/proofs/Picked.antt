@@ -1,9 +1,11 @@
--- What an array, an object literal or a sequence comes to: one of its parts, or several in a sequence; what a choice does: one of its
--- parts behind a zero, or two of them as a logical expression; and what a comparison does: its sides in a sequence.
-use Rattle.std.proofs.Common.{◌≡◌, pos, Bool, true, false, Option, Some, None, if◌then◌else◌, refl, subst}
+-- What an array, an object literal or a sequence comes to: one of its parts, several in a sequence, or the last behind a zero; what a choice does: one of its
+-- parts behind a zero, or two of them as a logical expression; what a comparison does: its sides in a sequence; and what an operation does of
+-- which the value is known: a literal, or unary minus on one.
+use Rattle.std.proofs.Common.{◌≡◌, ℕ, suc, pos, Bool, true, false, not, Option, Some, None, if◌then◌else◌, refl, sym, subst, true≢false}
 use Rattle.js_syntax.specs.declared.node_kind.NodeKind.{NodeKind as Kind}
 use Rattle.js_syntax.specs.declared.node_kind.NodeKind.TheVariants.{ArrayExpression as array_expression, Elements as elements, ObjectExpression as object_expression, Properties as properties, BinaryExpression as binary_expression, SequenceExpression as sequence_expression, Expressions as expressions, ConditionalExpression as conditional_expression, LogicalExpression as logical_expression, UnaryExpression as unary_expression, Literal as literal}
 use Rattle.js_syntax.specs.declared.operator.BinaryOperator.{BinaryOperator}
+use Rattle.js_syntax.specs.declared.operator.UnaryOperator.TheVariants.{UnaryNegation}
 use Rattle.js_syntax.specs.declared.operator.LogicalOperator.{LogicalOperator}
 use Rattle.js_syntax.specs.declared.operator.LogicalOperator.TheVariants as logical
 use Rattle.js_syntax.specs.declared.value.LiteralValue.{LiteralValue}
@@ -13,20 +15,23 @@ use Rattle.min_pass.specs.Around.{outermost as asked_of_program}
 use Rattle.scope_laws.specs.Place.{Around}
 use Rattle.scope_laws.proofs.Bindings.{same_value}
 use Rattle.js_tree.specs.Count.{one_each}
+use Rattle.js_tree.specs.Walk.{is_list}
+use Rattle.js_syntax.proofs.Truth.{first_of_both}
 use Rattle.steps_allowed.specs.IndirectChoice.{IndirectChoice, value_alone_counts}
 use Rattle.steps_allowed.specs.OneSidedChoice.{sides, one_side, one_sided, OneSidedChoice, one_branch_acts}
-use Rattle.steps_allowed.specs.IdleParts.{stays_before, counting, all_count, as_value_of, sequence_becomes, IdleParts, idle_parts_leave}
+use Rattle.steps_allowed.specs.IdleParts.{stays_before, counting, all_count, more_before, itself_or_behind, as_value_of, sequence_becomes, IdleParts, idle_parts_leave}
 use Rattle.steps_allowed.specs.TwoSides.{two_sides, TwoSides, both_sides_act}
 use Rattle.steps_allowed.specs.UnusedObject.{are_plain, acting_values, object_becomes, UnusedObject, acting_values_stay}
-use Rattle.steps_allowed.specs.KnownOperation.{KnownOperation, value_is_known}
+use Rattle.steps_allowed.specs.KnownOperation.{is_literal, has_operand, KnownOperation, value_is_known, negative_is_known}
 use Rattle.steps_allowed.specs.Places.{asked_at}
 use Rattle.steps_allowed.specs.UnusedList.{acting, all_act, has_spread, as_one, list_becomes, UnusedList, acting_parts_stay}
 use Rattle.steps_allowed.specs.UnusedOperation.{acts}
 use Rattle.steps_allowed.specs.Uses.{Use, use_at, as_value, stands_bare}
-use Rattle.steps_owed.proofs.KnownTests.{test_counts, side_counts}
+use Rattle.steps_owed.proofs.IdleParts.{some_left, first_leaves, none_behind}
+use Rattle.steps_owed.proofs.KnownTests.{counts_one, test_counts, side_counts}
 use Rattle.steps_owed.proofs.IndirectChoice.{Counts, consequent_counts, alternate_counts, right_side_counts, part_that_counts}
-use Rattle.steps_owed.proofs.KnownOperation.{Operation, on_one, on_two, is_operation_known, value_small}
-use Rattle.steps_owed.proofs.KnownSizes.{IsSmall}
+use Rattle.steps_owed.proofs.KnownOperation.{Operation, on_one, on_two, is_operation_known, value_small, Negative, under_one, under_two, is_negative_known, negative_small, one_level}
+use Rattle.steps_owed.proofs.KnownSizes.{IsSmall, below_largest}
 use Rattle.steps_owed.proofs.UnusedObject.{Plain, none_left, value_stays, value_leaves, plain_properties}
 
 -- some of the nodes of a row, in their order, or of a property its value
@@ -60,8 +65,10 @@ pub data Picks : (k : Kind) (below : Forest) (l : Kind) (inner : Forest) → Typ
   one_part : (k j l : Kind) (i m : Note) (parts inner : Forest) → holds_parts k j ≡ true → SomeOf parts (alone l m inner) → Picks k (node j i parts nothing) l inner
   several : (k j : Kind) (i m : Note) (parts left : Forest) → holds_parts k j ≡ true → SomeOf parts left → Picks k (node j i parts nothing) sequence_expression (node expressions m left nothing)
   part_behind_zero : (k l t : Kind) (o m i p : Note) (d parts inner : Forest) → is_choice k ≡ true → one_each t ≡ 1 → SomeOf parts (alone l p inner) → Picks k (node t o d parts) sequence_expression (node expressions m (node (literal (value.Number (pos 0))) i nothing (alone l p inner)) nothing)
+  last_behind_zero : (j l : Kind) (i m o p q : Note) (b parts inner : Forest) → one_each j ≡ 1 → SomeOf parts (node j q b (alone l p inner)) → Picks sequence_expression (node expressions i parts nothing) sequence_expression (node expressions m (node (literal (value.Number (pos 0))) o nothing (alone l p inner)) nothing)
   two_parts : (o : LogicalOperator) (parts left : Forest) → SomeOf parts left → Picks conditional_expression parts (logical_expression o) left
   known : (k : Kind) (below : Forest) (w : LiteralValue) → is_operator k ≡ true → IsSmall w → Picks k below (literal w) nothing
+  signed : (k t : Kind) (i m : Note) (d rest : Forest) (w : LiteralValue) → is_operator k ≡ true → one_each t ≡ 1 → IsSmall w → Picks k (node t i d rest) (unary_expression UnaryNegation) (alone (literal w) m nothing)
   zeroed : (k : Kind) (below : Forest) → one_each k ≡ 1 → Picks k below (literal (value.Number (pos 0))) nothing
   in_turn : (o : BinaryOperator) (m : Note) (sides : Forest) → Picks (binary_expression o) sides sequence_expression (node expressions m sides nothing)
 
@@ -149,16 +156,35 @@ module _ (u : Use) (in_with : Bool) (n m i : Note) (parts : Forest) where
   abbrev LeavesTree : Tree → Type 0
   LeavesTree y = Picks sequence_expression (node expressions i parts nothing) y.kind y.below
 
-  value_picks : (left : Forest) (y : Tree) → SomeOf parts left → as_value_of u in_with n m left ≡ Some y → LeavesTree y
-  value_picks nothing y some is = absurd cc
-  value_picks (absent rest) y some is = subst LeavesTree (same_value is) (several sequence_expression expressions i m parts (absent rest) refl some)
-  value_picks (node l h a nothing) y some is = subst LeavesTree (given (stands_bare u in_with l a) (record { kind = l; note = h; below = a }) y is) (one_part sequence_expression expressions l i h parts a refl some)
-  value_picks (node l h a (node x o b rest)) y some is = subst LeavesTree (same_value is) (several sequence_expression expressions i m parts (node l h a (node x o b rest)) refl some)
-  value_picks (node l h a (absent rest)) y some is = subst LeavesTree (same_value is) (several sequence_expression expressions i m parts (node l h a (absent rest)) refl some)
+  module _ (l : Kind) (h : Note) (c : Forest) where
+    zero_picks : (all : Forest) → all ≡ parts → counting all ≡ node l h c nothing → all_count all ≡ false → Picks sequence_expression (node expressions i all nothing) sequence_expression (node expressions n (node (literal (value.Number (pos 0))) n nothing (node l h c nothing)) nothing)
+    zero_picks nothing same is idle = absurd cc
+    zero_picks (absent r) same is idle = absurd cc
+    zero_picks (node k o a nothing) same is idle = absurd cc
+    zero_picks (node k o a (absent r)) same is idle = absurd (none_behind l h c k o a r is)
+    zero_picks (node k o a (node j q b r)) same is idle =
+        let rest = node j q b r in
+        first_leaves l h c k o a (counting rest) (some_left j q b r) (acts k o a) (is_list k) refl refl is
+        (λ silent no_list e. last_behind_zero k l i n n h o a (node k o a rest) c (counts_one k no_list) (subst (λ t. SomeOf (node k o a rest) (node k o a t)) e (stays (some_count rest))))
+
+  value_picks : (left : Forest) (y : Tree) → counting parts ≡ left → all_count parts ≡ false → SomeOf parts left → as_value_of u in_with (more_before parts) n m left ≡ Some y → LeavesTree y
+  value_picks nothing y of idle some is = absurd cc
+  value_picks (absent rest) y of idle some is = subst LeavesTree (same_value is) (several sequence_expression expressions i m parts (absent rest) refl some)
+  value_picks (node l h a nothing) y of idle some is = each (stands_bare u in_with l a) (more_before parts) is
+    where
+      each : (b c : Bool) → itself_or_behind b c n (record { kind = l; note = h; below = a }) ≡ Some y → LeavesTree y
+      each true c e = subst LeavesTree (same_value e) (one_part sequence_expression expressions l i h parts a refl some)
+      each false true e = subst LeavesTree (same_value e) (zero_picks l h a parts refl of idle)
+      each false false e = absurd cc
+  value_picks (node l h a (node x o b rest)) y of idle some is = subst LeavesTree (same_value is) (several sequence_expression expressions i m parts (node l h a (node x o b rest)) refl some)
+  value_picks (node l h a (absent rest)) y of idle some is = subst LeavesTree (same_value is) (several sequence_expression expressions i m parts (node l h a (absent rest)) refl some)
 
 sequence_picks : (u : Use) (in_with : Bool) (n m : Note) (k : Kind) (a : Forest) (y : Tree) → sequence_becomes u in_with n m k a ≡ Some y → Picks k a y.kind y.below
-sequence_picks u in_with n m sequence_expression (node expressions i parts nothing) y is =
-    value_picks u in_with n m i parts (counting parts) y (some_count parts) (unless_given (all_count parts) (as_value_of u in_with n m (counting parts)) y is)
+sequence_picks u in_with n m sequence_expression (node expressions i parts nothing) y is = each (all_count parts) refl is
+  where
+    each : (b : Bool) → all_count parts ≡ b → (if b then None else as_value_of u in_with (more_before parts) n m (counting parts)) ≡ Some y → Picks sequence_expression (node expressions i parts nothing) y.kind y.below
+    each true all e = absurd cc
+    each false idle e = value_picks u in_with n m i parts (counting parts) y refl idle (some_count parts) e
 sequence_picks u in_with n m k a y is = absurd cc
 
 pub idle_parts_picks : (a : Around) (x y : Tree) → IdleParts a x y → Picks x.kind x.below y.kind y.below
@@ -199,5 +225,19 @@ known_picks : {k : Kind} {n : Note} {below : Forest} {w : LiteralValue} → Oper
 known_picks (on_one o n below w idle some is) small = known (unary_expression o) below w refl small
 known_picks (on_two o n below w idle is) small = known (binary_expression o) below w refl small
 
+of_operand : (m : Note) (k : Kind) (below : Forest) (i : ℕ) → has_operand below ≡ true → is_operator k ≡ true → IsSmall (value.Number (pos (suc i))) → Picks k below (unary_expression UnaryNegation) (alone (literal (value.Number (pos (suc i)))) m nothing)
+of_operand m k (node t h d rest) i some operator small = signed k t h m d rest (value.Number (pos (suc i))) operator (one_level t (not_so (is_list t) some)) small
+  where
+    not_so : (b : Bool) → not b ≡ true → b ≡ false
+    not_so true e = absurd (true≢false (sym e))
+    not_so false e = refl
+of_operand m k nothing i some operator small = absurd (true≢false (sym some))
+of_operand m k (absent rest) i some operator small = absurd (true≢false (sym some))
+
+negative_picks : {k : Kind} {n : Note} {below : Forest} {i : ℕ} (j : Note) → Negative k n below i → Picks k below (unary_expression UnaryNegation) (alone (literal (value.Number (pos (suc i)))) j nothing)
+negative_picks j (under_one o n below i idle may is) = of_operand j (unary_expression o) below i (first_of_both (has_operand below) (not (is_literal below)) may) refl (below_largest i (negative_small (under_one o n below i idle may is)))
+negative_picks j (under_two o n below i idle may is) = of_operand j (binary_expression o) below i may refl (below_largest i (negative_small (under_two o n below i idle may is)))
+
 pub known_operation_picks : (a : Around) (x y : Tree) → KnownOperation a x y → Picks x.kind x.below y.kind y.below
 known_operation_picks a x _ (value_is_known i w _ is) = let operation = is_operation_known x.kind x.note x.below w is in known_picks operation (value_small operation)
+known_operation_picks a x _ (negative_is_known i j z _ is) = negative_picks j (is_negative_known x.kind x.note x.below z is)

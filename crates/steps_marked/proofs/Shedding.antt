@@ -1,7 +1,7 @@
 -- Edits bring in no references and declarations, and leave less.
 use Rattle.std.proofs.Common.{◌≡◌, ◌≤◌, ◌<◌, ◌+◌, ℕ, List, true, false, Option, true≢false, arith, sym, subst, ◌++◌, inl, inr, refl}
 use Rattle.js_syntax.specs.declared.node_kind.NodeKind.{NodeKind as Kind}
-use Rattle.js_syntax.specs.declared.node_kind.NodeKind.TheVariants.{BindingName as binding_name, IfStatement as if_statement, ConditionalExpression as conditional_expression, UnaryExpression as unary_expression, BinaryExpression as binary_expression, LogicalExpression as logical_expression}
+use Rattle.js_syntax.specs.declared.node_kind.NodeKind.TheVariants.{BindingName as binding_name, IfStatement as if_statement, TryStatement as try_statement, ConditionalExpression as conditional_expression, UnaryExpression as unary_expression, BinaryExpression as binary_expression, LogicalExpression as logical_expression}
 use Rattle.js_syntax.specs.Class.{root}
 use Rattle.js_syntax.specs.Facts as facts
 use Rattle.js_syntax.specs.Node.{Forest, Note, nothing, node, absent, joined, total}
@@ -55,6 +55,7 @@ edits_shed t u (one_tree_edit v w x e more) fits r = Prim.omega (arith, edit_she
 
 gives_weight : (k : Kind) → gives_way k ≡ true → 1 ≤ facts.weight k
 gives_weight if_statement e = Prim.omega arith
+gives_weight try_statement e = Prim.omega arith
 gives_weight conditional_expression e = Prim.omega arith
 gives_weight (logical_expression operator) e = Prim.omega arith
 gives_weight (unary_expression operator) e = Prim.omega arith

@@ -89,6 +89,7 @@ covers_inside k n now below t f = covers_by (is_list k) k n now below refl t f
 -- what a part of a node may stand for leaves its parts where it stands
 plain_inside : (k : Kind) → gives_way k ≡ true → (p : Stand) (n : Note) (below : Forest) (at : ℕ) → stand_inside p k n below at ≡ p
 plain_inside kind.IfStatement g p n below at = refl
+plain_inside kind.TryStatement g p n below at = refl
 plain_inside kind.ConditionalExpression g p n below at = refl
 plain_inside (kind.LogicalExpression operator) g p n below at = refl
 plain_inside (kind.UnaryExpression operator) g p n below at = refl

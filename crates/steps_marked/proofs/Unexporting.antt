@@ -138,6 +138,7 @@ module _ (q p : Context) (next other : ℕ) (some : 0 < next) (h : Ahead q p) wh
   -- and what a part may stand for leaves its parts where it stands
   ahead_part : (k : Kind) (whole : Forest) → gives_way k ≡ true → (at : ℕ) → Ahead q (inside p other k whole at)
   ahead_part kind.IfStatement whole g at = record { variables = h.variables; block = h.block; declaring = h.declaring }
+  ahead_part kind.TryStatement whole g at = record { variables = h.variables; block = h.block; declaring = h.declaring }
   ahead_part kind.ConditionalExpression whole g at = record { variables = h.variables; block = h.block; declaring = h.declaring }
   ahead_part (kind.LogicalExpression operator) whole g at = record { variables = h.variables; block = h.block; declaring = h.declaring }
   ahead_part (kind.UnaryExpression operator) whole g at = record { variables = h.variables; block = h.block; declaring = h.declaring }
@@ -286,6 +287,7 @@ module _ (e : BindingSite) (top : e.layer.scope ≡ 0) where
   no_export : (all : Bool) (k : Kind) → gives_way k ≡ true → all || is_export k ≡ all
   no_export true k g = refl
   no_export false kind.IfStatement g = refl
+  no_export false kind.TryStatement g = refl
   no_export false kind.ConditionalExpression g = refl
   no_export false (kind.LogicalExpression operator) g = refl
   no_export false (kind.UnaryExpression operator) g = refl

@@ -20,11 +20,11 @@ use Rattle.known_tests.proofs.Told.{told_leads}
 use Rattle.known_tests.proofs.Taken.{unknown_leads, chosen, not_chosen}
 
 -- (0, part)
-abbrev zero_and : (m o p : Note) (l : Kind) (b : Forest) → Forest
+abbrev pub zero_and : (m o p : Note) (l : Kind) (b : Forest) → Forest
 zero_and m o p l b = node Kind.Expressions m (node (Kind.Literal (value.Number (pos 0))) o nothing (node l p b nothing)) nothing
 
 -- it does what the part does that is evaluated for itself
-zero_is : (E : Enter) (env : Env) (w : Wanted) (m o p : Note) (l : Kind) (b : Forest) → meaning E Kind.SequenceExpression (zero_and m o p l b) (asks_value w) env ≡ meaning E l b now env
+pub zero_is : (E : Enter) (env : Env) (w : Wanted) (m o p : Note) (l : Kind) (b : Forest) → meaning E Kind.SequenceExpression (zero_and m o p l b) (asks_value w) env ≡ meaning E l b now env
 unfolding need eval in_turn
 zero_is E env w m o p l b = given_is (literal_value (value.Number (pos 0))) (λ u. meaning E l b now env)
 

@@ -42,7 +42,7 @@ inside_here block_statement a h e = e
 inside_here (labeled_statement l) a h e = e
 inside_here k a h e = no_kind h
 
-names_inside : (t : Forest) → idles t ≡ true → stays_inside t ≡ true
+pub names_inside : (t : Forest) → idles t ≡ true → stays_inside t ≡ true
 names_inside nothing h = refl
 names_inside (absent r) h = names_inside r h
 names_inside (node k n a r) h =
@@ -56,7 +56,7 @@ none_here block_statement a h i e = i
 none_here (labeled_statement l) a h i e = e
 none_here k a h i e = no_kind h
 
-none_declared : (t : Forest) → idles t ≡ true → declares_none t ≡ true
+pub none_declared : (t : Forest) → idles t ≡ true → declares_none t ≡ true
 none_declared nothing h = refl
 none_declared (absent r) h = none_declared r h
 none_declared (node k n a r) h =
@@ -70,7 +70,7 @@ imports_here source block_statement a ds h e = e
 imports_here source (labeled_statement l) a ds h e = e
 imports_here source k a ds h e = no_kind h
 
-none_imported : (source : Text) (t : Forest) → idles t ≡ true → import_decls source t ≡ []
+pub none_imported : (source : Text) (t : Forest) → idles t ≡ true → import_decls source t ≡ []
 none_imported source nothing h = refl
 none_imported source (absent r) h = none_imported source r h
 none_imported source (node k n a r) h =

@@ -1,15 +1,15 @@
 -- Which nodes may take the place of others: a part of a choice or of a logical expression that of the whole, an empty statement that of one of an expression.
 use Rattle.std.proofs.Common.{◌≡◌, ◌∙◌, [], ◌∷◌, Bool, true, false, not, Some, refl, sym, ap, true≢false}
-use Rattle.js_syntax.specs.Class.{Class, module_item, statement, expression, arrow_body, for_init, default_export, expression_or_private, callee, argument}
+use Rattle.js_syntax.specs.Class.{Class, module_item, statement, block, handler, expression, arrow_body, for_init, default_export, expression_or_private, callee, argument}
 use Rattle.js_syntax.specs.declared.node_kind.NodeKind.{NodeKind as Kind}
-use Rattle.js_syntax.specs.declared.node_kind.NodeKind.TheVariants.{ConditionalExpression as conditional_expression, UnaryExpression as unary_expression, BinaryExpression as binary_expression, LogicalExpression as logical_expression, IfStatement as if_statement, ArrayExpression as array_expression, Elements as elements, ObjectExpression as object_expression, SequenceExpression as sequence_expression, Expressions as expressions}
+use Rattle.js_syntax.specs.declared.node_kind.NodeKind.TheVariants.{ConditionalExpression as conditional_expression, UnaryExpression as unary_expression, BinaryExpression as binary_expression, LogicalExpression as logical_expression, IfStatement as if_statement, TryStatement as try_statement, ArrayExpression as array_expression, Elements as elements, ObjectExpression as object_expression, SequenceExpression as sequence_expression, Expressions as expressions}
 use Rattle.js_syntax.specs.declared.operator.UnaryOperator.{UnaryOperator}
 use Rattle.js_syntax.specs.declared.operator.BinaryOperator.{BinaryOperator}
 use Rattle.js_syntax.specs.declared.operator.BinaryOperator.TheVariants as binary
 use Rattle.js_syntax.specs.declared.operator.LogicalOperator.{LogicalOperator}
 use Rattle.js_syntax.specs.Hint.{has, is_private}
 use Rattle.js_syntax.specs.Node.{Forest, Note, alone}
-use Rattle.js_syntax.specs.Table.{Row as TableRow, a_conditional_expression, a_unary_expression, a_binary_expression, an_in_expression, a_logical_expression, an_if_statement, an_array_expression, an_object_expression, a_sequence_expression, fields_of, type_of, stands}
+use Rattle.js_syntax.specs.Table.{Row as TableRow, a_conditional_expression, a_unary_expression, a_binary_expression, an_in_expression, a_logical_expression, an_if_statement, a_try_statement, an_array_expression, an_object_expression, a_sequence_expression, fields_of, type_of, stands}
 use Rattle.js_syntax.specs.declared.node_type.NodeType.{NodeType}
 use Rattle.js_syntax.specs.declared.node_type.NodeType.TheVariants as type
 use Rattle.js_meaning_near.specs.Unused.{compares}
@@ -106,6 +106,14 @@ takes_statements module_item type.ExportAllDeclaration r takes stood = absurd cc
 takes_statements module_item t r takes stood = stood
 takes_statements c t r takes stood = absurd cc
 
+-- a class that takes `try` takes its blocks
+takes_blocks : (c : Class) (t : NodeType) (r : TableRow) → stands c type.TryStatement ≡ Some a_try_statement → stands block t ≡ Some r → stands c t ≡ Some r
+takes_blocks statement type.BlockStatement r takes stood = stood
+takes_blocks module_item type.BlockStatement r takes stood = stood
+takes_blocks statement t r takes stood = absurd cc
+takes_blocks module_item t r takes stood = absurd cc
+takes_blocks c t r takes stood = absurd cc
+
 -- so a node of the class that the parts have is of each class that takes the whole
 module _ (k : Kind) (below : Forest) where
   pub as_conditional : (c : Class) → stands c type.ConditionalExpression ≡ Some a_conditional_expression → IsOf k below (λ p. Stand p below) expression → IsOf k below (λ p. Stand p below) c
@@ -128,6 +136,9 @@ module _ (k : Kind) (below : Forest) where
 
   pub as_sequence : (c : Class) → stands c type.SequenceExpression ≡ Some a_sequence_expression → IsOf k below (λ p. Stand p below) expression → IsOf k below (λ p. Stand p below) c
   as_sequence c takes of = as_conditional c (sequence_takes c takes) of
+
+  pub as_try : (c : Class) → stands c type.TryStatement ≡ Some a_try_statement → IsOf k below (λ p. Stand p below) block → IsOf k below (λ p. Stand p below) c
+  as_try c takes of = (of.0, of.1, takes_blocks c (type_of of.0) (first_of of.0) takes of.2, of.3, of.4, of.5)
 
   pub as_if : (c : Class) → stands c type.IfStatement ≡ Some an_if_statement → IsOf k below (λ p. Stand p below) statement → IsOf k below (λ p. Stand p below) c
   as_if c takes of = (of.0, of.1, takes_statements c (type_of of.0) (first_of of.0) takes of.2, of.3, of.4, of.5)
@@ -170,6 +181,10 @@ is_object k = false
 abbrev is_sequence : Kind → Bool
 is_sequence sequence_expression = true
 is_sequence k = false
+
+abbrev pub is_try : Kind → Bool
+is_try try_statement = true
+is_try k = false
 
 abbrev pub is_if : Kind → Bool
 is_if if_statement = true
@@ -259,6 +274,16 @@ pub sequence_parts : (private : Bool) (r : TableRow) (vs : Values (fields_of r))
 sequence_parts private a_sequence_expression vs parts is stand = stand
 sequence_parts private r vs parts is stand = absurd (true≢false (ap is_sequence is))
 
+try_class : (c : Class) (r : TableRow) (vs : Values (fields_of r)) → is_try (kind_in r vs) ≡ true → stands c (type_of r) ≡ Some (first_of r)
+    → stands c type.TryStatement ≡ Some a_try_statement
+try_class c a_try_statement vs is stood = stood
+try_class c r vs is stood = absurd (true≢false (sym is))
+
+pub try_parts : (private : Bool) (r : TableRow) (vs : Values (fields_of r)) (parts : Forest) → is_try (kind_in r vs) ≡ true → Stand (these (places private (fields_of r) vs)) parts
+    → Stand (these (one block ∷ maybe_one handler ∷ maybe_one block ∷ [])) parts
+try_parts private a_try_statement vs parts is stand = stand
+try_parts private r vs parts is stand = absurd (true≢false (sym is))
+
 if_class : (c : Class) (r : TableRow) (vs : Values (fields_of r)) → is_if (kind_in r vs) ≡ true → stands c (type_of r) ≡ Some (first_of r)
     → stands c type.IfStatement ≡ Some an_if_statement
 if_class c an_if_statement vs is stood = stood
@@ -306,6 +331,12 @@ module _ (c : Class) (n : Note) (below : Forest) where
 
   pub sequence_stood : Fits c (alone sequence_expression n below) → stands c type.SequenceExpression ≡ Some a_sequence_expression
   sequence_stood fits = sequence_class c fits.0.0 fits.0.1 (ap is_sequence (sym fits.0.4)) fits.0.2
+
+  pub try_stood : Fits c (alone try_statement n below) → stands c type.TryStatement ≡ Some a_try_statement
+  try_stood fits = try_class c fits.0.0 fits.0.1 (ap is_try (sym fits.0.4)) fits.0.2
+
+  pub try_below : Fits c (alone try_statement n below) → Stand (these (one block ∷ maybe_one handler ∷ maybe_one block ∷ [])) below
+  try_below fits = try_parts (has is_private below) fits.0.0 fits.0.1 below (ap is_try (sym fits.0.4)) fits.0.5
 
   pub if_stood : Fits c (alone if_statement n below) → stands c type.IfStatement ≡ Some an_if_statement
   if_stood fits = if_class c fits.0.0 fits.0.1 (ap is_if (sym fits.0.4)) fits.0.2

@@ -1,5 +1,6 @@
 -- What a statement that does nothing owes that leaves its list.
-use Rattle.std.proofs.Common.{◌≡◌, [], ◌∷◌, inl, Bool, true, false, ◌&&◌, Option, Some, None, refl, sym, true≢false}
+use Rattle.std.proofs.Common.{◌≡◌, [], ◌∷◌, ◌⊎◌, inl, inr, Bool, true, false, ◌&&◌, Option, Some, None, refl, sym, true≢false}
+use Rattle.std.proofs.lemmas.Bool.{or_cases}
 use Rattle.js_syntax.specs.declared.node_kind.NodeKind.{NodeKind as Kind}
 use Rattle.js_syntax.specs.declared.node_kind.NodeKind.TheVariants.{LabeledStatement as labeled_statement, WhileStatement as while_statement, ForStatement as for_statement, TryStatement as try_statement}
 use Rattle.js_syntax.specs.Node.{Note, Forest, Tree, nothing, node, absent}
@@ -15,13 +16,15 @@ use Rattle.js_meaning_near.specs.Near.{meaning, DoesNothing}
 use Rattle.known_tests.proofs.Taken.{unknown_leads, while_does_nothing, for_does_nothing}
 use Rattle.scope_laws.specs.Place.{Around}
 use Rattle.steps_allowed.specs.EmptyBlock.{is_idle, idles}
-use Rattle.steps_allowed.specs.IdleStatement.{finalizer_idles, does_nothing, IdleStatement, idle_leaves}
+use Rattle.steps_allowed.specs.Branches.{declares_none, declares_no_name}
+use Rattle.steps_allowed.specs.IdleStatement.{finalizer_idles, leaves_at_once, does_nothing, IdleStatement, idle_leaves}
 use Rattle.steps_allowed.specs.KnownConditional.{truth_known}
 use Rattle.steps_allowed.specs.Unreached.{only_runs}
 use Rattle.steps_allowed.specs.Untaken.{is_known}
 use Rattle.steps_owed.specs.Owed.{IsOther, MayChange, Leaving}
 use Rattle.steps_owed.proofs.IdleRuns.{Nothing, nothing_known, nothing_done, bound, node_ends, rows_end, leads, leaving_is_local}
 use Rattle.steps_owed.proofs.KnownTests.{test_tells}
+use Rattle.steps_owed.proofs.LeftAtOnce.{outside, left_at_once, arrive_leads}
 use Rattle.steps_owed.proofs.Unreached.{unshown_owes}
 
 no_kind : {A : Type 0} → false ≡ true → A
@@ -36,7 +39,7 @@ fails None h = no_kind h
 
 -- ---- a `try` around nothing
 
-handled : (h : Option Meaning) (env : Env) → Nothing (after_block h env normal)
+pub handled : (h : Option Meaning) (env : Env) → Nothing (after_block h env normal)
 handled None env = nothing_done
 handled (Some m) env = nothing_done
 
@@ -83,29 +86,40 @@ label_leads : (l : Text) (m : M) → Leads m (done normal) → Leads (bind m (af
 unfolding bind
 label_leads l m h = record { leads = λ s. label_from l s (m s) (h.leads s) }
 
-label_ends : (E : Enter) (q : Ask) (env : Env) (l : Text) (k : Kind) (n : Note) (a r : Forest) → DoesNothing k a → Leads (meaning E (labeled_statement l) (node k n a r) q env) (done normal)
+label_ends : (E : Enter) (q : Ask) (env : Env) (l : Text) (k : Kind) (n : Note) (a r : Forest) → ((q : Ask) → Leads (bind (meaning E k a q env) (after_label l)) (done normal)) → Leads (meaning E (labeled_statement l) (node k n a r) q env) (done normal)
 unfolding need eval
-label_ends E (run ls) env l k n a r h = label_leads l (meaning E k a (run (l ∷ ls)) env) (h.nothing_done E (run (l ∷ ls)) env)
+label_ends E (run ls) env l k n a r h = h (run (l ∷ ls))
 label_ends E q env l k n a r h = unknown_leads (done normal)
+
+-- by what stands there, or since that leaves it at once
+behind_label : (l : Text) (k : Kind) (a : Forest) → DoesNothing k a ⊎ (leaves_at_once l k a ≡ true) → declares_no_name k a ≡ true → (E : Enter) (env : Env) (q : Ask) → Leads (bind (meaning E k a q env) (after_label l)) (done normal)
+behind_label l k a (inl idle) none E env q = label_leads l (meaning E k a q env) (idle.nothing_done E q env)
+behind_label l k a (inr leaves) none E env q = arrive_leads l (meaning E k a q env) (left_at_once E l k a q env leaves (outside none))
 
 -- ---- the node
 
-nothing_done_by : (k : Kind) (a : Forest) → does_nothing k a ≡ true → DoesNothing k a
-nothing_done_by while_statement (node t m d rest) h = while_does_nothing t m d rest (test_tells t m d false (fails (truth_known t m d) h))
-nothing_done_by while_statement nothing h = no_kind h
-nothing_done_by while_statement (absent rest) h = no_kind h
-nothing_done_by for_statement (absent (node t m d rest)) h = for_does_nothing t m d rest (test_tells t m d false (fails (truth_known t m d) h))
-nothing_done_by for_statement (absent nothing) h = no_kind h
-nothing_done_by for_statement (absent (absent rest)) h = no_kind h
-nothing_done_by for_statement nothing h = no_kind h
-nothing_done_by for_statement (node t m d rest) h = no_kind h
-nothing_done_by try_statement (node k n b rest) h = try_does_nothing k n b rest h
-nothing_done_by try_statement nothing h = no_kind h
-nothing_done_by try_statement (absent rest) h = no_kind h
-nothing_done_by (labeled_statement l) (node k n a rest) h = record { hoists = refl; nothing_done = λ E q env. label_ends E q env l k n a rest (nothing_done_by k a h) }
-nothing_done_by (labeled_statement l) nothing h = no_kind h
-nothing_done_by (labeled_statement l) (absent rest) h = no_kind h
-nothing_done_by k a h = no_kind h
+nothing_done_by : (k : Kind) (a : Forest) → does_nothing k a ≡ true → declares_no_name k a ≡ true → DoesNothing k a
+nothing_done_by while_statement (node t m d rest) h none = while_does_nothing t m d rest (test_tells t m d false (fails (truth_known t m d) h))
+nothing_done_by while_statement nothing h none = no_kind h
+nothing_done_by while_statement (absent rest) h none = no_kind h
+nothing_done_by for_statement (absent (node t m d rest)) h none = for_does_nothing t m d rest (test_tells t m d false (fails (truth_known t m d) h))
+nothing_done_by for_statement (absent nothing) h none = no_kind h
+nothing_done_by for_statement (absent (absent rest)) h none = no_kind h
+nothing_done_by for_statement nothing h none = no_kind h
+nothing_done_by for_statement (node t m d rest) h none = no_kind h
+nothing_done_by try_statement (node k n b rest) h none = try_does_nothing k n b rest h
+nothing_done_by try_statement nothing h none = no_kind h
+nothing_done_by try_statement (absent rest) h none = no_kind h
+nothing_done_by (labeled_statement l) (node k n a rest) h none =
+    let here = first_of_both (declares_no_name k a) (declares_none rest) none in
+    let ends : DoesNothing k a ⊎ (leaves_at_once l k a ≡ true) = elim (or_cases (does_nothing k a) (leaves_at_once l k a) h) [
+      | inl idle ↦ inl (nothing_done_by k a idle here)
+      | inr leaves ↦ inr leaves
+    ] in
+    record { hoists = refl; nothing_done = λ E q env. label_ends E q env l k n a rest (behind_label l k a ends here E env) }
+nothing_done_by (labeled_statement l) nothing h none = no_kind h
+nothing_done_by (labeled_statement l) (absent rest) h none = no_kind h
+nothing_done_by k a h none = no_kind h
 
 pub record Held (k : Kind) : Type 0 where
   pub runs : only_runs k ≡ true
@@ -127,4 +141,5 @@ idle_runs k a h = (held k a h).runs
 pub idle_statement_owes : (a : Around) (x : Tree) → IdleStatement a x → Leaving a x
 idle_statement_owes a x (idle_leaves item idle none) =
     let it = held x.kind x.below idle in
-    unshown_owes a x item (inl (it.other x.note x.below)) (inl (it.may a x.note x.below)) it.runs none (λ states declares fits. leaving_is_local x (nothing_done_by x.kind x.below idle) states declares a item fits)
+    let here = first_of_both (declares_no_name x.kind x.below) true none in
+    unshown_owes a x item (inl (it.other x.note x.below)) (inl (it.may a x.note x.below)) it.runs none (λ states declares fits. leaving_is_local x (nothing_done_by x.kind x.below idle here) states declares a item fits)

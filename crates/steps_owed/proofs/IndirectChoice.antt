@@ -43,7 +43,7 @@ use Rattle.steps_owed.proofs.UnusedList.{list_is_built, sequence_is_built}
 abbrev tree : Kind → Note → (below : Forest) → Tree
 tree k n below = record { kind = k; note = n; below = below }
 
-abbrev number_zero : Kind
+abbrev pub number_zero : Kind
 number_zero = literal (value.Number (pos 0))
 
 -- ---- which part counts
@@ -70,7 +70,7 @@ part_that_counts o k below z is = absurd cc
 
 -- ---- rebuilt
 
-zero_is_built : MayBeBuilt number_zero nothing
+pub zero_is_built : MayBeBuilt number_zero nothing
 zero_is_built = record { operation = refl; calls_none = refl; breaks_none = λ c place. refl }
 
 part_is_left : {x z : Tree} → Counts x z → Rebuilt (forest_of x) (forest_of z)
@@ -108,7 +108,7 @@ choice_expression a {x = x} (right_side_counts q o p i t k d b goes) fits = (a_l
 zero_expression : IsExpression number_zero nothing
 zero_expression = (a_literal, (value.Number (pos 0), tt), refl, tt, refl, tt)
 
-behind_expression : (n m i : Note) (z : Tree) → IsExpression z.kind z.below → IsExpression sequence_expression (behind_zero n m i z).below
+pub behind_expression : (n m i : Note) (z : Tree) → IsExpression z.kind z.below → IsExpression sequence_expression (behind_zero n m i z).below
 behind_expression n m i z of = (a_sequence_expression, tt, refl, tt, refl, ((refl, (zero_expression, (of, tt))), tt))
 
 behind_takes : (n m i : Note) {x z : Tree} → Counts x z → IsExpression z.kind z.below → TakesPlace x (behind_zero n m i z)
@@ -135,7 +135,7 @@ counted_core (consequent_counts o p i j t k l d b c truth) core = consequent_cor
 counted_core (alternate_counts o p i j t k l d b c truth) core = alternate_core conditional_expression k l o p i j t d b c core
 counted_core (right_side_counts q o p i t k d b goes) core = consequent_core (logical_expression q) k o p i t d b nothing core
 
-behind_core : (n m i : Note) (z : Tree) → all_core (forest_of z) ≡ true → all_core (forest_of (behind_zero n m i z)) ≡ true
+pub behind_core : (n m i : Note) (z : Tree) → all_core (forest_of z) ≡ true → all_core (forest_of (behind_zero n m i z)) ≡ true
 behind_core n m i z core = both (all_core (forest_of z) && true) true (both (all_core (forest_of z)) true core refl) refl
 
 -- what counts declares nothing, if no part does
@@ -152,7 +152,7 @@ counted_declares (alternate_counts o p i j t k l d b c truth) h =
     nothing_behind k i b (node l j c nothing) (nothing_behind t p d (node k i b (node l j c nothing)) h)
 counted_declares (right_side_counts q o p i t k d b goes) h = nothing_behind t p d (node k i b nothing) h
 
-behind_declares : (n m i : Note) (z : Tree) → DeclaresNothing (forest_of z) → DeclaresNothing (forest_of (behind_zero n m i z))
+pub behind_declares : (n m i : Note) (z : Tree) → DeclaresNothing (forest_of z) → DeclaresNothing (forest_of (behind_zero n m i z))
 behind_declares n m i z h =
     let part = forest_of z in
     record {

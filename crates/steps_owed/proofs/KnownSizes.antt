@@ -1,5 +1,5 @@
--- Numbers that are known are within 2^53 - 1 in magnitude, and so are those of which a literal becomes.
-use Rattle.std.proofs.Common.{◌≡◌, ℕ, Option, Some, None, pos, negsuc, List, Bool, true, false, not, ◌&&◌, ◌||◌, if◌then◌else◌, arith, refl, subst}
+-- Numbers that are known are within 2^53 - 1 in magnitude, and so are those that an operation becomes.
+use Rattle.std.proofs.Common.{◌≡◌, ℕ, suc, Option, Some, None, pos, negsuc, List, Bool, true, false, not, ◌&&◌, ◌||◌, if◌then◌else◌, arith, refl, subst}
 use Rattle.std.specs.Prelude.{ℤ, ◌+ℤ◌, ◌-ℤ◌, ◌*ℤ◌, ◌^◌, neg_ℤ, unsigned_abs, int_div, int_rem, nat_le, nat_lt}
 use Rattle.std.proofs.lemmas.Bool.{leb-true, lt-ltb}
 use Rattle.js_syntax.specs.declared.value.LiteralValue.{LiteralValue}
@@ -14,7 +14,7 @@ use Rattle.js_effects.specs.declared.value.ValueType.TheVariants as type
 use Rattle.js_effects.specs.Values as known
 use Rattle.js_effects.specs.Values.{Known, exactly, unknown, truth, value, largest, tested, negated, joined, is_exact, is_addition, on_numbers, on_known_numbers, on_values, binary_known, typeof_known, minus_known, plus_known, unary_known}
 use Rattle.scope_laws.proofs.Bindings.{same_value}
-use Rattle.steps_allowed.specs.KnownOperation.{as_literal}
+use Rattle.steps_allowed.specs.KnownOperation.{as_literal, as_negative}
 
 -- a literal that is no negative number, and no larger one
 abbrev pub IsSmall : LiteralValue → Type 0
@@ -125,3 +125,17 @@ unary_small o t k w is = literal_small (unary_known o t k) w (unary_within o t k
 
 pub binary_small : (o : BinaryOperator) (s t : Option (List ℕ)) (a b : Known) (w : LiteralValue) → as_literal (value (binary_known o s t a b)) ≡ Some w → IsSmall w
 binary_small o s t a b w is = literal_small (binary_known o s t a b) w (binary_within o s t a b) is
+
+-- and literals that stand for negative numbers
+negative_small : (k : Known) (n : ℕ) → IsWithin k → as_negative (value k) ≡ Some n → nat_le (suc n) largest ≡ true
+negative_small (exactly (constant.Number (negsuc m))) n h is = subst (λ n. nat_le (suc n) largest ≡ true) (same_value is) h
+negative_small k n h is = absurd cc
+
+pub below_largest : (n : ℕ) → nat_le (suc n) largest ≡ true → IsSmall (value.Number (pos (suc n)))
+below_largest n h = below_bound (suc n) h
+
+pub unary_negative_small : (o : UnaryOperator) (t : ValueType) (k : Known) (n : ℕ) → as_negative (value (unary_known o t k)) ≡ Some n → nat_le (suc n) largest ≡ true
+unary_negative_small o t k n is = negative_small (unary_known o t k) n (unary_within o t k) is
+
+pub binary_negative_small : (o : BinaryOperator) (s t : Option (List ℕ)) (a b : Known) (n : ℕ) → as_negative (value (binary_known o s t a b)) ≡ Some n → nat_le (suc n) largest ≡ true
+binary_negative_small o s t a b n is = negative_small (binary_known o s t a b) n (binary_within o s t a b) is

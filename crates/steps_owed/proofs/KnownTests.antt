@@ -17,7 +17,7 @@ use Rattle.steps_allowed.specs.KnownSide.{side_known}
 use Rattle.steps_allowed.specs.UnusedOperation.{acts}
 use Rattle.steps_owed.proofs.UnusedList.{idle_weighs}
 
-counts_one : (k : Kind) → is_list k ≡ false → one_each k ≡ 1
+pub counts_one : (k : Kind) → is_list k ≡ false → one_each k ≡ 1
 counts_one Kind.Statements h = absurd cc
 counts_one Kind.Cases h = absurd cc
 counts_one Kind.Declarators h = absurd cc

@@ -1,4 +1,5 @@
--- Of a sequence the parts that don't act may leave, but for the last; and where that is left alone, the sequence comes to it.
+-- Of a sequence the parts that don't act may leave, but for the last; and where that is left alone, the sequence comes to it, or to it
+-- behind a zero.
 use Rattle.std.proofs.Common.{◌≡◌, ◌∙◌, [], Bool, true, false, ◌||◌, if◌then◌else◌, arith, refl, sym, subst}
 use Rattle.js_syntax.specs.declared.node_kind.NodeKind.{NodeKind as Kind}
 use Rattle.js_syntax.specs.Node.{Note, Forest, nothing, node, absent}
@@ -19,6 +20,7 @@ use Rattle.js_meaning_near.proofs.Branches.{bare_asks, bare_hoists}
 use Rattle.js_meaning_near.proofs.Unused.{AllNodes}
 use Rattle.steps_allowed.specs.IdleParts.{counting}
 use Rattle.steps_allowed.specs.UnusedOperation.{acts}
+use Rattle.steps_owed.proofs.BehindZero.{zero_and, zero_is}
 use Rattle.steps_owed.proofs.SilentAnywhere.{silent_anywhere}
 
 -- ---- what is left of the parts
@@ -53,7 +55,7 @@ counting_shorter st (one_leaves {k = k} {n = n} {a = a} idle rest) = one_shorter
 
 -- ---- what allocates alone, and goes on
 
-allocates_nothing : (s : State) → OnlyAllocates s s
+pub allocates_nothing : (s : State) → OnlyAllocates s s
 allocates_nothing s = record { budget = refl; fresh = Prim.omega arith; store = λ i h. refl; globals = λ x. refl; imports = λ x y. refl; shown = refl; moves = refl; exports = refl; stars = refl }
 
 allocates_both : {s z y : State} → OnlyAllocates s z → OnlyAllocates z y → OnlyAllocates s y
@@ -69,14 +71,14 @@ allocates_both a b = record {
   stars = b.stars ∙ a.stars;
 }
 
-leads_later : {s z : State} {n : M} {o : Out} → OnlyAllocates s z → LeadsFrom z n o → LeadsFrom s n o
+pub leads_later : {s z : State} {n : M} {o : Out} → OnlyAllocates s z → LeadsFrom z n o → LeadsFrom s n o
 leads_later a (goes_on_as b) = goes_on_as (allocates_both a b)
 leads_later a stops_before = stops_before
 
-leads_itself : (m : M) → Leads m m
+pub leads_itself : (m : M) → Leads m m
 leads_itself m = record { leads = λ s. goes_on_as (allocates_nothing s) }
 
-more_nothing : (o : Out) → more [] o ≡ o
+pub more_nothing : (o : Out) → more [] o ≡ o
 more_nothing (goes es s c) = refl
 more_nothing (stops es e) = refl
 
@@ -113,10 +115,24 @@ module _ (E : Enter) (st : Names) (env : Env) (binds : Binds st env) (k : Kind) 
       subst (Leads (in_turn (eval E parts) env)) (sym (bare_asks E u k a env (subst (λ u. runs.stands_bare u k a ≡ true) (sym p) bare))) (leads_last left)
   sequence_leads w n left bare q p = unknown_leads _
 
+  behind_leads : (n m o : Note) {parts : Forest} → Counting parts (node k i a nothing) → (q : Ask)
+      → Leads (meaning E Kind.SequenceExpression (node Kind.Expressions n parts nothing) q env) (meaning E Kind.SequenceExpression (zero_and m o i k a) q env)
+  unfolding need eval
+  behind_leads n m o {parts = parts} left (asks_value u) = subst (Leads (in_turn (eval E parts) env)) (sym (zero_is E env u m o i k a)) (leads_last left)
+  behind_leads n m o left q = unknown_leads _
+
 pub comes_to_last : (u : Purpose) (st : Names) (n : Note) (k : Kind) (i : Note) (a : Forest) {parts : Forest} → Counting parts (node k i a nothing) → runs.stands_bare (asked u) k a ≡ true
     → ComesTo u st Kind.SequenceExpression (node Kind.Expressions n parts nothing) k a
 comes_to_last u st n k i a left bare = record {
   old_hoists = refl;
   new_hoists = bare_hoists (asked u) k a bare;
   comes = λ E env binds q p. sequence_leads E st env binds k i a (asked u) n left bare q p;
+}
+
+pub comes_behind_zero : (u : Purpose) (st : Names) (n m o : Note) (k : Kind) (i : Note) (a : Forest) {parts : Forest} → Counting parts (node k i a nothing)
+    → ComesTo u st Kind.SequenceExpression (node Kind.Expressions n parts nothing) Kind.SequenceExpression (zero_and m o i k a)
+comes_behind_zero u st n m o k i a left = record {
+  old_hoists = refl;
+  new_hoists = refl;
+  comes = λ E env binds q p. behind_leads E st env binds k i a n m o left q;
 }

@@ -19,6 +19,8 @@ pub mod UnusedDeclaration
 pub mod ItemRows
 pub mod ImportFacts
 pub mod ImportSteps
+pub mod RepeatedRuns
+pub mod RepeatedImport
 pub mod UnusedImport
 pub mod Owed
 pub mod TableKept
@@ -58,9 +60,12 @@ pub mod Untaken
 mod UntakenRuns
 pub mod EmptyBlock
 pub mod IdleRuns
+mod LeftAtOnce
 pub mod IdleStatement
 mod UnrunRuns
 pub mod UnrunValue
+mod TryRuns
+pub mod IdleTry
 pub mod LeftRuns
 pub mod SilentAnywhere
 pub mod UnusedPlace
@@ -74,6 +79,7 @@ pub mod IdleParts
 pub mod TwoSides
 pub mod UnusedObject
 pub mod KnownSizes
+pub mod KnownWeights
 pub mod KnownTests
 pub mod KnownOperation
 pub mod Edited

@@ -7,6 +7,7 @@ use Rattle.js_syntax.specs.Facts.{weight}
 use Rattle.js_syntax.specs.Node.{Forest, Tree, Note, alone, total, forest_of}
 use Rattle.js_tree.specs.Count.{levels}
 use Rattle.js_tree.specs.Names.{eval_name}
+use Rattle.js_meaning.specs.Kept.{Refined}
 use Rattle.js_meaning_near.specs.Near.{fields, module_of}
 use Rattle.js_meaning_near.specs.Local.{Local}
 use Rattle.js_meaning_near.specs.Purpose.{for_values}
@@ -86,11 +87,18 @@ IsUnexported t x in_with c next =
     (z : shed.Around) → Within t (sites (inside c next x.kind x.below) 0 (next + opens_one x.kind x.below) x.below) → stands_right z.row x.kind x.below ≡ true → Seeks t z.sought z.exported c
     → exports_none z.exported (declared z.sought 0 (alone x.kind x.note x.below)) ≡ true
 
+-- a module that refines another, and is one with the same notes
+pub record LeftModule (n m : Note) (b u : Forest) : Type 0 where
+  pub items : Forest
+  pub is : u ≡ module_of n m items
+  pub refined : Refined (module_of n m b) u
+
 -- How it is known that a core module does what it did without an item: it is a step, for which runs are kept, or a change that no run
--- shows, whatever is known of names.
+-- shows, whatever is known of names, or it is shown of the module as a whole.
 pub data LeavesRuns (a : Around) (x : Tree) : Type 0 where
   by_going : (is_well_placed (plug a (Some x)) ≡ true → Good (plug a (Some x)) → Step steps.outermost (plug a (Some x)) (without a)) → LeavesRuns a x
   by_change : ((n m : Note) (b : Forest) → plug a (Some x) ≡ module_of n m b → Fits root (module_of n m b) → IsWellFormed (module_of n m b) → all_core (module_of n m b) ≡ true → Local for_values fields (plug a (Some x)) (without a)) → LeavesRuns a x
+  by_refining : ((n m : Note) (b : Forest) → plug a (Some x) ≡ module_of n m b → Fits root (module_of n m b) → IsWellFormed (module_of n m b) → all_core (module_of n m b) ≡ true → LeftModule n m b (without a)) → LeavesRuns a x
 
 -- An item that leaves its list.
 pub record Leaving (a : Around) (x : Tree) : Type 0 where

@@ -24,6 +24,7 @@ use Rattle.steps_allowed.specs.UnusedDeclaration.{unused_declaration_leaves}
 use Rattle.steps_allowed.specs.UnusedImport.{unused_import_leaves}
 use Rattle.steps_allowed.specs.Unreached.{is_behind_jump, never_runs}
 use Rattle.steps_allowed.specs.IdleStatement.{does_nothing, idle_leaves}
+use Rattle.steps_allowed.specs.RepeatedImport.{repeated_import_leaves}
 use Rattle.steps_allowed.specs.Untaken.{is_untaken, never_taken}
 use Rattle.steps_allowed.specs.Edits as edits
 use Rattle.steps_allowed.specs.Edits.{Leaves}
@@ -148,6 +149,7 @@ no_call a x (edits.unused_import (unused_import_leaves k n m name binds imported
 no_call a x (edits.unreached (never_runs item jump runs none)) front taken acts fits = absurd (true≢false (sym jump ∙ front))
 no_call a x (edits.untaken (never_taken item untaken runs none)) front taken acts fits = absurd (true≢false (sym untaken ∙ taken))
 no_call a x (edits.idle_statement (idle_leaves item idle none)) front taken acts fits = absurd (true≢false (sym idle ∙ acts))
+no_call a x (edits.repeated_import (repeated_import_leaves source n m item asked)) front taken acts fits = refl
 
 -- and it isn't the name that is called
 no_name : (a : Around) (x : Tree) → Leaves a x → is_behind_jump false a ≡ false → is_untaken false a ≡ false → does_nothing x.kind x.below ≡ false → (rest : Forest) → is_some (eval_name (node x.kind x.note x.below rest)) ≡ true → false ≡ true
@@ -160,6 +162,7 @@ no_name a x (edits.unused_import (unused_import_leaves k n m name binds imported
 no_name a x (edits.unreached (never_runs item jump runs none)) front taken acts rest e = absurd (true≢false (sym jump ∙ front))
 no_name a x (edits.untaken (never_taken item untaken runs none)) front taken acts rest e = absurd (true≢false (sym untaken ∙ taken))
 no_name a x (edits.idle_statement (idle_leaves item idle none)) front taken acts rest e = absurd (true≢false (sym idle ∙ acts))
+no_name a x (edits.repeated_import (repeated_import_leaves source n m item asked)) front taken acts rest e = e
 
 none_there : (n : ℕ) (b : Bool) → (1 ≤ n → b ≡ true) → b ≡ false → n ≡ 0
 none_there zero b f e = refl

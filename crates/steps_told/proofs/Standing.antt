@@ -164,6 +164,7 @@ list_outside k l below at = never l
 -- what a part of a node may stand for
 pub plain_outside : (k : Kind) → gives_way k ≡ true → (below : Forest) (at : ℕ) → is_within k below at ≡ false
 plain_outside kind.IfStatement g below at = refl
+plain_outside kind.TryStatement g below at = refl
 plain_outside kind.ConditionalExpression g below at = refl
 plain_outside (kind.LogicalExpression operator) g below at = refl
 plain_outside (kind.UnaryExpression operator) g below at = refl

@@ -25,7 +25,7 @@ use Rattle.scope_laws.specs.Exact.{Among}
 use Rattle.scope_laws.specs.Place.{Around, first, behind, behind_none, under, plug}
 use Rattle.steps_names.specs.Standing.{exported_declarations}
 use Rattle.steps.specs.Steps.{binds_import}
-use Rattle.steps_allowed.specs.Rows.{null, logical as either, value_of_a, in_list, in_statement, past, throws, statement, called, argument, before, sequence, applied, call_of_a, call_of_eval, exports_declaration, empty, only_import}
+use Rattle.steps_allowed.specs.Rows.{null, logical as either, value_of_a, in_list, in_statement, past, throws, statement, called, argument, before, sequence, applied, call_of_a, call_of_eval, exports_declaration, empty, only_import, behind_import}
 use Rattle.steps_allowed.specs.KnownConditional.{consequent_is_taken, alternate_is_taken}
 use Rattle.steps_allowed.specs.KnownSide.{right_side_counts, left_side_decides}
 use Rattle.steps_allowed.specs.UnusedOperation.{needed_at, one_operand_acts}
@@ -35,17 +35,21 @@ use Rattle.steps_allowed.specs.OneSidedChoice.{one_sided, one_branch_acts}
 use Rattle.steps_allowed.specs.IdleParts.{sequence_becomes, idle_parts_leave}
 use Rattle.steps_allowed.specs.TwoSides.{two_sides as two_sides_at, both_sides_act}
 use Rattle.steps_allowed.specs.UnusedObject.{object_becomes, acting_values_stay}
-use Rattle.steps_allowed.specs.KnownOperation.{known_literal, value_is_known}
+use Rattle.steps_allowed.specs.KnownOperation.{known_literal, value_is_known, negative_is_known}
+use Rattle.steps_owed.proofs.KnownOperation.{Negative, under_one, under_two, is_negative_known}
 use Rattle.steps_allowed.specs.KnownIf.{consequent_is_run, alternate_is_run}
 use Rattle.steps_allowed.specs.DeadIf.{nothing_is_run}
 use Rattle.steps_allowed.specs.EmptyBlock.{holds_nothing, empty_block_leaves}
 use Rattle.steps_allowed.specs.Unreached.{only_runs, never_runs}
 use Rattle.steps_allowed.specs.Untaken.{never_taken}
+use Rattle.steps_allowed.specs.RepeatedImport.{repeated_import_leaves}
 use Rattle.steps_allowed.specs.IdleStatement.{idle_leaves}
+use Rattle.steps_allowed.specs.IdleTry.{finalizer_is_run, finalizer_is_run_alone, block_is_run}
 use Rattle.steps_allowed.specs.UnrunValue.{is_value_of, is_value, value_never_given}
 use Rattle.steps_allowed.specs.Uses.{Use}
 use Rattle.steps_owed.proofs.IdleStatement.{idle_runs}
-use Rattle.headline.specs.Clean.{IsDead, an_empty_statement, an_empty_block, a_silent_statement, an_unused_function, an_unused_declarator, an_unused_import, a_known_conditional, a_known_side, an_unused_operation, an_unused_list, an_indirect_choice, a_one_sided_choice, idle_parts, two_sides, an_unused_object, a_known_operation, a_known_if, a_dead_if, an_unreached_statement, an_untaken_statement, an_unrun_value, an_idle_statement, Clean}
+use Rattle.headline.specs.Headline.{ImportsAreUsed}
+use Rattle.headline.specs.Clean.{IsDead, an_empty_statement, an_empty_block, a_silent_statement, an_unused_function, an_unused_declarator, an_unused_import, a_known_conditional, a_known_side, an_unused_operation, an_unused_list, an_indirect_choice, a_one_sided_choice, idle_parts, two_sides, an_unused_object, a_known_operation, a_known_if, a_dead_if, an_unreached_statement, an_untaken_statement, an_unrun_value, an_idle_statement, a_repeated_import, an_idle_try, Clean}
 use Rattle.min_peephole.specs.Quiet.{is_quiet}
 use Rattle.min_peephole.proofs.Quieted.{quiet_clean}
 use Rattle.test_headline.specs.Rows as row
@@ -69,6 +73,14 @@ function_is_dead c = c.nothing_is_dead (before []) _ refl (an_unused_function (b
 -- import a from 'm';
 pub import_is_dead : Clean (a_module (imports a ∷ [])) → ⊥
 import_is_dead c = c.nothing_is_dead only_import _ refl (an_unused_import only_import Kind.ImportDefaultSpecifier nowhere nowhere a refl refl refl refl refl (record { unreferred = λ r h e. h; unexported = λ e h s d. h }))
+
+-- import a from 'm'; import 'm';
+pub repeated_is_dead : Clean row.imports_again → ⊥
+repeated_is_dead c = c.nothing_is_dead behind_import _ refl (a_repeated_import behind_import _ (repeated_import_leaves (codes "m") nowhere nowhere refl refl))
+
+-- to its name nothing refers
+pub import_is_unused : ImportsAreUsed (a_module (imports a ∷ [])) → ⊥
+import_is_unused used = used only_import Kind.ImportDefaultSpecifier nowhere nowhere a refl refl refl (record { unreferred = λ r h e. h; unexported = λ e h s d. h })
 
 -- behind the first of them
 abbrev second_declarator : Around
@@ -129,6 +141,10 @@ given = in_statement (under (Kind.CallExpression false false) nowhere (past (rea
 pub part_is_dead : Clean row.uses_sequence → ⊥
 part_is_dead c = c.nothing_is_dead given _ refl (idle_parts given _ _ (idle_parts_leave nowhere nowhere _ _ refl))
 
+-- (1, o.g)();
+pub behind_one_is_dead : Clean row.calls_behind_one → ⊥
+behind_one_is_dead c = c.nothing_is_dead called _ refl (idle_parts called _ _ (idle_parts_leave nowhere nowhere _ _ refl))
+
 -- a() === b();
 pub sides_are_dead : Clean row.compares_calls → ⊥
 sides_are_dead c = c.nothing_is_dead statement _ refl (two_sides statement _ _ (both_sides_act nowhere nowhere _ _ refl refl))
@@ -165,6 +181,14 @@ unreached_is_dead c = c.nothing_is_dead behind_throw _ refl (an_unreached_statem
 -- l: while (null) a();
 pub loop_is_dead : Clean row.never_turns → ⊥
 loop_is_dead c = c.nothing_is_dead (before []) _ refl (an_idle_statement (before []) _ (idle_leaves refl refl refl))
+
+-- l: { break l; a(); }
+pub label_is_dead : Clean row.leaves_label → ⊥
+label_is_dead c = c.nothing_is_dead (before []) _ refl (an_idle_statement (before []) _ (idle_leaves refl refl refl))
+
+-- try {} finally { a(); }
+pub try_is_dead : Clean row.runs_finalizer → ⊥
+try_is_dead c = c.nothing_is_dead (before []) _ refl (an_idle_try (before []) _ _ (finalizer_is_run nowhere nowhere nowhere _ _ refl refl))
 
 -- if (null) var a = b(); use(a);
 pub value_is_dead : Clean row.gives_call → ⊥
@@ -329,7 +353,7 @@ behind_one_stands = ((a_literal, (Literal.Number (pos 1), tt), refl, tt, refl, t
 behind_one_calls : Stand (these (one_of expression ∷ [])) (sample.call (sequence (one ∷ row.member_g ∷ [])) [])
 behind_one_calls = ((a_call_expression, (false, (false, tt)), refl, tt, refl, ((a_sequence_expression, tt, refl, tt, refl, ((refl, behind_one_stands), tt)), ((refl, tt), tt))), tt)
 
-behind_one_fits : Fits root row.calls_behind_one
+pub behind_one_fits : Fits root row.calls_behind_one
 behind_one_fits = (
   (
     a_program,
@@ -347,9 +371,6 @@ behind_one_fits = (
   ),
   tt,
 )
-
-pub behind_one_is_clean : Clean row.calls_behind_one
-behind_one_is_clean = quiet_clean _ behind_one_fits refl
 
 -- a + b;
 names_stand : Stand (these (one_of expression ∷ one_of expression ∷ [])) (joined (reads a) (reads (codes "b")))
@@ -571,6 +592,7 @@ is_suspect Kind.ObjectExpression = true
 is_suspect (Kind.ImportSpecifier name) = true
 is_suspect Kind.ImportDefaultSpecifier = true
 is_suspect Kind.ImportNamespaceSpecifier = true
+is_suspect (Kind.ImportDeclaration source) = true
 is_suspect k = only_runs k
 
 abbrev has_suspect : Forest → Bool
@@ -638,6 +660,10 @@ known_suspect (Kind.UnaryExpression o) n below v h = refl
 known_suspect (Kind.BinaryExpression o) n below v h = refl
 known_suspect k n below v h = absurd Prim.cc
 
+negative_suspect : (k : Kind) (n : Note) (below : Forest) (i : ℕ) → Negative k n below i → is_suspect k ≡ true
+negative_suspect _ n below i (under_one o _ _ _ idle may is) = refl
+negative_suspect _ n below i (under_two o _ _ _ idle may is) = refl
+
 runs_suspect : (k : Kind) → only_runs k ≡ true → is_suspect k ≡ true
 runs_suspect Kind.EmptyStatement h = refl
 runs_suspect Kind.ExpressionStatement h = refl
@@ -654,6 +680,7 @@ runs_suspect Kind.ObjectExpression h = refl
 runs_suspect (Kind.ImportSpecifier name) h = refl
 runs_suspect Kind.ImportDefaultSpecifier h = refl
 runs_suspect Kind.ImportNamespaceSpecifier h = refl
+runs_suspect (Kind.ImportDeclaration source) h = refl
 runs_suspect k h = h
 
 block_suspect : (k : Kind) (below : Forest) → holds_nothing k below ≡ true → is_suspect k ≡ true
@@ -685,6 +712,7 @@ dead_suspect t a x is (idle_parts b _ _ (idle_parts_leave n m y z leave)) = ap h
 dead_suspect t a x is (two_sides b _ _ (both_sides_act n m y z unused act)) = ap has_suspect is ∙ suspect_there b y (both_suspect n m y.kind y.below z act)
 dead_suspect t a x is (an_unused_object b _ _ (acting_values_stay n m y z unused becomes)) = ap has_suspect is ∙ suspect_there b y (object_suspect n m y.kind y.below z becomes)
 dead_suspect t a x is (a_known_operation b _ _ (value_is_known i v y known)) = ap has_suspect is ∙ suspect_there b y (known_suspect y.kind y.note y.below v known)
+dead_suspect t a x is (a_known_operation b _ _ (negative_is_known i j m y known)) = ap has_suspect is ∙ suspect_there b y (negative_suspect y.kind y.note y.below m (is_negative_known y.kind y.note y.below m known))
 dead_suspect t a x is (a_known_if b y z (consequent_is_run n m i v k c d e truth branch field none)) = ap has_suspect is ∙ suspect_there b _ refl
 dead_suspect t a x is (a_known_if b y z (alternate_is_run n m i j v k l c d e truth branch none)) = ap has_suspect is ∙ suspect_there b _ refl
 dead_suspect t a x is (a_dead_if b y z (nothing_is_run n m i j v k c d truth none)) = ap has_suspect is ∙ suspect_there b _ refl
@@ -692,7 +720,11 @@ dead_suspect t a x is (an_empty_block b y (empty_block_leaves item held)) = ap h
 dead_suspect t a x is (an_unreached_statement b y (never_runs item jump runs none)) = ap has_suspect is ∙ suspect_there b y (runs_suspect y.kind runs)
 dead_suspect t a x is (an_untaken_statement b y (never_taken item untaken runs none)) = ap has_suspect is ∙ suspect_there b y (runs_suspect y.kind runs)
 dead_suspect t a x is (an_unrun_value b y _ (value_never_given n _ given unrun drops)) = ap has_suspect is ∙ value_suspect b y given
+dead_suspect t a x is (an_idle_try b y z (finalizer_is_run n i j c d idle loops)) = ap has_suspect is ∙ suspect_there b _ refl
+dead_suspect t a x is (an_idle_try b y z (finalizer_is_run_alone n i h j k c d e idle none loops)) = ap has_suspect is ∙ suspect_there b _ refl
+dead_suspect t a x is (an_idle_try b y z (block_is_run n i h k c d idle none)) = ap has_suspect is ∙ suspect_there b _ refl
 dead_suspect t a x is (an_idle_statement b y (idle_leaves item idle none)) = ap has_suspect is ∙ suspect_there b y (runs_suspect y.kind (idle_runs y.kind y.below idle))
+dead_suspect t a x is (a_repeated_import b _ (repeated_import_leaves source n m item asked)) = ap has_suspect is ∙ suspect_there b _ refl
 
 -- A declaration goes with the last of its declarators, and stays where it has none.
 pub nothing_declared_is_clean : Clean row.declares_nothing

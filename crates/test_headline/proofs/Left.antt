@@ -36,7 +36,7 @@ use Rattle.headline.proofs.Headline.{headline_of}
 use Rattle.headline_text.specs.Written.{written}
 use Rattle.min_peephole.proofs.Quieted.{quiet_clean}
 use Rattle.test_headline.specs.Rows as row
-use Rattle.test_headline.proofs.Dead.{name_stands, member_stands, call_is_clean as a_is_clean, sequence_is_clean, receiver_is_clean, other_stands, given, guarded_is_clean, use_is_clean, true_is_clean}
+use Rattle.test_headline.proofs.Dead.{name_stands, member_stands, call_is_clean as a_is_clean, sequence_is_clean, receiver_is_clean, behind_one_fits, other_stands, given, guarded_is_clean, use_is_clean, true_is_clean}
 
 number_stands : Stand (all argument) (sample.number_of 1)
 number_stands = ((a_literal, (Literal.Number (pos 1), tt), refl, tt, refl, tt), tt)
@@ -335,6 +335,18 @@ first_goes = tree_edits_are_edits (one_tree_edit _ _ _ (becomes given _ _ (idle_
 
 pub last_left : Headline row.uses_sequence row.uses_a
 last_left = headline_of row.uses_sequence row.uses_a uses_fits uses_well_formed first_goes use_is_clean
+
+-- and a zero before it where it may not stand there itself
+
+behind_one_well_formed : IsWellFormed row.calls_behind_one
+unfolding is_identifier_name
+behind_one_well_formed = refl
+
+one_goes : Edits row.calls_behind_one row.calls_without_receiver
+one_goes = tree_edits_are_edits (one_tree_edit _ _ _ (becomes called _ _ (idle_parts (idle_parts_leave nowhere nowhere _ _ refl))) (no_tree_edit _))
+
+pub behind_zero_left : Headline row.calls_behind_one row.calls_without_receiver
+behind_zero_left = headline_of row.calls_behind_one row.calls_without_receiver behind_one_fits behind_one_well_formed one_goes receiver_is_clean
 
 -- ---- of a comparison of two calls these are left, and of an object literal the call that it holds
 

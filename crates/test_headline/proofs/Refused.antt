@@ -14,7 +14,7 @@ use Rattle.js_meaning.specs.Trace.{Act, ShownExport, Event, Ending, ended, Run}
 use Rattle.js_meaning.specs.Kept.{Kept, KeptBack, Keeps, ComesBack}
 use Rattle.headline.specs.Headline.{Headline}
 use Rattle.test_headline.specs.Rows as row
-use Rattle.test_headline.proofs.Dead.{number_is_dead, conditional_is_dead, side_is_dead, operation_is_dead, list_is_dead, choice_is_dead, branch_is_dead, part_is_dead, sides_are_dead, object_is_dead, known_is_dead, if_holds_is_dead, if_fails_is_dead, unreached_is_dead, untaken_is_dead, acting_is_dead, block_is_dead, loop_is_dead, value_is_dead}
+use Rattle.test_headline.proofs.Dead.{number_is_dead, conditional_is_dead, side_is_dead, operation_is_dead, list_is_dead, choice_is_dead, branch_is_dead, part_is_dead, behind_one_is_dead, sides_are_dead, object_is_dead, known_is_dead, if_holds_is_dead, if_fails_is_dead, unreached_is_dead, untaken_is_dead, acting_is_dead, block_is_dead, loop_is_dead, value_is_dead, label_is_dead, try_is_dead}
 use Rattle.test_headline.proofs.Runs.{answers, gives_function, empty_runs, export_runs, call_runs, import_runs, own_call_runs, no_call_runs, chosen_runs, member_runs, loop_runs}
 
 -- what is asked of two runs is asked of what they compute to
@@ -115,6 +115,9 @@ branch_goes h = branch_is_dead h.clean
 pub part_goes : Headline row.uses_sequence row.uses_sequence → ⊥
 part_goes h = part_is_dead h.clean
 
+pub behind_one_goes : Headline row.calls_behind_one row.calls_behind_one → ⊥
+behind_one_goes h = behind_one_is_dead h.clean
+
 pub sides_go : Headline row.compares_calls row.compares_calls → ⊥
 sides_go h = sides_are_dead h.clean
 
@@ -135,6 +138,12 @@ block_goes h = block_is_dead h.clean
 
 pub unreached_goes : Headline row.calls_behind_throw row.calls_behind_throw → ⊥
 unreached_goes h = unreached_is_dead h.clean
+
+pub label_goes : Headline row.leaves_label row.leaves_label → ⊥
+label_goes h = label_is_dead h.clean
+
+pub try_goes : Headline row.runs_finalizer row.runs_finalizer → ⊥
+try_goes h = try_is_dead h.clean
 
 pub value_goes : Headline row.gives_call row.gives_call → ⊥
 value_goes h = value_is_dead h.clean

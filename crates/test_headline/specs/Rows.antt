@@ -10,7 +10,8 @@ use Rattle.js_syntax.specs.declared.value.Key.TheVariants as key
 use Rattle.js_syntax.specs.declared.value.LiteralValue.{LiteralValue as Literal}
 use Rattle.js_syntax.specs.Node.{Forest, joined}
 use Rattle.form_rules.specs.Samples as form
-use Rattle.steps_allowed.specs.Rows.{call_of_a, call_of_eval, exports_declaration, labeled, throws, null, if_null, either_way, conditional, logical as either, applied, equals, array, sequence, behind_zero, while_}
+use Rattle.steps_allowed.specs.Rows.{call_of_a, call_of_eval, exports_declaration, breaks_label, finally_alone, labeled, throws, null, if_null, either_way, imports_nothing, conditional, logical as either, applied, equals, array, sequence, behind_zero, while_}
+use Rattle.scope_rules.specs.Samples.{imports}
 use Rattle.js_meaning.specs.Samples as sample
 use Rattle.js_meaning.specs.Examples.{g, o, function_g, says_number}
 
@@ -225,6 +226,14 @@ use_of_a = calls (form.reads (codes "use")) (form.reads form.a ∷ [])
 abbrev pub gives_call : Forest
 gives_call = form.a_module (if_null (form.declares variable.Var (form.binds form.a) call_of_b) form.no ∷ use_of_a ∷ [])
 
+-- l: { break l; a(); }
+abbrev pub leaves_label : Forest
+leaves_label = form.a_module (labeled (form.block (breaks_label ∷ form.does call_of_a ∷ [])) ∷ [])
+
+-- try {} finally { a(); }
+abbrev pub runs_finalizer : Forest
+runs_finalizer = form.a_module (finally_alone (form.does call_of_a ∷ []) ∷ [])
+
 -- l: while (null) a();
 abbrev pub never_turns : Forest
 never_turns = form.a_module (labeled (while_ null (form.does call_of_a)) ∷ [])
@@ -236,3 +245,7 @@ never_holds = form.a_module (either_way (either logical.And (form.reads form.a) 
 -- if (null) { var a = 1; b(); } use(a);
 abbrev pub keeps_variable : Forest
 keeps_variable = form.a_module (if_null (form.block (form.declares variable.Var (form.binds form.a) form.one ∷ form.does call_of_b ∷ [])) form.no ∷ use_of_a ∷ [])
+
+-- import a from 'm'; import 'm';
+abbrev pub imports_again : Forest
+imports_again = form.a_module (imports form.a ∷ imports_nothing ∷ [])

@@ -1,13 +1,13 @@
 // Small modules that the headline is tried on. Each is a contract, so that the check computes it.
-ghost use Rattle.std.specs.Prelude.{◌≡◌, [], ◌∷◌, true, false};
+ghost use Rattle.std.specs.Prelude.{◌≡◌, [], ◌∷◌, true, false, codes};
 ghost use Rattle.js_syntax.specs.Class.{root};
 ghost use Rattle.js_syntax.specs.declared.kind.VariableKind.TheVariants as variable;
 ghost use Rattle.js_meaning.specs.Kept.{Kept, KeptBack};
-ghost use Rattle.form_rules.specs.Samples.{a_module, a_script, a, binds, one, does, declares, function_a, block};
+ghost use Rattle.form_rules.specs.Samples.{a_module, a_script, a, binds, one, does, declares, let_, var_, function_a, block};
 ghost use Rattle.json_shape.specs.Shape.{Fits};
-ghost use Rattle.scope_rules.specs.Samples.{imports};
+ghost use Rattle.scope_rules.specs.Samples.{b, imports};
 ghost use Rattle.headline.specs.Clean.{Clean};
-ghost use Rattle.headline.specs.Headline.{Edits, Headline};
+ghost use Rattle.headline.specs.Headline.{Edits, Headline, loaded, root_names, ImportsAreUsed};
 ghost use Rattle.headline_text.specs.Written.{written};
 ghost use Rattle.min_peephole.specs.Quiet.{is_quiet};
 ghost use Rattle.steps_allowed.specs.Rows.{call_of_a, call_of_eval, exports_declaration, empty};
@@ -64,10 +64,10 @@ pub fn what_others_may_use_stays()
 {}
 
 /// `1;` doesn't stay, nor does the conditional of `a(true ? a : b);`, of `(1 ? o.g : null)();` or of `a ? b() : 1;`, what stands right in
-/// `null && a();`, what of `!(a() === 1);`, of `[a(), 1];` and of `({ a: a() });` is no call, the `1` of `use((1, a));`, the comparison
-/// of `a() === b();`, the negation of `use(!0);`, the `if` of `if (1) a(); else b();` and of `if (null) a();`, the call of `throw 1; a();`,
-/// that of `b` in `if (null) { var a = 1; b(); } use(a);` and in `if (a && null) { b(); }`, `l: { {} }`, `l: while (null) a();`, or the call of
-/// `if (null) var a = b(); use(a);`.
+/// `null && a();`, what of `!(a() === 1);`, of `[a(), 1];` and of `({ a: a() });` is no call, the `1` of `use((1, a));` and of `(1, o.g)();`, the
+/// comparison of `a() === b();`, the negation of `use(!0);`, the `if` of `if (1) a(); else b();` and of `if (null) a();`, the call of `throw 1; a();`,
+/// that of `b` in `if (null) { var a = 1; b(); } use(a);` and in `if (a && null) { b(); }`, `l: { {} }`, `l: while (null) a();`, the call of
+/// `if (null) var a = b(); use(a);`, `l: { break l; a(); }`, or the `try` of `try {} finally { a(); }`.
 pub fn dead_code_goes()
     ensures number { Headline row.dead row.dead → ⊥ }
     ensures conditional { Headline row.takes_branch row.takes_branch → ⊥ }
@@ -77,6 +77,7 @@ pub fn dead_code_goes()
     ensures called { Headline row.calls_chosen row.calls_chosen → ⊥ }
     ensures branch { Headline row.chooses_call row.chooses_call → ⊥ }
     ensures idle { Headline row.uses_sequence row.uses_sequence → ⊥ }
+    ensures behind_one { Headline row.calls_behind_one row.calls_behind_one → ⊥ }
     ensures sides { Headline row.compares_calls row.compares_calls → ⊥ }
     ensures object { Headline row.holds_call row.holds_call → ⊥ }
     ensures known { Headline row.uses_negation row.uses_negation → ⊥ }
@@ -88,18 +89,23 @@ pub fn dead_code_goes()
     ensures block { Headline row.labels_nothing row.labels_nothing → ⊥ }
     ensures never_turns { Headline row.never_turns row.never_turns → ⊥ }
     ensures unrun { Headline row.gives_call row.gives_call → ⊥ }
+    ensures left_at_once { Headline row.leaves_label row.leaves_label → ⊥ }
+    ensures finalizer { Headline row.runs_finalizer row.runs_finalizer → ⊥ }
 {}
 
 /// `1;` is dead code, and so are `{ ; }`'s empty statement, a function that nothing calls, one of two declarators, a name of an import that
 /// nothing refers to: `import a from 'm';`, a conditional on a literal, or on an array: `a([] ? a : b);`, a logical expression with a
 /// literal on its left, an operation of which nobody takes the value, where one operand alone acts, an array of which nobody takes the
 /// value, a conditional on a literal that is called so that what it gives has no receiver: `(1 ? o.g : null)();`, a conditional of which nobody takes the value and one branch alone acts: `a ? b() : 1;`, a sequence that is
-/// used for its value, of which a part before the last doesn't act: `use((1, a));`, a comparison of which nobody takes the value, though
+/// used for its value, of which a part before the last doesn't act: `use((1, a));`, also where the last may not stand there itself:
+/// `(1, o.g)();`, a comparison of which nobody takes the value, though
 /// both sides act: `a() === b();`, an object literal of which nobody takes the value, that holds a call: `({ a: a() });`, an operation
 /// on a literal, of which the value is known: `use(!0);`, an `if` on a literal, whether a branch of it runs: `if (1) a(); else b();`, or
 /// none: `if (null) a();`, a statement behind a jump: `throw 1; a();`, one of a branch that isn't taken and has to stay for
 /// the name that it declares: `if (null) { var a = 1; b(); } use(a);`, or for its test: `if (a && null) { b(); }`, a block of nothing, or what labels one: `l: { {} }`, a loop that
-/// never turns: `l: while (null) a();`, and a value that is never given: `if (null) var a = b(); use(a);`.
+/// never turns: `l: while (null) a();`, a value that is never given: `if (null) var a = b(); use(a);`, an import
+/// without names behind one of its module: `import a from 'm'; import 'm';`, what a jump to its label leaves at once:
+/// `l: { break l; a(); }`, and a `try` around nothing: `try {} finally { a(); }`.
 pub fn dead_code_is_told()
     ensures number { Clean (a_module (does one ∷ [])) → ⊥ }
     ensures empty { Clean (a_module (block (empty ∷ []) ∷ [])) → ⊥ }
@@ -114,6 +120,7 @@ pub fn dead_code_is_told()
     ensures called { Clean row.calls_chosen → ⊥ }
     ensures branch { Clean row.chooses_call → ⊥ }
     ensures idle { Clean row.uses_sequence → ⊥ }
+    ensures behind_one { Clean row.calls_behind_one → ⊥ }
     ensures sides { Clean row.compares_calls → ⊥ }
     ensures object { Clean row.holds_call → ⊥ }
     ensures known { Clean row.uses_negation → ⊥ }
@@ -125,10 +132,13 @@ pub fn dead_code_is_told()
     ensures block { Clean row.labels_nothing → ⊥ }
     ensures never_turns { Clean row.never_turns → ⊥ }
     ensures unrun { Clean row.gives_call → ⊥ }
+    ensures repeated { Clean row.imports_again → ⊥ }
+    ensures left_at_once { Clean row.leaves_label → ⊥ }
+    ensures finalizer { Clean row.runs_finalizer → ⊥ }
 {}
 
 /// A call is none, nor a function that is exported, a variable beside a direct call of `eval`, a function of a script, a
-/// sequence that is called so that what it gives has no receiver, whatever stands in front: `(0, o.g)();` and `(1, o.g)();`, a sum of
+/// sequence that is called so that what it gives has no receiver, where a zero stands in front: `(0, o.g)();`, a sum of
 /// which both sides may act, as names do that nothing declares: `a + b;`, a sequence of two calls: `a(), b();`, an object literal of
 /// which a call gives the prototype: `({ __proto__: a() });`, and the minus by which a negative number is written: `use(-1);`.
 pub fn what_others_may_use_is_no_dead_code()
@@ -137,7 +147,6 @@ pub fn what_others_may_use_is_no_dead_code()
     ensures evaluated { Clean (a_module (declares variable.Let (binds a) one ∷ does call_of_eval ∷ [])) }
     ensures global { Clean (a_script (function_a [] [] ∷ [])) }
     ensures receiver { Clean row.calls_without_receiver }
-    ensures behind_one { Clean row.calls_behind_one }
     ensures names { Clean row.adds_names }
     ensures sequence { Clean row.calls_both }
     ensures prototype { Clean row.sets_prototype }
@@ -155,7 +164,7 @@ pub fn rules_take_dead_code_alone()
 {}
 
 /// `f(1);` may take the place of `f(1); 2;`, `a();` that of `!(a() === 1);`, of `[a(), 1];` and of `({ a: a() });`, `a(), b();` that of
-/// `[a(), 1, b()];` and of `a() === b();`, `(0, o.g)();` that of `(1 ? o.g : null)();`, `a && b();` that of `a ? b() : 1;`, `use(a);`
+/// `[a(), 1, b()];` and of `a() === b();`, `(0, o.g)();` that of `(1 ? o.g : null)();` and of `(1, o.g)();`, `a && b();` that of `a ? b() : 1;`, `use(a);`
 /// that of `use((1, a));`, and `use(true);` that of `use(!0);`.
 pub fn what_is_left()
     ensures statement { Headline row.with_dead row.calls_host }
@@ -165,6 +174,7 @@ pub fn what_is_left()
     ensures value { Headline row.calls_chosen row.calls_without_receiver }
     ensures branch { Headline row.chooses_call row.calls_behind_a }
     ensures last { Headline row.uses_sequence row.uses_a }
+    ensures behind_zero { Headline row.calls_behind_one row.calls_without_receiver }
     ensures sides { Headline row.compares_calls row.calls_both }
     ensures held { Headline row.holds_call row.calls_a }
     ensures known { Headline row.uses_negation row.uses_true }
@@ -174,4 +184,16 @@ pub fn what_is_left()
 pub fn what_is_written()
     ensures edits { Edits row.with_negative row.less_four }
     ensures written { written row.less_four ≡ row.with_minus }
+{}
+
+/// A module that is asked for twice is loaded once: `import a from 'm'; import b from 'm';` loads what `import a from 'm';` does, and the
+/// empty program loads nothing. A script with `function a() {}` and `{ let a; var b; }` declares `a` and `b` in its own scope, and without
+/// the function `b` alone. Of `import a from 'm';` the name is one to which nothing refers.
+pub fn what_stays_is_told()
+    ensures twice { loaded (a_module (imports a ∷ imports b ∷ [])) ≡ loaded (a_module (imports a ∷ [])) }
+    ensures once { loaded (a_module (imports a ∷ [])) ≡ codes "m" ∷ [] }
+    ensures never { loaded row.empty ≡ [] }
+    ensures both { root_names (a_script (function_a [] [] ∷ block (let_ a ∷ var_ b ∷ []) ∷ [])) ≡ a ∷ b ∷ [] }
+    ensures one { root_names (a_script (block (let_ a ∷ var_ b ∷ []) ∷ [])) ≡ b ∷ [] }
+    ensures unused { ImportsAreUsed (a_module (imports a ∷ [])) → ⊥ }
 {}

@@ -1,6 +1,6 @@
 use Rattle.std.proofs.Common.{◌∙◌, length, drop, None, sym, ap, arith}
 use Rattle.js_syntax.specs.Node.{row}
-use Rattle.steps_allowed.specs.IdleParts.{counting, as_value_of}
+use Rattle.steps_allowed.specs.IdleParts.{more_before, counting, as_value_of}
 use Rattle.rules_expressions.specs.Lists.{new_note}
 use Rattle.rules_expressions.specs.Uses.{spot_of}
 use Rattle.min_expressions.specs.Sequences.{parts_go}
@@ -29,7 +29,7 @@ returns-in-Some-clause-kept c =
     let s = spot_of c.args.ctx.now.place in
     let w = is_sequence s c.args.node.now.kind c.args.node.now.below c.requires.goes in
     sequence_kept s c.args.node.now w (its_list w.has c.replace_children-children.ensures.taken c.as_mut_slice.ensures.value c.take_at.ensures.taken c.in-Some.is)
-    (ap (λ p. as_value_of s.used_as s.in_with (record { span = p; id = None }) (new_note c.in-Some.list.note) (counting c.in-Some.list.below)) (sym c.span-span.ensures) ∙ c.left_of-left.ensures.kept) c.replace_expression.ensures.put
+    (ap (λ p. as_value_of s.used_as s.in_with (more_before c.in-Some.list.below) (record { span = p; id = None }) (new_note c.in-Some.list.note) (counting c.in-Some.list.below)) (sym c.span-span.ensures) ∙ c.left_of-left.ensures.kept) c.replace_expression.ensures.put
 
 pub returns-in-Some-clause-edited : goal.returns-in-Some-clause-edited
 returns-in-Some-clause-edited c =

@@ -8,7 +8,7 @@ use Rattle.rules_expressions.proofs.Sequences.{sequence_answers_there}
 use Rattle.rules_expressions.proofs.TwoSides.{two_sides_answers_there}
 use Rattle.rules_expressions.proofs.Objects.{object_answers_there}
 use Rattle.rules_expressions.proofs.Operations.{known_answers}
-use Rattle.rules_expressions.proofs.Ifs.{known_if_answers, dead_if_answers}
+use Rattle.rules_expressions.proofs.Ifs.{known_if_answers, dead_if_answers, idle_try_answers}
 use Rattle.rules_expressions.proofs.laws.edits_are_answers.Goals as goal
 
 pub returns-clause-conditional : goal.returns-clause-conditional
@@ -46,3 +46,6 @@ returns-clause-known_if c = known_if_answers
 
 pub returns-clause-dead_if : goal.returns-clause-dead_if
 returns-clause-dead_if c = dead_if_answers
+
+pub returns-clause-idle_try : goal.returns-clause-idle_try
+returns-clause-idle_try c = idle_try_answers

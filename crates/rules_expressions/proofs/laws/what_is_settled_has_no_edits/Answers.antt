@@ -1,4 +1,4 @@
-use Rattle.rules_expressions.proofs.Settled.{no_conditional, no_side, no_unused, no_list, no_indirect, no_one_sided, no_sequence, no_two_sides, no_object, no_known, no_known_if, no_dead_if, no_unreached, no_untaken, no_idle, no_value, is_settled}
+use Rattle.rules_expressions.proofs.Settled.{no_conditional, no_side, no_unused, no_list, no_indirect, no_one_sided, no_sequence, no_two_sides, no_object, no_known, no_known_if, no_dead_if, no_try, no_unreached, no_untaken, no_idle, no_value, is_settled}
 use Rattle.rules_expressions.proofs.laws.what_is_settled_has_no_edits.Goals as goal
 
 pub returns-clause-conditional : goal.returns-clause-conditional
@@ -51,3 +51,6 @@ returns-clause-unrun c = no_value
 
 pub returns-clause-settled : goal.returns-clause-settled
 returns-clause-settled c = is_settled
+
+pub returns-clause-idle_try : goal.returns-clause-idle_try
+returns-clause-idle_try c = no_try
