@@ -1,7 +1,7 @@
 """Says which written files are stale: python3 tools/check.py, by hand, before what changed is handed in. It proves nothing.
 
-Looked at are the pages that scripts write, the files that tools/generate.py writes (the rows of tools/examples.py among them), the usage line
-that tools/shake.py repeats, the size of the README, and the links and files that the pages name.
+Looked at are the pages that scripts write, the files that tools/generate.py writes (the rows of tools/examples.py among them), the layout of
+all that the gate reads, the usage line that tools/shake.py repeats, the size of the README, and the links and files that the pages name.
 """
 import filecmp
 import pathlib
@@ -40,6 +40,13 @@ def generated():
                 yield '%s is stale: python3 tools/generate.py' % path
 
 
+def layout():
+    """Files that aren't in the toolchain's layout: the gate takes their crate as not proved."""
+    files = sorted(str(file) for part in ('src', 'specs', 'proofs') for file in FOLDER.glob('*/%s/**/*.*t' % part) if file.suffix in ('.rt', '.antt'))
+    said = subprocess.run(['rattle', 'fmt', '--check', *files], capture_output=True, text=True)
+    if said.returncode: yield from [line for line in (said.stdout + said.stderr).splitlines() if line]
+
+
 def usage():
     said = re.escape(shake.USAGE)
     if not any(re.search(said + r'\\n', file.read_text()) for file in FOLDER.glob('*/src/*.rt')):
@@ -65,7 +72,7 @@ def main():
     if shutil.which('rt') is None:
         print('rt is not on the PATH, and without it generated files have no layout to compare', file=sys.stderr)
         return 70
-    stale = [line for look in (pages, generated, usage, size, names) for line in look()]
+    stale = [line for look in (pages, generated, layout, usage, size, names) for line in look()]
     print('\n'.join(stale or ['nothing is stale, of %d crates' % len(CRATES)]))
     return 1 if stale else 0
 

@@ -6,7 +6,7 @@ use Rattle.symbol_sets.specs.Numbers.{has}
 use Rattle.scope_rules.specs.Table.{Reference, Scoping}
 use Rattle.scope_table.specs.Reading.{no_reference}
 use Rattle.exported_names.specs.Answers.{answers, is_bound, bound_of}
-use Rattle.rules_dead_code.specs.Knows.{TellsBound}
+use Rattle.rules.specs.DeadCode.Knows.{TellsBound}
 
 pub below_or_above : (m n : ℕ) → (m < n) ⊎ (n ≤ m)
 below_or_above m zero = inr (Prim.omega arith)

@@ -8,11 +8,11 @@ use Rattle.scope_rules.specs.Mark.{marked, first_marks}
 use Rattle.scope_rules.specs.Site.{sites_of, found_in}
 use Rattle.scope_rules.specs.Table.{scoping_of, symbols_declared}
 use Rattle.scope_counts.specs.Scopes.{unmarked}
-use Rattle.steps_allowed.specs.Exposure.{is_script}
-use Rattle.rules_dead_code.specs.Rules.{Facts}
-use Rattle.rules_dead_code.specs.Knows.{Knows}
-use Rattle.rules_dead_code.specs.Quiet.{IsExported}
-use Rattle.rules_dead_code.proofs.New.{new_known}
+use Rattle.steps.specs.Allowed.Exposure.{is_script}
+use Rattle.rules.specs.DeadCode.Rules.{Facts}
+use Rattle.rules.specs.DeadCode.Knows.{Knows}
+use Rattle.rules.specs.DeadCode.Quiet.{IsExported}
+use Rattle.rules.proofs.DeadCode.New.{new_known}
 use Rattle.exported_names.specs.Answers.{bound_of}
 use Rattle.exported_names.specs.Exported.{exported_of}
 use Rattle.exported_names.proofs.Listing.{bound_told}

@@ -12,12 +12,12 @@ use Rattle.scope_rules.specs.Table.{Symbol, Scoping}
 use Rattle.scope_table.specs.Reading.{no_symbol, symbol_at}
 use Rattle.scope_laws.specs.Exact.{Among}
 use Rattle.scope_laws.proofs.Bindings.{same_value}
-use Rattle.steps_names.specs.Standing.{exported_sites, exported_declarations}
+use Rattle.steps.specs.Naming.Standing.{exported_sites, exported_declarations}
 use Rattle.exported_names.specs.Answers.{answers}
 use Rattle.exported_names.specs.Exported.{with_exports, is_outermost, is_exported, exported_of}
 use Rattle.exported_names.specs.Placed.{IsPlaced, ArePlaced}
-use Rattle.rules_dead_code.specs.Knows.{TellsExported}
-use Rattle.rules_dead_code.specs.Quiet.{IsExported}
+use Rattle.rules.specs.DeadCode.Knows.{TellsExported}
+use Rattle.rules.specs.DeadCode.Quiet.{IsExported}
 use Rattle.exported_names.proofs.Listing.{below_or_above, answer, no_answer}
 use Rattle.exported_names.proofs.Walked.{with_sites, exports_walked, came, marked, exported_stands}
 

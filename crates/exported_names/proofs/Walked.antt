@@ -9,8 +9,8 @@ use Rattle.symbol_sets.specs.Numbers.{has, with_number}
 use Rattle.scope_rules.specs.Context.{Context, has_second, inside}
 use Rattle.scope_rules.specs.Site.{Site, scope_site, binding_site, reference_site, ScopeSite, BindingSite, own_sites, opens_one, scope_bits, scope_count, sites, bindings_among}
 use Rattle.scope_laws.specs.Exact.{Among}
-use Rattle.steps_names.specs.Standing.{is_export, exported_sites}
-use Rattle.steps_names.proofs.Sites.{binding_second, binding_third, InThree, in_first, in_second, in_third, binding_in}
+use Rattle.steps.specs.Naming.Standing.{is_export, exported_sites}
+use Rattle.steps.proofs.Naming.Sites.{binding_second, binding_third, InThree, in_first, in_second, in_third, binding_in}
 use Rattle.exported_names.specs.Exported.{with_mark, with_name, with_names, with_exports}
 use Rattle.exported_names.proofs.Listing.{below_or_above}
 

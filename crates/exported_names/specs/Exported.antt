@@ -6,7 +6,7 @@ use Rattle.js_syntax.specs.Node.{Forest, nothing, node, absent, Note}
 use Rattle.symbol_sets.specs.Numbers.{has, with_number, none_below}
 use Rattle.scope_rules.specs.Table.{Scoping}
 use Rattle.scope_table.specs.Reading.{symbol_at}
-use Rattle.steps_names.specs.Standing.{is_export}
+use Rattle.steps.specs.Naming.Standing.{is_export}
 use Rattle.exported_names.specs.Answers.{answers}
 
 abbrev pub with_mark : Option ℕ → List Bool → List Bool

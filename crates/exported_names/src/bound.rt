@@ -1,6 +1,6 @@
 // Which references have a symbol.
 ghost use Rattle.std.specs.Prelude.{◌≡◌, ◌<◌, length, IfOk};
-ghost use Rattle.rules_dead_code.specs.Knows.{TellsBound};
+ghost use Rattle.rules.specs.DeadCode.Knows.{TellsBound};
 ghost use Rattle.exported_names.specs.Answers.{is_bound, bound_of};
 
 use js_syntax::ReferenceId;

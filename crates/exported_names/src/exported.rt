@@ -3,9 +3,9 @@ ghost use Rattle.std.specs.Prelude.{◌≡◌, ◌<◌, ℕ, length, true, Some,
 ghost use Rattle.js_syntax.specs.Node.{row, forest_of};
 ghost use Rattle.symbol_sets.specs.Numbers.{has, none_below};
 ghost use Rattle.js_effects.specs.Silence.{is_marked};
-ghost use Rattle.steps_names.specs.Standing as standing;
-ghost use Rattle.rules_dead_code.specs.Knows.{TellsExported};
-ghost use Rattle.rules_dead_code.specs.Quiet.{IsExported};
+ghost use Rattle.steps.specs.Naming.Standing as standing;
+ghost use Rattle.rules.specs.DeadCode.Knows.{TellsExported};
+ghost use Rattle.rules.specs.DeadCode.Quiet.{IsExported};
 ghost use Rattle.exported_names.specs.Answers.{answers};
 ghost use Rattle.exported_names.specs.Exported.{with_mark, with_name, with_names, with_exports, is_outermost, is_exported, exported_of};
 ghost use Rattle.exported_names.specs.Placed.{ArePlaced};

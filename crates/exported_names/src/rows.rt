@@ -5,7 +5,7 @@ ghost use Rattle.js_syntax.specs.declared.kind.VariableKind.TheVariants as varia
 ghost use Rattle.js_syntax.specs.declared.kind.FunctionKind.TheVariants as function_kind;
 ghost use Rattle.form_rules.specs.Samples.{over, listed, no, a, binds, reads, one, does, declares, let_, block, function_of, function_a, class_of, exports};
 ghost use Rattle.scope_rules.specs.Samples.{b, class_expression};
-ghost use Rattle.steps_names.specs.Rows.{exports_declaration};
+ghost use Rattle.steps.specs.Naming.Rows.{exports_declaration};
 ghost use Rattle.exported_names.specs.Samples.{exported_by, bound_by, exports_default, declarator, pattern_b};
 
 /// `export let a = 1, {b} = a;` and `export function a(b) { }`: each name that the declaration itself declares, and no parameter.

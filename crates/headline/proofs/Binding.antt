@@ -13,13 +13,13 @@ use Rattle.js_meaning.specs.Scope.{Decl, Way, waiting, ready, linked, module_tex
 use Rattle.js_meaning.specs.Module.{names_in}
 use Rattle.steps.specs.Names.{is_among}
 use Rattle.steps.proofs.Among.{among_joined}
-use Rattle.steps_keep_runs.specs.Once.{is_first, binds_at, binds}
-use Rattle.steps_names.specs.Placed.{Sort, a_name, the_parameters, a_declarator, the_declarators, a_declaration, an_import, the_specifiers, the_statements, a_body, the_cases, a_case, an_export, plain, Place, no_node, names, parameters, code, program_list, module_items, lists, items, declared, declaration, declarators, specifiers, cases, case_items, listed, others, sort_of, place_below, name_place, function_place, specifier_place, statements_place, fits, well_placed, has_plain_values}
-use Rattle.steps_names.proofs.Lists.{names_joined, names_so, third, not_first, either}
-use Rattle.steps_names.proofs.Taking.{has_items, takes_items, takes_vars, takes_names, takes_imports, items_fit, vars_fit, names_fit, imports_fit, never_fits}
+use Rattle.steps.specs.KeepRuns.Once.{is_first, binds_at, binds}
+use Rattle.steps.specs.Naming.Placed.{Sort, a_name, the_parameters, a_declarator, the_declarators, a_declaration, an_import, the_specifiers, the_statements, a_body, the_cases, a_case, an_export, plain, Place, no_node, names, parameters, code, program_list, module_items, lists, items, declared, declaration, declarators, specifiers, cases, case_items, listed, others, sort_of, place_below, name_place, function_place, specifier_place, statements_place, fits, well_placed, has_plain_values}
+use Rattle.steps.proofs.Naming.Lists.{names_joined, names_so, third, not_first, either}
+use Rattle.steps.proofs.Naming.Taking.{has_items, takes_items, takes_vars, takes_names, takes_imports, items_fit, vars_fit, names_fit, imports_fit, never_fits}
 use Rattle.js_syntax.proofs.Truth.{neither, first_of_neither, second_of_neither}
-use Rattle.steps_names.proofs.Meeting.{later}
-use Rattle.steps_names.proofs.Values.{values_below, values_behind, in_declaration}
+use Rattle.steps.proofs.Naming.Meeting.{later}
+use Rattle.steps.proofs.Naming.Values.{values_below, values_behind, in_declaration}
 
 -- ---- lists without a name
 

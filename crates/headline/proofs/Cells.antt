@@ -9,10 +9,10 @@ use Rattle.js_meaning.specs.Value.{Text}
 use Rattle.js_meaning.specs.Scope.{Decl, decl, Way, waiting, named_so, all_so, first_name, bound_names, item_decls, lexical}
 use Rattle.js_meaning_near.specs.Names.{HasCell}
 use Rattle.js_meaning_near.specs.Avoid.{Fewer, fewer_end, fewer_same, fewer_gone, Dropped, dropped_here, dropped_later, CellIf, HasCells}
-use Rattle.steps_names.specs.Placed.{Place, an_import, an_export, program_list, module_items, sort_of, place_below, statements_place, fits, well_placed}
-use Rattle.steps_names.proofs.Taking.{never_fits}
-use Rattle.steps_fit.specs.Clear.{times}
-use Rattle.steps_fit.proofs.Cells.{cells_joined, cell_if}
+use Rattle.steps.specs.Naming.Placed.{Place, an_import, an_export, program_list, module_items, sort_of, place_below, statements_place, fits, well_placed}
+use Rattle.steps.proofs.Naming.Taking.{never_fits}
+use Rattle.steps.specs.Fit.Clear.{times}
+use Rattle.steps.proofs.Fit.Cells.{cells_joined, cell_if}
 use Rattle.js_meaning_near.proofs.Avoid.{itself}
 
 -- ---- lists

@@ -5,13 +5,13 @@ use Rattle.js_syntax.specs.Node.{Forest}
 use Rattle.form_rules.specs.Form.{IsWellFormed}
 use Rattle.js_meaning.specs.Kept.{Kept, KeptBack}
 use Rattle.js_meaning.proofs.Kept.{refined_kept, refined_back}
-use Rattle.steps_allowed.specs.Edits.{Edits}
+use Rattle.steps.specs.Allowed.Edits.{Edits}
 use Rattle.json_shape.specs.Shape.{Fits}
-use Rattle.steps_fit.proofs.Sensible.{sensible_module}
+use Rattle.steps.proofs.Fit.Sensible.{sensible_module}
 use Rattle.headline.specs.Clean.{Clean}
 use Rattle.headline.specs.Headline.{is_core_module, Headline}
 use Rattle.headline.proofs.Sound.{Refines}
-use Rattle.steps_owed.proofs.FitsEdits.{edits_fit}
+use Rattle.steps.proofs.Owed.FitsEdits.{edits_fit}
 use Rattle.headline.proofs.Loading.{edits_load}
 use Rattle.headline.proofs.Refining.{edits_refine}
 use Rattle.headline.proofs.Rooted.{edits_names}

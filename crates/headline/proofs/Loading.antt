@@ -10,40 +10,40 @@ use Rattle.min_pass.specs.Around.{entered as asked_below, outermost as asked_of_
 use Rattle.scope_laws.specs.Place.{Around, first, behind, behind_none, under, plug}
 use Rattle.scope_laws.specs.Lists.{without}
 use Rattle.steps.specs.Steps.{binds_import}
-use Rattle.steps_keep_form.specs.Part.{gives_way, is_asked_for}
-use Rattle.steps_allowed.specs.DeadIf.{nothing_is_run}
-use Rattle.steps_allowed.specs.Edits.{Leaves, empty_statement, empty_block, unused_function, unused_declarator, unused_declaration, unused_import, unreached, untaken, idle_statement, repeated_import, Becomes, silent_statement, known_conditional, known_side, known_if, idle_try, dead_if, unused_operation, unused_list, indirect_choice, one_sided_choice, idle_parts, two_sides, unused_object, known_operation, unrun_value, Edit, leaves, becomes, Edits, no_edit, one_edit}
-use Rattle.steps_allowed.specs.EmptyBlock.{holds_nothing, empty_block_leaves}
-use Rattle.steps_allowed.specs.EmptyStatement.{empty_statement_leaves}
-use Rattle.steps_allowed.specs.IdleStatement.{idle_leaves}
-use Rattle.steps_allowed.specs.Imports.{in_names, elsewhere, import_row_below}
-use Rattle.steps_allowed.specs.RepeatedImport.{is_asked_before, import_of, RepeatedImport, repeated_import_leaves}
-use Rattle.steps_allowed.specs.SilentStatement.{silent_statement_empties}
-use Rattle.steps_allowed.specs.Unreached.{only_runs, never_runs}
-use Rattle.steps_allowed.specs.UnrunValue.{may_be_dropped, value_never_given}
-use Rattle.steps_allowed.specs.Untaken.{never_taken}
-use Rattle.steps_allowed.specs.UnusedDeclaration.{unused_declaration_leaves}
-use Rattle.steps_allowed.specs.UnusedDeclarator.{unused_declarator_leaves}
-use Rattle.steps_allowed.specs.UnusedFunction.{unused_function_leaves}
-use Rattle.steps_allowed.specs.UnusedImport.{unused_import_leaves}
-use Rattle.steps_owed.specs.Owed.{Leaving, ByPart, ByParts}
-use Rattle.steps_owed.proofs.Calling.{takes, Takes}
-use Rattle.steps_owed.proofs.FitsEdits.{edit_fits, renoted_fits}
-use Rattle.steps_owed.proofs.IdleStatement.{idle_runs}
-use Rattle.steps_owed.proofs.IndirectChoice.{indirect_choice_owes}
-use Rattle.steps_owed.proofs.IdleParts.{idle_parts_owes}
-use Rattle.steps_owed.proofs.KnownConditional.{known_conditional_owes}
-use Rattle.steps_owed.proofs.IdleTry.{idle_try_owes}
-use Rattle.steps_owed.proofs.KnownIf.{known_if_owes}
-use Rattle.steps_owed.proofs.KnownOperation.{known_operation_owes}
-use Rattle.steps_owed.proofs.KnownSide.{known_side_owes}
-use Rattle.steps_owed.proofs.OneSidedChoice.{one_sided_choice_owes}
-use Rattle.steps_owed.proofs.Owed.{leaving}
-use Rattle.steps_owed.proofs.RepeatedRuns.{is_flat, loads_same}
-use Rattle.steps_owed.proofs.TwoSides.{two_sides_owes}
-use Rattle.steps_owed.proofs.UnusedList.{unused_list_owes}
-use Rattle.steps_owed.proofs.UnusedObject.{unused_object_owes}
-use Rattle.steps_owed.proofs.UnusedOperation.{unused_operation_owes}
+use Rattle.steps.specs.KeepForm.Part.{gives_way, is_asked_for}
+use Rattle.steps.specs.Allowed.DeadIf.{nothing_is_run}
+use Rattle.steps.specs.Allowed.Edits.{Leaves, empty_statement, empty_block, unused_function, unused_declarator, unused_declaration, unused_import, unreached, untaken, idle_statement, repeated_import, Becomes, silent_statement, known_conditional, known_side, known_if, idle_try, dead_if, unused_operation, unused_list, indirect_choice, one_sided_choice, idle_parts, two_sides, unused_object, known_operation, unrun_value, Edit, leaves, becomes, Edits, no_edit, one_edit}
+use Rattle.steps.specs.Allowed.EmptyBlock.{holds_nothing, empty_block_leaves}
+use Rattle.steps.specs.Allowed.EmptyStatement.{empty_statement_leaves}
+use Rattle.steps.specs.Allowed.IdleStatement.{idle_leaves}
+use Rattle.steps.specs.Allowed.Imports.{in_names, elsewhere, import_row_below}
+use Rattle.steps.specs.Allowed.RepeatedImport.{is_asked_before, import_of, RepeatedImport, repeated_import_leaves}
+use Rattle.steps.specs.Allowed.SilentStatement.{silent_statement_empties}
+use Rattle.steps.specs.Allowed.Unreached.{only_runs, never_runs}
+use Rattle.steps.specs.Allowed.UnrunValue.{may_be_dropped, value_never_given}
+use Rattle.steps.specs.Allowed.Untaken.{never_taken}
+use Rattle.steps.specs.Allowed.UnusedDeclaration.{unused_declaration_leaves}
+use Rattle.steps.specs.Allowed.UnusedDeclarator.{unused_declarator_leaves}
+use Rattle.steps.specs.Allowed.UnusedFunction.{unused_function_leaves}
+use Rattle.steps.specs.Allowed.UnusedImport.{unused_import_leaves}
+use Rattle.steps.specs.Owed.Owed.{Leaving, ByPart, ByParts}
+use Rattle.steps.proofs.Owed.Calling.{takes, Takes}
+use Rattle.steps.proofs.Owed.FitsEdits.{edit_fits, renoted_fits}
+use Rattle.steps.proofs.Owed.IdleStatement.{idle_runs}
+use Rattle.steps.proofs.Owed.IndirectChoice.{indirect_choice_owes}
+use Rattle.steps.proofs.Owed.IdleParts.{idle_parts_owes}
+use Rattle.steps.proofs.Owed.KnownConditional.{known_conditional_owes}
+use Rattle.steps.proofs.Owed.IdleTry.{idle_try_owes}
+use Rattle.steps.proofs.Owed.KnownIf.{known_if_owes}
+use Rattle.steps.proofs.Owed.KnownOperation.{known_operation_owes}
+use Rattle.steps.proofs.Owed.KnownSide.{known_side_owes}
+use Rattle.steps.proofs.Owed.OneSidedChoice.{one_sided_choice_owes}
+use Rattle.steps.proofs.Owed.Owed.{leaving}
+use Rattle.steps.proofs.Owed.RepeatedRuns.{is_flat, loads_same}
+use Rattle.steps.proofs.Owed.TwoSides.{two_sides_owes}
+use Rattle.steps.proofs.Owed.UnusedList.{unused_list_owes}
+use Rattle.steps.proofs.Owed.UnusedObject.{unused_object_owes}
+use Rattle.steps.proofs.Owed.UnusedOperation.{unused_operation_owes}
 use Rattle.headline.specs.Lasting.{items_of, first_items, program_items, own_items, loaded}
 
 -- ---- kinds that ask for no module, and hold nothing that does

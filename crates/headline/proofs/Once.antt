@@ -13,20 +13,20 @@ use Rattle.js_meaning_near.specs.Avoid.{declares, Dropped, HasCells}
 use Rattle.js_meaning_near.proofs.Avoid.{itself}
 use Rattle.steps.specs.Names.{is_among}
 use Rattle.steps.specs.Steps.{Around, entered, outermost, Step, leaves, empties, unbinds, inside, behind_node, behind_absent}
-use Rattle.steps_keep_runs.specs.Formed.{holds_well, heads, is_formed}
-use Rattle.steps_keep_runs.specs.Drop.{Drop, no_drop, of_block, of_function, dropped}
-use Rattle.steps_keep_runs.specs.Once.{OnceAt, OnceIn, Once}
-use Rattle.steps_keep_runs.proofs.Calm.{form_holds, form_heads, form_below, form_behind}
-use Rattle.steps_keep_runs.proofs.Unbound.{dropped_among}
-use Rattle.steps_keep_runs.proofs.Lists.{Less, less_here, less_later, VarsChange, LexicalChange, vars_step, lexical_step}
-use Rattle.steps_keep_runs.proofs.Names.{declares_among, passing_free}
-use Rattle.steps_keep_runs.proofs.Scopes.{DeclsChange, BodyChange, body_change, function_change}
-use Rattle.steps_keep_runs.proofs.Modules.{module_lists, InItems, in_items, in_its_items}
-use Rattle.steps_names.specs.Placed.{Place, program_list, module_items, lists, case_items, sort_of, place_below, function_place, fits, well_placed, has_plain_values, is_well_placed}
-use Rattle.steps_names.proofs.Lists.{in_left, in_right}
-use Rattle.steps_names.proofs.Taking.{never_fits}
-use Rattle.steps_names.proofs.Values.{values_below, values_behind}
-use Rattle.steps_fit.specs.Clear.{ClearAt, Clear}
+use Rattle.steps.specs.KeepRuns.Formed.{holds_well, heads, is_formed}
+use Rattle.steps.specs.KeepRuns.Drop.{Drop, no_drop, of_block, of_function, dropped}
+use Rattle.steps.specs.KeepRuns.Once.{OnceAt, OnceIn, Once}
+use Rattle.steps.proofs.KeepRuns.Calm.{form_holds, form_heads, form_below, form_behind}
+use Rattle.steps.proofs.KeepRuns.Unbound.{dropped_among}
+use Rattle.steps.proofs.KeepRuns.Lists.{Less, less_here, less_later, VarsChange, LexicalChange, vars_step, lexical_step}
+use Rattle.steps.proofs.KeepRuns.Names.{declares_among, passing_free}
+use Rattle.steps.proofs.KeepRuns.Scopes.{DeclsChange, BodyChange, body_change, function_change}
+use Rattle.steps.proofs.KeepRuns.Modules.{module_lists, InItems, in_items, in_its_items}
+use Rattle.steps.specs.Naming.Placed.{Place, program_list, module_items, lists, case_items, sort_of, place_below, function_place, fits, well_placed, has_plain_values, is_well_placed}
+use Rattle.steps.proofs.Naming.Lists.{in_left, in_right}
+use Rattle.steps.proofs.Naming.Taking.{never_fits}
+use Rattle.steps.proofs.Naming.Values.{values_below, values_behind}
+use Rattle.steps.specs.Fit.Clear.{ClearAt, Clear}
 use Rattle.headline.proofs.Binding.{Lacks, undeclared_left, undeclared_right, undeclared_so, Free, row_free, items_place, code_free, row_binds}
 use Rattle.headline.proofs.Cells.{dropped_cells, once_cells, row_cells}
 use Rattle.js_syntax.proofs.Truth.{second_of_either}

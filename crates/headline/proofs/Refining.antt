@@ -9,23 +9,23 @@ use Rattle.js_meaning_near.specs.Local.{Local}
 use Rattle.js_meaning_near.specs.Avoid.{InPlace}
 use Rattle.js_meaning_near.specs.Fit.{whole}
 use Rattle.js_meaning_near.proofs.Near.{refines_with_other_notes}
-use Rattle.steps_allowed.specs.Edits.{Edit, leaves, becomes, Edits, no_edit, one_edit}
+use Rattle.steps.specs.Allowed.Edits.{Edit, leaves, becomes, Edits, no_edit, one_edit}
 use Rattle.steps.specs.Steps.{Step, outermost, all_core}
-use Rattle.steps_names.specs.Placed.{is_well_placed}
+use Rattle.steps.specs.Naming.Placed.{is_well_placed}
 use Rattle.json_shape.specs.Shape.{Fits}
 use Rattle.form_rules.specs.Form.{IsWellFormed}
 use Rattle.scope_laws.specs.Place.{Around, plug}
 use Rattle.scope_laws.specs.Lists.{without}
-use Rattle.steps_fit.specs.Sensible.{IsSensible, IsSensibleModule}
-use Rattle.steps_fit.proofs.Sensible.{of_module, module_renoted}
-use Rattle.steps_owed.specs.Comes.{Comes}
-use Rattle.steps_owed.specs.Good.{Good}
-use Rattle.steps_owed.specs.Owed.{LeavesRuns, by_going, by_change, by_refining, SameRuns, by_step, by_coming, by_changing}
-use Rattle.steps_owed.proofs.Edited.{edit_sensible}
-use Rattle.steps_owed.proofs.Here.{good_module}
-use Rattle.steps_owed.proofs.LeftRuns.{core_left, still_module, left_refines}
-use Rattle.steps_owed.proofs.Owed.{leaving, becoming}
-use Rattle.steps_owed.proofs.PartRuns.{core_stays, parts_stay_modules, module_refines, comes_refines}
+use Rattle.steps.specs.Fit.Sensible.{IsSensible, IsSensibleModule}
+use Rattle.steps.proofs.Fit.Sensible.{of_module, module_renoted}
+use Rattle.steps.specs.Owed.Comes.{Comes}
+use Rattle.steps.specs.Owed.Good.{Good}
+use Rattle.steps.specs.Owed.Owed.{LeavesRuns, by_going, by_change, by_refining, SameRuns, by_step, by_coming, by_changing}
+use Rattle.steps.proofs.Owed.Edited.{edit_sensible}
+use Rattle.steps.proofs.Owed.Here.{good_module}
+use Rattle.steps.proofs.Owed.LeftRuns.{core_left, still_module, left_refines}
+use Rattle.steps.proofs.Owed.Owed.{leaving, becoming}
+use Rattle.steps.proofs.Owed.PartRuns.{core_stays, parts_stay_modules, module_refines, comes_refines}
 use Rattle.headline.proofs.Sound.{Refines, step_refines, refines_joined}
 
 -- ---- other notes

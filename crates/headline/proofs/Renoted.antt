@@ -18,48 +18,48 @@ use Rattle.scope_rules.specs.Site.{BindingSite, ReferenceSite, opens_one, scope_
 use Rattle.scope_rules.specs.Binding.{named_in, binding_of}
 use Rattle.scope_laws.specs.Place.{Around, first, behind, behind_none, under, plug}
 use Rattle.scope_laws.proofs.Notes.{unseen, scope_count_bare}
-use Rattle.steps_allowed.specs.Silent.{read_in, IsFound, IsSilentNode, IsSilent, HoldsThere}
-use Rattle.steps_allowed.specs.Exposure.{Exposure, exposed_inside, exposed_of, exposed_at, exposure, function_is_exposed, evaluates_somewhere, IsOwnFunction, IsOwnDeclarator}
-use Rattle.steps_allowed.specs.Uses.{Use, use_below, use_there, use_at, matters, stands_bare}
-use Rattle.steps_allowed.specs.Unused.{is_unused_below, unused_there}
+use Rattle.steps.specs.Allowed.Silent.{read_in, IsFound, IsSilentNode, IsSilent, HoldsThere}
+use Rattle.steps.specs.Allowed.Exposure.{Exposure, exposed_inside, exposed_of, exposed_at, exposure, function_is_exposed, evaluates_somewhere, IsOwnFunction, IsOwnDeclarator}
+use Rattle.steps.specs.Allowed.Uses.{Use, use_below, use_there, use_at, matters, stands_bare}
+use Rattle.steps.specs.Allowed.Unused.{is_unused_below, unused_there}
 use Rattle.steps.specs.Steps.{binds_import}
-use Rattle.steps_allowed.specs.Imports.{ImportRow, elsewhere, import_row_below, import_row, IsImported}
-use Rattle.steps_allowed.specs.Places.{a_node, asked_at, IsItem, IsDeclarator, At, MayStandBare}
-use Rattle.steps_allowed.specs.Free.{Free, FreeDeclarator}
-use Rattle.steps_allowed.specs.SilentStatement.{SilentStatement}
-use Rattle.steps_allowed.specs.UnusedFunction.{a_function}
-use Rattle.steps_allowed.specs.UnusedDeclarator.{a_declarator, SilentDeclarator}
-use Rattle.steps_allowed.specs.UnusedImport.{an_imported}
-use Rattle.steps_allowed.specs.KnownConditional.{KnownConditional, consequent_is_taken, alternate_is_taken}
-use Rattle.steps_allowed.specs.KnownSide.{KnownSide, right_side_counts, left_side_decides}
-use Rattle.steps_allowed.specs.UnusedOperation.{UnusedOperation, one_operand_acts}
-use Rattle.steps_allowed.specs.UnusedList.{UnusedList, acting_parts_stay}
-use Rattle.steps_allowed.specs.IndirectChoice.{IndirectChoice, value_alone_counts}
-use Rattle.steps_allowed.specs.OneSidedChoice.{OneSidedChoice, one_branch_acts}
-use Rattle.steps_allowed.specs.IdleParts.{sequence_becomes, IdleParts, idle_parts_leave}
-use Rattle.steps_allowed.specs.TwoSides.{TwoSides, both_sides_act}
-use Rattle.steps_allowed.specs.UnusedObject.{UnusedObject, acting_values_stay}
-use Rattle.steps_allowed.specs.KnownOperation.{KnownOperation, value_is_known, negative_is_known}
-use Rattle.steps_allowed.specs.Branches.{declares_none}
-use Rattle.steps_allowed.specs.KnownIf.{KnownIf}
-use Rattle.steps_allowed.specs.DeadIf.{DeadIf}
-use Rattle.steps_allowed.specs.EmptyBlock.{holds_nothing, EmptyBlock, empty_block_leaves}
-use Rattle.steps_allowed.specs.Unreached.{is_behind_jump, Unreached, never_runs}
-use Rattle.steps_allowed.specs.RepeatedImport.{asks_for, is_asked_before, import_of, RepeatedImport, repeated_import_leaves}
-use Rattle.steps_allowed.specs.IdleTry.{IdleTry}
-use Rattle.steps_allowed.specs.IdleStatement.{does_nothing, IdleStatement, idle_leaves}
-use Rattle.steps_allowed.specs.UnrunValue.{passes, is_unrun, is_value_of, is_value, a_zero, UnrunValue, value_never_given}
-use Rattle.steps_allowed.specs.Untaken.{truth_given, untaken_where, is_known, leads_to_untaken, begins_untaken, runs_inside, is_untaken, Untaken, never_taken}
-use Rattle.steps_owed.proofs.Changing.{cuts_bare}
-use Rattle.steps_owed.proofs.ExposedBare.{bare_inside, bare_below, bare_exposed}
-use Rattle.steps_owed.proofs.Focus.{follows_there}
+use Rattle.steps.specs.Allowed.Imports.{ImportRow, elsewhere, import_row_below, import_row, IsImported}
+use Rattle.steps.specs.Allowed.Places.{a_node, asked_at, IsItem, IsDeclarator, At, MayStandBare}
+use Rattle.steps.specs.Allowed.Free.{Free, FreeDeclarator}
+use Rattle.steps.specs.Allowed.SilentStatement.{SilentStatement}
+use Rattle.steps.specs.Allowed.UnusedFunction.{a_function}
+use Rattle.steps.specs.Allowed.UnusedDeclarator.{a_declarator, SilentDeclarator}
+use Rattle.steps.specs.Allowed.UnusedImport.{an_imported}
+use Rattle.steps.specs.Allowed.KnownConditional.{KnownConditional, consequent_is_taken, alternate_is_taken}
+use Rattle.steps.specs.Allowed.KnownSide.{KnownSide, right_side_counts, left_side_decides}
+use Rattle.steps.specs.Allowed.UnusedOperation.{UnusedOperation, one_operand_acts}
+use Rattle.steps.specs.Allowed.UnusedList.{UnusedList, acting_parts_stay}
+use Rattle.steps.specs.Allowed.IndirectChoice.{IndirectChoice, value_alone_counts}
+use Rattle.steps.specs.Allowed.OneSidedChoice.{OneSidedChoice, one_branch_acts}
+use Rattle.steps.specs.Allowed.IdleParts.{sequence_becomes, IdleParts, idle_parts_leave}
+use Rattle.steps.specs.Allowed.TwoSides.{TwoSides, both_sides_act}
+use Rattle.steps.specs.Allowed.UnusedObject.{UnusedObject, acting_values_stay}
+use Rattle.steps.specs.Allowed.KnownOperation.{KnownOperation, value_is_known, negative_is_known}
+use Rattle.steps.specs.Allowed.Branches.{declares_none}
+use Rattle.steps.specs.Allowed.KnownIf.{KnownIf}
+use Rattle.steps.specs.Allowed.DeadIf.{DeadIf}
+use Rattle.steps.specs.Allowed.EmptyBlock.{holds_nothing, EmptyBlock, empty_block_leaves}
+use Rattle.steps.specs.Allowed.Unreached.{is_behind_jump, Unreached, never_runs}
+use Rattle.steps.specs.Allowed.RepeatedImport.{asks_for, is_asked_before, import_of, RepeatedImport, repeated_import_leaves}
+use Rattle.steps.specs.Allowed.IdleTry.{IdleTry}
+use Rattle.steps.specs.Allowed.IdleStatement.{does_nothing, IdleStatement, idle_leaves}
+use Rattle.steps.specs.Allowed.UnrunValue.{passes, is_unrun, is_value_of, is_value, a_zero, UnrunValue, value_never_given}
+use Rattle.steps.specs.Allowed.Untaken.{truth_given, untaken_where, is_known, leads_to_untaken, begins_untaken, runs_inside, is_untaken, Untaken, never_taken}
+use Rattle.steps.proofs.Owed.Changing.{cuts_bare}
+use Rattle.steps.proofs.Owed.ExposedBare.{bare_inside, bare_below, bare_exposed}
+use Rattle.steps.proofs.Owed.Focus.{follows_there}
 use Rattle.headline.specs.Clean.{IsDead, an_empty_statement, an_empty_block, a_silent_statement, an_unused_function, an_unused_declarator, an_unused_import, a_known_conditional, a_known_side, an_unused_operation, an_unused_list, an_indirect_choice, a_one_sided_choice, idle_parts, two_sides, an_unused_object, a_known_operation, a_known_if, a_dead_if, an_unreached_statement, an_untaken_statement, an_unrun_value, an_idle_statement, a_repeated_import, an_idle_try, CleanBut}
 use Rattle.headline.proofs.RenotedUnused.{stands_as, needed_as, child_as, list_as}
 use Rattle.headline.proofs.RenotedChoice.{counts_as}
 use Rattle.headline.proofs.RenotedParts.{side_as, sequence_as}
 use Rattle.headline.proofs.RenotedSides.{two_sides_as, object_as}
 use Rattle.headline.proofs.RenotedKnown.{known_as, negative_as, given_bare, truth_as, side_as as known_side_as}
-use Rattle.steps_owed.proofs.EmptyBlock.{holds_bare}
+use Rattle.steps.proofs.Owed.EmptyBlock.{holds_bare}
 use Rattle.headline.proofs.RenotedIdle.{idle_bare}
 use Rattle.headline.proofs.RenotedTry.{idle_try_as}
 use Rattle.headline.proofs.RenotedIf.{declares_bare, known_if_as, dead_if_as}

@@ -4,10 +4,10 @@ use Rattle.js_syntax.specs.declared.node_kind.NodeKind.{NodeKind as Kind}
 use Rattle.js_syntax.specs.declared.node_kind.NodeKind.TheVariants.{ConditionalExpression as conditional_expression, LogicalExpression as logical_expression}
 use Rattle.js_syntax.specs.Node.{Forest, Tree, Note, nothing, node, nowhere, bare}
 use Rattle.scope_laws.proofs.Notes.{unseen}
-use Rattle.steps_allowed.specs.Uses.{Use, matters}
-use Rattle.steps_allowed.specs.IndirectChoice.{one_of, if_so, part_counts}
-use Rattle.steps_allowed.specs.KnownConditional.{truth_known}
-use Rattle.steps_allowed.specs.KnownSide.{side_known}
+use Rattle.steps.specs.Allowed.Uses.{Use, matters}
+use Rattle.steps.specs.Allowed.IndirectChoice.{one_of, if_so, part_counts}
+use Rattle.steps.specs.Allowed.KnownConditional.{truth_known}
+use Rattle.steps.specs.Allowed.KnownSide.{side_known}
 use Rattle.headline.proofs.RenotedKnown.{truth_bare, side_bare}
 use Rattle.headline.proofs.RenotedUnused.{matters_bare}
 

@@ -5,10 +5,10 @@ use Rattle.js_syntax.specs.declared.node_kind.NodeKind.{NodeKind as Kind}
 use Rattle.js_syntax.specs.declared.node_kind.NodeKind.TheVariants.{Statements as statements, BlockStatement as block_statement, BreakStatement as break_statement, LabeledStatement as labeled_statement, WhileStatement as while_statement, ForStatement as for_statement, TryStatement as try_statement}
 use Rattle.js_syntax.specs.Node.{Forest, nothing, node, absent, bare}
 use Rattle.js_meaning.specs.Value.{Text}
-use Rattle.steps_allowed.specs.EmptyBlock.{is_idle}
-use Rattle.steps_allowed.specs.IdleStatement.{finalizer_idles, leaves_at_once, does_nothing}
-use Rattle.steps_allowed.specs.Untaken.{is_known}
-use Rattle.steps_owed.proofs.EmptyBlock.{bare_idles}
+use Rattle.steps.specs.Allowed.EmptyBlock.{is_idle}
+use Rattle.steps.specs.Allowed.IdleStatement.{finalizer_idles, leaves_at_once, does_nothing}
+use Rattle.steps.specs.Allowed.Untaken.{is_known}
+use Rattle.steps.proofs.Owed.EmptyBlock.{bare_idles}
 use Rattle.headline.proofs.RenotedKnown.{truth_bare}
 
 finalizer_bare : (t : Forest) → finalizer_idles (bare t) ≡ finalizer_idles t

@@ -3,9 +3,9 @@ use Rattle.std.proofs.Common.{◌≡◌, ◌↔◌, ◌∙◌, Bool, false, ◌&
 use Rattle.js_syntax.specs.declared.node_kind.NodeKind.{NodeKind as Kind}
 use Rattle.js_syntax.specs.Node.{Forest, Tree, Note, nothing, node, absent, nowhere, bare}
 use Rattle.js_meaning_near.specs.Local.{IsField}
-use Rattle.steps_allowed.specs.Branches.{is_handler, lets_only_at, lets_only, inside_or_parameter, inside_from, none_or_parameter, none_from, declares_none}
-use Rattle.steps_allowed.specs.DeadIf.{DeadIf, nothing_is_run}
-use Rattle.steps_allowed.specs.KnownIf.{KnownIf, consequent_is_run, alternate_is_run}
+use Rattle.steps.specs.Allowed.Branches.{is_handler, lets_only_at, lets_only, inside_or_parameter, inside_from, none_or_parameter, none_from, declares_none}
+use Rattle.steps.specs.Allowed.DeadIf.{DeadIf, nothing_is_run}
+use Rattle.steps.specs.Allowed.KnownIf.{KnownIf, consequent_is_run, alternate_is_run}
 use Rattle.headline.proofs.RenotedKnown.{truth_bare}
 
 lets_bare : (t : Forest) → lets_only (bare t) ≡ lets_only t

@@ -16,10 +16,10 @@ use Rattle.js_syntax.specs.declared.operator.LogicalOperator.{LogicalOperator}
 use Rattle.js_syntax.specs.declared.operator.LogicalOperator.TheVariants.{And, Or, Coalesce}
 use Rattle.js_tree.specs.Walk.{is_list}
 use Rattle.known_tests.specs.Tells.{nullish_type, opposite, way_known}
-use Rattle.steps_allowed.specs.KnownConditional.{truth_known}
-use Rattle.steps_allowed.specs.KnownSide.{side_known}
-use Rattle.steps_allowed.specs.Untaken.{truth_given}
-use Rattle.steps_allowed.specs.KnownOperation.{has_operand, as_literal, known_literal, as_negative, is_literal, gives_negative, known_negative}
+use Rattle.steps.specs.Allowed.KnownConditional.{truth_known}
+use Rattle.steps.specs.Allowed.KnownSide.{side_known}
+use Rattle.steps.specs.Allowed.Untaken.{truth_given}
+use Rattle.steps.specs.Allowed.KnownOperation.{has_operand, as_literal, known_literal, as_negative, is_literal, gives_negative, known_negative}
 use Rattle.headline.proofs.RenotedUnused.{acts_bare}
 
 -- ---- types

@@ -5,10 +5,10 @@ use Rattle.js_syntax.specs.declared.node_kind.NodeKind.TheVariants.{ConditionalE
 use Rattle.js_syntax.specs.declared.operator.LogicalOperator.TheVariants as logical
 use Rattle.js_syntax.specs.Node.{Forest, Tree, Note, nothing, node, absent, nowhere, bare}
 use Rattle.scope_laws.proofs.Notes.{unseen}
-use Rattle.steps_allowed.specs.Uses.{Use, stands_bare}
-use Rattle.steps_allowed.specs.UnusedOperation.{acts}
-use Rattle.steps_allowed.specs.OneSidedChoice.{sides, one_side, one_sided}
-use Rattle.steps_allowed.specs.IdleParts.{stays_before, counting, all_count, is_more, more_before, itself_or_behind, as_value_of, sequence_becomes}
+use Rattle.steps.specs.Allowed.Uses.{Use, stands_bare}
+use Rattle.steps.specs.Allowed.UnusedOperation.{acts}
+use Rattle.steps.specs.Allowed.OneSidedChoice.{sides, one_side, one_sided}
+use Rattle.steps.specs.Allowed.IdleParts.{stays_before, counting, all_count, is_more, more_before, itself_or_behind, as_value_of, sequence_becomes}
 use Rattle.headline.proofs.RenotedUnused.{stands_bare_bare, acts_bare, some_tree}
 
 -- ---- the branch that acts

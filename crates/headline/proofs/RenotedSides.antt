@@ -6,11 +6,11 @@ use Rattle.js_syntax.specs.Core.{is_plain_property}
 use Rattle.js_syntax.specs.Node.{Forest, Tree, Note, nothing, node, absent, nowhere, bare}
 use Rattle.js_meaning_near.specs.Unused.{compares}
 use Rattle.scope_laws.proofs.Notes.{unseen}
-use Rattle.steps_allowed.specs.Uses.{as_value}
-use Rattle.steps_allowed.specs.UnusedOperation.{acts}
-use Rattle.steps_allowed.specs.UnusedList.{as_one}
-use Rattle.steps_allowed.specs.TwoSides.{two_sides}
-use Rattle.steps_allowed.specs.UnusedObject.{comes_out, are_plain, acting_values, object_becomes}
+use Rattle.steps.specs.Allowed.Uses.{as_value}
+use Rattle.steps.specs.Allowed.UnusedOperation.{acts}
+use Rattle.steps.specs.Allowed.UnusedList.{as_one}
+use Rattle.steps.specs.Allowed.TwoSides.{two_sides}
+use Rattle.steps.specs.Allowed.UnusedObject.{comes_out, are_plain, acting_values, object_becomes}
 use Rattle.headline.proofs.RenotedUnused.{stands_bare_bare, acts_bare, as_one_bare, some_if, some_tree}
 use Rattle.headline.proofs.RenotedParts.{if_counts}
 

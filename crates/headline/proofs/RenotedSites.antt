@@ -13,8 +13,8 @@ use Rattle.scope_rules.specs.Binding.{Binding, same_layer, is_declared, binding_
 use Rattle.scope_laws.specs.Exact.{Among}
 use Rattle.scope_laws.proofs.Notes.{unseen, opens_bare, scope_count_bare, scope_bits_bare, inside_bare}
 use Rattle.scope_laws.proofs.Among.{among_map, image}
-use Rattle.steps_names.specs.Standing.{is_export, exported_sites, exported_declarations}
-use Rattle.steps_allowed.specs.Free.{IsFree}
+use Rattle.steps.specs.Naming.Standing.{is_export, exported_sites, exported_declarations}
+use Rattle.steps.specs.Allowed.Free.{IsFree}
 
 -- ---- sites without ids and spans
 

@@ -3,8 +3,8 @@ use Rattle.std.proofs.Common.{◌≡◌, ◌∙◌, ◌&&◌, sym, ap₂, refl, 
 use Rattle.js_syntax.specs.declared.node_kind.NodeKind.{NodeKind as Kind}
 use Rattle.js_syntax.specs.declared.node_kind.NodeKind.TheVariants.{BlockStatement as block_statement}
 use Rattle.js_syntax.specs.Node.{Forest, Tree, Note, nothing, node, absent, nowhere, bare}
-use Rattle.steps_allowed.specs.IdleTry.{has_no_loop_at, has_no_loop, IdleTry, finalizer_is_run, finalizer_is_run_alone, block_is_run}
-use Rattle.steps_owed.proofs.EmptyBlock.{bare_idles}
+use Rattle.steps.specs.Allowed.IdleTry.{has_no_loop_at, has_no_loop, IdleTry, finalizer_is_run, finalizer_is_run_alone, block_is_run}
+use Rattle.steps.proofs.Owed.EmptyBlock.{bare_idles}
 use Rattle.headline.proofs.RenotedIf.{declares_bare}
 
 loops_bare : (t : Forest) → has_no_loop (bare t) ≡ has_no_loop t

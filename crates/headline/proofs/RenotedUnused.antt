@@ -11,10 +11,10 @@ use Rattle.js_effects.proofs.Bare.{runs_bare}
 use Rattle.js_meaning_near.specs.Unused.{is_total, compares}
 use Rattle.scope_laws.specs.Lists.{is_list}
 use Rattle.scope_laws.proofs.Notes.{unseen}
-use Rattle.steps_allowed.specs.Uses.{Use, as_value, operand_of, chain_matters, matters, may_take_name, stands_bare}
-use Rattle.steps_allowed.specs.Child.{child_at}
-use Rattle.steps_allowed.specs.UnusedOperation.{acts, is_needed, index_if, operand_needed, side_needed, left_needed, condition_needed, needed_at}
-use Rattle.steps_allowed.specs.UnusedList.{acting, all_act, is_spread, has_spread, as_one, list_becomes}
+use Rattle.steps.specs.Allowed.Uses.{Use, as_value, operand_of, chain_matters, matters, may_take_name, stands_bare}
+use Rattle.steps.specs.Allowed.Child.{child_at}
+use Rattle.steps.specs.Allowed.UnusedOperation.{acts, is_needed, index_if, operand_needed, side_needed, left_needed, condition_needed, needed_at}
+use Rattle.steps.specs.Allowed.UnusedList.{acting, all_act, is_spread, has_spread, as_one, list_becomes}
 
 -- ---- what may stand bare
 

@@ -19,50 +19,50 @@ use Rattle.form_rules.specs.Scope.{Declared, bound_below, variables_below, scope
 use Rattle.scope_laws.specs.Place.{Around, first, behind, behind_none, under, plug}
 use Rattle.scope_laws.specs.Lists.{without}
 use Rattle.steps.specs.Steps.{binds_import}
-use Rattle.steps_fit.proofs.Modules.{fits_program, ends}
-use Rattle.steps_fit.specs.Sensible.{is_program}
-use Rattle.steps_keep_form.specs.Part.{gives_way, is_asked_for, StandsFor}
-use Rattle.steps_keep_form.proofs.Asked.{is_of_catch, no_name_here, no_catch_below, sought_alike}
-use Rattle.steps_keep_form.proofs.ShedNames.{none_declared}
-use Rattle.steps_allowed.specs.Branches.{declares_none}
-use Rattle.steps_allowed.specs.DeadIf.{nothing_is_run}
-use Rattle.steps_allowed.specs.Edits.{Leaves, empty_statement, empty_block, unused_function, unused_declarator, unused_declaration, unused_import, unreached, untaken, idle_statement, repeated_import, Becomes, silent_statement, known_conditional, known_side, known_if, idle_try, dead_if, unused_operation, unused_list, indirect_choice, one_sided_choice, idle_parts, two_sides, unused_object, known_operation, unrun_value, Edit, leaves, becomes, Edits, no_edit, one_edit}
-use Rattle.steps_allowed.specs.EmptyBlock.{empty_block_leaves}
-use Rattle.steps_allowed.specs.EmptyStatement.{empty_statement_leaves}
-use Rattle.steps_allowed.specs.Exposure.{Exposure, shares, exposed_inside, exposed_of, exposed_at, exposure, is_script, evaluates_somewhere, function_is_exposed}
-use Rattle.steps_allowed.specs.IdleStatement.{idle_leaves}
-use Rattle.steps_allowed.specs.RepeatedImport.{import_of, RepeatedImport, repeated_import_leaves}
-use Rattle.steps_allowed.specs.SilentStatement.{silent_statement_empties}
-use Rattle.steps_allowed.specs.Unreached.{never_runs}
-use Rattle.steps_allowed.specs.UnrunValue.{value_never_given}
-use Rattle.steps_allowed.specs.Untaken.{never_taken}
-use Rattle.steps_allowed.specs.UnusedDeclaration.{unused_declaration_leaves}
-use Rattle.steps_allowed.specs.UnusedDeclarator.{unused_declarator_leaves}
-use Rattle.steps_allowed.specs.UnusedFunction.{unused_function_leaves}
-use Rattle.steps_allowed.specs.UnusedImport.{unused_import_leaves}
-use Rattle.steps_owed.specs.Owed.{ByPart, ByParts}
-use Rattle.steps_owed.proofs.ChoiceParts.{parts_of_if}
-use Rattle.steps_owed.proofs.EmptyBlock.{holding_declares_none}
-use Rattle.steps_owed.proofs.ExposedBare.{bare_below, bare_script}
-use Rattle.steps_owed.proofs.Expressions.{expression_declares_none, expression_stays_outside}
-use Rattle.steps_owed.proofs.FitsEdits.{edit_fits, renoted_fits}
-use Rattle.steps_owed.proofs.Focus.{something}
-use Rattle.steps_owed.proofs.IndirectChoice.{indirect_choice_owes}
-use Rattle.steps_owed.proofs.IdleParts.{idle_parts_owes}
-use Rattle.steps_owed.proofs.KnownConditional.{known_conditional_owes}
-use Rattle.steps_owed.proofs.IdleTry.{idle_try_owes}
-use Rattle.steps_owed.proofs.KnownIf.{tested_row, known_if_owes}
-use Rattle.steps_owed.proofs.KnownOperation.{known_operation_owes}
-use Rattle.steps_owed.proofs.KnownSide.{known_side_owes}
-use Rattle.steps_owed.proofs.OneSidedChoice.{one_sided_choice_owes}
-use Rattle.steps_owed.proofs.PartForm.{outside_as, if_stays_outside, nothing_declared}
-use Rattle.steps_owed.proofs.TwoSides.{two_sides_owes}
-use Rattle.steps_owed.proofs.UnrunValue.{old_fits, new_fits}
-use Rattle.steps_owed.proofs.UnusedList.{unused_list_owes}
-use Rattle.steps_owed.proofs.UnusedObject.{unused_object_owes}
-use Rattle.steps_owed.proofs.UnusedOperation.{unused_operation_owes}
-use Rattle.steps_marked.proofs.Cuts.{edit_cuts}
-use Rattle.steps_marked.proofs.Exposing.{below_stays}
+use Rattle.steps.proofs.Fit.Modules.{fits_program, ends}
+use Rattle.steps.specs.Fit.Sensible.{is_program}
+use Rattle.steps.specs.KeepForm.Part.{gives_way, is_asked_for, StandsFor}
+use Rattle.steps.proofs.KeepForm.Asked.{is_of_catch, no_name_here, no_catch_below, sought_alike}
+use Rattle.steps.proofs.KeepForm.ShedNames.{none_declared}
+use Rattle.steps.specs.Allowed.Branches.{declares_none}
+use Rattle.steps.specs.Allowed.DeadIf.{nothing_is_run}
+use Rattle.steps.specs.Allowed.Edits.{Leaves, empty_statement, empty_block, unused_function, unused_declarator, unused_declaration, unused_import, unreached, untaken, idle_statement, repeated_import, Becomes, silent_statement, known_conditional, known_side, known_if, idle_try, dead_if, unused_operation, unused_list, indirect_choice, one_sided_choice, idle_parts, two_sides, unused_object, known_operation, unrun_value, Edit, leaves, becomes, Edits, no_edit, one_edit}
+use Rattle.steps.specs.Allowed.EmptyBlock.{empty_block_leaves}
+use Rattle.steps.specs.Allowed.EmptyStatement.{empty_statement_leaves}
+use Rattle.steps.specs.Allowed.Exposure.{Exposure, shares, exposed_inside, exposed_of, exposed_at, exposure, is_script, evaluates_somewhere, function_is_exposed}
+use Rattle.steps.specs.Allowed.IdleStatement.{idle_leaves}
+use Rattle.steps.specs.Allowed.RepeatedImport.{import_of, RepeatedImport, repeated_import_leaves}
+use Rattle.steps.specs.Allowed.SilentStatement.{silent_statement_empties}
+use Rattle.steps.specs.Allowed.Unreached.{never_runs}
+use Rattle.steps.specs.Allowed.UnrunValue.{value_never_given}
+use Rattle.steps.specs.Allowed.Untaken.{never_taken}
+use Rattle.steps.specs.Allowed.UnusedDeclaration.{unused_declaration_leaves}
+use Rattle.steps.specs.Allowed.UnusedDeclarator.{unused_declarator_leaves}
+use Rattle.steps.specs.Allowed.UnusedFunction.{unused_function_leaves}
+use Rattle.steps.specs.Allowed.UnusedImport.{unused_import_leaves}
+use Rattle.steps.specs.Owed.Owed.{ByPart, ByParts}
+use Rattle.steps.proofs.Owed.ChoiceParts.{parts_of_if}
+use Rattle.steps.proofs.Owed.EmptyBlock.{holding_declares_none}
+use Rattle.steps.proofs.Owed.ExposedBare.{bare_below, bare_script}
+use Rattle.steps.proofs.Owed.Expressions.{expression_declares_none, expression_stays_outside}
+use Rattle.steps.proofs.Owed.FitsEdits.{edit_fits, renoted_fits}
+use Rattle.steps.proofs.Owed.Focus.{something}
+use Rattle.steps.proofs.Owed.IndirectChoice.{indirect_choice_owes}
+use Rattle.steps.proofs.Owed.IdleParts.{idle_parts_owes}
+use Rattle.steps.proofs.Owed.KnownConditional.{known_conditional_owes}
+use Rattle.steps.proofs.Owed.IdleTry.{idle_try_owes}
+use Rattle.steps.proofs.Owed.KnownIf.{tested_row, known_if_owes}
+use Rattle.steps.proofs.Owed.KnownOperation.{known_operation_owes}
+use Rattle.steps.proofs.Owed.KnownSide.{known_side_owes}
+use Rattle.steps.proofs.Owed.OneSidedChoice.{one_sided_choice_owes}
+use Rattle.steps.proofs.Owed.PartForm.{outside_as, if_stays_outside, nothing_declared}
+use Rattle.steps.proofs.Owed.TwoSides.{two_sides_owes}
+use Rattle.steps.proofs.Owed.UnrunValue.{old_fits, new_fits}
+use Rattle.steps.proofs.Owed.UnusedList.{unused_list_owes}
+use Rattle.steps.proofs.Owed.UnusedObject.{unused_object_owes}
+use Rattle.steps.proofs.Owed.UnusedOperation.{unused_operation_owes}
+use Rattle.steps.proofs.Marked.Cuts.{edit_cuts}
+use Rattle.steps.proofs.Marked.Exposing.{below_stays}
 use Rattle.headline.specs.Lasting.{names_in, declared_at_root, root_names, HasSharedNames}
 use Rattle.headline.proofs.Loading.{asks_nothing, leaves_asks, becomes_asks}
 

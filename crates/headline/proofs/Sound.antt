@@ -8,12 +8,12 @@ use Rattle.js_meaning.proofs.Kept.{refined_joined}
 use Rattle.js_meaning_near.specs.Near.{module_of}
 use Rattle.steps.specs.Steps.{outermost, Step, all_core}
 use Rattle.steps.proofs.Steps.{step_core}
-use Rattle.steps_keep_runs.proofs.Modules.{InItems, in_items, in_its_items}
-use Rattle.steps_keep_runs.proofs.Whole as refining
-use Rattle.steps_fit.specs.Sensible.{IsSensible, IsSensibleModule}
-use Rattle.steps_fit.proofs.Held.{core_below}
-use Rattle.steps_fit.proofs.Modules.{IsModule}
-use Rattle.steps_fit.proofs.Sensible.{of_module}
+use Rattle.steps.proofs.KeepRuns.Modules.{InItems, in_items, in_its_items}
+use Rattle.steps.proofs.KeepRuns.Whole as refining
+use Rattle.steps.specs.Fit.Sensible.{IsSensible, IsSensibleModule}
+use Rattle.steps.proofs.Fit.Held.{core_below}
+use Rattle.steps.proofs.Fit.Modules.{IsModule}
+use Rattle.steps.proofs.Fit.Sensible.{of_module}
 use Rattle.headline.proofs.Once.{module_once}
 
 -- what another program has, by a step or by changes

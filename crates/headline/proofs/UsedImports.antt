@@ -14,9 +14,9 @@ use Rattle.json_shape.specs.Shape.{Fits}
 use Rattle.scope_rules.specs.Context.{has_second}
 use Rattle.scope_rules.specs.Site.{scope_row}
 use Rattle.scope_laws.specs.Place.{Around, first, behind, behind_none, under, plug}
-use Rattle.steps_allowed.specs.Exposure.{Exposure, in_code, in_block, declaring, shares, is_script_source, at_function_name, at_class_name, exposed_inside, exposed_of, exposed_at, exposure, is_script, evaluates_somewhere, IsOwnDeclarator}
+use Rattle.steps.specs.Allowed.Exposure.{Exposure, in_code, in_block, declaring, shares, is_script_source, at_function_name, at_class_name, exposed_inside, exposed_of, exposed_at, exposure, is_script, evaluates_somewhere, IsOwnDeclarator}
 use Rattle.steps.specs.Steps.{binds_import}
-use Rattle.steps_allowed.specs.UnusedImport.{an_imported}
+use Rattle.steps.specs.Allowed.UnusedImport.{an_imported}
 use Rattle.headline.specs.Clean.{CleanBut, an_unused_import}
 use Rattle.headline.specs.Lasting.{ImportsAreUsed}
 use Rattle.headline.proofs.Rooted.{InProgram, in_program, is_inner, in_its_program}

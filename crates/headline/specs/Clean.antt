@@ -7,50 +7,50 @@ use Rattle.js_syntax.specs.Node.{Forest, Tree, Note, nothing, node}
 use Rattle.scope_laws.specs.Place.{Around, plug}
 -- where a node stands; what is silent there; which binding no reference has and no export is of
 use Rattle.steps.specs.Steps.{binds_import}
-use Rattle.steps_allowed.specs.Imports.{IsImported}
-use Rattle.steps_allowed.specs.Places.{a_node, IsItem, IsDeclarator, At}
-use Rattle.steps_allowed.specs.Free.{Free, FreeDeclarator}
-use Rattle.steps_allowed.specs.SilentStatement.{SilentStatement}
-use Rattle.steps_allowed.specs.UnusedFunction.{a_function}
-use Rattle.steps_allowed.specs.UnusedDeclarator.{a_declarator, SilentDeclarator}
-use Rattle.steps_allowed.specs.UnusedImport.{an_imported}
+use Rattle.steps.specs.Allowed.Imports.{IsImported}
+use Rattle.steps.specs.Allowed.Places.{a_node, IsItem, IsDeclarator, At}
+use Rattle.steps.specs.Allowed.Free.{Free, FreeDeclarator}
+use Rattle.steps.specs.Allowed.SilentStatement.{SilentStatement}
+use Rattle.steps.specs.Allowed.UnusedFunction.{a_function}
+use Rattle.steps.specs.Allowed.UnusedDeclarator.{a_declarator, SilentDeclarator}
+use Rattle.steps.specs.Allowed.UnusedImport.{an_imported}
 -- what is decided by what is known, and the part that counts, which may stand in its place
-use Rattle.steps_allowed.specs.KnownConditional.{KnownConditional}
-use Rattle.steps_allowed.specs.KnownSide.{KnownSide}
+use Rattle.steps.specs.Allowed.KnownConditional.{KnownConditional}
+use Rattle.steps.specs.Allowed.KnownSide.{KnownSide}
 -- what nobody takes the value of, and the operand that acts
-use Rattle.steps_allowed.specs.UnusedOperation.{UnusedOperation}
+use Rattle.steps.specs.Allowed.UnusedOperation.{UnusedOperation}
 -- and an array or a sequence, and its parts that act
-use Rattle.steps_allowed.specs.UnusedList.{UnusedList}
+use Rattle.steps.specs.Allowed.UnusedList.{UnusedList}
 -- and what is decided by what is known, and the part that counts, which may not stand there itself
-use Rattle.steps_allowed.specs.IndirectChoice.{IndirectChoice}
+use Rattle.steps.specs.Allowed.IndirectChoice.{IndirectChoice}
 -- and a conditional that nobody takes the value of, of which one branch acts
-use Rattle.steps_allowed.specs.OneSidedChoice.{OneSidedChoice}
+use Rattle.steps.specs.Allowed.OneSidedChoice.{OneSidedChoice}
 -- and a sequence, and what counts of it
-use Rattle.steps_allowed.specs.IdleParts.{IdleParts}
+use Rattle.steps.specs.Allowed.IdleParts.{IdleParts}
 -- and a comparison that nobody takes the value of, of which both sides act
-use Rattle.steps_allowed.specs.TwoSides.{TwoSides}
+use Rattle.steps.specs.Allowed.TwoSides.{TwoSides}
 -- and an object literal that nobody takes the value of, and its values that act
-use Rattle.steps_allowed.specs.UnusedObject.{UnusedObject}
+use Rattle.steps.specs.Allowed.UnusedObject.{UnusedObject}
 -- and an operation, and its value
-use Rattle.steps_allowed.specs.KnownOperation.{KnownOperation}
+use Rattle.steps.specs.Allowed.KnownOperation.{KnownOperation}
 -- and an `if` on a test that is known, and the branch that runs, or nothing
-use Rattle.steps_allowed.specs.KnownIf.{KnownIf}
-use Rattle.steps_allowed.specs.DeadIf.{DeadIf}
+use Rattle.steps.specs.Allowed.KnownIf.{KnownIf}
+use Rattle.steps.specs.Allowed.DeadIf.{DeadIf}
 -- and a block of nothing
-use Rattle.steps_allowed.specs.EmptyBlock.{EmptyBlock}
+use Rattle.steps.specs.Allowed.EmptyBlock.{EmptyBlock}
 -- and a loop that never turns, or a `try` around nothing
-use Rattle.steps_allowed.specs.IdleStatement.{IdleStatement}
+use Rattle.steps.specs.Allowed.IdleStatement.{IdleStatement}
 -- and a `try` around nothing that comes to its finalizer
-use Rattle.steps_allowed.specs.IdleTry.{IdleTry}
+use Rattle.steps.specs.Allowed.IdleTry.{IdleTry}
 -- and a statement in its list behind what cuts off, as a jump does, or in a branch that isn't taken
-use Rattle.steps_allowed.specs.Unreached.{Unreached}
-use Rattle.steps_allowed.specs.Untaken.{Untaken}
+use Rattle.steps.specs.Allowed.Unreached.{Unreached}
+use Rattle.steps.specs.Allowed.Untaken.{Untaken}
 -- and an import without names behind another request of its module
-use Rattle.steps_allowed.specs.RepeatedImport.{RepeatedImport}
+use Rattle.steps.specs.Allowed.RepeatedImport.{RepeatedImport}
 -- and a value that a declaration gives in such a branch
-use Rattle.steps_allowed.specs.UnrunValue.{UnrunValue}
+use Rattle.steps.specs.Allowed.UnrunValue.{UnrunValue}
 -- whose names only the tree's references may use
-use Rattle.steps_allowed.specs.Exposure.{IsOwnFunction, IsOwnDeclarator}
+use Rattle.steps.specs.Allowed.Exposure.{IsOwnFunction, IsOwnDeclarator}
 
 -- A part of a program, at a place in it, is dead code. Who asks for it keeps what nobody uses (`unused`), or of that the names of imports
 -- (`imports`), as an import of a name that its module doesn't export is an error (ECMA-262 16.2.1.6); none of that is dead code then.

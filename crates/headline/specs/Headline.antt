@@ -7,14 +7,14 @@ use Rattle.js_syntax.specs.Node.{Forest}
 -- each run of the first is one of the second: the same where it ends or the host stops it, else a front of it; and the way back
 pub use Rattle.js_meaning.specs.Kept.{Kept, KeptBack}
 -- edits one after the other, each at one place and allowed on the tree as it is then
-pub use Rattle.steps_allowed.specs.Edits.{Edits}
+pub use Rattle.steps.specs.Allowed.Edits.{Edits}
 -- whether a part of the tree is dead code
 pub use Rattle.headline.specs.Clean.{Clean}
 -- what is asked to be loaded, and which names stay that other code may use
-use Rattle.steps_allowed.specs.Exposure.{is_script, evaluates_somewhere}
+use Rattle.steps.specs.Allowed.Exposure.{is_script, evaluates_somewhere}
 pub use Rattle.headline.specs.Lasting.{loaded, root_names, HasSharedNames, ImportsAreUsed}
 -- a module whose nodes are all of the core of the language, for which runs are defined
-pub use Rattle.steps_fit.specs.Sensible.{is_core_module}
+pub use Rattle.steps.specs.Fit.Sensible.{is_core_module}
 
 -- Of two programs the second is the first without its dead code.
 pub record Headline (t u : Forest) : Type 0 where

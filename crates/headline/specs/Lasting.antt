@@ -10,11 +10,11 @@ use Rattle.form_rules.specs.Rules.{at_top}
 use Rattle.form_rules.specs.Scope.{Declared, declared}
 use Rattle.scope_laws.specs.Place.{Around, plug}
 use Rattle.steps.specs.Steps.{binds_import}
-use Rattle.steps_allowed.specs.Exposure.{is_script, evaluates_somewhere}
-use Rattle.steps_allowed.specs.Free.{FreeDeclarator}
-use Rattle.steps_allowed.specs.Imports.{IsImported}
-use Rattle.steps_allowed.specs.Places.{At}
-use Rattle.steps_allowed.specs.UnusedImport.{an_imported}
+use Rattle.steps.specs.Allowed.Exposure.{is_script, evaluates_somewhere}
+use Rattle.steps.specs.Allowed.Free.{FreeDeclarator}
+use Rattle.steps.specs.Allowed.Imports.{IsImported}
+use Rattle.steps.specs.Allowed.Places.{At}
+use Rattle.steps.specs.Allowed.UnusedImport.{an_imported}
 
 -- ---- what is loaded
 

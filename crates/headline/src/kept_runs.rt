@@ -4,11 +4,11 @@ ghost use Rattle.js_syntax.specs.Node.{Note, Forest};
 ghost use Rattle.js_meaning.specs.Kept.{Refined};
 ghost use Rattle.js_meaning_near.specs.Near.{module_of};
 ghost use Rattle.steps.specs.Steps.{Step, outermost};
-ghost use Rattle.steps_keep_runs.specs.Formed.{is_formed};
-ghost use Rattle.steps_keep_runs.specs.Once.{Once};
-ghost use Rattle.steps_names.specs.Placed.{is_well_placed};
-ghost use Rattle.steps_fit.specs.Clear.{Clear};
-ghost use Rattle.steps_fit.specs.Sensible.{IsSensible, IsSensibleModule};
+ghost use Rattle.steps.specs.KeepRuns.Formed.{is_formed};
+ghost use Rattle.steps.specs.KeepRuns.Once.{Once};
+ghost use Rattle.steps.specs.Naming.Placed.{is_well_placed};
+ghost use Rattle.steps.specs.Fit.Clear.{Clear};
+ghost use Rattle.steps.specs.Fit.Sensible.{IsSensible, IsSensibleModule};
 
 /// Law: where the scopes of a module are clear, a name whose declaration a step takes away stands in its scope no
 /// more, or what still declares it there has cells.

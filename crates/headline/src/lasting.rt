@@ -3,8 +3,8 @@ ghost use Rattle.std.specs.Prelude.{◌≡◌, false};
 ghost use Rattle.js_syntax.specs.Class.{root};
 ghost use Rattle.js_syntax.specs.Node.{Forest};
 ghost use Rattle.json_shape.specs.Shape.{Fits};
-ghost use Rattle.steps_allowed.specs.Edits.{Edits};
-ghost use Rattle.steps_allowed.specs.Exposure.{is_script, evaluates_somewhere};
+ghost use Rattle.steps.specs.Allowed.Edits.{Edits};
+ghost use Rattle.steps.specs.Allowed.Exposure.{is_script, evaluates_somewhere};
 ghost use Rattle.headline.specs.Clean.{Clean};
 ghost use Rattle.headline.specs.Lasting.{loaded, root_names, HasSharedNames, ImportsAreUsed};
 

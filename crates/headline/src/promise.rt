@@ -3,7 +3,7 @@ ghost use Rattle.js_syntax.specs.Class.{root};
 ghost use Rattle.js_syntax.specs.Node.{Forest};
 ghost use Rattle.form_rules.specs.Form.{IsWellFormed};
 ghost use Rattle.json_shape.specs.Shape.{Fits};
-ghost use Rattle.steps_allowed.specs.Edits.{Edits};
+ghost use Rattle.steps.specs.Allowed.Edits.{Edits};
 ghost use Rattle.headline.specs.Clean.{Clean};
 ghost use Rattle.headline.specs.Headline.{Headline};
 

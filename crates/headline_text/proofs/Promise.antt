@@ -7,8 +7,8 @@ use Rattle.form_rules.specs.Form.{IsWellFormed}
 use Rattle.json_text.specs.Answer.{IsReadAs}
 use Rattle.json_text.specs.Text.{text_of}
 use Rattle.json_kept.specs.Respelled.{misnamed}
-use Rattle.steps_allowed.specs.Edits.{Edits}
-use Rattle.steps_fit.specs.Sensible.{is_core_module}
+use Rattle.steps.specs.Allowed.Edits.{Edits}
+use Rattle.steps.specs.Fit.Sensible.{is_core_module}
 use Rattle.headline.proofs.Headline.{module_refines as edits_refine}
 use Rattle.headline_text.specs.Written.{written, TextHeadline}
 use Rattle.steps_keep_text.proofs.ReadBack.{read_fits, unsigned, read_with_signs, runs_with_signs}

@@ -8,7 +8,7 @@ use Rattle.json_text.specs.Text.{data_of, text_of}
 use Rattle.js_meaning_near.specs.Signed.{signed}
 use Rattle.js_meaning.specs.Kept.{Kept, KeptBack}
 -- a module whose nodes are all of the core of the language, for which runs are defined
-use Rattle.steps_fit.specs.Sensible.{is_core_module}
+use Rattle.steps.specs.Fit.Sensible.{is_core_module}
 use Rattle.json_kept.specs.Respelled.{negative, misnamed}
 
 -- The tree without its notes, with unary minus on its magnitude in the place of each negative number: without such numbers it

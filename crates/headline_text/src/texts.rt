@@ -4,7 +4,7 @@ ghost use Rattle.js_syntax.specs.Node.{Forest};
 ghost use Rattle.form_rules.specs.Form.{IsWellFormed};
 ghost use Rattle.json_text.specs.Answer.{IsReadAs};
 ghost use Rattle.json_text.specs.Text.{text_of};
-ghost use Rattle.steps_allowed.specs.Edits.{Edits};
+ghost use Rattle.steps.specs.Allowed.Edits.{Edits};
 ghost use Rattle.headline_text.specs.Written.{TextHeadline};
 
 /// Law: where edits lead from a program that was read and breaks no rule of form, the text of what they leave is read as that if

@@ -13,7 +13,7 @@ use Rattle.js_meaning.specs.Scope as scope
 use Rattle.js_meaning.specs.Scope.{bound_names, vars_of, var_names}
 use Rattle.json_shape.specs.Shape.{Values, kind_in, one, places, these, Stand, Fits}
 use Rattle.json_shape.proofs.Choice.{is_list_kind}
-use Rattle.steps_fit.proofs.Everywhere.{IsShown, everywhere, any_tree}
+use Rattle.steps.proofs.Fit.Everywhere.{IsShown, everywhere, any_tree}
 use Rattle.kept_names.specs.Kept.{is_var, holds_statements, declared_of, declared, kept_of, kept, declarator_of, declaration_of}
 use Rattle.kept_laws.specs.Texts.{text_of, texts}
 use Rattle.kept_laws.proofs.Statements.{statement_law}

@@ -17,9 +17,9 @@ use Rattle.form_rules.specs.Scope.{Declared, declared, declared_here, bound_belo
 use Rattle.form_rules.specs.declared.sought.Sort.{Sort}
 use Rattle.form_rules.specs.declared.sought.Sought.{Sought}
 use Rattle.form_rules.specs.declared.sought.Sought.TheVariants.{Nothing as none, Bound as bound}
-use Rattle.steps_fit.proofs.CoreCalm.{rows_of}
-use Rattle.steps_fit.proofs.CoreRows.{takes_such, if_so}
-use Rattle.steps_fit.proofs.Held.{place_held, plan_held, first_held, behind_held}
+use Rattle.steps.proofs.Fit.CoreCalm.{rows_of}
+use Rattle.steps.proofs.Fit.CoreRows.{takes_such, if_so}
+use Rattle.steps.proofs.Fit.Held.{place_held, plan_held, first_held, behind_held}
 use Rattle.kept_laws.specs.Texts.{names}
 use Rattle.kept_laws.proofs.Sets.{in_expression, of_free}
 use Rattle.kept_laws.proofs.Free.{is_name, node_declares_none}

@@ -12,10 +12,10 @@ use Rattle.js_meaning.specs.Scope.{names_of, bound_names, vars_of, var_names}
 use Rattle.json_shape.specs.Shape.{Values, kind_in, first_of, places, Plan, these, Stand}
 use Rattle.json_shape.proofs.Choice.{is_list_kind}
 use Rattle.kept_names.specs.Kept as kept
-use Rattle.steps_keep_form.proofs.Rules.{both_empty}
-use Rattle.steps_fit.proofs.CoreCalm.{rows_of}
-use Rattle.steps_fit.proofs.CoreRows.{takes_such, if_so, fields_pass}
-use Rattle.steps_fit.proofs.Shut.{shut, takes_marked, Passing, row_passing, shut_as_planned}
+use Rattle.steps.proofs.KeepForm.Rules.{both_empty}
+use Rattle.steps.proofs.Fit.CoreCalm.{rows_of}
+use Rattle.steps.proofs.Fit.CoreRows.{takes_such, if_so, fields_pass}
+use Rattle.steps.proofs.Fit.Shut.{shut, takes_marked, Passing, row_passing, shut_as_planned}
 use Rattle.kept_laws.proofs.Sets.{of_expression, in_expression, of_free, in_free}
 
 -- what lies in a function or class doesn't matter

@@ -17,10 +17,10 @@ use Rattle.js_meaning.specs.Scope as scope
 use Rattle.js_meaning.specs.Scope.{names_of, bound_names, first_of}
 use Rattle.json_shape.specs.Shape as shape
 use Rattle.json_shape.specs.Shape.{Values, kind_in, Place, one, maybe_one, beyond, key_node, key_apart, list, list_with_holes, body, item_or_hole, item_of_body, key_place, places, Plan, these, all, all_or_holes, first_place, behind, IsOf, IsAt, Stand}
-use Rattle.steps_fit.proofs.CoreCalm.{rows_of}
-use Rattle.steps_fit.proofs.CoreRows.{takes_such}
-use Rattle.steps_fit.proofs.Held.{place_held, plan_held, first_held, behind_held}
-use Rattle.steps_fit.proofs.Shut.{takes_set}
+use Rattle.steps.proofs.Fit.CoreCalm.{rows_of}
+use Rattle.steps.proofs.Fit.CoreRows.{takes_such}
+use Rattle.steps.proofs.Fit.Held.{place_held, plan_held, first_held, behind_held}
+use Rattle.steps.proofs.Fit.Shut.{takes_set}
 use Rattle.kept_laws.specs.Texts.{text_of, texts}
 use Rattle.kept_laws.proofs.Sets.{of_expression, of_pattern, in_pattern}
 use Rattle.kept_laws.proofs.Free.{expressions_declare_none}

@@ -14,9 +14,9 @@ use Rattle.json_shape.specs.Shape.{Values, kind_in, Place, one, maybe_one, beyon
 use Rattle.form_rules.specs.Scope.{declared, variables_below}
 use Rattle.form_rules.specs.declared.sought.Sort.TheVariants.{Variable as variable}
 use Rattle.form_rules.specs.declared.sought.Sought.TheVariants.{Nothing as none, Variables as variables}
-use Rattle.steps_fit.proofs.CoreCalm.{rows_of}
-use Rattle.steps_fit.proofs.CoreRows.{if_so}
-use Rattle.steps_fit.proofs.Held.{place_held, plan_held, first_held, behind_held}
+use Rattle.steps.proofs.Fit.CoreCalm.{rows_of}
+use Rattle.steps.proofs.Fit.CoreRows.{if_so}
+use Rattle.steps.proofs.Fit.Held.{place_held, plan_held, first_held, behind_held}
 use Rattle.kept_names.specs.Kept.{kept_of, kept}
 use Rattle.kept_laws.specs.Texts.{texts, names}
 use Rattle.kept_laws.proofs.Sets.{in_free, of_statement, in_statement}

@@ -14,9 +14,9 @@ use Rattle.js_meaning.specs.Scope as scope
 use Rattle.js_meaning.specs.Scope.{names_of, bound_names, vars_of, var_names}
 use Rattle.json_shape.specs.Shape.{Values, kind_in, first_of, Place, one, maybe_one, beyond, key_node, key_apart, list, list_with_holes, body, item_or_hole, item_of_body, places, Plan, these, all, all_or_holes, first_place, behind, IsOf, IsAt, Stand, Fits}
 use Rattle.kept_names.specs.Kept.{declared_of, declared, kept_of, kept}
-use Rattle.steps_fit.proofs.CoreCalm.{rows_of}
-use Rattle.steps_fit.proofs.CoreRows.{takes_such}
-use Rattle.steps_fit.proofs.Held.{place_held, plan_held, first_held, behind_held}
+use Rattle.steps.proofs.Fit.CoreCalm.{rows_of}
+use Rattle.steps.proofs.Fit.CoreRows.{takes_such}
+use Rattle.steps.proofs.Fit.Held.{place_held, plan_held, first_held, behind_held}
 use Rattle.kept_laws.specs.Texts.{texts}
 use Rattle.kept_laws.proofs.Sets.{in_free, of_statement, in_statement}
 use Rattle.kept_laws.proofs.Free.{node_is_free, row_is_free, nothing_kept, expressions_declare_none}

@@ -12,8 +12,8 @@ use Rattle.scope_laws.specs.Exact.{Exact}
 use Rattle.scope_match.specs.Matches.{Matches}
 use Rattle.scope_rules.specs.Binding.{resolved_references}
 use Rattle.scope_rules.specs.Table.{Scoping}
-use Rattle.steps_allowed.specs.Edits.{Edits, no_edit}
-use Rattle.steps_allowed.proofs.Composing.{edits_follow}
+use Rattle.steps.specs.Allowed.Edits.{Edits, no_edit}
+use Rattle.steps.proofs.Allowed.Composing.{edits_follow}
 use Rattle.json_shape.specs.Shape.{Fits}
 use Rattle.headline.specs.Clean.{CleanBut}
 use Rattle.headline.specs.Headline.{loaded, root_names, HasSharedNames, ImportsAreUsed}
@@ -26,9 +26,9 @@ use Rattle.min_pass.specs.Pass.{cleared}
 use Rattle.min_pass.proofs.Lighter.{cleared_lighter}
 use Rattle.min_peephole.specs.Shaken as peephole
 use Rattle.min_peephole.specs.Shaken.{IsMarked}
-use Rattle.steps_fit.proofs.Sensible.{sensible}
-use Rattle.steps_owed.proofs.Edited.{edits_sensible}
-use Rattle.steps_owed.proofs.FitsEdits.{edits_fit}
+use Rattle.steps.proofs.Fit.Sensible.{sensible}
+use Rattle.steps.proofs.Owed.Edited.{edits_sensible}
+use Rattle.steps.proofs.Owed.FitsEdits.{edits_fit}
 use Rattle.steps_keep_text.proofs.Along.{edits_shed}
 use Rattle.steps_keep_text.proofs.Smaller.{nodes_shed, levels_shed}
 use Rattle.min_driver.specs.Left.{IsLeft}
@@ -36,7 +36,7 @@ use Rattle.min_driver.specs.Limit.{IsWithinLimits}
 use Rattle.min_driver.specs.Minify.{IsCleanBy, KeepsNothing}
 use Rattle.min_peephole.specs.CleanBy.{keeps_unused, keeps_imports}
 pub use Rattle.min_peephole.proofs.Keeping.{dce_clean}
-use Rattle.steps_allowed.specs.Exposure.{is_script, evaluates_somewhere}
+use Rattle.steps.specs.Allowed.Exposure.{is_script, evaluates_somewhere}
 use Rattle.min_driver.proofs.Cleared.{cleared_levels}
 use Rattle.min_options.specs.declared.options.CompressOptions.{CompressOptions}
 

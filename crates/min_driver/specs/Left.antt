@@ -14,7 +14,7 @@ use Rattle.scope_match.specs.Matches.{Matches}
 use Rattle.scope_rules.specs.Binding.{resolved_references}
 use Rattle.scope_rules.specs.Table.{Scoping}
 use Rattle.headline.specs.Headline.{Edits, Kept, KeptBack, is_core_module, loaded, root_names, HasSharedNames, ImportsAreUsed}
-use Rattle.steps_allowed.specs.Exposure.{is_script, evaluates_somewhere}
+use Rattle.steps.specs.Allowed.Exposure.{is_script, evaluates_somewhere}
 use Rattle.min_driver.specs.Limit.{IsWithinLimits}
 use Rattle.min_driver.specs.Minify.{IsCleanBy, KeepsNothing}
 use Rattle.min_options.specs.declared.options.CompressOptions.{CompressOptions}

@@ -18,7 +18,7 @@ ghost use Rattle.scope_rules.specs.Binding.{resolved_references};
 ghost use Rattle.scope_match.specs.Matches.{Matches};
 ghost use Rattle.headline.specs.Headline.{Edits, Kept, KeptBack, is_core_module, loaded, root_names, HasSharedNames, ImportsAreUsed};
 ghost use Rattle.json_shape.specs.Shape.{Fits};
-ghost use Rattle.steps_allowed.specs.Exposure.{is_script, evaluates_somewhere};
+ghost use Rattle.steps.specs.Allowed.Exposure.{is_script, evaluates_somewhere};
 
 use crate::error::MinifyError;
 use crate::limits::check_limits;

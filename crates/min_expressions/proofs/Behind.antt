@@ -8,14 +8,14 @@ use Rattle.js_syntax.specs.declared.operator.LogicalOperator.{LogicalOperator}
 use Rattle.js_syntax.specs.Node.{Forest, Tree, Note, nothing, node, absent, forest_of}
 use Rattle.scope_counts.specs.Counts.{ids}
 use Rattle.symbol_sets.specs.Numbers.{has}
-use Rattle.steps_allowed.specs.IndirectChoice.{one_of, if_so, part_counts}
-use Rattle.steps_allowed.specs.KnownConditional.{truth_known}
-use Rattle.steps_allowed.specs.KnownSide.{side_known}
+use Rattle.steps.specs.Allowed.IndirectChoice.{one_of, if_so, part_counts}
+use Rattle.steps.specs.Allowed.KnownConditional.{truth_known}
+use Rattle.steps.specs.Allowed.KnownSide.{side_known}
 use Rattle.min_context.specs.Edited.{evals, Edited}
 use Rattle.min_context.specs.Seen.{Seen}
 use Rattle.min_traverse.specs.Lawful.{Rule, Does, or_same}
-use Rattle.rules_expressions.specs.Uses.{Spot}
-use Rattle.rules_expressions.specs.Indirect.{behind_if, indirect_becomes}
+use Rattle.rules.specs.Expressions.Uses.{Spot}
+use Rattle.rules.specs.Expressions.Indirect.{behind_if, indirect_becomes}
 use Rattle.min_expressions.specs.Kept.{matters_at, child_at, parts_of, is_call}
 use Rattle.min_expressions.specs.Indirect.{branch_behind, branch_of, side_behind, side_of, goes_behind, put_behind}
 use Rattle.min_expressions.proofs.Chosen.{chosen, no_index, three, two, some_kept, second_kept, third_kept, right_kept}

@@ -4,11 +4,11 @@ use Rattle.js_syntax.specs.declared.node_kind.NodeKind.{NodeKind as Kind}
 use Rattle.js_syntax.specs.declared.node_kind.NodeKind.TheVariants.{ConditionalExpression as conditional_expression, LogicalExpression as logical_expression}
 use Rattle.js_syntax.specs.declared.operator.LogicalOperator.{LogicalOperator}
 use Rattle.js_syntax.specs.Node.{Forest, Tree, Note, nothing, node, absent}
-use Rattle.steps_allowed.specs.KnownConditional.{truth_known}
-use Rattle.steps_allowed.specs.KnownSide.{side_known}
-use Rattle.steps_allowed.specs.Uses.{stands_bare}
-use Rattle.rules_expressions.specs.Uses.{Spot}
-use Rattle.rules_expressions.specs.Known.{branch_taken, by_condition, conditional_becomes, side_taken, by_left_side, logical_becomes}
+use Rattle.steps.specs.Allowed.KnownConditional.{truth_known}
+use Rattle.steps.specs.Allowed.KnownSide.{side_known}
+use Rattle.steps.specs.Allowed.Uses.{stands_bare}
+use Rattle.rules.specs.Expressions.Uses.{Spot}
+use Rattle.rules.specs.Expressions.Known.{branch_taken, by_condition, conditional_becomes, side_taken, by_left_side, logical_becomes}
 use Rattle.min_expressions.specs.Kept.{child_at, kept_if, branch_kept, branch_of, conditional_keeps, side_kept, side_of, logical_keeps, parts_of, is_call}
 
 -- the child at an index, if there is one

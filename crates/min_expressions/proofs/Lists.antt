@@ -11,11 +11,11 @@ use Rattle.js_tree.specs.Walk.{is_list}
 use Rattle.scope_counts.specs.Counts.{ids}
 use Rattle.min_context.specs.Edited.{evals, Leaves, DropsNode, Edited}
 use Rattle.min_context.specs.Seen.{Seen}
-use Rattle.steps_allowed.specs.UnusedOperation.{acts}
-use Rattle.steps_allowed.specs.UnusedList.{acting, all_act, is_spread, has_spread, as_one, list_becomes}
-use Rattle.steps_allowed.specs.Uses.{as_value, stands_bare}
-use Rattle.rules_expressions.specs.Uses.{Spot}
-use Rattle.rules_expressions.specs.Lists.{new_note, list_note, unused_list_becomes}
+use Rattle.steps.specs.Allowed.UnusedOperation.{acts}
+use Rattle.steps.specs.Allowed.UnusedList.{acting, all_act, is_spread, has_spread, as_one, list_becomes}
+use Rattle.steps.specs.Allowed.Uses.{as_value, stands_bare}
+use Rattle.rules.specs.Expressions.Uses.{Spot}
+use Rattle.rules.specs.Expressions.Lists.{new_note, list_note, unused_list_becomes}
 use Rattle.min_expressions.specs.Kept.{child_at}
 use Rattle.min_expressions.specs.Lists.{only, item_acts, idle, Found, none, one, several, found_with, found_from, is_enough, are_one, array_goes, sequence_goes, list_goes}
 use Rattle.min_expressions.specs.Unused.{tree_acts}

@@ -9,9 +9,9 @@ use Rattle.js_tree.specs.Weight.{size_of}
 use Rattle.min_context.specs.Edited.{Edited}
 use Rattle.min_context.specs.Seen.{Seen}
 use Rattle.min_traverse.specs.Lawful.{or_same}
-use Rattle.steps_allowed.specs.UnusedOperation.{acts, index_if, operand_needed, side_needed, left_needed, condition_needed, needed_at}
-use Rattle.rules_expressions.specs.Uses.{Spot}
-use Rattle.rules_expressions.specs.Unused.{left_of_node, left_at, left_below, unused_becomes}
+use Rattle.steps.specs.Allowed.UnusedOperation.{acts, index_if, operand_needed, side_needed, left_needed, condition_needed, needed_at}
+use Rattle.rules.specs.Expressions.Uses.{Spot}
+use Rattle.rules.specs.Expressions.Unused.{left_of_node, left_at, left_below, unused_becomes}
 use Rattle.min_expressions.specs.Kept.{child_at, is_call, parts_of}
 use Rattle.min_expressions.specs.Unused.{side_of_parts, left_of_parts, condition_of_parts, unused_keeps}
 use Rattle.min_expressions.proofs.Leaving.{Adds, same_some, no_child, edited_twice}

@@ -12,10 +12,10 @@ use Rattle.js_effects.specs.declared.value.ConstantValue.TheVariants.{Number}
 use Rattle.js_effects.specs.Answers.{bare_answers}
 use Rattle.js_effects.specs.Values.{largest, value_of}
 use Rattle.scope_laws.proofs.Bindings.{same_value}
-use Rattle.steps_allowed.specs.KnownOperation.{as_negative, gives_negative}
-use Rattle.steps_owed.proofs.KnownSizes.{unary_negative_small, binary_negative_small}
-use Rattle.rules_expressions.specs.Lists.{new_note}
-use Rattle.rules_expressions.specs.Operations.{minus_there}
+use Rattle.steps.specs.Allowed.KnownOperation.{as_negative, gives_negative}
+use Rattle.steps.proofs.Owed.KnownSizes.{unary_negative_small, binary_negative_small}
+use Rattle.rules.specs.Expressions.Lists.{new_note}
+use Rattle.rules.specs.Expressions.Operations.{minus_there}
 
 -- what is known of an operation is exact
 pub covered : (k : Kind) (n : Note) (below : Forest) → gives_negative k below ≡ true → (i : ℕ) → as_negative (value_of bare_answers (alone k n below)) ≡ Some i → nat_le (suc i) largest ≡ true

@@ -11,11 +11,11 @@ use Rattle.js_tree.proofs.Search.{AsksEach}
 use Rattle.scope_counts.specs.Counts.{ids}
 use Rattle.min_context.specs.Edited.{evals, DropsNode, Edited}
 use Rattle.min_context.specs.Seen.{Seen}
-use Rattle.steps_allowed.specs.UnusedOperation.{acts}
-use Rattle.steps_allowed.specs.UnusedList.{acting, as_one}
-use Rattle.steps_allowed.specs.UnusedObject.{comes_out, are_plain, acting_values, object_becomes}
-use Rattle.rules_expressions.specs.Lists.{new_note, list_note}
-use Rattle.rules_expressions.specs.Uses.{Spot}
+use Rattle.steps.specs.Allowed.UnusedOperation.{acts}
+use Rattle.steps.specs.Allowed.UnusedList.{acting, as_one}
+use Rattle.steps.specs.Allowed.UnusedObject.{comes_out, are_plain, acting_values, object_becomes}
+use Rattle.rules.specs.Expressions.Lists.{new_note, list_note}
+use Rattle.rules.specs.Expressions.Uses.{Spot}
 use Rattle.min_expressions.specs.Kept.{child_at}
 use Rattle.min_expressions.specs.Lists.{Found, none, found_with, found_from, is_enough, are_one}
 use Rattle.min_expressions.specs.Objects.{is_plain_entry, is_plain, value_of, in_front, values, values_found, values_go, object_goes}

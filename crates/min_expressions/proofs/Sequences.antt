@@ -10,16 +10,16 @@ use Rattle.scope_counts.specs.Counts.{ids}
 use Rattle.min_context.specs.Edited.{evals, Leaves, DropsNode, Edited}
 use Rattle.min_context.specs.Seen.{Seen}
 use Rattle.js_tree.specs.Walk.{is_list}
-use Rattle.steps_allowed.specs.IdleParts.{stays_before, counting, all_count, more_before, itself_or_behind, as_value_of, sequence_becomes}
-use Rattle.steps_allowed.specs.IndirectChoice.{behind_zero}
-use Rattle.steps_allowed.specs.UnusedOperation.{acts}
-use Rattle.steps_allowed.specs.UnusedList.{all_act}
-use Rattle.steps_allowed.specs.Uses.{stands_bare}
-use Rattle.rules_expressions.specs.Uses.{Spot}
-use Rattle.rules_expressions.specs.Lists.{new_note, list_note}
+use Rattle.steps.specs.Allowed.IdleParts.{stays_before, counting, all_count, more_before, itself_or_behind, as_value_of, sequence_becomes}
+use Rattle.steps.specs.Allowed.IndirectChoice.{behind_zero}
+use Rattle.steps.specs.Allowed.UnusedOperation.{acts}
+use Rattle.steps.specs.Allowed.UnusedList.{all_act}
+use Rattle.steps.specs.Allowed.Uses.{stands_bare}
+use Rattle.rules.specs.Expressions.Uses.{Spot}
+use Rattle.rules.specs.Expressions.Lists.{new_note, list_note}
 use Rattle.min_expressions.specs.Lists.{only}
 use Rattle.min_expressions.specs.Sequences.{item_stays, some_stay, more_alone, leaving, last_stands, are_value, comes_behind, parts_go, only_goes, sequence_goes}
-use Rattle.rules_expressions.proofs.Sequences.{some_left, first_leaves, none_behind}
+use Rattle.rules.proofs.Expressions.Sequences.{some_left, first_leaves, none_behind}
 use Rattle.min_expressions.proofs.Leaving.{Adds, ids_add, evals_add, leaves_none, leaves_more, same_some}
 use Rattle.min_expressions.proofs.Lists.{or_false, no_node, no_list, no_tree, made, unless_same, HasList, sequence_list, parts_edits, Counts, made_counts}
 

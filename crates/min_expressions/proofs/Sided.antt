@@ -10,8 +10,8 @@ use Rattle.js_syntax.specs.Node.{Forest, Tree, Note, nothing, node, absent, alon
 use Rattle.scope_counts.specs.Counts.{ids}
 use Rattle.min_context.specs.Edited.{evals, Leaves, DropsNode, Edited}
 use Rattle.min_context.specs.Seen.{Seen}
-use Rattle.steps_allowed.specs.OneSidedChoice.{sides, one_sided}
-use Rattle.rules_expressions.specs.Uses.{Spot}
+use Rattle.steps.specs.Allowed.OneSidedChoice.{sides, one_sided}
+use Rattle.rules.specs.Expressions.Uses.{Spot}
 use Rattle.min_expressions.specs.OneSided.{operator_for, stays_one_sided, leaving_at}
 use Rattle.min_expressions.specs.Unused.{tree_acts}
 use Rattle.min_expressions.proofs.Chosen.{three, two}

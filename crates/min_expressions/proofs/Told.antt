@@ -2,9 +2,9 @@
 use Rattle.std.proofs.Common.{◌≡◌, ◌∙◌, ◌<◌, ◌≤◌, ◌+◌, ◌==◌, ℕ, zero, suc, List, Bool, true, false, ◌||◌, length, drop, slice_index_or, refl, sym, ap, drop-cons, add-one, true≢false}
 use Rattle.std.proofs.lemmas.List.{drop_all}
 use Rattle.min_context.specs.declared.ancestor.Ancestor.{Ancestor}
-use Rattle.steps_allowed.specs.Uses.{Use, as_value, first_as_callee}
-use Rattle.rules_dead_code.specs.Rules.{has_with, is_field_of_with}
-use Rattle.rules_expressions.specs.Uses.{use_in, use_from, is_unused_in, is_unused_from}
+use Rattle.steps.specs.Allowed.Uses.{Use, as_value, first_as_callee}
+use Rattle.rules.specs.DeadCode.Rules.{has_with, is_field_of_with}
+use Rattle.rules.specs.Expressions.Uses.{use_in, use_from, is_unused_in, is_unused_from}
 
 pub behind_callee : (n : ℕ) → (n == 0) ≡ false → first_as_callee n ≡ as_value
 behind_callee zero e = absurd (true≢false e)

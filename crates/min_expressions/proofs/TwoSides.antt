@@ -7,9 +7,9 @@ use Rattle.js_meaning_near.specs.Unused.{compares}
 use Rattle.scope_counts.specs.Counts.{ids}
 use Rattle.min_context.specs.Edited.{evals, DropsNode, Edited}
 use Rattle.min_context.specs.Seen.{Seen}
-use Rattle.steps_allowed.specs.TwoSides.{two_sides}
-use Rattle.steps_allowed.specs.UnusedOperation.{acts}
-use Rattle.rules_expressions.specs.Uses.{Spot}
+use Rattle.steps.specs.Allowed.TwoSides.{two_sides}
+use Rattle.steps.specs.Allowed.UnusedOperation.{acts}
+use Rattle.rules.specs.Expressions.Uses.{Spot}
 use Rattle.min_expressions.specs.TwoSides.{sides_act, sides_go}
 use Rattle.min_expressions.proofs.Leaving.{leaves_none, emptied, edits_to}
 use Rattle.min_expressions.proofs.Lists.{made, made_counts, if_bare, if_unused, no_list, no_tree}

@@ -4,11 +4,11 @@ use Rattle.js_syntax.specs.declared.node_kind.NodeKind.{NodeKind as Kind}
 use Rattle.js_syntax.specs.declared.node_kind.NodeKind.TheVariants.{ConditionalExpression as conditional_expression, LogicalExpression as logical_expression}
 use Rattle.js_syntax.specs.declared.operator.LogicalOperator.{LogicalOperator}
 use Rattle.js_syntax.specs.Node.{Forest, Tree, Note}
-use Rattle.steps_allowed.specs.IndirectChoice.{behind_zero}
-use Rattle.steps_allowed.specs.KnownConditional.{truth_known}
-use Rattle.steps_allowed.specs.KnownSide.{side_known}
-use Rattle.rules_expressions.specs.Lists.{new_note}
-use Rattle.rules_expressions.specs.Uses.{Spot}
+use Rattle.steps.specs.Allowed.IndirectChoice.{behind_zero}
+use Rattle.steps.specs.Allowed.KnownConditional.{truth_known}
+use Rattle.steps.specs.Allowed.KnownSide.{side_known}
+use Rattle.rules.specs.Expressions.Lists.{new_note}
+use Rattle.rules.specs.Expressions.Uses.{Spot}
 use Rattle.min_expressions.specs.Kept.{matters_at, kept_if, Parts, pair, triple, parts_of}
 
 abbrev pub branch_behind : Spot → (truth : Option Bool) → (consequent alternate : Tree) → Option ℕ

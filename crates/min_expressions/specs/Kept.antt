@@ -4,11 +4,11 @@ use Rattle.js_syntax.specs.declared.node_kind.NodeKind.{NodeKind as Kind}
 use Rattle.js_syntax.specs.declared.node_kind.NodeKind.TheVariants.{ConditionalExpression as conditional_expression, LogicalExpression as logical_expression, CallExpression as call_expression}
 use Rattle.js_syntax.specs.declared.operator.LogicalOperator.{LogicalOperator}
 use Rattle.js_syntax.specs.Node.{Forest, Tree, nothing, node}
-pub use Rattle.steps_allowed.specs.Child.{child_at}
-use Rattle.steps_allowed.specs.KnownConditional.{truth_known}
-use Rattle.steps_allowed.specs.KnownSide.{side_known}
-use Rattle.steps_allowed.specs.Uses.{matters, stands_bare}
-use Rattle.rules_expressions.specs.Uses.{Spot}
+pub use Rattle.steps.specs.Allowed.Child.{child_at}
+use Rattle.steps.specs.Allowed.KnownConditional.{truth_known}
+use Rattle.steps.specs.Allowed.KnownSide.{side_known}
+use Rattle.steps.specs.Allowed.Uses.{matters, stands_bare}
+use Rattle.rules.specs.Expressions.Uses.{Spot}
 use Rattle.min_expressions.specs.declared.parts.Parts.{Parts as Answer}
 use Rattle.min_expressions.specs.declared.parts.Parts.TheVariants as answer
 

@@ -3,10 +3,10 @@ use Rattle.std.specs.Prelude.{List, [], ◌∷◌, Bool, true, false, not, ◌&&
 use Rattle.js_syntax.specs.declared.node_kind.NodeKind.{NodeKind as Kind}
 use Rattle.js_syntax.specs.declared.node_kind.NodeKind.TheVariants.{ArrayExpression as array_expression, Elements as elements, SequenceExpression as sequence_expression, Expressions as expressions}
 use Rattle.js_syntax.specs.Node.{Forest, Tree, nothing, node, absent}
-use Rattle.steps_allowed.specs.UnusedOperation.{acts}
-use Rattle.steps_allowed.specs.UnusedList.{acting, all_act, has_spread}
-use Rattle.steps_allowed.specs.Uses.{as_value, stands_bare}
-use Rattle.rules_expressions.specs.Uses.{Spot}
+use Rattle.steps.specs.Allowed.UnusedOperation.{acts}
+use Rattle.steps.specs.Allowed.UnusedList.{acting, all_act, has_spread}
+use Rattle.steps.specs.Allowed.Uses.{as_value, stands_bare}
+use Rattle.rules.specs.Expressions.Uses.{Spot}
 use Rattle.min_expressions.specs.Unused.{tree_acts}
 use Rattle.min_expressions.specs.declared.list.Found.{Found as Answer}
 use Rattle.min_expressions.specs.declared.list.Found.TheVariants as answer

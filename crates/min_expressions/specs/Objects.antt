@@ -4,9 +4,9 @@ use Rattle.js_syntax.specs.declared.node_kind.NodeKind.{NodeKind as Kind}
 use Rattle.js_syntax.specs.declared.node_kind.NodeKind.TheVariants.{ObjectExpression as object_expression, Properties as properties, Property as property}
 use Rattle.js_syntax.specs.Core.{is_plain_property}
 use Rattle.js_syntax.specs.Node.{Forest, Tree, nothing, node, absent}
-use Rattle.steps_allowed.specs.UnusedList.{acting}
-use Rattle.steps_allowed.specs.UnusedObject.{comes_out, are_plain}
-use Rattle.rules_expressions.specs.Uses.{Spot}
+use Rattle.steps.specs.Allowed.UnusedList.{acting}
+use Rattle.steps.specs.Allowed.UnusedObject.{comes_out, are_plain}
+use Rattle.rules.specs.Expressions.Uses.{Spot}
 use Rattle.min_expressions.specs.Kept.{child_at}
 use Rattle.min_expressions.specs.Lists.{only, Found, found_with, are_one}
 

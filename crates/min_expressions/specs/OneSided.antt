@@ -5,7 +5,7 @@ use Rattle.js_syntax.specs.declared.node_kind.NodeKind.TheVariants.{ConditionalE
 use Rattle.js_syntax.specs.declared.operator.LogicalOperator.{LogicalOperator}
 use Rattle.js_syntax.specs.declared.operator.LogicalOperator.TheVariants as logical
 use Rattle.js_syntax.specs.Node.{Forest, Tree}
-use Rattle.rules_expressions.specs.Uses.{Spot}
+use Rattle.rules.specs.Expressions.Uses.{Spot}
 use Rattle.min_expressions.specs.Kept.{Parts, triple, parts_of}
 use Rattle.min_expressions.specs.Unused.{tree_acts}
 

@@ -3,9 +3,9 @@ use Rattle.std.specs.Prelude.{Bool, true, false, not, ◌&&◌, ◌||◌, Option
 use Rattle.js_syntax.specs.declared.node_kind.NodeKind.{NodeKind as Kind}
 use Rattle.js_syntax.specs.declared.node_kind.NodeKind.TheVariants.{SequenceExpression as sequence_expression, Expressions as expressions}
 use Rattle.js_syntax.specs.Node.{Forest, Tree, nothing, node, absent}
-use Rattle.steps_allowed.specs.IdleParts.{stays_before, counting, all_count, is_more, more_before}
-use Rattle.steps_allowed.specs.Uses.{stands_bare}
-use Rattle.rules_expressions.specs.Uses.{Spot}
+use Rattle.steps.specs.Allowed.IdleParts.{stays_before, counting, all_count, is_more, more_before}
+use Rattle.steps.specs.Allowed.Uses.{stands_bare}
+use Rattle.rules.specs.Expressions.Uses.{Spot}
 use Rattle.min_expressions.specs.Kept.{stands_at}
 use Rattle.min_expressions.specs.Lists.{only}
 

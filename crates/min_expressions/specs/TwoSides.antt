@@ -5,7 +5,7 @@ use Rattle.js_syntax.specs.declared.node_kind.NodeKind.TheVariants.{BinaryExpres
 use Rattle.js_syntax.specs.declared.operator.BinaryOperator.{BinaryOperator}
 use Rattle.js_syntax.specs.Node.{Forest}
 use Rattle.js_meaning_near.specs.Unused.{compares}
-use Rattle.rules_expressions.specs.Uses.{Spot}
+use Rattle.rules.specs.Expressions.Uses.{Spot}
 use Rattle.min_expressions.specs.Kept.{Parts, pair, parts_of}
 use Rattle.min_expressions.specs.Unused.{tree_acts}
 

@@ -4,9 +4,9 @@ use Rattle.js_syntax.specs.declared.node_kind.NodeKind.{NodeKind as Kind}
 use Rattle.js_syntax.specs.declared.operator.BinaryOperator.{BinaryOperator}
 use Rattle.js_syntax.specs.Node.{Forest, Tree}
 use Rattle.js_meaning_near.specs.Unused.{compares}
-use Rattle.steps_allowed.specs.UnusedOperation.{acts, is_needed, index_if, needed_at}
-use Rattle.steps_allowed.specs.Uses.{as_value, stands_bare}
-use Rattle.rules_expressions.specs.Uses.{Spot}
+use Rattle.steps.specs.Allowed.UnusedOperation.{acts, is_needed, index_if, needed_at}
+use Rattle.steps.specs.Allowed.Uses.{as_value, stands_bare}
+use Rattle.rules.specs.Expressions.Uses.{Spot}
 use Rattle.min_expressions.specs.Kept.{Parts, pair, triple}
 
 abbrev pub tree_acts : Tree → Bool

@@ -1,5 +1,5 @@
 -- What code says of an expression's use.
-use Rattle.steps_allowed.specs.Uses.{Use, as_value, as_callee, as_typed, as_deleted}
+use Rattle.steps.specs.Allowed.Uses.{Use, as_value, as_callee, as_typed, as_deleted}
 use Rattle.min_expressions.specs.declared.uses.Use.{Use as Answer}
 use Rattle.min_expressions.specs.declared.uses.Use.TheVariants as answer
 

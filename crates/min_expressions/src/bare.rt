@@ -1,8 +1,8 @@
 // Whether it is the same with an expression itself as with the value that another gives.
 ghost use Rattle.std.specs.Prelude.{◌≡◌};
 ghost use Rattle.js_syntax.specs.Node.{row};
-ghost use Rattle.steps_allowed.specs.Uses.{is_eval, name_matters, member_matters, chain_matters, matters, may_take_name, stands_bare};
-ghost use Rattle.rules_expressions.specs.Uses.{spot_of};
+ghost use Rattle.steps.specs.Allowed.Uses.{is_eval, name_matters, member_matters, chain_matters, matters, may_take_name, stands_bare};
+ghost use Rattle.rules.specs.Expressions.Uses.{spot_of};
 ghost use Rattle.min_expressions.specs.Uses.{told};
 ghost use Rattle.min_expressions.specs.Kept.{stands_at, matters_at};
 

@@ -1,16 +1,16 @@
 // Rewritings of one expression.
 ghost use Rattle.std.specs.Prelude.{◌≡◌, IfOk, IfErr};
 ghost use Rattle.min_traverse.specs.Lawful.{Does, either};
-ghost use Rattle.rules_expressions.specs.Known.{fold_conditional, fold_logical, at_expression_end};
-ghost use Rattle.rules_expressions.specs.Unused.{fold_unused};
-ghost use Rattle.rules_expressions.specs.Lists.{fold_unused_list};
-ghost use Rattle.rules_expressions.specs.Indirect.{fold_indirect};
-ghost use Rattle.rules_expressions.specs.OneSided.{fold_one_sided};
-ghost use Rattle.rules_expressions.specs.Sequences.{fold_sequence};
-ghost use Rattle.rules_expressions.specs.TwoSides.{fold_two_sides};
-ghost use Rattle.rules_expressions.specs.Objects.{fold_object};
-ghost use Rattle.rules_expressions.specs.Operations.{fold_to_literal, fold_to_negative, fold_known};
-ghost use Rattle.rules_expressions.specs.Uses.{spot_of};
+ghost use Rattle.rules.specs.Expressions.Known.{fold_conditional, fold_logical, at_expression_end};
+ghost use Rattle.rules.specs.Expressions.Unused.{fold_unused};
+ghost use Rattle.rules.specs.Expressions.Lists.{fold_unused_list};
+ghost use Rattle.rules.specs.Expressions.Indirect.{fold_indirect};
+ghost use Rattle.rules.specs.Expressions.OneSided.{fold_one_sided};
+ghost use Rattle.rules.specs.Expressions.Sequences.{fold_sequence};
+ghost use Rattle.rules.specs.Expressions.TwoSides.{fold_two_sides};
+ghost use Rattle.rules.specs.Expressions.Objects.{fold_object};
+ghost use Rattle.rules.specs.Expressions.Operations.{fold_to_literal, fold_to_negative, fold_known};
+ghost use Rattle.rules.specs.Expressions.Uses.{spot_of};
 ghost use Rattle.min_expressions.specs.Kept.{matters_at};
 
 use crate::bare::matters_here;

@@ -5,9 +5,9 @@ ghost use Rattle.js_syntax.specs.declared.node_kind.NodeKind.TheVariants.{Litera
 ghost use Rattle.js_syntax.specs.declared.value.LiteralValue.TheVariants as value;
 ghost use Rattle.js_syntax.specs.Node.{nothing, row};
 ghost use Rattle.min_context.specs.Edited.{Edited};
-ghost use Rattle.steps_allowed.specs.KnownConditional.{truth_known};
-ghost use Rattle.steps_allowed.specs.KnownSide.{side_known};
-ghost use Rattle.rules_expressions.specs.Uses.{spot_of};
+ghost use Rattle.steps.specs.Allowed.KnownConditional.{truth_known};
+ghost use Rattle.steps.specs.Allowed.KnownSide.{side_known};
+ghost use Rattle.rules.specs.Expressions.Uses.{spot_of};
 ghost use Rattle.min_expressions.specs.Kept.{child_at, kept_if, is_call, matters_at, parts_of};
 ghost use Rattle.min_expressions.specs.Indirect.{branch_behind, branch_of, side_behind, side_of, goes_behind, put_behind};
 

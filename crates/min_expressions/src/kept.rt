@@ -3,9 +3,9 @@ ghost use Rattle.std.specs.Prelude.{◌≡◌, ◌<◌, length, slice_set, slice
 ghost use Rattle.js_syntax.specs.Node.{row};
 ghost use Rattle.scope_counts.specs.Counts.{ids};
 ghost use Rattle.min_context.specs.Edited.{evals, Leaves, Edited};
-ghost use Rattle.steps_allowed.specs.KnownConditional.{truth_known};
-ghost use Rattle.steps_allowed.specs.KnownSide.{side_known};
-ghost use Rattle.rules_expressions.specs.Uses.{spot_of};
+ghost use Rattle.steps.specs.Allowed.KnownConditional.{truth_known};
+ghost use Rattle.steps.specs.Allowed.KnownSide.{side_known};
+ghost use Rattle.rules.specs.Expressions.Uses.{spot_of};
 ghost use Rattle.min_expressions.specs.Kept.{child_at, kept_if, branch_kept, conditional_keeps, side_kept, logical_keeps, is_call, stands_at};
 
 use crate::bare::may_stand_bare;

@@ -2,9 +2,9 @@
 ghost use Rattle.std.specs.Prelude.{◌≡◌};
 ghost use Rattle.js_syntax.specs.Node.{forest_of};
 ghost use Rattle.known_tests.specs.Tells.{nullish_type, opposite, way_known};
-ghost use Rattle.steps_allowed.specs.KnownConditional.{truth_known};
-ghost use Rattle.steps_allowed.specs.KnownSide.{side_known};
-ghost use Rattle.steps_allowed.specs.Untaken.{truth_given};
+ghost use Rattle.steps.specs.Allowed.KnownConditional.{truth_known};
+ghost use Rattle.steps.specs.Allowed.KnownSide.{side_known};
+ghost use Rattle.steps.specs.Allowed.Untaken.{truth_given};
 
 use crate::list::acts_or_is_list;
 use js_effects::{BareContext, ValueType, evaluate_value_to_boolean, value_type};

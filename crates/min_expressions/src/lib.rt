@@ -1,6 +1,6 @@
 //! What becomes of an expression behind which a walk is?
 //!
-//! `PeepholeOptimizations` has a call for each rule of rules_expressions, and one for all of them, in the order in which they are
+//! `PeepholeOptimizations` has a call for each rule of rules/Expressions, and one for all of them, in the order in which they are
 //! tried. Each does exactly what its rule says (`Does`): a conditional on a test that is known becomes the branch that is taken, and a
 //! logical expression with a known left side the side that counts, unless it matters where it stands that this stands there itself,
 //! which `should_keep_indirect_access` answers of a name, a member or a chain. Known is what does nothing but give a value of which its

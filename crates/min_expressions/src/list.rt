@@ -6,9 +6,9 @@ ghost use Rattle.js_syntax.specs.Node.{nothing, node, row};
 ghost use Rattle.js_tree.specs.Walk.{is_list};
 ghost use Rattle.scope_counts.specs.Counts.{ids};
 ghost use Rattle.min_context.specs.Edited.{evals, Leaves, Edited};
-ghost use Rattle.steps_allowed.specs.UnusedList as unused;
-ghost use Rattle.rules_expressions.specs.Lists.{new_note, list_note};
-ghost use Rattle.rules_expressions.specs.Uses.{spot_of};
+ghost use Rattle.steps.specs.Allowed.UnusedList as unused;
+ghost use Rattle.rules.specs.Expressions.Lists.{new_note, list_note};
+ghost use Rattle.rules.specs.Expressions.Uses.{spot_of};
 ghost use Rattle.min_expressions.specs.Unused.{tree_acts};
 ghost use Rattle.min_expressions.specs.Lists.{only, item_acts, idle, told_found, none, found_with, found_from, is_enough, are_one, elements_go, expressions_go, array_goes, sequence_goes, list_goes};
 

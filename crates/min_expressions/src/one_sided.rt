@@ -3,9 +3,9 @@ ghost use Rattle.std.specs.Prelude.{◌≡◌, [], ◌∷◌, Some, true};
 ghost use Rattle.js_syntax.specs.Node.{row};
 ghost use Rattle.scope_counts.specs.Counts.{ids};
 ghost use Rattle.min_context.specs.Edited.{evals, Leaves, Edited};
-ghost use Rattle.steps_allowed.specs.OneSidedChoice.{one_sided};
-ghost use Rattle.rules_expressions.specs.Lists.{new_note};
-ghost use Rattle.rules_expressions.specs.Uses.{spot_of};
+ghost use Rattle.steps.specs.Allowed.OneSidedChoice.{one_sided};
+ghost use Rattle.rules.specs.Expressions.Lists.{new_note};
+ghost use Rattle.rules.specs.Expressions.Uses.{spot_of};
 ghost use Rattle.min_expressions.specs.Kept.{parts_of};
 ghost use Rattle.min_expressions.specs.OneSided.{operator_between, operator_of_parts, operator_for, stays_one_sided, leaving_at};
 

@@ -9,8 +9,8 @@ ghost use Rattle.js_effects.specs.declared.value.ConstantValue.TheVariants.{Numb
 ghost use Rattle.js_effects.specs.Answers.{bare_answers};
 ghost use Rattle.js_effects.specs.Values.{largest, value_of};
 ghost use Rattle.min_context.specs.Edited.{Edited};
-ghost use Rattle.steps_allowed.specs.KnownOperation as known;
-ghost use Rattle.rules_expressions.specs.Lists.{new_note};
+ghost use Rattle.steps.specs.Allowed.KnownOperation as known;
+ghost use Rattle.rules.specs.Expressions.Lists.{new_note};
 
 use crate::indirect::one_field;
 use crate::list::is_list;

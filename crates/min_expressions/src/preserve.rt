@@ -3,8 +3,8 @@ ghost use Rattle.std.specs.Prelude.{◌≡◌, length, false, IfOk, OnOk, OnErr,
 ghost use Rattle.js_syntax.specs.Node.{row};
 ghost use Rattle.scope_counts.specs.Counts.{ids};
 ghost use Rattle.min_context.specs.Edited.{evals, Leaves};
-ghost use Rattle.steps_allowed.specs.UnusedList as unused;
-ghost use Rattle.rules_expressions.specs.Uses.{spot_of};
+ghost use Rattle.steps.specs.Allowed.UnusedList as unused;
+ghost use Rattle.rules.specs.Expressions.Uses.{spot_of};
 ghost use Rattle.min_expressions.specs.Indirect.{put_behind};
 ghost use Rattle.min_expressions.specs.Kept.{matters_at};
 ghost use Rattle.min_expressions.specs.Lists.{idle};

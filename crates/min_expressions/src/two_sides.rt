@@ -2,9 +2,9 @@
 ghost use Rattle.std.specs.Prelude.{◌≡◌, OnOk, OnErr, Some, true};
 ghost use Rattle.js_syntax.specs.Node.{row};
 ghost use Rattle.min_context.specs.Edited.{Edited};
-ghost use Rattle.steps_allowed.specs.TwoSides.{two_sides};
-ghost use Rattle.rules_expressions.specs.Lists.{new_note};
-ghost use Rattle.rules_expressions.specs.Uses.{spot_of};
+ghost use Rattle.steps.specs.Allowed.TwoSides.{two_sides};
+ghost use Rattle.rules.specs.Expressions.Lists.{new_note};
+ghost use Rattle.rules.specs.Expressions.Uses.{spot_of};
 ghost use Rattle.min_expressions.specs.Kept.{parts_of};
 ghost use Rattle.min_expressions.specs.TwoSides.{both_act, sides_act, sides_go};
 

@@ -1,8 +1,8 @@
 // What an expression is used for, and whether anybody takes its value, as the nodes above it tell.
 ghost use Rattle.std.specs.Prelude.{◌≡◌, false};
-ghost use Rattle.steps_allowed.specs.Uses.{as_value, operand_of, first_as_callee};
-ghost use Rattle.rules_dead_code.specs.Rules.{is_field_of_with, has_with};
-ghost use Rattle.rules_expressions.specs.Uses.{use_under, use_in, use_from, is_unused_under, is_unused_in, is_unused_from};
+ghost use Rattle.steps.specs.Allowed.Uses.{as_value, operand_of, first_as_callee};
+ghost use Rattle.rules.specs.DeadCode.Rules.{is_field_of_with, has_with};
+ghost use Rattle.rules.specs.Expressions.Uses.{use_under, use_in, use_from, is_unused_under, is_unused_in, is_unused_from};
 ghost use Rattle.min_expressions.specs.Uses.{told};
 
 use js_syntax::UnaryOperator;

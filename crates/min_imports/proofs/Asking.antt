@@ -7,8 +7,8 @@ use Rattle.js_meaning.specs.Module.{requests_of, requests}
 use Rattle.js_tree.proofs.Search.{AsksEach}
 use Rattle.steps.specs.Names.{is_among}
 use Rattle.steps.proofs.Among.{among_joined}
-use Rattle.steps_allowed.specs.Arranged.{is_nothing}
-use Rattle.rules_imports.specs.Repeated.{has_no_names}
+use Rattle.steps.specs.Allowed.Arranged.{is_nothing}
+use Rattle.rules.specs.Imports.Repeated.{has_no_names}
 use Rattle.min_imports.specs.Items.{item_asks}
 
 pub one_source : (x source : List ℕ) → is_among (x ∷ []) source ≡ bytes_eq x source

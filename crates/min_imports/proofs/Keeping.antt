@@ -5,7 +5,7 @@ use Rattle.js_syntax.specs.declared.node_kind.NodeKind.{NodeKind as Kind}
 use Rattle.js_syntax.specs.Node.{Tree, Note, Forest, joined, nothing, node, absent, row}
 use Rattle.js_meaning.specs.Module.{requests_of, requests}
 use Rattle.js_tree.proofs.Rows.{row_push, front_of}
-use Rattle.rules_imports.specs.Repeated.{repeats, has_repeated, each_once}
+use Rattle.rules.specs.Imports.Repeated.{repeats, has_repeated, each_once}
 use Rattle.min_imports.specs.Items.{item_repeats, item_requests, once}
 
 -- ---- parts of lists

@@ -2,8 +2,8 @@
 use Rattle.std.specs.Prelude.{List, ℕ, [], ◌∷◌, ◌++◌, Bool, false, Option, Some, None, if◌then◌else◌}
 use Rattle.js_syntax.specs.Node.{Tree}
 use Rattle.js_meaning.specs.Module.{requests_of}
-use Rattle.steps_allowed.specs.RepeatedImport.{asks_for}
-use Rattle.rules_imports.specs.Repeated.{repeats}
+use Rattle.steps.specs.Allowed.RepeatedImport.{asks_for}
+use Rattle.rules.specs.Imports.Repeated.{repeats}
 
 abbrev pub item_asks : (source : List ℕ) → Option Tree → Bool
 item_asks source None = false

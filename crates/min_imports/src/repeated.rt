@@ -3,9 +3,9 @@ ghost use Rattle.std.specs.Prelude.{◌≡◌, []};
 ghost use Rattle.js_syntax.specs.Node.{row, forest_of};
 ghost use Rattle.js_meaning.specs.Module.{requests};
 ghost use Rattle.steps.specs.Names.{is_among};
-ghost use Rattle.steps_allowed.specs.Arranged.{is_nothing};
-ghost use Rattle.steps_allowed.specs.RepeatedImport.{asks_for};
-ghost use Rattle.rules_imports.specs.Repeated as rules;
+ghost use Rattle.steps.specs.Allowed.Arranged.{is_nothing};
+ghost use Rattle.steps.specs.Allowed.RepeatedImport.{asks_for};
+ghost use Rattle.rules.specs.Imports.Repeated as rules;
 ghost use Rattle.min_imports.specs.Items.{item_asks, item_repeats, once};
 
 use js_syntax::NodeKind;

@@ -8,15 +8,15 @@ use Rattle.js_scoping.specs.Build.{table_of, numbered}
 use Rattle.json_shape.specs.Shape.{Fits}
 use Rattle.scope_rules.specs.Table.{Scoping}
 use Rattle.symbol_sets.specs.Numbers.{none_below}
-use Rattle.steps_allowed.specs.Exposure.{is_script, is_script_source}
-use Rattle.steps_marked.specs.Flags.{first_mark, FlagsTell}
-use Rattle.steps_told.specs.Nesting.{ScopesNest}
-use Rattle.steps_told.specs.Parts.{FlagsTellOnly}
-use Rattle.steps_told.proofs.New.{new_told_only}
-use Rattle.steps_told.proofs.Nested.{new_nests}
-use Rattle.rules_dead_code.specs.Knows.{TellsBound, TellsExported}
-use Rattle.rules_dead_code.specs.Quiet.{IsExported}
-use Rattle.rules_dead_code.proofs.BeginsTrue.{begins}
+use Rattle.steps.specs.Allowed.Exposure.{is_script, is_script_source}
+use Rattle.steps.specs.Marked.Flags.{first_mark, FlagsTell}
+use Rattle.rules.specs.Told.Nesting.{ScopesNest}
+use Rattle.rules.specs.Told.Parts.{FlagsTellOnly}
+use Rattle.rules.proofs.Told.New.{new_told_only}
+use Rattle.rules.proofs.Told.Nested.{new_nests}
+use Rattle.rules.specs.DeadCode.Knows.{TellsBound, TellsExported}
+use Rattle.rules.specs.DeadCode.Quiet.{IsExported}
+use Rattle.rules.proofs.DeadCode.BeginsTrue.{begins}
 use Rattle.exported_names.specs.Answers.{bound_of}
 use Rattle.exported_names.specs.Exported.{exported_of}
 use Rattle.exported_names.proofs.New.{known, only}

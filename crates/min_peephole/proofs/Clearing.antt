@@ -7,11 +7,11 @@ use Rattle.min_pass.specs.declared.around.Row.{Row}
 use Rattle.min_pass.specs.declared.around.Row.TheVariants.{Items as items, OfItem as of_item, Declarators as item_declarators, Other as other}
 use Rattle.min_pass.specs.Pass.{is_empty_in, swept, cleared}
 use Rattle.scope_laws.specs.Place.{first}
-use Rattle.steps_allowed.specs.Arranged.{is_arranged_at, is_arranged}
-use Rattle.steps_allowed.specs.Places.{a_node}
-use Rattle.steps_allowed.specs.EmptyStatement.{empty_statement_leaves}
-use Rattle.steps_allowed.specs.Edits.{leaves, empty_statement, TreeEdits, no_tree_edit, one_tree_edit}
-use Rattle.steps_allowed.proofs.Composing.{tree_edits_compose}
+use Rattle.steps.specs.Allowed.Arranged.{is_arranged_at, is_arranged}
+use Rattle.steps.specs.Allowed.Places.{a_node}
+use Rattle.steps.specs.Allowed.EmptyStatement.{empty_statement_leaves}
+use Rattle.steps.specs.Allowed.Edits.{leaves, empty_statement, TreeEdits, no_tree_edit, one_tree_edit}
+use Rattle.steps.proofs.Allowed.Composing.{tree_edits_compose}
 use Rattle.min_peephole.proofs.Paths.{Path, top, behind, behind_none, under, fill, around, row_at, row_there, leaves_there}
 
 wrong : {P : Type 0} → false ≡ true → P

@@ -2,8 +2,8 @@
 use Rattle.std.proofs.Common.{◌≡◌, ◌∙◌, ◌+◌, ◌≤◌, ◌<◌, ℕ, refl, arith}
 use Rattle.js_syntax.specs.Facts.{weight}
 use Rattle.js_syntax.specs.Node.{Tree, forest_of, total}
-use Rattle.steps_allowed.specs.Edits.{TreeEdits, no_tree_edit}
-use Rattle.steps_allowed.proofs.Composing.{tree_edits_compose}
+use Rattle.steps.specs.Allowed.Edits.{TreeEdits, no_tree_edit}
+use Rattle.steps.proofs.Allowed.Composing.{tree_edits_compose}
 use Rattle.min_context.specs.Seen.{Seen}
 use Rattle.min_statements.specs.Walker.{Names}
 use Rattle.min_peephole.specs.Between.{BetweenPasses}

@@ -13,21 +13,21 @@ use Rattle.scope_table.specs.Editing.{pruned}
 use Rattle.scope_table.specs.Refreshing.{refreshed}
 use Rattle.scope_table.specs.Reading.{no_reference}
 use Rattle.symbol_sets.specs.Numbers.{has, none_below}
-use Rattle.steps_marked.specs.Flags.{FlagsTell}
-use Rattle.steps_marked.proofs.Tables.{pruned_exact}
+use Rattle.steps.specs.Marked.Flags.{FlagsTell}
+use Rattle.steps.proofs.Marked.Tables.{pruned_exact}
 use Rattle.min_peephole.specs.CleanBy.{CleanBy}
-use Rattle.steps_marked.proofs.Telling.{flags_alone}
-use Rattle.steps_told.specs.Nesting.{ScopesNest}
-use Rattle.steps_told.specs.Parts.{CallsToldOnly, FlagsTellOnly}
-use Rattle.steps_told.proofs.Alone.{flags_alone as only_alone}
-use Rattle.steps_told.proofs.Anew.{refreshed_tells}
-use Rattle.steps_told.proofs.Edited.{joined_only, calls_of, names_of}
-use Rattle.steps_told.proofs.Nested.{parents_alone}
-use Rattle.steps_told.proofs.Refreshed.{refreshed_tells_only, refreshed_nests}
-use Rattle.rules_dead_code.specs.Knows.{Knows}
-use Rattle.rules_dead_code.specs.Quiet.{IsQuiet}
-use Rattle.rules_imports.specs.Quiet.{ImportsUsed}
-use Rattle.rules_expressions.specs.Settled.{IsSettled}
+use Rattle.steps.proofs.Marked.Telling.{flags_alone}
+use Rattle.rules.specs.Told.Nesting.{ScopesNest}
+use Rattle.rules.specs.Told.Parts.{CallsToldOnly, FlagsTellOnly}
+use Rattle.rules.proofs.Told.Alone.{flags_alone as only_alone}
+use Rattle.rules.proofs.Told.Anew.{refreshed_tells}
+use Rattle.rules.proofs.Told.Edited.{joined_only, calls_of, names_of}
+use Rattle.rules.proofs.Told.Nested.{parents_alone}
+use Rattle.rules.proofs.Told.Refreshed.{refreshed_tells_only, refreshed_nests}
+use Rattle.rules.specs.DeadCode.Knows.{Knows}
+use Rattle.rules.specs.DeadCode.Quiet.{IsQuiet}
+use Rattle.rules.specs.Imports.Quiet.{ImportsUsed}
+use Rattle.rules.specs.Expressions.Settled.{IsSettled}
 use Rattle.min_context.specs.Completing.{table_anew, completed}
 use Rattle.min_context.specs.IsTrue.{IsTrue}
 use Rattle.min_context.specs.Place.{outside}

@@ -8,8 +8,8 @@ use Rattle.min_pass.specs.declared.around.Row.TheVariants.{Other as other}
 use Rattle.min_pass.specs.Around.{row_below, is_with, outermost as asked_of_program}
 use Rattle.scope_laws.specs.Place.{Around, first, behind as place_behind, behind_none as place_behind_none, under as place_under, placed, plug}
 use Rattle.scope_laws.specs.Lists.{without}
-use Rattle.steps_allowed.specs.Edits.{Edit}
-use Rattle.steps_allowed.specs.Places.{asked_at}
+use Rattle.steps.specs.Allowed.Edits.{Edit}
+use Rattle.steps.specs.Allowed.Places.{asked_at}
 
 pub data Path : Type 0 where
   top : Path

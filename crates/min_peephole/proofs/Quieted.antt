@@ -12,30 +12,30 @@ use Rattle.min_context.specs.Above.{above_of}
 use Rattle.min_context.specs.Place.{Place, Spot, place_of, next_of, below, top}
 use Rattle.headline.specs.Clean.{Clean}
 use Rattle.headline.proofs.Renoted.{clean_as}
-use Rattle.steps_told.proofs.New.{new_told_only}
+use Rattle.rules.proofs.Told.New.{new_told_only}
 use Rattle.exported_names.proofs.New.{known, only}
-use Rattle.rules_dead_code.specs.Quiet.{EachNode, IsQuietAt}
-use Rattle.rules_dead_code.specs.Rules.{Facts, where_of, is_silent_statement, has_dead}
-use Rattle.rules_dead_code.proofs.Walked.{quiet_nodes}
-use Rattle.rules_imports.specs.Repeated.{list_once}
-use Rattle.rules_imports.specs.Rules.{pruned}
-use Rattle.rules_imports.specs.Quiet.{IsUsedAt}
-use Rattle.rules_imports.proofs.Walked.{imports_used}
-use Rattle.rules_expressions.specs.Uses.{spot_of}
-use Rattle.rules_expressions.specs.Known.{conditional_becomes, logical_becomes}
-use Rattle.rules_expressions.specs.Unused.{unused_becomes}
-use Rattle.rules_expressions.specs.Lists.{unused_list_becomes}
-use Rattle.rules_expressions.specs.Indirect.{indirect_becomes}
-use Rattle.rules_expressions.specs.OneSided.{one_sided_becomes}
-use Rattle.rules_expressions.specs.Sequences.{sequence_left}
-use Rattle.rules_expressions.specs.TwoSides.{two_sides_become}
-use Rattle.rules_expressions.specs.Objects.{object_left}
-use Rattle.rules_expressions.specs.Operations.{known_becomes}
-use Rattle.rules_expressions.specs.Ifs.{if_becomes}
-use Rattle.rules_expressions.specs.Jumps.{list_reached}
-use Rattle.rules_expressions.specs.Untaken.{if_left}
-use Rattle.rules_expressions.specs.Settled.{IsSettledAt}
-use Rattle.rules_expressions.proofs.Walked.{settled_nodes}
+use Rattle.rules.specs.DeadCode.Quiet.{EachNode, IsQuietAt}
+use Rattle.rules.specs.DeadCode.Rules.{Facts, where_of, is_silent_statement, has_dead}
+use Rattle.rules.proofs.DeadCode.Walked.{quiet_nodes}
+use Rattle.rules.specs.Imports.Repeated.{list_once}
+use Rattle.rules.specs.Imports.Rules.{pruned}
+use Rattle.rules.specs.Imports.Quiet.{IsUsedAt}
+use Rattle.rules.proofs.Imports.Walked.{imports_used}
+use Rattle.rules.specs.Expressions.Uses.{spot_of}
+use Rattle.rules.specs.Expressions.Known.{conditional_becomes, logical_becomes}
+use Rattle.rules.specs.Expressions.Unused.{unused_becomes}
+use Rattle.rules.specs.Expressions.Lists.{unused_list_becomes}
+use Rattle.rules.specs.Expressions.Indirect.{indirect_becomes}
+use Rattle.rules.specs.Expressions.OneSided.{one_sided_becomes}
+use Rattle.rules.specs.Expressions.Sequences.{sequence_left}
+use Rattle.rules.specs.Expressions.TwoSides.{two_sides_become}
+use Rattle.rules.specs.Expressions.Objects.{object_left}
+use Rattle.rules.specs.Expressions.Operations.{known_becomes}
+use Rattle.rules.specs.Expressions.Ifs.{if_becomes}
+use Rattle.rules.specs.Expressions.Jumps.{list_reached}
+use Rattle.rules.specs.Expressions.Untaken.{if_left}
+use Rattle.rules.specs.Expressions.Settled.{IsSettledAt}
+use Rattle.rules.proofs.Expressions.Walked.{settled_nodes}
 use Rattle.min_peephole.specs.Quiet.{first_facts, is_row, uses_names, decides_none, wastes_none, keeps_parts, computes_none, stays, all_stay, is_quiet}
 use Rattle.rules_clean.proofs.Cleaned.{clean}
 

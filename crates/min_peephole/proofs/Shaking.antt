@@ -14,11 +14,11 @@ use Rattle.scope_rules.specs.Binding.{resolved_references}
 use Rattle.scope_rules.specs.Table.{Scoping}
 use Rattle.std.specs.List.{count_by}
 use Rattle.std.specs.Prelude.{is_some}
-use Rattle.steps_allowed.specs.Edits.{TreeEdits, no_edit}
-use Rattle.steps_allowed.proofs.Composing.{edits_follow, tree_edits_are_edits}
-use Rattle.steps_fit.proofs.Arranged.{fits_arranged}
-use Rattle.steps_marked.proofs.Shedding.{edits_weigh_no_more}
-use Rattle.steps_owed.proofs.FitsEdits.{tree_edits_fit, renoted_fits}
+use Rattle.steps.specs.Allowed.Edits.{TreeEdits, no_edit}
+use Rattle.steps.proofs.Allowed.Composing.{edits_follow, tree_edits_are_edits}
+use Rattle.steps.proofs.Fit.Arranged.{fits_arranged}
+use Rattle.steps.proofs.Marked.Shedding.{edits_weigh_no_more}
+use Rattle.steps.proofs.Owed.FitsEdits.{tree_edits_fit, renoted_fits}
 use Rattle.steps_keep_text.proofs.Along.{edits_shed}
 use Rattle.steps_keep_text.proofs.Smaller.{nodes_shed}
 use Rattle.min_options.specs.declared.options.CompressOptions.{CompressOptions}

@@ -3,12 +3,12 @@ use Rattle.std.specs.Prelude.{◌≡◌, ℕ, length, true, false, Some}
 use Rattle.js_syntax.specs.Node.{Forest}
 use Rattle.js_effects.specs.Silence.{is_marked}
 use Rattle.symbol_sets.specs.Numbers.{none_below}
-use Rattle.steps_allowed.specs.Exposure.{is_script, is_script_source}
-use Rattle.steps_marked.specs.Flags.{first_mark, FlagsTell}
-use Rattle.steps_told.specs.Nesting.{ScopesNest}
-use Rattle.steps_told.specs.Parts.{FlagsTellOnly}
-use Rattle.rules_dead_code.specs.Knows.{TellsBound, TellsExported}
-use Rattle.rules_dead_code.specs.Quiet.{IsExported}
+use Rattle.steps.specs.Allowed.Exposure.{is_script, is_script_source}
+use Rattle.steps.specs.Marked.Flags.{first_mark, FlagsTell}
+use Rattle.rules.specs.Told.Nesting.{ScopesNest}
+use Rattle.rules.specs.Told.Parts.{FlagsTellOnly}
+use Rattle.rules.specs.DeadCode.Knows.{TellsBound, TellsExported}
+use Rattle.rules.specs.DeadCode.Quiet.{IsExported}
 use Rattle.min_context.specs.IsTrue.{IsTrue}
 use Rattle.min_context.specs.Place.{outside}
 use Rattle.min_context.specs.Seen.{Seen}

@@ -4,27 +4,27 @@ use Rattle.js_syntax.specs.declared.node_kind.NodeKind.{NodeKind as Kind}
 use Rattle.js_syntax.specs.declared.node_kind.NodeKind.TheVariants.{Statements as statements}
 use Rattle.js_syntax.specs.Node.{Forest, Note, nothing, node, absent}
 use Rattle.js_scoping.specs.Build.{table_of, numbered}
-use Rattle.steps_allowed.specs.Exposure.{is_script}
+use Rattle.steps.specs.Allowed.Exposure.{is_script}
 use Rattle.min_context.specs.Above.{above_of}
 use Rattle.min_context.specs.Place.{Place, Spot, place_of, next_of, below, top}
 use Rattle.exported_names.specs.Answers.{bound_of}
 use Rattle.exported_names.specs.Exported.{exported_of}
-use Rattle.rules_dead_code.specs.Rules.{Facts, where_of, is_silent_statement, has_dead}
-use Rattle.rules_imports.specs.Repeated.{list_once}
-use Rattle.rules_imports.specs.Rules.{pruned}
-use Rattle.rules_expressions.specs.Uses.{spot_of}
-use Rattle.rules_expressions.specs.Known.{conditional_becomes, logical_becomes}
-use Rattle.rules_expressions.specs.Unused.{unused_becomes}
-use Rattle.rules_expressions.specs.Lists.{unused_list_becomes}
-use Rattle.rules_expressions.specs.Indirect.{indirect_becomes}
-use Rattle.rules_expressions.specs.OneSided.{one_sided_becomes}
-use Rattle.rules_expressions.specs.Sequences.{sequence_left}
-use Rattle.rules_expressions.specs.TwoSides.{two_sides_become}
-use Rattle.rules_expressions.specs.Objects.{object_left}
-use Rattle.rules_expressions.specs.Operations.{known_becomes}
-use Rattle.rules_expressions.specs.Ifs.{if_becomes}
-use Rattle.rules_expressions.specs.Jumps.{list_reached}
-use Rattle.rules_expressions.specs.Untaken.{if_left}
+use Rattle.rules.specs.DeadCode.Rules.{Facts, where_of, is_silent_statement, has_dead}
+use Rattle.rules.specs.Imports.Repeated.{list_once}
+use Rattle.rules.specs.Imports.Rules.{pruned}
+use Rattle.rules.specs.Expressions.Uses.{spot_of}
+use Rattle.rules.specs.Expressions.Known.{conditional_becomes, logical_becomes}
+use Rattle.rules.specs.Expressions.Unused.{unused_becomes}
+use Rattle.rules.specs.Expressions.Lists.{unused_list_becomes}
+use Rattle.rules.specs.Expressions.Indirect.{indirect_becomes}
+use Rattle.rules.specs.Expressions.OneSided.{one_sided_becomes}
+use Rattle.rules.specs.Expressions.Sequences.{sequence_left}
+use Rattle.rules.specs.Expressions.TwoSides.{two_sides_become}
+use Rattle.rules.specs.Expressions.Objects.{object_left}
+use Rattle.rules.specs.Expressions.Operations.{known_becomes}
+use Rattle.rules.specs.Expressions.Ifs.{if_becomes}
+use Rattle.rules.specs.Expressions.Jumps.{list_reached}
+use Rattle.rules.specs.Expressions.Untaken.{if_left}
 
 -- what the first pass knows, where nothing is kept
 abbrev pub first_facts : Forest → Facts

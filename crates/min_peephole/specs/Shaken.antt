@@ -11,7 +11,7 @@ use Rattle.scope_laws.specs.Exact.{Exact}
 use Rattle.scope_match.specs.Matches.{Matches}
 use Rattle.scope_rules.specs.Binding.{resolved_references}
 use Rattle.scope_rules.specs.Table.{Scoping}
-use Rattle.steps_allowed.specs.Edits.{Edits}
+use Rattle.steps.specs.Allowed.Edits.{Edits}
 
 -- the nodes are marked with the numbers of the table that is made of the tree
 pub record IsMarked (t : Forest) (s : Scoping) : Type 0 where

@@ -3,11 +3,11 @@ use Rattle.std.specs.Prelude.{◌≡◌, ◌+◌, ◌≤◌, false}
 use Rattle.js_syntax.specs.Facts.{weight}
 use Rattle.js_syntax.specs.Node.{Forest, total}
 use Rattle.symbol_sets.specs.Numbers.{has}
-use Rattle.steps_allowed.specs.Edits.{TreeEdits}
-use Rattle.rules_dead_code.specs.Knows.{Knows}
-use Rattle.rules_dead_code.specs.Quiet.{IsQuiet}
-use Rattle.rules_imports.specs.Quiet.{ImportsUsed}
-use Rattle.rules_expressions.specs.Settled.{IsSettled}
+use Rattle.steps.specs.Allowed.Edits.{TreeEdits}
+use Rattle.rules.specs.DeadCode.Knows.{Knows}
+use Rattle.rules.specs.DeadCode.Quiet.{IsQuiet}
+use Rattle.rules.specs.Imports.Quiet.{ImportsUsed}
+use Rattle.rules.specs.Expressions.Settled.{IsSettled}
 use Rattle.min_context.specs.IsTrue.{IsTrue}
 use Rattle.min_context.specs.Place.{outside}
 use Rattle.min_context.specs.Seen.{Seen, still}

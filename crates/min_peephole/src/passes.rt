@@ -2,7 +2,7 @@
 ghost use Rattle.std.specs.Prelude.{◌≡◌, ◌+◌, ◌≤◌, ◌<◌, ◌^◌, OnOk, IfOk, true, false};
 ghost use Rattle.js_syntax.specs.Facts.{weight};
 ghost use Rattle.js_syntax.specs.Node.{forest_of, total};
-ghost use Rattle.steps_allowed.specs.Edits.{TreeEdits};
+ghost use Rattle.steps.specs.Allowed.Edits.{TreeEdits};
 ghost use Rattle.scope_laws.specs.Exact.{Exact};
 ghost use Rattle.min_peephole.specs.CleanBy.{CleanBy};
 ghost use Rattle.min_peephole.specs.Between.{BetweenPasses};

@@ -6,7 +6,7 @@ ghost use Rattle.js_tree.specs.Count.{node_count};
 ghost use Rattle.form_rules.specs.Form.{IsWellFormed};
 ghost use Rattle.js_scoping.specs.Build.{numbered};
 ghost use Rattle.json_shape.specs.Shape.{Fits};
-ghost use Rattle.steps_allowed.specs.Exposure.{is_script, is_script_source};
+ghost use Rattle.steps.specs.Allowed.Exposure.{is_script, is_script_source};
 ghost use Rattle.min_context.specs.declared.state.CompressionMode.TheVariants as mode;
 ghost use Rattle.min_statements.specs.Walker.{names_of};
 ghost use Rattle.min_peephole.specs.Between.{BetweenPasses};

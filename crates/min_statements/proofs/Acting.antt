@@ -12,7 +12,7 @@ use Rattle.scope_counts.specs.Edits.{Around, plug}
 use Rattle.scope_counts.specs.Losing.{left, MarksWhatLeft}
 use Rattle.scope_counts.proofs.Scopes.{below_or_above}
 use Rattle.symbol_sets.specs.Numbers.{has}
-use Rattle.steps_allowed.specs.Edits.{Edit, TreeEdits, no_tree_edit, one_tree_edit}
+use Rattle.steps.specs.Allowed.Edits.{Edit, TreeEdits, no_tree_edit, one_tree_edit}
 use Rattle.min_context.specs.Edited.{evals, Edited, DropsNode, Leaves}
 use Rattle.min_context.specs.Place.{Place, place_at}
 use Rattle.min_context.specs.Seen.{Seen, still}
@@ -25,22 +25,22 @@ use Rattle.min_traverse.specs.Visits.{above_place}
 use Rattle.min_traverse.specs.declared.slot.Outer.{Outer}
 use Rattle.min_traverse.specs.declared.slot.Outer.TheVariants as outer
 use Rattle.min_traverse.proofs.Joining.{does_some, does_none, held_moves, unchanged_moves}
-use Rattle.rules_dead_code.specs.Knows.{Knows}
-use Rattle.rules_dead_code.specs.Rules.{Facts, Where, where_of, trimmed, is_silent_statement, emptied}
-use Rattle.rules_expressions.specs.Jumps.{emptied_behind}
-use Rattle.rules_dead_code.proofs.Keeping.{keeps}
-use Rattle.rules_dead_code.proofs.Emptying.{statement_empties_there}
-use Rattle.rules_dead_code.proofs.Lighter.{emptied_is_lighter, emptied_sheds}
+use Rattle.rules.specs.DeadCode.Knows.{Knows}
+use Rattle.rules.specs.DeadCode.Rules.{Facts, Where, where_of, trimmed, is_silent_statement, emptied}
+use Rattle.rules.specs.Expressions.Jumps.{emptied_behind}
+use Rattle.rules.proofs.DeadCode.Keeping.{keeps}
+use Rattle.rules.proofs.DeadCode.Emptying.{statement_empties_there}
+use Rattle.rules.proofs.DeadCode.Lighter.{emptied_is_lighter, emptied_sheds}
 use Rattle.min_statements.specs.Acts.{has_gone, shorter, trim, empty}
 use Rattle.json_shape.specs.Shape.{Fits}
 use Rattle.js_syntax.specs.Class.{root}
-use Rattle.steps_told.proofs.Edited.{joined_only, calls_of, edits_names, edits_told_only}
-use Rattle.steps_told.proofs.Nested.{edits_nest}
-use Rattle.steps_export.proofs.Edited.{listed_stay}
+use Rattle.rules.proofs.Told.Edited.{joined_only, calls_of, edits_names, edits_told_only}
+use Rattle.rules.proofs.Told.Nested.{edits_nest}
+use Rattle.rules.proofs.Export.Edited.{listed_stay}
 use Rattle.min_statements.specs.Own.{AnyEdit, ExportedOnly, Own, IsToldOnly, Found}
 use Rattle.min_statements.proofs.Calls.{is_no_name, silent_is_no_name, evals_kept, CallsStay, none_dropped}
-use Rattle.steps_allowed.specs.Uses.{use_at, stands_bare}
-use Rattle.rules_dead_code.specs.Before as in_row
+use Rattle.steps.specs.Allowed.Uses.{use_at, stands_bare}
+use Rattle.rules.specs.DeadCode.Before as in_row
 use Rattle.min_statements.specs.Shed.{shed, inert_shed, list_shed}
 use Rattle.min_statements.specs.Walker.{Names, facts_of}
 use Rattle.min_statements.proofs.Shed.{LeavesBy, facts_still, leaves_more, edited}

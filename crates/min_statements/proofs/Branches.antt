@@ -4,17 +4,17 @@ use Rattle.js_syntax.specs.declared.node_kind.NodeKind.{NodeKind as Kind}
 use Rattle.js_syntax.specs.declared.node_kind.NodeKind.TheVariants.{IfStatement as if_statement, EmptyStatement as empty_statement, ExpressionStatement as expression_statement, BlockStatement as block_statement, BreakStatement as break_statement, ContinueStatement as continue_statement, ReturnStatement as return_statement, ThrowStatement as throw_statement, SwitchStatement as switch_statement, TryStatement as try_statement}
 use Rattle.js_syntax.specs.Node.{Forest, Note, Tree, nothing, node, absent, forest_of}
 use Rattle.scope_laws.specs.Place as places
-use Rattle.steps_allowed.specs.Branches as branches
-use Rattle.steps_allowed.specs.Branches.{is_branch}
-use Rattle.steps_allowed.specs.DeadIf.{DeadIf, nothing_is_run}
-use Rattle.steps_allowed.specs.EmptyBlock.{idles}
-use Rattle.steps_allowed.specs.IdleTry.{has_no_loop, IdleTry, finalizer_is_run, finalizer_is_run_alone, block_is_run}
-use Rattle.steps_allowed.specs.KnownConditional.{truth_known}
-use Rattle.steps_allowed.specs.KnownIf.{KnownIf, consequent_is_run, alternate_is_run}
-use Rattle.steps_allowed.specs.Uses.{Use, use_at, stands_bare}
+use Rattle.steps.specs.Allowed.Branches as branches
+use Rattle.steps.specs.Allowed.Branches.{is_branch}
+use Rattle.steps.specs.Allowed.DeadIf.{DeadIf, nothing_is_run}
+use Rattle.steps.specs.Allowed.EmptyBlock.{idles}
+use Rattle.steps.specs.Allowed.IdleTry.{has_no_loop, IdleTry, finalizer_is_run, finalizer_is_run_alone, block_is_run}
+use Rattle.steps.specs.Allowed.KnownConditional.{truth_known}
+use Rattle.steps.specs.Allowed.KnownIf.{KnownIf, consequent_is_run, alternate_is_run}
+use Rattle.steps.specs.Allowed.Uses.{Use, use_at, stands_bare}
 use Rattle.min_pass.specs.Pass.{unmarked}
-use Rattle.rules_expressions.specs.Ifs.{given_if, what_runs, try_becomes, if_becomes}
-use Rattle.rules_expressions.proofs.Ifs.{if_edits}
+use Rattle.rules.specs.Expressions.Ifs.{given_if, what_runs, try_becomes, if_becomes}
+use Rattle.rules.proofs.Expressions.Ifs.{if_edits}
 use Rattle.min_expressions.specs.Kept.{child_at, is_call}
 use Rattle.min_statements.specs.Ifs.{branches_of, declares_no_name, index_if, one_of_two, one_or_none, branch_of, is_block, are_blocks, try_of, branch_at}
 use Rattle.min_statements.proofs.Calls.{CallsStay}

@@ -8,10 +8,10 @@ use Rattle.js_syntax.specs.Node.{Forest, Note, Tree, nothing, node, absent}
 use Rattle.js_tree.specs.Names.{eval_name, eval_of_call}
 use Rattle.scope_counts.specs.Edits.{Around, here, behind, behind_none, under, plug}
 use Rattle.scope_laws.specs.Place as places
-use Rattle.steps_allowed.specs.Uses.{Use, as_value, as_callee, use_below, use_there, use_at, matters, may_take_name, stands_bare}
+use Rattle.steps.specs.Allowed.Uses.{Use, as_value, as_callee, use_below, use_there, use_at, matters, may_take_name, stands_bare}
 use Rattle.min_context.specs.Edited.{evals}
-use Rattle.rules_dead_code.specs.Before.{before}
-use Rattle.rules_dead_code.specs.Rules.{Facts, Where, is_silent_statement}
+use Rattle.rules.specs.DeadCode.Before.{before}
+use Rattle.rules.specs.DeadCode.Rules.{Facts, Where, is_silent_statement}
 
 -- a call of it isn't a direct one of `eval`, whatever lies below: it is no name and no parentheses
 abbrev pub is_no_name : Kind → Bool

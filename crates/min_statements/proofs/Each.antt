@@ -6,8 +6,8 @@ use Rattle.js_syntax.specs.declared.kind.VariableKind.{VariableKind}
 use Rattle.js_tree.proofs.Search.{AsksEach}
 use Rattle.js_syntax.proofs.Truth.{or_false}
 use Rattle.min_context.specs.declared.ancestor.Ancestor.{Ancestor}
-use Rattle.rules_dead_code.specs.Rules.{Facts, Where, declarator_goes, one_goes, one_stays, item_has_dead, has_dead, has_with, is_field_of_with}
-use Rattle.rules_imports.specs.Rules as imports
+use Rattle.rules.specs.DeadCode.Rules.{Facts, Where, declarator_goes, one_goes, one_stays, item_has_dead, has_dead, has_with, is_field_of_with}
+use Rattle.rules.specs.Imports.Rules as imports
 use Rattle.min_statements.specs.Shed.{is_unused_specifier}
 
 module _ (f : Facts) (w : Where) where

@@ -9,11 +9,11 @@ use Rattle.js_meaning_near.specs.Near.{cuts_off}
 use Rattle.scope_counts.specs.Counts.{ids}
 use Rattle.min_context.specs.Edited.{evals, Leaves, DropsNode}
 use Rattle.min_context.specs.Seen.{Seen}
-use Rattle.steps_allowed.specs.Branches.{declares_no_name}
-use Rattle.steps_allowed.specs.IdleStatement.{does_nothing}
-use Rattle.steps_allowed.specs.Unreached.{only_runs}
-use Rattle.rules_expressions.specs.Lists.{new_note}
-use Rattle.rules_expressions.specs.Jumps.{is_inert, emptied_behind}
+use Rattle.steps.specs.Allowed.Branches.{declares_no_name}
+use Rattle.steps.specs.Allowed.IdleStatement.{does_nothing}
+use Rattle.steps.specs.Allowed.Unreached.{only_runs}
+use Rattle.rules.specs.Expressions.Lists.{new_note}
+use Rattle.rules.specs.Expressions.Jumps.{is_inert, emptied_behind}
 use Rattle.min_statements.specs.Shed.{inert_shed}
 use Rattle.min_statements.specs.Behind.{jumped_behind, empty_if_inert}
 use Rattle.min_statements.proofs.Shed.{leaves_none, leaves_more, dropped_leaves}

@@ -7,12 +7,12 @@ use Rattle.min_context.specs.Edited.{Edited}
 use Rattle.min_context.specs.Seen.{Seen}
 use Rattle.min_traverse.specs.Lawful.{Rule, Stays, Does, or_same, or_else}
 use Rattle.min_traverse.specs.Moves.{Holds, IsHere, NodeMoves}
-use Rattle.rules_dead_code.specs.Before.{before}
-use Rattle.rules_dead_code.specs.Rules.{where_of, is_silent_statement}
-use Rattle.rules_expressions.specs.Ifs.{if_becomes}
-use Rattle.rules_expressions.specs.Untaken.{if_left, if_ends, at_if_end}
-use Rattle.rules_imports.specs.Rules.{pruned}
-use Rattle.rules_expressions.proofs.Folding.{ifs_end}
+use Rattle.rules.specs.DeadCode.Before.{before}
+use Rattle.rules.specs.DeadCode.Rules.{where_of, is_silent_statement}
+use Rattle.rules.specs.Expressions.Ifs.{if_becomes}
+use Rattle.rules.specs.Expressions.Untaken.{if_left, if_ends, at_if_end}
+use Rattle.rules.specs.Imports.Rules.{pruned}
+use Rattle.rules.proofs.Expressions.Folding.{ifs_end}
 use Rattle.min_statements.specs.Acts.{empty, prune}
 use Rattle.min_statements.specs.Own.{AnyEdit, Own, Found, statement_changes}
 use Rattle.min_statements.specs.Walker.{Names, facts_of}

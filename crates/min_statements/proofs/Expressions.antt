@@ -10,47 +10,47 @@ use Rattle.js_syntax.specs.declared.value.LiteralValue.{LiteralValue}
 use Rattle.js_syntax.specs.Node.{Forest, Note, Tree, nothing, node, absent, forest_of}
 use Rattle.scope_laws.specs.Place as places
 use Rattle.scope_counts.specs.Edits.{Around}
-use Rattle.steps_allowed.specs.KnownConditional.{KnownConditional, consequent_is_taken, alternate_is_taken}
-use Rattle.steps_allowed.specs.KnownSide.{KnownSide, right_side_counts, left_side_decides}
-use Rattle.steps_allowed.specs.UnusedOperation.{acts, UnusedOperation, one_operand_acts}
-use Rattle.steps_allowed.specs.UnusedList.{acting, all_act, has_spread, as_one, list_becomes, UnusedList, acting_parts_stay}
-use Rattle.steps_allowed.specs.IndirectChoice.{one_of as branch_of, if_so, part_counts, IndirectChoice, value_alone_counts}
-use Rattle.steps_allowed.specs.OneSidedChoice.{sides, one_side, one_sided, OneSidedChoice, one_branch_acts}
-use Rattle.steps_allowed.specs.IdleParts.{stays_before, counting, all_count, more_before, itself_or_behind, as_value_of, sequence_becomes, IdleParts, idle_parts_leave}
-use Rattle.steps_allowed.specs.TwoSides.{two_sides, TwoSides, both_sides_act}
-use Rattle.steps_allowed.specs.UnusedObject.{are_plain, acting_values, object_becomes, UnusedObject, acting_values_stay}
-use Rattle.steps_allowed.specs.KnownOperation.{known_literal, KnownOperation, value_is_known, negative_is_known}
-use Rattle.steps_owed.proofs.KnownOperation.{Negative, under_one, under_two, is_negative_known}
-use Rattle.steps_allowed.specs.Uses.{Use, as_value, as_typed, use_at, matters, may_take_name, stands_bare}
-use Rattle.steps_owed.proofs.UnusedPlace.{unused_as_value}
-use Rattle.steps_owed.proofs.UnusedOperation.{Needed, the_operand, first_side, second_side, left_side, the_condition, needed_part}
+use Rattle.steps.specs.Allowed.KnownConditional.{KnownConditional, consequent_is_taken, alternate_is_taken}
+use Rattle.steps.specs.Allowed.KnownSide.{KnownSide, right_side_counts, left_side_decides}
+use Rattle.steps.specs.Allowed.UnusedOperation.{acts, UnusedOperation, one_operand_acts}
+use Rattle.steps.specs.Allowed.UnusedList.{acting, all_act, has_spread, as_one, list_becomes, UnusedList, acting_parts_stay}
+use Rattle.steps.specs.Allowed.IndirectChoice.{one_of as branch_of, if_so, part_counts, IndirectChoice, value_alone_counts}
+use Rattle.steps.specs.Allowed.OneSidedChoice.{sides, one_side, one_sided, OneSidedChoice, one_branch_acts}
+use Rattle.steps.specs.Allowed.IdleParts.{stays_before, counting, all_count, more_before, itself_or_behind, as_value_of, sequence_becomes, IdleParts, idle_parts_leave}
+use Rattle.steps.specs.Allowed.TwoSides.{two_sides, TwoSides, both_sides_act}
+use Rattle.steps.specs.Allowed.UnusedObject.{are_plain, acting_values, object_becomes, UnusedObject, acting_values_stay}
+use Rattle.steps.specs.Allowed.KnownOperation.{known_literal, KnownOperation, value_is_known, negative_is_known}
+use Rattle.steps.proofs.Owed.KnownOperation.{Negative, under_one, under_two, is_negative_known}
+use Rattle.steps.specs.Allowed.Uses.{Use, as_value, as_typed, use_at, matters, may_take_name, stands_bare}
+use Rattle.steps.proofs.Owed.UnusedPlace.{unused_as_value}
+use Rattle.steps.proofs.Owed.UnusedOperation.{Needed, the_operand, first_side, second_side, left_side, the_condition, needed_part}
 use Rattle.min_context.specs.Edited.{evals, Edited}
 use Rattle.min_context.specs.Place.{place_at}
 use Rattle.min_context.specs.Seen.{Seen}
 use Rattle.min_traverse.specs.Lawful.{Stays, Rule, Lawful, Does, or_same, or_else}
 use Rattle.min_traverse.specs.Moves.{Holds, IsHere, NodeMoves}
-use Rattle.rules_dead_code.specs.Before.{before}
-use Rattle.rules_expressions.specs.Uses.{Spot, spot_of}
-use Rattle.rules_expressions.specs.Known.{conditional_becomes, logical_becomes, at_expression_end}
-use Rattle.rules_expressions.specs.Unused.{unused_becomes, UnusedOperations, last, one_more}
-use Rattle.rules_expressions.specs.Lists.{unused_list_becomes}
-use Rattle.rules_expressions.specs.Indirect.{indirect_becomes}
-use Rattle.rules_expressions.specs.OneSided.{one_sided_becomes}
-use Rattle.rules_expressions.specs.Sequences.{sequence_left}
-use Rattle.rules_expressions.specs.TwoSides.{two_sides_become}
-use Rattle.rules_expressions.specs.Objects.{object_left}
-use Rattle.rules_expressions.specs.Operations.{known_becomes}
-use Rattle.rules_expressions.proofs.Becoming.{no_answer, same_answer, chosen, chosen_if}
-use Rattle.rules_expressions.proofs.Editing.{conditional_edits_there, logical_edits_there}
-use Rattle.rules_expressions.proofs.Unused.{unused_edits_there}
-use Rattle.rules_expressions.proofs.Lists.{list_edits_there}
-use Rattle.rules_expressions.proofs.Indirect.{indirect_edits_there}
-use Rattle.rules_expressions.proofs.OneSided.{one_sided_edits_there}
-use Rattle.rules_expressions.proofs.Sequences.{sequence_edits_there}
-use Rattle.rules_expressions.proofs.TwoSides.{two_sides_edits_there}
-use Rattle.rules_expressions.proofs.Objects.{object_edits_there}
-use Rattle.rules_expressions.proofs.Operations.{known_edits}
-use Rattle.rules_expressions.proofs.Folding.{expressions_fold}
+use Rattle.rules.specs.DeadCode.Before.{before}
+use Rattle.rules.specs.Expressions.Uses.{Spot, spot_of}
+use Rattle.rules.specs.Expressions.Known.{conditional_becomes, logical_becomes, at_expression_end}
+use Rattle.rules.specs.Expressions.Unused.{unused_becomes, UnusedOperations, last, one_more}
+use Rattle.rules.specs.Expressions.Lists.{unused_list_becomes}
+use Rattle.rules.specs.Expressions.Indirect.{indirect_becomes}
+use Rattle.rules.specs.Expressions.OneSided.{one_sided_becomes}
+use Rattle.rules.specs.Expressions.Sequences.{sequence_left}
+use Rattle.rules.specs.Expressions.TwoSides.{two_sides_become}
+use Rattle.rules.specs.Expressions.Objects.{object_left}
+use Rattle.rules.specs.Expressions.Operations.{known_becomes}
+use Rattle.rules.proofs.Expressions.Becoming.{no_answer, same_answer, chosen, chosen_if}
+use Rattle.rules.proofs.Expressions.Editing.{conditional_edits_there, logical_edits_there}
+use Rattle.rules.proofs.Expressions.Unused.{unused_edits_there}
+use Rattle.rules.proofs.Expressions.Lists.{list_edits_there}
+use Rattle.rules.proofs.Expressions.Indirect.{indirect_edits_there}
+use Rattle.rules.proofs.Expressions.OneSided.{one_sided_edits_there}
+use Rattle.rules.proofs.Expressions.Sequences.{sequence_edits_there}
+use Rattle.rules.proofs.Expressions.TwoSides.{two_sides_edits_there}
+use Rattle.rules.proofs.Expressions.Objects.{object_edits_there}
+use Rattle.rules.proofs.Expressions.Operations.{known_edits}
+use Rattle.rules.proofs.Expressions.Folding.{expressions_fold}
 use Rattle.min_statements.specs.Own.{AnyEdit, Own, Found}
 use Rattle.min_statements.specs.Walker.{Names}
 use Rattle.min_statements.proofs.Acting.{as_tree_edits, asked_true, moves, stayed}

@@ -9,16 +9,16 @@ use Rattle.min_context.specs.Edited.{evals}
 use Rattle.min_context.specs.Place.{place_at}
 use Rattle.scope_counts.specs.Counts.{ids}
 use Rattle.scope_counts.specs.Edits.{Around, plug}
-use Rattle.steps_allowed.specs.Edits.{TreeEdits}
-use Rattle.steps_allowed.proofs.Composing.{tree_edits_compose}
-use Rattle.rules_dead_code.specs.Knows.{Knows}
-use Rattle.rules_dead_code.specs.Rules.{Facts, Where, where_of, has_dead, trimmed}
-use Rattle.rules_dead_code.proofs.Keeping.{Known, still_known}
-use Rattle.rules_dead_code.proofs.Lighter.{trimmed_is_lighter, trimmed_is_same, trimmed_sheds}
-use Rattle.rules_dead_code.proofs.Trimming.{list_trims}
-use Rattle.rules_expressions.specs.Lists.{new_note}
-use Rattle.rules_expressions.specs.Jumps.{is_inert, reached, emptied_behind, has_inert}
-use Rattle.rules_expressions.proofs.Jumps.{thinner, lighter, reach_edits, emptied_trims, all_reached}
+use Rattle.steps.specs.Allowed.Edits.{TreeEdits}
+use Rattle.steps.proofs.Allowed.Composing.{tree_edits_compose}
+use Rattle.rules.specs.DeadCode.Knows.{Knows}
+use Rattle.rules.specs.DeadCode.Rules.{Facts, Where, where_of, has_dead, trimmed}
+use Rattle.rules.proofs.DeadCode.Keeping.{Known, still_known}
+use Rattle.rules.proofs.DeadCode.Lighter.{trimmed_is_lighter, trimmed_is_same, trimmed_sheds}
+use Rattle.rules.proofs.DeadCode.Trimming.{list_trims}
+use Rattle.rules.specs.Expressions.Lists.{new_note}
+use Rattle.rules.specs.Expressions.Jumps.{is_inert, reached, emptied_behind, has_inert}
+use Rattle.rules.proofs.Expressions.Jumps.{thinner, lighter, reach_edits, emptied_trims, all_reached}
 use Rattle.min_statements.specs.Acts.{has_gone, shorter}
 use Rattle.min_statements.specs.Shed.{inert_shed, list_shed}
 use Rattle.min_statements.proofs.Shed.{Adds, ids_add, evals_add, splits}

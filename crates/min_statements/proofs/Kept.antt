@@ -6,8 +6,8 @@ use Rattle.js_syntax.specs.declared.node_kind.NodeKind.{NodeKind as Kind}
 use Rattle.js_syntax.specs.declared.node_kind.NodeKind.TheVariants.{Declarators as declarators, Specifiers as specifiers}
 use Rattle.js_syntax.specs.declared.kind.VariableKind.{VariableKind}
 use Rattle.js_syntax.specs.Node.{Forest, Tree, Note, nothing, node, absent, alone, joined, row}
-use Rattle.rules_dead_code.specs.Rules.{Facts, Where, declarator_goes, declarators_left, item_goes, declaration_left, item_left, trimmed}
-use Rattle.rules_imports.specs.Rules.{specifier_goes, names_left, import_left}
+use Rattle.rules.specs.DeadCode.Rules.{Facts, Where, declarator_goes, declarators_left, item_goes, declaration_left, item_left, trimmed}
+use Rattle.rules.specs.Imports.Rules.{specifier_goes, names_left, import_left}
 use Rattle.min_statements.specs.Shed.{is_dead_declarator, is_dead_item, is_unused_specifier, kept_items, each_left, left_of}
 
 -- ---- those that stay

@@ -4,8 +4,8 @@ use Rattle.js_syntax.specs.declared.node_kind.NodeKind.{NodeKind as Kind}
 use Rattle.js_syntax.specs.declared.node_kind.NodeKind.TheVariants.{VariableDeclarator as variable_declarator, BindingName as binding_name, Specifiers as specifiers}
 use Rattle.js_syntax.specs.declared.kind.VariableKind.{VariableKind}
 use Rattle.js_syntax.specs.Node.{Forest, Tree, Note, nothing, node, row}
-use Rattle.rules_dead_code.specs.Rules.{Facts, Where, variable_is_unused, scope_of, is_quiet, declarator_goes, function_is_unused, function_goes}
-use Rattle.rules_imports.specs.Rules.{name_goes, import_has_unused}
+use Rattle.rules.specs.DeadCode.Rules.{Facts, Where, variable_is_unused, scope_of, is_quiet, declarator_goes, function_is_unused, function_goes}
+use Rattle.rules.specs.Imports.Rules.{name_goes, import_has_unused}
 use Rattle.min_statements.specs.Names.{symbol_of}
 
 pub declares : (f : Facts) (w : Where) (how : VariableKind) (k : Kind) (n : Note) (inner value : Forest) → declarator_goes f w how variable_declarator (node k n inner value) ≡ variable_is_unused f (scope_of w how) (symbol_of k n) && is_quiet f w value

@@ -4,17 +4,17 @@ use Rattle.js_syntax.specs.Node.{Tree}
 use Rattle.scope_counts.specs.Edits.{plug}
 use Rattle.scope_laws.specs.Place.{Around}
 use Rattle.symbol_sets.specs.Numbers.{has}
-use Rattle.steps_allowed.specs.Uses.{use_at, stands_bare}
+use Rattle.steps.specs.Allowed.Uses.{use_at, stands_bare}
 use Rattle.min_context.specs.Edited.{Edited}
 use Rattle.min_context.specs.Seen.{Seen, still}
 use Rattle.min_traverse.specs.Lawful.{Stays, Does, or_same}
 use Rattle.min_traverse.specs.Moves.{Holds, NodeMoves, before}
 use Rattle.min_traverse.proofs.Joining.{does_some, does_none}
-use Rattle.rules_dead_code.specs.Rules.{Facts, Where, where_of}
-use Rattle.rules_imports.specs.Rules.{import_has_unused, import_left, loses_names, pruned}
-use Rattle.rules_imports.proofs.Pruned.{prunes}
-use Rattle.rules_imports.proofs.Pruning.{import_prunes}
-use Rattle.rules_imports.proofs.Lighter.{pruned_lighter, pruned_refers, pruned_calls}
+use Rattle.rules.specs.DeadCode.Rules.{Facts, Where, where_of}
+use Rattle.rules.specs.Imports.Rules.{import_has_unused, import_left, loses_names, pruned}
+use Rattle.rules.proofs.Imports.Pruned.{prunes}
+use Rattle.rules.proofs.Imports.Pruning.{import_prunes}
+use Rattle.rules.proofs.Imports.Lighter.{pruned_lighter, pruned_refers, pruned_calls}
 use Rattle.min_statements.specs.Acts.{prune}
 use Rattle.min_statements.specs.Own.{AnyEdit, Own}
 use Rattle.min_statements.specs.Walker.{Names, facts_of}

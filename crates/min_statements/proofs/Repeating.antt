@@ -3,15 +3,15 @@ use Rattle.std.proofs.Common.{◌≡◌, ◌∙◌, [], Bool, true, false, ◌||
 use Rattle.js_syntax.specs.declared.node_kind.NodeKind.TheVariants.{Statements as statements}
 use Rattle.js_syntax.specs.Node.{Tree}
 use Rattle.scope_laws.specs.Place.{Around}
-use Rattle.steps_allowed.specs.Uses.{use_at, stands_bare}
+use Rattle.steps.specs.Allowed.Uses.{use_at, stands_bare}
 use Rattle.min_context.specs.Edited.{Edited}
 use Rattle.min_context.specs.Seen.{Seen}
 use Rattle.min_traverse.specs.Lawful.{Stays, Does, or_same}
 use Rattle.min_traverse.specs.Moves.{Holds, NodeMoves}
 use Rattle.min_traverse.proofs.Joining.{does_some, does_none}
-use Rattle.rules_dead_code.specs.Rules.{where_of}
-use Rattle.rules_imports.specs.Repeated.{has_repeated, each_once, once_if, list_once, asked_once}
-use Rattle.rules_imports.proofs.Repeating.{repeating, repeats_leave, repeats_lighter, repeats_refer, repeats_call}
+use Rattle.rules.specs.DeadCode.Rules.{where_of}
+use Rattle.rules.specs.Imports.Repeated.{has_repeated, each_once, once_if, list_once, asked_once}
+use Rattle.rules.proofs.Imports.Repeating.{repeating, repeats_leave, repeats_lighter, repeats_refer, repeats_call}
 use Rattle.min_statements.specs.Acts.{has_gone, trim, drop_repeated, list_changes}
 use Rattle.min_statements.specs.Own.{AnyEdit, Own, Found}
 use Rattle.min_statements.specs.Walker.{Names, facts_of}

@@ -17,37 +17,37 @@ use Rattle.min_traverse.specs.declared.slot.Middle.{Middle}
 use Rattle.min_traverse.specs.declared.slot.Middle.TheVariants as middle
 use Rattle.min_traverse.specs.declared.slot.Inner.{Inner}
 use Rattle.min_traverse.specs.declared.slot.Inner.TheVariants as inner
-use Rattle.rules_dead_code.specs.Rules.{Facts, Where, where_of, has_dead, is_silent_statement}
-use Rattle.rules_expressions.specs.Jumps.{has_inert, left_if, list_reached}
+use Rattle.rules.specs.DeadCode.Rules.{Facts, Where, where_of, has_dead, is_silent_statement}
+use Rattle.rules.specs.Expressions.Jumps.{has_inert, left_if, list_reached}
 use Rattle.min_statements.specs.Acts.{has_gone, list_changes}
 use Rattle.min_statements.specs.Own.{Visited, is_written, statement_changes}
-use Rattle.rules_dead_code.specs.Quiet.{EachNode, IsQuietAt, IsQuiet}
-use Rattle.rules_dead_code.proofs.Walked.{each_both, quiet_nodes}
+use Rattle.rules.specs.DeadCode.Quiet.{EachNode, IsQuietAt, IsQuiet}
+use Rattle.rules.proofs.DeadCode.Walked.{each_both, quiet_nodes}
 use Rattle.min_traverse.specs.Lawful.{or_else}
-use Rattle.rules_expressions.specs.Uses.{Spot as Asked, spot_of}
-use Rattle.rules_expressions.specs.Known.{conditional_becomes, logical_becomes, at_expression_end}
-use Rattle.rules_expressions.specs.Unused.{unused_becomes}
-use Rattle.rules_expressions.specs.Lists.{unused_list_becomes}
-use Rattle.rules_expressions.specs.Indirect.{indirect_becomes}
-use Rattle.rules_expressions.specs.OneSided.{one_sided_becomes}
-use Rattle.rules_expressions.specs.Sequences.{sequence_left}
-use Rattle.rules_expressions.specs.TwoSides.{two_sides_become}
-use Rattle.rules_expressions.specs.Objects.{object_left}
-use Rattle.rules_expressions.specs.Operations.{minus_there, known_becomes}
+use Rattle.rules.specs.Expressions.Uses.{Spot as Asked, spot_of}
+use Rattle.rules.specs.Expressions.Known.{conditional_becomes, logical_becomes, at_expression_end}
+use Rattle.rules.specs.Expressions.Unused.{unused_becomes}
+use Rattle.rules.specs.Expressions.Lists.{unused_list_becomes}
+use Rattle.rules.specs.Expressions.Indirect.{indirect_becomes}
+use Rattle.rules.specs.Expressions.OneSided.{one_sided_becomes}
+use Rattle.rules.specs.Expressions.Sequences.{sequence_left}
+use Rattle.rules.specs.Expressions.TwoSides.{two_sides_become}
+use Rattle.rules.specs.Expressions.Objects.{object_left}
+use Rattle.rules.specs.Expressions.Operations.{minus_there, known_becomes}
 use Rattle.js_effects.specs.Answers.{bare_answers}
 use Rattle.js_effects.specs.Values.{value_of}
-use Rattle.steps_allowed.specs.KnownOperation.{as_negative, gives_negative, known_negative}
-use Rattle.steps_allowed.specs.UnusedOperation.{acts}
-use Rattle.rules_expressions.specs.Ifs.{if_becomes}
-use Rattle.rules_expressions.specs.Untaken.{if_left, if_ends}
-use Rattle.rules_expressions.specs.Settled.{IsSettledAt, IsSettled}
-use Rattle.rules_expressions.proofs.Walked.{settled_nodes}
-use Rattle.rules_imports.specs.Repeated.{has_repeated, once_if, list_once}
-use Rattle.rules_imports.specs.Rules.{pruned}
-use Rattle.rules_imports.specs.Quiet.{IsUsedAt, ImportsUsed}
-use Rattle.rules_imports.proofs.Walked.{imports_used}
-use Rattle.slots_fit.specs.Had.{is_always_statement, is_always_expression, HasSlots}
-use Rattle.slots_fit.proofs.Had.{slots_had}
+use Rattle.steps.specs.Allowed.KnownOperation.{as_negative, gives_negative, known_negative}
+use Rattle.steps.specs.Allowed.UnusedOperation.{acts}
+use Rattle.rules.specs.Expressions.Ifs.{if_becomes}
+use Rattle.rules.specs.Expressions.Untaken.{if_left, if_ends}
+use Rattle.rules.specs.Expressions.Settled.{IsSettledAt, IsSettled}
+use Rattle.rules.proofs.Expressions.Walked.{settled_nodes}
+use Rattle.rules.specs.Imports.Repeated.{has_repeated, once_if, list_once}
+use Rattle.rules.specs.Imports.Rules.{pruned}
+use Rattle.rules.specs.Imports.Quiet.{IsUsedAt, ImportsUsed}
+use Rattle.rules.proofs.Imports.Walked.{imports_used}
+use Rattle.rules.specs.Slots.Had.{is_always_statement, is_always_expression, HasSlots}
+use Rattle.rules.proofs.Slots.Had.{slots_had}
 use Rattle.min_statements.specs.Walker.{Names, facts_of}
 use Rattle.min_statements.proofs.Acting.{none_left}
 

@@ -10,7 +10,7 @@ use Rattle.scope_counts.specs.Counts.{ids}
 use Rattle.min_context.specs.Edited.{evals, Leaves, Dropped, DropsNode, Edited}
 use Rattle.min_context.specs.Seen.{Seen}
 use Rattle.min_traverse.proofs.Joining.{left_is_missing}
-use Rattle.rules_dead_code.specs.Rules.{Facts, Where, declarator_goes, declarators_left, item_goes, declaration_left, item_left, trimmed}
+use Rattle.rules.specs.DeadCode.Rules.{Facts, Where, declarator_goes, declarators_left, item_goes, declaration_left, item_left, trimmed}
 use Rattle.symbol_sets.specs.Numbers.{has}
 use Rattle.min_statements.specs.Shed.{declarators_shed, declaration_shed, item_shed, shed}
 use Rattle.min_statements.specs.Walker.{Names, facts_of}

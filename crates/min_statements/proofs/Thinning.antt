@@ -15,11 +15,11 @@ use Rattle.min_context.specs.Seen.{Seen}
 use Rattle.min_expressions.specs.Kept.{kept_if}
 use Rattle.min_traverse.specs.Lawful.{Does}
 use Rattle.min_traverse.proofs.Joining.{does_some, does_none}
-use Rattle.rules_expressions.specs.Ifs.{given_if}
-use Rattle.rules_expressions.specs.Untaken.{is_list, may_go, is_declarator, zero_for, value_left, values_of, values_rid, rid, branch_left, branch_loses, what_stays, if_left, rid_if}
-use Rattle.steps_allowed.specs.Untaken.{truth_given, runs_inside}
-use Rattle.steps_allowed.specs.UnrunValue.{declares, passes, may_be_dropped}
-use Rattle.steps_allowed.specs.Uses.{Use, use_at, stands_bare}
+use Rattle.rules.specs.Expressions.Ifs.{given_if}
+use Rattle.rules.specs.Expressions.Untaken.{is_list, may_go, is_declarator, zero_for, value_left, values_of, values_rid, rid, branch_left, branch_loses, what_stays, if_left, rid_if}
+use Rattle.steps.specs.Allowed.Untaken.{truth_given, runs_inside}
+use Rattle.steps.specs.Allowed.UnrunValue.{declares, passes, may_be_dropped}
+use Rattle.steps.specs.Allowed.Uses.{Use, use_at, stands_bare}
 use Rattle.scope_laws.specs.Place as places
 use Rattle.min_statements.specs.Untaken.{by_truth, untaken_at, value_shed, declarator_shed, values_shed_of, values_shed, row_shed, inside_shed, one_shed, shed_of, shed_at, goes_there, kept_of, each_rid, rid_one, rid_at}
 use Rattle.min_statements.proofs.Calls.{is_no_name, CallsStay}

@@ -5,8 +5,8 @@ use Rattle.js_syntax.specs.Node.{Forest, Tree, Note, nothing, node, absent, row}
 use Rattle.scope_counts.specs.Counts.{ids}
 use Rattle.min_context.specs.Edited.{evals, Leaves}
 use Rattle.min_context.specs.Seen.{Seen}
-use Rattle.rules_expressions.specs.Untaken.{zero_for, value_left, values_of, values_rid}
-use Rattle.steps_allowed.specs.UnrunValue.{passes, may_be_dropped}
+use Rattle.rules.specs.Expressions.Untaken.{zero_for, value_left, values_of, values_rid}
+use Rattle.steps.specs.Allowed.UnrunValue.{passes, may_be_dropped}
 use Rattle.min_statements.specs.Untaken.{declarator_shed, values_shed_of, values_shed, zero_one, has_value, values_one}
 use Rattle.min_statements.proofs.Emptying.{others}
 use Rattle.min_statements.proofs.Shed.{leaves_none, leaves_more}

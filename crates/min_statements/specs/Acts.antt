@@ -3,10 +3,10 @@ use Rattle.std.specs.Prelude.{[], Bool, false, ◌||◌, Option, Some, None, if�
 use Rattle.js_syntax.specs.Node.{Forest, Tree}
 use Rattle.min_context.specs.Seen.{Seen}
 use Rattle.min_traverse.specs.Lawful.{Rule}
-use Rattle.rules_dead_code.specs.Rules.{Facts, Where, where_of, has_dead, trimmed, emptied}
-use Rattle.rules_expressions.specs.Jumps.{has_inert, emptied_behind}
-use Rattle.rules_imports.specs.Repeated.{has_repeated, asked_once}
-use Rattle.rules_imports.specs.Rules.{pruned}
+use Rattle.rules.specs.DeadCode.Rules.{Facts, Where, where_of, has_dead, trimmed, emptied}
+use Rattle.rules.specs.Expressions.Jumps.{has_inert, emptied_behind}
+use Rattle.rules.specs.Imports.Repeated.{has_repeated, asked_once}
+use Rattle.rules.specs.Imports.Rules.{pruned}
 use Rattle.min_statements.specs.Walker.{Names, facts_of}
 
 -- whether anything of a list goes, and what is left: what stands behind a jump becomes empty, and so goes too

@@ -3,8 +3,8 @@ use Rattle.std.specs.Prelude.{Bool, ◌||◌, Option, Some, None, if◌then◌el
 use Rattle.js_syntax.specs.declared.node_kind.NodeKind.TheVariants.{EmptyStatement as empty_statement}
 use Rattle.js_syntax.specs.Node.{Tree, nothing}
 use Rattle.js_meaning_near.specs.Near.{cuts_off}
-use Rattle.rules_expressions.specs.Lists.{new_note}
-use Rattle.rules_expressions.specs.Jumps.{is_inert}
+use Rattle.rules.specs.Expressions.Lists.{new_note}
+use Rattle.rules.specs.Expressions.Jumps.{is_inert}
 
 -- whether a jump stands before what comes next
 abbrev pub jumped_behind : (jumped : Bool) → Option Tree → Bool

@@ -3,11 +3,11 @@ use Rattle.std.specs.Prelude.{ℕ, Bool, true, false, ◌&&◌, Option, Some, No
 use Rattle.js_syntax.specs.declared.node_kind.NodeKind.{NodeKind as Kind}
 use Rattle.js_syntax.specs.declared.node_kind.NodeKind.TheVariants.{BlockStatement as block_statement, IfStatement as if_statement, TryStatement as try_statement}
 use Rattle.js_syntax.specs.Node.{Forest, Tree, nothing, node, absent}
-use Rattle.steps_allowed.specs.Branches as branches
-use Rattle.steps_allowed.specs.Branches.{is_branch}
-use Rattle.steps_allowed.specs.EmptyBlock.{idles}
-use Rattle.steps_allowed.specs.IdleTry.{has_no_loop}
-use Rattle.steps_allowed.specs.KnownConditional.{truth_known}
+use Rattle.steps.specs.Allowed.Branches as branches
+use Rattle.steps.specs.Allowed.Branches.{is_branch}
+use Rattle.steps.specs.Allowed.EmptyBlock.{idles}
+use Rattle.steps.specs.Allowed.IdleTry.{has_no_loop}
+use Rattle.steps.specs.Allowed.KnownConditional.{truth_known}
 use Rattle.min_statements.specs.declared.ifs.Branches.{Branches as Answer}
 use Rattle.min_statements.specs.declared.ifs.Branches.TheVariants as answer
 

@@ -5,19 +5,19 @@ use Rattle.min_context.specs.Seen.{Seen}
 use Rattle.min_options.specs.declared.options.CompressOptions.{CompressOptions}
 use Rattle.min_traverse.specs.declared.slot.Hook.{Hook}
 use Rattle.min_traverse.specs.declared.slot.Hook.TheVariants as hook
-use Rattle.steps_allowed.specs.Edits.{Edit}
-use Rattle.steps_allowed.specs.Exposure.{is_script, is_script_source}
-use Rattle.steps_marked.specs.Flags.{first_mark, FlagsTell}
+use Rattle.steps.specs.Allowed.Edits.{Edit}
+use Rattle.steps.specs.Allowed.Exposure.{is_script, is_script_source}
+use Rattle.steps.specs.Marked.Flags.{first_mark, FlagsTell}
 use Rattle.scope_rules.specs.Table.{Scoping}
-use Rattle.steps_told.specs.Nesting.{ScopesNest}
-use Rattle.steps_told.specs.Parts.{CallsToldOnly, NamesToldOnly}
+use Rattle.rules.specs.Told.Nesting.{ScopesNest}
+use Rattle.rules.specs.Told.Parts.{CallsToldOnly, NamesToldOnly}
 use Rattle.js_effects.specs.Silence.{is_marked}
-use Rattle.rules_dead_code.specs.Quiet.{IsExported}
-use Rattle.rules_dead_code.specs.Knows.{TellsBound, TellsExported}
-use Rattle.rules_dead_code.specs.Rules.{Facts, Where, where_of, is_silent_statement}
-use Rattle.rules_expressions.specs.Known.{at_expression_end}
-use Rattle.rules_expressions.specs.Untaken.{if_ends}
-use Rattle.rules_imports.specs.Rules.{pruned}
+use Rattle.rules.specs.DeadCode.Quiet.{IsExported}
+use Rattle.rules.specs.DeadCode.Knows.{TellsBound, TellsExported}
+use Rattle.rules.specs.DeadCode.Rules.{Facts, Where, where_of, is_silent_statement}
+use Rattle.rules.specs.Expressions.Known.{at_expression_end}
+use Rattle.rules.specs.Expressions.Untaken.{if_ends}
+use Rattle.rules.specs.Imports.Rules.{pruned}
 use Rattle.min_statements.specs.Acts.{list_changes}
 use Rattle.min_statements.specs.Walker.{Names, facts_of}
 

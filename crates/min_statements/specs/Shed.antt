@@ -5,9 +5,9 @@ use Rattle.js_syntax.specs.declared.node_kind.NodeKind.TheVariants.{VariableDecl
 use Rattle.js_syntax.specs.declared.kind.VariableKind.{VariableKind}
 use Rattle.js_syntax.specs.Node.{Forest, Tree, nothing, node, absent, alone}
 use Rattle.js_meaning_near.specs.Near.{cuts_off}
-use Rattle.rules_dead_code.specs.Rules.{Facts, Where, declarator_goes, item_goes, item_left}
-use Rattle.rules_expressions.specs.Jumps.{is_inert, emptied_behind}
-use Rattle.rules_imports.specs.Rules.{specifier_goes}
+use Rattle.rules.specs.DeadCode.Rules.{Facts, Where, declarator_goes, item_goes, item_left}
+use Rattle.rules.specs.Expressions.Jumps.{is_inert, emptied_behind}
+use Rattle.rules.specs.Imports.Rules.{specifier_goes}
 
 -- `m` says what a row counts
 module _ (m : Forest → ℕ) (f : Facts) (w : Where) where

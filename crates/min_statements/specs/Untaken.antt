@@ -4,9 +4,9 @@ use Rattle.js_syntax.specs.declared.node_kind.NodeKind.{NodeKind as Kind}
 use Rattle.js_syntax.specs.declared.node_kind.NodeKind.TheVariants.{IfStatement as if_statement}
 use Rattle.js_syntax.specs.Node.{Forest, Tree, nothing, node, absent, alone}
 use Rattle.min_expressions.specs.Kept.{kept_if}
-use Rattle.rules_expressions.specs.Untaken.{is_list, may_go, is_declarator, zero_for, value_left, values_of, values_rid, branch_left, branch_loses}
-use Rattle.steps_allowed.specs.Untaken.{truth_given, runs_inside}
-use Rattle.steps_allowed.specs.UnrunValue.{passes, may_be_dropped}
+use Rattle.rules.specs.Expressions.Untaken.{is_list, may_go, is_declarator, zero_for, value_left, values_of, values_rid, branch_left, branch_loses}
+use Rattle.steps.specs.Allowed.Untaken.{truth_given, runs_inside}
+use Rattle.steps.specs.Allowed.UnrunValue.{passes, may_be_dropped}
 
 -- ---- which branch
 

@@ -4,10 +4,10 @@ use Rattle.min_options.specs.declared.options.CompressOptions.{CompressOptions}
 use Rattle.min_options.specs.declared.options.CompressOptionsUnused.{CompressOptionsUnused}
 use Rattle.min_options.specs.declared.options.CompressOptionsUnused.TheVariants.{Keep}
 use Rattle.min_context.specs.Seen.{Seen}
-use Rattle.rules_dead_code.specs.Rules.{Facts}
+use Rattle.rules.specs.DeadCode.Rules.{Facts}
 use Rattle.js_syntax.specs.Node.{Forest}
 use Rattle.scope_rules.specs.Table.{Scoping}
-use Rattle.steps_allowed.specs.Exposure.{is_script_source}
+use Rattle.steps.specs.Allowed.Exposure.{is_script_source}
 use Rattle.exported_names.specs.Answers.{bound_of}
 use Rattle.exported_names.specs.Exported.{exported_of}
 

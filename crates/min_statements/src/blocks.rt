@@ -1,7 +1,7 @@
 // What holds nothing. The recursion goes as deep as the tree, and ends at the first statement that may act.
 ghost use Rattle.std.specs.Prelude.{◌≡◌, ◌&&◌};
 ghost use Rattle.js_syntax.specs.Node.{row};
-ghost use Rattle.steps_allowed.specs.EmptyBlock.{is_idle, idles};
+ghost use Rattle.steps.specs.Allowed.EmptyBlock.{is_idle, idles};
 
 use js_syntax::NodeKind;
 use js_tree::Node;

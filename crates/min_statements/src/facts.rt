@@ -2,8 +2,8 @@
 ghost use Rattle.std.specs.Prelude.{◌≡◌, ◌==◌, length};
 ghost use Rattle.scope_rules.specs.ScopeFlags as scope_flag;
 ghost use Rattle.scope_table.specs.Reading.{scope_at, symbol_at};
-ghost use Rattle.steps_marked.specs.Flags.{scope_has, is_sloppy_block};
-ghost use Rattle.rules_dead_code.specs.Rules.{where_of, has_with, is_field_of_with};
+ghost use Rattle.steps.specs.Marked.Flags.{scope_has, is_sloppy_block};
+ghost use Rattle.rules.specs.DeadCode.Rules.{where_of, has_with, is_field_of_with};
 
 use bitflags::Flags;
 use js_syntax::{ScopeId, SymbolId};
@@ -23,7 +23,7 @@ pub(crate) struct Facts<'a> {
 }
 
 impl<'a> Model for Facts<'a> {
-    ghost use Rattle.rules_dead_code.specs.Rules.{Facts};
+    ghost use Rattle.rules.specs.DeadCode.Rules.{Facts};
 
     ghost Value = { Facts };
 
@@ -39,7 +39,7 @@ pub(crate) struct Where {
 }
 
 impl Model for Where {
-    ghost use Rattle.rules_dead_code.specs.Rules.{Where};
+    ghost use Rattle.rules.specs.DeadCode.Rules.{Where};
 
     ghost Value = { Where };
 

@@ -3,7 +3,7 @@ ghost use Rattle.std.specs.Prelude.{◌≡◌, [], ◌∷◌, false};
 ghost use Rattle.js_syntax.specs.Node.{row, forest_of};
 ghost use Rattle.js_syntax.specs.declared.node_kind.NodeKind.TheVariants.{VariableDeclarator as variable_declarator};
 ghost use Rattle.min_pass.specs.Pass as pass;
-ghost use Rattle.rules_dead_code.specs.Rules as rules;
+ghost use Rattle.rules.specs.DeadCode.Rules as rules;
 
 use crate::blocks::idles;
 use crate::facts::{Facts, Where};

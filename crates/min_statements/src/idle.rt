@@ -3,7 +3,7 @@ ghost use Rattle.std.specs.Prelude.{◌≡◌, Some, false};
 ghost use Rattle.std.specs.Str.{bytes_eq};
 ghost use Rattle.js_syntax.specs.declared.node_kind.NodeKind.TheVariants.{Statements as statements, BlockStatement as block_statement, BreakStatement as break_statement, LabeledStatement as labeled_statement, WhileStatement as while_statement, ForStatement as for_statement, TryStatement as try_statement};
 ghost use Rattle.js_syntax.specs.Node.{row};
-ghost use Rattle.steps_allowed.specs.IdleStatement.{finalizer_idles, leaves_at_once, does_nothing};
+ghost use Rattle.steps.specs.Allowed.IdleStatement.{finalizer_idles, leaves_at_once, does_nothing};
 
 use crate::blocks::{idles, is_idle};
 use js_syntax::{Ident, NodeKind};

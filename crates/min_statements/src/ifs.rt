@@ -2,9 +2,9 @@
 ghost use Rattle.std.specs.Prelude.{◌≡◌};
 ghost use Rattle.js_syntax.specs.Node.{row};
 ghost use Rattle.min_traverse.specs.Lawful.{Does};
-ghost use Rattle.steps_allowed.specs.Branches.{is_branch};
-ghost use Rattle.steps_allowed.specs.KnownConditional.{truth_known};
-ghost use Rattle.rules_expressions.specs.Untaken.{rid_if, at_if_end};
+ghost use Rattle.steps.specs.Allowed.Branches.{is_branch};
+ghost use Rattle.steps.specs.Allowed.KnownConditional.{truth_known};
+ghost use Rattle.rules.specs.Expressions.Untaken.{rid_if, at_if_end};
 ghost use Rattle.min_statements.specs.Ifs.{branches_of, told_branches, index_if, one_of_two, one_or_none, branch_of, try_of, branch_at};
 
 use crate::blocks::idles;

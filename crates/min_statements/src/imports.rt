@@ -4,8 +4,8 @@ ghost use Rattle.js_syntax.specs.declared.node_kind.NodeKind.TheVariants.{Statem
 ghost use Rattle.js_syntax.specs.Node.{row, forest_of};
 ghost use Rattle.min_traverse.specs.Lawful.{Does};
 ghost use Rattle.steps.specs.Steps as steps;
-ghost use Rattle.rules_dead_code.specs.Rules.{where_of};
-ghost use Rattle.rules_imports.specs.Rules as rules;
+ghost use Rattle.rules.specs.DeadCode.Rules.{where_of};
+ghost use Rattle.rules.specs.Imports.Rules as rules;
 ghost use Rattle.min_statements.specs.Acts as acts;
 ghost use Rattle.min_statements.specs.Shed.{is_unused_specifier};
 ghost use Rattle.min_statements.specs.Walker.{facts_of};

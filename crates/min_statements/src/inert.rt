@@ -6,9 +6,9 @@ ghost use Rattle.js_syntax.specs.Node.{nothing, row};
 ghost use Rattle.js_meaning_near.specs.Near.{at_any, at_first, at_branches, at_both, row_cuts, cuts_off};
 ghost use Rattle.scope_counts.specs.Counts.{ids};
 ghost use Rattle.min_context.specs.Edited.{evals, Leaves};
-ghost use Rattle.steps_allowed.specs.Unreached.{only_runs};
-ghost use Rattle.rules_expressions.specs.Lists.{new_note};
-ghost use Rattle.rules_expressions.specs.Jumps.{is_inert, emptied_behind, has_inert};
+ghost use Rattle.steps.specs.Allowed.Unreached.{only_runs};
+ghost use Rattle.rules.specs.Expressions.Lists.{new_note};
+ghost use Rattle.rules.specs.Expressions.Jumps.{is_inert, emptied_behind, has_inert};
 ghost use Rattle.min_statements.specs.Shed.{inert_shed};
 ghost use Rattle.min_statements.specs.Behind.{jumped_behind, empty_if_inert};
 

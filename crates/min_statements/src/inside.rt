@@ -1,7 +1,7 @@
 // What declares no name around it. Each recursion goes as deep as the tree.
 ghost use Rattle.std.specs.Prelude.{◌≡◌};
 ghost use Rattle.js_syntax.specs.Node.{row};
-ghost use Rattle.steps_allowed.specs.Branches.{is_handler, lets_only_at, lets_only, stays_inside_at, inside_from, none_from};
+ghost use Rattle.steps.specs.Allowed.Branches.{is_handler, lets_only_at, lets_only, stays_inside_at, inside_from, none_from};
 ghost use Rattle.min_statements.specs.Ifs.{declares_no_name};
 
 use js_syntax::{ClassKind, FunctionKind, NodeKind, VariableKind};

@@ -1,7 +1,7 @@
 //! What takes dead code out of a program, node by node?
 //!
 //! `Statements` is the walker (min_traverse): behind a list it takes out what stands behind a jump there and declares nothing around it,
-//! and what rules_dead_code says goes of it (`trim_statements`), or imports without names behind other requests of their modules
+//! and what rules/DeadCode says goes of it (`trim_statements`), or imports without names behind other requests of their modules
 //! (`remove_repeated_imports`), behind a silent statement elsewhere it leaves an empty one
 //! (`empty_statement`), behind an `if` on a test that is known the branch that runs, or an empty statement, or the `if` without what
 //! declares no name in the other branch, and without the values there (`try_fold_if`), behind an import the import without the names that nobody uses
@@ -9,9 +9,9 @@
 //! behind an operation of which nobody takes the value the operands that act, behind such an array, object or sequence its parts that act,
 //! and behind an operation that doesn't act its value (min_expressions).
 //! Each call does exactly what its rule says, marks what left before it is let go, and touches nothing where nothing goes.
-//! `walk_statements` is one pass over a program: what is left comes by edits that a dead code remover may make (steps_allowed), what was
+//! `walk_statements` is one pass over a program: what is left comes by edits that a dead code remover may make (steps/Allowed), what was
 //! known of the program (`Knows`) is known of what is left, and where no other pass is asked for, nothing of it goes (`IsQuiet` of
-//! rules_dead_code, `ImportsUsed` of rules_imports) or comes to its parts or its value (`IsSettled` of rules_expressions).
+//! rules/DeadCode, `ImportsUsed` of rules/Imports) or comes to its parts or its value (`IsSettled` of rules/Expressions).
 #![tactic(auto)]
 
 mod blocks;

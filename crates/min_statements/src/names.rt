@@ -1,7 +1,7 @@
 // Which names are unused.
 ghost use Rattle.std.specs.Prelude.{◌≡◌};
 ghost use Rattle.min_statements.specs.Names.{symbol_of};
-ghost use Rattle.rules_dead_code.specs.Rules as rules;
+ghost use Rattle.rules.specs.DeadCode.Rules as rules;
 
 use crate::facts::{Facts, Where, is_sloppy_block, is_unlisted, sees_eval};
 use js_effects::is_marked;

@@ -1,7 +1,7 @@
 // What a `try` around nothing comes to. The recursion goes as deep as blocks, `if` and labels stand in one another.
 ghost use Rattle.std.specs.Prelude.{◌≡◌};
 ghost use Rattle.js_syntax.specs.Node.{row};
-ghost use Rattle.steps_allowed.specs.IdleTry.{has_no_loop_at, has_no_loop};
+ghost use Rattle.steps.specs.Allowed.IdleTry.{has_no_loop_at, has_no_loop};
 ghost use Rattle.min_statements.specs.Ifs.{is_block, are_blocks};
 
 use js_syntax::NodeKind;

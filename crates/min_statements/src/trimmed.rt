@@ -5,7 +5,7 @@ ghost use Rattle.js_syntax.specs.Node.{row, forest_of};
 ghost use Rattle.scope_counts.specs.Counts.{ids};
 ghost use Rattle.min_context.specs.Edited.{evals, Leaves};
 ghost use Rattle.min_traverse.specs.Lawful.{Does};
-ghost use Rattle.rules_dead_code.specs.Rules as rules;
+ghost use Rattle.rules.specs.DeadCode.Rules as rules;
 ghost use Rattle.min_statements.specs.Acts as acts;
 ghost use Rattle.min_statements.specs.Shed.{declarators_shed, declaration_shed, item_shed, shed, is_dead_declarator, is_dead_item, kept_items, each_left, left_of};
 ghost use Rattle.min_statements.specs.Walker.{facts_of};

@@ -4,8 +4,8 @@ ghost use Rattle.js_syntax.specs.Node.{row};
 ghost use Rattle.scope_counts.specs.Counts.{ids};
 ghost use Rattle.min_context.specs.Edited.{evals, Leaves};
 ghost use Rattle.min_expressions.specs.Kept.{kept_if};
-ghost use Rattle.steps_allowed.specs.Untaken.{runs_inside};
-ghost use Rattle.rules_expressions.specs.Untaken.{is_list, may_go, row_loses, branch_left, branch_loses};
+ghost use Rattle.steps.specs.Allowed.Untaken.{runs_inside};
+ghost use Rattle.rules.specs.Expressions.Untaken.{is_list, may_go, row_loses, branch_left, branch_loses};
 ghost use Rattle.min_statements.specs.Untaken.{by_truth, among, untaken_at, row_shed, inside_shed, one_shed, shed_of, shed_at, goes_there, kept_of, each_rid, rid_one, rid_at};
 
 use crate::inert::only_runs;

@@ -3,8 +3,8 @@ ghost use Rattle.std.specs.Prelude.{◌≡◌, true};
 ghost use Rattle.js_syntax.specs.Node.{row};
 ghost use Rattle.scope_counts.specs.Counts.{ids};
 ghost use Rattle.min_context.specs.Edited.{evals, Leaves};
-ghost use Rattle.steps_allowed.specs.UnrunValue.{declares, passes, may_be_dropped};
-ghost use Rattle.rules_expressions.specs.Untaken.{is_declarator, zero_for, value_left, value_drops, values_of, values_rid, drops_of, values_drop};
+ghost use Rattle.steps.specs.Allowed.UnrunValue.{declares, passes, may_be_dropped};
+ghost use Rattle.rules.specs.Expressions.Untaken.{is_declarator, zero_for, value_left, value_drops, values_of, values_rid, drops_of, values_drop};
 ghost use Rattle.min_statements.specs.Untaken.{value_shed, declarator_shed, values_shed_of, values_shed, zero_one, has_value, values_one, zero_row};
 
 use crate::untaken::runs_inside;

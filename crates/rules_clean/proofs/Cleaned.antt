@@ -4,15 +4,15 @@ use Rattle.js_syntax.specs.Node.{Forest, Tree}
 use Rattle.scope_laws.specs.Place.{Around, plug}
 use Rattle.scope_counts.specs.Scopes.{unmarked}
 use Rattle.headline.specs.Clean.{CleanBut, IsDead, an_empty_statement, an_empty_block, a_silent_statement, an_unused_function, an_unused_declarator, an_unused_import, a_known_conditional, a_known_side, an_unused_operation, an_unused_list, an_indirect_choice, a_one_sided_choice, idle_parts, two_sides, an_unused_object, a_known_operation, a_known_if, a_dead_if, an_unreached_statement, an_untaken_statement, an_unrun_value, an_idle_statement, a_repeated_import, an_idle_try}
-use Rattle.rules_dead_code.specs.Knows.{Knows}
-use Rattle.rules_dead_code.specs.Quiet.{Exactly, IsQuiet}
-use Rattle.rules_dead_code.specs.Rules.{Facts}
-use Rattle.rules_dead_code.proofs.Alive.{no_empty_item, no_empty_block, no_silent_statement, no_unused_function, no_unused_declarator}
-use Rattle.rules_expressions.specs.Settled.{IsSettled}
-use Rattle.rules_expressions.proofs.Settled.{no_conditional, no_side, no_unused, no_list, no_indirect, no_one_sided, no_sequence, no_two_sides, no_object, no_known, no_known_if, no_dead_if, no_try, no_unreached, no_untaken, no_idle, no_value}
-use Rattle.rules_imports.specs.Quiet.{ImportsUsed}
-use Rattle.rules_imports.proofs.Used.{no_unused_name}
-use Rattle.rules_imports.proofs.Repeating.{none_repeats}
+use Rattle.rules.specs.DeadCode.Knows.{Knows}
+use Rattle.rules.specs.DeadCode.Quiet.{Exactly, IsQuiet}
+use Rattle.rules.specs.DeadCode.Rules.{Facts}
+use Rattle.rules.proofs.DeadCode.Alive.{no_empty_item, no_empty_block, no_silent_statement, no_unused_function, no_unused_declarator}
+use Rattle.rules.specs.Expressions.Settled.{IsSettled}
+use Rattle.rules.proofs.Expressions.Settled.{no_conditional, no_side, no_unused, no_list, no_indirect, no_one_sided, no_sequence, no_two_sides, no_object, no_known, no_known_if, no_dead_if, no_try, no_unreached, no_untaken, no_idle, no_value}
+use Rattle.rules.specs.Imports.Quiet.{ImportsUsed}
+use Rattle.rules.proofs.Imports.Used.{no_unused_name}
+use Rattle.rules.proofs.Imports.Repeating.{none_repeats}
 use Rattle.rules_clean.proofs.Deciding.{expressions_rest}
 use Rattle.rules_clean.proofs.Dying.{rules_rest}
 use Rattle.rules_clean.proofs.Importing.{imports_rest}

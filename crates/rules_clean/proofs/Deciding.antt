@@ -2,8 +2,8 @@
 use Rattle.std.proofs.Common.{Bool, Some}
 use Rattle.js_syntax.specs.Node.{Forest}
 use Rattle.headline.specs.Clean.{CleanBut, a_known_conditional, a_known_side, an_unused_operation, an_unused_list, an_indirect_choice, a_one_sided_choice, idle_parts, two_sides, an_unused_object, a_known_operation, a_known_if, a_dead_if, an_unreached_statement, an_untaken_statement, an_unrun_value, an_idle_statement, an_idle_try}
-use Rattle.rules_expressions.specs.Settled.{IsSettled}
-use Rattle.rules_expressions.proofs.Settled.{is_settled}
+use Rattle.rules.specs.Expressions.Settled.{IsSettled}
+use Rattle.rules.proofs.Expressions.Settled.{is_settled}
 
 pub expressions_rest : (unused imports : Bool) (t : Forest) → CleanBut unused imports t → IsSettled t
 expressions_rest unused imports t clean =

@@ -17,25 +17,25 @@ use Rattle.scope_laws.specs.Place as places
 use Rattle.scope_laws.specs.Place.{first, placed}
 use Rattle.scope_counts.specs.Edits as counts
 use Rattle.scope_counts.specs.Edits.{under, plug}
-use Rattle.steps_allowed.specs.Arranged.{are_declarators}
-use Rattle.steps_allowed.specs.EmptyBlock.{holds_nothing, empty_block_leaves}
-use Rattle.steps_allowed.specs.Places.{a_node}
-use Rattle.steps_allowed.specs.SilentStatement.{a_statement}
-use Rattle.steps_allowed.specs.UnusedFunction.{a_function, UnusedFunction, unused_function_leaves}
-use Rattle.steps_allowed.specs.UnusedDeclarator.{a_declarator}
-use Rattle.steps_marked.specs.Flags.{scope_has, is_sloppy_block}
+use Rattle.steps.specs.Allowed.Arranged.{are_declarators}
+use Rattle.steps.specs.Allowed.EmptyBlock.{holds_nothing, empty_block_leaves}
+use Rattle.steps.specs.Allowed.Places.{a_node}
+use Rattle.steps.specs.Allowed.SilentStatement.{a_statement}
+use Rattle.steps.specs.Allowed.UnusedFunction.{a_function, UnusedFunction, unused_function_leaves}
+use Rattle.steps.specs.Allowed.UnusedDeclarator.{a_declarator}
+use Rattle.steps.specs.Marked.Flags.{scope_has, is_sloppy_block}
 use Rattle.headline.specs.Clean.{CleanBut, IsDead, an_empty_statement, an_empty_block, a_silent_statement, an_unused_function, an_unused_declarator}
 use Rattle.js_syntax.proofs.Truth.{not_true}
-use Rattle.rules_dead_code.specs.Rules.{Facts, Where, has_with, where_of, scope_of, is_unlisted, is_global, function_is_unused, variable_is_unused, is_silent_statement, one_goes, item_has_dead, has_dead}
-use Rattle.rules_dead_code.specs.Knows.{Knows}
-use Rattle.rules_dead_code.specs.Quiet.{IsQuiet}
-use Rattle.rules_dead_code.proofs.Keeping.{Known}
-use Rattle.rules_dead_code.proofs.LaidOut.{is_laid_at, laid_here}
-use Rattle.rules_dead_code.proofs.Places.{to, plugged, join, plug_join, is_row, asked_to, with_is}
-use Rattle.rules_dead_code.proofs.Leaving.{Quiet, statement_silent, function_unused, declarator_unused}
-use Rattle.rules_dead_code.proofs.Items.{IsItems, items_where, item_there, knows_there, known_laid, item_scope, declaration, in_declaration, declarator_plugged, declarator_there, declarator_with, declarator_declares}
-use Rattle.rules_dead_code.proofs.Trimming.{Goes, a_name, goes_view}
-use Rattle.rules_dead_code.proofs.Splitting.{list_items}
+use Rattle.rules.specs.DeadCode.Rules.{Facts, Where, has_with, where_of, scope_of, is_unlisted, is_global, function_is_unused, variable_is_unused, is_silent_statement, one_goes, item_has_dead, has_dead}
+use Rattle.rules.specs.DeadCode.Knows.{Knows}
+use Rattle.rules.specs.DeadCode.Quiet.{IsQuiet}
+use Rattle.rules.proofs.DeadCode.Keeping.{Known}
+use Rattle.rules.proofs.DeadCode.LaidOut.{is_laid_at, laid_here}
+use Rattle.rules.proofs.DeadCode.Places.{to, plugged, join, plug_join, is_row, asked_to, with_is}
+use Rattle.rules.proofs.DeadCode.Leaving.{Quiet, statement_silent, function_unused, declarator_unused}
+use Rattle.rules.proofs.DeadCode.Items.{IsItems, items_where, item_there, knows_there, known_laid, item_scope, declaration, in_declaration, declarator_plugged, declarator_there, declarator_with, declarator_declares}
+use Rattle.rules.proofs.DeadCode.Trimming.{Goes, a_name, goes_view}
+use Rattle.rules.proofs.DeadCode.Splitting.{list_items}
 use Rattle.rules_clean.proofs.Finding.{dead_item, dead_declarator, declarator_of}
 
 wrong : {P : Type 0} → false ≡ true → P

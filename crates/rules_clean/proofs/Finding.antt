@@ -5,10 +5,10 @@ use Rattle.js_syntax.specs.declared.node_kind.NodeKind.{NodeKind as Kind}
 use Rattle.js_syntax.specs.declared.kind.VariableKind.{VariableKind}
 use Rattle.js_syntax.specs.Node.{Forest, Note, nothing, node, absent}
 use Rattle.scope_counts.specs.Edits.{Around, here, behind, behind_none, under, plug}
-use Rattle.steps_allowed.specs.Arranged.{is_declarator, are_declarators}
-use Rattle.rules_dead_code.specs.Rules.{Facts, Where, declarator_goes, one_goes, item_has_dead, has_dead}
-use Rattle.rules_dead_code.proofs.Places.{is_row}
-use Rattle.rules_imports.specs.Rules as imports
+use Rattle.steps.specs.Allowed.Arranged.{is_declarator, are_declarators}
+use Rattle.rules.specs.DeadCode.Rules.{Facts, Where, declarator_goes, one_goes, item_has_dead, has_dead}
+use Rattle.rules.proofs.DeadCode.Places.{is_row}
+use Rattle.rules.specs.Imports.Rules as imports
 
 wrong : {P : Type 0} → false ≡ true → P
 wrong e = absurd (true≢false (sym e))

@@ -7,19 +7,19 @@ use Rattle.js_syntax.specs.Node.{Forest, Tree, Note, nothing, node}
 use Rattle.min_context.specs.Place.{place_at}
 use Rattle.scope_counts.specs.Edits as counts
 use Rattle.scope_counts.specs.Edits.{plug}
-use Rattle.steps_allowed.specs.UnusedImport.{an_imported}
+use Rattle.steps.specs.Allowed.UnusedImport.{an_imported}
 use Rattle.headline.specs.Clean.{CleanBut, an_unused_import, a_repeated_import}
-use Rattle.rules_dead_code.specs.Rules.{Facts, where_of}
-use Rattle.rules_dead_code.specs.Knows.{Knows}
-use Rattle.rules_dead_code.proofs.Keeping.{Known}
-use Rattle.rules_dead_code.proofs.Places.{to, is_row}
-use Rattle.rules_expressions.proofs.Becoming.{none_of}
-use Rattle.rules_imports.specs.Rules.{pruned}
-use Rattle.rules_imports.specs.Quiet.{ImportsUsed}
-use Rattle.rules_imports.proofs.Pruned.{an_import_of, Goes, a_name, goes_view, prunes}
-use Rattle.rules_imports.proofs.Places.{an_import, in_import, name_plugged, name_there, name_declares}
-use Rattle.rules_imports.proofs.Leaving.{name_unused}
-use Rattle.rules_imports.proofs.Repeating.{once_without}
+use Rattle.rules.specs.DeadCode.Rules.{Facts, where_of}
+use Rattle.rules.specs.DeadCode.Knows.{Knows}
+use Rattle.rules.proofs.DeadCode.Keeping.{Known}
+use Rattle.rules.proofs.DeadCode.Places.{to, is_row}
+use Rattle.rules.proofs.Expressions.Becoming.{none_of}
+use Rattle.rules.specs.Imports.Rules.{pruned}
+use Rattle.rules.specs.Imports.Quiet.{ImportsUsed}
+use Rattle.rules.proofs.Imports.Pruned.{an_import_of, Goes, a_name, goes_view, prunes}
+use Rattle.rules.proofs.Imports.Places.{an_import, in_import, name_plugged, name_there, name_declares}
+use Rattle.rules.proofs.Imports.Leaving.{name_unused}
+use Rattle.rules.proofs.Imports.Repeating.{once_without}
 use Rattle.rules_clean.proofs.Finding.{unused_name}
 use Rattle.rules_clean.proofs.Dying.{HasDead, clean_has_none, here_dead, variable_unkept}
 

@@ -11,32 +11,32 @@ use Rattle.json_shape.specs.Shape.{one as one_of, list, these, Stand, Fits}
 use Rattle.min_context.specs.Place.{Place}
 use Rattle.scope_counts.specs.Edits.{here, under}
 use Rattle.scope_counts.specs.Scopes.{unmarked}
-use Rattle.steps_allowed.specs.Rows.{before}
+use Rattle.steps.specs.Allowed.Rows.{before}
 use Rattle.headline.specs.Clean.{Clean, an_unused_function}
 use Rattle.headline.proofs.Renoted.{clean_as}
-use Rattle.rules_dead_code.specs.Knows.{Knows}
-use Rattle.rules_dead_code.specs.Quiet.{Exactly, IsQuiet, IsQuietAt}
-use Rattle.rules_dead_code.specs.Rules.{Facts, where_of, has_dead, emptied}
-use Rattle.rules_dead_code.proofs.New.{new_known}
-use Rattle.rules_dead_code.proofs.Tried.{told_only}
-use Rattle.rules_dead_code.proofs.Walked.{quiet_nodes}
-use Rattle.rules_imports.specs.Quiet.{ImportsUsed}
-use Rattle.rules_imports.proofs.Walked.{imports_used}
-use Rattle.rules_expressions.specs.Uses.{spot_of}
-use Rattle.rules_expressions.specs.Known.{conditional_becomes, logical_becomes}
-use Rattle.rules_expressions.specs.Unused.{unused_becomes}
-use Rattle.rules_expressions.specs.Lists.{unused_list_becomes}
-use Rattle.rules_expressions.specs.Indirect.{indirect_becomes}
-use Rattle.rules_expressions.specs.OneSided.{one_sided_becomes}
-use Rattle.rules_expressions.specs.Sequences.{sequence_left}
-use Rattle.rules_expressions.specs.TwoSides.{two_sides_become}
-use Rattle.rules_expressions.specs.Objects.{object_left}
-use Rattle.rules_expressions.specs.Operations.{known_becomes}
-use Rattle.rules_expressions.specs.Ifs.{if_becomes}
-use Rattle.rules_expressions.specs.Jumps.{list_reached}
-use Rattle.rules_expressions.specs.Untaken.{if_left}
-use Rattle.rules_expressions.specs.Settled.{IsSettledAt, IsSettled}
-use Rattle.rules_expressions.proofs.Walked.{settled_nodes}
+use Rattle.rules.specs.DeadCode.Knows.{Knows}
+use Rattle.rules.specs.DeadCode.Quiet.{Exactly, IsQuiet, IsQuietAt}
+use Rattle.rules.specs.DeadCode.Rules.{Facts, where_of, has_dead, emptied}
+use Rattle.rules.proofs.DeadCode.New.{new_known}
+use Rattle.rules.proofs.DeadCode.Tried.{told_only}
+use Rattle.rules.proofs.DeadCode.Walked.{quiet_nodes}
+use Rattle.rules.specs.Imports.Quiet.{ImportsUsed}
+use Rattle.rules.proofs.Imports.Walked.{imports_used}
+use Rattle.rules.specs.Expressions.Uses.{spot_of}
+use Rattle.rules.specs.Expressions.Known.{conditional_becomes, logical_becomes}
+use Rattle.rules.specs.Expressions.Unused.{unused_becomes}
+use Rattle.rules.specs.Expressions.Lists.{unused_list_becomes}
+use Rattle.rules.specs.Expressions.Indirect.{indirect_becomes}
+use Rattle.rules.specs.Expressions.OneSided.{one_sided_becomes}
+use Rattle.rules.specs.Expressions.Sequences.{sequence_left}
+use Rattle.rules.specs.Expressions.TwoSides.{two_sides_become}
+use Rattle.rules.specs.Expressions.Objects.{object_left}
+use Rattle.rules.specs.Expressions.Operations.{known_becomes}
+use Rattle.rules.specs.Expressions.Ifs.{if_becomes}
+use Rattle.rules.specs.Expressions.Jumps.{list_reached}
+use Rattle.rules.specs.Expressions.Untaken.{if_left}
+use Rattle.rules.specs.Expressions.Settled.{IsSettledAt, IsSettled}
+use Rattle.rules.proofs.Expressions.Walked.{settled_nodes}
 use Rattle.rules_clean.proofs.Cleaned.{clean}
 use Rattle.rules_clean.specs.Samples.{a_function_of_a_script, a_function_of_a_module, known_of_the_script, taken_for_a_module, taken_for_exported}
 

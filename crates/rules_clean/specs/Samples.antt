@@ -3,8 +3,8 @@ use Rattle.std.specs.Prelude.{[], ◌∷◌, true, false}
 use Rattle.js_syntax.specs.Node.{Forest}
 use Rattle.form_rules.specs.Samples.{a_module, a_script, function_a}
 use Rattle.scope_counts.specs.Tried.{with_marks}
-use Rattle.rules_dead_code.specs.Rules.{Facts}
-use Rattle.rules_dead_code.specs.Samples.{facts_of}
+use Rattle.rules.specs.DeadCode.Rules.{Facts}
+use Rattle.rules.specs.DeadCode.Samples.{facts_of}
 
 -- function a() {}
 abbrev pub a_function_of_a_script : Forest

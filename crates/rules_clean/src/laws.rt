@@ -3,11 +3,11 @@ ghost use Rattle.std.specs.Prelude.{◌↔◌, ℕ, Bool};
 ghost use Rattle.js_syntax.specs.Node.{Forest};
 ghost use Rattle.scope_counts.specs.Scopes.{unmarked};
 ghost use Rattle.headline.specs.Clean.{CleanBut};
-ghost use Rattle.rules_dead_code.specs.Rules.{Facts};
-ghost use Rattle.rules_dead_code.specs.Knows.{Knows};
-ghost use Rattle.rules_dead_code.specs.Quiet.{Exactly, IsQuiet};
-ghost use Rattle.rules_imports.specs.Quiet.{ImportsUsed};
-ghost use Rattle.rules_expressions.specs.Settled.{IsSettled};
+ghost use Rattle.rules.specs.DeadCode.Rules.{Facts};
+ghost use Rattle.rules.specs.DeadCode.Knows.{Knows};
+ghost use Rattle.rules.specs.DeadCode.Quiet.{Exactly, IsQuiet};
+ghost use Rattle.rules.specs.Imports.Quiet.{ImportsUsed};
+ghost use Rattle.rules.specs.Expressions.Settled.{IsSettled};
 
 /// Law: of a program without dead code, but for what is kept, the rules take nothing out, of its lists and of its imports, by whatever is known of it, and whichever ids are marked; and no
 /// expression of it comes to its parts, whatever is known.

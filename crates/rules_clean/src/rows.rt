@@ -1,8 +1,8 @@
 // Small programs, by computing.
 ghost use Rattle.scope_counts.specs.Scopes.{unmarked};
 ghost use Rattle.headline.specs.Clean.{Clean};
-ghost use Rattle.rules_dead_code.specs.Knows.{Knows};
-ghost use Rattle.rules_dead_code.specs.Quiet.{IsQuiet};
+ghost use Rattle.rules.specs.DeadCode.Knows.{Knows};
+ghost use Rattle.rules.specs.DeadCode.Quiet.{IsQuiet};
 ghost use Rattle.rules_clean.specs.Samples.{a_function_of_a_script, a_function_of_a_module, taken_for_a_module, taken_for_exported};
 
 /// What is known has to be so. Other scripts may use a function of a script (ECMA-262 16.1.7), so it is no dead code; where the

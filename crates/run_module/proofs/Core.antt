@@ -6,7 +6,7 @@ use Rattle.js_syntax.specs.Facts.{is_core}
 use Rattle.js_syntax.specs.Node.{Forest, nothing, node, absent}
 use Rattle.js_tree.specs.Count.{one_each, node_count}
 use Rattle.steps.specs.Steps.{all_core}
-use Rattle.steps_fit.specs.Sensible.{is_core_module}
+use Rattle.steps.specs.Fit.Sensible.{is_core_module}
 use Rattle.run_covered.specs.Covered.{either, first_in, first_outside}
 
 none_of : (b : Bool) (x y : Option ℕ) (p : ℕ) → (if b then either x y else Some p) ≡ None → (b ≡ true) × (x ≡ None) × (y ≡ None)

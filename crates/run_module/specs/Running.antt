@@ -10,7 +10,7 @@ use Rattle.json_text.specs.Reading.{read_program}
 use Rattle.form_rules.specs.Form.{IsWellFormed}
 use Rattle.min_driver.specs.Limit.{IsWithinLimits}
 -- a module whose nodes are all of the core of the language, for which runs are defined
-use Rattle.steps_fit.specs.Sensible.{is_core_module}
+use Rattle.steps.specs.Fit.Sensible.{is_core_module}
 use Rattle.run_script.specs.Script.{Input, script_of, read_script}
 use Rattle.run_text.specs.Text.{text_of}
 

@@ -1,7 +1,7 @@
 // What holds of the definitions themselves.
 ghost use Rattle.std.specs.Prelude.{◌≡◌, None, true};
 ghost use Rattle.js_syntax.specs.Node.{Forest};
-ghost use Rattle.steps_fit.specs.Sensible.{is_core_module};
+ghost use Rattle.steps.specs.Fit.Sensible.{is_core_module};
 ghost use Rattle.run_covered.specs.Covered.{first_outside};
 
 /// Law: a program in which no first node outside the core is found is a core module, as the promises on shaken programs

@@ -1,3 +1,11 @@
 pub mod Among
 pub mod Silent
 pub mod Steps
+pub mod KeepRuns
+pub mod KeepForm
+pub mod KeepTable
+pub mod Naming
+pub mod Allowed
+pub mod Fit
+pub mod Owed
+pub mod Marked

@@ -1,3 +1,10 @@
 pub mod Names
 pub mod Steps
 pub mod Rows
+pub mod KeepRuns
+pub mod KeepForm
+pub mod Naming
+pub mod Allowed
+pub mod Fit
+pub mod Owed
+pub mod Marked

@@ -3,9 +3,9 @@ use Rattle.std.proofs.Common.{◌≡◌, ◌≤◌, ℕ, false, arith}
 use Rattle.js_syntax.specs.Class.{root}
 use Rattle.js_syntax.specs.Node.{Forest, bare}
 use Rattle.json_shape.specs.Shape.{Fits}
-use Rattle.steps_allowed.specs.Edits.{Edits, no_edit, one_edit}
-use Rattle.steps_owed.proofs.FitsEdits.{edit_fits, renoted_fits}
-use Rattle.steps_marked.proofs.Cuts.{Cuts, edit_cuts}
+use Rattle.steps.specs.Allowed.Edits.{Edits, no_edit, one_edit}
+use Rattle.steps.proofs.Owed.FitsEdits.{edit_fits, renoted_fits}
+use Rattle.steps.proofs.Marked.Cuts.{Cuts, edit_cuts}
 
 -- a measure of trees that doesn't see their notes, and to which no edit adds
 pub record IsShed (measure : Forest → ℕ) : Type 0 where

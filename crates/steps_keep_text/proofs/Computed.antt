@@ -4,13 +4,13 @@ use Rattle.js_syntax.specs.declared.operator.LogicalOperator.TheVariants as oper
 use Rattle.js_syntax.specs.Node.{nothing, nowhere}
 use Rattle.form_rules.specs.Samples.{a_module, a, reads, one, does}
 use Rattle.scope_laws.specs.Place.{Around, first}
-use Rattle.steps_allowed.specs.SilentStatement.{silent_statement_empties}
-use Rattle.steps_allowed.specs.EmptyStatement.{empty_statement_leaves}
-use Rattle.steps_allowed.specs.KnownConditional.{consequent_is_taken}
-use Rattle.steps_allowed.specs.KnownSide.{right_side_counts}
-use Rattle.steps_allowed.specs.IndirectChoice.{value_alone_counts}
-use Rattle.steps_allowed.specs.Edits.{TreeEdits, no_tree_edit, one_tree_edit, leaves, becomes, empty_statement, silent_statement, known_conditional, known_side, indirect_choice}
-use Rattle.steps_allowed.specs.Rows.{in_statement, before, called, call_of_a, null, conditional, logical, empty}
+use Rattle.steps.specs.Allowed.SilentStatement.{silent_statement_empties}
+use Rattle.steps.specs.Allowed.EmptyStatement.{empty_statement_leaves}
+use Rattle.steps.specs.Allowed.KnownConditional.{consequent_is_taken}
+use Rattle.steps.specs.Allowed.KnownSide.{right_side_counts}
+use Rattle.steps.specs.Allowed.IndirectChoice.{value_alone_counts}
+use Rattle.steps.specs.Allowed.Edits.{TreeEdits, no_tree_edit, one_tree_edit, leaves, becomes, empty_statement, silent_statement, known_conditional, known_side, indirect_choice}
+use Rattle.steps.specs.Allowed.Rows.{in_statement, before, called, call_of_a, null, conditional, logical, empty}
 use Rattle.steps_keep_text.specs.Samples.{calls_choice, calls_behind_zero}
 
 pub statement_goes : TreeEdits (a_module (does one ∷ [])) (a_module [])

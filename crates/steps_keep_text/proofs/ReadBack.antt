@@ -18,8 +18,8 @@ use Rattle.json_kept.proofs.Signable.{read_exact_sizes}
 use Rattle.json_kept.proofs.SignsFit.{signed_readable, exact_may}
 use Rattle.json_kept.proofs.SignsWritten.{data_signed, signed_itself}
 use Rattle.json_kept.proofs.Texts.{readable_text}
-use Rattle.steps_allowed.specs.Edits.{Edits}
-use Rattle.steps_owed.proofs.FitsEdits.{edits_fit}
+use Rattle.steps.specs.Allowed.Edits.{Edits}
+use Rattle.steps.proofs.Owed.FitsEdits.{edits_fit}
 use Rattle.steps_keep_text.proofs.StillRead.{fewer_negative, left_exact_sizes, left_readable, left_signable}
 
 -- a signable tree is read back with its signs applied

@@ -13,7 +13,7 @@ use Rattle.js_meaning_near.specs.Signed.{signed, NodeMayBeSigned, MayBeSigned}
 use Rattle.js_meaning_near.proofs.Alike.{alike_bare, place_alike}
 use Rattle.js_meaning_near.proofs.Near.{refines_without_notes}
 use Rattle.js_meaning_near.proofs.Signed.{signed_refines}
-use Rattle.steps_fit.specs.Sensible.{IsSensibleModule}
+use Rattle.steps.specs.Fit.Sensible.{IsSensibleModule}
 
 -- ---- signs and notes don't depend on one another
 

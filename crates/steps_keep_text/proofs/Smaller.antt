@@ -7,8 +7,8 @@ use Rattle.js_tree.specs.Count.{one_each, node_count, lower, levels_at, levels}
 use Rattle.json_kept.proofs.Depths.{total_joined}
 use Rattle.scope_laws.specs.Lists.{is_list}
 use Rattle.scope_laws.proofs.Notes.{total_bare, unseen}
-use Rattle.steps_marked.proofs.Cuts as cuts
-use Rattle.steps_marked.proofs.Cuts.{Cuts}
+use Rattle.steps.proofs.Marked.Cuts as cuts
+use Rattle.steps.proofs.Marked.Cuts.{Cuts}
 use Rattle.steps_keep_text.proofs.Along.{IsShed}
 use Rattle.steps_keep_text.proofs.Picked.{IsSparing, picked_counts}
 

@@ -13,9 +13,9 @@ use Rattle.json_shape.specs.Exact.{is_exact_number, inexact, IsExact}
 use Rattle.json_shape.specs.Readable.{IsReadable}
 use Rattle.json_kept.specs.Respelled.{negative, misnamed, IsWrittenAsItIs}
 use Rattle.json_kept.specs.Signs.{inexact_size, IsSignable}
-use Rattle.steps_allowed.specs.Edits.{Edits}
-use Rattle.steps_owed.proofs.FitsEdits.{edits_fit}
-use Rattle.steps_owed.proofs.KnownSizes.{IsSmall}
+use Rattle.steps.specs.Allowed.Edits.{Edits}
+use Rattle.steps.proofs.Owed.FitsEdits.{edits_fit}
+use Rattle.steps.proofs.Owed.KnownSizes.{IsSmall}
 use Rattle.steps_keep_text.proofs.Along.{edits_shed}
 use Rattle.steps_keep_text.proofs.Picked.{uncounted}
 use Rattle.steps_keep_text.proofs.Smaller.{counts_shed}

@@ -3,7 +3,7 @@ use Rattle.std.specs.Prelude.{[], ◌∷◌, false}
 use Rattle.js_syntax.specs.declared.node_kind.NodeKind.{NodeKind as Kind}
 use Rattle.js_syntax.specs.Node.{Forest, joined}
 use Rattle.form_rules.specs.Samples.{over, listed, a_module, one, does}
-use Rattle.steps_allowed.specs.Rows.{conditional, null, o_f, behind_zero}
+use Rattle.steps.specs.Allowed.Rows.{conditional, null, o_f, behind_zero}
 
 -- e();
 abbrev pub does_call : Forest → Forest

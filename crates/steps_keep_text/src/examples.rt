@@ -5,8 +5,8 @@ ghost use Rattle.js_tree.specs.Count.{node_count, levels};
 ghost use Rattle.form_rules.specs.Samples.{a_module, a, reads, one, does};
 ghost use Rattle.json_text.specs.Text.{data_of};
 ghost use Rattle.js_syntax.specs.declared.operator.LogicalOperator.TheVariants as operator;
-ghost use Rattle.steps_allowed.specs.Rows.{call_of_a, null, conditional, logical, empty};
-ghost use Rattle.steps_allowed.specs.Edits.{TreeEdits};
+ghost use Rattle.steps.specs.Allowed.Rows.{call_of_a, null, conditional, logical, empty};
+ghost use Rattle.steps.specs.Allowed.Edits.{TreeEdits};
 ghost use Rattle.steps_keep_text.specs.Samples.{calls_choice, calls_behind_zero};
 
 /// Of `1;` edits leave `;`, and then nothing.

@@ -10,7 +10,7 @@ ghost use Rattle.json_shape.specs.Exact.{IsExact};
 ghost use Rattle.json_shape.specs.Readable.{IsReadable};
 ghost use Rattle.json_kept.specs.Respelled.{negative, misnamed, IsWrittenAsItIs};
 ghost use Rattle.json_kept.specs.Signs.{inexact_size, IsSignable};
-ghost use Rattle.steps_allowed.specs.Edits.{TreeEdits, Edits};
+ghost use Rattle.steps.specs.Allowed.Edits.{TreeEdits, Edits};
 
 /// Law: what edits leave of a program that fits the table of node types and whose values are exact has exact values, and is
 /// readable where its text keeps JSON's limit of nesting; and where its values are exact but for their signs, so is it with unary

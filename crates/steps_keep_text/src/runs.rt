@@ -5,8 +5,8 @@ ghost use Rattle.js_meaning.specs.Kept.{Refined};
 ghost use Rattle.js_meaning_near.specs.Signed.{signed};
 ghost use Rattle.json_text.specs.Answer.{IsReadAs};
 ghost use Rattle.json_kept.specs.Respelled.{misnamed};
-ghost use Rattle.steps_allowed.specs.Edits.{Edits};
-ghost use Rattle.steps_fit.specs.Sensible.{IsSensibleModule};
+ghost use Rattle.steps.specs.Allowed.Edits.{Edits};
+ghost use Rattle.steps.specs.Fit.Sensible.{IsSensibleModule};
 
 /// Law: what the text is read as of a core module that edits leave of a program that was read refines the module: each run is the
 /// same, but that behind what isn't covered it may go on as it likes. So whatever the module refines, its text does. Of the program

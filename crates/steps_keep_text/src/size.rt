@@ -4,7 +4,7 @@ ghost use Rattle.js_syntax.specs.Class.{root};
 ghost use Rattle.js_syntax.specs.Node.{Forest};
 ghost use Rattle.js_tree.specs.Count.{node_count, levels};
 ghost use Rattle.json_shape.specs.Shape.{Fits};
-ghost use Rattle.steps_allowed.specs.Edits.{TreeEdits, Edits};
+ghost use Rattle.steps.specs.Allowed.Edits.{TreeEdits, Edits};
 
 /// Law: what edits leave of a program that fits the table of node types has no more nodes, and no more levels; edits of its tree,
 /// and edits of a program, whose spans and ids don't matter.

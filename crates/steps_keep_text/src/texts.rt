@@ -7,7 +7,7 @@ ghost use Rattle.js_meaning_near.specs.Signed.{signed, MayBeSigned};
 ghost use Rattle.json_text.specs.Answer.{IsReadAs};
 ghost use Rattle.json_text.specs.Text.{data_of, text_of};
 ghost use Rattle.json_kept.specs.Respelled.{negative, misnamed, IsWrittenAsItIs};
-ghost use Rattle.steps_allowed.specs.Edits.{Edits};
+ghost use Rattle.steps.specs.Allowed.Edits.{Edits};
 
 /// Law: where edits lead from a program that was read, and the text of what they leave keeps JSON's limit of nesting, that text is
 /// read as what they leave, without spans and ids, if each value of the program is written as what it is. Else it is read as that

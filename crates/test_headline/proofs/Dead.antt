@@ -23,31 +23,31 @@ use Rattle.scope_rules.specs.Samples.{imports}
 use Rattle.scope_rules.specs.Binding.{Binding, named_in, declared_by, binding_of}
 use Rattle.scope_laws.specs.Exact.{Among}
 use Rattle.scope_laws.specs.Place.{Around, first, behind, behind_none, under, plug}
-use Rattle.steps_names.specs.Standing.{exported_declarations}
+use Rattle.steps.specs.Naming.Standing.{exported_declarations}
 use Rattle.steps.specs.Steps.{binds_import}
-use Rattle.steps_allowed.specs.Rows.{null, logical as either, value_of_a, in_list, in_statement, past, throws, statement, called, argument, before, sequence, applied, call_of_a, call_of_eval, exports_declaration, empty, only_import, behind_import}
-use Rattle.steps_allowed.specs.KnownConditional.{consequent_is_taken, alternate_is_taken}
-use Rattle.steps_allowed.specs.KnownSide.{right_side_counts, left_side_decides}
-use Rattle.steps_allowed.specs.UnusedOperation.{needed_at, one_operand_acts}
-use Rattle.steps_allowed.specs.UnusedList.{list_becomes, acting_parts_stay}
-use Rattle.steps_allowed.specs.IndirectChoice.{part_counts, value_alone_counts}
-use Rattle.steps_allowed.specs.OneSidedChoice.{one_sided, one_branch_acts}
-use Rattle.steps_allowed.specs.IdleParts.{sequence_becomes, idle_parts_leave}
-use Rattle.steps_allowed.specs.TwoSides.{two_sides as two_sides_at, both_sides_act}
-use Rattle.steps_allowed.specs.UnusedObject.{object_becomes, acting_values_stay}
-use Rattle.steps_allowed.specs.KnownOperation.{known_literal, value_is_known, negative_is_known}
-use Rattle.steps_owed.proofs.KnownOperation.{Negative, under_one, under_two, is_negative_known}
-use Rattle.steps_allowed.specs.KnownIf.{consequent_is_run, alternate_is_run}
-use Rattle.steps_allowed.specs.DeadIf.{nothing_is_run}
-use Rattle.steps_allowed.specs.EmptyBlock.{holds_nothing, empty_block_leaves}
-use Rattle.steps_allowed.specs.Unreached.{only_runs, never_runs}
-use Rattle.steps_allowed.specs.Untaken.{never_taken}
-use Rattle.steps_allowed.specs.RepeatedImport.{repeated_import_leaves}
-use Rattle.steps_allowed.specs.IdleStatement.{idle_leaves}
-use Rattle.steps_allowed.specs.IdleTry.{finalizer_is_run, finalizer_is_run_alone, block_is_run}
-use Rattle.steps_allowed.specs.UnrunValue.{is_value_of, is_value, value_never_given}
-use Rattle.steps_allowed.specs.Uses.{Use}
-use Rattle.steps_owed.proofs.IdleStatement.{idle_runs}
+use Rattle.steps.specs.Allowed.Rows.{null, logical as either, value_of_a, in_list, in_statement, past, throws, statement, called, argument, before, sequence, applied, call_of_a, call_of_eval, exports_declaration, empty, only_import, behind_import}
+use Rattle.steps.specs.Allowed.KnownConditional.{consequent_is_taken, alternate_is_taken}
+use Rattle.steps.specs.Allowed.KnownSide.{right_side_counts, left_side_decides}
+use Rattle.steps.specs.Allowed.UnusedOperation.{needed_at, one_operand_acts}
+use Rattle.steps.specs.Allowed.UnusedList.{list_becomes, acting_parts_stay}
+use Rattle.steps.specs.Allowed.IndirectChoice.{part_counts, value_alone_counts}
+use Rattle.steps.specs.Allowed.OneSidedChoice.{one_sided, one_branch_acts}
+use Rattle.steps.specs.Allowed.IdleParts.{sequence_becomes, idle_parts_leave}
+use Rattle.steps.specs.Allowed.TwoSides.{two_sides as two_sides_at, both_sides_act}
+use Rattle.steps.specs.Allowed.UnusedObject.{object_becomes, acting_values_stay}
+use Rattle.steps.specs.Allowed.KnownOperation.{known_literal, value_is_known, negative_is_known}
+use Rattle.steps.proofs.Owed.KnownOperation.{Negative, under_one, under_two, is_negative_known}
+use Rattle.steps.specs.Allowed.KnownIf.{consequent_is_run, alternate_is_run}
+use Rattle.steps.specs.Allowed.DeadIf.{nothing_is_run}
+use Rattle.steps.specs.Allowed.EmptyBlock.{holds_nothing, empty_block_leaves}
+use Rattle.steps.specs.Allowed.Unreached.{only_runs, never_runs}
+use Rattle.steps.specs.Allowed.Untaken.{never_taken}
+use Rattle.steps.specs.Allowed.RepeatedImport.{repeated_import_leaves}
+use Rattle.steps.specs.Allowed.IdleStatement.{idle_leaves}
+use Rattle.steps.specs.Allowed.IdleTry.{finalizer_is_run, finalizer_is_run_alone, block_is_run}
+use Rattle.steps.specs.Allowed.UnrunValue.{is_value_of, is_value, value_never_given}
+use Rattle.steps.specs.Allowed.Uses.{Use}
+use Rattle.steps.proofs.Owed.IdleStatement.{idle_runs}
 use Rattle.headline.specs.Headline.{ImportsAreUsed}
 use Rattle.headline.specs.Clean.{IsDead, an_empty_statement, an_empty_block, a_silent_statement, an_unused_function, an_unused_declarator, an_unused_import, a_known_conditional, a_known_side, an_unused_operation, an_unused_list, an_indirect_choice, a_one_sided_choice, idle_parts, two_sides, an_unused_object, a_known_operation, a_known_if, a_dead_if, an_unreached_statement, an_untaken_statement, an_unrun_value, an_idle_statement, a_repeated_import, an_idle_try, Clean}
 use Rattle.min_peephole.specs.Quiet.{is_quiet}

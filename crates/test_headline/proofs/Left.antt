@@ -17,19 +17,19 @@ use Rattle.js_meaning.specs.Examples.{g, says_number}
 use Rattle.json_text.specs.Text.{is_identifier_name}
 use Rattle.json_shape.specs.Shape.{one, these, all, all_or_holes, all_of_body, Stand, Fits}
 use Rattle.scope_laws.specs.Place.{Around, first}
-use Rattle.steps_allowed.specs.EmptyStatement.{empty_statement_leaves}
-use Rattle.steps_allowed.specs.SilentStatement.{silent_statement_empties}
-use Rattle.steps_allowed.specs.UnusedOperation.{one_operand_acts}
-use Rattle.steps_allowed.specs.UnusedList.{acting_parts_stay}
-use Rattle.steps_allowed.specs.IndirectChoice.{value_alone_counts}
-use Rattle.steps_allowed.specs.OneSidedChoice.{one_branch_acts}
-use Rattle.steps_allowed.specs.IdleParts.{idle_parts_leave}
-use Rattle.steps_allowed.specs.TwoSides.{both_sides_act}
-use Rattle.steps_allowed.specs.UnusedObject.{acting_values_stay}
-use Rattle.steps_allowed.specs.KnownOperation.{value_is_known}
-use Rattle.steps_allowed.specs.Edits.{no_tree_edit, one_tree_edit, leaves, becomes, empty_statement, silent_statement, unused_operation, unused_list, indirect_choice, one_sided_choice, idle_parts, two_sides, unused_object, known_operation}
-use Rattle.steps_allowed.specs.Rows.{in_list, past, statement, called, call_of_a, sequence, applied, equals, null}
-use Rattle.steps_allowed.proofs.Composing.{tree_edits_are_edits}
+use Rattle.steps.specs.Allowed.EmptyStatement.{empty_statement_leaves}
+use Rattle.steps.specs.Allowed.SilentStatement.{silent_statement_empties}
+use Rattle.steps.specs.Allowed.UnusedOperation.{one_operand_acts}
+use Rattle.steps.specs.Allowed.UnusedList.{acting_parts_stay}
+use Rattle.steps.specs.Allowed.IndirectChoice.{value_alone_counts}
+use Rattle.steps.specs.Allowed.OneSidedChoice.{one_branch_acts}
+use Rattle.steps.specs.Allowed.IdleParts.{idle_parts_leave}
+use Rattle.steps.specs.Allowed.TwoSides.{both_sides_act}
+use Rattle.steps.specs.Allowed.UnusedObject.{acting_values_stay}
+use Rattle.steps.specs.Allowed.KnownOperation.{value_is_known}
+use Rattle.steps.specs.Allowed.Edits.{no_tree_edit, one_tree_edit, leaves, becomes, empty_statement, silent_statement, unused_operation, unused_list, indirect_choice, one_sided_choice, idle_parts, two_sides, unused_object, known_operation}
+use Rattle.steps.specs.Allowed.Rows.{in_list, past, statement, called, call_of_a, sequence, applied, equals, null}
+use Rattle.steps.proofs.Allowed.Composing.{tree_edits_are_edits}
 use Rattle.headline.specs.Clean.{Clean}
 use Rattle.headline.specs.Headline.{Edits, Headline}
 use Rattle.headline.proofs.Headline.{headline_of}

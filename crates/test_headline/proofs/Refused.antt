@@ -5,10 +5,10 @@ use Rattle.js_syntax.specs.Node.{Forest, bare, total}
 use Rattle.form_rules.specs.Samples.{a_module, a_script, a, binds, one, does, declares, function_a}
 use Rattle.scope_rules.specs.Samples.{imports}
 use Rattle.scope_rules.specs.Mark.{own_binding}
-use Rattle.steps_allowed.specs.Changing.{may_change_somewhere}
-use Rattle.steps_allowed.specs.Rows.{call_of_eval}
-use Rattle.steps_allowed.specs.Edits.{Edits}
-use Rattle.steps_owed.proofs.Edited.{nothing_changes}
+use Rattle.steps.specs.Allowed.Changing.{may_change_somewhere}
+use Rattle.steps.specs.Allowed.Rows.{call_of_eval}
+use Rattle.steps.specs.Allowed.Edits.{Edits}
+use Rattle.steps.proofs.Owed.Edited.{nothing_changes}
 use Rattle.js_meaning.specs.Value.{Shown, plainly, host}
 use Rattle.js_meaning.specs.Trace.{Act, ShownExport, Event, Ending, ended, Run}
 use Rattle.js_meaning.specs.Kept.{Kept, KeptBack, Keeps, ComesBack}

@@ -10,7 +10,7 @@ use Rattle.js_syntax.specs.declared.value.Key.TheVariants as key
 use Rattle.js_syntax.specs.declared.value.LiteralValue.{LiteralValue as Literal}
 use Rattle.js_syntax.specs.Node.{Forest, joined}
 use Rattle.form_rules.specs.Samples as form
-use Rattle.steps_allowed.specs.Rows.{call_of_a, call_of_eval, exports_declaration, breaks_label, finally_alone, labeled, throws, null, if_null, either_way, imports_nothing, conditional, logical as either, applied, equals, array, sequence, behind_zero, while_}
+use Rattle.steps.specs.Allowed.Rows.{call_of_a, call_of_eval, exports_declaration, breaks_label, finally_alone, labeled, throws, null, if_null, either_way, imports_nothing, conditional, logical as either, applied, equals, array, sequence, behind_zero, while_}
 use Rattle.scope_rules.specs.Samples.{imports}
 use Rattle.js_meaning.specs.Samples as sample
 use Rattle.js_meaning.specs.Examples.{g, o, function_g, says_number}

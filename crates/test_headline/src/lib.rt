@@ -5,7 +5,7 @@
 //! function that is called, one without a loop that never ends, one with a call that has got a receiver, and thirteen in which
 //! dead code is left are refused.
 //! Each is refused by what runs show, or by dead code that is left. Programs that lost what other code than
-//! their references may use are refused by the list of edits, by laws of `steps_owed`.
+//! their references may use are refused by the list of edits, by laws of `steps/Owed`.
 //!
 //! What dead code is (`Clean`) is tried too: seventeen small programs have some and ten have none, and of one of each
 //! sort it is told whether the rules leave it as it is.

@@ -10,7 +10,7 @@ ghost use Rattle.headline.specs.Clean.{Clean};
 ghost use Rattle.headline.specs.Headline.{Edits, Headline, loaded, root_names, ImportsAreUsed};
 ghost use Rattle.headline_text.specs.Written.{written};
 ghost use Rattle.min_peephole.specs.Quiet.{is_quiet};
-ghost use Rattle.steps_allowed.specs.Rows.{call_of_a, call_of_eval, exports_declaration, empty};
+ghost use Rattle.steps.specs.Allowed.Rows.{call_of_a, call_of_eval, exports_declaration, empty};
 ghost use Rattle.test_headline.specs.Rows as row;
 
 /// `export let g = 1;` doesn't become empty: at its end the host sees an export less.

@@ -11,13 +11,13 @@ use Rattle.min_pass.specs.declared.around.Around.{Around as Asked}
 use Rattle.min_pass.specs.declared.around.Row.{Row}
 use Rattle.min_pass.specs.declared.around.Row.TheVariants.{Items as items, OfItem as of_item, Declarators as item_declarators, Other as other}
 use Rattle.min_pass.specs.Around.{row_below, entered as asked_below, outermost as asked_of_program}
-use Rattle.steps_allowed.specs.Edits as allowed
-use Rattle.steps_allowed.specs.Edits.{Edit}
-use Rattle.steps_allowed.specs.EmptyStatement.{empty_statement_leaves}
-use Rattle.steps_allowed.specs.Places.{a_node, asked_at}
+use Rattle.steps.specs.Allowed.Edits as allowed
+use Rattle.steps.specs.Allowed.Edits.{Edit}
+use Rattle.steps.specs.Allowed.EmptyStatement.{empty_statement_leaves}
+use Rattle.steps.specs.Allowed.Places.{a_node, asked_at}
 use Rattle.min_traverse.specs.Lawful.{Stays}
-use Rattle.rules_dead_code.proofs.Places.{to, plugged, left_out}
-use Rattle.rules_dead_code.proofs.StaysTrue.{stays}
+use Rattle.rules.proofs.DeadCode.Places.{to, plugged, left_out}
+use Rattle.rules.proofs.DeadCode.StaysTrue.{stays}
 use Rattle.test_traverse.specs.Bodies.{is_list, is_body, list_of_body}
 use Rattle.test_traverse.specs.Cleaning.{BodyEdit, an_empty_statement_leaves}
 

@@ -20,7 +20,7 @@ use Rattle.min_traverse.specs.Edits.{Edits, no_edit, one_edit}
 use Rattle.min_traverse.specs.Lawful.{Lawful}
 use Rattle.min_traverse.specs.Moves.{IsHere, before}
 use Rattle.min_traverse.specs.Visits.{above_place}
-use Rattle.rules_dead_code.proofs.Places.{join, plug_join}
+use Rattle.rules.proofs.DeadCode.Places.{join, plug_join}
 use Rattle.test_traverse.specs.Bodies.{has_empty, without_empty, is_list, is_body, row_of_body, list_of_body}
 use Rattle.test_traverse.specs.Cleaning.{BodyEdit, an_empty_statement_leaves, is_body_above, is_cleaned, clean_of, cleaned}
 use Rattle.test_traverse.proofs.Lists.{View, empty, another, view, ids_stay, lighter}

@@ -7,7 +7,7 @@ ghost use Rattle.js_scoping.specs.Build.{numbered};
 ghost use Rattle.json_shape.specs.Shape.{Fits};
 ghost use Rattle.min_context.specs.Place.{outside};
 ghost use Rattle.min_traverse.specs.Edits.{Edits};
-ghost use Rattle.steps_allowed.specs.Edits.{TreeEdits};
+ghost use Rattle.steps.specs.Allowed.Edits.{TreeEdits};
 ghost use Rattle.symbol_sets.specs.Numbers.{none_below};
 ghost use Rattle.test_traverse.specs.Bodies.{empty_in_bodies};
 ghost use Rattle.test_traverse.specs.Cleaning.{BodyEdit};

@@ -1,14 +1,14 @@
 use Rattle.std.proofs.Common.{subst}
 use Rattle.min_traverse.specs.Lawful.{Rule, Does, either}
 use Rattle.min_traverse.proofs.Joining.{first_does, then_does}
-use Rattle.rules_expressions.specs.Known.{fold_conditional, fold_logical}
-use Rattle.rules_expressions.specs.Unused.{fold_unused}
-use Rattle.rules_expressions.specs.Lists.{fold_unused_list}
-use Rattle.rules_expressions.specs.Indirect.{fold_indirect}
-use Rattle.rules_expressions.specs.OneSided.{fold_one_sided}
-use Rattle.rules_expressions.specs.Sequences.{fold_sequence}
-use Rattle.rules_expressions.specs.TwoSides.{fold_two_sides}
-use Rattle.rules_expressions.specs.Objects.{fold_object}
+use Rattle.rules.specs.Expressions.Known.{fold_conditional, fold_logical}
+use Rattle.rules.specs.Expressions.Unused.{fold_unused}
+use Rattle.rules.specs.Expressions.Lists.{fold_unused_list}
+use Rattle.rules.specs.Expressions.Indirect.{fold_indirect}
+use Rattle.rules.specs.Expressions.OneSided.{fold_one_sided}
+use Rattle.rules.specs.Expressions.Sequences.{fold_sequence}
+use Rattle.rules.specs.Expressions.TwoSides.{fold_two_sides}
+use Rattle.rules.specs.Expressions.Objects.{fold_object}
 use Rattle.min_expressions.proofs.fold.fold_but_operations.Goals as goal
 
 -- the rules that are tried before

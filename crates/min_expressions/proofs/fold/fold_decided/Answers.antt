@@ -1,7 +1,7 @@
 use Rattle.std.proofs.Common.{sym, subst}
 use Rattle.min_traverse.specs.Lawful.{Does, either}
 use Rattle.min_traverse.proofs.Joining.{first_does, then_does}
-use Rattle.rules_expressions.specs.Known.{fold_conditional, fold_logical}
+use Rattle.rules.specs.Expressions.Known.{fold_conditional, fold_logical}
 use Rattle.min_expressions.proofs.fold.fold_decided.Goals as goal
 
 pub returns-then-try_fold_conditional_expression : goal.returns-then-try_fold_conditional_expression

@@ -1,8 +1,8 @@
 use Rattle.std.proofs.Common.{sym, subst}
 use Rattle.min_traverse.specs.Lawful.{Does, either}
 use Rattle.min_traverse.proofs.Joining.{first_does, then_does}
-use Rattle.rules_expressions.specs.Known.{fold_conditional, fold_logical}
-use Rattle.rules_expressions.specs.Unused.{fold_unused}
+use Rattle.rules.specs.Expressions.Known.{fold_conditional, fold_logical}
+use Rattle.rules.specs.Expressions.Unused.{fold_unused}
 use Rattle.min_expressions.proofs.fold.fold_operation.Goals as goal
 
 pub returns-then-fold_decided : goal.returns-then-fold_decided

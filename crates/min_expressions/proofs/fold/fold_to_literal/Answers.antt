@@ -1,6 +1,6 @@
 use Rattle.std.proofs.Common.{◌∙◌, Some, sym, ap}
 use Rattle.min_traverse.proofs.Joining.{does_none, does_some}
-use Rattle.rules_expressions.specs.Operations.{literal_there, fold_to_literal}
+use Rattle.rules.specs.Expressions.Operations.{literal_there, fold_to_literal}
 use Rattle.min_expressions.proofs.fold.fold_to_literal.Goals as goal
 
 pub returns-in-Some-clause-does : goal.returns-in-Some-clause-does

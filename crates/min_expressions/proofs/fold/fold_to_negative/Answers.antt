@@ -1,6 +1,6 @@
 use Rattle.std.proofs.Common.{subst, arith, to_z, of_z, to_z-of_z, w64, ◌≡◌, ◌∙◌, sym}
 use Rattle.min_traverse.proofs.Joining.{does_none, does_some}
-use Rattle.rules_expressions.specs.Operations.{fold_to_negative}
+use Rattle.rules.specs.Expressions.Operations.{fold_to_negative}
 use Rattle.min_expressions.proofs.Negative.{minus_on, none_there, some_there}
 use Rattle.min_expressions.proofs.fold.fold_to_negative.Goals as goal
 

@@ -2,10 +2,10 @@ use Rattle.std.proofs.Common.{◌∙◌, subst}
 use Rattle.std.proofs.lemmas.Result.{IfOk-weaker, IfErr-weaker}
 use Rattle.min_traverse.specs.Lawful.{Rule, Does, either}
 use Rattle.min_traverse.proofs.Joining.{first_does, then_does}
-use Rattle.rules_expressions.specs.Known.{fold_conditional, fold_logical}
-use Rattle.rules_expressions.specs.Unused.{fold_unused}
-use Rattle.rules_expressions.specs.Lists.{fold_unused_list}
-use Rattle.rules_expressions.specs.Indirect.{fold_indirect}
+use Rattle.rules.specs.Expressions.Known.{fold_conditional, fold_logical}
+use Rattle.rules.specs.Expressions.Unused.{fold_unused}
+use Rattle.rules.specs.Expressions.Lists.{fold_unused_list}
+use Rattle.rules.specs.Expressions.Indirect.{fold_indirect}
 use Rattle.min_expressions.proofs.Behind.{nothing_done}
 use Rattle.min_expressions.proofs.fold.fold_to_parts.Goals as goal
 

@@ -1,6 +1,6 @@
 use Rattle.std.proofs.Common.{◌∙◌, sym, arith, refl}
 use Rattle.js_tree.proofs.Search.{found_at, rest_of, none_found}
-use Rattle.steps_allowed.specs.UnusedList.{has_spread}
+use Rattle.steps.specs.Allowed.UnusedList.{has_spread}
 use Rattle.min_expressions.proofs.Lists.{spread_each}
 use Rattle.min_expressions.proofs.list.has_spread.Goals as goal
 

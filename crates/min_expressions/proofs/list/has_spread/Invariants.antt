@@ -1,6 +1,6 @@
 use Rattle.std.proofs.Common.{◌≡◌, drop}
 use Rattle.js_syntax.specs.Node.{row}
-use Rattle.steps_allowed.specs.UnusedList.{has_spread}
+use Rattle.steps.specs.Allowed.UnusedList.{has_spread}
 use Rattle.min_expressions.proofs.list.has_spread.Given as goal
 
 abbrev pub invariant-loop-part : goal.invariant-loop-part

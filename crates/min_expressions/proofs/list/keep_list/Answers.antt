@@ -1,7 +1,7 @@
 use Rattle.std.proofs.Common.{◌∙◌, length, drop, None, sym, ap, arith}
 use Rattle.js_syntax.specs.Node.{row}
-use Rattle.rules_expressions.specs.Lists.{new_note, list_note}
-use Rattle.steps_allowed.specs.UnusedList.{acting, as_one}
+use Rattle.rules.specs.Expressions.Lists.{new_note, list_note}
+use Rattle.steps.specs.Allowed.UnusedList.{acting, as_one}
 use Rattle.min_expressions.specs.Lists.{are_one}
 use Rattle.min_expressions.proofs.Lists.{list_of, its_row, left_row, its_list, list_edits, list_kept}
 use Rattle.min_expressions.proofs.list.keep_list.Goals as goal

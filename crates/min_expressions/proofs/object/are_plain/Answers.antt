@@ -1,7 +1,7 @@
 use Rattle.std.proofs.Common.{◌∙◌, sym, arith, refl}
 use Rattle.js_syntax.specs.Node.{row}
 use Rattle.js_tree.proofs.Search.{found_at, rest_of, none_found}
-use Rattle.steps_allowed.specs.UnusedObject.{are_plain}
+use Rattle.steps.specs.Allowed.UnusedObject.{are_plain}
 use Rattle.min_expressions.proofs.Objects.{some_other, other_each, is_false, is_true}
 use Rattle.min_expressions.proofs.object.are_plain.Goals as goal
 

@@ -1,7 +1,7 @@
 use Rattle.std.proofs.Common.{◌∙◌, length, drop, None, sym, ap, arith}
 use Rattle.js_syntax.specs.Node.{row}
-use Rattle.steps_allowed.specs.UnusedList.{acting, as_one}
-use Rattle.rules_expressions.specs.Lists.{new_note}
+use Rattle.steps.specs.Allowed.UnusedList.{acting, as_one}
+use Rattle.rules.specs.Expressions.Lists.{new_note}
 use Rattle.min_expressions.proofs.Lists.{its_row, left_row, its_list}
 use Rattle.min_expressions.proofs.Objects.{is_object, values_one, object_kept, object_edits}
 use Rattle.min_expressions.proofs.object.keep_object.Goals as goal

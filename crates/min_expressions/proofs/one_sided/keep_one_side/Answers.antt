@@ -1,7 +1,7 @@
 use Rattle.std.proofs.Common.{rules, ◌≡◌, ◌∙◌, length, vec_len, Some, None, sym, ap, ap₂, arith}
 use Rattle.js_syntax.specs.declared.node_kind.NodeKind.TheVariants.{LogicalExpression as logical_expression}
 use Rattle.js_syntax.specs.Node.{Forest, Tree, row}
-use Rattle.rules_expressions.specs.Lists.{new_note}
+use Rattle.rules.specs.Expressions.Lists.{new_note}
 use Rattle.min_expressions.proofs.Sided.{is_sided, is_there, branch_gone, two_left, sided_edits}
 use Rattle.min_expressions.proofs.one_sided.keep_one_side.Goals as goal
 

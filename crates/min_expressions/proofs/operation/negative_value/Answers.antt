@@ -1,5 +1,5 @@
 use Rattle.std.proofs.Common.{◌∙◌, ap, sym}
-use Rattle.steps_allowed.specs.KnownOperation.{as_negative}
+use Rattle.steps.specs.Allowed.KnownOperation.{as_negative}
 use Rattle.min_expressions.proofs.Negative.{covered}
 use Rattle.min_expressions.proofs.operation.negative_value.Goals as goal
 

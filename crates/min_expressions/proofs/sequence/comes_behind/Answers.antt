@@ -1,5 +1,5 @@
 use Rattle.std.proofs.Common.{◌∙◌, ◌-◌, ◌||◌, not, length, take, sym, ap, arith}
-use Rattle.rules_expressions.specs.Uses.{spot_of}
+use Rattle.rules.specs.Expressions.Uses.{spot_of}
 use Rattle.min_expressions.specs.Sequences.{last_stands}
 use Rattle.min_expressions.proofs.Sequences.{end_is, comes_by_last}
 use Rattle.min_expressions.proofs.sequence.comes_behind.Goals as goal

@@ -1,8 +1,8 @@
 use Rattle.std.proofs.Common.{◌∙◌, length, drop, None, sym, ap, arith}
 use Rattle.js_syntax.specs.Node.{row}
-use Rattle.steps_allowed.specs.IdleParts.{more_before, counting, as_value_of}
-use Rattle.rules_expressions.specs.Lists.{new_note}
-use Rattle.rules_expressions.specs.Uses.{spot_of}
+use Rattle.steps.specs.Allowed.IdleParts.{more_before, counting, as_value_of}
+use Rattle.rules.specs.Expressions.Lists.{new_note}
+use Rattle.rules.specs.Expressions.Uses.{spot_of}
 use Rattle.min_expressions.specs.Sequences.{parts_go}
 use Rattle.min_expressions.proofs.Lists.{its_row, left_row, its_list}
 use Rattle.min_expressions.proofs.Sequences.{is_sequence, sequence_edits, sequence_kept}

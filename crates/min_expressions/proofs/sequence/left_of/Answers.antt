@@ -1,8 +1,8 @@
 use Rattle.std.proofs.Common.{◌≡◌, ◌∙◌, None, Some, true, sym, ap}
 use Rattle.js_syntax.specs.Node.{row}
-use Rattle.steps_allowed.specs.IdleParts.{more_before, counting, as_value_of}
-use Rattle.rules_expressions.specs.Uses.{spot_of}
-use Rattle.rules_expressions.specs.Lists.{new_note}
+use Rattle.steps.specs.Allowed.IdleParts.{more_before, counting, as_value_of}
+use Rattle.rules.specs.Expressions.Uses.{spot_of}
+use Rattle.rules.specs.Expressions.Lists.{new_note}
 use Rattle.min_expressions.specs.Sequences.{parts_go, comes_behind}
 use Rattle.min_expressions.proofs.Sequences.{several_parts, stands_behind, stands_itself}
 use Rattle.min_expressions.proofs.sequence.left_of.Goals as goal

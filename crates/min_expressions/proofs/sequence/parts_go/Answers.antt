@@ -1,6 +1,6 @@
 use Rattle.std.proofs.Common.{◌∙◌, ◌-◌, ◌&&◌, ◌||◌, None, not, length, take, get_or, refl, sym, ap, ap₂, arith}
 use Rattle.js_syntax.specs.Node.{row}
-use Rattle.rules_expressions.specs.Uses.{spot_of}
+use Rattle.rules.specs.Expressions.Uses.{spot_of}
 use Rattle.min_expressions.specs.Sequences.{more_alone, comes_behind}
 use Rattle.min_expressions.proofs.Sequences.{end_is, goes_by_last}
 use Rattle.min_expressions.proofs.sequence.parts_go.Goals as goal

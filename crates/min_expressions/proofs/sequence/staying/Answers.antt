@@ -1,6 +1,6 @@
 use Rattle.std.proofs.Common.{◌∙◌, None, sym, ap}
 use Rattle.js_syntax.specs.Node.{row}
-use Rattle.steps_allowed.specs.IdleParts.{counting}
+use Rattle.steps.specs.Allowed.IdleParts.{counting}
 use Rattle.min_expressions.specs.Lists.{only}
 use Rattle.min_expressions.proofs.Sequences.{value_is}
 use Rattle.min_expressions.proofs.sequence.staying.Goals as goal

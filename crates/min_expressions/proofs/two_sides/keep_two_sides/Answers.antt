@@ -1,6 +1,6 @@
 use Rattle.std.proofs.Common.{◌∙◌, Some, None, sym, ap, ap₂}
 use Rattle.js_syntax.specs.Node.{Tree, row}
-use Rattle.rules_expressions.specs.Lists.{new_note}
+use Rattle.rules.specs.Expressions.Lists.{new_note}
 use Rattle.min_expressions.proofs.Lists.{made}
 use Rattle.min_expressions.proofs.TwoSides.{is_compared, compared_edits}
 use Rattle.min_expressions.proofs.two_sides.keep_two_sides.Goals as goal

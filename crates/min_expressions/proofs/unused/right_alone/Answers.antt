@@ -1,5 +1,5 @@
 use Rattle.std.proofs.Common.{◌∙◌, ◌&&◌, not, false, sym, ap}
-use Rattle.steps_allowed.specs.Uses.{as_value, stands_bare}
+use Rattle.steps.specs.Allowed.Uses.{as_value, stands_bare}
 use Rattle.min_expressions.proofs.unused.right_alone.Goals as goal
 
 pub returns-then-acts : goal.returns-then-acts

@@ -1,5 +1,5 @@
 use Rattle.std.proofs.Common.{◌≡◌, drop}
-use Rattle.rules_dead_code.specs.Rules.{has_with}
+use Rattle.rules.specs.DeadCode.Rules.{has_with}
 use Rattle.min_expressions.proofs.uses.has_with.Given as goal
 
 abbrev pub invariant-loop-ancestor : goal.invariant-loop-ancestor

@@ -1,5 +1,5 @@
 use Rattle.std.proofs.Common.{◌∙◌, ◌+◌, drop, sym, ap, arith}
-use Rattle.rules_expressions.specs.Uses.{is_unused_from}
+use Rattle.rules.specs.Expressions.Uses.{is_unused_from}
 use Rattle.min_expressions.proofs.Told.{next_unused, last_unused}
 use Rattle.min_expressions.proofs.uses.is_unused_from.Goals as goal
 

@@ -1,5 +1,5 @@
 use Rattle.std.proofs.Common.{◌≡◌, drop, false}
-use Rattle.rules_expressions.specs.Uses.{is_unused_from}
+use Rattle.rules.specs.Expressions.Uses.{is_unused_from}
 use Rattle.min_expressions.proofs.uses.is_unused_from.Given as goal
 
 abbrev pub invariant-loop-ancestor : goal.invariant-loop-ancestor

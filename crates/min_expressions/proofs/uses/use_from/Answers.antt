@@ -1,5 +1,5 @@
 use Rattle.std.proofs.Common.{◌∙◌, ◌+◌, drop, sym, ap, arith}
-use Rattle.rules_expressions.specs.Uses.{use_from}
+use Rattle.rules.specs.Expressions.Uses.{use_from}
 use Rattle.min_expressions.specs.Uses.{told}
 use Rattle.min_expressions.proofs.Told.{next_use, last_use}
 use Rattle.min_expressions.proofs.uses.use_from.Goals as goal

@@ -1,6 +1,6 @@
 use Rattle.std.proofs.Common.{◌≡◌, drop}
-use Rattle.steps_allowed.specs.Uses.{as_value}
-use Rattle.rules_expressions.specs.Uses.{use_from}
+use Rattle.steps.specs.Allowed.Uses.{as_value}
+use Rattle.rules.specs.Expressions.Uses.{use_from}
 use Rattle.min_expressions.specs.Uses.{told}
 use Rattle.min_expressions.proofs.uses.use_from.Given as goal
 

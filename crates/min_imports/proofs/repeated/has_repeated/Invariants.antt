@@ -1,6 +1,6 @@
 use Rattle.std.proofs.Common.{◌≡◌, [], ◌-◌, length}
 use Rattle.js_syntax.specs.Node.{row}
-use Rattle.rules_imports.specs.Repeated.{has_repeated}
+use Rattle.rules.specs.Imports.Repeated.{has_repeated}
 use Rattle.min_imports.proofs.Keeping.{has_from}
 use Rattle.min_imports.proofs.repeated.has_repeated.Given as goal
 

@@ -1,5 +1,5 @@
 use Rattle.std.proofs.Common.{◌∙◌, sym, ap}
-use Rattle.steps_allowed.specs.Arranged.{is_nothing}
+use Rattle.steps.specs.Allowed.Arranged.{is_nothing}
 use Rattle.min_imports.proofs.Asking.{names_listed}
 use Rattle.min_imports.proofs.repeated.is_empty_list.Goals as goal
 

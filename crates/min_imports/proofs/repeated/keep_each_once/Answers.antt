@@ -1,6 +1,6 @@
 use Rattle.std.proofs.Common.{◌∙◌, [], ap}
 use Rattle.js_syntax.specs.Node.{row}
-use Rattle.rules_imports.specs.Repeated.{each_once}
+use Rattle.rules.specs.Imports.Repeated.{each_once}
 use Rattle.min_imports.proofs.Keeping.{once_row, same_tree}
 use Rattle.min_imports.proofs.repeated.keep_each_once.Goals as goal
 

@@ -1,7 +1,7 @@
 use Rattle.std.proofs.Common.{◌≡◌, ◌∙◌, ap, subst, arith}
 use Rattle.js_syntax.specs.Facts.{weight}
 use Rattle.js_syntax.specs.Node.{Tree, forest_of, total}
-use Rattle.steps_allowed.proofs.Composing.{tree_edits_compose}
+use Rattle.steps.proofs.Allowed.Composing.{tree_edits_compose}
 use Rattle.min_peephole.specs.CleanBy.{CleanBy}
 use Rattle.min_peephole.proofs.Passed.{none_passed, one_more}
 use Rattle.min_peephole.proofs.passes.run_passes.Goals as goal

@@ -3,7 +3,7 @@ use Rattle.js_syntax.specs.declared.scalar.SourceType.{SourceType}
 use Rattle.js_syntax.specs.Node.{forest_of}
 use Rattle.scope_rules.specs.Table.{Scoping}
 use Rattle.symbol_sets.specs.Numbers.{none_below}
-use Rattle.steps_allowed.specs.Exposure.{is_script_source}
+use Rattle.steps.specs.Allowed.Exposure.{is_script_source}
 use Rattle.min_symbols.specs.Changes.{Changes}
 use Rattle.min_context.specs.Seen.{Seen}
 use Rattle.min_statements.specs.Walker.{Names, names_of}

@@ -1,7 +1,7 @@
 use Rattle.std.proofs.Common.{◌≡◌, ◌≤◌, ◌+◌, ◌*◌, length}
 use Rattle.js_syntax.specs.Node.{row}
 use Rattle.js_tree.specs.Weight.{size_of, tree_size}
-use Rattle.steps_allowed.specs.EmptyBlock.{idles}
+use Rattle.steps.specs.Allowed.EmptyBlock.{idles}
 use Rattle.min_statements.proofs.blocks.+idles.Given as goal
 
 abbrev pub decreases-is_idle : goal.decreases-is_idle

@@ -1,5 +1,5 @@
 use Rattle.std.proofs.Common.{◌∙◌, sym, arith, refl}
-use Rattle.rules_dead_code.specs.Rules.{has_dead}
+use Rattle.rules.specs.DeadCode.Rules.{has_dead}
 use Rattle.js_tree.proofs.Search.{found_at, rest_of, none_found}
 use Rattle.min_statements.proofs.Each.{dead_each}
 use Rattle.min_statements.proofs.goes.has_dead.Goals as goal

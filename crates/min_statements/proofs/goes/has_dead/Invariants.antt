@@ -1,6 +1,6 @@
 use Rattle.std.proofs.Common.{◌≡◌, drop}
 use Rattle.js_syntax.specs.Node.{row}
-use Rattle.rules_dead_code.specs.Rules.{has_dead}
+use Rattle.rules.specs.DeadCode.Rules.{has_dead}
 use Rattle.min_statements.proofs.goes.has_dead.Given as goal
 
 abbrev pub invariant-loop-item : goal.invariant-loop-item

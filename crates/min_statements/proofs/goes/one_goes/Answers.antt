@@ -1,5 +1,5 @@
 use Rattle.std.proofs.Common.{◌∙◌, sym, arith, refl}
-use Rattle.rules_dead_code.specs.Rules.{one_goes}
+use Rattle.rules.specs.DeadCode.Rules.{one_goes}
 use Rattle.js_tree.proofs.Search.{found_at, rest_of, none_found}
 use Rattle.min_statements.proofs.Each.{goes_each}
 use Rattle.min_statements.proofs.goes.one_goes.Goals as goal

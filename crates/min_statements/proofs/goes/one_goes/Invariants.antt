@@ -1,6 +1,6 @@
 use Rattle.std.proofs.Common.{◌≡◌, drop}
 use Rattle.js_syntax.specs.Node.{row}
-use Rattle.rules_dead_code.specs.Rules.{one_goes}
+use Rattle.rules.specs.DeadCode.Rules.{one_goes}
 use Rattle.min_statements.proofs.goes.one_goes.Given as goal
 
 abbrev pub invariant-loop-child : goal.invariant-loop-child

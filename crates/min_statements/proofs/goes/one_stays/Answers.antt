@@ -1,5 +1,5 @@
 use Rattle.std.proofs.Common.{◌∙◌, sym, arith, refl}
-use Rattle.rules_dead_code.specs.Rules.{one_stays}
+use Rattle.rules.specs.DeadCode.Rules.{one_stays}
 use Rattle.js_tree.proofs.Search.{found_at, rest_of, none_found}
 use Rattle.min_statements.proofs.Each.{stays_each}
 use Rattle.min_statements.proofs.goes.one_stays.Goals as goal

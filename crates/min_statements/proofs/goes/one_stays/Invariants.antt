@@ -1,6 +1,6 @@
 use Rattle.std.proofs.Common.{◌≡◌, drop}
 use Rattle.js_syntax.specs.Node.{row}
-use Rattle.rules_dead_code.specs.Rules.{one_stays}
+use Rattle.rules.specs.DeadCode.Rules.{one_stays}
 use Rattle.min_statements.proofs.goes.one_stays.Given as goal
 
 abbrev pub invariant-loop-child : goal.invariant-loop-child

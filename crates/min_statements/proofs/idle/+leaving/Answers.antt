@@ -1,5 +1,5 @@
 use Rattle.std.proofs.Common.{◌∙◌, sym, ap}
-use Rattle.steps_allowed.specs.IdleStatement.{leaves_at_once}
+use Rattle.steps.specs.Allowed.IdleStatement.{leaves_at_once}
 use Rattle.min_statements.proofs.idle.+leaving.Goals as goal
 
 pub leaves_at_once-returns-in-BreakStatement : goal.leaves_at_once-returns-in-BreakStatement

@@ -1,8 +1,8 @@
 use Rattle.std.proofs.Common.{◌∙◌, Some, sym, ap}
 use Rattle.min_traverse.specs.Lawful.{or_else}
 use Rattle.min_traverse.proofs.Joining.{does_none, does_some, then_does}
-use Rattle.rules_expressions.specs.Ifs.{fold_if}
-use Rattle.rules_expressions.specs.Untaken.{if_left, rid_if, at_if_end}
+use Rattle.rules.specs.Expressions.Ifs.{fold_if}
+use Rattle.rules.specs.Expressions.Untaken.{if_left, rid_if, at_if_end}
 use Rattle.min_statements.proofs.Branches.{outcome, runs_as_ruled, branch_there, no_call}
 use Rattle.min_statements.proofs.ifs.try_fold_if.Goals as goal
 

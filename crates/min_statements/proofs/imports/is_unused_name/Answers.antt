@@ -1,6 +1,6 @@
 use Rattle.std.proofs.Common.{◌∙◌, sym, ap}
 use Rattle.js_syntax.specs.Node.{nothing, node}
-use Rattle.rules_imports.specs.Rules.{name_goes}
+use Rattle.rules.specs.Imports.Rules.{name_goes}
 use Rattle.min_statements.proofs.Named.{none_imported_below}
 use Rattle.min_statements.proofs.imports.is_unused_name.Goals as goal
 

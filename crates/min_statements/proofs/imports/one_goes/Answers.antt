@@ -1,5 +1,5 @@
 use Rattle.std.proofs.Common.{◌∙◌, sym, arith, refl}
-use Rattle.rules_imports.specs.Rules.{one_goes}
+use Rattle.rules.specs.Imports.Rules.{one_goes}
 use Rattle.js_tree.proofs.Search.{found_at, rest_of, none_found}
 use Rattle.min_statements.proofs.Each.{specifiers_each, one_specifier}
 use Rattle.min_statements.proofs.imports.one_goes.Goals as goal

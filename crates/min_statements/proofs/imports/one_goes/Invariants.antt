@@ -1,6 +1,6 @@
 use Rattle.std.proofs.Common.{◌≡◌, drop}
 use Rattle.js_syntax.specs.Node.{row}
-use Rattle.rules_imports.specs.Rules.{one_goes}
+use Rattle.rules.specs.Imports.Rules.{one_goes}
 use Rattle.min_statements.proofs.imports.one_goes.Given as goal
 
 abbrev pub invariant-loop-specifier : goal.invariant-loop-specifier

@@ -1,6 +1,6 @@
 use Rattle.std.proofs.Common.{◌∙◌, ap, drop, length, arith}
 use Rattle.js_syntax.specs.Node.{row}
-use Rattle.rules_imports.specs.Rules.{import_left}
+use Rattle.rules.specs.Imports.Rules.{import_left}
 use Rattle.min_statements.proofs.Kept.{same_tree, written}
 use Rattle.min_statements.proofs.imports.prune_import.Goals as goal
 

@@ -1,5 +1,5 @@
 use Rattle.std.proofs.Common.{◌∙◌, [], sym, ap}
-use Rattle.rules_imports.specs.Repeated.{has_repeated}
+use Rattle.rules.specs.Imports.Repeated.{has_repeated}
 use Rattle.min_statements.proofs.Repeating.{repeats_none, repeats_so}
 use Rattle.min_statements.proofs.imports.remove_repeated_imports.Goals as goal
 

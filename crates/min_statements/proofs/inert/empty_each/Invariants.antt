@@ -1,6 +1,6 @@
 use Rattle.std.proofs.Common.{◌≡◌, false}
 use Rattle.js_syntax.specs.Node.{row}
-use Rattle.rules_expressions.specs.Jumps.{emptied_behind}
+use Rattle.rules.specs.Expressions.Jumps.{emptied_behind}
 use Rattle.min_statements.proofs.Emptying.{emptying}
 use Rattle.min_statements.proofs.inert.empty_each.Given as goal
 

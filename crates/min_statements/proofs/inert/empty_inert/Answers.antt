@@ -1,6 +1,6 @@
 use Rattle.std.proofs.Common.{◌∙◌, ap, drop, false, length, arith}
 use Rattle.js_syntax.specs.Node.{row}
-use Rattle.rules_expressions.specs.Jumps.{emptied_behind}
+use Rattle.rules.specs.Expressions.Jumps.{emptied_behind}
 use Rattle.min_statements.proofs.Kept.{same_tree, written}
 use Rattle.min_statements.proofs.inert.empty_inert.Goals as goal
 

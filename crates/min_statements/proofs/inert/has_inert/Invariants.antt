@@ -1,6 +1,6 @@
 use Rattle.std.proofs.Common.{◌≡◌, false, length}
 use Rattle.js_syntax.specs.Node.{row}
-use Rattle.rules_expressions.specs.Jumps.{has_inert}
+use Rattle.rules.specs.Expressions.Jumps.{has_inert}
 use Rattle.min_statements.proofs.inert.has_inert.Given as goal
 
 abbrev pub invariant-loop-rest : goal.invariant-loop-rest

@@ -1,7 +1,7 @@
 use Rattle.std.proofs.Common.{◌≡◌, ◌≤◌, ◌+◌, ◌*◌, length}
 use Rattle.js_syntax.specs.Node.{row}
 use Rattle.js_tree.specs.Weight.{size_of, tree_size}
-use Rattle.steps_allowed.specs.Branches.{none_from}
+use Rattle.steps.specs.Allowed.Branches.{none_from}
 use Rattle.min_statements.proofs.inside.+declares.Given as goal
 
 abbrev pub decreases-declares_no_name : goal.decreases-declares_no_name

@@ -1,7 +1,7 @@
 use Rattle.std.proofs.Common.{◌≡◌, ◌≤◌, ◌+◌, ◌*◌, length}
 use Rattle.js_syntax.specs.Node.{row}
 use Rattle.js_tree.specs.Weight.{size_of, tree_size}
-use Rattle.steps_allowed.specs.Branches.{inside_from}
+use Rattle.steps.specs.Allowed.Branches.{inside_from}
 use Rattle.min_statements.proofs.inside.+inside.Given as goal
 
 abbrev pub decreases-stays_inside_at : goal.decreases-stays_inside_at

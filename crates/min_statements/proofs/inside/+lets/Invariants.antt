@@ -1,7 +1,7 @@
 use Rattle.std.proofs.Common.{◌≡◌, ◌≤◌, ◌+◌, ◌*◌, length}
 use Rattle.js_syntax.specs.Node.{row}
 use Rattle.js_tree.specs.Weight.{size_of, tree_size}
-use Rattle.steps_allowed.specs.Branches.{lets_only}
+use Rattle.steps.specs.Allowed.Branches.{lets_only}
 use Rattle.min_statements.proofs.inside.+lets.Given as goal
 
 abbrev pub decreases-lets_only_at : goal.decreases-lets_only_at

@@ -1,7 +1,7 @@
 use Rattle.std.proofs.Common.{◌≡◌, ◌≤◌, ◌+◌, ◌*◌, length}
 use Rattle.js_syntax.specs.Node.{row}
 use Rattle.js_tree.specs.Weight.{size_of, tree_size}
-use Rattle.steps_allowed.specs.IdleTry.{has_no_loop}
+use Rattle.steps.specs.Allowed.IdleTry.{has_no_loop}
 use Rattle.min_statements.proofs.tries.+loops.Given as goal
 
 abbrev pub decreases-has_no_loop_at : goal.decreases-has_no_loop_at

@@ -1,6 +1,6 @@
 use Rattle.std.proofs.Common.{◌∙◌, ap, drop, length, arith}
 use Rattle.js_syntax.specs.Node.{row}
-use Rattle.rules_dead_code.specs.Rules.{declaration_left}
+use Rattle.rules.specs.DeadCode.Rules.{declaration_left}
 use Rattle.min_statements.proofs.Kept.{same_tree, written}
 use Rattle.min_statements.proofs.trimmed.trim_declaration.Goals as goal
 

@@ -1,7 +1,7 @@
 use Rattle.std.proofs.Common.{◌≡◌, ◌≤◌, ◌+◌, ◌*◌, length}
 use Rattle.js_syntax.specs.Node.{row}
 use Rattle.js_tree.specs.Weight.{size_of, tree_size}
-use Rattle.rules_expressions.specs.Untaken.{row_loses}
+use Rattle.rules.specs.Expressions.Untaken.{row_loses}
 use Rattle.min_statements.proofs.untaken.+loses.Given as goal
 
 abbrev pub decreases-branch_loses : goal.decreases-branch_loses

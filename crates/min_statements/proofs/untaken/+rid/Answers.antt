@@ -1,8 +1,8 @@
 use Rattle.std.proofs.Common.{◌≡◌, ◌∙◌, ◌+◌, Bool, true, if◌then◌else◌, ap, drop, set, length, sym, arith}
 use Rattle.js_syntax.specs.Node.{row}
 use Rattle.js_tree.specs.Weight.{size_of}
-use Rattle.rules_expressions.specs.Untaken.{is_list, values_of, values_rid, rid}
-use Rattle.steps_allowed.specs.Untaken.{runs_inside}
+use Rattle.rules.specs.Expressions.Untaken.{is_list, values_of, values_rid, rid}
+use Rattle.steps.specs.Allowed.Untaken.{runs_inside}
 use Rattle.min_statements.specs.Untaken.{kept_of, each_rid, rid_one}
 use Rattle.min_statements.proofs.Kept.{changing, changing_first, changing_next, changed, same_tree, written}
 use Rattle.min_statements.proofs.Thinning.{kept_rid, each_is_rid, kept_smaller, next_sized}

@@ -1,7 +1,7 @@
 use Rattle.std.proofs.Common.{◌≡◌, ◌≤◌, ◌+◌, ◌*◌, length}
 use Rattle.js_syntax.specs.Node.{row}
 use Rattle.js_tree.specs.Weight.{size_of, tree_size}
-use Rattle.rules_expressions.specs.Untaken.{values_drop}
+use Rattle.rules.specs.Expressions.Untaken.{values_drop}
 use Rattle.min_statements.proofs.values.+drop.Given as goal
 
 abbrev pub decreases-values_drop_inside : goal.decreases-values_drop_inside

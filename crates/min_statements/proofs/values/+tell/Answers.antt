@@ -1,6 +1,6 @@
 use Rattle.std.proofs.Common.{◌∙◌, sym, ap, subst, arith}
 use Rattle.js_syntax.specs.Node.{row}
-use Rattle.steps_allowed.specs.UnrunValue.{passes}
+use Rattle.steps.specs.Allowed.UnrunValue.{passes}
 use Rattle.min_statements.proofs.Shed.{asked_still}
 use Rattle.min_statements.proofs.Thinning.{rest_sized}
 use Rattle.min_statements.proofs.Valuing.{LeavesValues, until_next, until_none, told_inside}

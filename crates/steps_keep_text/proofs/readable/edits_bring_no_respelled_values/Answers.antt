@@ -1,4 +1,4 @@
-use Rattle.steps_allowed.proofs.Composing.{tree_edits_are_edits}
+use Rattle.steps.proofs.Allowed.Composing.{tree_edits_are_edits}
 use Rattle.steps_keep_text.proofs.StillRead.{fewer_misnamed, fewer_negative, left_as_it_is}
 use Rattle.steps_keep_text.proofs.readable.edits_bring_no_respelled_values.Goals as goal
 

@@ -1,4 +1,4 @@
-use Rattle.steps_allowed.proofs.Composing.{tree_edits_are_edits}
+use Rattle.steps.proofs.Allowed.Composing.{tree_edits_are_edits}
 use Rattle.steps_keep_text.proofs.StillRead.{left_exact, left_readable, left_signable}
 use Rattle.steps_keep_text.proofs.readable.edits_leave_readable_trees.Goals as goal
 

@@ -1,5 +1,5 @@
 use Rattle.js_tree.specs.Count.{node_count, levels}
-use Rattle.steps_allowed.proofs.Composing.{tree_edits_are_edits}
+use Rattle.steps.proofs.Allowed.Composing.{tree_edits_are_edits}
 use Rattle.steps_keep_text.proofs.Along.{edits_shed}
 use Rattle.steps_keep_text.proofs.Smaller.{nodes_shed, levels_shed}
 use Rattle.steps_keep_text.proofs.size.edits_leave_no_larger.Goals as goal

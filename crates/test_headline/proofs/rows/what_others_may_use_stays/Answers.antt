@@ -1,4 +1,4 @@
-use Rattle.steps_owed.proofs.Refused.{evaluated_stays, global_stays, sloppy_stays}
+use Rattle.steps.proofs.Owed.Refused.{evaluated_stays, global_stays, sloppy_stays}
 use Rattle.test_headline.proofs.Refused.{function_beside_eval, declarator_beside_eval, variable_of_script, declarator_of_script}
 use Rattle.test_headline.proofs.rows.what_others_may_use_stays.Goals as goal
 

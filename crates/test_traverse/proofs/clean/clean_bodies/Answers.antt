@@ -5,9 +5,9 @@ use Rattle.symbol_sets.specs.Numbers.{none_below}
 use Rattle.min_context.specs.IsTrue.{IsTrue}
 use Rattle.min_context.specs.Seen.{Seen, still}
 use Rattle.min_traverse.specs.Edits.{Edits}
-use Rattle.steps_allowed.specs.Edits.{TreeEdits}
-use Rattle.rules_dead_code.proofs.BeginsTrue.{begins}
-use Rattle.rules_dead_code.proofs.StaysTrue.{as_tree_edits}
+use Rattle.steps.specs.Allowed.Edits.{TreeEdits}
+use Rattle.rules.proofs.DeadCode.BeginsTrue.{begins}
+use Rattle.rules.proofs.DeadCode.StaysTrue.{as_tree_edits}
 use Rattle.test_traverse.specs.Bodies.{empty_in_bodies}
 use Rattle.test_traverse.specs.Cleaning.{BodyEdit}
 use Rattle.test_traverse.proofs.Allowed.{are_edits}

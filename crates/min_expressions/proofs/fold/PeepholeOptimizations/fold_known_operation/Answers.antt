@@ -2,7 +2,7 @@ use Rattle.std.proofs.Common.{◌∙◌, subst}
 use Rattle.std.proofs.lemmas.Result.{IfOk-weaker, IfErr-weaker}
 use Rattle.min_traverse.specs.Lawful.{Does}
 use Rattle.min_traverse.proofs.Joining.{first_does, then_does}
-use Rattle.rules_expressions.specs.Operations.{fold_to_literal, fold_to_negative}
+use Rattle.rules.specs.Expressions.Operations.{fold_to_literal, fold_to_negative}
 use Rattle.min_expressions.proofs.Behind.{nothing_done}
 use Rattle.min_expressions.proofs.fold.PeepholeOptimizations.fold_known_operation.Goals as goal
 

@@ -1,7 +1,7 @@
 use Rattle.std.proofs.Common.{◌∙◌, sym, ap}
 use Rattle.min_traverse.proofs.Joining.{does_none, does_some}
-use Rattle.rules_expressions.specs.Known.{fold_logical}
-use Rattle.rules_expressions.specs.Uses.{spot_of}
+use Rattle.rules.specs.Expressions.Known.{fold_logical}
+use Rattle.rules.specs.Expressions.Uses.{spot_of}
 use Rattle.min_expressions.proofs.Chosen.{chosen, logical_chosen, logical_there}
 use Rattle.min_expressions.proofs.fold.PeepholeOptimizations.fold_logical_expr.Goals as goal
 

@@ -1,8 +1,8 @@
 use Rattle.std.proofs.Common.{◌∙◌, sym}
 use Rattle.min_traverse.proofs.Joining.{does_none, does_some}
-use Rattle.rules_expressions.specs.Lists.{new_note}
-use Rattle.rules_expressions.specs.OneSided.{fold_one_sided}
-use Rattle.rules_expressions.specs.Uses.{spot_of}
+use Rattle.rules.specs.Expressions.Lists.{new_note}
+use Rattle.rules.specs.Expressions.OneSided.{fold_one_sided}
+use Rattle.rules.specs.Expressions.Uses.{spot_of}
 use Rattle.min_expressions.proofs.Sided.{operator_there, sided_left, sided_stays}
 use Rattle.min_expressions.proofs.fold.PeepholeOptimizations.fold_one_sided_choice.Goals as goal
 

@@ -1,7 +1,7 @@
 use Rattle.std.proofs.Common.{◌∙◌, sym}
 use Rattle.min_traverse.proofs.Joining.{does_none, does_some}
-use Rattle.rules_expressions.specs.Indirect.{fold_indirect}
-use Rattle.rules_expressions.specs.Uses.{spot_of}
+use Rattle.rules.specs.Expressions.Indirect.{fold_indirect}
+use Rattle.rules.specs.Expressions.Uses.{spot_of}
 use Rattle.min_expressions.proofs.Behind.{is_behind, goes_as_ruled, stays_as_ruled}
 use Rattle.min_expressions.proofs.fold.PeepholeOptimizations.put_behind_zero.Goals as goal
 

@@ -1,8 +1,8 @@
 use Rattle.std.proofs.Common.{◌∙◌, sym}
 use Rattle.min_traverse.proofs.Joining.{does_none, does_some}
-use Rattle.rules_expressions.specs.Lists.{new_note, list_note}
-use Rattle.rules_expressions.specs.Sequences.{fold_sequence}
-use Rattle.rules_expressions.specs.Uses.{spot_of}
+use Rattle.rules.specs.Expressions.Lists.{new_note, list_note}
+use Rattle.rules.specs.Expressions.Sequences.{fold_sequence}
+use Rattle.rules.specs.Expressions.Uses.{spot_of}
 use Rattle.min_expressions.proofs.Sequences.{sequence_stays}
 use Rattle.min_expressions.proofs.fold.PeepholeOptimizations.remove_sequence_expression.Goals as goal
 

@@ -1,7 +1,7 @@
 use Rattle.std.proofs.Common.{◌∙◌, sym}
 use Rattle.min_traverse.proofs.Joining.{does_none, does_some}
-use Rattle.rules_expressions.specs.Unused.{fold_unused}
-use Rattle.rules_expressions.specs.Uses.{spot_of}
+use Rattle.rules.specs.Expressions.Unused.{fold_unused}
+use Rattle.rules.specs.Expressions.Uses.{spot_of}
 use Rattle.min_expressions.proofs.Needed.{unused_there, unused_left, unused_stays}
 use Rattle.min_expressions.proofs.fold.PeepholeOptimizations.remove_unused_expression.Goals as goal
 

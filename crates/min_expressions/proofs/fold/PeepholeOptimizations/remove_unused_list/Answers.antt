@@ -1,7 +1,7 @@
 use Rattle.std.proofs.Common.{◌∙◌, sym}
 use Rattle.min_traverse.proofs.Joining.{does_none, does_some}
-use Rattle.rules_expressions.specs.Lists.{fold_unused_list}
-use Rattle.rules_expressions.specs.Uses.{spot_of}
+use Rattle.rules.specs.Expressions.Lists.{fold_unused_list}
+use Rattle.rules.specs.Expressions.Uses.{spot_of}
 use Rattle.min_expressions.proofs.Lists.{goes_there, list_left, list_stays}
 use Rattle.min_expressions.proofs.fold.PeepholeOptimizations.remove_unused_list.Goals as goal
 

@@ -1,8 +1,8 @@
 use Rattle.std.proofs.Common.{◌∙◌, sym}
 use Rattle.min_traverse.proofs.Joining.{does_none, does_some}
-use Rattle.rules_expressions.specs.Lists.{new_note, list_note}
-use Rattle.rules_expressions.specs.Objects.{fold_object}
-use Rattle.rules_expressions.specs.Uses.{spot_of}
+use Rattle.rules.specs.Expressions.Lists.{new_note, list_note}
+use Rattle.rules.specs.Expressions.Objects.{fold_object}
+use Rattle.rules.specs.Expressions.Uses.{spot_of}
 use Rattle.min_expressions.proofs.Objects.{values_there, object_left_so, object_stays}
 use Rattle.min_expressions.proofs.fold.PeepholeOptimizations.remove_unused_object.Goals as goal
 

@@ -1,7 +1,7 @@
 use Rattle.std.proofs.Common.{◌∙◌, sym, ap}
 use Rattle.min_traverse.proofs.Joining.{does_none, does_some}
-use Rattle.rules_expressions.specs.Known.{fold_conditional}
-use Rattle.rules_expressions.specs.Uses.{spot_of}
+use Rattle.rules.specs.Expressions.Known.{fold_conditional}
+use Rattle.rules.specs.Expressions.Uses.{spot_of}
 use Rattle.min_expressions.proofs.Chosen.{chosen, conditional_chosen, conditional_there}
 use Rattle.min_expressions.proofs.fold.PeepholeOptimizations.try_fold_conditional_expression.Goals as goal
 

@@ -1,5 +1,5 @@
 use Rattle.min_statements.specs.Own.{AnyEdit}
-use Rattle.rules_dead_code.proofs.StaysTrue.{stays}
+use Rattle.rules.proofs.DeadCode.StaysTrue.{stays}
 use Rattle.min_statements.proofs.Expressions.{expression_moves, expression_visits}
 use Rattle.min_statements.proofs.statements.StatementsTraverse.exit_expression.Goals as goal
 

@@ -1,9 +1,9 @@
 use Rattle.std.proofs.Common.{Bool, subst}
 use Rattle.min_traverse.specs.Lawful.{Does}
-use Rattle.rules_expressions.specs.Untaken.{at_if_end}
+use Rattle.rules.specs.Expressions.Untaken.{at_if_end}
 use Rattle.min_statements.specs.Acts.{empty}
 use Rattle.min_statements.specs.Own.{AnyEdit}
-use Rattle.rules_dead_code.proofs.StaysTrue.{stays}
+use Rattle.rules.proofs.DeadCode.StaysTrue.{stays}
 use Rattle.min_statements.proofs.Acting.{empty_moves}
 use Rattle.min_statements.proofs.Ending.{fold_moves, statement_moves, emptied_visits, fold_visits, statement_visits}
 use Rattle.min_statements.proofs.statements.StatementsTraverse.exit_statement.Goals as goal

@@ -3,7 +3,7 @@ use Rattle.js_syntax.specs.Node.{Tree}
 use Rattle.min_traverse.specs.Lawful.{Does, or_same}
 use Rattle.min_statements.specs.Acts.{trim}
 use Rattle.min_statements.specs.Own.{AnyEdit}
-use Rattle.rules_dead_code.proofs.StaysTrue.{stays}
+use Rattle.rules.proofs.DeadCode.StaysTrue.{stays}
 use Rattle.min_statements.proofs.Acting.{trim_moves, is_list}
 use Rattle.min_statements.proofs.Repeating.{list_moves, trimmed_visits, list_visits, untrimmed}
 use Rattle.min_statements.proofs.statements.StatementsTraverse.exit_statements.Goals as goal

@@ -1,0 +1,76 @@
+-- What is known of a program is known of what edits leave of it.
+use Rattle.std.proofs.Common.{◌≡◌, ◌∙◌, ℕ, Bool, true, false, true≢false, ◌||◌, refl, sym, subst}
+use Rattle.js_syntax.specs.declared.node_kind.NodeKind.{NodeKind as Kind}
+use Rattle.js_syntax.specs.Class.{root}
+use Rattle.js_syntax.specs.Node.{Forest, Note, node, joined}
+use Rattle.json_shape.specs.Shape.{Fits}
+use Rattle.js_effects.specs.Silence.{is_marked}
+use Rattle.scope_counts.specs.Losing.{left, MarksWhatLeft}
+use Rattle.steps.specs.Allowed.Edits.{TreeEdits, no_tree_edit, one_tree_edit}
+use Rattle.steps.specs.Allowed.Exposure.{is_script}
+use Rattle.steps.proofs.Fit.Modules.{fits_program}
+use Rattle.steps.specs.Owed.Kept.{is_program}
+use Rattle.steps.proofs.Owed.FitsEdits.{edit_fits, tree_edits_fit}
+use Rattle.steps.specs.Marked.Flags.{first_mark}
+use Rattle.steps.proofs.Marked.Cuts.{Cuts, leaves, empties, empties_if, parts, rebuilds, inside, behind, behind_none, edit_cuts}
+use Rattle.steps.proofs.Marked.Exposing.{part_no_program}
+use Rattle.steps.proofs.Marked.Telling.{no_program, edits_told}
+use Rattle.steps.proofs.Marked.Tables.{edits_keep_marked}
+use Rattle.steps.proofs.Marked.Unexporting.{edits_export}
+use Rattle.rules.specs.DeadCode.Rules.{Facts}
+use Rattle.rules.specs.DeadCode.Knows.{Knows}
+
+-- ---- the program itself stays
+
+record SameRoot (t u : Forest) : Type 0 where
+  script : is_script u ≡ is_script t
+  mark : first_mark u ≡ first_mark t
+
+never : {P : Type 0} → false ≡ true → P
+never e = absurd (true≢false (sym e))
+
+script_first : (k : Kind) (n m : Note) (a b c d : Forest) → is_script (node k n a c) ≡ is_script (node k m b d)
+script_first (Kind.Program source) n m a b c d = refl
+script_first k n m a b c d = refl
+
+root_cut : (listed : Bool) (t u : Forest) → Cuts listed t u → listed ≡ false → is_program t ≡ true → SameRoot t u
+root_cut listed t u (leaves k n below rest plain) l e = absurd (true≢false l)
+root_cut listed t u (empties r n m below rest) l e = never e
+root_cut listed t u (empties_if r n m below rest) l e = never e
+root_cut listed t u (parts r k x i j b v w rest gives unasked) l e = never (sym (no_program k i (joined v (node x j b w)) rest gives) ∙ e)
+root_cut listed t u (rebuilds r k x n m a b rest made) l e = never (sym (part_no_program k n a rest made.old_unasked) ∙ e)
+root_cut listed t u (inside r k n below now rest called h) l e = record { script = script_first k n n now below rest rest; mark = refl }
+root_cut listed t u (behind r k n below rest now h) l e = record { script = script_first k n n below below now rest; mark = refl }
+root_cut listed t u (behind_none r rest now h) l e = never e
+
+root_stays : (t u : Forest) → TreeEdits t u → Fits root t → SameRoot t u
+root_stays t u (no_tree_edit v) fits = record { script = refl; mark = refl }
+root_stays t u (one_tree_edit v w x e more) fits =
+    let one = root_cut false v w (edit_cuts v w e fits) refl (fits_program v fits) in
+    let then_ = root_stays w x more (edit_fits v w e fits) in
+    record { script = then_.script ∙ one.script; mark = then_.mark ∙ one.mark }
+
+-- ---- all of it
+
+pub keeps : (f : Facts) (t u : Forest) → TreeEdits t u → (before after : ℕ → Bool) → MarksWhatLeft before t u after → Knows f before t → Knows f after u
+keeps f t u edits before after marks h =
+    let same = root_stays t u edits h.fits in
+    record {
+      fits = tree_edits_fit t u edits h.fits;
+      exact = edits_keep_marked t u edits h.fits f.scoping before after marks h.exact;
+      flags = edits_told f.scoping t u edits h.fits h.flags;
+      outermost = same.mark ∙ h.outermost;
+      bound = h.bound;
+      exported = λ e stands outermost.
+          let was = edits_export t u edits h.fits e stands outermost in
+          subst (λ o. is_marked f.exported o ≡ true) was.same_mark (h.exported was.declaration was.stands was.is_outermost);
+      script = h.script ∙ sym same.script;
+    }
+
+-- with some marks
+pub record Known (f : Facts) (t : Forest) : Type 0 where
+  pub marked : ℕ → Bool
+  pub knows : Knows f marked t
+
+pub still_known : (f : Facts) (t u : Forest) → TreeEdits t u → Known f t → Known f u
+still_known f t u edits k = record { marked = λ r. k.marked r || left t u r; knows = keeps f t u edits k.marked (λ r. k.marked r || left t u r) (λ r. refl) k.knows }

@@ -1,0 +1,4 @@
+pub mod Missed
+pub mod Statements
+pub mod Expressions
+pub mod Had

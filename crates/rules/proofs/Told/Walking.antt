@@ -1,0 +1,125 @@
+-- What holds at each place of a program holds at each place of what an edit leaves.
+use Rattle.std.proofs.Common.{◌≡◌, ◌∙◌, ℕ, suc, Bool, true, false, true≢false, refl, sym, ap, subst}
+use Rattle.js_syntax.specs.declared.node_kind.NodeKind.{NodeKind as Kind}
+use Rattle.js_syntax.specs.declared.node_kind.NodeKind.TheVariants as kind
+use Rattle.js_syntax.specs.Node.{Forest, Note, nothing, node, absent, joined}
+use Rattle.js_rebuilt.specs.Rebuilt.{is_operation, Rebuilt, ends, stays, leaves as leaves_whole, opened, built, absent_leaves, absent_comes}
+use Rattle.scope_rules.specs.Context.{opens}
+use Rattle.scope_laws.specs.Lists.{is_list}
+use Rattle.scope_counts.proofs.Rebuilding.{operation_is_plain}
+use Rattle.steps.specs.Marked.Flags.{is_within}
+use Rattle.rules.specs.Told.Places.{EachPlace}
+use Rattle.rules.proofs.Told.Standing.{list_outside, plain_outside}
+use Rattle.rules.proofs.Told.Trims.{Alike, alike_itself, Trims, leaves, empties, empties_if, parts, rebuilds, inside, behind, behind_none}
+
+-- `Follows q p` says what is around a place now, q, of what was around it, p. Where a node stands another may stand that makes no scope,
+-- and around an operation is what is around its parts.
+module _ {S : Type 0} (all : Bool) (around : S → Kind → Note → Forest → ℕ → S) (P : S → Kind → Note → Forest → Type 0) (Follows : S → S → Type 0)
+    (descends : (q p : S) (k : Kind) (n : Note) (now below : Forest) → Alike all k now below → Follows q p → (i j : ℕ) → is_within k now i ≡ is_within k below j → Follows (around q k n now i) (around p k n below j))
+    (passes : (q p : S) (k : Kind) (n : Note) (below : Forest) (at : ℕ) → is_within k below at ≡ false → Follows q p → Follows q (around p k n below at))
+    (keeps : (q p : S) (k : Kind) (n : Note) (now below : Forest) → Alike all k now below → Follows q p → P p k n below → P q k n now)
+    (anew : (p : S) (k l : Kind) (n m : Note) (below now : Forest) → opens l now ≡ false → P p k n below → P p l m now)
+    (plain : (k : Kind) → is_operation k ≡ true → (p : S) (n : Note) (below : Forest) (at : ℕ) → around p k n below at ≡ p) where
+  -- in a list it doesn't matter which place it is
+  abbrev pub Covers : (listed : Bool) → (qs ps : ℕ → S) → Type 0
+  Covers listed qs ps = (i j : ℕ) → (listed ≡ false → i ≡ j) → Follows (qs i) (ps j)
+
+  alike_places : (listed : Bool) (k : Kind) (now below : Forest) → is_list k ≡ listed → Alike all k now below → (i j : ℕ) → (listed ≡ false → i ≡ j) → is_within k now i ≡ is_within k below j
+  alike_places true k now below l a i j e = list_outside k l now i ∙ sym (list_outside k l below j)
+  alike_places false k now below l a i j e = a.within i ∙ ap (λ m. is_within k below m) (e refl)
+
+  covers_inside : (q p : S) (k : Kind) (n : Note) (now below : Forest) → Alike all k now below → Follows q p → Covers (is_list k) (around q k n now) (around p k n below)
+  covers_inside q p k n now below a f i j e = descends q p k n now below a f i j (alike_places (is_list k) k now below refl a i j e)
+
+  row_stays : (listed : Bool) (t : Forest) (qs ps : ℕ → S) (i j : ℕ) → Covers listed qs ps → (listed ≡ false → i ≡ j) → EachPlace around P ps j t → EachPlace around P qs i t
+  row_stays listed nothing qs ps i j c f h = tt
+  row_stays listed (absent rest) qs ps i j c f h = row_stays listed rest qs ps (suc i) (suc j) c (λ l. ap suc (f l)) h
+  row_stays listed (node k n below rest) qs ps i j c f h = (
+    keeps (qs i) (ps j) k n below below (alike_itself all k below) (c i j f) h.0,
+    row_stays (is_list k) below (around (qs i) k n below) (around (ps j) k n below) 0 0 (covers_inside (qs i) (ps j) k n below below (alike_itself all k below) (c i j f)) (λ l. refl) h.1,
+    row_stays listed rest qs ps (suc i) (suc j) c (λ l. ap suc (f l)) h.2,
+  )
+
+  record PartThere (ps : ℕ → S) (l : Kind) (n : Note) (b : Forest) : Type 0 where
+    place : ℕ
+    itself : P (ps place) l n b
+    inner : EachPlace around P (around (ps place) l n b) 0 b
+
+  part_there : (ps : ℕ → S) (v : Forest) (l : Kind) (n : Note) (b w : Forest) (at : ℕ) → EachPlace around P ps at (joined v (node l n b w)) → PartThere ps l n b
+  part_there ps nothing l n b w at h = record { place = at; itself = h.0; inner = h.1 }
+  part_there ps (absent v) l n b w at h = part_there ps v l n b w (suc at) h
+  part_there ps (node k m c v) l n b w at h = part_there ps v l n b w (suc at) h.2
+
+  -- in one place, at which a node stands, rows are rebuilt
+  module _ (p : S) (here : (l : Kind) (m : Note) (now : Forest) → opens l now ≡ false → P p l m now) where
+    abbrev There : Forest → Type 0
+    There t = EachPlace around P (λ i. p) 0 t
+
+    anywhere : (t : Forest) (i j : ℕ) → EachPlace around P (λ i. p) i t → EachPlace around P (λ i. p) j t
+    anywhere nothing i j h = tt
+    anywhere (absent r) i j h = anywhere r (suc i) (suc j) h
+    anywhere (node k n a r) i j h = (h.0, h.1, anywhere r (suc i) (suc j) h.2)
+
+    both_there : (t u : Forest) → There t → There u → There (joined t u)
+    both_there nothing u h g = g
+    both_there (absent r) u h g = anywhere (joined r u) 0 1 (both_there r u (anywhere r 1 0 h) g)
+    both_there (node k n a r) u h g = (h.0, h.1, anywhere (joined r u) 0 1 (both_there r u (anywhere r 1 0 h.2) g))
+
+    before_there : (t u : Forest) → There (joined t u) → There t
+    before_there nothing u h = tt
+    before_there (absent r) u h = anywhere r 0 1 (before_there r u (anywhere (joined r u) 1 0 h))
+    before_there (node k n a r) u h = (h.0, h.1, anywhere r 0 1 (before_there r u (anywhere (joined r u) 1 0 h.2)))
+
+    after_there : (t u : Forest) → There (joined t u) → There u
+    after_there nothing u h = h
+    after_there (absent r) u h = after_there r u (anywhere (joined r u) 1 0 h)
+    after_there (node k n a r) u h = after_there r u (anywhere (joined r u) 1 0 h.2)
+
+    same_there : (k : Kind) (n : Note) (a : Forest) → is_operation k ≡ true → around p k n a ≡ (λ at. p)
+    same_there k n a is = λ z. λ at. plain k is p n a at z
+
+    rebuilt_there : {t u : Forest} → Rebuilt t u → There t → There u
+    rebuilt_there ends h = tt
+    rebuilt_there (stays {r = r} {s = q} rest) h = (h.0, h.1, anywhere q 0 1 (rebuilt_there rest (anywhere r 1 0 h.2)))
+    rebuilt_there (leaves_whole {r = r} rest) h = rebuilt_there rest (anywhere r 1 0 h.2)
+    rebuilt_there (opened {k = k} {n = n} {a = a} {r = r} is rest) h =
+        rebuilt_there rest (both_there a r (subst (λ (f : ℕ → S). EachPlace around P f 0 a) (same_there k n a is) h.1) (anywhere r 1 0 h.2))
+    rebuilt_there (built {l = l} {m = m} {b = b} {s = q} may rest) h =
+        let below = rebuilt_there rest h in (
+          here l m b ((operation_is_plain l may.operation).opens_none b),
+          subst (λ (f : ℕ → S). EachPlace around P f 0 b) (sym (same_there l m b may.operation)) (before_there b q below),
+          anywhere q 0 1 (after_there b q below),
+        )
+    rebuilt_there (absent_leaves {r = r} rest) h = rebuilt_there rest (anywhere r 1 0 h)
+    rebuilt_there (absent_comes {s = q} rest) h = anywhere q 0 1 (rebuilt_there rest h)
+
+  pub trimmed_stays : (listed : Bool) (t u : Forest) → Trims all listed t u → (qs ps : ℕ → S) (i j : ℕ) → Covers listed qs ps → (listed ≡ false → i ≡ j) → EachPlace around P ps j t → EachPlace around P qs i u
+  trimmed_stays listed t u (leaves k n below rest) qs ps i j c f h = row_stays true rest qs ps i (suc j) c (λ l. absurd (true≢false l)) h.2
+  trimmed_stays listed t u (empties r n m below rest) qs ps i j c f h = (keeps (qs i) (ps j) kind.EmptyStatement m nothing nothing (alike_itself all kind.EmptyStatement nothing) (c i j f) (anew (ps j) kind.ExpressionStatement kind.EmptyStatement n m below nothing refl h.0), tt, row_stays r rest qs ps (suc i) (suc j) c (λ l. ap suc (f l)) h.2)
+  trimmed_stays listed t u (empties_if r n m below rest) qs ps i j c f h = (keeps (qs i) (ps j) kind.EmptyStatement m nothing nothing (alike_itself all kind.EmptyStatement nothing) (c i j f) (anew (ps j) kind.IfStatement kind.EmptyStatement n m below nothing refl h.0), tt, row_stays r rest qs ps (suc i) (suc j) c (λ l. ap suc (f l)) h.2)
+  trimmed_stays listed t u (parts r k l m n b v w rest gives) qs ps i j c f h =
+      let whole = joined v (node l n b w) in
+      let part = part_there (around (ps j) k m whole) v l n b w 0 h.1 in
+      let p = around (ps j) k m whole part.place in
+      let over = passes (qs i) (ps j) k m whole part.place (plain_outside k gives whole part.place) (c i j f) in (
+        keeps (qs i) p l n b b (alike_itself all l b) over part.itself,
+        row_stays (is_list l) b (around (qs i) l n b) (around p l n b) 0 0 (covers_inside (qs i) p l n b b (alike_itself all l b) over) (λ e. refl) part.inner,
+        row_stays r rest qs ps (suc i) (suc j) c (λ e. ap suc (f e)) h.2,
+      )
+  trimmed_stays listed t u (rebuilds r k l n m a b rest made unasked) qs ps i j c f h =
+      let new = rebuilt_there (ps j) (λ x y now none. anew (ps j) k x n y a now none h.0) made (h.0, h.1, tt) in (
+        keeps (qs i) (ps j) l m b b (alike_itself all l b) (c i j f) new.0,
+        row_stays (is_list l) b (around (qs i) l m b) (around (ps j) l m b) 0 0 (covers_inside (qs i) (ps j) l m b b (alike_itself all l b) (c i j f)) (λ e. refl) new.1,
+        row_stays r rest qs ps (suc i) (suc j) c (λ e. ap suc (f e)) h.2,
+      )
+  trimmed_stays listed t u (inside r k n below now rest a g) qs ps i j c f h = (
+    keeps (qs i) (ps j) k n now below a (c i j f) h.0,
+    trimmed_stays (is_list k) below now g (around (qs i) k n now) (around (ps j) k n below) 0 0 (covers_inside (qs i) (ps j) k n now below a (c i j f)) (λ l. refl) h.1,
+    row_stays r rest qs ps (suc i) (suc j) c (λ l. ap suc (f l)) h.2,
+  )
+  trimmed_stays listed t u (behind r k n below rest now g) qs ps i j c f h = (
+    keeps (qs i) (ps j) k n below below (alike_itself all k below) (c i j f) h.0,
+    row_stays (is_list k) below (around (qs i) k n below) (around (ps j) k n below) 0 0 (covers_inside (qs i) (ps j) k n below below (alike_itself all k below) (c i j f)) (λ l. refl) h.1,
+    trimmed_stays r rest now g qs ps (suc i) (suc j) c (λ l. ap suc (f l)) h.2,
+  )
+  trimmed_stays listed t u (behind_none r rest now g) qs ps i j c f h = trimmed_stays r rest now g qs ps (suc i) (suc j) c (λ l. ap suc (f l)) h

@@ -1,0 +1,58 @@
+// Small programs, by computing.
+ghost use Rattle.std.specs.Prelude.{◌≡◌, [], ◌∷◌, true};
+ghost use Rattle.js_syntax.specs.Node.{Forest};
+ghost use Rattle.scope_rules.specs.Table.{Scoping};
+ghost use Rattle.scope_rules.specs.Worked.{blocks, functions, classes, statements, calls_of_eval};
+ghost use Rattle.steps.specs.Allowed.Exposure.{is_script};
+ghost use Rattle.steps.specs.Marked.Flags.{stands_of};
+ghost use Rattle.rules.specs.DeadCode.Quiet.{ToldOnly};
+ghost use Rattle.js_syntax.specs.declared.node_kind.NodeKind.TheVariants.{EmptyStatement as empty_statement};
+ghost use Rattle.js_syntax.specs.declared.kind.VariableKind.TheVariants as variable;
+ghost use Rattle.form_rules.specs.Samples.{leaf, no, a_module, a_script, a, binds, reads, does, let_, var_, block, function_a, calls};
+ghost use Rattle.scope_rules.specs.Samples.{b};
+ghost use Rattle.steps.specs.Allowed.Rows.{call_of_eval};
+ghost use Rattle.rules.specs.DeadCode.Samples.{in_with, at_top, left_at, left, left_in_block, these, declarator, declares_each, let_one, do_flags_tell_only, new_flags_tell_only};
+
+/// Statements that do nothing go, and what they alone used stays until they are gone.
+pub fn statements_left()
+    ensures empty { left (a_module (leaf empty_statement ∷ [])) ≡ these [] }
+    ensures bound { left (a_module (let_ a ∷ does (reads a) ∷ [])) ≡ these (let_ a ∷ []) }
+    ensures unbound { left (a_module (does (reads a) ∷ [])) ≡ these (does (reads a) ∷ []) }
+{}
+
+/// A name that nothing uses goes, unless other scripts, an importer or a call of `eval` may use it.
+pub fn names_left()
+    ensures unused { left (a_module (let_ a ∷ function_a [] [] ∷ [])) ≡ these [] }
+    ensures global { left (a_script (let_ a ∷ [])) ≡ these (let_ a ∷ []) }
+    ensures exported { left_at at_top (true ∷ []) (a_module (function_a [] [] ∷ [])) ≡ these (function_a [] [] ∷ []) }
+    ensures evaluating { left (a_module (let_ a ∷ does call_of_eval ∷ [])) ≡ these (let_ a ∷ does call_of_eval ∷ []) }
+{}
+
+/// In a block of a script `let` declares for the block alone; `var` and functions declare for the script as well (ECMA-262 B.3.2).
+pub fn block_left()
+    ensures lexical { left_in_block (a_script (block (let_ a ∷ []) ∷ [])) ≡ these [] }
+    ensures variable { left_in_block (a_script (block (var_ a ∷ []) ∷ [])) ≡ these (var_ a ∷ []) }
+    ensures function { left_in_block (a_script (block (function_a [] [] ∷ []) ∷ [])) ≡ these (function_a [] [] ∷ []) }
+    ensures of_module { left_in_block (a_module (block (var_ a ∷ function_a [] [] ∷ []) ∷ [])) ≡ these [] }
+{}
+
+/// Of several declarators those go whose initialisers do nothing; inside of a `with` statement only those without one.
+pub fn declarators_left()
+    ensures some { left (a_module (declares_each variable.Let (declarator (binds a) (calls (reads a)) ∷ declarator (binds b) no ∷ []) ∷ [])) ≡ these (declares_each variable.Let (declarator (binds a) (calls (reads a)) ∷ []) ∷ []) }
+    ensures silent { left (a_module (let_one ∷ [])) ≡ these [] }
+    ensures in_with { left_at in_with [] (a_module (let_one ∷ let_ b ∷ [])) ≡ these (let_one ∷ []) }
+{}
+
+/// The flags of new tables tell of each worked program only what is so.
+pub fn new_flags_tell_nothing_else()
+    ensures blocks { new_flags_tell_only blocks ≡ true ∷ true ∷ true ∷ [] }
+    ensures functions { new_flags_tell_only functions ≡ true ∷ true ∷ true ∷ true ∷ true ∷ true ∷ [] }
+    ensures classes { new_flags_tell_only classes ≡ true ∷ true ∷ [] }
+    ensures statements { new_flags_tell_only statements ≡ true ∷ true ∷ true ∷ true ∷ true ∷ [] }
+    ensures calls_of_eval { new_flags_tell_only calls_of_eval ≡ true ∷ true ∷ [] }
+{}
+
+/// Which is seen by computing.
+pub fn computing_shows_what_flags_tell_only()
+    ensures { (s : Scoping) (t : Forest) → do_flags_tell_only s t ≡ true → ToldOnly s (is_script t) (stands_of t) 0 t }
+{}

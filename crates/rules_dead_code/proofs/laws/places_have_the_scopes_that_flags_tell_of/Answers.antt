@@ -1,5 +1,0 @@
-use Rattle.rules_dead_code.proofs.Before.{scope_before, variables_before, with_before}
-use Rattle.rules_dead_code.proofs.laws.places_have_the_scopes_that_flags_tell_of.Goals as goal
-
-pub returns : goal.returns
-returns c = record { scope = scope_before; variables = variables_before; in_with = with_before }

@@ -1,5 +1,0 @@
-use Rattle.rules_dead_code.proofs.New.{pruned_known}
-use Rattle.rules_dead_code.proofs.laws.what_is_known_stays_while_lists_are_pruned.Goals as goal
-
-pub returns : goal.returns
-returns c = pruned_known

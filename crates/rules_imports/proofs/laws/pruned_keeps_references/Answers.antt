@@ -1,5 +1,0 @@
-use Rattle.rules_imports.proofs.Lighter.{pruned_refers, pruned_calls}
-use Rattle.rules_imports.proofs.laws.pruned_keeps_references.Goals as goal
-
-pub returns : goal.returns
-returns c = record { references = pruned_refers; calls = pruned_calls }

@@ -1,5 +1,0 @@
-use Rattle.rules_imports.proofs.Repeating.{none_repeats, once_without}
-use Rattle.rules_imports.proofs.laws.repeated_imports_are_found.Goals as goal
-
-pub returns : goal.returns
-returns c = record { goes = none_repeats; stays = once_without }

@@ -1,4 +1,0 @@
-mod Missed
-mod Statements
-mod Expressions
-pub mod Had

@@ -1,0 +1,105 @@
+-- What is left of a program that breaks no rule of form breaks none.
+use Rattle.std.proofs.Common.{◌≡◌, ℕ, ◌+◌, suc, List, [], ◌∷◌, ◌++◌, false, None, refl, sym, ap, ◌∙◌}
+use Rattle.js_tree.specs.Count.{one_each, node_count}
+use Rattle.js_syntax.specs.declared.node_kind.NodeKind.{NodeKind as Kind}
+use Rattle.js_syntax.specs.declared.node_kind.NodeKind.TheVariants.{Program as program, EmptyStatement as empty_statement, ExpressionStatement as expression_statement, IfStatement as if_statement}
+use Rattle.js_syntax.specs.Node.{Note, Forest, nothing, node, absent, joined}
+use Rattle.form_rules.specs.declared.rule.Break.{Break}
+use Rattle.form_rules.specs.Break.{least}
+use Rattle.form_rules.specs.Context as context
+use Rattle.form_rules.specs.Context.{Context, inside}
+use Rattle.form_rules.specs.Rules.{broken_at}
+use Rattle.form_rules.specs.Form.{broken_in, source_of, broken, IsWellFormed}
+use Rattle.steps.specs.KeepForm.Part.{is_asked_for, StandsFor, Replaces, by_part, by_parts}
+use Rattle.steps.specs.KeepForm.Sheds.{may_leave, Around, entered, outermost, Sheds, ends, keeps_absent, keeps, leaves, empties, empties_if, becomes}
+use Rattle.steps.proofs.KeepForm.Contexts.{inside_same}
+use Rattle.steps.proofs.KeepForm.Asked.{old_unasked, new_unasked}
+use Rattle.steps.proofs.KeepForm.Rows.{itself}
+use Rattle.steps.proofs.KeepForm.Alone.{passed_on, inside_alike, rules_alike}
+use Rattle.steps.proofs.KeepForm.Rebuilding.{moved, rebuilt_kept}
+use Rattle.steps.proofs.KeepForm.Rules.{first_empty, second_empty, both_empty, rules_kept, empty_keeps}
+
+-- behind other nodes of a row
+behind_others : (before rest : Forest) (f : ℕ → Context) (i p : ℕ) → broken_in f i p (joined before rest) ≡ [] → (j : ℕ) × (q : ℕ) × (broken_in f j q rest ≡ [])
+behind_others nothing rest f i p h = (i, p, h)
+behind_others (absent r) rest f i p h = behind_others r rest f (suc i) p h
+behind_others (node k n a r) rest f i p h =
+    behind_others r rest f (suc i) (p + node_count (node k n a nothing))
+    (second_empty (broken_at (f i) k p a ++ broken_in (inside (f i) k a) 0 (p + one_each k) a) (broken_in f (suc i) (p + node_count (node k n a nothing)) (joined r rest)) h)
+
+-- a part that stands for a node breaks none in the node's context
+part_kept : (c : Context) (k l : Kind) (a b : Forest) (p q : ℕ) → StandsFor k a l b → broken_in (inside c k a) 0 p a ≡ [] → broken_at c l q b ++ broken_in (inside c l b) 0 (q + one_each l) b ≡ []
+part_kept c k l a b p q part h =
+    let f = inside c k a in
+    let there = behind_others part.before (node l part.note b part.after) f 0 p (ap (broken_in f 0 p) (sym part.is_part) ∙ h) in
+    let d = f there.0 in
+    let same = passed_on c k a there.0 part.gives in
+    let own = broken_at d l there.1 b in
+    let below = broken_in (inside d l b) 0 (there.1 + one_each l) b in
+    let front = first_empty (own ++ below) (broken_in f (suc there.0) (there.1 + node_count (node l part.note b nothing)) part.after) there.2 in
+    both_empty (broken_at c l q b) (broken_in (inside c l b) 0 (q + one_each l) b)
+    (rules_kept outermost c there.1 q b b l (itself (entered outermost l b) b) (rules_alike l there.1 b part.unasked d c same (first_empty own below front)))
+    (moved b (inside d l b) (inside c l b) (λ x. sym (inside_alike c l b x part.unasked) ∙ ap (λ y. inside y l b x) (sym same) ∙ inside_alike d l b x part.unasked) 0 (there.1 + one_each l) (q + one_each l)
+    (second_empty own below front))
+
+replaced_kept : (c : Context) (p q : ℕ) {k l : Kind} {n m : Note} {a b : Forest} → Replaces k n a l m b → broken_at c k p a ++ broken_in (inside c k a) 0 (p + one_each k) a ≡ []
+    → broken_at c l q b ++ broken_in (inside c l b) 0 (q + one_each l) b ≡ []
+replaced_kept c p q {k = k} {l = l} {a = a} {b = b} (by_part part) h = part_kept c k l a b (p + one_each k) q part (second_empty (broken_at c k p a) (broken_in (inside c k a) 0 (p + one_each k) a) h)
+replaced_kept c p q {k = k} {l = l} {n = n} {m = m} {a = a} {b = b} (by_parts made) h = rebuilt_kept c k l n m a b p q made h
+
+-- Nodes have the contexts that they had: in a list all have the same one.
+pub form_kept : {w : Around} {t u : Forest} → Sheds w t u → (f g : ℕ → Context) → ((i j : ℕ) → (may_leave w.row ≡ false → i ≡ j) → g j ≡ f i) → (i j p q : ℕ) → (may_leave w.row ≡ false → i ≡ j) → broken_in f i p t ≡ [] → broken_in g j q u ≡ []
+form_kept ends f g same i j p q e h = refl
+form_kept (keeps_absent rest) f g same i j p q e h = form_kept rest f g same (suc i) (suc j) p q (λ d. ap (λ n. suc n) (e d)) h
+form_kept (keeps {w = w} {k = k} {n = n} {m = m} {a = a} {b = b} {r = r} {s = s} one below rest) f g same i j p q e h =
+    let front = first_empty (broken_at (f i) k p a ++ broken_in (inside (f i) k a) 0 (p + one_each k) a) (broken_in f (suc i) (p + node_count (node k n a nothing)) r) h in
+    let behind = second_empty (broken_at (f i) k p a ++ broken_in (inside (f i) k a) 0 (p + one_each k) a) (broken_in f (suc i) (p + node_count (node k n a nothing)) r) h in
+    both_empty (broken_at (g j) k q b ++ broken_in (inside (g j) k b) 0 (q + one_each k) b) (broken_in g (suc j) (q + node_count (node k m b nothing)) s)
+    (both_empty (broken_at (g j) k q b) (broken_in (inside (g j) k b) 0 (q + one_each k) b)
+    (ap (λ c. broken_at c k q b) (same i j e) ∙ rules_kept w (f i) p q a b k below (first_empty (broken_at (f i) k p a) (broken_in (inside (f i) k a) 0 (p + one_each k) a) front))
+    (form_kept below (inside (f i) k a) (inside (g j) k b) (λ x y d. ap (λ c. inside c k b y) (same i j e) ∙ inside_same w (f i) k a b x y below d) 0 0 (p + one_each k) (q + one_each k) (λ d. refl)
+    (second_empty (broken_at (f i) k p a) (broken_in (inside (f i) k a) 0 (p + one_each k) a) front)))
+    (form_kept rest f g same (suc i) (suc j) (p + node_count (node k n a nothing)) (q + node_count (node k m b nothing)) (λ d. ap (λ n. suc n) (e d)) behind)
+form_kept (leaves {k = k} {n = n} {a = a} {r = r} may out strict rest) f g same i j p q e h =
+    form_kept rest f g same (suc i) j (p + node_count (node k n a nothing)) q (λ d. absurd (cc (d, may)))
+    (second_empty (broken_at (f i) k p a ++ broken_in (inside (f i) k a) 0 (p + one_each k) a) (broken_in f (suc i) (p + node_count (node k n a nothing)) r) h)
+form_kept (empties {n = n} {m = m} {a = a} {r = r} {s = s} may rest) f g same i j p q e h =
+    both_empty (broken_at (g j) empty_statement q nothing ++ []) (broken_in g (suc j) (q + node_count (node empty_statement m nothing nothing)) s) (both_empty (broken_at (g j) empty_statement q nothing) [] (empty_keeps (g j) q) refl)
+    (form_kept rest f g same (suc i) (suc j) (p + node_count (node expression_statement n a nothing)) (q + node_count (node empty_statement m nothing nothing)) (λ d. ap (λ n. suc n) (e d))
+    (second_empty (broken_at (f i) expression_statement p a ++ broken_in (inside (f i) expression_statement a) 0 (p + one_each expression_statement) a) (broken_in f (suc i) (p + node_count (node expression_statement n a nothing)) r) h))
+form_kept (empties_if {n = n} {m = m} {a = a} {r = r} {s = s} may unnamed rest) f g same i j p q e h =
+    both_empty (broken_at (g j) empty_statement q nothing ++ []) (broken_in g (suc j) (q + node_count (node empty_statement m nothing nothing)) s) (both_empty (broken_at (g j) empty_statement q nothing) [] (empty_keeps (g j) q) refl)
+    (form_kept rest f g same (suc i) (suc j) (p + node_count (node if_statement n a nothing)) (q + node_count (node empty_statement m nothing nothing)) (λ d. ap (λ n. suc n) (e d))
+    (second_empty (broken_at (f i) if_statement p a ++ broken_in (inside (f i) if_statement a) 0 (p + one_each if_statement) a) (broken_in f (suc i) (p + node_count (node if_statement n a nothing)) r) h))
+form_kept (becomes {k = k} {l = l} {n = n} {m = m} {a = a} {b = b} {r = r} {s = s} part may bare rest) f g same i j p q e h =
+    let own = broken_at (f i) k p a in
+    let below = broken_in (inside (f i) k a) 0 (p + one_each k) a in
+    let behind = broken_in f (suc i) (p + node_count (node k n a nothing)) r in
+    both_empty (broken_at (g j) l q b ++ broken_in (inside (g j) l b) 0 (q + one_each l) b) (broken_in g (suc j) (q + node_count (node l m b nothing)) s)
+    (ap (λ c. broken_at c l q b ++ broken_in (inside c l b) 0 (q + one_each l) b) (same i j e) ∙ replaced_kept (f i) p q part (first_empty (own ++ below) behind h))
+    (form_kept rest f g same (suc i) (suc j) (p + node_count (node k n a nothing)) (q + node_count (node l m b nothing)) (λ d. ap (λ n. suc n) (e d)) (second_empty (own ++ below) behind h))
+
+no_source : (k : Kind) (n : Note) (a r : Forest) → is_asked_for k ≡ false → source_of (node k n a r) ≡ source_of nothing
+no_source (program source) n a r h = absurd cc
+no_source k n a r h = refl
+
+pub none_broken : (bs : List Break) → least bs ≡ None → bs ≡ []
+none_broken [] h = refl
+none_broken (b ∷ bs) h = absurd cc
+
+source_node : (k : Kind) (n m : Note) (a b r s : Forest) → source_of (node k m b s) ≡ source_of (node k n a r)
+source_node (program source) n m a b r s = refl
+source_node k n m a b r s = refl
+
+source_same : {w : Around} {t u : Forest} → may_leave w.row ≡ false → Sheds w t u → source_of u ≡ source_of t
+source_same stays ends = refl
+source_same stays (keeps_absent rest) = refl
+source_same stays (keeps {k = k} {n = n} {m = m} {a = a} {b = b} {r = r} {s = s} one below rest) = source_node k n m a b r s
+source_same stays (leaves may out strict rest) = absurd (cc (stays, may))
+source_same stays (empties may rest) = refl
+source_same stays (empties_if may unnamed rest) = refl
+source_same stays (becomes {k = k} {l = l} {n = n} {m = m} {a = a} {b = b} {r = r} {s = s} part may bare rest) = no_source l m b s (new_unasked part) ∙ sym (no_source k n a r (old_unasked part))
+
+pub stays_well_formed : (t u : Forest) → Sheds outermost t u → IsWellFormed t → IsWellFormed u
+stays_well_formed t u sheds whole =
+    ap least (form_kept sheds (λ i. context.outermost (source_of t)) (λ j. context.outermost (source_of u)) (λ i j d. ap context.outermost (source_same refl sheds)) 0 0 0 0 (λ d. refl) (none_broken (broken t) whole))

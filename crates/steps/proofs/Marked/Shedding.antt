@@ -1,0 +1,189 @@
+-- Edits bring in no references and declarations, and leave less.
+use Rattle.std.proofs.Common.{◌≡◌, ◌≤◌, ◌<◌, ◌+◌, ℕ, List, true, false, Option, true≢false, arith, sym, subst, ◌++◌, inl, inr, refl}
+use Rattle.js_syntax.specs.declared.node_kind.NodeKind.{NodeKind as Kind}
+use Rattle.js_syntax.specs.declared.node_kind.NodeKind.TheVariants.{BindingName as binding_name, IfStatement as if_statement, TryStatement as try_statement, ConditionalExpression as conditional_expression, UnaryExpression as unary_expression, BinaryExpression as binary_expression, LogicalExpression as logical_expression}
+use Rattle.js_syntax.specs.Class.{root}
+use Rattle.js_syntax.specs.Facts as facts
+use Rattle.js_syntax.specs.Node.{Forest, Note, nothing, node, absent, joined, total}
+use Rattle.json_shape.specs.Shape.{Fits}
+use Rattle.scope_laws.specs.Exact.{Among}
+use Rattle.scope_laws.proofs.Among.{among_left, among_right}
+use Rattle.scope_counts.specs.Losing.{referring, own_declaring, declaring}
+use Rattle.scope_counts.proofs.Scopes.{each_joined}
+use Rattle.scope_counts.proofs.Rebuilding.{rebuilt_tally, rebuilt_thins}
+use Rattle.scope_counts.proofs.Tables.{referring_each, each_referring}
+use Rattle.scope_counts.specs.Counts.{Decl, Weight, tally, by_id, ids}
+use Rattle.scope_counts.specs.Edits.{Around, here, behind, behind_none, under, plug}
+use Rattle.scope_counts.specs.Scopes.{EachName, EachDeclaration, EachUse, EachReference}
+use Rattle.steps.specs.KeepForm.Part.{gives_way}
+use Rattle.steps.specs.Allowed.Edits.{Edit, TreeEdits, no_tree_edit, one_tree_edit}
+use Rattle.steps.proofs.Owed.FitsEdits.{edit_fits}
+use Rattle.steps.proofs.Marked.Local.{Local, leaves, empties, empties_if, parts, rebuilds, is_local}
+
+-- ---- references
+
+module _ (w : Weight) where
+  tally_joined : (v t : Forest) → tally w (joined v t) ≡ tally w v + tally w t
+  tally_joined nothing t = Prim.omega arith
+  tally_joined (absent v) t = tally_joined v t
+  tally_joined (node k n b v) t = Prim.omega (arith, tally_joined v t)
+
+  tally_local : (place : Around) (t u : Forest) → Local place t u → tally w u ≤ tally w t
+  tally_local place t u (leaves k n b rest listed plain weighs) = Prim.omega arith
+  tally_local place t u (empties n m b rest) = Prim.omega arith
+  tally_local place t u (empties_if n m b rest) = Prim.omega arith
+  tally_local place t u (parts k l i j b v x rest gives unasked uncalled) = Prim.omega (arith, tally_joined v (node l j b x))
+  tally_local place t u (rebuilds k l n m a b rest made uncalled) = Prim.omega (arith, rebuilt_tally w made.rebuilt)
+
+  tally_plug : (a : Around) (t u : Forest) → tally w u ≤ tally w t → tally w (plug a u) ≤ tally w (plug a t)
+  tally_plug here t u h = h
+  tally_plug (behind k n b a) t u h = Prim.omega (arith, tally_plug a t u h)
+  tally_plug (behind_none a) t u h = tally_plug a t u h
+  tally_plug (under k n a rest) t u h = Prim.omega (arith, tally_plug a t u h)
+
+edit_sheds_references : (t u : Forest) → Edit t u → Fits root t → (r : ℕ) → ids r u ≤ ids r t
+edit_sheds_references t u e fits r =
+    let l = is_local t u e fits in
+    subst (λ x. tally (by_id r) x ≤ ids r t) (sym l.new_is)
+    (subst (λ x. tally (by_id r) (plug l.place l.new) ≤ tally (by_id r) x) (sym l.old_is) (tally_plug (by_id r) l.place l.old l.new (tally_local (by_id r) l.place l.old l.new l.local)))
+
+pub edits_shed : (t u : Forest) → TreeEdits t u → Fits root t → (r : ℕ) → ids r u ≤ ids r t
+edits_shed t u (no_tree_edit v) fits r = Prim.omega arith
+edits_shed t u (one_tree_edit v w x e more) fits r = Prim.omega (arith, edit_sheds_references v w e fits r, edits_shed w x more (edit_fits v w e fits) r)
+
+-- ---- weights
+
+gives_weight : (k : Kind) → gives_way k ≡ true → 1 ≤ facts.weight k
+gives_weight if_statement e = Prim.omega arith
+gives_weight try_statement e = Prim.omega arith
+gives_weight conditional_expression e = Prim.omega arith
+gives_weight (logical_expression operator) e = Prim.omega arith
+gives_weight (unary_expression operator) e = Prim.omega arith
+gives_weight (binary_expression operator) e = Prim.omega arith
+gives_weight k e = absurd (true≢false (sym e))
+
+weight_joined : (v t : Forest) → total facts.weight (joined v t) ≡ total facts.weight v + total facts.weight t
+weight_joined nothing t = Prim.omega arith
+weight_joined (absent v) t = weight_joined v t
+weight_joined (node k n b v) t = Prim.omega (arith, weight_joined v t)
+
+weight_local : (place : Around) (t u : Forest) → Local place t u → total facts.weight u < total facts.weight t
+weight_local place t u (leaves k n b rest listed plain weighs) = Prim.omega (arith, weighs)
+weight_local place t u (empties n m b rest) = Prim.omega arith
+weight_local place t u (empties_if n m b rest) = Prim.omega arith
+weight_local place t u (parts k l i j b v x rest gives unasked uncalled) = Prim.omega (arith, weight_joined v (node l j b x), gives_weight k gives)
+weight_local place t u (rebuilds k l n m a b rest made uncalled) = Prim.omega (arith, made.lighter)
+
+weight_plug : (a : Around) (t u : Forest) → total facts.weight u < total facts.weight t → total facts.weight (plug a u) < total facts.weight (plug a t)
+weight_plug here t u h = h
+weight_plug (behind k n b a) t u h = Prim.omega (arith, weight_plug a t u h)
+weight_plug (behind_none a) t u h = weight_plug a t u h
+weight_plug (under k n a rest) t u h = Prim.omega (arith, weight_plug a t u h)
+
+pub edit_weighs_less : (t u : Forest) → Edit t u → Fits root t → total facts.weight u < total facts.weight t
+edit_weighs_less t u e fits =
+    let l = is_local t u e fits in
+    subst (λ x. total facts.weight x < total facts.weight t) (sym l.new_is)
+    (subst (λ x. total facts.weight (plug l.place l.new) < total facts.weight x) (sym l.old_is) (weight_plug l.place l.old l.new (weight_local l.place l.old l.new l.local)))
+
+pub edits_weigh_no_more : (t u : Forest) → TreeEdits t u → Fits root t → total facts.weight u ≤ total facts.weight t
+edits_weigh_no_more t u (no_tree_edit v) fits = Prim.omega arith
+edits_weigh_no_more t u (one_tree_edit v w x e more) fits = Prim.omega (arith, edit_weighs_less v w e fits, edits_weigh_no_more w x more (edit_fits v w e fits))
+
+-- ---- as lists
+
+if_name : (P : List ℕ → Option ℕ → Type 0) (n : Note) (k : Kind) → EachName P n k → (d : Decl) → Among d (own_declaring n k) → P d.name d.symbol
+if_name P n (binding_name x) e d (inl h) = subst (λ (d : Decl). P d.name d.symbol) h e
+if_name P n (binding_name x) e d (inr h) = absurd h
+if_name P n k e d h = absurd h
+
+name_if : (P : List ℕ → Option ℕ → Type 0) (n : Note) (k : Kind) → ((d : Decl) → Among d (own_declaring n k) → P d.name d.symbol) → EachName P n k
+name_if P n (binding_name x) f = f _ (inl refl)
+name_if P n k f = tt
+
+declaring_each : (P : List ℕ → Option ℕ → Type 0) (t : Forest) → EachDeclaration P t → (d : Decl) → Among d (declaring t) → P d.name d.symbol
+declaring_each P nothing e d h = absurd h
+declaring_each P (absent t) e d h = declaring_each P t e d h
+declaring_each P (node k n b t) e d h =
+    each_joined (λ (d : Decl). P d.name d.symbol) (own_declaring n k ++ declaring b) (declaring t)
+    (each_joined (λ (d : Decl). P d.name d.symbol) (own_declaring n k) (declaring b) (if_name P n k e.0) (declaring_each P b e.1)) (declaring_each P t e.2) d h
+
+each_declaring : (P : List ℕ → Option ℕ → Type 0) (t : Forest) → ((d : Decl) → Among d (declaring t) → P d.name d.symbol) → EachDeclaration P t
+each_declaring P nothing f = tt
+each_declaring P (absent t) f = each_declaring P t f
+each_declaring P (node k n b t) f = (
+  name_if P n k (λ d h. f d (among_left d (own_declaring n k ++ declaring b) (declaring t) (among_left d (own_declaring n k) (declaring b) h))),
+  each_declaring P b (λ d h. f d (among_left d (own_declaring n k ++ declaring b) (declaring t) (among_right d (own_declaring n k) (declaring b) h))),
+  each_declaring P t (λ d h. f d (among_right d (own_declaring n k ++ declaring b) (declaring t) h)),
+)
+
+-- ---- declarations
+
+module _ (P : List ℕ → Option ℕ → Type 0) where
+  declared_part : (v : Forest) (l : Kind) (j : Note) (b w : Forest) → EachDeclaration P (joined v (node l j b w)) → EachName P j l × EachDeclaration P b
+  declared_part nothing l j b w e = (e.0, e.1)
+  declared_part (absent v) l j b w e = declared_part v l j b w e
+  declared_part (node k n c v) l j b w e = declared_part v l j b w e.2
+
+  declared_local : (place : Around) (t u : Forest) → Local place t u → EachDeclaration P t → EachDeclaration P u
+  declared_local place t u (leaves k n b rest listed plain weighs) e = e.2
+  declared_local place t u (empties n m b rest) e = (tt, tt, e.2)
+  declared_local place t u (empties_if n m b rest) e = (tt, tt, e.2)
+  declared_local place t u (parts k l i j b v x rest gives unasked uncalled) e = let inner = declared_part v l j b x e.1 in (inner.0, inner.1, e.2)
+  declared_local place t u (rebuilds k l n m a b rest made uncalled) e = each_declaring P u (λ d h. declaring_each P t e d ((rebuilt_thins (λ r. false) k l n m a b rest made.rebuilt).declarations d h))
+
+  declared_plug : (a : Around) (t u : Forest) → (EachDeclaration P t → EachDeclaration P u) → EachDeclaration P (plug a t) → EachDeclaration P (plug a u)
+  declared_plug here t u f e = f e
+  declared_plug (behind k n b a) t u f e = (e.0, e.1, declared_plug a t u f e.2)
+  declared_plug (behind_none a) t u f e = declared_plug a t u f e
+  declared_plug (under k n a rest) t u f e = (e.0, declared_plug a t u f e.1, e.2)
+
+  edit_declares : (t u : Forest) → Edit t u → Fits root t → EachDeclaration P t → EachDeclaration P u
+  edit_declares t u e fits declared =
+      let l = is_local t u e fits in
+      subst (EachDeclaration P) (sym l.new_is) (declared_plug l.place l.old l.new (declared_local l.place l.old l.new l.local) (subst (EachDeclaration P) l.old_is declared))
+
+  pub edits_declare : (t u : Forest) → TreeEdits t u → Fits root t → EachDeclaration P t → EachDeclaration P u
+  edits_declare t u (no_tree_edit v) fits declared = declared
+  edits_declare t u (one_tree_edit v w x e more) fits declared = edits_declare w x more (edit_fits v w e fits) (edit_declares v w e fits declared)
+
+-- ---- references, whatever holds of each
+
+module _ (P : List ℕ → Option ℕ → Type 0) where
+  referring_part : (v : Forest) (l : Kind) (j : Note) (b w : Forest) → EachReference P (joined v (node l j b w)) → EachUse P j l × EachReference P b
+  referring_part nothing l j b w e = (e.0, e.1)
+  referring_part (absent v) l j b w e = referring_part v l j b w e
+  referring_part (node k n c v) l j b w e = referring_part v l j b w e.2
+
+  referring_local : (place : Around) (t u : Forest) → Local place t u → EachReference P t → EachReference P u
+  referring_local place t u (leaves k n b rest listed plain weighs) e = e.2
+  referring_local place t u (empties n m b rest) e = (tt, tt, e.2)
+  referring_local place t u (empties_if n m b rest) e = (tt, tt, e.2)
+  referring_local place t u (parts k l i j b v x rest gives unasked uncalled) e = let inner = referring_part v l j b x e.1 in (inner.0, inner.1, e.2)
+  referring_local place t u (rebuilds k l n m a b rest made uncalled) e = each_referring P u (λ d h. referring_each P t e d ((rebuilt_thins (λ r. false) k l n m a b rest made.rebuilt).references d h))
+
+  referring_plug : (a : Around) (t u : Forest) → (EachReference P t → EachReference P u) → EachReference P (plug a t) → EachReference P (plug a u)
+  referring_plug here t u f e = f e
+  referring_plug (behind k n b a) t u f e = (e.0, e.1, referring_plug a t u f e.2)
+  referring_plug (behind_none a) t u f e = referring_plug a t u f e
+  referring_plug (under k n a rest) t u f e = (e.0, referring_plug a t u f e.1, e.2)
+
+  edit_refers : (t u : Forest) → Edit t u → Fits root t → EachReference P t → EachReference P u
+  edit_refers t u e fits referring =
+      let l = is_local t u e fits in
+      subst (EachReference P) (sym l.new_is) (referring_plug l.place l.old l.new (referring_local l.place l.old l.new l.local) (subst (EachReference P) l.old_is referring))
+
+  pub edits_refer : (t u : Forest) → TreeEdits t u → Fits root t → EachReference P t → EachReference P u
+  edits_refer t u (no_tree_edit v) fits referring = referring
+  edits_refer t u (one_tree_edit v w x e more) fits referring = edits_refer w x more (edit_fits v w e fits) (edit_refers v w e fits referring)
+
+-- ---- among what stood there
+
+abbrev named : List Decl → List ℕ → Option ℕ → Type 0
+named ds x q = Among (record { name = x; symbol = q }) ds
+
+pub declared_before : (t u : Forest) → TreeEdits t u → Fits root t → (d : Decl) → Among d (declaring u) → Among d (declaring t)
+declared_before t u edits fits d h = declaring_each (named (declaring t)) u (edits_declare (named (declaring t)) t u edits fits (each_declaring (named (declaring t)) t (λ e k. k))) d h
+
+pub referred_before : (t u : Forest) → TreeEdits t u → Fits root t → (d : Decl) → Among d (referring u) → Among d (referring t)
+referred_before t u edits fits d h = referring_each (named (referring t)) u (edits_refer (named (referring t)) t u edits fits (each_referring (named (referring t)) t (λ e k. k))) d h

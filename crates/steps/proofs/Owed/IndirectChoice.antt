@@ -1,0 +1,257 @@
+-- What a choice owes of which it is known which part counts, which becomes the part that counts behind a zero.
+use Rattle.std.proofs.Common.{◌≡◌, ◌≤◌, ◌<◌, [], ◌∷◌, ◌++◌, pos, Bool, true, false, ◌&&◌, Option, Some, None, arith, refl, sym, subst}
+use Rattle.js_syntax.specs.Class.{Class, root, expression}
+use Rattle.js_syntax.specs.declared.node_kind.NodeKind.{NodeKind as Kind}
+use Rattle.js_syntax.specs.declared.node_kind.NodeKind.TheVariants.{ConditionalExpression as conditional_expression, LogicalExpression as logical_expression, SequenceExpression as sequence_expression, Literal as literal}
+use Rattle.js_syntax.specs.declared.operator.LogicalOperator.{LogicalOperator}
+use Rattle.js_syntax.specs.declared.value.LiteralValue.TheVariants as value
+use Rattle.js_syntax.specs.Facts.{weight}
+use Rattle.js_syntax.specs.Node.{Note, Forest, Tree, nothing, node, forest_of, total}
+use Rattle.js_syntax.specs.Table.{a_literal, a_sequence_expression, a_logical_expression, a_conditional_expression}
+use Rattle.js_syntax.proofs.Truth.{both}
+use Rattle.js_tree.specs.Count.{levels}
+use Rattle.js_rebuilt.specs.Rebuilt.{MayBeBuilt, Rebuilt, ends, stays, leaves, opened, built}
+use Rattle.js_meaning.specs.Scope.{names_of, bound_names, import_decls}
+use Rattle.js_meaning_near.specs.Near.{is_calm, module_of}
+use Rattle.js_meaning_near.specs.Purpose.{Purpose}
+use Rattle.js_meaning_near.specs.Local.{Stands, for_part}
+use Rattle.json_shape.specs.Shape.{one, these, Fits}
+use Rattle.form_rules.specs.Form.{IsWellFormed}
+use Rattle.scope_laws.specs.Place.{Around, plug}
+use Rattle.steps.specs.Steps.{all_core}
+use Rattle.steps.specs.Allowed.IndirectChoice.{one_of, if_so, part_counts, behind_zero, IndirectChoice, value_alone_counts}
+use Rattle.steps.specs.Allowed.KnownConditional.{truth_known, a_conditional}
+use Rattle.steps.specs.Allowed.KnownSide.{side_known, a_logical}
+use Rattle.steps.specs.Allowed.Wanted.{wanted_at}
+use Rattle.steps.proofs.Fit.CoreCalm.{nameless_as_planned}
+use Rattle.steps.proofs.Fit.Held.{core_below}
+use Rattle.steps.specs.KeepForm.Part.{is_asked_for}
+use Rattle.steps.proofs.KeepForm.Rules.{first_empty, both_empty}
+use Rattle.steps.specs.Owed.Comes.{Comes}
+use Rattle.steps.specs.Allowed.Calls.{may_end}
+use Rattle.steps.specs.Owed.Owed.{MayChange, IsOther, is_read_name, ByParts, by_coming}
+use Rattle.steps.specs.Owed.TakesPlace.{TakesPlace}
+use Rattle.steps.proofs.Owed.BehindZero.{consequent_behind_zero, alternate_behind_zero, right_side_behind_zero}
+use Rattle.steps.proofs.Owed.BranchKinds.{IsExpression}
+use Rattle.steps.proofs.Owed.ChoiceParts.{parts_of_conditional, sides_of_logical}
+use Rattle.steps.proofs.Owed.ChoiceRuns.{consequent_core, alternate_core, core_there, no_imports_below, imports_before}
+use Rattle.steps.proofs.Owed.KnownTests.{test_tells, side_tells, test_weighs, side_weighs, test_counts, side_counts}
+use Rattle.steps.proofs.Owed.FitsTaking.{as_conditional, conditional_stood, as_logical, logical_stood}
+use Rattle.steps.proofs.Owed.Undeclared.{DeclaresNothing, nothing_behind, both_plainly}
+use Rattle.steps.proofs.Owed.UnusedList.{list_is_built, sequence_is_built}
+
+abbrev tree : Kind → Note → (below : Forest) → Tree
+tree k n below = record { kind = k; note = n; below = below }
+
+abbrev pub number_zero : Kind
+number_zero = literal (value.Number (pos 0))
+
+-- ---- which part counts
+
+pub data Counts : (x z : Tree) → Type 0 where
+  consequent_counts : (o p i j : Note) (t k l : Kind) (d b c : Forest) → truth_known t p d ≡ Some true → Counts (a_conditional o t p d (node k i b (node l j c nothing))) (tree k i b)
+  alternate_counts : (o p i j : Note) (t k l : Kind) (d b c : Forest) → truth_known t p d ≡ Some false → Counts (a_conditional o t p d (node k i b (node l j c nothing))) (tree l j c)
+  right_side_counts : (q : LogicalOperator) (o p i : Note) (t k : Kind) (d b : Forest) → side_known q t p d ≡ Some true → Counts (a_logical q o t p d (node k i b nothing)) (tree k i b)
+
+branch_that_counts : (o p i j : Note) (t k l : Kind) (d b c : Forest) (known : Option Bool) (z : Tree) → truth_known t p d ≡ known → one_of known (tree k i b) (tree l j c) ≡ Some z → Counts (a_conditional o t p d (node k i b (node l j c nothing))) z
+branch_that_counts o p i j t k l d b c (Some true) z truth is = subst (Counts (a_conditional o t p d (node k i b (node l j c nothing)))) (cc is) (consequent_counts o p i j t k l d b c truth)
+branch_that_counts o p i j t k l d b c (Some false) z truth is = subst (Counts (a_conditional o t p d (node k i b (node l j c nothing)))) (cc is) (alternate_counts o p i j t k l d b c truth)
+branch_that_counts o p i j t k l d b c None z truth is = absurd cc
+
+side_that_counts : (q : LogicalOperator) (o p i : Note) (t k : Kind) (d b : Forest) (known : Option Bool) (z : Tree) → side_known q t p d ≡ known → if_so known (tree k i b) ≡ Some z → Counts (a_logical q o t p d (node k i b nothing)) z
+side_that_counts q o p i t k d b (Some true) z goes is = subst (Counts (a_logical q o t p d (node k i b nothing))) (cc is) (right_side_counts q o p i t k d b goes)
+side_that_counts q o p i t k d b (Some false) z e is = absurd cc
+side_that_counts q o p i t k d b None z e is = absurd cc
+
+pub part_that_counts : (o : Note) (k : Kind) (below : Forest) (z : Tree) → part_counts k below ≡ Some z → Counts (tree k o below) z
+part_that_counts o conditional_expression (node t p d (node k i b (node l j c nothing))) z is = branch_that_counts o p i j t k l d b c (truth_known t p d) z refl is
+part_that_counts o (logical_expression q) (node t p d (node k i b nothing)) z is = side_that_counts q o p i t k d b (side_known q t p d) z refl is
+part_that_counts o k below z is = absurd cc
+
+-- ---- rebuilt
+
+pub zero_is_built : MayBeBuilt number_zero nothing
+zero_is_built = record { operation = refl; calls_none = refl; breaks_none = λ c place. refl }
+
+part_is_left : {x z : Tree} → Counts x z → Rebuilt (forest_of x) (forest_of z)
+part_is_left (consequent_counts o p i j t k l d b c truth) = opened refl (leaves (stays (leaves ends)))
+part_is_left (alternate_counts o p i j t k l d b c truth) = opened refl (leaves (leaves (stays ends)))
+part_is_left (right_side_counts q o p i t k d b goes) = opened refl (leaves (stays ends))
+
+part_is_behind : (n m i : Note) (x z : Tree) → Rebuilt (forest_of x) (forest_of z) → Rebuilt (forest_of x) (forest_of (behind_zero n m i z))
+part_is_behind n m i x z h = built (sequence_is_built m number_zero z.kind i z.note nothing z.below nothing) (built (list_is_built (node number_zero i nothing (forest_of z))) (built zero_is_built h))
+
+-- ---- what it weighs, and how many levels there are
+
+behind_lighter : (n m i : Note) {x z : Tree} → Counts x z → total weight (forest_of (behind_zero n m i z)) < total weight (forest_of x)
+behind_lighter n m i (consequent_counts o p h j t k l d b c truth) = let test = test_weighs t p d true truth in Prim.omega (arith, test)
+behind_lighter n m i (alternate_counts o p h j t k l d b c truth) = let test = test_weighs t p d false truth in Prim.omega (arith, test)
+behind_lighter n m i (right_side_counts q o p h t k d b goes) = let side = side_weighs t p d q true goes in Prim.omega (arith, side)
+
+behind_no_deeper : (n m i : Note) {x z : Tree} → Counts x z → levels (forest_of (behind_zero n m i z)) ≤ levels (forest_of x)
+behind_no_deeper n m i (consequent_counts o p h j t k l d b c truth) = let test = test_counts t p d true truth in Prim.omega (arith, test)
+behind_no_deeper n m i (alternate_counts o p h j t k l d b c truth) = let test = test_counts t p d false truth in Prim.omega (arith, test)
+behind_no_deeper n m i (right_side_counts q o p h t k d b goes) = let side = side_counts t p d q true goes in Prim.omega (arith, side)
+
+-- ---- by the table of node types
+
+counted_expression : (a : Around) {x z : Tree} → Counts x z → Fits root (plug a (Some x)) → IsExpression z.kind z.below
+counted_expression a {x = x} (consequent_counts o p i j t k l d b c truth) fits = (parts_of_conditional a o x.below fits).1.0
+counted_expression a {x = x} (alternate_counts o p i j t k l d b c truth) fits = (parts_of_conditional a o x.below fits).1.1.0
+counted_expression a {x = x} (right_side_counts q o p i t k d b goes) fits = (sides_of_logical a q o x.below fits).1.0
+
+choice_expression : (a : Around) {x z : Tree} → Counts x z → Fits root (plug a (Some x)) → IsExpression x.kind x.below
+choice_expression a {x = x} (consequent_counts o p i j t k l d b c truth) fits = (a_conditional_expression, tt, refl, tt, refl, parts_of_conditional a o x.below fits)
+choice_expression a {x = x} (alternate_counts o p i j t k l d b c truth) fits = (a_conditional_expression, tt, refl, tt, refl, parts_of_conditional a o x.below fits)
+choice_expression a {x = x} (right_side_counts q o p i t k d b goes) fits = (a_logical_expression, (q, tt), refl, tt, refl, sides_of_logical a q o x.below fits)
+
+zero_expression : IsExpression number_zero nothing
+zero_expression = (a_literal, (value.Number (pos 0), tt), refl, tt, refl, tt)
+
+pub behind_expression : (n m i : Note) (z : Tree) → IsExpression z.kind z.below → IsExpression sequence_expression (behind_zero n m i z).below
+behind_expression n m i z of = (a_sequence_expression, tt, refl, tt, refl, ((refl, (zero_expression, (of, tt))), tt))
+
+behind_takes : (n m i : Note) {x z : Tree} → Counts x z → IsExpression z.kind z.below → TakesPlace x (behind_zero n m i z)
+behind_takes n m i {x = x} {z = z} (consequent_counts o p h j t k l d b c truth) of = record {
+  classes = λ (to : Class) fits. (as_conditional sequence_expression (behind_zero n m i z).below to (conditional_stood to o x.below fits) (behind_expression n m i z of), tt);
+  old_told = refl;
+  new_told = refl;
+}
+behind_takes n m i {x = x} {z = z} (alternate_counts o p h j t k l d b c truth) of = record {
+  classes = λ (to : Class) fits. (as_conditional sequence_expression (behind_zero n m i z).below to (conditional_stood to o x.below fits) (behind_expression n m i z of), tt);
+  old_told = refl;
+  new_told = refl;
+}
+behind_takes n m i {x = x} {z = z} (right_side_counts q o p h t k d b goes) of = record {
+  classes = λ (to : Class) fits. (as_logical sequence_expression (behind_zero n m i z).below to (logical_stood to o x.below q fits) (behind_expression n m i z of), tt);
+  old_told = refl;
+  new_told = refl;
+}
+
+-- ---- runs
+
+counted_core : {x z : Tree} → Counts x z → all_core (forest_of x) ≡ true → all_core (forest_of z) ≡ true
+counted_core (consequent_counts o p i j t k l d b c truth) core = consequent_core conditional_expression k o p i t d b (node l j c nothing) core
+counted_core (alternate_counts o p i j t k l d b c truth) core = alternate_core conditional_expression k l o p i j t d b c core
+counted_core (right_side_counts q o p i t k d b goes) core = consequent_core (logical_expression q) k o p i t d b nothing core
+
+pub behind_core : (n m i : Note) (z : Tree) → all_core (forest_of z) ≡ true → all_core (forest_of (behind_zero n m i z)) ≡ true
+behind_core n m i z core = both (all_core (forest_of z) && true) true (both (all_core (forest_of z)) true core refl) refl
+
+-- what counts declares nothing, if no part does
+nothing_before : (k : Kind) (n : Note) (a r : Forest) → DeclaresNothing (node k n a r) → DeclaresNothing (node k n a nothing)
+nothing_before k n a r h = record {
+  bound = both_empty (names_of k (bound_names a)) [] (first_empty (names_of k (bound_names a)) (bound_names r) h.bound) refl;
+  imports = λ source. imports_before source k n a r (h.imports source);
+}
+
+counted_declares : {x z : Tree} → Counts x z → DeclaresNothing x.below → DeclaresNothing (forest_of z)
+counted_declares (consequent_counts o p i j t k l d b c truth) h =
+    nothing_before k i b (node l j c nothing) (nothing_behind t p d (node k i b (node l j c nothing)) h)
+counted_declares (alternate_counts o p i j t k l d b c truth) h =
+    nothing_behind k i b (node l j c nothing) (nothing_behind t p d (node k i b (node l j c nothing)) h)
+counted_declares (right_side_counts q o p i t k d b goes) h = nothing_behind t p d (node k i b nothing) h
+
+pub behind_declares : (n m i : Note) (z : Tree) → DeclaresNothing (forest_of z) → DeclaresNothing (forest_of (behind_zero n m i z))
+behind_declares n m i z h =
+    let part = forest_of z in
+    record {
+      bound = both_empty (bound_names part ++ []) [] (both_empty (bound_names part) [] h.bound refl) refl;
+      imports = λ source. both_empty (import_decls source part ++ []) [] (both_empty (import_decls source part) [] (h.imports source) refl) refl;
+    }
+
+choice_calm : {x z : Tree} → Counts x z → is_calm x.kind ≡ true
+choice_calm (consequent_counts o p i j t k l d b c truth) = refl
+choice_calm (alternate_counts o p i j t k l d b c truth) = refl
+choice_calm (right_side_counts q o p i t k d b goes) = refl
+
+behind_stands : (u : Purpose) (n m i : Note) {x z : Tree} → Counts x z → Stands u x.kind x.below sequence_expression (behind_zero n m i z).below
+behind_stands u n m i (consequent_counts o p h j t k l d b c truth) = for_part (λ st. consequent_behind_zero u st p h j m i h t k l d b c (test_tells t p d true truth))
+behind_stands u n m i (alternate_counts o p h j t k l d b c truth) = for_part (λ st. alternate_behind_zero u st p h j m i j t k l d b c (test_tells t p d false truth))
+behind_stands u n m i (right_side_counts q o p h t k d b goes) = for_part (λ st. right_side_behind_zero u st q p h m i h t k d b (side_tells t p d q true goes).0)
+
+module _ (n m : Note) (program : Forest) (a : Around) (y : Tree) (fits : Fits root (module_of n m program)) (form : IsWellFormed (module_of n m program)) (core : all_core (module_of n m program) ≡ true) where
+  core_within : (x : Tree) → plug a (Some x) ≡ module_of n m program → all_core x.below ≡ true
+  core_within x is = core_below x.kind x.note x.below nothing (core_there a x (subst (λ t. all_core t ≡ true) (sym is) core))
+
+  conditional_declares : (o : Note) (below : Forest) → plug a (Some (tree conditional_expression o below)) ≡ module_of n m program → DeclaresNothing below
+  conditional_declares o below is =
+      let x = tree conditional_expression o below in
+      record {
+        bound = nameless_as_planned below (these (one expression ∷ one expression ∷ one expression ∷ [])) refl (parts_of_conditional a o below (subst (Fits root) (sym is) fits)) (core_within x is);
+        imports = no_imports_below n m program a x y is fits form core conditional_expression refl refl (λ p i. refl);
+      }
+
+  logical_declares : (q : LogicalOperator) (o : Note) (below : Forest) → plug a (Some (tree (logical_expression q) o below)) ≡ module_of n m program → DeclaresNothing below
+  logical_declares q o below is =
+      let x = tree (logical_expression q) o below in
+      record {
+        bound = nameless_as_planned below (these (one expression ∷ one expression ∷ [])) refl (sides_of_logical a q o below (subst (Fits root) (sym is) fits)) (core_within x is);
+        imports = no_imports_below n m program a x y is fits form core (logical_expression q) refl refl (λ p i. refl);
+      }
+
+  choice_declares : {x z : Tree} → Counts x z → plug a (Some x) ≡ module_of n m program → DeclaresNothing x.below
+  choice_declares {x = x} (consequent_counts o p i j t k l d b c truth) is = conditional_declares o x.below is
+  choice_declares {x = x} (alternate_counts o p i j t k l d b c truth) is = conditional_declares o x.below is
+  choice_declares {x = x} (right_side_counts q o p i t k d b goes) is = logical_declares q o x.below is
+
+behind_comes : (a : Around) (n m i : Note) {x z : Tree} → Counts x z → DeclaresNothing x.below → Comes a x (behind_zero n m i z)
+behind_comes a n m i {x = x} {z = z} counts h =
+    let y = behind_zero n m i z in
+    record {
+      inner = y.below;
+      same = refl;
+      stands = behind_stands (wanted_at a) n m i counts;
+      old_calm = choice_calm counts;
+      declares = both_plainly x.kind x.below sequence_expression n y.below nothing (choice_calm counts) h (behind_declares n m i z (counted_declares counts h));
+      core = λ c. behind_core n m i z (counted_core counts c);
+    }
+
+-- ---- all of it
+
+choice_is_other : {x z : Tree} → Counts x z → IsOther x
+choice_is_other (consequent_counts o p i j t k l d b c truth) = record { counts = refl; lists = λ h. refl; begins = λ h. refl; calls = refl }
+choice_is_other (alternate_counts o p i j t k l d b c truth) = record { counts = refl; lists = λ h. refl; begins = λ h. refl; calls = refl }
+choice_is_other (right_side_counts q o p i t k d b goes) = record { counts = refl; lists = λ h. refl; begins = λ h. refl; calls = refl }
+
+choice_ends : {x z : Tree} → Counts x z → may_end x.kind ≡ true
+choice_ends (consequent_counts o p i j t k l d b c truth) = refl
+choice_ends (alternate_counts o p i j t k l d b c truth) = refl
+choice_ends (right_side_counts q o p i t k d b goes) = refl
+
+choice_may_change : (a : Around) {x z : Tree} → Counts x z → MayChange a x
+choice_may_change a (consequent_counts o p i j t k l d b c truth) = refl
+choice_may_change a (alternate_counts o p i j t k l d b c truth) = refl
+choice_may_change a (right_side_counts q o p i t k d b goes) = refl
+
+choice_no_name : {x z : Tree} → Counts x z → is_read_name x.kind ≡ false
+choice_no_name (consequent_counts o p i j t k l d b c truth) = refl
+choice_no_name (alternate_counts o p i j t k l d b c truth) = refl
+choice_no_name (right_side_counts q o p i t k d b goes) = refl
+
+choice_unasked : {x z : Tree} → Counts x z → is_asked_for x.kind ≡ false
+choice_unasked (consequent_counts o p i j t k l d b c truth) = refl
+choice_unasked (alternate_counts o p i j t k l d b c truth) = refl
+choice_unasked (right_side_counts q o p i t k d b goes) = refl
+
+counted_owes : (a : Around) (n m i : Note) {x z : Tree} → Counts x z → ByParts a x (behind_zero n m i z)
+counted_owes a n m i {x = x} {z = z} counts =
+    let y = behind_zero n m i z in
+    record {
+      rebuilt = λ fits. part_is_behind n m i x z (part_is_left counts);
+      lighter = behind_lighter n m i counts;
+      no_deeper = behind_no_deeper n m i counts;
+      no_call = choice_is_other counts;
+      ends = choice_ends counts;
+      may_change = choice_may_change a counts;
+      fits_expression = λ fits. (choice_expression a counts fits, tt);
+      takes = λ fits. behind_takes n m i counts (counted_expression a counts fits);
+      no_name = choice_no_name counts;
+      old_unasked = λ fits. choice_unasked counts;
+      unasked = λ fits. refl;
+      comes_out = record { undeleted = λ e. refl; uncalled = λ e. refl };
+      runs = by_coming (λ q s program is fits form core. behind_comes a n m i counts (choice_declares q s program a y fits form core counts is));
+    }
+
+pub indirect_choice_owes : (a : Around) (x y : Tree) → IndirectChoice a x y → ByParts a x y
+indirect_choice_owes a x _ (value_alone_counts n m i _ z counts matters) = counted_owes a n m i (part_that_counts x.note x.kind x.below z counts)

@@ -1,0 +1,131 @@
+-- What may stand in a node's place, as far as the rules of form ask: a part of it, or what is built of its parts.
+use Rattle.std.specs.Prelude.{◌≡◌, ℕ, [], Bool, true, false}
+use Rattle.js_syntax.specs.declared.node_kind.NodeKind.{NodeKind as Kind}
+use Rattle.js_syntax.specs.declared.node_kind.NodeKind.TheVariants.{Program as program, Directive as directive, Statements as statements, FunctionBody as function_body, ExpressionStatement as expression_statement, EmptyStatement as empty_statement, DebuggerStatement as debugger_statement, BlockStatement as block_statement, StaticBlock as static_block, Cases as cases, SwitchCase as switch_case, SwitchStatement as switch_statement, LabeledStatement as labeled_statement, BreakStatement as break_statement, ContinueStatement as continue_statement, ReturnStatement as return_statement, ThrowStatement as throw_statement, TryStatement as try_statement, CatchClause as catch_clause, IfStatement as if_statement, WithStatement as with_statement, WhileStatement as while_statement, DoWhileStatement as do_while_statement, ForStatement as for_statement, ForInStatement as for_in_statement, ForOfStatement as for_of_statement, Function as function, Class as class, ClassBody as class_body, Members as members, MethodDefinition as method_definition, PropertyDefinition as property_definition, BindingName as binding_name, PrivateName as private_name, Super as super, ConditionalExpression as conditional_expression, UnaryExpression as unary_expression, BinaryExpression as binary_expression, LogicalExpression as logical_expression, SequenceExpression as sequence_expression, TemplateLiteral as template_literal, VariableDeclaration as variable_declaration, Declarators as declarators, VariableDeclarator as variable_declarator, Parameters as parameters, Properties as properties, Elements as elements, Specifiers as specifiers, BindingRest as binding_rest, TargetRest as target_rest, BindingObject as binding_object, BindingArray as binding_array, BindingProperty as binding_property, BindingDefault as binding_default, ImportDeclaration as import_declaration, ImportSpecifier as import_specifier, ImportDefaultSpecifier as import_default_specifier, ImportNamespaceSpecifier as import_namespace_specifier, ExportNamedDeclaration as export_named_declaration, ExportSpecifier as export_specifier, ForeignSpecifier as foreign_specifier, ExportDefaultDeclaration as export_default_declaration, ExportAllDeclaration as export_all_declaration}
+use Rattle.js_syntax.specs.Node.{Note, Forest, node, joined, alone}
+use Rattle.js_rebuilt.specs.Rebuilt.{Rebuilt}
+use Rattle.form_rules.specs.declared.sought.Sought.{Sought}
+use Rattle.form_rules.specs.Scope.{sought_below, declared}
+use Rattle.steps.specs.KeepForm.Row.{other}
+use Rattle.steps.specs.KeepForm.Layout.{is_laid_out}
+
+-- Nodes in whose place a part of them may stand: what lies below one is in the context and the scope that the node is in.
+abbrev pub gives_way : Kind → Bool
+gives_way if_statement = true
+gives_way try_statement = true
+gives_way conditional_expression = true
+gives_way (logical_expression operator) = true
+gives_way (unary_expression operator) = true
+gives_way (binary_expression operator) = true
+gives_way k = false
+
+abbrev pub is_statement : Kind → Bool
+is_statement expression_statement = true
+is_statement empty_statement = true
+is_statement debugger_statement = true
+is_statement block_statement = true
+is_statement with_statement = true
+is_statement return_statement = true
+is_statement (labeled_statement label) = true
+is_statement (break_statement label) = true
+is_statement (continue_statement label) = true
+is_statement if_statement = true
+is_statement switch_statement = true
+is_statement throw_statement = true
+is_statement try_statement = true
+is_statement while_statement = true
+is_statement do_while_statement = true
+is_statement for_statement = true
+is_statement for_in_statement = true
+is_statement for_of_statement = true
+is_statement k = false
+
+-- Nodes for which rules of the nodes around them ask, by what they are or by what they declare; and those for which it matters
+-- whether they are a method's function, stand alone as the body of a statement, or stand in the head of a loop. Of a name, in
+-- parentheses or not, `delete` asks, where it stands.
+abbrev pub is_asked_for : Kind → Bool
+is_asked_for (program source) = true
+is_asked_for (directive written) = true
+is_asked_for statements = true
+is_asked_for function_body = true
+is_asked_for static_block = true
+is_asked_for cases = true
+is_asked_for switch_case = true
+is_asked_for catch_clause = true
+is_asked_for (labeled_statement label) = true
+is_asked_for while_statement = true
+is_asked_for do_while_statement = true
+is_asked_for for_statement = true
+is_asked_for for_in_statement = true
+is_asked_for for_of_statement = true
+is_asked_for (function how pure) = true
+is_asked_for (class how) = true
+is_asked_for class_body = true
+is_asked_for members = true
+is_asked_for (method_definition how is_static key) = true
+is_asked_for (property_definition is_static key) = true
+is_asked_for (binding_name x) = true
+is_asked_for (private_name x) = true
+is_asked_for super = true
+is_asked_for (variable_declaration how) = true
+is_asked_for declarators = true
+is_asked_for variable_declarator = true
+is_asked_for parameters = true
+is_asked_for properties = true
+is_asked_for elements = true
+is_asked_for specifiers = true
+is_asked_for binding_rest = true
+is_asked_for target_rest = true
+is_asked_for binding_object = true
+is_asked_for binding_array = true
+is_asked_for (binding_property key) = true
+is_asked_for binding_default = true
+is_asked_for (import_declaration source) = true
+is_asked_for (import_specifier imported) = true
+is_asked_for import_default_specifier = true
+is_asked_for import_namespace_specifier = true
+is_asked_for (export_named_declaration source) = true
+is_asked_for (export_specifier exported) = true
+is_asked_for (foreign_specifier local exported) = true
+is_asked_for export_default_declaration = true
+is_asked_for (export_all_declaration exported source) = true
+is_asked_for k = false
+
+-- nodes whose rules ask what lies below their parts
+abbrev pub asks_further : Kind → Bool
+asks_further (program source) = true
+asks_further catch_clause = true
+asks_further (variable_declaration how) = true
+asks_further sequence_expression = true
+asks_further template_literal = true
+asks_further (export_named_declaration source) = true
+asks_further (export_specifier exported) = true
+asks_further k = false
+
+-- A part may stand for the whole: a statement for a statement, and an expression for an expression. The other parts declare
+-- nothing.
+pub record StandsFor (whole : Kind) (below : Forest) (part : Kind) (inner : Forest) : Type 0 where
+  pub before : Forest
+  pub after : Forest
+  pub note : Note
+  pub is_part : below ≡ joined before (node part note inner after)
+  pub gives : gives_way whole ≡ true
+  pub unasked : is_asked_for part ≡ false
+  pub alike : is_statement part ≡ is_statement whole
+  pub none_before : (s : Sought) (place : ℕ) → declared (sought_below s whole) place before ≡ []
+  pub none_after : (s : Sought) (place : ℕ) → declared (sought_below s whole) place after ≡ []
+
+-- An expression is rebuilt of its parts. Neither what it was nor what it is declares a name.
+pub record RebuildsTo (old : Kind) (n : Note) (below : Forest) (new : Kind) (m : Note) (inner : Forest) : Type 0 where
+  pub rebuilt : Rebuilt (alone old n below) (alone new m inner)
+  pub old_unasked : is_asked_for old ≡ false
+  pub unasked : is_asked_for new ≡ false
+  pub old_expression : is_statement old ≡ false
+  pub expression : is_statement new ≡ false
+  pub none : (s : Sought) (place : ℕ) → declared s place (alone old n below) ≡ []
+  pub still_none : (s : Sought) (place : ℕ) → declared s place (alone new m inner) ≡ []
+  pub laid_out : is_laid_out other inner ≡ true
+
+pub data Replaces (old : Kind) (n : Note) (below : Forest) (new : Kind) (m : Note) (inner : Forest) : Type 0 where
+  by_part : StandsFor old below new inner → Replaces old n below new m inner
+  by_parts : RebuildsTo old n below new m inner → Replaces old n below new m inner

@@ -1,0 +1,46 @@
+// That steps refine. Each law is a contract, so that the check proves it.
+ghost use Rattle.std.specs.Prelude.{◌≡◌, true};
+ghost use Rattle.js_syntax.specs.Node.{Note, Forest};
+ghost use Rattle.js_meaning.specs.Kept.{Kept, KeptBack, Refined};
+ghost use Rattle.js_meaning_near.specs.Near.{fields, module_of};
+ghost use Rattle.js_meaning_near.specs.Fit.{whole};
+ghost use Rattle.js_meaning_near.specs.Avoid.{InPlace};
+ghost use Rattle.steps.specs.Steps.{Step, outermost, all_core};
+ghost use Rattle.steps.specs.KeepRuns.Formed.{is_formed};
+ghost use Rattle.steps.specs.KeepRuns.Many.{CoreSteps};
+ghost use Rattle.steps.specs.KeepRuns.Once.{Once};
+ghost use Rattle.steps.specs.KeepRuns.Tidy.{Tidy};
+
+/// A module after a step refines the one before it, where the tree is formed, and a name whose
+/// declaration goes is mentioned no more in its scope, or declared again there and looked up nowhere.
+pub fn a_step_refines()
+    ensures { (n m : Note) (a u : Forest) (s : Step outermost (module_of n m a) u) →
+        is_formed (module_of n m a) ≡ true → InPlace whole fields (module_of n m a) → Tidy s → Refined (module_of n m a) u }
+{}
+
+/// So it does in a core module by what the step itself asks, where no other declaration of the name
+/// stands in its scope, or one that has a cell.
+pub fn a_step_of_a_core_module_refines()
+    ensures { (n m : Note) (a u : Forest) (s : Step outermost (module_of n m a) u) →
+        is_formed (module_of n m a) ≡ true → all_core a ≡ true → InPlace whole fields (module_of n m a) → Once s → Refined (module_of n m a) u }
+{}
+
+/// So that every run is kept, and where the new run ends or is stopped by the host, the old one was the
+/// same within the same bound, unless it was uncovered.
+pub fn a_step_of_a_core_module_keeps_runs()
+    ensures kept { (n m : Note) (a u : Forest) (s : Step outermost (module_of n m a) u) →
+        is_formed (module_of n m a) ≡ true → all_core a ≡ true → InPlace whole fields (module_of n m a) → Once s → Kept (module_of n m a) u }
+    ensures back { (n m : Note) (a u : Forest) (s : Step outermost (module_of n m a) u) →
+        is_formed (module_of n m a) ≡ true → all_core a ≡ true → InPlace whole fields (module_of n m a) → Once s → KeptBack (module_of n m a) u }
+{}
+
+/// So do steps one after the other.
+pub fn steps_of_a_core_module_refine()
+    ensures { (n m : Note) (a u : Forest) → CoreSteps (module_of n m a) u →
+        is_formed (module_of n m a) ≡ true → all_core a ≡ true → InPlace whole fields (module_of n m a) → Refined (module_of n m a) u }
+{}
+
+/// A step of a formed tree leaves a formed tree.
+pub fn a_step_keeps_the_form()
+    ensures { (t u : Forest) → Step outermost t u → is_formed t ≡ true → is_formed u ≡ true }
+{}

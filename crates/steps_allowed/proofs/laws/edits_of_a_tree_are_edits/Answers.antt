@@ -1,5 +1,0 @@
-use Rattle.steps_allowed.proofs.Composing.{tree_edits_are_edits}
-use Rattle.steps_allowed.proofs.laws.edits_of_a_tree_are_edits.Goals as goal
-
-pub returns : goal.returns
-returns c t u s = tree_edits_are_edits s

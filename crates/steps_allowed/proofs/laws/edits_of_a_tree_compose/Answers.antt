@@ -1,5 +1,0 @@
-use Rattle.steps_allowed.proofs.Composing.{tree_edits_compose}
-use Rattle.steps_allowed.proofs.laws.edits_of_a_tree_compose.Goals as goal
-
-pub returns : goal.returns
-returns c t u v s r = tree_edits_compose s r

@@ -1,5 +1,0 @@
-use Rattle.steps_allowed.proofs.Tried.{spread_stays, used_array_stays, acting_sequence_stays}
-use Rattle.steps_allowed.proofs.rows.needed_lists_stay.Goals as goal
-
-pub returns : goal.returns
-returns c = record { spread = spread_stays; used = used_array_stays; all_parts = acting_sequence_stays }

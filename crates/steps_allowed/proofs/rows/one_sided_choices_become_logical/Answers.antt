@@ -1,5 +1,0 @@
-use Rattle.steps_allowed.proofs.Tried.{acting_consequent_stays, acting_alternate_stays}
-use Rattle.steps_allowed.proofs.rows.one_sided_choices_become_logical.Goals as goal
-
-pub returns : goal.returns
-returns c = record { consequent = acting_consequent_stays; alternate = acting_alternate_stays }

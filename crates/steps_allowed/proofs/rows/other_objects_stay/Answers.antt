@@ -1,5 +1,0 @@
-use Rattle.steps_allowed.proofs.Tried.{used_object_stays, idle_object_stays, getter_stays, spread_object_stays}
-use Rattle.steps_allowed.proofs.rows.other_objects_stay.Goals as goal
-
-pub returns : goal.returns
-returns c = record { used = used_object_stays; idle = idle_object_stays; getter = getter_stays; spread = spread_object_stays }

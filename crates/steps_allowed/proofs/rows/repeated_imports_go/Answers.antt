@@ -1,6 +1,0 @@
-use Rattle.std.proofs.Common.{refl}
-use Rattle.steps_allowed.proofs.Tried.{import_goes_behind_bare, import_goes_behind_names}
-use Rattle.steps_allowed.proofs.rows.repeated_imports_go.Goals as goal
-
-pub returns : goal.returns
-returns c = record { bare = import_goes_behind_bare; behind_names = import_goes_behind_names; behind = refl; other = refl; first = refl }

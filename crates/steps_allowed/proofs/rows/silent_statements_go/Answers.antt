@@ -1,5 +1,0 @@
-use Rattle.steps_allowed.proofs.Tried.{empties_in_list, empties_alone, leaves_then}
-use Rattle.steps_allowed.proofs.rows.silent_statements_go.Goals as goal
-
-pub returns : goal.returns
-returns c = record { in_a_list = empties_in_list; alone = empties_alone; then = leaves_then }

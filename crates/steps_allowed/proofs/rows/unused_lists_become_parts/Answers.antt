@@ -1,5 +1,0 @@
-use Rattle.steps_allowed.proofs.Tried.{acting_elements_stay, acting_element_stays, hole_goes, elements_stay, acting_parts_of_sequence_stay}
-use Rattle.steps_allowed.proofs.rows.unused_lists_become_parts.Goals as goal
-
-pub returns : goal.returns
-returns c = record { several = acting_elements_stay; one_part = acting_element_stays; beside_a_hole = hole_goes; all_parts = elements_stay; sequence = acting_parts_of_sequence_stay }

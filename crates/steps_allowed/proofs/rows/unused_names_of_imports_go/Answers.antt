@@ -1,5 +1,0 @@
-use Rattle.steps_allowed.proofs.Tried.{import_goes, imported_read_stays}
-use Rattle.steps_allowed.proofs.rows.unused_names_of_imports_go.Goals as goal
-
-pub returns : goal.returns
-returns c = record { unused = import_goes; read = imported_read_stays }

@@ -1,5 +1,0 @@
-use Rattle.steps_allowed.proofs.Tried.{acting_value_stays, acting_values_all_stay}
-use Rattle.steps_allowed.proofs.rows.unused_objects_become_values.Goals as goal
-
-pub returns : goal.returns
-returns c = record { one_value = acting_value_stays; several = acting_values_all_stay }

@@ -1,5 +1,0 @@
-use Rattle.steps_allowed.proofs.Tried.{read_stays, exported_stays}
-use Rattle.steps_allowed.proofs.rows.what_is_used_stays.Goals as goal
-
-pub returns : goal.returns
-returns c = record { read = read_stays; exported = exported_stays }

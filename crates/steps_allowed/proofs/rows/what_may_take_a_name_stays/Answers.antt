@@ -1,5 +1,0 @@
-use Rattle.steps_allowed.proofs.Tried.{branch_is_nameless}
-use Rattle.steps_allowed.proofs.rows.what_may_take_a_name_stays.Goals as goal
-
-pub returns : goal.returns
-returns c = branch_is_nameless

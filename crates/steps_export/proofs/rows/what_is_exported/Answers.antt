@@ -1,5 +1,0 @@
-use Rattle.steps_export.proofs.Tried.{first_of_two, second_of_two, the_function, its_local, only_named}
-use Rattle.steps_export.proofs.rows.what_is_exported.Goals as goal
-
-pub returns : goal.returns
-returns c = record { of_two = (first_of_two, second_of_two); with_a_local = (the_function, its_local); by_reference = only_named }

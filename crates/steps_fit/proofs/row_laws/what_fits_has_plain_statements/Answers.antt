@@ -1,5 +1,0 @@
-use Rattle.steps_fit.proofs.Plain.{fits_plain}
-use Rattle.steps_fit.proofs.row_laws.what_fits_has_plain_statements.Goals as goal
-
-pub returns : goal.returns
-returns c t fits core = fits_plain t fits core

@@ -1,5 +1,0 @@
-use Rattle.steps_keep_form.proofs.Fitting.{fits_laid_out}
-use Rattle.steps_keep_form.proofs.laws.what_fits_is_laid_out.Goals as goal
-
-pub returns : goal.returns
-returns c t fits = fits_laid_out t fits

@@ -1,5 +1,0 @@
-use Rattle.steps_keep_runs.proofs.Formed.{formed_step}
-use Rattle.steps_keep_runs.proofs.laws.a_step_keeps_the_form.Goals as goal
-
-pub returns : goal.returns
-returns c = λ t u s f. formed_step s f

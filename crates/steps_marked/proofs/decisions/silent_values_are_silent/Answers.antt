@@ -1,5 +1,0 @@
-use Rattle.steps_marked.proofs.Silent.{declarator_silent, declaration_silent}
-use Rattle.steps_marked.proofs.decisions.silent_values_are_silent.Goals as goal
-
-pub returns : goal.returns
-returns c = record { declarators = λ s marked exported bound a n m x value. declarator_silent s marked exported bound a n m x value; declarations = λ s marked exported bound a how n m l j x value. declaration_silent s marked exported bound a how n m l j x value }

@@ -1,6 +1,0 @@
-use Rattle.std.proofs.Common.{refl}
-use Rattle.steps_marked.proofs.Tried.{one_mark_too_few}
-use Rattle.steps_marked.proofs.rows.a_mark_too_few_is_seen.Goals as goal
-
-pub returns : goal.returns
-returns c = record { before = refl; marked = refl; too_few = refl; unkept = one_mark_too_few }

@@ -1,5 +1,0 @@
-use Rattle.steps_owed.proofs.Edited.{edits_keep_calls}
-use Rattle.steps_owed.proofs.edits.calls_of_a_program_stay.Goals as goal
-
-pub returns : goal.returns
-returns c = λ t u e. edits_keep_calls e

@@ -1,5 +1,0 @@
-use Rattle.steps_owed.proofs.FitsEdits.{edit_fits}
-use Rattle.steps_owed.proofs.fits.edits_keep_the_table.Goals as goal
-
-pub returns : goal.returns
-returns c = λ t u edit fits. edit_fits t u edit fits

@@ -1,5 +1,0 @@
-use Rattle.steps_owed.proofs.FitsEdits.{edits_fit}
-use Rattle.steps_owed.proofs.fits.edits_of_a_program_keep_the_table.Goals as goal
-
-pub returns : goal.returns
-returns c = λ t u edits fits. edits_fit t u edits fits

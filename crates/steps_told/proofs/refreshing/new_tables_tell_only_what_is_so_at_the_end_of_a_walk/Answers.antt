@@ -1,5 +1,0 @@
-use Rattle.steps_told.proofs.Whole.{walked_told_only}
-use Rattle.steps_told.proofs.refreshing.new_tables_tell_only_what_is_so_at_the_end_of_a_walk.Goals as goal
-
-pub returns : goal.returns
-returns c = walked_told_only

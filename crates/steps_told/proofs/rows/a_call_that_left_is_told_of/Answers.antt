@@ -1,6 +1,0 @@
-use Rattle.std.proofs.Common.{refl}
-use Rattle.steps_told.proofs.Tried.{branch_is_taken, call_is_gone}
-use Rattle.steps_told.proofs.rows.a_call_that_left_is_told_of.Goals as goal
-
-pub returns : goal.returns
-returns c = record { edit = branch_is_taken; before = refl; left = refl; unkept = call_is_gone; refreshed = refl }

@@ -1,6 +1,0 @@
-use Rattle.std.proofs.Common.{refl}
-use Rattle.steps_told.proofs.Tried.{statement_leaves, does_not_fit}
-use Rattle.steps_told.proofs.rows.a_directive_behind_a_statement_does_not_fit.Goals as goal
-
-pub returns : goal.returns
-returns c = record { edit = statement_leaves; before = refl; left = refl; unfit = does_not_fit }

@@ -1,6 +1,0 @@
-use Rattle.std.proofs.Common.{refl}
-use Rattle.steps_told.proofs.Tried.{function_goes}
-use Rattle.steps_told.proofs.rows.a_function_that_left_is_told_of.Goals as goal
-
-pub returns : goal.returns
-returns c = record { edit = function_goes; before = refl; left = refl; refreshed = refl }

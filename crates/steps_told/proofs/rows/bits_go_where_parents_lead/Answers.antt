@@ -1,5 +1,0 @@
-use Rattle.std.proofs.Common.{refl}
-use Rattle.steps_told.proofs.rows.bits_go_where_parents_lead.Goals as goal
-
-pub returns : goal.returns
-returns c = record { before = refl; refreshed = refl; by_its_own = refl }
