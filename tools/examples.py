@@ -250,7 +250,11 @@ NONE,HELD=N('ArrayExpression',elements=[]),N('ObjectExpression',properties=[])
 S('use([] ? a : b); use({} && x); use(void 0 ? a : b);',[use(COND(NONE,a,b)),use(AND(HELD,x)),use(COND(un('void',L(0)),a,b))],[use(a),use(x),use(b)],1,0)
 S('use(-1 ? a : b); use(void 0 ?? x); use([] ?? x); use({} || x);',[use(COND(un('-',L(1)),a,b)),use(ELSE(un('void',L(0)),x)),use(ELSE(NONE,x)),use(OR(HELD,x))],[use(a),use(x),use(NONE),use(HELD)],1,0)
 S('(function () {}) && f(); [] || f();',[ES(AND(fn('FunctionExpression',None,[],B()),call(f))),ES(OR(NONE,call(f)))],[do('f')],1,0)
-S('use([f()] ? a : b); use((f(), 1) ? a : b); whose tests act',[use(COND(N('ArrayExpression',elements=[call(f)]),a,b)),use(COND(N('SequenceExpression',expressions=[call(f),L(1)]),a,b))],None,0,0)
+S('use([f()] ? a : b); use((f(), 1) ? a : b); whose tests act',[use(COND(N('ArrayExpression',elements=[call(f)]),a,b)),use(COND(N('SequenceExpression',expressions=[call(f),L(1)]),a,b))],[use(N('SequenceExpression',expressions=[N('ArrayExpression',elements=[call(f)]),a])),use(N('SequenceExpression',expressions=[N('SequenceExpression',expressions=[call(f),L(1)]),a]))],1,0),
+S('x && false ? g() : h(); use(x && false ? g() : h());',[ES(COND(AND(x,L(False)),call(g),call(I('h')))),use(COND(AND(x,L(False)),call(g),call(I('h'))))],[ES(N('SequenceExpression',expressions=[x,call(I('h'))])),use(N('SequenceExpression',expressions=[AND(x,L(False)),call(I('h'))]))],2,0),
+S('(f(), true) && g(); use((f(), null) ?? g()); whose left sides act',[ES(AND(N('SequenceExpression',expressions=[call(f),L(True)]),call(g))),use(ELSE(N('SequenceExpression',expressions=[call(f),L(None)]),call(g)))],[ES(N('SequenceExpression',expressions=[call(f),call(g)])),use(N('SequenceExpression',expressions=[N('SequenceExpression',expressions=[call(f),L(None)]),call(g)]))],2,0),
+S('[f()] || g(); use([f()] ?? g()); whose left sides act and decide',[ES(OR(N('ArrayExpression',elements=[call(f)]),call(g))),use(ELSE(N('ArrayExpression',elements=[call(f)]),call(g)))],None,0,0),
+S('([f()] ? o.f : 0)(); whose receiver is undefined',[ES(call(COND(N('ArrayExpression',elements=[call(f)]),mem(o,f),L(0))))],[ES(call(N('SequenceExpression',expressions=[N('ArrayExpression',elements=[call(f)]),mem(o,f)])))],1,0)
 S('use((() => a) || b); which might take a name',[use(OR(fn('ArrowFunctionExpression',None,[],a,True),b))],None,0,0)
 S('let x = []; use(x ? a : b); of whose value nothing is known',[x_is(NONE),use(COND(x,a,b))],None,0,1)
 ZERO=lambda e: N('SequenceExpression',expressions=[L(0),e])

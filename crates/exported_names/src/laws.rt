@@ -21,7 +21,8 @@ pub fn new_tables_have_the_scopes_of_declarations()
     ensures { (t : Forest) → let f = found_in (sites_of t) in ArePlaced (scoping_of f) (marked (first_marks (symbols_declared f.bindings)) t) }
 {}
 
-/// Law: so what is answered by it is what the pass over dead code is to know, whatever is kept, and no symbol is told to be exported that isn't.
+/// Law: so what is answered by it is what the pass over dead code is to know, whatever is kept, and no symbol is told to be exported that
+/// isn't.
 pub fn new_programs_are_known_by_what_is_answered()
     ensures known { (t : Forest) → Fits root t → (keeps_unused keeps_imports : Bool) → let f = found_in (sites_of t) in let u = marked (first_marks (symbols_declared f.bindings)) t in
         let facts : Facts = record { scoping = scoping_of f; bound = bound_of (scoping_of f); exported = exported_of (scoping_of f) u; is_script = is_script u; keeps_unused = keeps_unused; keeps_imports = keeps_imports } in

@@ -22,8 +22,8 @@ pub fn default_exports()
     ensures expression { exported_by (exports_default (function_of function_kind.Expression (binds a) (binds b ∷ []) []) ∷ []) ≡ false ∷ false ∷ [] }
 {}
 
-/// `export let a = function b(a) { };` and `export let a = class b { };`: names of functions and classes that are expressions are not exported,
-/// nor are parameters, whatever they are called.
+/// `export let a = function b(a) { };` and `export let a = class b { };`: names of functions and classes that are expressions are not
+/// exported, nor are parameters, whatever they are called.
 pub fn names_further_in()
     ensures function { exported_by (exports_declaration (declares variable.Let (binds a) (function_of function_kind.Expression (binds b) (binds a ∷ []) [])) ∷ []) ≡ true ∷ false ∷ false ∷ [] }
     ensures class { exported_by (exports_declaration (declares variable.Let (binds a) (class_expression (binds b) [])) ∷ []) ≡ true ∷ false ∷ [] }

@@ -34,7 +34,7 @@ use Rattle.steps.specs.Allowed.KnownConditional.{KnownConditional, consequent_is
 use Rattle.steps.specs.Allowed.KnownSide.{KnownSide, right_side_counts, left_side_decides}
 use Rattle.steps.specs.Allowed.UnusedOperation.{UnusedOperation, one_operand_acts}
 use Rattle.steps.specs.Allowed.UnusedList.{UnusedList, acting_parts_stay}
-use Rattle.steps.specs.Allowed.IndirectChoice.{IndirectChoice, value_alone_counts}
+use Rattle.steps.specs.Allowed.IndirectChoice.{IndirectChoice, value_alone_counts, part_counts_behind_test}
 use Rattle.steps.specs.Allowed.OneSidedChoice.{OneSidedChoice, one_branch_acts}
 use Rattle.steps.specs.Allowed.IdleParts.{sequence_becomes, IdleParts, idle_parts_leave}
 use Rattle.steps.specs.Allowed.TwoSides.{TwoSides, both_sides_act}
@@ -55,7 +55,7 @@ use Rattle.steps.proofs.Owed.ExposedBare.{bare_inside, bare_below, bare_exposed}
 use Rattle.steps.proofs.Owed.Focus.{follows_there}
 use Rattle.headline.specs.Clean.{IsDead, an_empty_statement, an_empty_block, a_silent_statement, an_unused_function, an_unused_declarator, an_unused_import, a_known_conditional, a_known_side, an_unused_operation, an_unused_list, an_indirect_choice, a_one_sided_choice, idle_parts, two_sides, an_unused_object, a_known_operation, a_known_if, a_dead_if, an_unreached_statement, an_untaken_statement, an_unrun_value, an_idle_statement, a_repeated_import, an_idle_try, CleanBut}
 use Rattle.headline.proofs.RenotedUnused.{stands_as, needed_as, child_as, list_as}
-use Rattle.headline.proofs.RenotedChoice.{counts_as}
+use Rattle.headline.proofs.RenotedChoice.{counts_as, follows_as}
 use Rattle.headline.proofs.RenotedParts.{side_as, sequence_as}
 use Rattle.headline.proofs.RenotedSides.{two_sides_as, object_as}
 use Rattle.headline.proofs.RenotedKnown.{known_as, negative_as, given_bare, truth_as, side_as as known_side_as}
@@ -584,6 +584,11 @@ module _ (unused imports : Bool) (t u : Forest) (e : bare t ≡ bare u) (clean :
       let p = counts_as (use_at a) (asked_at (asked_of_program true) a).in_with x.kind o.below x.below z o.same counts alone in
       let alone_now = ap₂ (λ v (w : Asked). matters v w.in_with p.0.kind p.0.below) (o.used (λ j. Use.as_value) 0) (o.asked (asked_of_program true)) ∙ p.2 in
       clean.nothing_is_dead o.around (Some now) o.is (an_indirect_choice o.around now _ (value_alone_counts n m i now p.0 p.1 alone_now))
+  no_choice a _ _ is (part_counts_behind_test n m x y follows) =
+      let o = other_place a x.kind x.note x.below is in
+      let now : Tree = record { kind = x.kind; note = o.note; below = o.below } in
+      let z = follows_as n m x.kind o.below x.below y o.same follows in
+      clean.nothing_is_dead o.around (Some now) o.is (an_indirect_choice o.around now z.0 (part_counts_behind_test n m now z.0 z.1))
 
   no_one_sided : (a : Around) (x y : Tree) → u ≡ plug a (Some x) → OneSidedChoice a x y → ⊥
   no_one_sided a _ _ is (one_branch_acts n x y unused acts_alone) =

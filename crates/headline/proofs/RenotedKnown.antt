@@ -122,7 +122,7 @@ truth_bare k n t = ap₂ (λ (b : Bool) (o : Option Bool). if b || is_list k the
 pub truth_as : (k : Kind) (n m : Note) (f g : Forest) (b : Bool) → bare f ≡ bare g → truth_known k m g ≡ Some b → truth_known k n f ≡ Some b
 truth_as k n m f g b e h = sym (truth_bare k n f) ∙ ap (truth_known k nowhere) e ∙ truth_bare k m g ∙ h
 
-way_bare : (o : LogicalOperator) (k : Kind) (n : Note) (t : Forest) → way_known o (alone k nowhere (bare t)) ≡ way_known o (alone k n t)
+pub way_bare : (o : LogicalOperator) (k : Kind) (n : Note) (t : Forest) → way_known o (alone k nowhere (bare t)) ≡ way_known o (alone k n t)
 way_bare And k n t = given_bare k n t
 way_bare Or k n t = ap opposite (given_bare k n t)
 way_bare Coalesce k n t = ap nullish_type (ap (type_from bare_answers k nowhere (bare t)) (types_bare t) ∙ same_type k nowhere n (bare t) t (types bare_answers t))

@@ -82,8 +82,8 @@ pub data IsDead (unused imports : Bool) (t : Forest) : Around → Option Tree �
   -- an array of which nobody takes the value and in which nothing is spread, or such a sequence of which not all parts act: what
   -- doesn't act of it does nothing
   an_unused_list : (a : Around) (x y : Tree) → UnusedList a x y → IsDead unused imports t a (Some x)
-  -- a conditional or a logical expression that is so decided, where the part that counts may stand behind a zero alone: the rest of it
-  -- does nothing
+  -- a conditional or a logical expression that is so decided, where the part that counts may stand behind a zero alone, or of which the
+  -- test, or the left side, acts and tells all the same that the part counts: the rest of it does nothing
   an_indirect_choice : (a : Around) (x y : Tree) → IndirectChoice a x y → IsDead unused imports t a (Some x)
   -- a conditional of which nobody takes the value and one branch alone acts: the other does nothing
   a_one_sided_choice : (a : Around) (x y : Tree) → OneSidedChoice a x y → IsDead unused imports t a (Some x)

@@ -15,7 +15,7 @@ use Rattle.min_context.specs.Edited.{evals, Edited}
 use Rattle.min_context.specs.Seen.{Seen}
 use Rattle.min_traverse.specs.Lawful.{Rule, Does, or_same}
 use Rattle.rules.specs.Expressions.Uses.{Spot}
-use Rattle.rules.specs.Expressions.Indirect.{behind_if, indirect_becomes}
+use Rattle.rules.specs.Expressions.Indirect.{behind_if}
 use Rattle.min_expressions.specs.Kept.{matters_at, child_at, parts_of, is_call}
 use Rattle.min_expressions.specs.Indirect.{branch_behind, branch_of, side_behind, side_of, goes_behind, put_behind}
 use Rattle.min_expressions.proofs.Chosen.{chosen, no_index, three, two, some_kept, second_kept, third_kept, right_kept}
@@ -79,13 +79,13 @@ module _ (s : Spot) where
   put_same n None = refl
   put_same n (Some z) = put_if n (matters_at s z) z
 
-  behind_chosen : (n : Note) (k : Kind) (t : Forest) → option_map (put_behind n) (chosen (goes_behind s k t) t) ≡ indirect_becomes s n k t
+  behind_chosen : (n : Note) (k : Kind) (t : Forest) → option_map (put_behind n) (chosen (goes_behind s k t) t) ≡ behind_if s n (part_counts k t)
   behind_chosen n k t = ap (option_map (put_behind n)) (part_chosen k t) ∙ put_same n (part_counts k t)
 
-  pub goes_as_ruled : (n : Note) (k : Kind) (t : Forest) (i : ℕ) (y : Tree) → goes_behind s k t ≡ Some i → option_map (put_behind n) (child_at i t) ≡ Some y → indirect_becomes s n k t ≡ Some y
+  pub goes_as_ruled : (n : Note) (k : Kind) (t : Forest) (i : ℕ) (y : Tree) → goes_behind s k t ≡ Some i → option_map (put_behind n) (child_at i t) ≡ Some y → behind_if s n (part_counts k t) ≡ Some y
   goes_as_ruled n k t i y e f = sym (behind_chosen n k t) ∙ ap (λ o. option_map (put_behind n) (chosen o t)) e ∙ f
 
-  pub stays_as_ruled : (n : Note) (k : Kind) (t : Forest) → goes_behind s k t ≡ None → indirect_becomes s n k t ≡ None
+  pub stays_as_ruled : (n : Note) (k : Kind) (t : Forest) → goes_behind s k t ≡ None → behind_if s n (part_counts k t) ≡ None
   stays_as_ruled n k t e = sym (behind_chosen n k t) ∙ ap (λ o. option_map (put_behind n) (chosen o t)) e
 
   -- ---- it is there, behind the first, and no call loses it

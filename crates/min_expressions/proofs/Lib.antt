@@ -5,6 +5,7 @@ pub mod Needed
 pub mod Lists
 pub mod Behind
 pub mod Sided
+pub mod BehindTest
 pub mod Sequences
 pub mod TwoSides
 pub mod Objects

@@ -39,7 +39,7 @@ none_in [] e = refl
 none_in (None ∷ ts) e = absurd Prim.cc
 none_in (Some t ∷ ts) e = absurd Prim.cc
 
-three_in : (ts : List (Option Tree)) (x y z : Tree) → row ts ≡ three x y z → ts ≡ Some x ∷ Some y ∷ Some z ∷ []
+pub three_in : (ts : List (Option Tree)) (x y z : Tree) → row ts ≡ three x y z → ts ≡ Some x ∷ Some y ∷ Some z ∷ []
 three_in ts x y z e =
     let a = first_in ts x (two y z) e in
     let b = first_in a.others y (forest_of z) a.left in

@@ -3,6 +3,7 @@ pub mod Kept
 pub mod Unused
 pub mod Lists
 pub mod Indirect
+pub mod BehindTest
 pub mod OneSided
 pub mod Sequences
 pub mod TwoSides

@@ -4,7 +4,7 @@ ghost use Rattle.min_traverse.specs.Lawful.{Does, either};
 ghost use Rattle.rules.specs.Expressions.Known.{fold_conditional, fold_logical, at_expression_end};
 ghost use Rattle.rules.specs.Expressions.Unused.{fold_unused};
 ghost use Rattle.rules.specs.Expressions.Lists.{fold_unused_list};
-ghost use Rattle.rules.specs.Expressions.Indirect.{fold_indirect};
+ghost use Rattle.rules.specs.Expressions.Indirect.{fold_behind_zero, fold_behind_test, fold_indirect};
 ghost use Rattle.rules.specs.Expressions.OneSided.{fold_one_sided};
 ghost use Rattle.rules.specs.Expressions.Sequences.{fold_sequence};
 ghost use Rattle.rules.specs.Expressions.TwoSides.{fold_two_sides};
@@ -14,6 +14,7 @@ ghost use Rattle.rules.specs.Expressions.Uses.{spot_of};
 ghost use Rattle.min_expressions.specs.Kept.{matters_at};
 
 use crate::bare::matters_here;
+use crate::behind_test::{branch_leaves, keep_both, keep_branch, right_follows};
 use crate::indirect::{goes_behind, keep_behind_zero};
 use crate::kept::{conditional_keeps, keep_child, logical_keeps};
 use crate::list::{keep_list, list_goes};
@@ -49,7 +50,18 @@ fn fold_without_memory(node: &mut Node, ctx: &mut MinifierTraverseCtx) -> bool
     fold_operation(node, ctx) || PeepholeOptimizations::remove_unused_list(node, ctx)
 }
 
-// The same, and what comes to stand behind a zero.
+// What comes to stand behind a zero, or behind a test that acts.
+fn fold_indirect(node: &mut Node, ctx: &mut MinifierTraverseCtx) -> Result<bool, AllocError>
+    ensures does { IfOk result (λ b. Does fold_indirect ctx.old node.old b ctx.new node.new) }
+    ensures refused { IfErr result (λ e. (node.new ≡ node.old) × (ctx.new ≡ ctx.old)) }
+{
+    if PeepholeOptimizations::put_behind_zero(node, ctx)? {
+        return Ok(true);
+    }
+    PeepholeOptimizations::put_behind_test(node, ctx)
+}
+
+// What is tried without memory, and what comes to stand behind something.
 fn fold_to_parts(node: &mut Node, ctx: &mut MinifierTraverseCtx) -> Result<bool, AllocError>
     ensures does { IfOk result (λ b. Does (either (either (either (either fold_conditional fold_logical) fold_unused) fold_unused_list) fold_indirect) ctx.old node.old b ctx.new node.new) }
     ensures refused { IfErr result (λ e. (node.new ≡ node.old) × (ctx.new ≡ ctx.old)) }
@@ -57,7 +69,7 @@ fn fold_to_parts(node: &mut Node, ctx: &mut MinifierTraverseCtx) -> Result<bool,
     if fold_without_memory(node, ctx) {
         return Ok(true);
     }
-    PeepholeOptimizations::put_behind_zero(node, ctx)
+    fold_indirect(node, ctx)
 }
 
 // The same, and what becomes of a conditional of which nobody takes the value.
@@ -195,7 +207,7 @@ impl PeepholeOptimizations {
         node: &mut Node,
         ctx: &mut MinifierTraverseCtx,
     ) -> Result<bool, AllocError>
-        ensures does { IfOk result (λ b. Does fold_indirect ctx.old node.old b ctx.new node.new) }
+        ensures does { IfOk result (λ b. Does fold_behind_zero ctx.old node.old b ctx.new node.new) }
         ensures refused { IfErr result (λ e. (node.new ≡ node.old) × (ctx.new ≡ ctx.old)) }
     {
         match goes_behind(node, ctx) {
@@ -205,6 +217,27 @@ impl PeepholeOptimizations {
             }
             None => Ok(false),
         }
+    }
+
+    /// A conditional on a test that acts, of which its form tells whether it is true, becomes the sequence of the test and the branch that
+    /// is taken, and a logical expression whose left side acts, of which it is known that the right one is evaluated, that of both
+    /// sides, as `(f(), 1), g()`. It fails only for want of memory; then all is as it was.
+    pub fn put_behind_test(
+        node: &mut Node,
+        ctx: &mut MinifierTraverseCtx,
+    ) -> Result<bool, AllocError>
+        ensures does { IfOk result (λ b. Does fold_behind_test ctx.old node.old b ctx.new node.new) }
+        ensures refused { IfErr result (λ e. (node.new ≡ node.old) × (ctx.new ≡ ctx.old)) }
+    {
+        if let Some(at) = branch_leaves(node, ctx.alloc()) {
+            keep_branch(node, at, ctx)?;
+            return Ok(true);
+        }
+        if right_follows(node, ctx.alloc()) {
+            keep_both(node, ctx)?;
+            return Ok(true);
+        }
+        Ok(false)
     }
 
     /// Where nobody takes the value, a conditional of which one branch alone acts becomes `test && consequent` or

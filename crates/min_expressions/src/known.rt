@@ -2,11 +2,13 @@
 ghost use Rattle.std.specs.Prelude.{◌≡◌};
 ghost use Rattle.js_syntax.specs.Node.{forest_of};
 ghost use Rattle.known_tests.specs.Tells.{nullish_type, opposite, way_known};
+ghost use Rattle.steps.specs.Allowed.IndirectChoice.{truth_beside, way_beside};
 ghost use Rattle.steps.specs.Allowed.KnownConditional.{truth_known};
 ghost use Rattle.steps.specs.Allowed.KnownSide.{side_known};
 ghost use Rattle.steps.specs.Allowed.Untaken.{truth_given};
 
 use crate::list::acts_or_is_list;
+use crate::unused::acts;
 use js_effects::{BareContext, ValueType, evaluate_value_to_boolean, value_type};
 use js_syntax::LogicalOperator;
 use js_tree::Node;
@@ -29,6 +31,17 @@ pub fn truth_known(test: &Node, alloc: Global) -> Option<bool>
         None
     } else {
         truth_given(test, alloc)
+    }
+}
+
+// Whether a test that acts is true, where its form tells.
+pub(crate) fn truth_beside(test: &Node, alloc: Global) -> Option<bool>
+    ensures { result ≡ truth_beside test.now.kind test.now.note test.now.below }
+{
+    if acts(test) {
+        truth_given(test, alloc)
+    } else {
+        None
     }
 }
 
@@ -69,5 +82,16 @@ pub(crate) fn side_known(operator: LogicalOperator, left: &Node, alloc: Global) 
         None
     } else {
         way_known(operator, left, alloc)
+    }
+}
+
+// The same, where the left one acts.
+pub(crate) fn way_beside(operator: LogicalOperator, left: &Node, alloc: Global) -> Option<bool>
+    ensures { result ≡ way_beside operator left.now.kind left.now.note left.now.below }
+{
+    if acts(left) {
+        way_known(operator, left, alloc)
+    } else {
+        None
     }
 }

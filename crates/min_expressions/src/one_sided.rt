@@ -76,7 +76,7 @@ fn leaving_at(operator: LogicalOperator) -> usize
     }
 }
 
-fn mark_branch(branch: &Option<Node>, ctx: &mut MinifierTraverseCtx)
+pub(crate) fn mark_branch(branch: &Option<Node>, ctx: &mut MinifierTraverseCtx)
     ensures left { Leaves ctx.old (λ r. ids r (row (branch.now ∷ []))) (evals (row (branch.now ∷ []))) ctx.new }
 {
     if let Some(node) = branch {

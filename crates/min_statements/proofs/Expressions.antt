@@ -14,7 +14,8 @@ use Rattle.steps.specs.Allowed.KnownConditional.{KnownConditional, consequent_is
 use Rattle.steps.specs.Allowed.KnownSide.{KnownSide, right_side_counts, left_side_decides}
 use Rattle.steps.specs.Allowed.UnusedOperation.{acts, UnusedOperation, one_operand_acts}
 use Rattle.steps.specs.Allowed.UnusedList.{acting, all_act, has_spread, as_one, list_becomes, UnusedList, acting_parts_stay}
-use Rattle.steps.specs.Allowed.IndirectChoice.{one_of as branch_of, if_so, part_counts, IndirectChoice, value_alone_counts}
+use Rattle.steps.proofs.Owed.BehindTest.{Follows, consequent_follows, alternate_follows, right_side_follows, part_follows}
+use Rattle.steps.specs.Allowed.IndirectChoice.{one_of as branch_of, if_so, part_counts, IndirectChoice, value_alone_counts, part_counts_behind_test}
 use Rattle.steps.specs.Allowed.OneSidedChoice.{sides, one_side, one_sided, OneSidedChoice, one_branch_acts}
 use Rattle.steps.specs.Allowed.IdleParts.{stays_before, counting, all_count, more_before, itself_or_behind, as_value_of, sequence_becomes, IdleParts, idle_parts_leave}
 use Rattle.steps.specs.Allowed.TwoSides.{two_sides, TwoSides, both_sides_act}
@@ -177,10 +178,17 @@ part_calls conditional_expression (node t m a (node k i b (node l j c nothing)))
 part_calls (logical_expression o) (node t m a (node k i b nothing)) z e = right_calls o t k m i a b z _ e
 part_calls k parts z e = no_answer e
 
+-- or behind its test
+follows_calls : (a : places.Around) {n m : Note} {x y : Tree} → Follows n m x y → CallsStay a x y
+follows_calls a (consequent_follows o p i j t k l d b c acting truth) = record { fewer = Prim.omega arith; old = refl; in_with = false; bare = refl }
+follows_calls a (alternate_follows o p i j t k l d b c acting truth) = record { fewer = Prim.omega arith; old = refl; in_with = false; bare = refl }
+follows_calls a (right_side_follows q o p i t k d b acting goes) = record { fewer = Prim.omega arith; old = refl; in_with = false; bare = refl }
+
 indirect_calls : (a : places.Around) (x y : Tree) → IndirectChoice a x y → CallsStay a x y
 indirect_calls a _ _ (value_alone_counts n m i x z counts itself) =
     let calls = part_calls x.kind x.below z counts in
     record { fewer = Prim.omega (arith, calls.fewer); old = calls.old; in_with = false; bare = refl }
+indirect_calls a x y (part_counts_behind_test n m _ _ e) = follows_calls a (part_follows n m x.note x.kind x.below y e)
 
 -- ---- what becomes `&&` or `||`
 

@@ -172,8 +172,8 @@ fn thin_branch(node: &mut Node, ctx: &mut MinifierTraverseCtx) -> bool
 }
 
 /// An `if` on a test that is known becomes the branch that runs, if that means the same wherever it stands and the other one declares no
-/// name around it; and empty, if there is no branch to run. A `try` around nothing becomes its finalizer, or its block. Else, what declares no name around it leaves the branch that isn't taken. The
-/// context is told.
+/// name around it; and empty, if there is no branch to run. A `try` around nothing becomes its finalizer, or its block. Else, what declares
+/// no name around it leaves the branch that isn't taken. The context is told.
 pub fn try_fold_if(node: &mut Node, ctx: &mut MinifierTraverseCtx) -> bool
     ensures does { Does at_if_end ctx.old node.old result ctx.new node.new }
 {

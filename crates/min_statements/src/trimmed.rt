@@ -248,7 +248,8 @@ fn has_gone(facts: &Facts, at: Where, items: &[Option<Node>], alloc: Global) -> 
 }
 
 /// What goes of a list of statements leaves it: what stands behind a jump or what cuts off as one does, loops that never turn and `try`
-/// around nothing, empty and silent statements, blocks of nothing, and functions and declarators that nothing uses. The context is told of each before. Where nothing goes, nothing is touched.
+/// around nothing, empty and silent statements, blocks of nothing, and functions and declarators that nothing uses. The context is told of
+/// each before. Where nothing goes, nothing is touched.
 pub fn trim_statements(names: &Statements, node: &mut Node, ctx: &mut MinifierTraverseCtx) -> bool
     requires list { node.old.kind ≡ statements }
     ensures does { Does (acts.trim names.now) ctx.old node.old result ctx.new node.new }

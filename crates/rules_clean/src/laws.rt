@@ -9,8 +9,8 @@ ghost use Rattle.rules.specs.DeadCode.Quiet.{Exactly, IsQuiet};
 ghost use Rattle.rules.specs.Imports.Quiet.{ImportsUsed};
 ghost use Rattle.rules.specs.Expressions.Settled.{IsSettled};
 
-/// Law: of a program without dead code, but for what is kept, the rules take nothing out, of its lists and of its imports, by whatever is known of it, and whichever ids are marked; and no
-/// expression of it comes to its parts, whatever is known.
+/// Law: of a program without dead code, but for what is kept, the rules take nothing out, of its lists and of its imports, by whatever is
+/// known of it, and whichever ids are marked; and no expression of it comes to its parts, whatever is known.
 pub fn rules_take_dead_code_alone()
     ensures taken { (f : Facts) (marked : ℕ → Bool) (t : Forest) → Knows f marked t → CleanBut f.keeps_unused f.keeps_imports t → IsQuiet f t }
     ensures imported { (f : Facts) (marked : ℕ → Bool) (t : Forest) → Knows f marked t → CleanBut f.keeps_unused f.keeps_imports t → ImportsUsed f t }

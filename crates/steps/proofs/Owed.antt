@@ -72,6 +72,7 @@ pub mod UnusedPlace
 pub mod UnusedOperation
 pub mod UnusedList
 pub mod BehindZero
+pub mod BehindTest
 pub mod IndirectChoice
 pub mod OneSidedChoice
 pub mod LastPart

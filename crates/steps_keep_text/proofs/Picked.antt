@@ -11,7 +11,7 @@ use Rattle.js_syntax.specs.declared.value.LiteralValue.TheVariants as value
 use Rattle.js_syntax.specs.Node.{Forest, total}
 use Rattle.steps.proofs.Owed.KnownSizes.{IsSmall}
 use Rattle.js_tree.specs.Count.{one_each}
-use Rattle.steps.proofs.Marked.Picked.{SomeOf, none, stays, leaves, opens, absent_leaves, absent_stays, Picks, one_part, several, part_behind_zero, last_behind_zero, two_parts, known, signed, zeroed, in_turn}
+use Rattle.steps.proofs.Marked.Picked.{SomeOf, none, stays, leaves, opens, absent_leaves, absent_stays, Picks, one_part, several, part_behind_zero, last_behind_zero, two_parts, after_test, known, signed, zeroed, in_turn}
 
 -- counts by which what edits build counts no more than what it is built of
 pub record IsSparing (counts : Kind → ℕ) : Type 0 where
@@ -73,6 +73,9 @@ module _ (counts : Kind → ℕ) where
   picked_counts spares (part_behind_zero k l t o m i p d parts inner choice one some) = absurd cc
   picked_counts spares (last_behind_zero j l i m o p q b parts inner one some) = Prim.omega (arith, spares.zero j one, some_counts some)
   picked_counts spares (two_parts o parts left some) = Prim.omega (arith, spares.of_choice o, some_counts some)
+  picked_counts spares (after_test conditional_expression m parts left choice some) = Prim.omega (arith, spares.of_conditional, some_counts some)
+  picked_counts spares (after_test (logical_expression q) m parts left choice some) = Prim.omega (arith, spares.of_logical q, some_counts some)
+  picked_counts spares (after_test k m parts left choice some) = absurd cc
   picked_counts spares (in_turn o m sides) = Prim.omega (arith, spares.of_comparison o)
   picked_counts spares (known (unary_expression o) below w operator small) = Prim.omega (arith, spares.of_one o w small)
   picked_counts spares (known (binary_expression o) below w operator small) = Prim.omega (arith, spares.of_two o w small)

@@ -30,7 +30,7 @@ use Rattle.steps.specs.Allowed.KnownConditional.{consequent_is_taken, alternate_
 use Rattle.steps.specs.Allowed.KnownSide.{right_side_counts, left_side_decides}
 use Rattle.steps.specs.Allowed.UnusedOperation.{needed_at, one_operand_acts}
 use Rattle.steps.specs.Allowed.UnusedList.{list_becomes, acting_parts_stay}
-use Rattle.steps.specs.Allowed.IndirectChoice.{part_counts, value_alone_counts}
+use Rattle.steps.specs.Allowed.IndirectChoice.{part_counts, behind_test, value_alone_counts, part_counts_behind_test}
 use Rattle.steps.specs.Allowed.OneSidedChoice.{one_sided, one_branch_acts}
 use Rattle.steps.specs.Allowed.IdleParts.{sequence_becomes, idle_parts_leave}
 use Rattle.steps.specs.Allowed.TwoSides.{two_sides as two_sides_at, both_sides_act}
@@ -104,6 +104,10 @@ declarator_is_dead c =
 pub conditional_is_dead : Clean row.takes_branch → ⊥
 conditional_is_dead c =
     c.nothing_is_dead argument _ refl (a_known_conditional argument _ _ (consequent_is_taken nowhere nowhere nowhere nowhere (Kind.Literal (Literal.Boolean true)) (Kind.ReferenceName a) (Kind.ReferenceName (codes "b")) nothing nothing nothing refl refl))
+
+-- a(a && null ? a : b);
+pub tested_is_dead : Clean row.takes_behind_test → ⊥
+tested_is_dead c = c.nothing_is_dead argument _ refl (an_indirect_choice argument _ _ (part_counts_behind_test nowhere nowhere _ _ refl))
 
 -- a([] ? a : b);
 pub tested_object_is_dead : Clean row.takes_by_object → ⊥
@@ -639,6 +643,11 @@ choice_suspect Kind.ConditionalExpression below z h = refl
 choice_suspect (Kind.LogicalExpression o) below z h = refl
 choice_suspect k below z h = absurd Prim.cc
 
+follows_suspect : (n m : Note) (k : Kind) (below : Forest) (y : Tree) → behind_test n m k below ≡ Some y → is_suspect k ≡ true
+follows_suspect n m Kind.ConditionalExpression below y h = refl
+follows_suspect n m (Kind.LogicalExpression o) below y h = refl
+follows_suspect n m k below y h = absurd Prim.cc
+
 side_suspect : (n : Note) (k : Kind) (below : Forest) (y : Tree) → one_sided n k below ≡ Some y → is_suspect k ≡ true
 side_suspect n Kind.ConditionalExpression below y h = refl
 side_suspect n k below y h = absurd Prim.cc
@@ -707,6 +716,7 @@ dead_suspect t a x is (a_known_side b y z (left_side_decides o n m i v k d e sta
 dead_suspect t a x is (an_unused_operation b _ _ (one_operand_acts i y z unused needed child)) = ap has_suspect is ∙ suspect_there b y (needed_suspect y.kind y.below i needed)
 dead_suspect t a x is (an_unused_list b _ _ (acting_parts_stay n m y z unused becomes)) = ap has_suspect is ∙ suspect_there b y (list_suspect n m y.kind y.below z becomes)
 dead_suspect t a x is (an_indirect_choice b _ _ (value_alone_counts n m i y z counts alone)) = ap has_suspect is ∙ suspect_there b y (choice_suspect y.kind y.below z counts)
+dead_suspect t a x is (an_indirect_choice b _ _ (part_counts_behind_test n m y z follows)) = ap has_suspect is ∙ suspect_there b y (follows_suspect n m y.kind y.below z follows)
 dead_suspect t a x is (a_one_sided_choice b _ _ (one_branch_acts n y z unused one_acts)) = ap has_suspect is ∙ suspect_there b y (side_suspect n y.kind y.below z one_acts)
 dead_suspect t a x is (idle_parts b _ _ (idle_parts_leave n m y z leave)) = ap has_suspect is ∙ suspect_there b y (sequence_suspect _ _ n m y.kind y.below z leave)
 dead_suspect t a x is (two_sides b _ _ (both_sides_act n m y z unused act)) = ap has_suspect is ∙ suspect_there b y (both_suspect n m y.kind y.below z act)

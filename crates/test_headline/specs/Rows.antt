@@ -107,6 +107,10 @@ takes_branch = form.a_module (calls (form.reads form.a) (conditional (form.leaf 
 abbrev pub takes_by_object : Forest
 takes_by_object = form.a_module (calls (form.reads form.a) (conditional (array []) (form.reads form.a) (form.reads (codes "b")) ∷ []) ∷ [])
 
+-- a(a && null ? a : b);
+abbrev pub takes_behind_test : Forest
+takes_behind_test = form.a_module (calls (form.reads form.a) (conditional (either logical.And (form.reads form.a) null) (form.reads form.a) (form.reads (codes "b")) ∷ []) ∷ [])
+
 -- null && a();
 abbrev pub never_calls : Forest
 never_calls = form.a_module (form.does (either logical.And null call_of_a) ∷ [])

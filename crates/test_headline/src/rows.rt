@@ -63,14 +63,16 @@ pub fn what_others_may_use_stays()
     ensures shared { Headline row.of_two_in_script row.of_one_in_script → ⊥ }
 {}
 
-/// `1;` doesn't stay, nor does the conditional of `a(true ? a : b);`, of `(1 ? o.g : null)();` or of `a ? b() : 1;`, what stands right in
-/// `null && a();`, what of `!(a() === 1);`, of `[a(), 1];` and of `({ a: a() });` is no call, the `1` of `use((1, a));` and of `(1, o.g)();`, the
-/// comparison of `a() === b();`, the negation of `use(!0);`, the `if` of `if (1) a(); else b();` and of `if (null) a();`, the call of `throw 1; a();`,
-/// that of `b` in `if (null) { var a = 1; b(); } use(a);` and in `if (a && null) { b(); }`, `l: { {} }`, `l: while (null) a();`, the call of
-/// `if (null) var a = b(); use(a);`, `l: { break l; a(); }`, or the `try` of `try {} finally { a(); }`.
+/// `1;` doesn't stay, nor does the conditional of `a(true ? a : b);`, of `a(a && null ? a : b);`, of `(1 ? o.g : null)();` or of `a ? b() :
+/// 1;`, what stands right in `null && a();`, what of `!(a() === 1);`, of `[a(), 1];` and of `({ a: a() });` is no call, the `1` of `use((1,
+/// a));` and of `(1, o.g)();`, the comparison of `a() === b();`, the negation of `use(!0);`, the `if` of `if (1) a(); else b();` and of `if
+/// (null) a();`, the call of `throw 1; a();`, that of `b` in `if (null) { var a = 1; b(); } use(a);` and in `if (a && null) { b(); }`, `l:
+/// { {} }`, `l: while (null) a();`, the call of `if (null) var a = b(); use(a);`, `l: { break l; a(); }`, or the `try` of `try {} finally {
+/// a(); }`.
 pub fn dead_code_goes()
     ensures number { Headline row.dead row.dead → ⊥ }
     ensures conditional { Headline row.takes_branch row.takes_branch → ⊥ }
+    ensures tested { Headline row.takes_behind_test row.takes_behind_test → ⊥ }
     ensures side { Headline row.never_calls row.never_calls → ⊥ }
     ensures operation { Headline row.compares_call row.compares_call → ⊥ }
     ensures list { Headline row.lists_call row.lists_call → ⊥ }
@@ -94,18 +96,18 @@ pub fn dead_code_goes()
 {}
 
 /// `1;` is dead code, and so are `{ ; }`'s empty statement, a function that nothing calls, one of two declarators, a name of an import that
-/// nothing refers to: `import a from 'm';`, a conditional on a literal, or on an array: `a([] ? a : b);`, a logical expression with a
-/// literal on its left, an operation of which nobody takes the value, where one operand alone acts, an array of which nobody takes the
-/// value, a conditional on a literal that is called so that what it gives has no receiver: `(1 ? o.g : null)();`, a conditional of which nobody takes the value and one branch alone acts: `a ? b() : 1;`, a sequence that is
-/// used for its value, of which a part before the last doesn't act: `use((1, a));`, also where the last may not stand there itself:
-/// `(1, o.g)();`, a comparison of which nobody takes the value, though
-/// both sides act: `a() === b();`, an object literal of which nobody takes the value, that holds a call: `({ a: a() });`, an operation
-/// on a literal, of which the value is known: `use(!0);`, an `if` on a literal, whether a branch of it runs: `if (1) a(); else b();`, or
-/// none: `if (null) a();`, a statement behind a jump: `throw 1; a();`, one of a branch that isn't taken and has to stay for
-/// the name that it declares: `if (null) { var a = 1; b(); } use(a);`, or for its test: `if (a && null) { b(); }`, a block of nothing, or what labels one: `l: { {} }`, a loop that
-/// never turns: `l: while (null) a();`, a value that is never given: `if (null) var a = b(); use(a);`, an import
-/// without names behind one of its module: `import a from 'm'; import 'm';`, what a jump to its label leaves at once:
-/// `l: { break l; a(); }`, and a `try` around nothing: `try {} finally { a(); }`.
+/// nothing refers to: `import a from 'm';`, a conditional on a literal, on an array: `a([] ? a : b);`, or on what acts and is false all the
+/// same: `a(a && null ? a : b);`, a logical expression with a literal on its left, an operation of which nobody takes the value, where one
+/// operand alone acts, an array of which nobody takes the value, a conditional on a literal that is called so that what it gives has no
+/// receiver: `(1 ? o.g : null)();`, a conditional of which nobody takes the value and one branch alone acts: `a ? b() : 1;`, a sequence
+/// that is used for its value, of which a part before the last doesn't act: `use((1, a));`, also where the last may not stand there itself:
+/// `(1, o.g)();`, a comparison of which nobody takes the value, though both sides act: `a() === b();`, an object literal of which nobody
+/// takes the value, that holds a call: `({ a: a() });`, an operation on a literal, of which the value is known: `use(!0);`, an `if` on a
+/// literal, whether a branch of it runs: `if (1) a(); else b();`, or none: `if (null) a();`, a statement behind a jump: `throw 1; a();`,
+/// one of a branch that isn't taken and has to stay for the name that it declares: `if (null) { var a = 1; b(); } use(a);`, or for its
+/// test: `if (a && null) { b(); }`, a block of nothing, or what labels one: `l: { {} }`, a loop that never turns: `l: while (null) a();`, a
+/// value that is never given: `if (null) var a = b(); use(a);`, an import without names behind one of its module: `import a from 'm';
+/// import 'm';`, what a jump to its label leaves at once: `l: { break l; a(); }`, and a `try` around nothing: `try {} finally { a(); }`.
 pub fn dead_code_is_told()
     ensures number { Clean (a_module (does one ∷ [])) → ⊥ }
     ensures empty { Clean (a_module (block (empty ∷ []) ∷ [])) → ⊥ }
@@ -114,6 +116,7 @@ pub fn dead_code_is_told()
     ensures import_name { Clean (a_module (imports a ∷ [])) → ⊥ }
     ensures conditional { Clean row.takes_branch → ⊥ }
     ensures tested_object { Clean row.takes_by_object → ⊥ }
+    ensures tested { Clean row.takes_behind_test → ⊥ }
     ensures side { Clean row.never_calls → ⊥ }
     ensures operation { Clean row.compares_call → ⊥ }
     ensures list { Clean row.lists_call → ⊥ }
@@ -164,8 +167,8 @@ pub fn rules_take_dead_code_alone()
 {}
 
 /// `f(1);` may take the place of `f(1); 2;`, `a();` that of `!(a() === 1);`, of `[a(), 1];` and of `({ a: a() });`, `a(), b();` that of
-/// `[a(), 1, b()];` and of `a() === b();`, `(0, o.g)();` that of `(1 ? o.g : null)();` and of `(1, o.g)();`, `a && b();` that of `a ? b() : 1;`, `use(a);`
-/// that of `use((1, a));`, and `use(true);` that of `use(!0);`.
+/// `[a(), 1, b()];` and of `a() === b();`, `(0, o.g)();` that of `(1 ? o.g : null)();` and of `(1, o.g)();`, `a && b();` that of `a ? b() :
+/// 1;`, `use(a);` that of `use((1, a));`, and `use(true);` that of `use(!0);`.
 pub fn what_is_left()
     ensures statement { Headline row.with_dead row.calls_host }
     ensures operand { Headline row.compares_call row.calls_a }

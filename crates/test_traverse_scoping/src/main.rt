@@ -1,11 +1,11 @@
 //! Does each call answer that may want memory, and what? Answers the rows of standard input.
 //!
 //! A line is a row, or says behind `//` what the rows after it show, and is printed as it is. A row has the calls, with blanks between
-//! them, on the walk of an empty module that begins anew with each row: a call's name, `=`, and what it takes with `,` between. It is printed
-//! with the answers behind it. A call whose condition isn't met answers `no`.
+//! them, on the walk of an empty module that begins anew with each row: a call's name, `=`, and what it takes with `,` between. It is
+//! printed with the answers behind it. A call whose condition isn't met answers `no`.
 //!
-//! The rows stand in `stdin`, and what must be printed for them in `stdout`, which the gate compares: told by hand, and for the rows that call
-//! every factory of references by the words of its name.
+//! The rows stand in `stdin`, and what must be printed for them in `stdout`, which the gate compares: told by hand, and for the rows that
+//! call every factory of references by the words of its name.
 #![tactic(auto)]
 
 mod every;

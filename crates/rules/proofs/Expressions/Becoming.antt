@@ -1,11 +1,12 @@
 -- What the rules answer, case by case.
-use Rattle.std.proofs.Common.{◌≡◌, ◌∙◌, ◌+◌, ◌≤◌, ℕ, Bool, true, false, Option, Some, None, if◌then◌else◌, refl, ap, subst, arith}
+use Rattle.std.proofs.Common.{◌≡◌, ◌∙◌, ◌⊎◌, inl, inr, ◌+◌, ◌≤◌, ℕ, Bool, true, false, Option, Some, None, if◌then◌else◌, refl, ap, subst, arith}
 use Rattle.js_syntax.specs.declared.node_kind.NodeKind.{NodeKind as Kind}
 use Rattle.js_syntax.specs.declared.node_kind.NodeKind.TheVariants.{ConditionalExpression as conditional_expression, LogicalExpression as logical_expression}
 use Rattle.js_syntax.specs.declared.operator.LogicalOperator.{LogicalOperator}
 use Rattle.js_syntax.specs.Facts.{weight}
 use Rattle.js_syntax.specs.Node.{Forest, Tree, Note, nothing, node, forest_of, total}
 use Rattle.scope_counts.specs.Counts.{ids}
+use Rattle.min_traverse.specs.Lawful.{or_else}
 use Rattle.steps.specs.Allowed.KnownConditional.{truth_known}
 use Rattle.steps.specs.Allowed.KnownSide.{side_known}
 use Rattle.steps.specs.Allowed.Uses.{stands_bare}
@@ -21,6 +22,11 @@ same_answer e = Prim.cc
 pub none_of : (o : Option Tree) → ((y : Tree) → o ≡ Some y → ⊥) → o ≡ None
 none_of None never = refl
 none_of (Some y) never = absurd (never y refl)
+
+-- the answer of the first rule that has one
+pub either_of : (o p : Option Tree) (y : Tree) → or_else o p ≡ Some y → (o ≡ Some y) ⊎ (p ≡ Some y)
+either_of None p y e = inr e
+either_of (Some x) p y e = inl e
 
 pub data Chosen (b : Bool) (x y : Tree) : Type 0 where
   chosen : b ≡ true → x ≡ y → Chosen b x y

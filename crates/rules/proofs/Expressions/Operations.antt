@@ -14,7 +14,7 @@ use Rattle.min_traverse.specs.Lawful.{or_else}
 use Rattle.steps.specs.Allowed.UnusedOperation.{acts}
 use Rattle.rules.specs.Expressions.Lists.{new_note}
 use Rattle.rules.specs.Expressions.Operations.{literal_there, minus_there, known_becomes}
-use Rattle.rules.proofs.Expressions.Becoming.{no_answer, same_answer, IsLess}
+use Rattle.rules.proofs.Expressions.Becoming.{no_answer, same_answer, either_of, IsLess}
 
 -- ---- an answer is a literal of the value, or unary minus on one
 
@@ -36,15 +36,11 @@ is_minus_there : (n : Note) (o : Option ℕ) (y : Tree) → minus_there n o ≡ 
 is_minus_there n None y e = no_answer e
 is_minus_there n (Some i) y e = record { below_minus_one = i; known = refl; is = same_answer e }
 
-one_of : (o p : Option Tree) (y : Tree) → or_else o p ≡ Some y → (o ≡ Some y) ⊎ (p ≡ Some y)
-one_of None p y e = inr e
-one_of (Some x) p y e = inl e
-
 -- ---- the answer is an edit, and where an edit applies there is an answer
 
 pub known_edits : (a : places.Around) (x y : Tree) → known_becomes x.note x.kind x.below ≡ Some y → KnownOperation a x y
 known_edits a x y e =
-    elim (one_of (literal_there x.note (known_literal x.kind x.note x.below)) (minus_there x.note (known_negative x.kind x.note x.below)) y e) [
+    elim (either_of (literal_there x.note (known_literal x.kind x.note x.below)) (minus_there x.note (known_negative x.kind x.note x.below)) y e) [
       | inl f ↦
           let h = is_literal_there x.note (known_literal x.kind x.note x.below) y f in
           subst (λ z. KnownOperation a x z) h.is (value_is_known (new_note x.note) h.value x h.known)

@@ -8,8 +8,8 @@ ghost use Rattle.scope_rules.specs.Samples.{b};
 ghost use Rattle.steps.specs.Allowed.Rows.{null, conditional, either_way, empty, with_a};
 ghost use Rattle.rules.specs.Expressions.Samples.{left, left_of, doing, uses, member, logical, binary, unary, parenthesized, array, spread, sequence, indirect, empty_text, a_function, object, keyed, computed, number, word, truth, endless};
 
-/// A conditional on a test that is known becomes the branch that is taken, at any depth. A test that acts is left, though it is an
-/// object.
+/// A conditional on a test that is known becomes the branch that is taken, at any depth. A test that acts is left, and the branch behind
+/// it.
 pub fn branches_left()
     ensures consequent { left_of (uses (conditional one (reads a) (reads b))) ≡ doing (uses (reads a)) }
     ensures alternate { left_of (uses (conditional null (reads a) (reads b))) ≡ doing (uses (reads b)) }
@@ -18,7 +18,19 @@ pub fn branches_left()
     ensures object { left_of (uses (conditional (array []) (reads a) (reads b))) ≡ doing (uses (reads a)) }
     ensures voided { left_of (uses (conditional (unary unary_operator.Void one) (reads a) (reads b))) ≡ doing (uses (reads b)) }
     ensures unknown { left_of (uses (conditional (reads a) one null)) ≡ doing (uses (conditional (reads a) one null)) }
-    ensures acting { left_of (uses (conditional (array (calls (reads a) ∷ [])) one null)) ≡ doing (uses (conditional (array (calls (reads a) ∷ [])) one null)) }
+    ensures acting { left_of (uses (conditional (array (calls (reads a) ∷ [])) one null)) ≡ doing (uses (sequence (array (calls (reads a) ∷ []) ∷ one ∷ []))) }
+{}
+
+/// The part that counts follows a test that acts, and a left side, whatever it is and wherever that stands; nothing follows where the test
+/// doesn't tell, and a left side that decides stays.
+pub fn parts_left_behind_tests()
+    ensures called { left_of (calls (conditional (logical logical_operator.And (reads a) null) one member)) ≡ doing (calls (sequence (logical logical_operator.And (reads a) null ∷ member ∷ []))) }
+    ensures function { left_of (uses (conditional (array (calls (reads a) ∷ [])) a_function null)) ≡ doing (uses (sequence (array (calls (reads a) ∷ []) ∷ a_function ∷ []))) }
+    ensures and_right { left_of (uses (logical logical_operator.And (array (calls (reads a) ∷ [])) (reads b))) ≡ doing (uses (sequence (array (calls (reads a) ∷ []) ∷ reads b ∷ []))) }
+    ensures or_right { left_of (uses (logical logical_operator.Or (logical logical_operator.And (reads a) null) (reads b))) ≡ doing (uses (sequence (logical logical_operator.And (reads a) null ∷ reads b ∷ []))) }
+    ensures or_left { left_of (uses (logical logical_operator.Or (array (calls (reads a) ∷ [])) (reads b))) ≡ doing (uses (logical logical_operator.Or (array (calls (reads a) ∷ [])) (reads b))) }
+    ensures coalesce_left { left_of (uses (logical logical_operator.Coalesce (array (calls (reads a) ∷ [])) (reads b))) ≡ doing (uses (logical logical_operator.Coalesce (array (calls (reads a) ∷ [])) (reads b))) }
+    ensures unknown { left_of (uses (logical logical_operator.And (calls (reads a)) (reads b))) ≡ doing (uses (logical logical_operator.And (calls (reads a)) (reads b))) }
 {}
 
 /// A logical expression of which the left side is known becomes the side that counts. A function doesn't come out of it.

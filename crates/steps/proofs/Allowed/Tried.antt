@@ -37,14 +37,14 @@ use Rattle.steps.specs.Allowed.EmptyBlock.{EmptyBlock, empty_block_leaves}
 use Rattle.steps.specs.Allowed.DeadIf.{DeadIf, nothing_is_run}
 use Rattle.steps.specs.Allowed.UnusedOperation.{needed_at, one_operand_acts}
 use Rattle.steps.specs.Allowed.UnusedList.{list_becomes, acting_parts_stay}
-use Rattle.steps.specs.Allowed.IndirectChoice.{value_alone_counts}
+use Rattle.steps.specs.Allowed.IndirectChoice.{value_alone_counts, part_counts_behind_test}
 use Rattle.steps.specs.Allowed.OneSidedChoice.{one_branch_acts}
 use Rattle.steps.specs.Allowed.IdleParts.{idle_parts_leave}
 use Rattle.steps.specs.Allowed.TwoSides.{both_sides_act}
 use Rattle.steps.specs.Allowed.UnusedObject.{acting_values_stay}
 use Rattle.steps.specs.Allowed.KnownOperation.{known_literal, value_is_known, negative_is_known}
 use Rattle.steps.specs.Allowed.Edits.{Edit, leaves, becomes, empty_statement, empty_block, silent_statement, unused_function, unused_declaration, unused_import, unreached, untaken, idle_statement, repeated_import, known_conditional, known_side, known_if, dead_if, unused_operation, unused_list, indirect_choice, one_sided_choice, idle_parts, two_sides, unused_object, known_operation, unrun_value, idle_try}
-use Rattle.steps.specs.Allowed.Rows.{breaks_label, labeled_too, labeled, branch_of_if, in_branch, in_function, in_function_by, value_of_a, zero, loop, debugger, throwing_block, throwing_branch, broken_label, past, in_list, before, throws, behind_throw, call_of_a, null, if_one, if_null, either_way, conditional, logical, may_be_named, o_f, parenthesized, in_statement, called, called_in_parentheses, called_in_with, argument, operand, applied, equals, assigned, statement, ComesOut, Stays, StaysUnused, array, spread, hole, sequence, ListStays, ChoiceStays, PartsStay, SidesStay, object, a_is, b_is, getter_of_a, ObjectStays, literal, operation, OperationStays, behind_zero, placed, StaysDirect, with_a, in_with_a, empty, a_is_read, a_is_exported, imports_nothing, behind_import, only_import, tried, tried_finally, finally_alone, while_, for_, loop}
+use Rattle.steps.specs.Allowed.Rows.{breaks_label, labeled_too, labeled, branch_of_if, in_branch, in_function, in_function_by, value_of_a, zero, loop, debugger, throwing_block, throwing_branch, broken_label, past, in_list, before, throws, behind_throw, call_of_a, null, if_one, if_null, either_way, conditional, logical, may_be_named, o_f, parenthesized, in_statement, called, called_in_parentheses, called_in_with, argument, operand, applied, equals, assigned, statement, ComesOut, Stays, StaysUnused, array, spread, hole, sequence, ListStays, ChoiceStays, PartsStay, SidesStay, object, a_is, b_is, getter_of_a, ObjectStays, literal, operation, OperationStays, behind_zero, placed, StaysDirect, FollowsNone, with_a, in_with_a, empty, a_is_read, a_is_exported, imports_nothing, behind_import, only_import, tried, tried_finally, finally_alone, while_, for_, loop}
 
 pub empties_in_list : Edit (a_module (does one ∷ [])) (a_module (empty ∷ []))
 empties_in_list = becomes (before []) _ _ (silent_statement (silent_statement_empties nowhere nowhere nowhere _ nothing (inl refl, tt)))
@@ -362,12 +362,38 @@ typed_name_behind_zero = becomes (operand unary.Typeof) _ _ (indirect_choice (va
 pub deleted_member_behind_zero : Edit (placed (operand unary.Delete) (conditional one o_f null)) (placed (operand unary.Delete) (behind_zero o_f))
 deleted_member_behind_zero = becomes (operand unary.Delete) _ _ (indirect_choice (value_alone_counts nowhere nowhere nowhere _ _ refl refl))
 
+-- what follows a test that acts
+pub consequent_behind_test : Edit (placed argument (conditional (array (call_of_a ∷ [])) o_f null)) (placed argument (sequence (array (call_of_a ∷ []) ∷ o_f ∷ [])))
+consequent_behind_test = becomes argument _ _ (indirect_choice (part_counts_behind_test nowhere nowhere _ _ refl))
+
+pub alternate_behind_test : Edit (placed called (conditional (logical operator.And (reads a) null) one o_f)) (placed called (sequence (logical operator.And (reads a) null ∷ o_f ∷ [])))
+alternate_behind_test = becomes called _ _ (indirect_choice (part_counts_behind_test nowhere nowhere _ _ refl))
+
+pub right_side_behind_test : Edit (placed statement (logical operator.And (array (call_of_a ∷ [])) call_of_a)) (placed statement (sequence (array (call_of_a ∷ []) ∷ call_of_a ∷ [])))
+right_side_behind_test = becomes statement _ _ (indirect_choice (part_counts_behind_test nowhere nowhere _ _ refl))
+
+pub unknown_test_follows_none : FollowsNone argument (conditional call_of_a one null)
+unknown_test_follows_none y (value_alone_counts _ _ _ _ z counts it_matters) = cc counts
+unknown_test_follows_none y (part_counts_behind_test _ _ _ _ follows) = cc follows
+
+pub silent_test_follows_none : FollowsNone argument (conditional one (reads a) null)
+silent_test_follows_none y (value_alone_counts _ _ _ _ z counts it_matters) =
+    let part : Tree = record { kind = Kind.ReferenceName a; note = nowhere; below = nothing } in
+    let is : part ≡ z = cc counts in
+    true≢false (sym it_matters ∙ ap (λ (x : Tree). matters (use_at argument) (asked_at (asked_of_program true) argument).in_with x.kind x.below) (sym is))
+silent_test_follows_none y (part_counts_behind_test _ _ _ _ follows) = cc follows
+
+pub left_side_follows_none : FollowsNone argument (logical operator.Or (array (call_of_a ∷ [])) (reads a))
+left_side_follows_none y (value_alone_counts _ _ _ _ z counts it_matters) = cc counts
+left_side_follows_none y (part_counts_behind_test _ _ _ _ follows) = cc follows
+
 -- what may stand there itself does
 stays_direct : (place : Around) (k : Kind) (n : Note) (b : Forest) → matters (use_at place) (asked_at (asked_of_program true) place).in_with k b ≡ false → StaysDirect place (node k n b nothing)
 stays_direct place k n b h y (value_alone_counts _ _ _ _ z counts it_matters) =
     let part : Tree = record { kind = k; note = n; below = b } in
     let is : part ≡ z = cc counts in
     true≢false (sym it_matters ∙ (ap (λ (x : Tree). matters (use_at place) (asked_at (asked_of_program true) place).in_with x.kind x.below) (sym is) ∙ h))
+stays_direct place k n b h y (part_counts_behind_test _ _ _ _ follows) = cc follows
 
 pub argument_name_stays_direct : StaysDirect argument (reads a)
 argument_name_stays_direct = stays_direct argument (Kind.ReferenceName a) nowhere nothing refl

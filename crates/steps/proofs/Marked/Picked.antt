@@ -1,5 +1,5 @@
 -- What an array, an object literal or a sequence comes to: one of its parts, several in a sequence, or the last behind a zero; what a choice does: one of its
--- parts behind a zero, or two of them as a logical expression; what a comparison does: its sides in a sequence; and what an operation does of
+-- parts behind a zero, two of them as a logical expression, or its test and one of them in a sequence; what a comparison does: its sides in a sequence; and what an operation does of
 -- which the value is known: a literal, or unary minus on one.
 use Rattle.std.proofs.Common.{◌≡◌, ℕ, suc, pos, Bool, true, false, not, Option, Some, None, if◌then◌else◌, refl, sym, subst, true≢false}
 use Rattle.js_syntax.specs.declared.node_kind.NodeKind.{NodeKind as Kind}
@@ -17,7 +17,7 @@ use Rattle.scope_laws.proofs.Bindings.{same_value}
 use Rattle.js_tree.specs.Count.{one_each}
 use Rattle.js_tree.specs.Walk.{is_list}
 use Rattle.js_syntax.proofs.Truth.{first_of_both}
-use Rattle.steps.specs.Allowed.IndirectChoice.{IndirectChoice, value_alone_counts}
+use Rattle.steps.specs.Allowed.IndirectChoice.{IndirectChoice, value_alone_counts, part_counts_behind_test}
 use Rattle.steps.specs.Allowed.OneSidedChoice.{sides, one_side, one_sided, OneSidedChoice, one_branch_acts}
 use Rattle.steps.specs.Allowed.IdleParts.{stays_before, counting, all_count, more_before, itself_or_behind, as_value_of, sequence_becomes, IdleParts, idle_parts_leave}
 use Rattle.steps.specs.Allowed.TwoSides.{two_sides, TwoSides, both_sides_act}
@@ -29,6 +29,7 @@ use Rattle.steps.specs.Allowed.UnusedOperation.{acts}
 use Rattle.steps.specs.Allowed.Uses.{Use, use_at, as_value, stands_bare}
 use Rattle.steps.proofs.Owed.IdleParts.{some_left, first_leaves, none_behind}
 use Rattle.steps.proofs.Owed.KnownTests.{counts_one, test_counts, side_counts}
+use Rattle.steps.proofs.Owed.BehindTest.{Follows, consequent_follows, alternate_follows, right_side_follows, part_follows}
 use Rattle.steps.proofs.Owed.IndirectChoice.{Counts, consequent_counts, alternate_counts, right_side_counts, part_that_counts}
 use Rattle.steps.proofs.Owed.KnownOperation.{Operation, on_one, on_two, is_operation_known, value_small, Negative, under_one, under_two, is_negative_known, negative_small, one_level}
 use Rattle.steps.proofs.Owed.KnownSizes.{IsSmall, below_largest}
@@ -70,6 +71,7 @@ pub data Picks : (k : Kind) (below : Forest) (l : Kind) (inner : Forest) → Typ
   known : (k : Kind) (below : Forest) (w : LiteralValue) → is_operator k ≡ true → IsSmall w → Picks k below (literal w) nothing
   signed : (k t : Kind) (i m : Note) (d rest : Forest) (w : LiteralValue) → is_operator k ≡ true → one_each t ≡ 1 → IsSmall w → Picks k (node t i d rest) (unary_expression UnaryNegation) (alone (literal w) m nothing)
   zeroed : (k : Kind) (below : Forest) → one_each k ≡ 1 → Picks k below (literal (value.Number (pos 0))) nothing
+  after_test : (k : Kind) (m : Note) (parts left : Forest) → is_choice k ≡ true → SomeOf parts left → Picks k parts sequence_expression (node expressions m left nothing)
   in_turn : (o : BinaryOperator) (m : Note) (sides : Forest) → Picks (binary_expression o) sides sequence_expression (node expressions m sides nothing)
 
 -- ---- the parts that act
@@ -120,8 +122,14 @@ choice_picks m i {x = x} (consequent_counts o p h j t k l d b c truth) = part_be
 choice_picks m i {x = x} (alternate_counts o p h j t k l d b c truth) = part_behind_zero x.kind l t p m i j d (node k h b (node l j c nothing)) c refl (test_counts t p d false truth) (leaves (stays none))
 choice_picks m i {x = x} (right_side_counts q o p h t k d b goes) = part_behind_zero x.kind k t p m i h d (node k h b nothing) b refl (side_counts t p d q true goes) (stays none)
 
+follows_picks : {n m : Note} {x y : Tree} → Follows n m x y → Picks x.kind x.below y.kind y.below
+follows_picks {m = m} {x = x} (consequent_follows o p i j t k l d b c acting truth) = after_test x.kind m x.below (node t p d (node k i b nothing)) refl (stays (stays (leaves none)))
+follows_picks {m = m} {x = x} (alternate_follows o p i j t k l d b c acting truth) = after_test x.kind m x.below (node t p d (node l j c nothing)) refl (stays (leaves (stays none)))
+follows_picks {m = m} {x = x} (right_side_follows q o p i t k d b acting goes) = after_test x.kind m x.below x.below refl (stays (stays none))
+
 pub indirect_choice_picks : (a : Around) (x y : Tree) → IndirectChoice a x y → Picks x.kind x.below y.kind y.below
 indirect_choice_picks a x _ (value_alone_counts n m i _ z counts matters) = choice_picks m i (part_that_counts x.note x.kind x.below z counts)
+indirect_choice_picks a x y (part_counts_behind_test n m _ _ is) = follows_picks (part_follows n m x.note x.kind x.below y is)
 
 -- ---- the branch that acts
 

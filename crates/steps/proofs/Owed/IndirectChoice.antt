@@ -1,4 +1,4 @@
--- What a choice owes of which it is known which part counts, which becomes the part that counts behind a zero.
+-- What a choice owes of which it is known which part counts, which becomes the part that counts behind a zero, or behind its test.
 use Rattle.std.proofs.Common.{◌≡◌, ◌≤◌, ◌<◌, [], ◌∷◌, ◌++◌, pos, Bool, true, false, ◌&&◌, Option, Some, None, arith, refl, sym, subst}
 use Rattle.js_syntax.specs.Class.{Class, root, expression}
 use Rattle.js_syntax.specs.declared.node_kind.NodeKind.{NodeKind as Kind}
@@ -19,7 +19,7 @@ use Rattle.json_shape.specs.Shape.{one, these, Fits}
 use Rattle.form_rules.specs.Form.{IsWellFormed}
 use Rattle.scope_laws.specs.Place.{Around, plug}
 use Rattle.steps.specs.Steps.{all_core}
-use Rattle.steps.specs.Allowed.IndirectChoice.{one_of, if_so, part_counts, behind_zero, IndirectChoice, value_alone_counts}
+use Rattle.steps.specs.Allowed.IndirectChoice.{one_of, if_so, part_counts, behind_zero, IndirectChoice, value_alone_counts, part_counts_behind_test}
 use Rattle.steps.specs.Allowed.KnownConditional.{truth_known, a_conditional}
 use Rattle.steps.specs.Allowed.KnownSide.{side_known, a_logical}
 use Rattle.steps.specs.Allowed.Wanted.{wanted_at}
@@ -32,6 +32,7 @@ use Rattle.steps.specs.Allowed.Calls.{may_end}
 use Rattle.steps.specs.Owed.Owed.{MayChange, IsOther, is_read_name, ByParts, by_coming}
 use Rattle.steps.specs.Owed.TakesPlace.{TakesPlace}
 use Rattle.steps.proofs.Owed.BehindZero.{consequent_behind_zero, alternate_behind_zero, right_side_behind_zero}
+use Rattle.steps.proofs.Owed.BehindTest.{part_follows, follows_owes}
 use Rattle.steps.proofs.Owed.BranchKinds.{IsExpression}
 use Rattle.steps.proofs.Owed.ChoiceParts.{parts_of_conditional, sides_of_logical}
 use Rattle.steps.proofs.Owed.ChoiceRuns.{consequent_core, alternate_core, core_there, no_imports_below, imports_before}
@@ -255,3 +256,4 @@ counted_owes a n m i {x = x} {z = z} counts =
 
 pub indirect_choice_owes : (a : Around) (x y : Tree) → IndirectChoice a x y → ByParts a x y
 indirect_choice_owes a x _ (value_alone_counts n m i _ z counts matters) = counted_owes a n m i (part_that_counts x.note x.kind x.below z counts)
+indirect_choice_owes a x y (part_counts_behind_test n m _ _ is) = follows_owes a (part_follows n m x.note x.kind x.below y is)

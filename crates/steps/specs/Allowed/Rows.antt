@@ -249,6 +249,11 @@ placed place (node k n below rest) = plug place (a_node k n below)
 placed place e = nothing
 
 -- `1 ? e : null` doesn't become (0, e) there
+-- no part of it comes to stand behind a zero or its test
+abbrev pub FollowsNone : Around → Forest → Type 0
+FollowsNone place (node k n below rest) = (y : Tree) → IndirectChoice place (record { kind = k; note = n; below = below }) y → ⊥
+FollowsNone place e = ⊥
+
 abbrev pub StaysDirect : Around → Forest → Type 0
 StaysDirect place (node k n below rest) = (y : Tree) → IndirectChoice place (a_conditional nowhere (Kind.Literal (value.Number (pos 1))) nowhere nothing (node k n below null)) y → ⊥
 StaysDirect place e = ⊥

@@ -28,7 +28,7 @@ ghost use Rattle.steps.specs.Allowed.UnrunValue.{UnrunValue};
 ghost use Rattle.steps.specs.Allowed.IdleTry.{IdleTry};
 ghost use Rattle.steps.specs.Allowed.EmptyBlock.{EmptyBlock};
 ghost use Rattle.steps.specs.Allowed.Edits.{Edit};
-ghost use Rattle.steps.specs.Allowed.Rows.{before, breaks_label, labeled, labeled_too, tried, tried_finally, finally_alone, while_, for_, loop, branch_of_if, in_list, past, in_branch, in_function, in_function_by, value_of_a, zero, debugger, throwing_block, throwing_branch, broken_label, throws, behind_throw, call_of_a, null, if_one, if_null, either_way, conditional, logical, may_be_named, o_f, parenthesized, called, called_in_parentheses, called_in_with, argument, operand, applied, equals, assigned, statement, ComesOut, Stays, StaysUnused, array, spread, hole, sequence, ListStays, ChoiceStays, PartsStay, SidesStay, object, a_is, b_is, getter_of_a, ObjectStays, literal, operation, OperationStays, behind_zero, placed, StaysDirect, with_a, in_with_a, empty, a_is_read, a_is_exported, imports_nothing, behind_import, behind_other};
+ghost use Rattle.steps.specs.Allowed.Rows.{before, breaks_label, labeled, labeled_too, tried, tried_finally, finally_alone, while_, for_, loop, branch_of_if, in_list, past, in_branch, in_function, in_function_by, value_of_a, zero, debugger, throwing_block, throwing_branch, broken_label, throws, behind_throw, call_of_a, null, if_one, if_null, either_way, conditional, logical, may_be_named, o_f, parenthesized, called, called_in_parentheses, called_in_with, argument, operand, applied, equals, assigned, statement, ComesOut, Stays, StaysUnused, array, spread, hole, sequence, ListStays, ChoiceStays, PartsStay, SidesStay, object, a_is, b_is, getter_of_a, ObjectStays, literal, operation, OperationStays, behind_zero, placed, StaysDirect, FollowsNone, with_a, in_with_a, empty, a_is_read, a_is_exported, imports_nothing, behind_import, behind_other};
 
 /// A statement of a literal becomes empty, in a list and alone, and leaves the list then.
 pub fn silent_statements_go()
@@ -173,8 +173,8 @@ pub fn what_does_nothing_leaves()
     ensures jump_with_var { (items : List Forest) (n : Note) → IdleStatement (before items) (record { kind = Kind.LabeledStatement (codes "l"); note = n; below = block (breaks_label ∷ var_ a ∷ []) }) → ⊥ }
 {}
 
-/// A `try` around nothing becomes its finalizer, wherever it stands, or its block where it has none. It stays where its block holds something,
-/// its handler declares a variable of the function around, or labels around would reach a loop in its finalizer.
+/// A `try` around nothing becomes its finalizer, wherever it stands, or its block where it has none. It stays where its block holds
+/// something, its handler declares a variable of the function around, or labels around would reach a loop in its finalizer.
 pub fn a_try_around_nothing_comes_to_a_block()
     ensures finalizer { Edit (a_module (finally_alone (does call_of_a ∷ []) ∷ [])) (a_module (block (does call_of_a ∷ []) ∷ [])) }
     ensures handled { Edit (a_module (tried_finally (let_ a ∷ []) (does call_of_a ∷ []) ∷ [])) (a_module (block (does call_of_a ∷ []) ∷ [])) }
@@ -217,8 +217,8 @@ pub fn known_sides_count()
     ensures object { Edit (a_module (does (logical operator.Coalesce (array []) o_f) ∷ [])) (a_module (does (array []) ∷ [])) }
 {}
 
-/// What acts decides nothing, though it is an object.
-pub fn acting_tests_decide_nothing()
+/// No branch takes the place of a conditional on a test that acts, though that is an object.
+pub fn acting_tests_let_nothing_stand_alone()
     ensures { (y : Tree) → KnownConditional statement (a_conditional nowhere Kind.ArrayExpression nowhere (listed Kind.Elements (call_of_a ∷ [])) (joined (reads a) null)) y → ⊥ }
 {}
 
@@ -258,7 +258,17 @@ pub fn indirect_choices_stand_behind_a_zero()
     ensures deleted_member { Edit (placed (operand unary.Delete) (conditional one o_f null)) (placed (operand unary.Delete) (behind_zero o_f)) }
 {}
 
-/// Elsewhere it doesn't.
+/// Behind a test that acts, or a left side, the part that counts follows it in a sequence, wherever that stands.
+pub fn parts_that_count_follow_tests_that_act()
+    ensures consequent { Edit (placed argument (conditional (array (call_of_a ∷ [])) o_f null)) (placed argument (sequence (array (call_of_a ∷ []) ∷ o_f ∷ []))) }
+    ensures alternate { Edit (placed called (conditional (logical operator.And (reads a) null) one o_f)) (placed called (sequence (logical operator.And (reads a) null ∷ o_f ∷ []))) }
+    ensures right_side { Edit (placed statement (logical operator.And (array (call_of_a ∷ [])) call_of_a)) (placed statement (sequence (array (call_of_a ∷ []) ∷ call_of_a ∷ []))) }
+    ensures unknown { FollowsNone argument (conditional call_of_a one null) }
+    ensures silent { FollowsNone argument (conditional one (reads a) null) }
+    ensures left_side { FollowsNone argument (logical operator.Or (array (call_of_a ∷ [])) (reads a)) }
+{}
+
+/// Where it doesn't matter it takes none.
 pub fn direct_choices_take_no_zero()
     ensures argument_name { StaysDirect argument (reads a) }
     ensures typed_member { StaysDirect (operand unary.Typeof) o_f }

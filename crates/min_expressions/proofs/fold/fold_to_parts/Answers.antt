@@ -21,10 +21,10 @@ returns-then-fold_without_memory-clause-does c =
 pub returns-clause-does : goal.returns-clause-does
 returns-clause-does c =
     let at = c.fold_without_memory in
-    IfOk-weaker c.put_behind_zero.result _ _ (λ b. then_does others fold_indirect (subst (λ a. Does others c.args.ctx.now c.args.node.now a at.new.ctx at.new.node) c.if-fold_without_memory.false at.ensures)) c.put_behind_zero.ensures.does
+    IfOk-weaker c.fold_indirect.result _ _ (λ b. then_does others fold_indirect (subst (λ a. Does others c.args.ctx.now c.args.node.now a at.new.ctx at.new.node) c.if-fold_without_memory.false at.ensures)) c.fold_indirect.ensures.does
 
 pub returns-clause-refused : goal.returns-clause-refused
 returns-clause-refused c =
     let at = c.fold_without_memory in
     let same = nothing_done others (subst (λ a. Does others c.args.ctx.now c.args.node.now a at.new.ctx at.new.node) c.if-fold_without_memory.false at.ensures) in
-    IfErr-weaker c.put_behind_zero.result _ _ (λ e h. (h.0 ∙ same.0, h.1 ∙ same.1)) c.put_behind_zero.ensures.refused
+    IfErr-weaker c.fold_indirect.result _ _ (λ e h. (h.0 ∙ same.0, h.1 ∙ same.1)) c.fold_indirect.ensures.refused
