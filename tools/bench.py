@@ -13,7 +13,6 @@ import re
 import subprocess
 import sys
 import tempfile
-import time
 
 INPUT = "/tmp/diwagbo_bench.json"
 ACORN = "/usr/share/nodejs/acorn/dist/acorn.mjs"
@@ -79,16 +78,27 @@ def inputs(size):
     yield "functions, calls and members", program([real_item(number) for number in range(size // (len(real_item(0)) + 3))])
 
 
+# A process counts as its peak what the one that started it held then, so a small one starts the programs.
+STARTER = """
+import os, sys, time
+start = time.perf_counter()
+child = os.fork()
+if not child:
+    os.dup2(os.open(sys.argv[1], os.O_RDONLY), 0)
+    os.dup2(os.open(os.devnull, os.O_WRONLY), 1)
+    os.execv(sys.argv[2], sys.argv[2:])
+_, status, usage = os.wait4(child, 0)
+print(status, time.perf_counter() - start, usage.ru_maxrss * 1024)
+"""
+
+
 def run(command):
     """Seconds and peak bytes of memory of one run."""
-    with open(INPUT, "rb") as stdin, open(os.devnull, "wb") as out:
-        start = time.perf_counter()
-        child = subprocess.Popen(command, stdin=stdin, stdout=out)
-        _, status, usage = os.wait4(child.pid, 0)
-        seconds = time.perf_counter() - start
-    if status != 0:
+    told = subprocess.run([sys.executable, "-S", "-E", "-c", STARTER, INPUT, *command], check=True, capture_output=True, text=True).stdout
+    status, seconds, peak = told.split()
+    if int(status) != 0:
         sys.exit(f"{command[0]}: status {status}")
-    return seconds, usage.ru_maxrss * 1024
+    return float(seconds), int(peak)
 
 
 def seconds():
