@@ -250,11 +250,13 @@ NONE,HELD=N('ArrayExpression',elements=[]),N('ObjectExpression',properties=[])
 S('use([] ? a : b); use({} && x); use(void 0 ? a : b);',[use(COND(NONE,a,b)),use(AND(HELD,x)),use(COND(un('void',L(0)),a,b))],[use(a),use(x),use(b)],1,0)
 S('use(-1 ? a : b); use(void 0 ?? x); use([] ?? x); use({} || x);',[use(COND(un('-',L(1)),a,b)),use(ELSE(un('void',L(0)),x)),use(ELSE(NONE,x)),use(OR(HELD,x))],[use(a),use(x),use(NONE),use(HELD)],1,0)
 S('(function () {}) && f(); [] || f();',[ES(AND(fn('FunctionExpression',None,[],B()),call(f))),ES(OR(NONE,call(f)))],[do('f')],1,0)
-S('use([f()] ? a : b); use((f(), 1) ? a : b); whose tests act',[use(COND(N('ArrayExpression',elements=[call(f)]),a,b)),use(COND(N('SequenceExpression',expressions=[call(f),L(1)]),a,b))],[use(N('SequenceExpression',expressions=[N('ArrayExpression',elements=[call(f)]),a])),use(N('SequenceExpression',expressions=[N('SequenceExpression',expressions=[call(f),L(1)]),a]))],1,0),
-S('x && false ? g() : h(); use(x && false ? g() : h());',[ES(COND(AND(x,L(False)),call(g),call(I('h')))),use(COND(AND(x,L(False)),call(g),call(I('h'))))],[ES(N('SequenceExpression',expressions=[x,call(I('h'))])),use(N('SequenceExpression',expressions=[AND(x,L(False)),call(I('h'))]))],2,0),
-S('(f(), true) && g(); use((f(), null) ?? g()); whose left sides act',[ES(AND(N('SequenceExpression',expressions=[call(f),L(True)]),call(g))),use(ELSE(N('SequenceExpression',expressions=[call(f),L(None)]),call(g)))],[ES(N('SequenceExpression',expressions=[call(f),call(g)])),use(N('SequenceExpression',expressions=[N('SequenceExpression',expressions=[call(f),L(None)]),call(g)]))],2,0),
+S('use([f()] ? a : b); use((f(), 1) ? a : b); whose tests act',[use(COND(N('ArrayExpression',elements=[call(f)]),a,b)),use(COND(N('SequenceExpression',expressions=[call(f),L(1)]),a,b))],[use(N('SequenceExpression',expressions=[call(f),a])),use(N('SequenceExpression',expressions=[call(f),a]))],2,0),
+S('x && false ? g() : h(); use(x && false ? g() : h());',[ES(COND(AND(x,L(False)),call(g),call(I('h')))),use(COND(AND(x,L(False)),call(g),call(I('h'))))],[ES(N('SequenceExpression',expressions=[x,call(I('h'))])),use(N('SequenceExpression',expressions=[x,call(I('h'))]))],2,0),
+S('(f(), true) && g(); use((f(), null) ?? g()); whose left sides act',[ES(AND(N('SequenceExpression',expressions=[call(f),L(True)]),call(g))),use(ELSE(N('SequenceExpression',expressions=[call(f),L(None)]),call(g)))],[ES(N('SequenceExpression',expressions=[call(f),call(g)])),use(N('SequenceExpression',expressions=[call(f),call(g)]))],2,0),
+S('use((!f(), a)); use((f() === g(), a)); use(([f(), g()], a)); of which nobody takes the first',[use(N('SequenceExpression',expressions=[un('!',call(f)),a])),use(N('SequenceExpression',expressions=[bi('===',call(f),call(g)),a])),use(N('SequenceExpression',expressions=[N('ArrayExpression',elements=[call(f),call(g)]),a]))],[use(N('SequenceExpression',expressions=[call(f),a])),use(N('SequenceExpression',expressions=[N('SequenceExpression',expressions=[call(f),call(g)]),a])),use(N('SequenceExpression',expressions=[N('SequenceExpression',expressions=[call(f),call(g)]),a]))],1,0),
+S('use((f(), !g(), a)); of which it is not the first',[use(N('SequenceExpression',expressions=[call(f),un('!',call(g)),a]))],None,0,0),
 S('[f()] || g(); use([f()] ?? g()); whose left sides act and decide',[ES(OR(N('ArrayExpression',elements=[call(f)]),call(g))),use(ELSE(N('ArrayExpression',elements=[call(f)]),call(g)))],None,0,0),
-S('([f()] ? o.f : 0)(); whose receiver is undefined',[ES(call(COND(N('ArrayExpression',elements=[call(f)]),mem(o,f),L(0))))],[ES(call(N('SequenceExpression',expressions=[N('ArrayExpression',elements=[call(f)]),mem(o,f)])))],1,0)
+S('([f()] ? o.f : 0)(); whose receiver is undefined',[ES(call(COND(N('ArrayExpression',elements=[call(f)]),mem(o,f),L(0))))],[ES(call(N('SequenceExpression',expressions=[call(f),mem(o,f)])))],2,0)
 S('use((() => a) || b); which might take a name',[use(OR(fn('ArrowFunctionExpression',None,[],a,True),b))],None,0,0)
 S('let x = []; use(x ? a : b); of whose value nothing is known',[x_is(NONE),use(COND(x,a,b))],None,0,1)
 ZERO=lambda e: N('SequenceExpression',expressions=[L(0),e])
@@ -390,7 +392,7 @@ S('a && f(); f() ? a : g(); whose sides may both act',[ES(AND(a,call(f))),ES(CON
 S('+f(); -f(); f() + 1; f() in 1; which may act themselves',[ES(un('+',call(f))),ES(un('-',call(f))),ES(SAME(call(f),L(1),'+')),ES(SAME(call(f),L(1),'in'))],None,0,0)
 S('use(!f()); use(f() === 1); whose values are taken',[use(NOT(call(f))),use(SAME(call(f),L(1)))],None,0,0)
 S('a && !f(); a ? !f() : f() === 1; a, !f();',[ES(AND(a,NOT(call(f)))),ES(COND(a,NOT(call(f)),SAME(call(f),L(1)))),ES(SEQ(a,NOT(call(f))))],[ES(AND(a,call(f))),ES(COND(a,call(f),call(f))),ES(SEQ(a,call(f)))],1,0)
-S('use((!f(), a)); !f() && a; whose values may be used',[use(SEQ(NOT(call(f)),a)),ES(AND(NOT(call(f)),a))],None,0,0)
+S('use((a, !f())); !f() && a; whose values may be used',[use(SEQ(a,NOT(call(f)))),ES(AND(NOT(call(f)),a))],None,0,0)
 S('for (;; !f()) g();',[FOR(NOT(call(f)),do('g'))],[FOR(call(f),do('g'))],1,0)
 S('let x = 1; x === 2;',[x_is(L(1)),ES(SAME(x,L(2)))],[],2,0)
 S('!eval("x"); which is no other call then',[ES(NOT(call(I('eval'),L('x'))))],[ES(call(I('eval'),L('x')))],1,0)

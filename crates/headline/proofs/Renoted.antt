@@ -21,7 +21,7 @@ use Rattle.scope_laws.proofs.Notes.{unseen, scope_count_bare}
 use Rattle.steps.specs.Allowed.Silent.{read_in, IsFound, IsSilentNode, IsSilent, HoldsThere}
 use Rattle.steps.specs.Allowed.Exposure.{Exposure, exposed_inside, exposed_of, exposed_at, exposure, function_is_exposed, evaluates_somewhere, IsOwnFunction, IsOwnDeclarator}
 use Rattle.steps.specs.Allowed.Uses.{Use, use_below, use_there, use_at, matters, stands_bare}
-use Rattle.steps.specs.Allowed.Unused.{is_unused_below, unused_there}
+use Rattle.steps.specs.Allowed.Unused.{Taker, somebody, is_nobody, taken_below, taken_there}
 use Rattle.steps.specs.Steps.{binds_import}
 use Rattle.steps.specs.Allowed.Imports.{ImportRow, elsewhere, import_row_below, import_row, IsImported}
 use Rattle.steps.specs.Allowed.Places.{a_node, asked_at, IsItem, IsDeclarator, At, MayStandBare}
@@ -195,7 +195,7 @@ record Twin (t : Forest) (a : Around) (k : Kind) (n : Note) (b : Forest) : Type 
   same : bare below ≡ bare b
   asked : (w : Asked) → asked_at w around ≡ asked_at w a
   used : (us : ℕ → Use) (at : ℕ) → use_there us at around ≡ use_there us at a
-  unused : (us : ℕ → Bool) (at : ℕ) → unused_there us at around ≡ unused_there us at a
+  unused : (ts : ℕ → Taker) (at : ℕ) → taken_there ts at around ≡ taken_there ts at a
   jumped : (j : Bool) → is_behind_jump j around ≡ is_behind_jump j a
   requested : (source : List ℕ) (q : Bool) → is_asked_before source q around ≡ is_asked_before source q a
   untaken : (q : Bool) → is_untaken q around ≡ is_untaken q a
@@ -221,7 +221,7 @@ twin (first rest) k n b (node l m c r) e = record {
   same = same_below e;
   asked = λ w. refl;
   used = λ us at. refl;
-  unused = λ us at. refl;
+  unused = λ ts at. refl;
   jumped = λ q. refl;
   requested = λ source q. refl;
   untaken = λ q. refl;
@@ -248,7 +248,7 @@ twin (behind j i d a) k n b (node l m c r) e =
       same = o.same;
       asked = o.asked;
       used = λ us at. o.used us (suc at);
-      unused = λ us at. o.unused us (suc at);
+      unused = λ ts at. o.unused ts (suc at);
       jumped = λ q. o.jumped (q || cuts_off j c) ∙ ap (λ b. is_behind_jump (q || b) a) (unseen (cuts_off j) (cuts_bare j) c d (same_below e));
       requested = λ source q. o.requested source (q || asks_for source j);
       untaken = o.untaken;
@@ -275,7 +275,7 @@ twin (behind_none a) k n b (absent r) e =
       same = o.same;
       asked = o.asked;
       used = λ us at. o.used us (suc at);
-      unused = λ us at. o.unused us (suc at);
+      unused = λ ts at. o.unused ts (suc at);
       jumped = o.jumped;
       requested = o.requested;
       untaken = o.untaken;
@@ -305,7 +305,7 @@ twin (under j i a rest) k n b (node l m c r) e =
       same = o.same;
       asked = λ w. o.asked (asked_below w j);
       used = λ us at. o.used (λ i. use_below (us at) j i) 0;
-      unused = λ us at. o.unused (λ i. is_unused_below (us at) j i) 0;
+      unused = λ ts at. o.unused (λ i. taken_below (ts at) j i) 0;
       jumped = λ q. o.jumped false;
       requested = λ source q. o.requested source false;
       untaken = λ q. ap (λ f. is_untaken f o.around) (ap (λ b. q && runs_inside j || b) (begins_as j o.around a o.leads)) ∙ o.untaken (q && runs_inside j || begins_untaken j a);
@@ -568,14 +568,14 @@ module _ (unused imports : Bool) (t u : Forest) (e : bare t ≡ bare u) (clean :
       let now : Tree = record { kind = x.kind; note = o.note; below = o.below } in
       let z = child_as i o.below x.below y o.same there in
       clean.nothing_is_dead o.around (Some now) o.is
-      (an_unused_operation o.around now z.0 (one_operand_acts i now z.0 (o.unused (λ j. false) 0 ∙ unused) (needed_as x.kind o.below x.below o.same ∙ needed) z.1))
+      (an_unused_operation o.around now z.0 (one_operand_acts i now z.0 (ap is_nobody (o.unused (λ j. somebody) 0) ∙ unused) (needed_as x.kind o.below x.below o.same ∙ needed) z.1))
 
   no_list : (a : Around) (x y : Tree) → u ≡ plug a (Some x) → UnusedList a x y → ⊥
   no_list a _ _ is (acting_parts_stay n m x y unused becomes) =
       let o = other_place a x.kind x.note x.below is in
       let now : Tree = record { kind = x.kind; note = o.note; below = o.below } in
       let z = list_as n m x.kind o.below x.below y o.same becomes in
-      clean.nothing_is_dead o.around (Some now) o.is (an_unused_list o.around now z.0 (acting_parts_stay n m now z.0 (o.unused (λ j. false) 0 ∙ unused) z.1))
+      clean.nothing_is_dead o.around (Some now) o.is (an_unused_list o.around now z.0 (acting_parts_stay n m now z.0 (ap is_nobody (o.unused (λ j. somebody) 0) ∙ unused) z.1))
 
   no_choice : (a : Around) (x y : Tree) → u ≡ plug a (Some x) → IndirectChoice a x y → ⊥
   no_choice a _ _ is (value_alone_counts n m i x z counts alone) =
@@ -595,7 +595,7 @@ module _ (unused imports : Bool) (t u : Forest) (e : bare t ≡ bare u) (clean :
       let o = other_place a x.kind x.note x.below is in
       let now : Tree = record { kind = x.kind; note = o.note; below = o.below } in
       let z = side_as n x.kind o.below x.below y o.same acts_alone in
-      clean.nothing_is_dead o.around (Some now) o.is (a_one_sided_choice o.around now z.0 (one_branch_acts n now z.0 (o.unused (λ j. false) 0 ∙ unused) z.1))
+      clean.nothing_is_dead o.around (Some now) o.is (a_one_sided_choice o.around now z.0 (one_branch_acts n now z.0 (ap is_nobody (o.unused (λ j. somebody) 0) ∙ unused) z.1))
 
   no_idle_parts : (a : Around) (x y : Tree) → u ≡ plug a (Some x) → IdleParts a x y → ⊥
   no_idle_parts a _ _ is (idle_parts_leave n m x y becomes) =
@@ -610,14 +610,14 @@ module _ (unused imports : Bool) (t u : Forest) (e : bare t ≡ bare u) (clean :
       let o = other_place a x.kind x.note x.below is in
       let now : Tree = record { kind = x.kind; note = o.note; below = o.below } in
       let z = two_sides_as n m x.kind o.below x.below y o.same act in
-      clean.nothing_is_dead o.around (Some now) o.is (two_sides o.around now z.0 (both_sides_act n m now z.0 (o.unused (λ j. false) 0 ∙ unused) z.1))
+      clean.nothing_is_dead o.around (Some now) o.is (two_sides o.around now z.0 (both_sides_act n m now z.0 (ap is_nobody (o.unused (λ j. somebody) 0) ∙ unused) z.1))
 
   no_object : (a : Around) (x y : Tree) → u ≡ plug a (Some x) → UnusedObject a x y → ⊥
   no_object a _ _ is (acting_values_stay n m x y unused becomes) =
       let o = other_place a x.kind x.note x.below is in
       let now : Tree = record { kind = x.kind; note = o.note; below = o.below } in
       let z = object_as n m x.kind o.below x.below y o.same becomes in
-      clean.nothing_is_dead o.around (Some now) o.is (an_unused_object o.around now z.0 (acting_values_stay n m now z.0 (o.unused (λ j. false) 0 ∙ unused) z.1))
+      clean.nothing_is_dead o.around (Some now) o.is (an_unused_object o.around now z.0 (acting_values_stay n m now z.0 (ap is_nobody (o.unused (λ j. somebody) 0) ∙ unused) z.1))
 
   no_known : (a : Around) (x y : Tree) → u ≡ plug a (Some x) → KnownOperation a x y → ⊥
   no_known a _ _ is (value_is_known i v x known) =

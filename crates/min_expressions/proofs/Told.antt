@@ -2,9 +2,10 @@
 use Rattle.std.proofs.Common.{◌≡◌, ◌∙◌, ◌<◌, ◌≤◌, ◌+◌, ◌==◌, ℕ, zero, suc, List, Bool, true, false, ◌||◌, length, drop, slice_index_or, refl, sym, ap, drop-cons, add-one, true≢false}
 use Rattle.std.proofs.lemmas.List.{drop_all}
 use Rattle.min_context.specs.declared.ancestor.Ancestor.{Ancestor}
+use Rattle.steps.specs.Allowed.Unused.{Taker}
 use Rattle.steps.specs.Allowed.Uses.{Use, as_value, first_as_callee}
 use Rattle.rules.specs.DeadCode.Rules.{has_with, is_field_of_with}
-use Rattle.rules.specs.Expressions.Uses.{use_in, use_from, is_unused_in, is_unused_from}
+use Rattle.rules.specs.Expressions.Uses.{use_in, use_from, taken_in, taken_from}
 
 pub behind_callee : (n : ℕ) → (n == 0) ≡ false → first_as_callee n ≡ as_value
 behind_callee zero e = absurd (true≢false e)
@@ -16,11 +17,11 @@ next_use xs i d u h = ap (use_from u) (drop-cons xs i d h) ∙ ap (λ k. use_fro
 pub last_use : (xs : List Ancestor) (i : ℕ) (u : Use) → length xs ≤ i → use_from u (drop i xs) ≡ u
 last_use xs i u h = ap (use_from u) (drop_all i xs h)
 
-pub next_unused : (xs : List Ancestor) (i : ℕ) (d : Ancestor) (u : Bool) → i < length xs → is_unused_from u (drop i xs) ≡ is_unused_from (is_unused_in u (slice_index_or xs i d)) (drop (i + 1) xs)
-next_unused xs i d u h = ap (is_unused_from u) (drop-cons xs i d h) ∙ ap (λ k. is_unused_from (is_unused_in u (slice_index_or xs i d)) (drop k xs)) (sym (add-one i))
+pub next_taken : (xs : List Ancestor) (i : ℕ) (d : Ancestor) (t : Taker) → i < length xs → taken_from t (drop i xs) ≡ taken_from (taken_in t (slice_index_or xs i d)) (drop (i + 1) xs)
+next_taken xs i d t h = ap (taken_from t) (drop-cons xs i d h) ∙ ap (λ k. taken_from (taken_in t (slice_index_or xs i d)) (drop k xs)) (sym (add-one i))
 
-pub last_unused : (xs : List Ancestor) (i : ℕ) (u : Bool) → length xs ≤ i → is_unused_from u (drop i xs) ≡ u
-last_unused xs i u h = ap (is_unused_from u) (drop_all i xs h)
+pub last_taken : (xs : List Ancestor) (i : ℕ) (t : Taker) → length xs ≤ i → taken_from t (drop i xs) ≡ t
+last_taken xs i t h = ap (taken_from t) (drop_all i xs h)
 
 -- ---- `with` statements
 

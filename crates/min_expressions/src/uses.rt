@@ -1,9 +1,10 @@
 // What an expression is used for, and whether anybody takes its value, as the nodes above it tell.
-ghost use Rattle.std.specs.Prelude.{◌≡◌, false};
+ghost use Rattle.std.specs.Prelude.{◌≡◌};
+ghost use Rattle.steps.specs.Allowed.Unused.{somebody, is_nobody, nobody_if, in_parentheses, of_sequence, of_part, of_branch};
 ghost use Rattle.steps.specs.Allowed.Uses.{as_value, operand_of, first_as_callee};
 ghost use Rattle.rules.specs.DeadCode.Rules.{is_field_of_with, has_with};
-ghost use Rattle.rules.specs.Expressions.Uses.{use_under, use_in, use_from, is_unused_under, is_unused_in, is_unused_from};
-ghost use Rattle.min_expressions.specs.Uses.{told};
+ghost use Rattle.rules.specs.Expressions.Uses.{use_under, use_in, use_from, taken_under, taken_in, taken_from};
+ghost use Rattle.min_expressions.specs.Uses.{told, taker};
 
 use js_syntax::UnaryOperator;
 use min_context::{Ancestor, Parent};
@@ -66,39 +67,110 @@ pub(crate) fn use_from(above: &[Ancestor]) -> Use
     used
 }
 
-fn is_unused_under(unused: bool, parent: Parent, at: u32) -> bool
-    ensures { result ≡ is_unused_under unused parent at }
+/// Whether somebody takes a value, or nobody; of the parts of a list, whether somebody takes that of the last alone.
+#[derive(Clone, Copy)]
+pub(crate) enum Taker {
+    Somebody,
+    Nobody,
+    LastAlone,
+}
+
+fn nobody_if(nobody: bool) -> Taker
+    ensures { taker result ≡ nobody_if nobody }
+{
+    if nobody {
+        Taker::Nobody
+    } else {
+        Taker::Somebody
+    }
+}
+
+fn in_parentheses(taken: Taker) -> Taker
+    ensures { taker result ≡ in_parentheses (taker taken) }
+{
+    match taken {
+        Taker::Nobody => Taker::Nobody,
+        _ => Taker::Somebody,
+    }
+}
+
+fn of_sequence(taken: Taker, at: u32) -> Taker
+    ensures { taker result ≡ of_sequence (taker taken) at }
+{
+    match taken {
+        Taker::Nobody => Taker::Nobody,
+        _ => {
+            if at == 0 {
+                Taker::LastAlone
+            } else {
+                Taker::Somebody
+            }
+        }
+    }
+}
+
+fn of_part(taken: Taker, at: u32) -> Taker
+    ensures { taker result ≡ of_part (taker taken) at }
+{
+    match taken {
+        Taker::Nobody => Taker::Nobody,
+        Taker::LastAlone => nobody_if(at == 0),
+        Taker::Somebody => Taker::Somebody,
+    }
+}
+
+fn of_branch(taken: Taker, at: u32) -> Taker
+    ensures { taker result ≡ of_branch (taker taken) at }
+{
+    match taken {
+        Taker::Nobody => nobody_if(at != 0),
+        _ => Taker::Somebody,
+    }
+}
+
+fn taken_under(taken: Taker, parent: Parent, at: u32) -> Taker
+    ensures { taker result ≡ taken_under (taker taken) parent at }
 {
     match parent {
-        Parent::ExpressionStatement => true,
-        Parent::ForStatement => at == 2,
-        Parent::ParenthesizedExpression => unused,
-        Parent::SequenceExpression => unused,
-        Parent::Expressions => unused,
-        Parent::LogicalExpression => unused && at != 0,
-        Parent::ConditionalExpression => unused && at != 0,
-        _ => false,
+        Parent::ExpressionStatement => Taker::Nobody,
+        Parent::ForStatement => nobody_if(at == 2),
+        Parent::ParenthesizedExpression => in_parentheses(taken),
+        Parent::SequenceExpression => of_sequence(taken, at),
+        Parent::Expressions => of_part(taken, at),
+        Parent::LogicalExpression => of_branch(taken, at),
+        Parent::ConditionalExpression => of_branch(taken, at),
+        _ => Taker::Somebody,
     }
 }
 
-fn is_unused_in(unused: bool, ancestor: Ancestor) -> bool
-    ensures { result ≡ is_unused_in unused ancestor }
+fn taken_in(taken: Taker, ancestor: Ancestor) -> Taker
+    ensures { taker result ≡ taken_in (taker taken) ancestor }
 {
     match ancestor {
-        Ancestor::Field(parent, at) => is_unused_under(unused, parent, at),
-        Ancestor::None => false,
+        Ancestor::Field(parent, at) => taken_under(taken, parent, at),
+        Ancestor::None => Taker::Somebody,
     }
 }
 
-// Whether nobody takes its value, by the nodes above, the outermost first.
-pub(crate) fn is_unused_from(above: &[Ancestor]) -> bool
-    ensures { result ≡ is_unused_from false above.now }
+// Who takes its value, by the nodes above, the outermost first.
+fn taken_from(above: &[Ancestor]) -> Taker
+    ensures { taker result ≡ taken_from somebody above.now }
 {
-    let mut unused = false;
+    let mut taken = Taker::Somebody;
     for ancestor in above {
-        unused = is_unused_in(unused, *ancestor);
+        taken = taken_in(taken, *ancestor);
     }
-    unused
+    taken
+}
+
+// Whether nobody does.
+pub(crate) fn is_unused_from(above: &[Ancestor]) -> bool
+    ensures { result ≡ is_nobody (taken_from somebody above.now) }
+{
+    match taken_from(above) {
+        Taker::Nobody => true,
+        _ => false,
+    }
 }
 
 fn is_field_of_with(ancestor: Ancestor) -> bool

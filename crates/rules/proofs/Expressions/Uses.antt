@@ -12,11 +12,11 @@ use Rattle.scope_laws.specs.Place as places
 use Rattle.scope_laws.specs.Place.{first}
 use Rattle.scope_counts.specs.Edits.{Around, here, behind, behind_none, under, plug}
 use Rattle.steps.specs.Allowed.Places.{asked_at}
-use Rattle.steps.specs.Allowed.Unused.{is_unused_below, unused_there, is_unused_at}
+use Rattle.steps.specs.Allowed.Unused.{Taker, somebody, is_nobody, taken_below, taken_there, is_unused_at}
 use Rattle.steps.specs.Allowed.Uses.{Use, as_value, use_below, use_there, use_at}
 use Rattle.rules.specs.DeadCode.Before.{before}
 use Rattle.rules.proofs.DeadCode.Places.{to, asked_to, with_is}
-use Rattle.rules.specs.Expressions.Uses.{use_in, use_from, is_unused_in, is_unused_from, Spot, spot_of}
+use Rattle.rules.specs.Expressions.Uses.{use_in, use_from, taken_in, taken_from, Spot, spot_of}
 
 -- ---- the use
 
@@ -55,30 +55,30 @@ in_with_is a rest = sym (ap (λ c. (asked_at (asked_of_program true) c).in_with)
 
 -- ---- and whether nobody takes the value
 
-unused_of_field : (unused : Bool) (k : Kind) (at : ℕ) (previous : Bool) → is_unused_in unused (field (told_of (parent_of k) at previous) at) ≡ is_unused_below unused k at
-unused_of_field unused Kind.ExpressionStatement at previous = refl
-unused_of_field unused Kind.ForStatement at previous = refl
-unused_of_field unused Kind.ParenthesizedExpression at previous = refl
-unused_of_field unused Kind.SequenceExpression at previous = refl
-unused_of_field unused Kind.Expressions at previous = refl
-unused_of_field unused (Kind.LogicalExpression operator) at previous = refl
-unused_of_field unused Kind.ConditionalExpression at previous = refl
-unused_of_field unused k at previous = refl
+taken_of_field : (t : Taker) (k : Kind) (at : ℕ) (previous : Bool) → taken_in t (field (told_of (parent_of k) at previous) at) ≡ taken_below t k at
+taken_of_field t Kind.ExpressionStatement at previous = refl
+taken_of_field t Kind.ForStatement at previous = refl
+taken_of_field t Kind.ParenthesizedExpression at previous = refl
+taken_of_field t Kind.SequenceExpression at previous = refl
+taken_of_field t Kind.Expressions at previous = refl
+taken_of_field t (Kind.LogicalExpression operator) at previous = refl
+taken_of_field t Kind.ConditionalExpression at previous = refl
+taken_of_field t k at previous = refl
 
-is_unused_last : (unused : Bool) (above : List Ancestor) (a : Ancestor) → is_unused_from unused (above ++ (a ∷ [])) ≡ is_unused_in (is_unused_from unused above) a
-is_unused_last unused [] a = refl
-is_unused_last unused (b ∷ above) a = is_unused_last (is_unused_in unused b) above a
+taken_last : (t : Taker) (above : List Ancestor) (a : Ancestor) → taken_from t (above ++ (a ∷ [])) ≡ taken_in (taken_from t above) a
+taken_last t [] a = refl
+taken_last t (b ∷ above) a = taken_last (taken_in t b) above a
 
-unused_row : (us : ℕ → Bool) (s : RowSpot) (a : Around) (rest : Forest) → ((at : ℕ) (previous : Bool) → us at ≡ is_unused_from false (place_below s.outer s.above at previous).ancestors) → unused_there us s.at (before a rest) ≡ is_unused_from false (place_of (spot s a)).ancestors
-unused_row us s here rest h = h s.at s.previous
-unused_row us s (behind k n b a) rest h = unused_row us (next_of s true) a rest h
-unused_row us s (behind_none a) rest h = unused_row us (next_of s false) a rest h
-unused_row us s (under k n a beside) rest h =
-    unused_row (λ i. is_unused_below (us s.at) k i) (below (place_of s) (above_of k n)) a rest
-    (λ at previous. ap (λ u. is_unused_below u k at) (h s.at s.previous) ∙ sym (unused_of_field (is_unused_from false (place_of s).ancestors) k at previous) ∙ sym (is_unused_last false (place_of s).ancestors (field (told_of (parent_of k) at previous) at)))
+taken_row : (ts : ℕ → Taker) (s : RowSpot) (a : Around) (rest : Forest) → ((at : ℕ) (previous : Bool) → ts at ≡ taken_from somebody (place_below s.outer s.above at previous).ancestors) → taken_there ts s.at (before a rest) ≡ taken_from somebody (place_of (spot s a)).ancestors
+taken_row ts s here rest h = h s.at s.previous
+taken_row ts s (behind k n b a) rest h = taken_row ts (next_of s true) a rest h
+taken_row ts s (behind_none a) rest h = taken_row ts (next_of s false) a rest h
+taken_row ts s (under k n a beside) rest h =
+    taken_row (λ i. taken_below (ts s.at) k i) (below (place_of s) (above_of k n)) a rest
+    (λ at previous. ap (λ t. taken_below t k at) (h s.at s.previous) ∙ sym (taken_of_field (taken_from somebody (place_of s).ancestors) k at previous) ∙ sym (taken_last somebody (place_of s).ancestors (field (told_of (parent_of k) at previous) at)))
 
 pub is_unused_is : (a : Around) (rest : Forest) → (spot_of (place_at a)).is_unused ≡ is_unused_at (before a rest)
-is_unused_is a rest = sym (unused_row (λ i. false) top a rest (λ at previous. refl))
+is_unused_is a rest = ap is_nobody (sym (taken_row (λ i. somebody) top a rest (λ at previous. refl)))
 
 -- ---- together, as edits ask for it
 

@@ -83,6 +83,10 @@ spread e = over Kind.SpreadElement e
 abbrev pub sequence : List Forest → Forest
 sequence parts = over Kind.SequenceExpression (listed Kind.Expressions parts)
 
+-- `${e}`, as far as places go
+abbrev pub template : Forest → Forest
+template e = over Kind.TemplateLiteral (joined (listed Kind.Quasis []) (listed Kind.Expressions (e ∷ [])))
+
 abbrev pub object : List Forest → Forest
 object entries = over Kind.ObjectExpression (listed Kind.Properties entries)
 

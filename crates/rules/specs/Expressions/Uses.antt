@@ -7,6 +7,7 @@ use Rattle.min_context.specs.declared.ancestor.Ancestor.TheVariants as ancestor
 use Rattle.min_context.specs.declared.ancestor.Parent.{Parent}
 use Rattle.min_context.specs.declared.ancestor.Parent.TheVariants as parent
 use Rattle.min_context.specs.Place.{Place}
+use Rattle.steps.specs.Allowed.Unused.{Taker, somebody, nobody, is_nobody, nobody_if, in_parentheses, of_sequence, of_part, of_branch}
 use Rattle.steps.specs.Allowed.Uses.{Use, as_value, operand_of, first_as_callee, stands_bare}
 use Rattle.rules.specs.DeadCode.Rules.{has_with}
 
@@ -28,23 +29,23 @@ use_from u (a ∷ above) = use_from (use_in u a) above
 
 -- ---- where nobody takes the value
 
-abbrev pub is_unused_under : (unused : Bool) → Parent → (at : ℕ) → Bool
-is_unused_under unused parent.ExpressionStatement at = true
-is_unused_under unused parent.ForStatement at = at == 2
-is_unused_under unused parent.ParenthesizedExpression at = unused
-is_unused_under unused parent.SequenceExpression at = unused
-is_unused_under unused parent.Expressions at = unused
-is_unused_under unused parent.LogicalExpression at = unused && not (at == 0)
-is_unused_under unused parent.ConditionalExpression at = unused && not (at == 0)
-is_unused_under unused p at = false
+abbrev pub taken_under : Taker → Parent → (at : ℕ) → Taker
+taken_under t parent.ExpressionStatement at = nobody
+taken_under t parent.ForStatement at = nobody_if (at == 2)
+taken_under t parent.ParenthesizedExpression at = in_parentheses t
+taken_under t parent.SequenceExpression at = of_sequence t at
+taken_under t parent.Expressions at = of_part t at
+taken_under t parent.LogicalExpression at = of_branch t at
+taken_under t parent.ConditionalExpression at = of_branch t at
+taken_under t p at = somebody
 
-abbrev pub is_unused_in : (unused : Bool) → Ancestor → Bool
-is_unused_in unused (ancestor.Field p at) = is_unused_under unused p at
-is_unused_in unused ancestor.None = false
+abbrev pub taken_in : Taker → Ancestor → Taker
+taken_in t (ancestor.Field p at) = taken_under t p at
+taken_in t ancestor.None = somebody
 
-abbrev pub is_unused_from : (unused : Bool) → List Ancestor → Bool
-is_unused_from unused [] = unused
-is_unused_from unused (a ∷ above) = is_unused_from (is_unused_in unused a) above
+abbrev pub taken_from : Taker → List Ancestor → Taker
+taken_from t [] = t
+taken_from t (a ∷ above) = taken_from (taken_in t a) above
 
 -- ---- what is asked of a place before an expression comes out of another there
 
@@ -54,7 +55,7 @@ pub record Spot : Type 0 where
   pub is_unused : Bool
 
 abbrev pub spot_of : Place → Spot
-spot_of p = record { used_as = use_from as_value p.ancestors; in_with = has_with p.ancestors; is_unused = is_unused_from false p.ancestors }
+spot_of p = record { used_as = use_from as_value p.ancestors; in_with = has_with p.ancestors; is_unused = is_nobody (taken_from somebody p.ancestors) }
 
 -- the expression itself, if it may stand there
 abbrev pub bare : Spot → Kind → Note → (below : Forest) → Option Tree

@@ -6,7 +6,7 @@ ghost use Rattle.js_syntax.specs.declared.operator.UnaryOperator.TheVariants as 
 ghost use Rattle.form_rules.specs.Samples.{a_module, a, no, reads, one, does, calls, let_, var_, block};
 ghost use Rattle.scope_rules.specs.Samples.{b};
 ghost use Rattle.steps.specs.Allowed.Rows.{null, conditional, either_way, empty, with_a};
-ghost use Rattle.rules.specs.Expressions.Samples.{left, left_of, doing, uses, member, logical, binary, unary, parenthesized, array, spread, sequence, indirect, empty_text, a_function, object, keyed, computed, number, word, truth, endless};
+ghost use Rattle.rules.specs.Expressions.Samples.{left, left_of, doing, uses, member, logical, binary, unary, parenthesized, array, spread, sequence, indirect, empty_text, a_function, object, keyed, computed, number, word, truth, endless, template};
 
 /// A conditional on a test that is known becomes the branch that is taken, at any depth. A test that acts is left, and the branch behind
 /// it.
@@ -88,6 +88,10 @@ pub fn operations_left()
     ensures right_side { left_of (binary binary_operator.StrictEquality one (calls (reads a))) ≡ doing (calls (reads a)) }
     ensures in_parentheses { left_of (parenthesized (unary unary_operator.LogicalNot (calls (reads a)))) ≡ doing (parenthesized (calls (reads a))) }
     ensures in_branch { left_of (logical logical_operator.And (reads a) (unary unary_operator.LogicalNot (calls (reads b)))) ≡ doing (logical logical_operator.And (reads a) (calls (reads b))) }
+    ensures first_part { left_of (uses (sequence (unary unary_operator.LogicalNot (calls (reads a)) ∷ reads b ∷ []))) ≡ doing (uses (sequence (calls (reads a) ∷ reads b ∷ []))) }
+    ensures first_list { left_of (uses (sequence (array (calls (reads a) ∷ one ∷ []) ∷ reads b ∷ []))) ≡ doing (uses (sequence (calls (reads a) ∷ reads b ∷ []))) }
+    ensures last_part { left_of (uses (sequence (calls (reads a) ∷ unary unary_operator.LogicalNot (reads b) ∷ []))) ≡ doing (uses (sequence (calls (reads a) ∷ unary unary_operator.LogicalNot (reads b) ∷ []))) }
+    ensures substitution { left_of (uses (template (unary unary_operator.LogicalNot (calls (reads a))))) ≡ doing (uses (template (unary unary_operator.LogicalNot (calls (reads a))))) }
 {}
 
 /// It stays where its value is used, where it may act itself, and where a name is the operand of `typeof`, which takes one that nothing

@@ -26,7 +26,7 @@ counted : (is_head : Bool) (n : ℕ) → counts_right is_head n ≡ true → not
 counted true n right = grind (arith, nat_tests, right)
 counted false n right = right
 
-holds_so : (b : Bool) (place rule : ℕ) → unless b place rule ≡ [] → b ≡ true
+pub holds_so : (b : Bool) (place rule : ℕ) → unless b place rule ≡ [] → b ≡ true
 holds_so true place rule h = refl
 holds_so false place rule h = absurd cc
 

@@ -31,7 +31,7 @@ use Rattle.steps.proofs.Owed.FitsTaking.{as_binary, comparison_stood}
 use Rattle.steps.proofs.Owed.Undeclared.{DeclaresNothing, both_plainly}
 use Rattle.steps.proofs.Owed.UnusedList.{Left, several_left, Parts, left_rebuilt, left_fits, left_core, left_declares}
 use Rattle.steps.proofs.Owed.UnusedOperation.{comes_out}
-use Rattle.steps.proofs.Owed.UnusedPlace.{unused_for_effect}
+use Rattle.steps.proofs.Owed.UnusedPlace.{unused_in_module}
 
 abbrev tree : Kind → Note → (below : Forest) → Tree
 tree k n below = record { kind = k; note = n; below = below }
@@ -87,7 +87,7 @@ module _ (a : Around) (unused : is_unused_at a ≡ true) (p n m : Note) (o : Bin
       record {
         inner = several.below;
         same = refl;
-        stands = spared (wanted_at a) (binary_expression o) p m sides sides (unused_for_effect a unused) tt refl refl (λ st. binary_wasted st o k l p i j m b c sides comparing (needed (needed all_needed)));
+        stands = spared (wanted_at a) (binary_expression o) p m sides sides (unused_in_module a comparison is form unused) tt refl refl (λ st. binary_wasted st o k l p i j m b c sides comparing (needed (needed all_needed)));
         old_calm = refl;
         declares = both_plainly (binary_expression o) sides sequence_expression n several.below nothing refl none (left_declares left (sides_stay there) within imports);
         core = λ d. left_core left (core_below (binary_expression o) p sides nothing d);

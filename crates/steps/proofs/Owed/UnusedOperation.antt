@@ -15,6 +15,7 @@ use Rattle.js_meaning_near.specs.Near.{is_blunt, hoists_nothing, SameEffects}
 use Rattle.js_meaning_near.specs.Bare as runs
 use Rattle.js_meaning_near.specs.Local.{Stands}
 use Rattle.js_meaning_near.specs.Near.{module_of}
+use Rattle.js_meaning_near.specs.Purpose.{ForEffect}
 use Rattle.js_meaning_near.specs.Unused.{all_needed, needed, not_needed, is_total, compares, kind_of, below_of}
 use Rattle.js_meaning_near.proofs.Spared.{spared, unary_wasted, binary_wasted, logical_wasted, conditional_wasted}
 use Rattle.js_meaning.specs.Node.{Wanted}
@@ -44,7 +45,7 @@ use Rattle.steps.proofs.Owed.FitsTaking.{as_unary, unary_stood, as_binary, compa
 use Rattle.steps.proofs.Owed.PartForm.{none_of_binary, none_of_logical, none_of_conditional}
 use Rattle.steps.proofs.Owed.SilentAnywhere.{silent_anywhere}
 use Rattle.steps.proofs.Owed.Undeclared.{DeclaresNothing, nothing_behind, both_plainly}
-use Rattle.steps.proofs.Owed.UnusedPlace.{unused_for_effect, unused_as_value}
+use Rattle.steps.proofs.Owed.UnusedPlace.{unused_in_module, unused_as_value}
 use Rattle.steps.proofs.Owed.Wanting.{operand_wanted}
 
 -- ---- which operand, by the operation
@@ -129,12 +130,12 @@ bare_hoists w (Kind.CallExpression optional pure) b h = refl
 bare_hoists w (Kind.NewExpression pure) b h = refl
 bare_hoists w k b h = absurd cc
 
-module _ (a : Around) (unused : is_unused_at a ≡ true) where
+module _ (a : Around) (effect : ForEffect (wanted_at a)) where
   -- where the operand alone has effects
   wasted : (k : Kind) (n : Note) (parts : Forest) (l : Kind) (m : Note) (b : Forest) (u : Use) → is_blunt k ≡ true → IsExpression l b → all_core (node l m b nothing) ≡ true → stands_bare u false l b ≡ true
       → ((st : Names) → SameEffects st (node k n parts nothing) (kind_of (node l m b nothing)) (below_of n (node l m b nothing)) (node l m b nothing) (node l m b nothing)) → Stands (wanted_at a) k parts l b
   wasted k n parts l m b u blunt of core bare same =
-      spared (wanted_at a) k n n parts (node l m b nothing) (unused_for_effect a unused) tt blunt (bare_hoists (wanted_for u) l b (bare_for_runs u false l m b of core bare)) same
+      spared (wanted_at a) k n n parts (node l m b nothing) effect tt blunt (bare_hoists (wanted_for u) l b (bare_for_runs u false l m b of core bare)) same
 
 -- ---- each shape of an operation, and the operand that stays
 
@@ -169,7 +170,7 @@ module _ (a : Around) (unused : is_unused_at a ≡ true) (n : Note) where
         record {
           inner = b;
           same = refl;
-          stands = wasted a unused (unary_expression o) n operand k m b (operand_of o) refl one.0 below bare
+          stands = wasted a (unused_in_module a unary is form unused) (unary_expression o) n operand k m b (operand_of o) refl one.0 below bare
               (λ st. unary_wasted st o k n m n b operand total (subst (λ w. runs.stands_bare w k b ≡ true) (sym (operand_wanted o)) (bare_for_runs (operand_of o) false k m b one.0 below bare)) (needed all_needed));
           old_calm = refl;
           declares = both_plainly (unary_expression o) operand k m b nothing refl none none;
@@ -225,7 +226,7 @@ module _ (a : Around) (unused : is_unused_at a ≡ true) (n : Note) where
             record {
               inner = b;
               same = refl;
-              stands = wasted a unused (binary_expression o) n sides k m b as_value refl two.0 (core_alone k m b right (sides_core p q r whole)) bare
+              stands = wasted a (unused_in_module a comparison whole.0 whole.1.1.0 unused) (binary_expression o) n sides k m b as_value refl two.0 (core_alone k m b right (sides_core p q r whole)) bare
                   (λ st. binary_wasted st o k l n m i n b c left comparing (needed (not_needed (silent_anywhere st l i c idle) all_needed)));
               old_calm = refl;
               declares = both_plainly (binary_expression o) sides k m b right refl none none;
@@ -255,7 +256,7 @@ module _ (a : Around) (unused : is_unused_at a ≡ true) (n : Note) where
             record {
               inner = c;
               same = refl;
-              stands = wasted a unused (binary_expression o) n sides l i c as_value refl two.1.0 (core_behind k m b right (sides_core p q r whole)) bare
+              stands = wasted a (unused_in_module a comparison whole.0 whole.1.1.0 unused) (binary_expression o) n sides l i c as_value refl two.1.0 (core_behind k m b right (sides_core p q r whole)) bare
                   (λ st. binary_wasted st o k l n m i n b c right comparing (not_needed (silent_anywhere st k m b idle) (needed all_needed)));
               old_calm = refl;
               declares = both_plainly (binary_expression o) sides l i c nothing refl none (nothing_behind k m b right none);
@@ -289,7 +290,7 @@ module _ (a : Around) (unused : is_unused_at a ≡ true) (n : Note) where
           record {
             inner = b;
             same = refl;
-            stands = wasted a unused (logical_expression o) n sides k m b as_value refl two.0 (core_alone k m b right below) bare
+            stands = wasted a (unused_in_module a logical is form unused) (logical_expression o) n sides k m b as_value refl two.0 (core_alone k m b right below) bare
                 (λ st. logical_wasted st o k l n m i n b c left (silent_anywhere st l i c idle) (needed all_needed));
             old_calm = refl;
             declares = both_plainly (logical_expression o) sides k m b right refl none none;
@@ -329,7 +330,7 @@ module _ (a : Around) (unused : is_unused_at a ≡ true) (n : Note) where
           record {
             inner = b;
             same = refl;
-            stands = wasted a unused conditional_expression n choice k m b as_value refl three.0 (core_alone k m b branches below) bare
+            stands = wasted a (unused_in_module a conditional is form unused) conditional_expression n choice k m b as_value refl three.0 (core_alone k m b branches below) bare
                 (λ st. conditional_wasted st k l z n m i j n b c d left (silent_anywhere st l i c idle) (silent_anywhere st z j d idle_too) (needed all_needed));
             old_calm = refl;
             declares = both_plainly conditional_expression choice k m b branches refl none none;

@@ -1,28 +1,59 @@
 -- Where nobody takes the value of an expression.
-use Rattle.std.specs.Prelude.{ℕ, suc, Bool, true, false, not, ◌&&◌, ◌==◌}
+use Rattle.std.specs.Prelude.{ℕ, suc, Bool, true, false, not, ◌==◌, if◌then◌else◌}
 use Rattle.js_syntax.specs.declared.node_kind.NodeKind.{NodeKind as Kind}
 use Rattle.js_syntax.specs.declared.node_kind.NodeKind.TheVariants.{ExpressionStatement as expression_statement, ForStatement as for_statement, ParenthesizedExpression as parenthesized_expression, SequenceExpression as sequence_expression, Expressions as expressions, LogicalExpression as logical_expression, ConditionalExpression as conditional_expression}
 use Rattle.scope_laws.specs.Place.{Around, first, behind, behind_none, under}
 
--- Of the child at an index below a node of which somebody takes the value, or nobody: nobody takes a statement's (ECMA-262
--- 14.5.1), nor that of the update of a `for` (14.7.4.3); and of what lies in parentheses, of the parts of a sequence and of the
--- branches of a choice nobody does where nobody takes the whole one's (13.2.9.3, 13.16.1, 13.13.1, 13.14.1).
-abbrev pub is_unused_below : (unused : Bool) → Kind → (at : ℕ) → Bool
-is_unused_below unused expression_statement at = true
-is_unused_below unused for_statement at = at == 2
-is_unused_below unused parenthesized_expression at = unused
-is_unused_below unused sequence_expression at = unused
-is_unused_below unused expressions at = unused
-is_unused_below unused (logical_expression operator) at = unused && not (at == 0)
-is_unused_below unused conditional_expression at = unused && not (at == 0)
-is_unused_below unused k at = false
+-- whether somebody takes a value, or nobody; of the parts of a list, whether somebody takes that of the last alone
+pub data Taker : Type 0 where
+  somebody : Taker
+  nobody : Taker
+  last_alone : Taker
 
-abbrev pub unused_there : (unused : ℕ → Bool) → (at : ℕ) → Around → Bool
-unused_there us at (first rest) = us at
-unused_there us at (behind k n below a) = unused_there us (suc at) a
-unused_there us at (behind_none a) = unused_there us (suc at) a
-unused_there us at (under k n a rest) = unused_there (λ i. is_unused_below (us at) k i) 0 a
+abbrev pub is_nobody : Taker → Bool
+is_nobody nobody = true
+is_nobody t = false
+
+abbrev pub nobody_if : Bool → Taker
+nobody_if b = if b then nobody else somebody
+
+-- in parentheses (ECMA-262 13.2.9.3)
+abbrev pub in_parentheses : Taker → Taker
+in_parentheses nobody = nobody
+in_parentheses t = somebody
+
+-- the list of a sequence, and its parts: nobody takes what the first gives, as a sequence has two or more (13.16.1)
+abbrev pub of_sequence : Taker → (at : ℕ) → Taker
+of_sequence nobody at = nobody
+of_sequence t at = if at == 0 then last_alone else somebody
+
+abbrev pub of_part : Taker → (at : ℕ) → Taker
+of_part nobody at = nobody
+of_part last_alone at = nobody_if (at == 0)
+of_part somebody at = somebody
+
+-- the branches of a choice, and the right side of a logical expression (13.13.1, 13.14.1)
+abbrev pub of_branch : Taker → (at : ℕ) → Taker
+of_branch nobody at = nobody_if (not (at == 0))
+of_branch t at = somebody
+
+-- Of the child at an index below a node: nobody takes a statement's (14.5.1), nor that of the update of a `for` (14.7.4.3).
+abbrev pub taken_below : Taker → Kind → (at : ℕ) → Taker
+taken_below t expression_statement at = nobody
+taken_below t for_statement at = nobody_if (at == 2)
+taken_below t parenthesized_expression at = in_parentheses t
+taken_below t sequence_expression at = of_sequence t at
+taken_below t expressions at = of_part t at
+taken_below t (logical_expression operator) at = of_branch t at
+taken_below t conditional_expression at = of_branch t at
+taken_below t k at = somebody
+
+abbrev pub taken_there : (ts : ℕ → Taker) → (at : ℕ) → Around → Taker
+taken_there ts at (first rest) = ts at
+taken_there ts at (behind k n below a) = taken_there ts (suc at) a
+taken_there ts at (behind_none a) = taken_there ts (suc at) a
+taken_there ts at (under k n a rest) = taken_there (λ i. taken_below (ts at) k i) 0 a
 
 -- at a place
 abbrev pub is_unused_at : Around → Bool
-is_unused_at a = unused_there (λ i. false) 0 a
+is_unused_at a = is_nobody (taken_there (λ i. somebody) 0 a)
