@@ -1,26 +1,14 @@
--- What items ask for.
-use Rattle.std.proofs.Common.{◌≡◌, ◌∙◌, ◌≤◌, length, arith, List, ℕ, [], ◌∷◌, false, ◌||◌, Option, Some, None, bytes_eq, append-nil, refl, sym, ap}
+-- What imports without names have below them, and what statements ask for.
+use Rattle.std.proofs.Common.{◌≡◌, ◌∙◌, ◌≤◌, length, arith, List, ℕ, [], ◌∷◌, ◌++◌, false, ◌&&◌, ◌||◌, Option, Some, None, get_or, refl, sym, ap}
 use Rattle.js_syntax.specs.declared.node_kind.NodeKind.{NodeKind as Kind}
-use Rattle.js_syntax.specs.Node.{Tree, Forest, Note, nothing, node, row}
-use Rattle.js_syntax.proofs.Truth.{or_false}
-use Rattle.js_meaning.specs.Module.{requests_of, requests}
+use Rattle.js_syntax.specs.Node.{Tree, Forest, Note, nothing, node, absent, row}
+use Rattle.js_syntax.proofs.Truth.{or_false, first_of_neither, second_of_neither}
+use Rattle.js_meaning.specs.Module.{requests_of}
 use Rattle.js_tree.proofs.Search.{AsksEach}
 use Rattle.steps.specs.Names.{is_among}
-use Rattle.steps.proofs.Among.{among_joined}
 use Rattle.steps.specs.Allowed.Arranged.{is_nothing}
-use Rattle.rules.specs.Imports.Repeated.{has_no_names}
-use Rattle.min_imports.specs.Items.{item_asks}
-
-pub one_source : (x source : List ℕ) → is_among (x ∷ []) source ≡ bytes_eq x source
-one_source x source = or_false (bytes_eq x source)
-
-pub asked_each : (source : List ℕ) → AsksEach (λ t. is_among (requests t) source)
-asked_each source None ts = refl
-asked_each source (Some x) ts = among_joined (requests_of x.kind) (requests (row ts)) source ∙ ap (λ l. is_among l source || is_among (requests (row ts)) source) (sym (append-nil (requests_of x.kind)))
-
-pub one_asks : (source : List ℕ) (x : Option Tree) → is_among (requests (row (x ∷ []))) source ≡ item_asks source x
-one_asks source None = refl
-one_asks source (Some x) = ap (λ l. is_among l source) (append-nil (requests_of x.kind))
+use Rattle.rules.specs.Imports.Repeated.{has_no_names, repeats, has_repeated}
+use Rattle.min_imports.specs.Items.{is_nameless, has_nameless}
 
 -- ---- lists of names
 
@@ -43,3 +31,23 @@ two_items [] h = absurd (Prim.omega (arith, h))
 two_items (None ∷ ts) h = refl
 two_items (Some x ∷ []) h = absurd (Prim.omega (arith, h))
 two_items (Some x ∷ y ∷ ts) h = two_nodes x.kind x.note x.below y ts
+
+-- ---- imports without names
+
+pub nameless_each : AsksEach has_nameless
+nameless_each None ts = refl
+nameless_each (Some x) ts = ap (λ b. b || has_nameless (row ts)) (sym (or_false (is_nameless x.kind x.below)))
+
+pub repeats_asking : (asked : List (List ℕ)) (k : Kind) (t : Forest) (source : List ℕ) → requests_of k ≡ source ∷ [] → repeats asked k t ≡ is_nameless k t && is_among asked source
+repeats_asking asked (Kind.ImportDeclaration x) t source is = ap (λ y. has_no_names t && is_among asked y) (ap (λ l. get_or l 0 source) is)
+repeats_asking asked k t source is = refl
+
+none_repeats : (asked : List (List ℕ)) (k : Kind) (t : Forest) → is_nameless k t ≡ false → repeats asked k t ≡ false
+none_repeats asked (Kind.ImportDeclaration x) t none = ap (λ b. b && is_among asked x) none
+none_repeats asked k t none = refl
+
+pub none_nameless : (asked : List (List ℕ)) (t : Forest) → has_nameless t ≡ false → has_repeated asked t ≡ false
+none_nameless asked nothing none = refl
+none_nameless asked (absent r) none = none_nameless asked r none
+none_nameless asked (node k n b r) none =
+    ap (λ c. c || has_repeated (asked ++ requests_of k) r) (none_repeats asked k b (first_of_neither (is_nameless k b) (has_nameless r) none)) ∙ none_nameless (asked ++ requests_of k) r (second_of_neither (is_nameless k b) (has_nameless r) none)

@@ -1,2 +1,4 @@
 pub mod Asking
-pub mod Keeping
+pub mod Telling
+pub mod Staying
+pub mod Closing

@@ -1,49 +1,29 @@
 // Imports without names, and requests of modules.
-ghost use Rattle.std.specs.Prelude.{◌≡◌, []};
+ghost use Rattle.std.specs.Prelude.{◌≡◌, [], ◌∷◌, false, length, IfOk, OnOk, OnErr, IsOk};
+ghost use Rattle.std.specs.Bool.{OnFalse};
+ghost use Rattle.std.specs.List.{items_where_true};
 ghost use Rattle.js_syntax.specs.Node.{row, forest_of};
-ghost use Rattle.js_meaning.specs.Module.{requests};
-ghost use Rattle.steps.specs.Names.{is_among};
+ghost use Rattle.js_meaning.specs.Module.{requests_of};
 ghost use Rattle.steps.specs.Allowed.Arranged.{is_nothing};
-ghost use Rattle.steps.specs.Allowed.RepeatedImport.{asks_for};
 ghost use Rattle.rules.specs.Imports.Repeated as rules;
-ghost use Rattle.min_imports.specs.Items.{item_asks, item_repeats, once};
+ghost use Rattle.min_imports.specs.Items.{texts, is_nameless, has_nameless, stays, Answers};
 
 use js_syntax::NodeKind;
 use js_tree::Node;
-use std::alloc::Global;
+use std::alloc::{AllocError, Global};
+use std::collections::BTreeSet;
 
-// ---- what asks for a module
+// ---- the module that a statement asks for
 
-#[tactic(auto, using(crate::proofs::Asking::one_source))]
-fn asks_for(kind: &NodeKind, source: &str) -> bool
-    ensures { result ≡ asks_for source.now kind.now }
+fn source_of(kind: &NodeKind) -> Option<&str>
+    ensures { texts result ≡ requests_of kind.now }
 {
     match kind {
-        NodeKind::ImportDeclaration(other) => other.as_str() == source,
-        NodeKind::ExportNamedDeclaration(Some(other)) => other.as_str() == source,
-        NodeKind::ExportAllDeclaration { source: other, .. } => other.as_str() == source,
-        _ => false,
+        NodeKind::ImportDeclaration(source) => Some(source.as_str()),
+        NodeKind::ExportNamedDeclaration(Some(source)) => Some(source.as_str()),
+        NodeKind::ExportAllDeclaration { source, .. } => Some(source.as_str()),
+        _ => None,
     }
-}
-
-fn item_asks(item: &Option<Node>, source: &str) -> bool
-    ensures { result ≡ item_asks source.now item.now }
-{
-    match item {
-        Some(node) => asks_for(node.kind(), source),
-        None => false,
-    }
-}
-
-fn is_asked(before: &[Option<Node>], source: &str) -> bool
-    ensures { result ≡ is_among (requests (row before.now)) source.now }
-{
-    for item in before {
-        if item_asks(item, source) {
-            return true;
-        }
-    }
-    false
 }
 
 // ---- an import without names
@@ -77,60 +57,115 @@ fn has_no_names(children: &[Option<Node>]) -> bool
     }
 }
 
-fn repeats(before: &[Option<Node>], node: &Node) -> bool
-    ensures { result ≡ rules.repeats (requests (row before.now)) node.now.kind node.now.below }
+fn is_nameless(node: &Node) -> bool
+    ensures { result ≡ is_nameless node.now.kind node.now.below }
 {
     match node.kind() {
-        NodeKind::ImportDeclaration(source) => {
-            has_no_names(node.children()) && is_asked(before, source.as_str())
-        }
+        NodeKind::ImportDeclaration(_) => has_no_names(node.children()),
         _ => false,
     }
 }
 
-fn item_repeats(before: &[Option<Node>], item: &Option<Node>) -> bool
-    ensures { result ≡ item_repeats (requests (row before.now)) item.now }
+fn is_nameless_item(item: &Option<Node>) -> bool
+    ensures { result ≡ has_nameless (row (item.now ∷ [])) }
 {
     match item {
-        Some(node) => repeats(before, node),
+        Some(node) => is_nameless(node),
         None => false,
     }
 }
 
-// ---- a list
-
-/// Whether an import without names stands in a list of statements behind another request of its module.
-pub fn has_repeated(items: &[Option<Node>]) -> bool
-    ensures { result ≡ rules.has_repeated [] (row items.now) }
+fn has_nameless(items: &[Option<Node>]) -> bool
+    ensures { result ≡ has_nameless (row items.now) }
 {
-    let mut at = 0;
-    while at < items.len() {
-        if item_repeats(&items[..at], &items[at]) {
+    for item in items {
+        if is_nameless_item(item) {
             return true;
         }
-        at += 1;
     }
     false
 }
 
-fn keep_once(items: &mut Vec<Option<Node>>)
-    ensures { items.new.items ≡ once [] items.old.items }
+// ---- which items stay
+
+// Whether a statement stays behind those that ask for these modules; its own module is one of them then.
+fn stays<'a>(asked: &mut BTreeSet<&'a str>, node: &'a Node) -> Result<bool, AllocError>
+    ensures { IfOk result (λ b. Answers asked.old (forest_of node.now) b asked.new) }
 {
-    let mut at = 0;
-    while at < items.len() {
-        if item_repeats(&items[..at], &items[at]) {
-            items.remove(at);
-        } else {
-            at += 1;
+    match source_of(node.kind()) {
+        Some(source) => {
+            let is_new = asked.insert(source)?;
+            Ok(is_new || !is_nameless(node))
         }
+        None => Ok(true),
     }
 }
 
-/// Leaves of a list of statements what isn't such an import.
-pub fn keep_each_once(alloc: Global, node: &mut Node)
+fn item_stays<'a>(asked: &mut BTreeSet<&'a str>, item: &'a Option<Node>) -> Result<bool, AllocError>
+    ensures { IfOk result (λ b. Answers asked.old (row (item.now ∷ [])) b asked.new) }
+{
+    match item {
+        Some(node) => stays(asked, node),
+        None => Ok(true),
+    }
+}
+
+fn which_stay(alloc: Global, items: &[Option<Node>]) -> Result<Vec<bool>, AllocError>
+    ensures { IfOk result (λ v. v.items ≡ stays [] (row items.now)) }
+{
+    let mut asked = BTreeSet::new(alloc);
+    let mut staying = Vec::new(alloc);
+    for item in items {
+        let is_staying = item_stays(&mut asked, item)?;
+        staying.push(is_staying)?;
+    }
+    Ok(staying)
+}
+
+// ---- and the list
+
+fn keep_staying(items: &mut Vec<Option<Node>>, staying: &[bool])
+    requires { length staying.now ≡ length items.old.items }
+    ensures { items.new.items ≡ items_where_true staying.now items.old.items }
+{
+    let mut kept = 0;
+    let mut at = 0;
+    while at < staying.len() {
+        if staying[at] {
+            items.swap(kept, at);
+            kept += 1;
+        }
+        at += 1;
+    }
+    items.truncate(kept);
+}
+
+fn keep_items(alloc: Global, node: &mut Node, staying: &[bool])
+    requires { staying.now ≡ stays [] node.old.below }
     ensures { node.new ≡ record node.old { below = rules.each_once [] node.old.below } }
 {
     let mut items = node.replace_children(Vec::new(alloc));
-    keep_once(&mut items);
+    keep_staying(&mut items, staying);
     node.replace_children(items);
+}
+
+/// Takes out of a list of statements the imports without names that stand behind another request of their modules, and answers whether
+/// there is one. Where there is none, nothing is touched. It fails only for want of memory, and only where the list has an import without
+/// names; then all is as it was.
+pub fn drop_repeated(alloc: Global, node: &mut Node) -> Result<bool, AllocError>
+    ensures repeated { IfOk result (λ b. b ≡ rules.has_repeated [] node.old.below) }
+    ensures left { OnOk result (node.new ≡ record node.old { below = rules.each_once [] node.old.below }) }
+    ensures same { IfOk result (λ b. OnFalse b (node.new ≡ node.old)) }
+    ensures refused { OnErr result (node.new ≡ node.old) }
+    ensures succeeds { has_nameless node.old.below ≡ false → IsOk result }
+{
+    if !has_nameless(node.children()) {
+        return Ok(false);
+    }
+    let staying = which_stay(alloc, node.children())?;
+    if !staying.contains(&false) {
+        return Ok(false);
+    }
+    keep_items(alloc, node, staying.as_slice());
+    Ok(true)
 }

@@ -29,8 +29,8 @@ once_none x list none = ap (λ k. list_once x.note k x.below) list ∙ ap (λ b.
 once_some : (x y : Tree) → x.kind ≡ statements → has_repeated [] x.below ≡ true → y ≡ record x { below = each_once [] x.below } → asked_once x ≡ Some y
 once_some x y list has is = ap (λ k. list_once x.note k x.below) list ∙ ap (λ b. once_if b x.note x.below) has ∙ ap Some (ap (λ k. record { kind = k; note = x.note; below = each_once [] x.below }) (sym list) ∙ sym is)
 
-pub repeats_none : (c : Seen) (x : Tree) → x.kind ≡ statements → has_repeated [] x.below ≡ false → Does drop_repeated c x false c x
-repeats_none c x list none = does_none drop_repeated c x (once_none x list none)
+pub repeats_none : (c : Seen) (x y : Tree) → x.kind ≡ statements → has_repeated [] x.below ≡ false → y ≡ x → Does drop_repeated c x false c y
+repeats_none c x y list none same = subst (λ z. Does drop_repeated c x false c z) (sym same) (does_none drop_repeated c x (once_none x list none))
 
 pub repeats_so : (c d : Seen) (x y : Tree) → x.kind ≡ statements → has_repeated [] x.below ≡ true → y ≡ record x { below = each_once [] x.below } → d ≡ record c { requested = true } → Does drop_repeated c x true d y
 repeats_so c d x y list has is noticed =

@@ -1,5 +1,5 @@
 // Names of imports that nobody uses leave them, and imports without names whose modules are asked for before.
-ghost use Rattle.std.specs.Prelude.{◌≡◌, ◌&&◌, [], ◌∷◌};
+ghost use Rattle.std.specs.Prelude.{◌≡◌, ◌&&◌, [], ◌∷◌, IfOk, OnErr};
 ghost use Rattle.js_syntax.specs.declared.node_kind.NodeKind.TheVariants.{Statements as statements};
 ghost use Rattle.js_syntax.specs.Node.{row, forest_of};
 ghost use Rattle.min_traverse.specs.Lawful.{Does};
@@ -16,8 +16,8 @@ use crate::statements::{Statements, keeps_imports};
 use js_syntax::NodeKind;
 use js_tree::Node;
 use min_context::MinifierTraverseCtx;
-use min_imports::{has_repeated, keep_each_once};
-use std::alloc::Global;
+use min_imports::drop_repeated;
+use std::alloc::{AllocError, Global};
 
 // ---- which go
 
@@ -180,15 +180,18 @@ pub fn remove_unused_import_specifiers(
 // ---- imports without names
 
 /// An import without names leaves a list of statements behind another request of its module, which is loaded there. Where none does,
-/// nothing is touched.
-pub fn remove_repeated_imports(node: &mut Node, ctx: &mut MinifierTraverseCtx) -> bool
+/// nothing is touched. It fails only for want of memory; then all is as it was.
+pub fn remove_repeated_imports(
+    node: &mut Node,
+    ctx: &mut MinifierTraverseCtx,
+) -> Result<bool, AllocError>
     requires list { node.old.kind ≡ statements }
-    ensures does { Does acts.drop_repeated ctx.old node.old result ctx.new node.new }
+    ensures does { IfOk result (λ b. Does acts.drop_repeated ctx.old node.old b ctx.new node.new) }
+    ensures refused { OnErr result ((node.new ≡ node.old) × (ctx.new ≡ ctx.old)) }
 {
-    if !has_repeated(node.children()) {
-        return false;
+    if !drop_repeated(ctx.alloc(), node)? {
+        return Ok(false);
     }
-    keep_each_once(ctx.alloc(), node);
     ctx.notice_change();
-    true
+    Ok(true)
 }

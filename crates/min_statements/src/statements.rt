@@ -110,7 +110,7 @@ impl Traverse for Statements {
         if trim_statements(self, node, ctx) {
             return Ok(());
         }
-        remove_repeated_imports(node, ctx);
+        remove_repeated_imports(node, ctx)?;
         Ok(())
     }
 

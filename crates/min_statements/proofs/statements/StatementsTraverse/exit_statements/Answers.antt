@@ -1,6 +1,6 @@
 use Rattle.std.proofs.Common.{Bool, ◌∙◌, ap, subst}
 use Rattle.js_syntax.specs.Node.{Tree}
-use Rattle.min_traverse.specs.Lawful.{Does, or_same}
+use Rattle.min_traverse.specs.Lawful.{Does}
 use Rattle.min_statements.specs.Acts.{trim}
 use Rattle.min_statements.specs.Own.{AnyEdit}
 use Rattle.rules.proofs.DeadCode.StaysTrue.{stays}
@@ -26,6 +26,6 @@ pub returns : goal.returns
 returns c =
     let none = subst (λ (b : Bool). Does (trim c.args.self.now) c.args.ctx.now c.args.node.now b c.trim_statements.new.ctx c.trim_statements.new.node) c.if-trim_statements.false c.trim_statements.ensures.does in
     record {
-      moves = list_moves (stays AnyEdit (λ o t u e. e)) c.args.self.now none c.remove_repeated_imports.ensures.does;
-      visited = λ quiet. list_visits c.args.self.now quiet (is_list c.args.ctx.now.place c.args.node.now.kind c.requires.slot) none c.remove_repeated_imports.ensures.does;
+      moves = list_moves (stays AnyEdit (λ o t u e. e)) c.args.self.now none c.in_ok-remove_repeated_imports.ensures.does;
+      visited = λ quiet. list_visits c.args.self.now quiet (is_list c.args.ctx.now.place c.args.node.now.kind c.requires.slot) none c.in_ok-remove_repeated_imports.ensures.does;
     }
