@@ -34,7 +34,7 @@ same_type (Kind.AssignmentExpression assignment.Assign) n m a b ts = refl
 same_type (Kind.AssignmentExpression o) n m a b ts = refl
 same_type k n m a b ts = refl
 
-types_bare : (t : Forest) → types bare_answers (bare t) ≡ types bare_answers t
+pub types_bare : (t : Forest) → types bare_answers (bare t) ≡ types bare_answers t
 types_bare nothing = refl
 types_bare (absent r) = ap (λ (ts : List ValueType). Undetermined ∷ ts) (types_bare r)
 types_bare (node k n a r) =

@@ -52,7 +52,7 @@ or_same x y z e = ap (λ b. b || z) e
 before_bare : (k : Kind) (n : Note) (t : Forest) → stays_before k nowhere (bare t) ≡ stays_before k n t
 before_bare k n t = or_same (acts k nowhere (bare t)) (acts k n t) _ (acts_bare k n t)
 
-pub if_counts : (b : Bool) (k : Kind) (n : Note) (a rest : Forest) → (if b then node k nowhere (bare a) (bare rest) else bare rest) ≡ bare (if b then node k n a rest else rest)
+if_counts : (b : Bool) (k : Kind) (n : Note) (a rest : Forest) → (if b then node k nowhere (bare a) (bare rest) else bare rest) ≡ bare (if b then node k n a rest else rest)
 if_counts true k n a rest = refl
 if_counts false k n a rest = refl
 

@@ -1,55 +1,94 @@
--- Whether both sides of a comparison act, and which values of an object literal do, doesn't see notes.
-use Rattle.std.proofs.Common.{◌≡◌, ◌∙◌, Bool, true, false, not, ◌&&◌, ◌||◌, Some, None, is_some, if◌then◌else◌, refl, sym, ap, ap₂}
+-- Whether both sides of an operation act, or a text stands beside one that does, and which keys and values of an object literal do, doesn't see notes.
+use Rattle.std.proofs.Common.{◌≡◌, ◌∙◌, Bool, true, false, not, ◌&&◌, ◌||◌, Option, Some, None, is_some, if◌then◌else◌, refl, sym, ap, ap₂}
 use Rattle.js_syntax.specs.declared.node_kind.NodeKind.{NodeKind as Kind}
 use Rattle.js_syntax.specs.declared.node_kind.NodeKind.TheVariants.{BinaryExpression as binary_expression, SequenceExpression as sequence_expression, Expressions as expressions, ObjectExpression as object_expression, Properties as properties, Property as property}
+use Rattle.js_syntax.specs.declared.kind.PropertyKind.{PropertyKind}
+use Rattle.js_syntax.specs.declared.kind.PropertyKind.TheVariants as property_kind
+use Rattle.js_syntax.specs.declared.operator.BinaryOperator.TheVariants.{Addition as addition}
+use Rattle.js_syntax.specs.declared.value.Key.{Key}
+use Rattle.js_syntax.specs.declared.value.Key.TheVariants as key_form
 use Rattle.js_syntax.specs.Core.{is_plain_property}
-use Rattle.js_syntax.specs.Node.{Forest, Tree, Note, nothing, node, absent, nowhere, bare}
-use Rattle.js_meaning_near.specs.Unused.{compares}
+use Rattle.js_syntax.specs.Node.{Forest, Tree, Note, nothing, node, absent, alone, joined, nowhere, bare}
+use Rattle.js_effects.specs.Kinds.{is_primitive, type_at}
+use Rattle.js_effects.specs.Silence.{only_combines}
 use Rattle.scope_laws.proofs.Notes.{unseen}
 use Rattle.steps.specs.Allowed.Uses.{as_value}
 use Rattle.steps.specs.Allowed.UnusedOperation.{acts}
-use Rattle.steps.specs.Allowed.UnusedList.{as_one}
-use Rattle.steps.specs.Allowed.TwoSides.{two_sides}
-use Rattle.steps.specs.Allowed.UnusedObject.{comes_out, are_plain, acting_values, object_becomes}
-use Rattle.headline.proofs.RenotedUnused.{stands_bare_bare, acts_bare, as_one_bare, some_if, some_tree}
-use Rattle.headline.proofs.RenotedParts.{if_counts}
+use Rattle.steps.specs.Allowed.UnusedList.{acting, as_one}
+use Rattle.steps.specs.Allowed.TwoSides.{is_full_text, empty_text, text_emptied, two_sides}
+use Rattle.steps.specs.Allowed.UnusedObject.{comes_out, is_computed, comes_apart, all_come_apart, keys_and_values, object_becomes}
+use Rattle.headline.proofs.RenotedUnused.{stands_bare_bare, acts_bare, combines_bare, acting_bare, as_one_bare, some_if, some_tree}
+use Rattle.headline.proofs.RenotedKnown.{types_bare}
 
 -- ---- both sides
 
+some_or : (b : Bool) (y : Tree) (o : Option Tree) → is_some {T = Tree} (if b then Some y else o) ≡ (b || is_some o)
+some_or true y o = refl
+some_or false y o = refl
+
+abbrev sum : (n : Note) → (sides : Forest) → Tree
+sum n sides = record { kind = binary_expression addition; note = n; below = sides }
+
+text_bare : (n : Note) (k : Kind) (t : Forest) → is_some (text_emptied n k (bare t)) ≡ is_some (text_emptied n k t)
+text_bare n (binary_expression addition) (node k i a (node l j b nothing)) =
+    some_or (is_full_text k && acts l nowhere (bare b)) (sum n (node empty_text nowhere nothing (node l nowhere (bare b) nothing))) (if is_full_text l && acts k nowhere (bare a) then Some (sum n (node k nowhere (bare a) (node empty_text nowhere nothing nothing))) else None)
+    ∙ ap₂ (λ x y. (is_full_text k && x) || y) (acts_bare l j b)
+    (some_if (is_full_text l && acts k nowhere (bare a)) (sum n (node k nowhere (bare a) (node empty_text nowhere nothing nothing)))
+    ∙ ap (λ x. is_full_text l && x) (acts_bare k i a)
+    ∙ sym (some_if (is_full_text l && acts k i a) (sum n (node k i a (node empty_text j nothing nothing)))))
+    ∙ sym (some_or (is_full_text k && acts l j b) (sum n (node empty_text i nothing (node l j b nothing))) (if is_full_text l && acts k i a then Some (sum n (node k i a (node empty_text j nothing nothing))) else None))
+text_bare n k t = refl
+
 sides_bare : (n m : Note) (k : Kind) (t : Forest) → is_some (two_sides n m k (bare t)) ≡ is_some (two_sides n m k t)
 sides_bare n m (binary_expression o) (node k i a (node l j b nothing)) =
-    some_if (compares o && (acts k nowhere (bare a) && acts l nowhere (bare b))) (record { kind = sequence_expression; note = n; below = node expressions m (node k nowhere (bare a) (node l nowhere (bare b) nothing)) nothing })
-    ∙ ap₂ (λ x y. compares o && (x && y)) (acts_bare k i a) (acts_bare l j b)
-    ∙ sym (some_if (compares o && (acts k i a && acts l j b)) (record { kind = sequence_expression; note = n; below = node expressions m (node k i a (node l j b nothing)) nothing }))
+    some_or (only_combines (binary_expression o) (node k nowhere (bare a) (node l nowhere (bare b) nothing)) && (acts k nowhere (bare a) && acts l nowhere (bare b))) (record { kind = sequence_expression; note = n; below = node expressions m (node k nowhere (bare a) (node l nowhere (bare b) nothing)) nothing })
+    (text_emptied n (binary_expression o) (node k nowhere (bare a) (node l nowhere (bare b) nothing)))
+    ∙ ap₂ (λ x y. x || y) (ap₂ (λ c x. c && x) (combines_bare (binary_expression o) (node k i a (node l j b nothing))) (ap₂ (λ x y. x && y) (acts_bare k i a) (acts_bare l j b))) (text_bare n (binary_expression o) (node k i a (node l j b nothing)))
+    ∙ sym (some_or (only_combines (binary_expression o) (node k i a (node l j b nothing)) && (acts k i a && acts l j b)) (record { kind = sequence_expression; note = n; below = node expressions m (node k i a (node l j b nothing)) nothing })
+    (text_emptied n (binary_expression o) (node k i a (node l j b nothing))))
 sides_bare n m k t = refl
 
 pub two_sides_as : (n m : Note) (k : Kind) (f g : Forest) (y : Tree) → bare f ≡ bare g → two_sides n m k g ≡ Some y → (z : Tree) × (two_sides n m k f ≡ Some z)
 two_sides_as n m k f g y e h = some_tree (two_sides n m k f) (unseen (λ t. is_some (two_sides n m k t)) (sides_bare n m k) f g e ∙ ap is_some h)
 
--- ---- the values that act
+-- ---- keys and values that act
 
 comes_bare : (is_method : Bool) (k : Kind) (n : Note) (t : Forest) → comes_out is_method k nowhere (bare t) ≡ comes_out is_method k n t
 comes_bare is_method k n t = ap₂ (λ x y. not x || (not is_method && y)) (acts_bare k n t) (stands_bare_bare as_value false k t)
 
-plain_bare : (t : Forest) → are_plain (bare t) ≡ are_plain t
-plain_bare nothing = refl
-plain_bare (node (property how is_method key) n (absent (node k m a nothing)) rest) = ap₂ (λ x y. is_plain_property how key && (x && y)) (comes_bare is_method k m a) (plain_bare rest)
-plain_bare t = refl
+computed_bare : (how : PropertyKind) (key : Key) (t : Forest) → is_computed how key (bare t) ≡ is_computed how key t
+computed_bare property_kind.Init key_form.Below t = ap (λ ts. is_primitive (type_at 0 ts)) (types_bare t)
+computed_bare how key t = refl
 
-values_bare : (t : Forest) → acting_values (bare t) ≡ bare (acting_values t)
-values_bare nothing = refl
-values_bare (absent rest) = values_bare rest
-values_bare (node (property how is_method key) n (absent (node k m a nothing)) rest) =
-    ap₂ (λ b r. if b then node k nowhere (bare a) r else r) (acts_bare k m a) (values_bare rest) ∙ if_counts (acts k m a) k m a (acting_values rest)
-values_bare (node k n below rest) = values_bare rest
+property_bare : (k : Kind) (t : Forest) → comes_apart k (bare t) ≡ comes_apart k t
+property_bare (property how is_method key) (absent (node k m a nothing)) = ap (λ x. is_plain_property how key && x) (comes_bare is_method k m a)
+property_bare (property how is_method key) (node j i b (node k m a nothing)) =
+    ap₂ (λ x y. x && y) (computed_bare how key (alone j i b)) (ap₂ (λ x y. x && y) (comes_bare is_method j i b) (comes_bare is_method k m a))
+property_bare k t = refl
 
-if_plain : (n m : Note) (b : Bool) (values : Forest) → is_some (if b then as_one n m (bare values) else None) ≡ is_some (if b then as_one n m values else None)
-if_plain n m true values = as_one_bare n m values
-if_plain n m false values = refl
+apart_bare : (t : Forest) → all_come_apart (bare t) ≡ all_come_apart t
+apart_bare nothing = refl
+apart_bare (absent rest) = refl
+apart_bare (node k n below rest) = ap₂ (λ x y. x && y) (property_bare k below) (apart_bare rest)
+
+joined_bare : (t u : Forest) → bare (joined t u) ≡ joined (bare t) (bare u)
+joined_bare nothing u = refl
+joined_bare (absent t) u = ap absent (joined_bare t u)
+joined_bare (node k n b t) u = ap (node k nowhere (bare b)) (joined_bare t u)
+
+parts_bare : (t : Forest) → keys_and_values (bare t) ≡ bare (keys_and_values t)
+parts_bare nothing = refl
+parts_bare (absent rest) = parts_bare rest
+parts_bare (node k n below rest) = ap (joined (bare below)) (parts_bare rest) ∙ sym (joined_bare below (keys_and_values rest))
+
+if_apart : (n m : Note) (b : Bool) (left : Forest) → is_some (if b then as_one n m (bare left) else None) ≡ is_some (if b then as_one n m left else None)
+if_apart n m true left = as_one_bare n m left
+if_apart n m false left = refl
 
 object_bare : (n m : Note) (k : Kind) (t : Forest) → is_some (object_becomes n m k (bare t)) ≡ is_some (object_becomes n m k t)
 object_bare n m object_expression (node properties i es nothing) =
-    ap₂ (λ b vs. is_some (if b then as_one n m vs else None)) (plain_bare es) (values_bare es) ∙ if_plain n m (are_plain es) (acting_values es)
+    let parts = keys_and_values es in
+    ap₂ (λ b ps. is_some (if b then as_one n m ps else None)) (apart_bare es) (ap acting (parts_bare es) ∙ acting_bare parts) ∙ if_apart n m (all_come_apart es) (acting parts)
 object_bare n m k t = refl
 
 pub object_as : (n m : Note) (k : Kind) (f g : Forest) (y : Tree) → bare f ≡ bare g → object_becomes n m k g ≡ Some y → (z : Tree) × (object_becomes n m k f ≡ Some z)

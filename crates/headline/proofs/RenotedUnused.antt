@@ -1,14 +1,11 @@
 -- What is left of an expression of which nobody takes the value doesn't see notes.
 use Rattle.std.proofs.Common.{◌≡◌, ◌∙◌, ℕ, zero, suc, [], Bool, true, false, not, ◌&&◌, ◌||◌, Option, Some, None, is_some, if◌then◌else◌, refl, sym, ap, ap₂, true≢false}
 use Rattle.js_syntax.specs.declared.node_kind.NodeKind.{NodeKind as Kind}
-use Rattle.js_syntax.specs.declared.node_kind.NodeKind.TheVariants.{Function as function, ReferenceName as reference_name, MemberExpression as member_expression, ChainExpression as chain_expression, ParenthesizedExpression as parenthesized_expression, Class as class, ConditionalExpression as conditional_expression, LogicalExpression as logical_expression, UnaryExpression as unary_expression, BinaryExpression as binary_expression, ArrayExpression as array_expression, Elements as elements, SequenceExpression as sequence_expression, Expressions as expressions}
-use Rattle.js_syntax.specs.declared.operator.UnaryOperator.{UnaryOperator}
-use Rattle.js_syntax.specs.declared.operator.BinaryOperator.{BinaryOperator}
+use Rattle.js_syntax.specs.declared.node_kind.NodeKind.TheVariants.{Function as function, ReferenceName as reference_name, MemberExpression as member_expression, ChainExpression as chain_expression, ParenthesizedExpression as parenthesized_expression, Class as class, ConditionalExpression as conditional_expression, LogicalExpression as logical_expression, UnaryExpression as unary_expression, BinaryExpression as binary_expression, ArrayExpression as array_expression, Elements as elements, SequenceExpression as sequence_expression, Expressions as expressions, TemplateLiteral as template_literal, Quasis as quasis}
 use Rattle.js_syntax.specs.Node.{Forest, Tree, Note, nothing, node, absent, nowhere, bare}
 use Rattle.js_effects.specs.Still.{is_value}
-use Rattle.js_effects.specs.Silence.{may_have_effects}
-use Rattle.js_effects.proofs.Bare.{runs_bare}
-use Rattle.js_meaning_near.specs.Unused.{is_total, compares}
+use Rattle.js_effects.specs.Silence.{may_have_effects, only_combines}
+use Rattle.js_effects.proofs.Bare.{converts_bare, runs_bare}
 use Rattle.scope_laws.specs.Lists.{is_list}
 use Rattle.scope_laws.proofs.Notes.{unseen}
 use Rattle.steps.specs.Allowed.Uses.{Use, as_value, operand_of, chain_matters, matters, may_take_name, stands_bare}
@@ -62,24 +59,24 @@ acts_bare k n t = effects_bare (node k n t nothing)
 is_needed_bare : (u : Use) (k : Kind) (n : Note) (t : Forest) → is_needed u k nowhere (bare t) ≡ is_needed u k n t
 is_needed_bare u k n t = ap₂ (λ x y. x && y) (acts_bare k n t) (stands_bare_bare u false k t)
 
-operand_bare : (o : UnaryOperator) (t : Forest) → operand_needed o (bare t) ≡ operand_needed o t
-operand_bare o (node k n a nothing) = ap (λ x. index_if (is_total o && x) 0) (is_needed_bare (operand_of o) k n a)
-operand_bare o (node k n a (node l m b rest)) = refl
-operand_bare o (node k n a (absent rest)) = refl
-operand_bare o (absent rest) = refl
-operand_bare o nothing = refl
+operand_bare : (u : Use) (t : Forest) → operand_needed u (bare t) ≡ operand_needed u t
+operand_bare u (node k n a nothing) = ap (λ x. index_if x 0) (is_needed_bare u k n a)
+operand_bare u (node k n a (node l m b rest)) = refl
+operand_bare u (node k n a (absent rest)) = refl
+operand_bare u (absent rest) = refl
+operand_bare u nothing = refl
 
-side_bare : (o : BinaryOperator) (t : Forest) → side_needed o (bare t) ≡ side_needed o t
-side_bare o (node k n a (node l m b nothing)) =
-    ap₂ (λ x y. if x then y else index_if (compares o && is_needed as_value k nowhere (bare a)) 0) (acts_bare l m b)
-    (ap₂ (λ x y. index_if (compares o && (not x && y)) 1) (acts_bare k n a) (stands_bare_bare as_value false l b))
-    ∙ ap (λ x. if acts l m b then index_if (compares o && (not (acts k n a) && stands_bare as_value false l b)) 1 else index_if (compares o && x) 0) (is_needed_bare as_value k n a)
-side_bare o (node k n a (node l m b (node j i c rest))) = refl
-side_bare o (node k n a (node l m b (absent rest))) = refl
-side_bare o (node k n a (absent rest)) = refl
-side_bare o (node k n a nothing) = refl
-side_bare o (absent rest) = refl
-side_bare o nothing = refl
+side_bare : (t : Forest) → side_needed (bare t) ≡ side_needed t
+side_bare (node k n a (node l m b nothing)) =
+    ap₂ (λ x y. if x then y else index_if (is_needed as_value k nowhere (bare a)) 0) (acts_bare l m b)
+    (ap₂ (λ x y. index_if (not x && y) 1) (acts_bare k n a) (stands_bare_bare as_value false l b))
+    ∙ ap (λ x. if acts l m b then index_if (not (acts k n a) && stands_bare as_value false l b) 1 else index_if x 0) (is_needed_bare as_value k n a)
+side_bare (node k n a (node l m b (node j i c rest))) = refl
+side_bare (node k n a (node l m b (absent rest))) = refl
+side_bare (node k n a (absent rest)) = refl
+side_bare (node k n a nothing) = refl
+side_bare (absent rest) = refl
+side_bare nothing = refl
 
 left_bare : (t : Forest) → left_needed (bare t) ≡ left_needed t
 left_bare (node k n a (node l m b nothing)) = ap₂ (λ x y. index_if (not x && y) 0) (acts_bare l m b) (is_needed_bare as_value k n a)
@@ -101,9 +98,12 @@ condition_bare (node k n a nothing) = refl
 condition_bare (absent rest) = refl
 condition_bare nothing = refl
 
+pub combines_bare : (k : Kind) (t : Forest) → only_combines k (bare t) ≡ only_combines k t
+combines_bare k t = converts_bare k t
+
 needed_bare : (k : Kind) (t : Forest) → needed_at k (bare t) ≡ needed_at k t
-needed_bare (unary_expression o) t = operand_bare o t
-needed_bare (binary_expression o) t = side_bare o t
+needed_bare (unary_expression o) t = ap₂ (λ (b : Bool) x. if b then x else None) (combines_bare (unary_expression o) t) (operand_bare (operand_of o) t)
+needed_bare (binary_expression o) t = ap₂ (λ (b : Bool) x. if b then x else None) (combines_bare (binary_expression o) t) (side_bare t)
 needed_bare (logical_expression o) t = left_bare t
 needed_bare conditional_expression t = condition_bare t
 needed_bare k t = refl
@@ -127,7 +127,7 @@ child_as i f g y e h = some_tree (child_at i f) (unseen (λ t. is_some (child_at
 
 -- ---- the parts that act
 
-acting_bare : (t : Forest) → acting (bare t) ≡ bare (acting t)
+pub acting_bare : (t : Forest) → acting (bare t) ≡ bare (acting t)
 acting_bare nothing = refl
 acting_bare (absent rest) = acting_bare rest
 acting_bare (node k n a rest) = ap₂ (λ b r. if b then node k nowhere (bare a) r else r) (acts_bare k n a) (acting_bare rest) ∙ if_acts (acts k n a)
@@ -170,6 +170,13 @@ kept_bare n m all same parts = ap₂ (λ b ps. is_some (if b then None else as_o
 list_bare : (n m : Note) (k : Kind) (t : Forest) → is_some (list_becomes n m k (bare t)) ≡ is_some (list_becomes n m k t)
 list_bare n m array_expression (node elements i parts nothing) = kept_bare n m has_spread spread_bare parts
 list_bare n m sequence_expression (node expressions i parts nothing) = kept_bare n m all_act all_act_bare parts
+list_bare n m template_literal (node quasis h texts (node expressions i parts nothing)) =
+    ap₂ (λ (b : Bool) ps. is_some (if b then as_one n m ps else None)) (combines_bare template_literal (node quasis h texts (node expressions i parts nothing))) (acting_bare parts)
+    ∙ if_combines (only_combines template_literal (node quasis h texts (node expressions i parts nothing)))
+  where
+    if_combines : (b : Bool) → is_some (if b then as_one n m (bare (acting parts)) else None) ≡ is_some (if b then as_one n m (acting parts) else None)
+    if_combines true = as_one_bare n m (acting parts)
+    if_combines false = refl
 list_bare n m k t = refl
 
 pub list_as : (n m : Note) (k : Kind) (f g : Forest) (y : Tree) → bare f ≡ bare g → list_becomes n m k g ≡ Some y → (z : Tree) × (list_becomes n m k f ≡ Some z)

@@ -44,6 +44,7 @@ use Rattle.steps.specs.Owed.Owed.{ByPart, ByParts}
 use Rattle.steps.proofs.Owed.ChoiceParts.{parts_of_if}
 use Rattle.steps.proofs.Owed.EmptyBlock.{holding_declares_none}
 use Rattle.steps.proofs.Owed.ExposedBare.{bare_below, bare_script}
+use Rattle.steps.proofs.Owed.FitsBecoming.{taken_as}
 use Rattle.steps.proofs.Owed.Expressions.{expression_declares_none, expression_stays_outside}
 use Rattle.steps.proofs.Owed.FitsEdits.{edit_fits, renoted_fits}
 use Rattle.steps.proofs.Owed.Focus.{something}
@@ -436,7 +437,7 @@ part_named : (a : Around) (x y : Tree) → ByPart a x y → Fits root (plug a (S
 part_named a x y owed fits = λ s calm. part_names s calm x.kind y.kind x.note y.note x.below y.below (owed.stands fits)
 
 parts_named : (a : Around) (x y : Tree) → ByParts a x y → Fits root (plug a (Some x)) → SameNames x y
-parts_named a x y owed fits = λ s calm. let old = owed.fits_expression fits in of_expression s (forest_of y) ((owed.takes fits).classes expression old) ∙ sym (of_expression s (forest_of x) old)
+parts_named a x y owed fits = λ s calm. let old = owed.fits_expression fits in of_expression s (forest_of y) (taken_as (owed.takes fits) expression refl old) ∙ sym (of_expression s (forest_of x) old)
 
 becomes_named : (a : Around) (x y : Tree) → Becomes a x y → Fits root (plug a (Some x)) → SameNames x y
 becomes_named a x y (silent_statement (silent_statement_empties n m l k held silent)) fits = λ s calm. empty_named s m ∙ sym (statement_named s n x.below)

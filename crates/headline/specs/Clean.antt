@@ -19,7 +19,7 @@ use Rattle.steps.specs.Allowed.KnownConditional.{KnownConditional}
 use Rattle.steps.specs.Allowed.KnownSide.{KnownSide}
 -- what nobody takes the value of, and the operand that acts
 use Rattle.steps.specs.Allowed.UnusedOperation.{UnusedOperation}
--- and an array or a sequence, and its parts that act
+-- and an array, a sequence or a template, and its parts that act
 use Rattle.steps.specs.Allowed.UnusedList.{UnusedList}
 -- and what is decided by what is known, and the part that counts, which may not stand there itself
 use Rattle.steps.specs.Allowed.IndirectChoice.{IndirectChoice}
@@ -27,7 +27,7 @@ use Rattle.steps.specs.Allowed.IndirectChoice.{IndirectChoice}
 use Rattle.steps.specs.Allowed.OneSidedChoice.{OneSidedChoice}
 -- and a sequence, and what counts of it
 use Rattle.steps.specs.Allowed.IdleParts.{IdleParts}
--- and a comparison that nobody takes the value of, of which both sides act
+-- and an operation that nobody takes the value of, of which both sides act, or a sum with a text beside what acts
 use Rattle.steps.specs.Allowed.TwoSides.{TwoSides}
 -- and an object literal that nobody takes the value of, and its values that act
 use Rattle.steps.specs.Allowed.UnusedObject.{UnusedObject}
@@ -90,10 +90,11 @@ pub data IsDead (unused imports : Bool) (t : Forest) : Around → Option Tree �
   -- a sequence of which a part before the last doesn't act, unless that is the one zero before a last part that may not stand there
   -- itself: it does nothing
   idle_parts : (a : Around) (x y : Tree) → IdleParts a x y → IsDead unused imports t a (Some x)
-  -- a comparison of which nobody takes the value and both sides act: it does nothing itself
+  -- an operation of which nobody takes the value and both sides act: it does nothing itself. Or a sum of which nobody takes the value, of a
+  -- text that isn't empty and what acts: which text it is does nothing
   two_sides : (a : Around) (x y : Tree) → TwoSides a x y → IsDead unused imports t a (Some x)
-  -- an object literal of which nobody takes the value, with plain keys, of which a value acts, and each that does may come out of it: it
-  -- does nothing itself, nor do the values that don't act
+  -- an object literal of which nobody takes the value, with keys that are plain or known to be primitive, of which a key or a value acts,
+  -- and each that does may come out of it: it does nothing itself, nor do the keys and values that don't act
   an_unused_object : (a : Around) (x y : Tree) → UnusedObject a x y → IsDead unused imports t a (Some x)
   -- an operation that doesn't act, of which the value is known and has a literal, or is a negative number that the operation isn't the sign
   -- of: it does nothing that the literal doesn't, or unary minus on one

@@ -70,7 +70,7 @@ spread_bare nothing = refl
 spread_bare (absent r) = spread_bare r
 spread_bare (node k n a r) = ap (λ (b : Bool). is_spread k || b) (spread_bare r)
 
-converts_bare : (k : Kind) (a : Forest) → converts_primitives bare_answers k (bare a) ≡ converts_primitives bare_answers k a
+pub converts_bare : (k : Kind) (a : Forest) → converts_primitives bare_answers k (bare a) ≡ converts_primitives bare_answers k a
 converts_bare (kind.UnaryExpression o) a = ap (λ ts. is_silent_unary o (all_primitive ts)) (types_bare a)
 converts_bare (kind.BinaryExpression o) a = ap (λ ts. is_silent_binary o (all_primitive ts)) (types_bare a)
 converts_bare kind.TemplateLiteral a = ap (λ b. all_primitive (types bare_answers b)) (below_bare a 1) ∙ ap all_primitive (types_bare (substitutions a))

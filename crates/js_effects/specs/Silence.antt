@@ -24,6 +24,11 @@ runs_entries k a = false
 abbrev pub runs_its_parts : Kind → (below : Forest) → Bool
 runs_its_parts k a = only_runs_parts k || (converts_primitives bare_answers k a || runs_entries k a)
 
+-- What gives a value of its parts and does nothing else, as far as their form tells: an operation that converts nothing, or primitive
+-- values alone, or compares, and a template of such values (ECMA-262 13.2.8, 13.5 to 13.12).
+abbrev pub only_combines : Kind → (below : Forest) → Bool
+only_combines k a = converts_primitives bare_answers k a
+
 -- A number's entry in a table of truth values; past its end, false.
 abbrev pub is_marked : List Bool → Option ℕ → Bool
 is_marked marks None = false

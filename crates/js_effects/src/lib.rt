@@ -26,6 +26,6 @@ pub use effects::has_side_effects;
 pub use evaluate::{binary_operation_evaluate_value, evaluate_value, evaluate_value_to_boolean};
 pub use min_options::PropertyReadSideEffects;
 pub use number::{in_range, string_to_equivalent_number_value};
-pub use silent::{is_marked, may_have_side_effects, none_has_side_effects};
+pub use silent::{is_marked, may_have_side_effects, none_has_side_effects, only_combines};
 pub use types::value_type;
 pub use value::{ConstantValue, ValueType};

@@ -58,6 +58,14 @@ fn runs_its_parts(node: &Node) -> bool
     only_runs_parts(node.kind()) || converts_primitives(node, &FormsAlone) || runs_entries(node)
 }
 
+/// Whether an operation or a template gives a value of its parts and does nothing else, as far as their form tells: what it converts is
+/// primitive, or nothing.
+pub fn only_combines(node: &Node) -> bool
+    ensures answer { result ≡ silence.only_combines node.now.kind node.now.below }
+{
+    converts_primitives(node, &FormsAlone)
+}
+
 /// A number's entry in a table of truth values; past its end, false.
 pub fn is_marked(marks: &[bool], number: Option<u32>) -> bool
     ensures answer { result ≡ silence.is_marked marks.now number }

@@ -26,5 +26,6 @@ pub mod Known
 pub mod Empty
 pub mod Unused
 pub mod Spared
+pub mod Texts
 pub mod Steady
 pub mod Signed

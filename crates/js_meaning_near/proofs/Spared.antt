@@ -1,6 +1,6 @@
 -- What operators, literals, sequences and choices waste of which nobody takes the value.
-use Rattle.std.proofs.Common.{◌≡◌, List, [], ◌∷◌, Some, refl, sym, ap, subst, ◌∙◌, arith}
-use Rattle.std.specs.Prelude.{ℤ, int_lt, int_le, Bool, true, false, ◌||◌}
+use Rattle.std.proofs.Common.{◌≡◌, List, [], ◌∷◌, refl, sym, ap, subst, ◌∙◌, arith}
+use Rattle.std.specs.Prelude.{ℤ, ◌+ℤ◌, ◌-ℤ◌, ◌*ℤ◌, neg_ℤ, unsigned_abs, int_lt, int_le, int_div, int_rem, nat_le, Option, Some, Bool, true, false, not, ◌&&◌, ◌||◌}
 use Rattle.js_syntax.specs.declared.node_kind.NodeKind.{NodeKind as Kind}
 use Rattle.js_syntax.specs.declared.operator.BinaryOperator.{BinaryOperator}
 use Rattle.js_syntax.specs.declared.operator.BinaryOperator.TheVariants as binary
@@ -9,12 +9,12 @@ use Rattle.js_syntax.specs.declared.operator.UnaryOperator.TheVariants as unary
 use Rattle.js_syntax.specs.declared.operator.LogicalOperator.{LogicalOperator}
 use Rattle.js_syntax.specs.declared.kind.PropertyKind.{PropertyKind}
 use Rattle.js_syntax.specs.declared.value.Key.{Key}
-use Rattle.js_syntax.specs.Core.{is_plain_property}
+use Rattle.js_syntax.specs.Core.{is_core_unary, is_core_binary, is_plain_property}
 use Rattle.js_syntax.specs.Facts.{is_core}
 use Rattle.js_syntax.specs.Node.{Note, Forest, nothing, node, absent}
-use Rattle.js_meaning.specs.Value.{Text, Env, Value, plain, boolean, number, object, no_content}
+use Rattle.js_meaning.specs.Value.{Text, Env, Plain, Value, plain, boolean, number, object, no_content}
 use Rattle.js_meaning.specs.State.{State, gives_all, Out, M, go_on, bind, done, stop, unknown, choose, give, if_gives, with_value, with_all, identity}
-use Rattle.js_meaning.specs.Operator.{truthy, goes_right, is_other, is_nullish, same_type, compare, loosely, on_numbers, answer_is, answer_not, known_binary, unary_of}
+use Rattle.js_meaning.specs.Operator.{truthy, goes_right, is_other, is_nullish, is_zero, is_negative, is_text, plain_text, same_type, compare, loosely, largest, whole as whole_number, signed, times, divided, remainder, joined, plus_plain, plus, on_number, on_numbers, answer_is, answer_not, known_binary, unary_of}
 use Rattle.js_meaning.specs.Host.{Enter}
 use Rattle.js_meaning.specs.Node.{run, now, entry, Meaning, need, may, values}
 use Rattle.js_meaning.specs.Expression.{wanted_by, binary_value, logical_value, object_content, in_turn}
@@ -28,7 +28,7 @@ use Rattle.js_meaning_near.specs.Purpose.{Purpose, ForEffect}
 use Rattle.js_meaning_near.specs.Fit.{whole, Fits}
 use Rattle.js_meaning_near.specs.Once.{NodeStays}
 use Rattle.js_meaning_near.specs.Local.{Stands, for_waste}
-use Rattle.js_meaning_near.specs.Unused.{Needed, all_needed, needed, not_needed, NeededValues, all_needed_values, needed_value, not_needed_value, is_total, compares, kind_of, below_of, expression_kind, expression_below, IsSome}
+use Rattle.js_meaning_near.specs.Unused.{Needed, all_needed, needed, not_needed, NeededValues, all_needed_values, needed_value, not_needed_value, only_answers, kind_of, below_of, expression_kind, expression_below, IsSome}
 use Rattle.js_meaning_near.proofs.Branches.{bare_asks}
 use Rattle.js_meaning_near.proofs.Effects.{value_on}
 use Rattle.js_meaning_near.proofs.Unused.{over, over_ends, all_value, part_in, silent_in, AllNodes, all_nodes, stands, hoists_kind}
@@ -74,26 +74,64 @@ numbers_answer op h v u = unknown_answers
 loosely_answers : (v u : Value) (k : Bool → M) → ((b : Bool) → Answers (k b)) → Answers (loosely v u k)
 loosely_answers v u k h = choice_answers (is_nullish v || is_nullish u) (h _) (choice_answers (same_type v u) (compared_answers v u k h) unknown_answers)
 
-known_answers : (o : BinaryOperator) (v u : Value) → compares o ≡ true → Answers (known_binary o v u)
-known_answers binary.Equality v u h = loosely_answers v u answer_is (λ b. give_answers _)
-known_answers binary.Inequality v u h = loosely_answers v u answer_not (λ b. give_answers _)
-known_answers binary.StrictEquality v u h = compared_answers v u answer_is (λ b. give_answers _)
-known_answers binary.StrictInequality v u h = compared_answers v u answer_not (λ b. give_answers _)
-known_answers binary.LessThan v u h = numbers_answer (λ a b. answer_is (int_lt a b)) (λ a b. give_answers (plain (boolean (int_lt a b)))) v u
-known_answers binary.LessEqualThan v u h = numbers_answer (λ a b. answer_is (int_le a b)) (λ a b. give_answers (plain (boolean (int_le a b)))) v u
-known_answers binary.GreaterThan v u h = numbers_answer (λ a b. answer_is (int_lt b a)) (λ a b. give_answers (plain (boolean (int_lt b a)))) v u
-known_answers binary.GreaterEqualThan v u h = numbers_answer (λ a b. answer_is (int_le b a)) (λ a b. give_answers (plain (boolean (int_le b a)))) v u
-known_answers o v u h = absurd (true_false (sym h))
+number_answers : (op : ℤ → M) → ((a : ℤ) → Answers (op a)) → (v : Value) → Answers (on_number op v)
+number_answers op h (plain (number a)) = h a
+number_answers op h v = unknown_answers
 
-binary_answers : (E : Enter) (o : BinaryOperator) (v u : Value) → compares o ≡ true → Answers (binary_value E o v u)
+whole_answers : (z : ℤ) → Answers (whole_number z)
+whole_answers z = choice_answers (nat_le (unsigned_abs z) largest) (give_answers (plain (number z))) unknown_answers
+
+signed_answers : (minus : Bool) (z : ℤ) → Answers (signed minus z)
+signed_answers minus z = choice_answers (is_zero z && minus) unknown_answers (whole_answers z)
+
+times_answers : (a b : ℤ) → Answers (times a b)
+times_answers a b = signed_answers (is_negative a || is_negative b) (a *ℤ b)
+
+divided_answers : (a b : ℤ) → Answers (divided a b)
+divided_answers a b = choice_answers (is_zero b || not (is_zero (int_rem a b))) unknown_answers (signed_answers (is_negative b) (int_div a b))
+
+remainder_answers : (a b : ℤ) → Answers (remainder a b)
+remainder_answers a b = choice_answers (is_zero b) unknown_answers (signed_answers (is_negative a) (int_rem a b))
+
+joined_answers : (a b : Option Text) → Answers (joined a b)
+joined_answers (Some a) (Some b) = give_answers _
+joined_answers a b = unknown_answers
+
+plain_answers : (p q : Plain) → Answers (plus_plain p q)
+plain_answers (number a) (number b) = whole_answers (a +ℤ b)
+plain_answers p q = choice_answers (is_text p || is_text q) (joined_answers (plain_text p) (plain_text q)) unknown_answers
+
+plus_answers : (v u : Value) → Answers (plus v u)
+plus_answers (plain p) (plain q) = plain_answers p q
+plus_answers v u = unknown_answers
+
+known_answers : (o : BinaryOperator) (v u : Value) → Answers (known_binary o v u)
+known_answers binary.Equality v u = loosely_answers v u answer_is (λ b. give_answers _)
+known_answers binary.Inequality v u = loosely_answers v u answer_not (λ b. give_answers _)
+known_answers binary.StrictEquality v u = compared_answers v u answer_is (λ b. give_answers _)
+known_answers binary.StrictInequality v u = compared_answers v u answer_not (λ b. give_answers _)
+known_answers binary.LessThan v u = numbers_answer (λ a b. answer_is (int_lt a b)) (λ a b. give_answers (plain (boolean (int_lt a b)))) v u
+known_answers binary.LessEqualThan v u = numbers_answer (λ a b. answer_is (int_le a b)) (λ a b. give_answers (plain (boolean (int_le a b)))) v u
+known_answers binary.GreaterThan v u = numbers_answer (λ a b. answer_is (int_lt b a)) (λ a b. give_answers (plain (boolean (int_lt b a)))) v u
+known_answers binary.GreaterEqualThan v u = numbers_answer (λ a b. answer_is (int_le b a)) (λ a b. give_answers (plain (boolean (int_le b a)))) v u
+known_answers binary.Addition v u = plus_answers v u
+known_answers binary.Subtraction v u = numbers_answer (λ a b. whole_number (a -ℤ b)) (λ a b. whole_answers (a -ℤ b)) v u
+known_answers binary.Multiplication v u = numbers_answer times times_answers v u
+known_answers binary.Division v u = numbers_answer divided divided_answers v u
+known_answers binary.Remainder v u = numbers_answer remainder remainder_answers v u
+known_answers o v u = unknown_answers
+
+binary_answers : (E : Enter) (o : BinaryOperator) (v u : Value) → only_answers o ≡ true → Answers (binary_value E o v u)
 binary_answers E binary.In v u h = absurd (true_false (sym h))
 binary_answers E binary.Instanceof v u h = absurd (true_false (sym h))
-binary_answers E o v u h = choice_answers (is_other v || is_other u) unknown_answers (known_answers o v u h)
+binary_answers E o v u h = choice_answers (is_other v || is_other u) unknown_answers (known_answers o v u)
 
-unary_answers : (o : UnaryOperator) (v : Value) → is_total o ≡ true → Answers (unary_of o v)
+unary_answers : (o : UnaryOperator) (v : Value) → is_core_unary o ≡ true → Answers (unary_of o v)
 unary_answers unary.LogicalNot v h = give_answers _
 unary_answers unary.Void v h = give_answers _
 unary_answers unary.Typeof v h = give_answers _
+unary_answers unary.UnaryNegation v h = number_answers (λ a. signed true (neg_ℤ a)) (λ a. signed_answers true (neg_ℤ a)) v
+unary_answers unary.UnaryPlus v h = number_answers whole_number whole_answers v
 unary_answers o v h = absurd (true_false (sym h))
 
 -- a part in front, whose value whatever follows may see
@@ -109,7 +147,7 @@ last_wasted : {st : Names} {E : Enter} {env : Env} {ps : Forest} {m : M} → Nee
 unfolding eval
 last_wasted all_needed h = wastes_nothing h.ends
 
-statement_is : (E : Enter) (k : Kind) (n : Note) (a : Forest) (ls : List Text) (env : Env) → with_value (meaning E k a now env) over ≡ meaning E Kind.ExpressionStatement (node k n a nothing) (run ls) env
+pub statement_is : (E : Enter) (k : Kind) (n : Note) (a : Forest) (ls : List Text) (env : Env) → with_value (meaning E k a now env) over ≡ meaning E Kind.ExpressionStatement (node k n a nothing) (run ls) env
 unfolding need eval over
 statement_is E k n a ls env = refl
 
@@ -126,45 +164,33 @@ core_does false m env h = absurd (true_false (sym h))
 
 -- operators
 
-total_core : (o : UnaryOperator) → is_total o ≡ true → is_core (Kind.UnaryExpression o) ≡ true
-total_core unary.LogicalNot h = refl
-total_core unary.Void h = refl
-total_core unary.Typeof h = refl
-total_core o h = absurd (true_false (sym h))
-
 unary_does : (E : Enter) (o : UnaryOperator) (k : Kind) (i : Note) (a : Forest) (env : Env) → stands_bare (wanted_by o) k a ≡ true → does E (Kind.UnaryExpression o) (node k i a nothing) (eval E (node k i a nothing)) now env ≡ with_value (meaning E k a now env) (unary_of o)
 unfolding need eval
 unary_does E o k i a env h = ap (λ m. with_value m (unary_of o)) (bare_asks E (wanted_by o) k a env h)
 
-pub unary_wasted : (st : Names) (o : UnaryOperator) (k : Kind) (n i j : Note) (a ps : Forest) → is_total o ≡ true → stands_bare (wanted_by o) k a ≡ true → Needed st (node k i a nothing) ps
+pub unary_wasted : (st : Names) (o : UnaryOperator) (k : Kind) (n i j : Note) (a ps : Forest) → is_core_unary o ≡ true → stands_bare (wanted_by o) k a ≡ true → Needed st (node k i a nothing) ps
     → SameEffects st (node (Kind.UnaryExpression o) n (node k i a nothing) nothing) (kind_of ps) (below_of j ps) ps ps
 unary_wasted st o k n i j a ps t h x = wastes_parts (Kind.UnaryExpression o) n j (node k i a nothing) ps (all_nodes x) (λ E env b.
-    subst (λ m. Wastes E st env m (eval E ps)) (sym (ap (λ m. with_value m over) (core_does (is_core (Kind.UnaryExpression o)) (does E (Kind.UnaryExpression o) (node k i a nothing) (eval E (node k i a nothing))) env (total_core o t) ∙ unary_does E o k i a env h) ∙ value_on (meaning E k a now env) (unary_of o) over))
+    subst (λ m. Wastes E st env m (eval E ps)) (sym (ap (λ m. with_value m over) (core_does (is_core (Kind.UnaryExpression o)) (does E (Kind.UnaryExpression o) (node k i a nothing) (eval E (node k i a nothing))) env t ∙ unary_does E o k i a env h) ∙ value_on (meaning E k a now env) (unary_of o) over))
     (first_wasted b x (λ qs y v. last_wasted y (unary_answers o v t))))
 
-compares_core : (o : BinaryOperator) → compares o ≡ true → is_core (Kind.BinaryExpression o) ≡ true
-compares_core binary.Equality h = refl
-compares_core binary.Inequality h = refl
-compares_core binary.StrictEquality h = refl
-compares_core binary.StrictInequality h = refl
-compares_core binary.LessThan h = refl
-compares_core binary.LessEqualThan h = refl
-compares_core binary.GreaterThan h = refl
-compares_core binary.GreaterEqualThan h = refl
-compares_core o h = absurd (true_false (sym h))
+answers_core : (o : BinaryOperator) → only_answers o ≡ true → is_core_binary o ≡ true
+answers_core binary.In h = absurd (true_false (sym h))
+answers_core binary.Instanceof h = absurd (true_false (sym h))
+answers_core o h = h
 
-binary_does : (E : Enter) (o : BinaryOperator) (k l : Kind) (n m : Note) (a b : Forest) (env : Env)
+pub binary_does : (E : Enter) (o : BinaryOperator) (k l : Kind) (n m : Note) (a b : Forest) (env : Env)
     → does E (Kind.BinaryExpression o) (node k n a (node l m b nothing)) (eval E (node k n a (node l m b nothing))) now env ≡ with_value (meaning E k a now env) (λ v. with_value (meaning E l b now env) (binary_value E o v))
 unfolding need eval
 binary_does E o k l n m a b env = refl
 
-two_on : (m n : M) (f : Value → Value → M) (g : Value → M) → with_value (with_value m (λ v. with_value n (f v))) g ≡ with_value m (λ v. with_value n (λ u. with_value (f v u) g))
+pub two_on : (m n : M) (f : Value → Value → M) (g : Value → M) → with_value (with_value m (λ v. with_value n (f v))) g ≡ with_value m (λ v. with_value n (λ u. with_value (f v u) g))
 two_on m n f g = value_on m (λ v. with_value n (f v)) g ∙ ap (with_value m) (λ i v. value_on n (f v) g i)
 
-pub binary_wasted : (st : Names) (o : BinaryOperator) (k l : Kind) (n i m j : Note) (a b ps : Forest) → compares o ≡ true → Needed st (node k i a (node l m b nothing)) ps
+pub binary_wasted : (st : Names) (o : BinaryOperator) (k l : Kind) (n i m j : Note) (a b ps : Forest) → only_answers o ≡ true → Needed st (node k i a (node l m b nothing)) ps
     → SameEffects st (node (Kind.BinaryExpression o) n (node k i a (node l m b nothing)) nothing) (kind_of ps) (below_of j ps) ps ps
 binary_wasted st o k l n i m j a b ps t x = wastes_parts (Kind.BinaryExpression o) n j (node k i a (node l m b nothing)) ps (all_nodes x) (λ E env c.
-    subst (λ m. Wastes E st env m (eval E ps)) (sym (ap (λ m. with_value m over) (core_does (is_core (Kind.BinaryExpression o)) (does E (Kind.BinaryExpression o) (node k i a (node l m b nothing)) (eval E (node k i a (node l m b nothing)))) env (compares_core o t)
+    subst (λ m. Wastes E st env m (eval E ps)) (sym (ap (λ m. with_value m over) (core_does (is_core (Kind.BinaryExpression o)) (does E (Kind.BinaryExpression o) (node k i a (node l m b nothing)) (eval E (node k i a (node l m b nothing)))) env (answers_core o t)
     ∙ binary_does E o k l i m a b env) ∙ two_on (meaning E k a now env) (meaning E l b now env) (binary_value E o) over))
     (first_wasted c x (λ qs y v. first_wasted c y (λ rs z u. last_wasted z (binary_answers E o v u t)))))
 

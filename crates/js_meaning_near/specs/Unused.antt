@@ -4,10 +4,8 @@ use Rattle.js_syntax.specs.declared.node_kind.NodeKind.{NodeKind as Kind}
 use Rattle.js_syntax.specs.declared.kind.PropertyKind.{PropertyKind}
 use Rattle.js_syntax.specs.declared.operator.BinaryOperator.{BinaryOperator}
 use Rattle.js_syntax.specs.declared.operator.BinaryOperator.TheVariants as binary
-use Rattle.js_syntax.specs.declared.operator.UnaryOperator.{UnaryOperator}
-use Rattle.js_syntax.specs.declared.operator.UnaryOperator.TheVariants as unary
 use Rattle.js_syntax.specs.declared.value.Key.{Key}
-use Rattle.js_syntax.specs.Core.{is_plain_property}
+use Rattle.js_syntax.specs.Core.{is_core_binary, is_plain_property}
 use Rattle.js_syntax.specs.Node.{Note, Forest, nothing, node, absent}
 use Rattle.js_meaning_near.specs.Names.{Names}
 use Rattle.js_meaning_near.specs.Near.{Silent}
@@ -26,24 +24,12 @@ pub data NeededValues (st : Names) : Forest → Forest → Type 0 where
   not_needed_value : {how : PropertyKind} {method : Bool} {key : Key} {k : Kind} {n m : Note} {a t r s : Forest} → is_plain_property how key ≡ true → Silent st k a → NeededValues st r s
       → NeededValues st (node (Kind.Property how method key) n (absent (node k m a t)) r) s
 
--- operators that give a value, whatever they are applied to (13.5.2, 13.5.3, 13.5.7)
-abbrev pub is_total : UnaryOperator → Bool
-is_total unary.LogicalNot = true
-is_total unary.Void = true
-is_total unary.Typeof = true
-is_total o = false
-
--- equality and order (13.10, 13.11)
-abbrev pub compares : BinaryOperator → Bool
-compares binary.Equality = true
-compares binary.Inequality = true
-compares binary.StrictEquality = true
-compares binary.StrictInequality = true
-compares binary.LessThan = true
-compares binary.LessEqualThan = true
-compares binary.GreaterThan = true
-compares binary.GreaterEqualThan = true
-compares o = false
+-- Operators whose values are all known, or uncovered, so that nobody can tell that they were applied: `in` and `instanceof` ask an object
+-- (13.10.1), and of operators that aren't core nothing is said.
+abbrev pub only_answers : BinaryOperator → Bool
+only_answers binary.In = false
+only_answers binary.Instanceof = false
+only_answers o = is_core_binary o
 
 -- parts as a statement: none, one, or more in a sequence
 abbrev pub kind_of : Forest → Kind

@@ -2,6 +2,7 @@
 ghost use Rattle.std.specs.Prelude.{◌≡◌, Bool, true, false, List};
 ghost use Rattle.js_syntax.specs.declared.node_kind.NodeKind.{NodeKind as Kind};
 ghost use Rattle.js_syntax.specs.declared.value.LiteralValue.{LiteralValue as Literal};
+ghost use Rattle.js_syntax.specs.Core.{is_core_unary};
 ghost use Rattle.js_syntax.specs.Node.{Note, Forest, nothing, node};
 ghost use Rattle.js_meaning.specs.Value.{Text, Plain, literal_value};
 ghost use Rattle.js_meaning.specs.Operator.{truthy, goes_right};
@@ -15,13 +16,14 @@ ghost use Rattle.js_meaning_near.specs.Purpose.{Purpose, ForEffect, asked, Purpo
 ghost use Rattle.js_meaning_near.specs.Bare.{stands_bare};
 ghost use Rattle.js_meaning_near.specs.Near.{is_blunt, is_calm, hoists_nothing, ComesTo, Silent, SameEffects, Shorter, Row, items, Near, NearModule, LooseModule, module_of};
 ghost use Rattle.js_meaning_near.specs.Rewritten.{Rewritten};
-ghost use Rattle.js_meaning_near.specs.Unused.{Needed, NeededValues, is_total, compares, kind_of, below_of, expression_kind, expression_below, IsSome};
+ghost use Rattle.js_meaning_near.specs.Unused.{Needed, NeededValues, only_answers, kind_of, below_of, expression_kind, expression_below, IsSome};
 ghost use Rattle.js_syntax.specs.declared.operator.LogicalOperator.{LogicalOperator};
 ghost use Rattle.js_syntax.specs.declared.operator.LogicalOperator.TheVariants as logical;
 ghost use Rattle.js_syntax.specs.declared.operator.BinaryOperator.{BinaryOperator};
 ghost use Rattle.js_syntax.specs.declared.operator.BinaryOperator.TheVariants as binary;
 ghost use Rattle.js_syntax.specs.declared.operator.UnaryOperator.{UnaryOperator};
 ghost use Rattle.js_syntax.specs.declared.operator.UnaryOperator.TheVariants as unary;
+ghost use Rattle.js_meaning_near.specs.Examples.{sum, text_of};
 ghost use Rattle.js_meaning_near.specs.Known.{Knows, Steady, DeclaredOnce, empty_code};
 ghost use Rattle.js_syntax.specs.declared.kind.FunctionKind.TheVariants as function_kind;
 ghost use Rattle.js_meaning_near.specs.Fit.{Part, whole, Fits};
@@ -140,12 +142,19 @@ pub fn unused_values_waste_their_parts()
         SameEffects st (node (Kind.UnaryExpression unary.LogicalNot) n (node (Kind.BinaryExpression binary.StrictEquality) m (node k i a (node (Kind.Literal v) j nothing nothing)) nothing) nothing) Kind.ExpressionStatement (node k i a nothing) (node k i a nothing) (node k i a nothing) }
 {}
 
-/// So does a total operator to its operand, where it takes that as a value; and a comparison to its sides.
+/// So does a unary operator to its operand, where it takes that as a value, and a binary one to its sides, but for `in` and `instanceof`:
+/// what an operator does to values is known, or uncovered.
 pub fn unused_operators_waste_their_operands()
-    ensures total { (st : Names) (o : UnaryOperator) (k : Kind) (n i j : Note) (a ps : Forest) → is_total o ≡ true → stands_bare (wanted_by o) k a ≡ true → Needed st (node k i a nothing) ps →
+    ensures unary { (st : Names) (o : UnaryOperator) (k : Kind) (n i j : Note) (a ps : Forest) → is_core_unary o ≡ true → stands_bare (wanted_by o) k a ≡ true → Needed st (node k i a nothing) ps →
         SameEffects st (node (Kind.UnaryExpression o) n (node k i a nothing) nothing) (kind_of ps) (below_of j ps) ps ps }
-    ensures comparison { (st : Names) (o : BinaryOperator) (k l : Kind) (n i m j : Note) (a b ps : Forest) → compares o ≡ true → Needed st (node k i a (node l m b nothing)) ps →
+    ensures binary { (st : Names) (o : BinaryOperator) (k l : Kind) (n i m j : Note) (a b ps : Forest) → only_answers o ≡ true → Needed st (node k i a (node l m b nothing)) ps →
         SameEffects st (node (Kind.BinaryExpression o) n (node k i a (node l m b nothing)) nothing) (kind_of ps) (below_of j ps) ps ps }
+{}
+
+/// A sum of which nobody takes the value does as much with another text on one side: what stands on the other is converted alike.
+pub fn a_text_in_an_unused_sum_may_be_another()
+    ensures first { (st : Names) (s t : Text) (k : Kind) (n m i h j : Note) (a b c : Forest) → SameEffects st (sum n (text_of s i a (node k j b nothing))) Kind.ExpressionStatement (sum m (text_of t h c (node k j b nothing))) (sum m (text_of t h c (node k j b nothing))) (sum m (text_of t h c (node k j b nothing))) }
+    ensures second { (st : Names) (s t : Text) (k : Kind) (n m i h j : Note) (a b c : Forest) → SameEffects st (sum n (node k j b (text_of s i a nothing))) Kind.ExpressionStatement (sum m (node k j b (text_of t h c nothing))) (sum m (node k j b (text_of t h c nothing))) (sum m (node k j b (text_of t h c nothing))) }
 {}
 
 /// An object literal to the values of its properties, and a sequence to its parts, where these aren't silent.

@@ -11,8 +11,8 @@ use Rattle.min_context.specs.Seen.{Seen}
 use Rattle.steps.specs.Allowed.IndirectChoice.{truth_beside, way_beside, one_of, if_so, behind, behind_test}
 use Rattle.min_expressions.specs.BehindTest.{leaving, branch_leaves, is_so, right_follows}
 use Rattle.min_expressions.proofs.Chosen.{three}
-use Rattle.min_expressions.proofs.Leaving.{leaves_none, emptied, edits_to}
-use Rattle.min_expressions.proofs.Lists.{made, made_counts, no_list}
+use Rattle.min_expressions.proofs.Leaving.{emptied, edits_to}
+use Rattle.min_expressions.proofs.Lists.{made, StaysInTurn, no_list}
 use Rattle.min_expressions.proofs.Sided.{three_in}
 
 -- ---- of a conditional: what stays and what leaves
@@ -83,18 +83,12 @@ tested_edits {c = c} {d = d} {e = e} {v = v} {y = y} x at w n m is gone kind not
 
 -- ---- of a logical expression: nothing leaves
 
-pub record IsLeft (k : Kind) (t : Forest) : Type 0 where
-  pub becomes : (n m : Note) → behind_test n m k t ≡ Some (made n m t)
-  -- it doesn't count itself
-  pub no_id : (r : ℕ) (n : Note) (b : Forest) → ids r (alone k n b) ≡ ids r b
-  pub no_eval : (n : Note) (b : Forest) → evals (alone k n b) ≡ evals b
-
 so_true : (known : Option Bool) → is_so known ≡ true → known ≡ Some true
 so_true (Some true) e = refl
 so_true (Some false) e = absurd Prim.cc
 so_true None e = absurd Prim.cc
 
-pub is_left : (k : Kind) (t : Forest) → right_follows k t ≡ true → IsLeft k t
+pub is_left : (k : Kind) (t : Forest) → right_follows k t ≡ true → StaysInTurn behind_test k t
 is_left (logical_expression o) (node k i a (node l j b nothing)) e = record {
   becomes = λ n m. ap (λ (known : Option Bool). behind n m (record { kind = k; note = i; below = a }) (if_so known (record { kind = l; note = j; below = b }))) (so_true (way_beside o k i a) e);
   no_id = λ r n b. Prim.omega arith;
@@ -109,13 +103,6 @@ is_left (logical_expression o) (node k i a (node l j b (node h p c nothing))) e 
 is_left (logical_expression o) (node k i a (node l j b (node h p c (absent rest)))) e = no_list e
 is_left (logical_expression o) (node k i a (node l j b (node h p c (node q u d rest)))) e = no_list e
 is_left k t e = no_list e
-
-pub left_edits : {c e : Seen} {v y : Tree} (x : Tree) (n m : Note) → IsLeft x.kind x.below → y ≡ made n m x.below → v.kind ≡ x.kind → v.note ≡ x.note → v.below ≡ nothing → DropsNode c v e → Edited c x y true e
-left_edits {c = c} {e = e} {v = v} {y = y} x n m w is kind note empty itself =
-    let s = made_counts n m x.below y (ap Some (sym is)) in
-    edits_to c c e x y (leaves_none c) (subst (λ u. DropsNode c u e) (emptied v x.kind x.note kind note empty) itself)
-    (λ r. Prim.omega (arith, w.no_id r x.note x.below, w.no_id r x.note nothing, s.same_ids r))
-    (Prim.omega (arith, w.no_eval x.note x.below, w.no_eval x.note nothing, s.same_evals))
 
 -- ---- where neither does, the rule answers nothing
 

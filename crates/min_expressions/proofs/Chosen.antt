@@ -110,10 +110,6 @@ module _ (s : Spot) where
   conditional_there conditional_expression t i e = parts_there t i e
   conditional_there k t i e = no_index e
 
-  pub conditional_is_no_call : (k : Kind) (t : Forest) (i : ℕ) → conditional_keeps s k t ≡ Some i → is_call k ≡ false
-  conditional_is_no_call conditional_expression t i e = refl
-  conditional_is_no_call k t i e = no_index e
-
   -- ---- the side of a logical expression
 
   side_chosen : (right : Option Bool) (x y : Tree) → chosen (side_kept s right x y) (two x y) ≡ side_taken s right x y
@@ -155,7 +151,3 @@ module _ (s : Spot) where
   pub logical_there : (k : Kind) (t : Forest) (i : ℕ) → logical_keeps s k t ≡ Some i → is_some (child_at i t) ≡ true
   logical_there (logical_expression o) t i e = sides_there o t i e
   logical_there k t i e = no_index e
-
-  pub logical_is_no_call : (k : Kind) (t : Forest) (i : ℕ) → logical_keeps s k t ≡ Some i → is_call k ≡ false
-  logical_is_no_call (logical_expression o) t i e = refl
-  logical_is_no_call k t i e = no_index e

@@ -7,7 +7,9 @@ pub mod Behind
 pub mod Sided
 pub mod BehindTest
 pub mod Sequences
+pub mod Templates
 pub mod TwoSides
+pub mod Emptied
 pub mod Objects
 pub mod Negative
 pub mod Pairing

@@ -14,12 +14,11 @@ use Rattle.min_context.specs.Seen.{Seen}
 use Rattle.steps.specs.Allowed.UnusedOperation.{acts}
 use Rattle.steps.specs.Allowed.UnusedList.{acting, all_act, is_spread, has_spread, as_one, list_becomes}
 use Rattle.steps.specs.Allowed.Uses.{as_value, stands_bare}
-use Rattle.rules.specs.Expressions.Uses.{Spot}
-use Rattle.rules.specs.Expressions.Lists.{new_note, list_note, unused_list_becomes}
+use Rattle.rules.specs.Expressions.Lists.{new_note, list_note}
 use Rattle.min_expressions.specs.Kept.{child_at}
-use Rattle.min_expressions.specs.Lists.{only, item_acts, idle, Found, none, one, several, found_with, found_from, is_enough, are_one, array_goes, sequence_goes, list_goes}
+use Rattle.min_expressions.specs.Lists.{only, item_acts, idle, Found, none, one, several, found_with, found_from, is_enough, are_one, array_goes, sequence_goes, parts_go}
 use Rattle.min_expressions.specs.Unused.{tree_acts}
-use Rattle.min_expressions.proofs.Leaving.{Adds, ids_add, evals_add, leaves_more, same_some, found, emptied, edits_to}
+use Rattle.min_expressions.proofs.Leaving.{leaves_none, Adds, ids_add, evals_add, leaves_more, same_some, found, emptied, edits_to}
 
 -- ---- asked of one part after another
 
@@ -182,20 +181,6 @@ pub if_bare : (b : Bool) (x : Tree) → b ≡ true → (if b then Some x else No
 if_bare true x e = refl
 if_bare false x e = absurd (true≢false (sym e))
 
-pub one_is : (n m : Note) (parts : Forest) (x : Tree) → are_one parts ≡ true → only parts ≡ Some x → as_one n m parts ≡ Some x
-one_is n m nothing x e f = no_node f
-one_is n m (absent rest) x e f = no_node f
-one_is n m (node k i a nothing) x e f = if_bare (stands_bare as_value false k a) (record { kind = k; note = i; below = a }) e ∙ f
-one_is n m (node k i a (absent rest)) x e f = no_node f
-one_is n m (node k i a (node l j b rest)) x e f = no_node f
-
-pub several_are : (n m : Note) (parts : Forest) → are_one parts ≡ true → only parts ≡ None → as_one n m parts ≡ Some (made n m parts)
-several_are n m nothing e f = absurd (true≢false (sym e))
-several_are n m (absent rest) e f = refl
-several_are n m (node k i a nothing) e f = no_node (sym f)
-several_are n m (node k i a (absent rest)) e f = refl
-several_are n m (node k i a (node l j b rest)) e f = refl
-
 -- ---- the list of an array or of a sequence
 
 -- the only child of a node
@@ -225,9 +210,6 @@ one_same n m (node k i a nothing) = if_stands (stands_bare as_value false k a)
 one_same n m (node k i a (absent rest)) = refl
 one_same n m (node k i a (node l j b rest)) = refl
 
-as_one_is_one : (n m : Note) (parts : Forest) → is_some (as_one n m parts) ≡ true → are_one parts ≡ true
-as_one_is_one n m parts e = sym (one_same n m parts) ∙ e
-
 unless : (b : Bool) (o : Option Tree) → is_some (if b then None else o) ≡ true → (b ≡ false) × (is_some o ≡ true)
 unless true o e = absurd (true≢false (sym e))
 unless false o e = (refl, e)
@@ -255,22 +237,28 @@ sequence_list i parts = record {
   list_no_eval = Prim.omega arith;
 }
 
-pub list_of : (n m : Note) (k : Kind) (t : Forest) → is_some (list_becomes n m k t) ≡ true → IsListOf k t
-list_of n m array_expression (node elements i parts nothing) e =
-    let w = unless (has_spread parts) (as_one n m (acting parts)) e in
-    record {
-      has = array_list i parts;
-      becomes = λ p q. ap (λ (b : Bool). if b then None else as_one p q (acting parts)) w.0;
-      is_one = as_one_is_one n m (acting parts) w.1;
-    }
-list_of n m sequence_expression (node expressions i parts nothing) e =
-    let w = unless (all_act parts) (as_one n m (acting parts)) e in
-    record {
-      has = sequence_list i parts;
-      becomes = λ p q. ap (λ (b : Bool). if b then None else as_one p q (acting parts)) w.0;
-      is_one = as_one_is_one n m (acting parts) w.1;
-    }
-list_of n m k t e = no_list e
+not_so : (b c : Bool) → not b && c ≡ true → (b ≡ false) × (c ≡ true)
+not_so true c e = absurd (true≢false (sym e))
+not_so false c e = (refl, e)
+
+pub list_of : (k : Kind) (t : Forest) → parts_go k t ≡ true → IsListOf k t
+list_of array_expression (node elements i parts nothing) e =
+    let w = not_so (has_spread parts) (are_one (acting parts)) e in
+    record { has = array_list i parts; becomes = λ p q. ap (λ (b : Bool). if b then None else as_one p q (acting parts)) w.0; is_one = w.1 }
+list_of array_expression nothing e = no_list e
+list_of array_expression (absent rest) e = no_list e
+list_of array_expression (node k i parts nothing) e = no_list e
+list_of array_expression (node k i parts (absent rest)) e = no_list e
+list_of array_expression (node k i parts (node l j b rest)) e = no_list e
+list_of sequence_expression (node expressions i parts nothing) e =
+    let w = not_so (all_act parts) (are_one (acting parts)) e in
+    record { has = sequence_list i parts; becomes = λ p q. ap (λ (b : Bool). if b then None else as_one p q (acting parts)) w.0; is_one = w.1 }
+list_of sequence_expression nothing e = no_list e
+list_of sequence_expression (absent rest) e = no_list e
+list_of sequence_expression (node k i parts nothing) e = no_list e
+list_of sequence_expression (node k i parts (absent rest)) e = no_list e
+list_of sequence_expression (node k i parts (node l j b rest)) e = no_list e
+list_of k t e = no_list e
 
 -- the row that it stands in alone
 abbrev pub behind : Forest → Forest
@@ -316,6 +304,19 @@ counts n m (node k i a nothing) y e = alone_counts (stands_bare as_value false k
 counts n m (node k i a (absent rest)) y e = made_counts n m (node k i a (absent rest)) y e
 counts n m (node k i a (node l j b rest)) y e = made_counts n m (node k i a (node l j b rest)) y e
 
+-- A node that becomes the sequence of all that lies below it by a rule, and counts nothing itself.
+pub record StaysInTurn (rule : Note → Note → Kind → Forest → Option Tree) (k : Kind) (t : Forest) : Type 0 where
+  pub becomes : (n m : Note) → rule n m k t ≡ Some (made n m t)
+  pub no_id : (r : ℕ) (n : Note) (b : Forest) → ids r (alone k n b) ≡ ids r b
+  pub no_eval : (n : Note) (b : Forest) → evals (alone k n b) ≡ evals b
+
+pub in_turn_edits : {c e : Seen} {v y : Tree} {rule : Note → Note → Kind → Forest → Option Tree} (x : Tree) (n m : Note) → StaysInTurn rule x.kind x.below → y ≡ made n m x.below → v.kind ≡ x.kind → v.note ≡ x.note → v.below ≡ nothing → DropsNode c v e → Edited c x y true e
+in_turn_edits {c = c} {e = e} {v = v} {y = y} x n m w is kind note empty itself =
+    let s = made_counts n m x.below y (ap Some (sym is)) in
+    edits_to c c e x y (leaves_none c) (subst (λ u. DropsNode c u e) (emptied v x.kind x.note kind note empty) itself)
+    (λ r. Prim.omega (arith, w.no_id r x.note x.below, w.no_id r x.note nothing, s.same_ids r))
+    (Prim.omega (arith, w.no_eval x.note x.below, w.no_eval x.note nothing, s.same_evals))
+
 -- of the list of x all left but for what y has
 pub parts_edits : {c d e : Seen} {v y l : Tree} {gone : ℕ → ℕ} {calls : ℕ} (x : Tree) (w : HasList x.kind x.below) → l ≡ w.list → ((r : ℕ) → ids r l.below ≡ gone r + ids r (forest_of y)) → evals l.below ≡ calls + evals (forest_of y)
     → v.kind ≡ x.kind → v.note ≡ x.note → v.below ≡ nothing → Leaves c gone calls d → DropsNode d v e → Edited c x y true e
@@ -345,7 +346,7 @@ pub unless_same : (b : Bool) (o : Option Tree) (c : Bool) → is_some o ≡ c �
 unless_same true o c e = refl
 unless_same false o c e = e
 
-array_same : (n m : Note) (t : Forest) → is_some (list_becomes n m array_expression t) ≡ array_goes (only t)
+pub array_same : (n m : Note) (t : Forest) → is_some (list_becomes n m array_expression t) ≡ array_goes (only t)
 array_same n m nothing = refl
 array_same n m (absent rest) = refl
 array_same n m (node elements i parts nothing) = unless_same (has_spread parts) (as_one n m (acting parts)) (are_one (acting parts)) (one_same n m (acting parts))
@@ -355,7 +356,7 @@ array_same n m (node k i parts nothing) = refl
 array_same n m (node k i parts (absent rest)) = refl
 array_same n m (node k i parts (node l j b rest)) = refl
 
-sequence_same : (n m : Note) (t : Forest) → is_some (list_becomes n m sequence_expression t) ≡ sequence_goes (only t)
+pub sequence_same : (n m : Note) (t : Forest) → is_some (list_becomes n m sequence_expression t) ≡ sequence_goes (only t)
 sequence_same n m nothing = refl
 sequence_same n m (absent rest) = refl
 sequence_same n m (node expressions i parts nothing) = unless_same (all_act parts) (as_one n m (acting parts)) (are_one (acting parts)) (one_same n m (acting parts))
@@ -369,29 +370,14 @@ pub if_unused : (b : Bool) (o : Option Tree) (c : Bool) → is_some o ≡ c → 
 if_unused true o c e = e
 if_unused false o c e = refl
 
-if_none : (b : Bool) → is_some {T = Tree} (if b then None else None) ≡ false
+pub if_none : (b : Bool) → is_some {T = Tree} (if b then None else None) ≡ false
 if_none true = refl
 if_none false = refl
 
-pub goes_same : (s : Spot) (n : Note) (k : Kind) (t : Forest) → is_some (unused_list_becomes s n k t) ≡ list_goes s k t
-goes_same s n array_expression t = if_unused s.is_unused _ _ (array_same (new_note n) (new_note (list_note t)) t)
-goes_same s n sequence_expression t = if_unused s.is_unused _ _ (sequence_same (new_note n) (new_note (list_note t)) t)
-goes_same s n k t = if_none s.is_unused
-
-used : (b : Bool) (o : Option Tree) → is_some (if b then o else None) ≡ true → (b ≡ true) × (is_some o ≡ true)
+pub used : (b : Bool) (o : Option Tree) → is_some (if b then o else None) ≡ true → (b ≡ true) × (is_some o ≡ true)
 used true o e = (refl, e)
 used false o e = absurd (true≢false (sym e))
 
 pub no_tree : (o : Option Tree) → is_some o ≡ false → o ≡ None
 no_tree None e = refl
 no_tree (Some x) e = absurd (true≢false e)
-
-module _ (s : Spot) (n : Note) (k : Kind) (t : Forest) where
-  pub goes_there : list_goes s k t ≡ true → is_some (list_becomes (new_note n) (new_note (list_note t)) k t) ≡ true
-  goes_there e = (used s.is_unused (list_becomes (new_note n) (new_note (list_note t)) k t) (goes_same s n k t ∙ e)).1
-
-  pub list_left : (y : Tree) → list_goes s k t ≡ true → list_becomes (new_note n) (new_note (list_note t)) k t ≡ Some y → unused_list_becomes s n k t ≡ Some y
-  list_left y e f = ap (λ b. if b then list_becomes (new_note n) (new_note (list_note t)) k t else None) (used s.is_unused (list_becomes (new_note n) (new_note (list_note t)) k t) (goes_same s n k t ∙ e)).0 ∙ f
-
-  pub list_stays : list_goes s k t ≡ false → unused_list_becomes s n k t ≡ None
-  list_stays e = no_tree (unused_list_becomes s n k t) (goes_same s n k t ∙ e)

@@ -2,13 +2,13 @@
 use Rattle.std.proofs.Common.{◌≡◌, ◌∙◌, ◌<◌, ◌≤◌, ℕ, zero, suc, Bool, true, false, Option, Some, None, if◌then◌else◌, is_some, refl, ap, subst, arith}
 use Rattle.js_syntax.specs.declared.node_kind.NodeKind.{NodeKind as Kind}
 use Rattle.js_syntax.specs.declared.node_kind.NodeKind.TheVariants.{UnaryExpression as unary_expression, BinaryExpression as binary_expression, LogicalExpression as logical_expression, ConditionalExpression as conditional_expression}
-use Rattle.js_syntax.specs.declared.operator.BinaryOperator.{BinaryOperator}
-use Rattle.js_syntax.specs.declared.operator.UnaryOperator.{UnaryOperator}
 use Rattle.js_syntax.specs.Node.{Forest, Tree, nothing, node, absent, forest_of}
 use Rattle.js_tree.specs.Weight.{size_of}
 use Rattle.min_context.specs.Edited.{Edited}
 use Rattle.min_context.specs.Seen.{Seen}
 use Rattle.min_traverse.specs.Lawful.{or_same}
+use Rattle.js_effects.specs.Silence.{only_combines}
+use Rattle.steps.specs.Allowed.Uses.{Use, operand_of}
 use Rattle.steps.specs.Allowed.UnusedOperation.{acts, index_if, operand_needed, side_needed, left_needed, condition_needed, needed_at}
 use Rattle.rules.specs.Expressions.Uses.{Spot}
 use Rattle.rules.specs.Expressions.Unused.{left_of_node, left_at, left_below, unused_becomes}
@@ -18,16 +18,16 @@ use Rattle.min_expressions.proofs.Leaving.{Adds, same_some, no_child, edited_twi
 
 -- ---- by the parts
 
-pub by_sides : (o : BinaryOperator) (t : Forest) → side_of_parts o (parts_of t) ≡ side_needed o t
-by_sides o nothing = refl
-by_sides o (absent rest) = refl
-by_sides o (node k n a nothing) = refl
-by_sides o (node k n a (absent rest)) = refl
-by_sides o (node k n a (node l m b nothing)) = refl
-by_sides o (node k n a (node l m b (absent rest))) = refl
-by_sides o (node k n a (node l m b (node j i c nothing))) = refl
-by_sides o (node k n a (node l m b (node j i c (absent rest)))) = refl
-by_sides o (node k n a (node l m b (node j i c (node h p d rest)))) = refl
+pub by_sides : (t : Forest) → side_of_parts (parts_of t) ≡ side_needed t
+by_sides nothing = refl
+by_sides (absent rest) = refl
+by_sides (node k n a nothing) = refl
+by_sides (node k n a (absent rest)) = refl
+by_sides (node k n a (node l m b nothing)) = refl
+by_sides (node k n a (node l m b (absent rest))) = refl
+by_sides (node k n a (node l m b (node j i c nothing))) = refl
+by_sides (node k n a (node l m b (node j i c (absent rest)))) = refl
+by_sides (node k n a (node l m b (node j i c (node h p d rest)))) = refl
 
 pub by_left : (t : Forest) → left_of_parts (parts_of t) ≡ left_needed t
 by_left nothing = refl
@@ -67,21 +67,21 @@ one_there : (d b c : Bool) (m n i : ℕ) (t : Forest) → (if d then index_if b 
 one_there true b c m n i t e g h = there b m i t e g
 one_there false b c m n i t e g h = there c n i t e h
 
-operand_there : (o : UnaryOperator) (t : Forest) (i : ℕ) → operand_needed o t ≡ Some i → is_some (child_at i t) ≡ true
-operand_there o nothing i e = no_index e
-operand_there o (absent rest) i e = no_index e
-operand_there o (node k n a nothing) i e = there _ 0 i (node k n a nothing) e refl
-operand_there o (node k n a (absent rest)) i e = no_index e
-operand_there o (node k n a (node l m b rest)) i e = no_index e
+operand_there : (u : Use) (t : Forest) (i : ℕ) → operand_needed u t ≡ Some i → is_some (child_at i t) ≡ true
+operand_there u nothing i e = no_index e
+operand_there u (absent rest) i e = no_index e
+operand_there u (node k n a nothing) i e = there _ 0 i (node k n a nothing) e refl
+operand_there u (node k n a (absent rest)) i e = no_index e
+operand_there u (node k n a (node l m b rest)) i e = no_index e
 
-sides_there : (o : BinaryOperator) (t : Forest) (i : ℕ) → side_needed o t ≡ Some i → is_some (child_at i t) ≡ true
-sides_there o nothing i e = no_index e
-sides_there o (absent rest) i e = no_index e
-sides_there o (node k n a nothing) i e = no_index e
-sides_there o (node k n a (absent rest)) i e = no_index e
-sides_there o (node k n a (node l m b nothing)) i e = one_there (acts l m b) _ _ 1 0 i (node k n a (node l m b nothing)) e refl refl
-sides_there o (node k n a (node l m b (absent rest))) i e = no_index e
-sides_there o (node k n a (node l m b (node j p c rest))) i e = no_index e
+sides_there : (t : Forest) (i : ℕ) → side_needed t ≡ Some i → is_some (child_at i t) ≡ true
+sides_there nothing i e = no_index e
+sides_there (absent rest) i e = no_index e
+sides_there (node k n a nothing) i e = no_index e
+sides_there (node k n a (absent rest)) i e = no_index e
+sides_there (node k n a (node l m b nothing)) i e = one_there (acts l m b) _ _ 1 0 i (node k n a (node l m b nothing)) e refl refl
+sides_there (node k n a (node l m b (absent rest))) i e = no_index e
+sides_there (node k n a (node l m b (node j p c rest))) i e = no_index e
 
 left_there : (t : Forest) (i : ℕ) → left_needed t ≡ Some i → is_some (child_at i t) ≡ true
 left_there nothing i e = no_index e
@@ -103,9 +103,14 @@ condition_there (node k n a (node l m b (node j p c nothing))) i e = there _ 0 i
 condition_there (node k n a (node l m b (node j p c (absent rest)))) i e = no_index e
 condition_there (node k n a (node l m b (node j p c (node h q d rest)))) i e = no_index e
 
+-- of an operation that does nothing itself
+when_combined : (b : Bool) (o : Option ℕ) (i : ℕ) → (if b then o else None) ≡ Some i → o ≡ Some i
+when_combined true o i e = e
+when_combined false o i e = no_index e
+
 pub needed_there : (k : Kind) (t : Forest) (i : ℕ) → needed_at k t ≡ Some i → is_some (child_at i t) ≡ true
-needed_there (unary_expression o) t i e = operand_there o t i e
-needed_there (binary_expression o) t i e = sides_there o t i e
+needed_there (unary_expression o) t i e = operand_there (operand_of o) t i (when_combined (only_combines (unary_expression o) t) (operand_needed (operand_of o) t) i e)
+needed_there (binary_expression o) t i e = sides_there t i (when_combined (only_combines (binary_expression o) t) (side_needed t) i e)
 needed_there (logical_expression o) t i e = left_there t i e
 needed_there conditional_expression t i e = condition_there t i e
 needed_there k t i e = no_index e
@@ -191,9 +196,6 @@ module _ (k : Kind) (t : Forest) where
   module _ (s : Spot) where
     pub unused_there : (i : ℕ) → unused_keeps s k t ≡ Some i → is_some (child_at i t) ≡ true
     unused_there i e = needed_there k t i (kept_there s.is_unused i e)
-
-    pub unused_is_no_call : (i : ℕ) → unused_keeps s k t ≡ Some i → is_call k ≡ false
-    unused_is_no_call i e = needed_is_no_call k t i (kept_there s.is_unused i e)
 
     pub unused_left : (i : ℕ) (y : Tree) → unused_keeps s k t ≡ Some i → left_at i t ≡ Some y → unused_becomes s k t ≡ Some y
     unused_left i y e f = left_there_below s.is_unused i y e f

@@ -243,13 +243,6 @@ value_is s more n m (node k i a nothing) x e f = itself (stands_bare s.used_as s
 value_is s more n m (node k i a (absent rest)) x e f = no_node f
 value_is s more n m (node k i a (node l j b rest)) x e f = no_node f
 
-pub values_are : (s : Spot) (more : Bool) (n m : Note) (parts : Forest) → are_value s false parts ≡ true → only parts ≡ None → as_value_of s.used_as s.in_with more n m parts ≡ Some (made n m parts)
-values_are s more n m nothing e f = absurd (true≢false (sym e))
-values_are s more n m (absent rest) e f = refl
-values_are s more n m (node k i a nothing) e f = no_node (sym f)
-values_are s more n m (node k i a (absent rest)) e f = refl
-values_are s more n m (node k i a (node l j b rest)) e f = refl
-
 both : (a b : Bool) → not a && b ≡ true → (a ≡ false) × (b ≡ true)
 both true b e = absurd (true≢false (sym e))
 both false b e = (refl, e)

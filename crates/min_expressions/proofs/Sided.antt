@@ -46,6 +46,12 @@ three_in ts x y z e =
     let c = first_in b.others z nothing b.left in
     a.whole ∙ ap (λ us. Some x ∷ us) (b.whole ∙ ap (λ us. Some y ∷ us) (c.whole ∙ ap (λ us. Some z ∷ us) (none_in c.others c.left)))
 
+pub two_in : (ts : List (Option Tree)) (x y : Tree) → row ts ≡ two x y → ts ≡ Some x ∷ Some y ∷ []
+two_in ts x y e =
+    let a = first_in ts x (forest_of y) e in
+    let b = first_in a.others y nothing a.left in
+    a.whole ∙ ap (λ us. Some x ∷ us) (b.whole ∙ ap (λ us. Some y ∷ us) (none_in b.others b.left))
+
 -- ---- what stays and what leaves
 
 pub record IsSided (k : Kind) (t : Forest) (o : LogicalOperator) : Type 0 where

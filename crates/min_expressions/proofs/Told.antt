@@ -1,5 +1,5 @@
 -- What an expression is used for, and whether nobody takes its value, along the nodes above it.
-use Rattle.std.proofs.Common.{◌≡◌, ◌∙◌, ◌<◌, ◌≤◌, ◌+◌, ◌==◌, ℕ, zero, suc, List, Bool, true, false, ◌||◌, length, drop, slice_index_or, refl, sym, ap, drop-cons, add-one, true≢false}
+use Rattle.std.proofs.Common.{◌≡◌, ◌∙◌, ◌<◌, ◌≤◌, ◌+◌, ◌==◌, ℕ, zero, suc, List, true, false, ◌||◌, length, drop, slice_index_or, refl, sym, ap, drop-cons, add-one, true≢false}
 use Rattle.std.proofs.lemmas.List.{drop_all}
 use Rattle.min_context.specs.declared.ancestor.Ancestor.{Ancestor}
 use Rattle.steps.specs.Allowed.Unused.{Taker}

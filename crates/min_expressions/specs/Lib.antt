@@ -6,6 +6,7 @@ pub mod Indirect
 pub mod BehindTest
 pub mod OneSided
 pub mod Sequences
+pub mod Templates
 pub mod TwoSides
 pub mod Objects
 pub mod MayChange

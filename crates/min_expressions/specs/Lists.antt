@@ -80,6 +80,12 @@ abbrev pub sequence_goes : (list : Option Tree) → Bool
 sequence_goes None = false
 sequence_goes (Some x) = expressions_go x.kind x.below
 
+-- of an array or a sequence
+abbrev pub parts_go : Kind → (below : Forest) → Bool
+parts_go array_expression below = array_goes (only below)
+parts_go sequence_expression below = sequence_goes (only below)
+parts_go k below = false
+
 -- where nobody takes the value
 abbrev pub list_goes : Spot → Kind → (below : Forest) → Bool
 list_goes s array_expression below = s.is_unused && array_goes (only below)

@@ -1,5 +1,5 @@
 // Rewritings of one expression.
-ghost use Rattle.std.specs.Prelude.{◌≡◌, IfOk, IfErr};
+ghost use Rattle.std.specs.Prelude.{◌≡◌, false, IfOk, IfErr};
 ghost use Rattle.min_traverse.specs.Lawful.{Does, either};
 ghost use Rattle.rules.specs.Expressions.Known.{fold_conditional, fold_logical, at_expression_end};
 ghost use Rattle.rules.specs.Expressions.Unused.{fold_unused};
@@ -12,6 +12,7 @@ ghost use Rattle.rules.specs.Expressions.Objects.{fold_object};
 ghost use Rattle.rules.specs.Expressions.Operations.{fold_to_literal, fold_to_negative, fold_known};
 ghost use Rattle.rules.specs.Expressions.Uses.{spot_of};
 ghost use Rattle.min_expressions.specs.Kept.{matters_at};
+ghost use Rattle.min_expressions.specs.TwoSides.{sides_go};
 
 use crate::bare::matters_here;
 use crate::behind_test::{branch_leaves, keep_both, keep_branch, right_follows};
@@ -22,7 +23,8 @@ use crate::object::{keep_object, object_goes};
 use crate::one_sided::{keep_one_side, stays_one_sided};
 use crate::operation::{known_literal, known_negative, put_literal, put_negative};
 use crate::sequence::{keep_sequence, sequence_goes};
-use crate::two_sides::{keep_two_sides, sides_go};
+use crate::template::{keep_substitutions, template_goes};
+use crate::two_sides::{empty_text, keep_two_sides, sides_go, text_goes};
 use crate::unused::{keep_needed, unused_keeps};
 use js_tree::Node;
 use min_context::MinifierTraverseCtx;
@@ -94,7 +96,21 @@ fn fold_to_sequences(node: &mut Node, ctx: &mut MinifierTraverseCtx) -> Result<b
     Ok(PeepholeOptimizations::remove_sequence_expression(node, ctx))
 }
 
-// The same, and what becomes of a comparison of which nobody takes the value.
+// What becomes of a sum of a text and what acts.
+fn fold_text(node: &mut Node, ctx: &mut MinifierTraverseCtx) -> bool
+    requires stays { sides_go (spot_of ctx.old.place) node.old.kind node.old.below ≡ false }
+    ensures { Does fold_two_sides ctx.old node.old result ctx.new node.new }
+{
+    match text_goes(node, ctx) {
+        Some(index) => {
+            empty_text(node, index, ctx);
+            true
+        }
+        None => false,
+    }
+}
+
+// The same, and what becomes of an operation on two sides of which nobody takes the value.
 fn fold_but_objects(node: &mut Node, ctx: &mut MinifierTraverseCtx) -> Result<bool, AllocError>
     ensures does { IfOk result (λ b. Does (either (either (either (either (either (either (either fold_conditional fold_logical) fold_unused) fold_unused_list) fold_indirect) fold_one_sided) fold_sequence) fold_two_sides) ctx.old node.old b ctx.new node.new) }
     ensures refused { IfErr result (λ e. (node.new ≡ node.old) × (ctx.new ≡ ctx.old)) }
@@ -113,7 +129,7 @@ fn fold_but_operations(node: &mut Node, ctx: &mut MinifierTraverseCtx) -> Result
     if fold_but_objects(node, ctx)? {
         return Ok(true);
     }
-    Ok(PeepholeOptimizations::remove_unused_object(node, ctx))
+    PeepholeOptimizations::remove_unused_object(node, ctx)
 }
 
 // What becomes of an operation of which the value is known and has a literal.
@@ -188,13 +204,16 @@ impl PeepholeOptimizations {
         }
     }
 
-    /// Where nobody takes the value, an array without spreads, and a sequence of which not all parts act, become the parts that
-    /// act: one that may stand there itself, or a sequence of them.
+    /// Where nobody takes the value, an array without spreads, a sequence of which not all parts act, and a template whose substitutions
+    /// are primitive by their form, become the parts that act: one that may stand there itself, or a sequence of them.
     pub fn remove_unused_list(node: &mut Node, ctx: &mut MinifierTraverseCtx) -> bool
         ensures does { Does fold_unused_list ctx.old node.old result ctx.new node.new }
     {
         if list_goes(node, ctx) {
             keep_list(node, ctx);
+            true
+        } else if template_goes(node, ctx) {
+            keep_substitutions(node, ctx);
             true
         } else {
             false
@@ -267,8 +286,9 @@ impl PeepholeOptimizations {
         }
     }
 
-    /// Where nobody takes the value, a comparison of which both sides act becomes a sequence of these, as `f(), g()`. It fails only
-    /// for want of memory; then all is as it was.
+    /// Where nobody takes the value, an operation of which both sides act becomes a sequence of these, as `f(), g()`, if it does nothing
+    /// itself: it compares, or both sides are primitive by their form. A text on a side of a sum, beside what acts, becomes the empty one,
+    /// as `"a" + f()` becomes `"" + f()`. It fails only for want of memory; then all is as it was.
     pub fn fold_two_sides(
         node: &mut Node,
         ctx: &mut MinifierTraverseCtx,
@@ -280,20 +300,24 @@ impl PeepholeOptimizations {
             keep_two_sides(node, ctx)?;
             return Ok(true);
         }
-        Ok(false)
+        Ok(fold_text(node, ctx))
     }
 
-    /// Where nobody takes the value, an object literal with plain keys becomes the values of its properties that act: one that may
-    /// stand there itself, or a sequence of them.
-    pub fn remove_unused_object(node: &mut Node, ctx: &mut MinifierTraverseCtx) -> bool
-        ensures does { Does fold_object ctx.old node.old result ctx.new node.new }
+    /// Where nobody takes the value, an object literal becomes the values of its properties that act, and before each its key, if that is an
+    /// expression that acts: one part that may stand there itself, or a sequence of them. Each key is known, or known to be primitive. It
+    /// fails only for want of memory; then all is as it was.
+    pub fn remove_unused_object(
+        node: &mut Node,
+        ctx: &mut MinifierTraverseCtx,
+    ) -> Result<bool, AllocError>
+        ensures does { IfOk result (λ b. Does fold_object ctx.old node.old b ctx.new node.new) }
+        ensures refused { IfErr result (λ e. (node.new ≡ node.old) × (ctx.new ≡ ctx.old)) }
     {
         if object_goes(node, ctx) {
-            keep_object(node, ctx);
-            true
-        } else {
-            false
+            keep_object(node, ctx)?;
+            return Ok(true);
         }
+        Ok(false)
     }
 
     /// An operation that doesn't act becomes a literal of its value, as `1 + 2` becomes `3`, or unary minus on one, as `1 - 3` becomes

@@ -10,7 +10,7 @@ ghost use Rattle.steps.specs.Allowed.UnusedList as unused;
 ghost use Rattle.rules.specs.Expressions.Lists.{new_note, list_note};
 ghost use Rattle.rules.specs.Expressions.Uses.{spot_of};
 ghost use Rattle.min_expressions.specs.Unused.{tree_acts};
-ghost use Rattle.min_expressions.specs.Lists.{only, item_acts, idle, told_found, none, found_with, found_from, is_enough, are_one, elements_go, expressions_go, array_goes, sequence_goes, list_goes};
+ghost use Rattle.min_expressions.specs.Lists.{only, item_acts, idle, told_found, none, found_with, found_from, is_enough, are_one, elements_go, expressions_go, array_goes, sequence_goes, parts_go, list_goes};
 
 use crate::bare::stands_bare;
 use crate::kept::take_at;
@@ -151,7 +151,7 @@ pub(crate) fn is_enough(found: Found) -> bool
 
 // Whether what acts is one expression.
 #[tactic(auto, using(crate::proofs::Lists::enough_found))]
-fn are_one(parts: &[Option<Node>]) -> bool
+pub(crate) fn are_one(parts: &[Option<Node>]) -> bool
     ensures { result ≡ are_one (unused.acting (row parts.now)) }
 {
     is_enough(found_in(parts))
@@ -275,6 +275,27 @@ pub(crate) fn sequence(
     Node::new(NodeKind::SequenceExpression, span, children)
 }
 
+// What is left of some parts.
+pub(crate) fn left_of_parts(
+    span: Span,
+    children: Vec<Option<Node>>,
+    list_span: Span,
+    mut parts: Vec<Option<Node>>,
+    ctx: &mut MinifierTraverseCtx,
+) -> Node
+    requires field { length children.items ≡ 1 }
+    requires one { are_one (unused.acting (row parts.items)) ≡ true }
+    ensures kept { unused.as_one (record { span = span; id = None }) (record { span = list_span; id = None }) (unused.acting (row parts.items)) ≡ Some result }
+    ensures left { Leaves ctx.old (λ r. ids r (idle (row parts.items))) (evals (idle (row parts.items))) ctx.new }
+{
+    mark_all_idle(parts.as_slice(), ctx);
+    keep_acting(&mut parts);
+    match take_only(&mut parts) {
+        Some(part) => part,
+        None => sequence(span, children, list_span, parts),
+    }
+}
+
 // What is left of a list.
 pub(crate) fn left_of(
     span: Span,
@@ -288,18 +309,12 @@ pub(crate) fn left_of(
     ensures left { Leaves ctx.old (λ r. ids r (idle list.below)) (evals (idle list.below)) ctx.new }
 {
     let list_span = list.span();
-    let mut parts = list.into_children();
-    mark_all_idle(parts.as_slice(), ctx);
-    keep_acting(&mut parts);
-    match take_only(&mut parts) {
-        Some(part) => part,
-        None => sequence(span, children, list_span, parts),
-    }
+    left_of_parts(span, children, list_span, list.into_children(), ctx)
 }
 
 // What acts of a list takes the place of the whole. The context is told of what leaves.
 pub(crate) fn keep_list(node: &mut Node, ctx: &mut MinifierTraverseCtx)
-    requires goes { is_some (unused.list_becomes (new_note node.old.note) (new_note (list_note node.old.below)) node.old.kind node.old.below) ≡ true }
+    requires goes { parts_go node.old.kind node.old.below ≡ true }
     ensures kept { unused.list_becomes (new_note node.old.note) (new_note (list_note node.old.below)) node.old.kind node.old.below ≡ Some node.new }
     ensures edited { Edited ctx.old node.old node.new true ctx.new }
 {

@@ -1,7 +1,6 @@
 // Which operand of an operation is needed alone, where nobody takes the value.
 ghost use Rattle.std.specs.Prelude.{◌≡◌, Some, true, false, is_some};
 ghost use Rattle.js_syntax.specs.Node.{row};
-ghost use Rattle.js_meaning_near.specs.Unused as near;
 ghost use Rattle.min_context.specs.Edited.{Edited};
 ghost use Rattle.steps.specs.Allowed.UnusedOperation as operation;
 ghost use Rattle.rules.specs.Expressions.Uses.{spot_of};
@@ -14,35 +13,10 @@ use crate::bare::stands_bare;
 use crate::kept::keep_child;
 use crate::parts::{Parts, parts_of};
 use crate::uses::{Use, is_unused_from, operand_of};
-use js_effects::may_have_side_effects;
-use js_syntax::{BinaryOperator, NodeKind, UnaryOperator};
+use js_effects::{may_have_side_effects, only_combines};
+use js_syntax::NodeKind;
 use js_tree::Node;
 use min_context::MinifierTraverseCtx;
-
-fn is_total(operator: UnaryOperator) -> bool
-    ensures { result ≡ near.is_total operator }
-{
-    matches!(
-        operator,
-        UnaryOperator::LogicalNot | UnaryOperator::Void | UnaryOperator::Typeof
-    )
-}
-
-pub(crate) fn compares(operator: BinaryOperator) -> bool
-    ensures { result ≡ near.compares operator }
-{
-    matches!(
-        operator,
-        BinaryOperator::Equality
-            | BinaryOperator::Inequality
-            | BinaryOperator::StrictEquality
-            | BinaryOperator::StrictInequality
-            | BinaryOperator::LessThan
-            | BinaryOperator::LessEqualThan
-            | BinaryOperator::GreaterThan
-            | BinaryOperator::GreaterEqualThan
-    )
-}
 
 pub(crate) fn acts(node: &Node) -> bool
     ensures { result ≡ operation.acts node.now.kind node.now.note node.now.below }
@@ -63,16 +37,11 @@ fn index_if(holds: bool, at: usize) -> Option<usize>
     if holds { Some(at) } else { None }
 }
 
-fn operand_needed(operator: UnaryOperator, children: &[Option<Node>]) -> Option<usize>
-    ensures { result ≡ operation.operand_needed operator (row children.now) }
+fn operand_needed(used: Use, children: &[Option<Node>]) -> Option<usize>
+    ensures { result ≡ operation.operand_needed (told used) (row children.now) }
 {
     match children {
-        [Some(operand)] => {
-            index_if(
-                is_total(operator) && is_needed(operand_of(operator), operand),
-                0,
-            )
-        }
+        [Some(operand)] => index_if(is_needed(used, operand), 0),
         [] => None,
         [None, ..] => None,
         [Some(_), None, ..] => None,
@@ -80,7 +49,7 @@ fn operand_needed(operator: UnaryOperator, children: &[Option<Node>]) -> Option<
     }
 }
 
-// Whether the right side of a comparison, which acts, may stand there itself, and the left one doesn't act.
+// Whether the right side of an operation, which acts, may stand there itself, and the left one doesn't act.
 fn right_alone(left: &Node, right: &Node) -> bool
     ensures { result ≡ by_parts.right_alone left.now right.now }
 {
@@ -90,21 +59,21 @@ fn right_alone(left: &Node, right: &Node) -> bool
     stands_bare(Use::Value, false, right)
 }
 
-fn side_of(operator: BinaryOperator, left: &Node, right: &Node) -> Option<usize>
-    ensures { result ≡ by_parts.side_of operator left.now right.now }
+fn side_of(left: &Node, right: &Node) -> Option<usize>
+    ensures { result ≡ by_parts.side_of left.now right.now }
 {
     if acts(right) {
-        index_if(compares(operator) && right_alone(left, right), 1)
+        index_if(right_alone(left, right), 1)
     } else {
-        index_if(compares(operator) && is_needed(Use::Value, left), 0)
+        index_if(is_needed(Use::Value, left), 0)
     }
 }
 
-fn side_needed(operator: BinaryOperator, children: &[Option<Node>]) -> Option<usize>
-    ensures { result ≡ by_parts.side_of_parts operator (parts_of (row children.now)) }
+fn side_needed(children: &[Option<Node>]) -> Option<usize>
+    ensures { result ≡ by_parts.side_of_parts (parts_of (row children.now)) }
 {
     match parts_of(children) {
-        Parts::Pair(left, right) => side_of(operator, left, right),
+        Parts::Pair(left, right) => side_of(left, right),
         Parts::Triple(_, _, _) => None,
         Parts::Others => None,
     }
@@ -145,8 +114,20 @@ fn needed_at(node: &Node) -> Option<usize>
     ensures { result ≡ operation.needed_at node.now.kind node.now.below }
 {
     match node.kind() {
-        NodeKind::UnaryExpression(operator) => operand_needed(*operator, node.children()),
-        NodeKind::BinaryExpression(operator) => side_needed(*operator, node.children()),
+        NodeKind::UnaryExpression(operator) => {
+            if only_combines(node) {
+                operand_needed(operand_of(*operator), node.children())
+            } else {
+                None
+            }
+        }
+        NodeKind::BinaryExpression(_) => {
+            if only_combines(node) {
+                side_needed(node.children())
+            } else {
+                None
+            }
+        }
         NodeKind::LogicalExpression(_) => left_needed(node.children()),
         NodeKind::ConditionalExpression => condition_needed(node.children()),
         _ => None,

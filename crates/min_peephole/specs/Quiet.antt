@@ -42,7 +42,7 @@ decides_none p n k inner = not (is_some (conditional_becomes (spot_of p) k inner
 abbrev pub wastes_none : Place → Note → Kind → (inner : Forest) → Bool
 wastes_none p n k inner = not (is_some (unused_becomes (spot_of p) k inner)) && (not (is_some (unused_list_becomes (spot_of p) n k inner)) && not (is_some (one_sided_becomes (spot_of p) n k inner)))
 
--- and is no sequence that comes to what counts of it, nor, where nobody takes its value, a comparison or an object literal that comes
+-- and is no sequence that comes to what counts of it, nor, where nobody takes its value, an operation or an object literal that comes
 -- to its sides or its values
 abbrev pub keeps_parts : Place → Note → Kind → (inner : Forest) → Bool
 keeps_parts p n k inner = not (is_some (sequence_left (spot_of p) n k inner)) && (not (is_some (two_sides_become (spot_of p) n k inner)) && not (is_some (object_left (spot_of p) n k inner)))

@@ -284,31 +284,6 @@ pub asked_true : (b : Bool) {P : Type 0} → (b || true) ≡ false → P
 asked_true true e = absurd (true≢false e)
 asked_true false e = absurd (true≢false e)
 
-module _ (names : Names) {c d : Seen} {x y : Tree} {answer : Bool} (quiet : d.requested ≡ false) where
-  pub trim_visits : Does (trim names) c x answer d y → Found (has_gone (facts_of names c) (where_of c.place) x.below) names c names d
-  trim_visits does = go (has_gone (facts_of names c) (where_of c.place) x.below) refl
-    where
-      go : (v : Bool) → has_gone (facts_of names c) (where_of c.place) x.below ≡ v → Found (has_gone (facts_of names c) (where_of c.place) x.below) names c names d
-      go true dead =
-          let z : Tree = record x { below = shorter (facts_of names c) (where_of c.place) x.below } in
-          let e : Edited c x y true d = subst (λ o. Edited c x y (is_some o) d) (some_left z dead) does.edited in
-          asked_true c.requested (sym e.asked ∙ quiet)
-      go false dead =
-          let z : Tree = record x { below = shorter (facts_of names c) (where_of c.place) x.below } in
-          let e : Edited c x y false d = subst (λ o. Edited c x y (is_some o) d) (none_left z dead) does.edited in
-          record { names_same = refl; context_same = e.none refl; none = dead }
-
-  pub empty_visits : Does (empty names) c x answer d y → Found (is_silent_statement (facts_of names c) (where_of c.place) x.kind x.below) names c names d
-  empty_visits does = go (is_silent_statement (facts_of names c) (where_of c.place) x.kind x.below) refl
-    where
-      go : (v : Bool) → is_silent_statement (facts_of names c) (where_of c.place) x.kind x.below ≡ v → Found (is_silent_statement (facts_of names c) (where_of c.place) x.kind x.below) names c names d
-      go true silent =
-          let e : Edited c x y true d = subst (λ o. Edited c x y (is_some o) d) (some_left (record { kind = empty_statement; note = unmarked x.note; below = nothing }) silent) does.edited in
-          asked_true c.requested (sym e.asked ∙ quiet)
-      go false silent =
-          let e : Edited c x y false d = subst (λ o. Edited c x y (is_some o) d) (none_left (record { kind = empty_statement; note = unmarked x.note; below = nothing }) silent) does.edited in
-          record { names_same = refl; context_same = e.none refl; none = silent }
-
 -- ---- slots
 
 if_key : (key s : Bool) (own : Outer) → (if key then outer.PropertyKey else if s then outer.Statement else own) ≡ outer.Statements → own ≡ outer.Statements

@@ -1,28 +1,29 @@
 -- What the hook of expressions does, and that it may.
-use Rattle.std.proofs.Common.{◌≡◌, ◌∙◌, ◌≤◌, ◌⊎◌, inl, inr, ℕ, Bool, true, false, not, ◌||◌, Option, Some, None, is_some, if◌then◌else◌, refl, sym, ap, ap₂, subst, arith, true≢false}
+use Rattle.std.proofs.Common.{◌≡◌, ◌∙◌, ◌≤◌, ◌+◌, ◌⊎◌, inl, inr, ℕ, Bool, true, false, not, ◌||◌, Option, Some, None, is_some, if◌then◌else◌, refl, sym, ap, ap₂, subst, arith, true≢false}
 use Rattle.js_syntax.specs.declared.node_kind.NodeKind.{NodeKind as Kind}
-use Rattle.js_syntax.specs.declared.node_kind.NodeKind.TheVariants.{ArrayExpression as array_expression, Elements as elements, MemberExpression as member_expression, ChainExpression as chain_expression, ParenthesizedExpression as parenthesized_expression, SequenceExpression as sequence_expression, Expressions as expressions, ObjectExpression as object_expression, Properties as properties, Property as property, UnaryExpression as unary_expression, BinaryExpression as binary_expression, ConditionalExpression as conditional_expression, LogicalExpression as logical_expression}
-use Rattle.js_syntax.specs.declared.operator.BinaryOperator.{BinaryOperator}
+use Rattle.js_syntax.specs.declared.node_kind.NodeKind.TheVariants.{ArrayExpression as array_expression, Elements as elements, MemberExpression as member_expression, ChainExpression as chain_expression, ParenthesizedExpression as parenthesized_expression, SequenceExpression as sequence_expression, Expressions as expressions, TemplateLiteral as template_literal, Quasis as quasis, ObjectExpression as object_expression, Properties as properties, UnaryExpression as unary_expression, BinaryExpression as binary_expression, ConditionalExpression as conditional_expression, LogicalExpression as logical_expression}
 use Rattle.js_syntax.specs.declared.operator.LogicalOperator.{LogicalOperator}
 use Rattle.js_syntax.specs.declared.operator.LogicalOperator.TheVariants as logical
 use Rattle.js_syntax.specs.declared.operator.UnaryOperator.TheVariants as unary
 use Rattle.js_syntax.specs.declared.value.LiteralValue.{LiteralValue}
-use Rattle.js_syntax.specs.Node.{Forest, Note, Tree, nothing, node, absent, forest_of}
+use Rattle.js_syntax.specs.Node.{Forest, Note, Tree, nothing, node, absent, joined, forest_of}
 use Rattle.scope_laws.specs.Place as places
 use Rattle.scope_counts.specs.Edits.{Around}
 use Rattle.steps.specs.Allowed.KnownConditional.{KnownConditional, consequent_is_taken, alternate_is_taken}
 use Rattle.steps.specs.Allowed.KnownSide.{KnownSide, right_side_counts, left_side_decides}
 use Rattle.steps.specs.Allowed.UnusedOperation.{acts, UnusedOperation, one_operand_acts}
+use Rattle.js_effects.specs.Silence.{only_combines}
 use Rattle.steps.specs.Allowed.UnusedList.{acting, all_act, has_spread, as_one, list_becomes, UnusedList, acting_parts_stay}
 use Rattle.steps.proofs.Owed.BehindTest.{Follows, consequent_follows, alternate_follows, right_side_follows, part_follows}
 use Rattle.steps.specs.Allowed.IndirectChoice.{one_of as branch_of, if_so, part_counts, IndirectChoice, value_alone_counts, part_counts_behind_test}
 use Rattle.steps.specs.Allowed.OneSidedChoice.{sides, one_side, one_sided, OneSidedChoice, one_branch_acts}
 use Rattle.steps.specs.Allowed.IdleParts.{stays_before, counting, all_count, more_before, itself_or_behind, as_value_of, sequence_becomes, IdleParts, idle_parts_leave}
-use Rattle.steps.specs.Allowed.TwoSides.{two_sides, TwoSides, both_sides_act}
-use Rattle.steps.specs.Allowed.UnusedObject.{are_plain, acting_values, object_becomes, UnusedObject, acting_values_stay}
+use Rattle.steps.specs.Allowed.TwoSides.{TwoSides, both_sides_act}
+use Rattle.steps.specs.Allowed.UnusedObject.{all_come_apart, keys_and_values, object_becomes, UnusedObject, acting_values_stay}
 use Rattle.steps.specs.Allowed.KnownOperation.{known_literal, KnownOperation, value_is_known, negative_is_known}
 use Rattle.steps.proofs.Owed.KnownOperation.{Negative, under_one, under_two, is_negative_known}
 use Rattle.steps.specs.Allowed.Uses.{Use, as_value, as_typed, use_at, matters, may_take_name, stands_bare}
+use Rattle.steps.proofs.Owed.TwoSides.{Sides, both_act, first_text, second_text, are_sides}
 use Rattle.steps.proofs.Owed.UnusedPlace.{unused_as_value}
 use Rattle.steps.proofs.Owed.UnusedOperation.{Needed, the_operand, first_side, second_side, left_side, the_condition, needed_part}
 use Rattle.min_context.specs.Edited.{evals, Edited}
@@ -143,6 +144,10 @@ unless : (b : Bool) (o : Option Tree) (y : Tree) → (if b then None else o) ≡
 unless true o y e = no_answer e
 unless false o y e = e
 
+where_so : (b : Bool) (o : Option Tree) (y : Tree) → (if b then o else None) ≡ Some y → o ≡ Some y
+where_so true o y e = e
+where_so false o y e = no_answer e
+
 module _ (a : places.Around) (i : Note) (used : use_at a ≡ as_value) where
   parts_call : (n m : Note) (k : Kind) (below : Forest) (y : Tree) → list_becomes n m k below ≡ Some y → CallsStay a (record { kind = k; note = i; below = below }) y
   parts_call n m array_expression (node elements j parts nothing) y e =
@@ -150,6 +155,9 @@ module _ (a : places.Around) (i : Note) (used : use_at a ≡ as_value) where
       record { fewer = Prim.omega (arith, left.fewer, acting_calls parts); old = refl; in_with = false; bare = stands_there a i used y.kind y.below left.bare }
   parts_call n m sequence_expression (node expressions j parts nothing) y e =
       let left = one_calls n m (acting parts) y (unless (all_act parts) (as_one n m (acting parts)) y e) in
+      record { fewer = Prim.omega (arith, left.fewer, acting_calls parts); old = refl; in_with = false; bare = stands_there a i used y.kind y.below left.bare }
+  parts_call n m template_literal (node quasis h texts (node expressions j parts nothing)) y e =
+      let left = one_calls n m (acting parts) y (where_so (only_combines template_literal (node quasis h texts (node expressions j parts nothing))) (as_one n m (acting parts)) y e) in
       record { fewer = Prim.omega (arith, left.fewer, acting_calls parts); old = refl; in_with = false; bare = stands_there a i used y.kind y.below left.bare }
   parts_call n m k below y e = no_answer e
 
@@ -253,41 +261,34 @@ sequence_call a w n m i k below y e = no_answer e
 idle_parts_call : (a : places.Around) (x y : Tree) → IdleParts a x y → CallsStay a x y
 idle_parts_call a _ _ (idle_parts_leave n m x y becomes) = sequence_call a _ n m x.note x.kind x.below y becomes
 
--- ---- what becomes a sequence of its sides
+-- ---- what becomes a sequence of its sides, or has a text that becomes empty
 
-sides_made : (a : places.Around) (o : BinaryOperator) (n m i : Note) (both : Bool) (parts : Forest) (y : Tree) → (let made : Tree = record { kind = sequence_expression; note = n; below = node expressions m parts nothing } in (if both then Some made else None) ≡ Some y)
-    → CallsStay a (record { kind = binary_expression o; note = i; below = parts }) y
-sides_made a o n m i true parts y e = subst (CallsStay a (record { kind = binary_expression o; note = i; below = parts })) (same_answer e) (record { fewer = Prim.omega arith; old = refl; in_with = false; bare = refl })
-sides_made a o n m i false parts y e = no_answer e
-
-two_sides_call : (a : places.Around) (n m i : Note) (k : Kind) (parts : Forest) (y : Tree) → two_sides n m k parts ≡ Some y → CallsStay a (record { kind = k; note = i; below = parts }) y
-two_sides_call a n m i (binary_expression o) (node k j b (node l h c nothing)) y e = sides_made a o n m i _ (node k j b (node l h c nothing)) y e
-two_sides_call a n m i k parts y e = no_answer e
+sides_call : {n m : Note} {k : Kind} {parts : Forest} {y : Tree} (a : places.Around) (i : Note) → Sides n m k parts y → CallsStay a (record { kind = k; note = i; below = parts }) y
+sides_call a i (both_act o k l h j b c combines) = record { fewer = Prim.omega arith; old = refl; in_with = false; bare = refl }
+sides_call a i (first_text t ts l h j b c) = record { fewer = Prim.omega arith; old = refl; in_with = false; bare = refl }
+sides_call a i (second_text t ts k h j b c) = record { fewer = Prim.omega arith; old = refl; in_with = false; bare = refl }
 
 two_sides_calls : (a : places.Around) (x y : Tree) → TwoSides a x y → CallsStay a x y
-two_sides_calls a _ _ (both_sides_act n m x y unused becomes) = two_sides_call a n m x.note x.kind x.below y becomes
+two_sides_calls a _ _ (both_sides_act n m x y unused becomes) = sides_call a x.note (are_sides n m x.kind x.below y becomes)
 
--- ---- what becomes its values that act
+-- ---- what becomes its keys and values that act
 
-values_call : (es : Forest) → evals (acting_values es) ≤ evals es
-values_call nothing = Prim.omega arith
-values_call (absent rest) = values_call rest
-values_call (node (property how is_method key) n (absent (node k m b nothing)) rest) = if_acts (acts k m b) (values_call rest)
-  where
-    if_acts : (does : Bool) → evals (acting_values rest) ≤ evals rest → evals (if does then node k m b (acting_values rest) else acting_values rest) ≤ evals (node (property how is_method key) n (absent (node k m b nothing)) rest)
-    if_acts true h = Prim.omega (arith, h)
-    if_acts false h = Prim.omega (arith, h)
-values_call (node k n b rest) = Prim.omega (arith, values_call rest)
+joined_calls : (t u : Forest) → evals (joined t u) ≡ evals t + evals u
+joined_calls nothing u = Prim.omega arith
+joined_calls (absent t) u = joined_calls t u
+joined_calls (node k n b t) u = Prim.omega (arith, joined_calls t u)
 
-where_so : (b : Bool) (o : Option Tree) (y : Tree) → (if b then o else None) ≡ Some y → o ≡ Some y
-where_so true o y e = e
-where_so false o y e = no_answer e
+keys_and_values_call : (es : Forest) → evals (keys_and_values es) ≤ evals es
+keys_and_values_call nothing = Prim.omega arith
+keys_and_values_call (absent rest) = keys_and_values_call rest
+keys_and_values_call (node k n below rest) = Prim.omega (arith, joined_calls below (keys_and_values rest), keys_and_values_call rest)
 
 module _ (a : places.Around) (i : Note) (used : use_at a ≡ as_value) where
   object_call : (n m : Note) (k : Kind) (below : Forest) (y : Tree) → object_becomes n m k below ≡ Some y → CallsStay a (record { kind = k; note = i; below = below }) y
   object_call n m object_expression (node properties j es nothing) y e =
-      let left = one_calls n m (acting_values es) y (where_so (are_plain es) (as_one n m (acting_values es)) y e) in
-      record { fewer = Prim.omega (arith, left.fewer, values_call es); old = refl; in_with = false; bare = stands_there a i used y.kind y.below left.bare }
+      let parts = keys_and_values es in
+      let left = one_calls n m (acting parts) y (where_so (all_come_apart es) (as_one n m (acting parts)) y e) in
+      record { fewer = Prim.omega (arith, left.fewer, acting_calls parts, keys_and_values_call es); old = refl; in_with = false; bare = stands_there a i used y.kind y.below left.bare }
   object_call n m k below y e = no_answer e
 
 object_calls : (a : places.Around) (x y : Tree) → UnusedObject a x y → CallsStay a x y

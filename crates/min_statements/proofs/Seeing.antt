@@ -2,7 +2,7 @@
 use Rattle.std.proofs.Common.{◌≡◌, ◌∙◌, [], ℕ, Bool, false, true, not, ◌||◌, if◌then◌else◌, Option, Some, None, is_some, refl, sym, ap, subst, true≢false}
 use Rattle.js_syntax.specs.Class.{root}
 use Rattle.js_syntax.specs.declared.node_kind.NodeKind.{NodeKind as Kind}
-use Rattle.js_syntax.specs.declared.node_kind.NodeKind.TheVariants.{ExpressionStatement as expression_statement, EmptyStatement as empty_statement, IfStatement as if_statement, TryStatement as try_statement, ImportDeclaration as import_declaration, ArrayExpression as array_expression, ObjectExpression as object_expression, UnaryExpression as unary_expression, BinaryExpression as binary_expression, SequenceExpression as sequence_expression, ConditionalExpression as conditional_expression, LogicalExpression as logical_expression}
+use Rattle.js_syntax.specs.declared.node_kind.NodeKind.TheVariants.{ExpressionStatement as expression_statement, EmptyStatement as empty_statement, IfStatement as if_statement, TryStatement as try_statement, ImportDeclaration as import_declaration, ArrayExpression as array_expression, TemplateLiteral as template_literal, ObjectExpression as object_expression, UnaryExpression as unary_expression, BinaryExpression as binary_expression, SequenceExpression as sequence_expression, ConditionalExpression as conditional_expression, LogicalExpression as logical_expression}
 use Rattle.json_shape.specs.Shape.{Fits}
 use Rattle.min_pass.specs.Pass.{unmarked}
 use Rattle.js_syntax.specs.Node.{Forest, Tree, Note, nothing, node, absent, alone, forest_of}
@@ -320,6 +320,12 @@ settled_kind s n array_expression b h =
     let v = last_three (or_else (or_else (or_else (or_else u l) None) (one_sided_becomes s n array_expression b)) None) (two_sides_become s n array_expression b) (object_left s n array_expression b) (known_becomes n array_expression b) (h refl) in
     let w = last_none (or_else (or_else u l) None) (one_sided_becomes s n array_expression b) None v.0 in
     (refl, refl, none_either_way s.is_unused, second_none u l (ap is_some (first_none (or_else u l) None w.0)), refl, none_either_way s.is_unused, refl, none_either_way s.is_unused, none_either_way s.is_unused, no_negative n array_expression b refl)
+settled_kind s n template_literal b h =
+    let u = unused_becomes s template_literal b in
+    let l = unused_list_becomes s n template_literal b in
+    let v = last_three (or_else (or_else (or_else (or_else u l) None) (one_sided_becomes s n template_literal b)) None) (two_sides_become s n template_literal b) (object_left s n template_literal b) (known_becomes n template_literal b) (h refl) in
+    let w = last_none (or_else (or_else u l) None) (one_sided_becomes s n template_literal b) None v.0 in
+    (refl, refl, none_either_way s.is_unused, second_none u l (ap is_some (first_none (or_else u l) None w.0)), refl, none_either_way s.is_unused, refl, none_either_way s.is_unused, none_either_way s.is_unused, no_negative n template_literal b refl)
 settled_kind s n sequence_expression b h =
     let u = unused_becomes s sequence_expression b in
     let l = unused_list_becomes s n sequence_expression b in

@@ -15,6 +15,7 @@ pub mod AsSteps
 pub mod EmptyStatement
 pub mod UnusedFunction
 pub mod UnusedDeclarator
+pub mod UntaggedPlace
 pub mod UnusedDeclaration
 pub mod ItemRows
 pub mod ImportFacts
@@ -44,6 +45,7 @@ pub mod FitsBecoming
 pub mod FitsTaking
 pub mod FitsEdits
 pub mod ChoiceRuns
+pub mod Choices
 pub mod BranchKinds
 pub mod ChoiceParts
 pub mod Bare

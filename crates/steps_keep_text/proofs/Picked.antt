@@ -1,7 +1,7 @@
--- What comes of an array, an object literal, a sequence, a choice, a comparison or an operation of known value counts no more.
-use Rattle.std.proofs.Common.{◌≡◌, ◌≤◌, ◌+◌, ℕ, pos, arith, refl}
+-- What comes of an array, an object literal, a sequence, a choice, an operation on two sides or one of known value counts no more.
+use Rattle.std.proofs.Common.{◌≡◌, ◌≤◌, ◌+◌, ℕ, pos, [], arith, refl}
 use Rattle.js_syntax.specs.declared.node_kind.NodeKind.{NodeKind as Kind}
-use Rattle.js_syntax.specs.declared.node_kind.NodeKind.TheVariants.{EmptyStatement as empty_statement, ExpressionStatement as expression_statement, IfStatement as if_statement, ArrayExpression as array_expression, Elements as elements, ObjectExpression as object_expression, Properties as properties, BinaryExpression as binary_expression, SequenceExpression as sequence_expression, Expressions as expressions, ConditionalExpression as conditional_expression, LogicalExpression as logical_expression, UnaryExpression as unary_expression, Literal as literal}
+use Rattle.js_syntax.specs.declared.node_kind.NodeKind.TheVariants.{EmptyStatement as empty_statement, ExpressionStatement as expression_statement, IfStatement as if_statement, ArrayExpression as array_expression, Elements as elements, ObjectExpression as object_expression, Properties as properties, BinaryExpression as binary_expression, SequenceExpression as sequence_expression, TemplateLiteral as template_literal, Expressions as expressions, ConditionalExpression as conditional_expression, LogicalExpression as logical_expression, UnaryExpression as unary_expression, Literal as literal}
 use Rattle.js_syntax.specs.declared.operator.BinaryOperator.{BinaryOperator}
 use Rattle.js_syntax.specs.declared.operator.UnaryOperator.{UnaryOperator}
 use Rattle.js_syntax.specs.declared.operator.UnaryOperator.TheVariants.{UnaryNegation}
@@ -9,9 +9,10 @@ use Rattle.js_syntax.specs.declared.operator.LogicalOperator.{LogicalOperator}
 use Rattle.js_syntax.specs.declared.value.LiteralValue.{LiteralValue}
 use Rattle.js_syntax.specs.declared.value.LiteralValue.TheVariants as value
 use Rattle.js_syntax.specs.Node.{Forest, total}
+use Rattle.json_kept.proofs.Depths.{total_joined}
 use Rattle.steps.proofs.Owed.KnownSizes.{IsSmall}
 use Rattle.js_tree.specs.Count.{one_each}
-use Rattle.steps.proofs.Marked.Picked.{SomeOf, none, stays, leaves, opens, absent_leaves, absent_stays, Picks, one_part, several, part_behind_zero, last_behind_zero, two_parts, after_test, known, signed, zeroed, in_turn}
+use Rattle.steps.proofs.Marked.Picked.{SomeOf, none, stays, leaves, opens, absent_leaves, absent_stays, Picks, one_part, several, part_behind_zero, last_behind_zero, two_parts, after_test, known, signed, zeroed, one_substitution, substitutions, in_turn, with_less_text, Emptied, this_one, a_later_one}
 
 -- counts by which what edits build counts no more than what it is built of
 pub record IsSparing (counts : Kind → ℕ) : Type 0 where
@@ -19,6 +20,7 @@ pub record IsSparing (counts : Kind → ℕ) : Type 0 where
   pub empty_if : counts empty_statement ≤ counts if_statement
   pub of_array : counts sequence_expression ≤ counts array_expression
   pub of_elements : counts expressions ≤ counts elements
+  pub of_template : counts sequence_expression ≤ counts template_literal
   pub of_object : counts sequence_expression ≤ counts object_expression
   pub of_properties : counts expressions ≤ counts properties
   pub of_comparison : (o : BinaryOperator) → counts sequence_expression + counts expressions ≤ counts (binary_expression o)
@@ -39,6 +41,7 @@ uncounted counts empty sequence list small logical minus = record {
   empty_if = Prim.omega (arith, empty);
   of_array = Prim.omega (arith, sequence);
   of_elements = Prim.omega (arith, list);
+  of_template = Prim.omega (arith, sequence);
   of_object = Prim.omega (arith, sequence);
   of_properties = Prim.omega (arith, list);
   of_comparison = λ o. Prim.omega (arith, sequence, list);
@@ -58,9 +61,13 @@ module _ (counts : Kind → ℕ) where
   some_counts none = Prim.omega arith
   some_counts (stays rest) = Prim.omega (arith, some_counts rest)
   some_counts (leaves rest) = Prim.omega (arith, some_counts rest)
-  some_counts (opens rest) = Prim.omega (arith, some_counts rest)
+  some_counts (opens {a = a} {r = r} rest) = Prim.omega (arith, total_joined counts a r, some_counts rest)
   some_counts (absent_leaves rest) = some_counts rest
   some_counts (absent_stays rest) = some_counts rest
+
+  emptied_counts : IsSparing counts → {r s : Forest} → Emptied r s → total counts s ≤ total counts r
+  emptied_counts spares (this_one {k = k} one) = Prim.omega (arith, spares.operand k (value.Text []) one tt)
+  emptied_counts spares (a_later_one rest) = Prim.omega (arith, emptied_counts spares rest)
 
   pub picked_counts : IsSparing counts → {k l : Kind} {a b : Forest} → Picks k a l b → counts l + total counts b ≤ counts k + total counts a
   picked_counts spares (one_part k j l i m parts inner holds some) = Prim.omega (arith, some_counts some)
@@ -76,7 +83,10 @@ module _ (counts : Kind → ℕ) where
   picked_counts spares (after_test conditional_expression m parts left choice some) = Prim.omega (arith, spares.of_conditional, some_counts some)
   picked_counts spares (after_test (logical_expression q) m parts left choice some) = Prim.omega (arith, spares.of_logical q, some_counts some)
   picked_counts spares (after_test k m parts left choice some) = absurd cc
+  picked_counts spares (one_substitution l h i m texts parts inner some) = Prim.omega (arith, some_counts some)
+  picked_counts spares (substitutions h i m texts parts left some) = Prim.omega (arith, spares.of_template, some_counts some)
   picked_counts spares (in_turn o m sides) = Prim.omega (arith, spares.of_comparison o)
+  picked_counts spares (with_less_text o old new less) = Prim.omega (arith, emptied_counts spares less)
   picked_counts spares (known (unary_expression o) below w operator small) = Prim.omega (arith, spares.of_one o w small)
   picked_counts spares (known (binary_expression o) below w operator small) = Prim.omega (arith, spares.of_two o w small)
   picked_counts spares (known k below w operator small) = absurd cc

@@ -73,6 +73,7 @@ nodes_shed = counts_shed one_each (record {
   empty_if = Prim.omega arith;
   of_array = Prim.omega arith;
   of_elements = Prim.omega arith;
+  of_template = Prim.omega arith;
   of_object = Prim.omega arith;
   of_properties = Prim.omega arith;
   of_comparison = λ o. Prim.omega arith;

@@ -592,6 +592,7 @@ is_suspect (Kind.UnaryExpression o) = true
 is_suspect (Kind.BinaryExpression o) = true
 is_suspect Kind.ArrayExpression = true
 is_suspect Kind.SequenceExpression = true
+is_suspect Kind.TemplateLiteral = true
 is_suspect Kind.ObjectExpression = true
 is_suspect (Kind.ImportSpecifier name) = true
 is_suspect Kind.ImportDefaultSpecifier = true
@@ -636,6 +637,7 @@ needed_suspect k below i h = absurd Prim.cc
 list_suspect : (n m : Note) (k : Kind) (below : Forest) (y : Tree) → list_becomes n m k below ≡ Some y → is_suspect k ≡ true
 list_suspect n m Kind.ArrayExpression below y h = refl
 list_suspect n m Kind.SequenceExpression below y h = refl
+list_suspect n m Kind.TemplateLiteral below y h = refl
 list_suspect n m k below y h = absurd Prim.cc
 
 choice_suspect : (k : Kind) (below : Forest) (z : Tree) → part_counts k below ≡ Some z → is_suspect k ≡ true
@@ -685,6 +687,7 @@ runs_suspect (Kind.UnaryExpression o) h = refl
 runs_suspect (Kind.BinaryExpression o) h = refl
 runs_suspect Kind.ArrayExpression h = refl
 runs_suspect Kind.SequenceExpression h = refl
+runs_suspect Kind.TemplateLiteral h = refl
 runs_suspect Kind.ObjectExpression h = refl
 runs_suspect (Kind.ImportSpecifier name) h = refl
 runs_suspect Kind.ImportDefaultSpecifier h = refl

@@ -1,5 +1,5 @@
 -- What becomes of choices of which it is known which part counts, where it matters that this doesn't stand there itself, or the test acts.
-use Rattle.std.proofs.Common.{◌≡◌, ◌∙◌, ◌⊎◌, inl, inr, ◌||◌, ◌+◌, ◌≤◌, ℕ, Bool, true, false, Option, Some, None, if◌then◌else◌, refl, sym, ap, ap₂, subst, arith}
+use Rattle.std.proofs.Common.{◌≡◌, ◌∙◌, inl, inr, ◌||◌, ◌+◌, ◌≤◌, ℕ, Bool, true, false, Option, Some, None, if◌then◌else◌, refl, sym, ap, ap₂, subst, arith}
 use Rattle.js_syntax.specs.declared.node_kind.NodeKind.{NodeKind as Kind}
 use Rattle.js_syntax.specs.declared.node_kind.NodeKind.TheVariants.{ConditionalExpression as conditional_expression, LogicalExpression as logical_expression}
 use Rattle.js_syntax.specs.declared.operator.LogicalOperator.{LogicalOperator}
@@ -13,7 +13,7 @@ use Rattle.min_context.specs.Place.{place_at}
 use Rattle.min_traverse.specs.Lawful.{or_else}
 use Rattle.scope_laws.specs.Place as places
 use Rattle.scope_counts.specs.Edits.{Around}
-use Rattle.steps.specs.Allowed.IndirectChoice.{way_known, one_of, if_so, part_counts, behind_zero, truth_beside, way_beside, in_turn, behind, IndirectChoice, value_alone_counts, part_counts_behind_test}
+use Rattle.steps.specs.Allowed.IndirectChoice.{way_known, one_of, if_so, part_counts, behind_zero, in_turn, behind, IndirectChoice, value_alone_counts, part_counts_behind_test}
 use Rattle.steps.specs.Allowed.KnownConditional.{truth_known}
 use Rattle.steps.specs.Allowed.KnownSide.{side_known}
 use Rattle.steps.specs.Allowed.UnusedOperation.{acts}

@@ -1,7 +1,7 @@
 -- What is left of arrays and sequences of which nobody takes the value.
 use Rattle.std.proofs.Common.{◌≡◌, ◌∙◌, ◌+◌, ◌≤◌, ℕ, zero, suc, pos, negsuc, List, [], ◌∷◌, Bool, true, false, ◌||◌, ◌&&◌, Option, Some, None, if◌then◌else◌, refl, sym, ap, subst, arith}
 use Rattle.js_syntax.specs.declared.node_kind.NodeKind.{NodeKind as Kind}
-use Rattle.js_syntax.specs.declared.node_kind.NodeKind.TheVariants.{ArrayExpression as array_expression, Elements as elements, SequenceExpression as sequence_expression, Expressions as expressions}
+use Rattle.js_syntax.specs.declared.node_kind.NodeKind.TheVariants.{ArrayExpression as array_expression, Elements as elements, SequenceExpression as sequence_expression, Expressions as expressions, TemplateLiteral as template_literal, Quasis as quasis}
 use Rattle.js_syntax.specs.declared.value.LiteralValue.{LiteralValue}
 use Rattle.js_syntax.specs.declared.value.LiteralValue.TheVariants as value
 use Rattle.js_syntax.specs.declared.kind.FunctionKind.{FunctionKind}
@@ -14,6 +14,7 @@ use Rattle.min_context.specs.Place.{place_at}
 use Rattle.scope_laws.specs.Lists.{is_list}
 use Rattle.scope_laws.specs.Place as places
 use Rattle.scope_counts.specs.Edits.{Around}
+use Rattle.js_effects.specs.Silence.{only_combines}
 use Rattle.steps.specs.Allowed.UnusedOperation.{acts}
 use Rattle.steps.specs.Allowed.UnusedList.{acting, all_act, has_spread, as_one, list_becomes, UnusedList, acting_parts_stay}
 use Rattle.steps.specs.Allowed.Uses.{as_value, stands_bare}
@@ -61,6 +62,8 @@ list_as n m i j array_expression (node elements l parts nothing) y e =
     unless_as (has_spread parts) (as_one n m (acting parts)) (as_one i j (acting parts)) y (one_as n m i j (acting parts) y) e
 list_as n m i j sequence_expression (node expressions l parts nothing) y e =
     unless_as (all_act parts) (as_one n m (acting parts)) (as_one i j (acting parts)) y (one_as n m i j (acting parts) y) e
+list_as n m i j template_literal (node quasis h texts (node expressions l parts nothing)) y e =
+    when_as (only_combines template_literal (node quasis h texts (node expressions l parts nothing))) (as_one n m (acting parts)) (as_one i j (acting parts)) y (one_as n m i j (acting parts) y) e
 list_as n m i j k below y e = no_answer e
 
 pub none_as : (n m i j : Note) (k : Kind) (below : Forest) → list_becomes n m k below ≡ None → list_becomes i j k below ≡ None
@@ -98,7 +101,7 @@ list_answers_there a x z rest o = let w = list_answers (before a rest) x z o in 
 
 -- ---- what acts is among the parts
 
-no_more : (r : ℕ) (parts : Forest) → ids r (acting parts) ≤ ids r parts
+pub no_more : (r : ℕ) (parts : Forest) → ids r (acting parts) ≤ ids r parts
 no_more r nothing = Prim.omega arith
 no_more r (absent rest) = no_more r rest
 no_more r (node k n a rest) = if_acts (acts k n a) (no_more r rest)
@@ -107,7 +110,7 @@ no_more r (node k n a rest) = if_acts (acts k n a) (no_more r rest)
     if_acts true h = Prim.omega (arith, h)
     if_acts false h = Prim.omega (arith, h)
 
-no_heavier : (parts : Forest) → total weight (acting parts) ≤ total weight parts
+pub no_heavier : (parts : Forest) → total weight (acting parts) ≤ total weight parts
 no_heavier nothing = Prim.omega arith
 no_heavier (absent rest) = no_heavier rest
 no_heavier (node k n a rest) = if_acts (acts k n a) (no_heavier rest)
@@ -193,6 +196,9 @@ one_little n m (node k l a (absent rest)) y e = several_little n m (node k l a (
 less_array : (n l : Note) (parts : Forest) (y : Tree) → IsLittle y (acting parts) → IsLess (record { kind = array_expression; note = n; below = node elements l parts nothing }) y
 less_array n l parts y h = record { thins = λ r. Prim.omega (arith, h.fewer r, no_more r parts); lighter = Prim.omega (arith, h.lighter, no_heavier parts) }
 
+less_template : (n h l : Note) (texts parts : Forest) (y : Tree) → IsLittle y (acting parts) → IsLess (record { kind = template_literal; note = n; below = node quasis h texts (node expressions l parts nothing) }) y
+less_template n h l texts parts y little = record { thins = λ r. Prim.omega (arith, little.fewer r, no_more r parts); lighter = Prim.omega (arith, little.lighter, no_heavier parts) }
+
 less_sequence : (n l : Note) (parts : Forest) (y : Tree) → all_act parts ≡ false → IsLittle y (acting parts) → IsLess (record { kind = sequence_expression; note = n; below = node expressions l parts nothing }) y
 less_sequence n l parts y idle h = record { thins = λ r. Prim.omega (arith, h.fewer r, no_more r parts); lighter = Prim.omega (arith, h.lighter, lighter_row parts idle) }
 
@@ -207,6 +213,8 @@ unless false o y e = record { holds_not = refl; answers = e }
 list_less : (i j n : Note) (k : Kind) (parts : Forest) (y : Tree) → list_becomes i j k parts ≡ Some y → IsLess (record { kind = k; note = n; below = parts }) y
 list_less i j n array_expression (node elements l parts nothing) y e = let h = unless (has_spread parts) (as_one i j (acting parts)) y e in less_array n l parts y (one_little i j (acting parts) y h.answers)
 list_less i j n sequence_expression (node expressions l parts nothing) y e = let h = unless (all_act parts) (as_one i j (acting parts)) y e in less_sequence n l parts y h.holds_not (one_little i j (acting parts) y h.answers)
+list_less i j n template_literal (node quasis h texts (node expressions l parts nothing)) y e =
+    less_template n h l texts parts y (one_little i j (acting parts) y (taken (only_combines template_literal (node quasis h texts (node expressions l parts nothing))) (as_one i j (acting parts)) y e).answers)
 list_less i j n k parts y e = no_answer e
 
 pub list_is_less : (s : Spot) (n : Note) (k : Kind) (parts : Forest) (y : Tree) → unused_list_becomes s n k parts ≡ Some y → IsLess (record { kind = k; note = n; below = parts }) y

@@ -1,29 +1,29 @@
 -- What is left of object literals of which nobody takes the value.
-use Rattle.std.proofs.Common.{◌≡◌, ◌∙◌, ◌≤◌, ℕ, Bool, true, false, Some, None, if◌then◌else◌, sym, ap, arith}
+use Rattle.std.proofs.Common.{◌≡◌, ◌∙◌, ◌≤◌, ◌+◌, ℕ, Some, None, if◌then◌else◌, sym, ap, arith}
 use Rattle.js_syntax.specs.declared.node_kind.NodeKind.{NodeKind as Kind}
-use Rattle.js_syntax.specs.declared.node_kind.NodeKind.TheVariants.{ObjectExpression as object_expression, Properties as properties, Property as property}
+use Rattle.js_syntax.specs.declared.node_kind.NodeKind.TheVariants.{ObjectExpression as object_expression, Properties as properties}
 use Rattle.js_syntax.specs.Facts.{weight}
-use Rattle.js_syntax.specs.Node.{Forest, Tree, Note, nothing, node, absent, bare, forest_of, total}
+use Rattle.js_syntax.specs.Node.{Forest, Tree, Note, nothing, node, absent, joined, bare, forest_of, total}
 use Rattle.scope_counts.specs.Counts.{ids}
 use Rattle.min_context.specs.Place.{place_at}
 use Rattle.scope_laws.specs.Place as places
 use Rattle.scope_counts.specs.Edits.{Around}
-use Rattle.steps.specs.Allowed.UnusedOperation.{acts}
-use Rattle.steps.specs.Allowed.UnusedList.{as_one}
-use Rattle.steps.specs.Allowed.UnusedObject.{are_plain, acting_values, object_becomes, UnusedObject, acting_values_stay}
+use Rattle.steps.specs.Allowed.UnusedList.{acting, as_one}
+use Rattle.steps.specs.Allowed.UnusedObject.{all_come_apart, keys_and_values, object_becomes, UnusedObject, acting_values_stay}
 use Rattle.rules.specs.DeadCode.Before.{before}
 use Rattle.rules.specs.Expressions.Uses.{Spot, spot_of}
 use Rattle.rules.specs.Expressions.Lists.{new_note, list_note}
 use Rattle.rules.specs.Expressions.Objects.{object_left}
 use Rattle.rules.proofs.Expressions.Uses.{spot_at, spot_before}
 use Rattle.rules.proofs.Expressions.Becoming.{no_answer, IsLess}
-use Rattle.rules.proofs.Expressions.Lists.{HasAnswer, one_as, when_as, IsTaken, taken, one_little}
+use Rattle.rules.proofs.Expressions.Lists.{HasAnswer, one_as, when_as, IsTaken, taken, no_more, no_heavier, one_little}
 
 -- ---- whether an object becomes anything doesn't depend on notes
 
 object_as : (n m i j : Note) (k : Kind) (below : Forest) (y : Tree) → object_becomes n m k below ≡ Some y → HasAnswer (object_becomes i j k below) y
 object_as n m i j object_expression (node properties l es nothing) y e =
-    when_as (are_plain es) (as_one n m (acting_values es)) (as_one i j (acting_values es)) y (one_as n m i j (acting_values es) y) e
+    let left = acting (keys_and_values es) in
+    when_as (all_come_apart es) (as_one n m left) (as_one i j left) y (one_as n m i j left y) e
 object_as n m i j k below y e = no_answer e
 
 -- ---- the answer is an edit, and where an edit applies there is an answer
@@ -48,35 +48,35 @@ object_edits_there a x y rest e = object_edits (before a rest) x y (ap (λ s. ob
 pub object_answers_there : (a : Around) (x z : Tree) (rest : Forest) → UnusedObject (before a rest) x z → (y : Tree) × (object_left (spot_of (place_at a)) x.note x.kind x.below ≡ Some y) × (bare (forest_of y) ≡ bare (forest_of z))
 object_answers_there a x z rest o = let w = object_answers (before a rest) x z o in (w.0, ap (λ s. object_left s x.note x.kind x.below) (spot_before a rest) ∙ w.1, w.2)
 
--- ---- what acts is among the values
+-- ---- keys and values are among the properties
 
-no_more : (r : ℕ) (es : Forest) → ids r (acting_values es) ≤ ids r es
-no_more r nothing = Prim.omega arith
-no_more r (absent rest) = Prim.omega (arith, no_more r rest)
-no_more r (node (property how is_method key) n (absent (node k m a nothing)) rest) = if_acts (acts k m a) (no_more r rest)
-  where
-    if_acts : (b : Bool) → ids r (acting_values rest) ≤ ids r rest → ids r (if b then node k m a (acting_values rest) else acting_values rest) ≤ ids r (node (property how is_method key) n (absent (node k m a nothing)) rest)
-    if_acts true h = Prim.omega (arith, h)
-    if_acts false h = Prim.omega (arith, h)
-no_more r (node k n below rest) = Prim.omega (arith, no_more r rest)
+ids_joined : (r : ℕ) (t u : Forest) → ids r (joined t u) ≡ ids r t + ids r u
+ids_joined r nothing u = Prim.omega arith
+ids_joined r (absent t) u = ids_joined r t u
+ids_joined r (node k n b t) u = Prim.omega (arith, ids_joined r t u)
 
-no_heavier : (es : Forest) → total weight (acting_values es) ≤ total weight es
-no_heavier nothing = Prim.omega arith
-no_heavier (absent rest) = Prim.omega (arith, no_heavier rest)
-no_heavier (node (property how is_method key) n (absent (node k m a nothing)) rest) = if_acts (acts k m a) (no_heavier rest)
-  where
-    if_acts : (b : Bool) → total weight (acting_values rest) ≤ total weight rest
-        → total weight (if b then node k m a (acting_values rest) else acting_values rest) ≤ total weight (node (property how is_method key) n (absent (node k m a nothing)) rest)
-    if_acts true h = Prim.omega (arith, h)
-    if_acts false h = Prim.omega (arith, h)
-no_heavier (node k n below rest) = Prim.omega (arith, no_heavier rest)
+parts_no_more : (r : ℕ) (es : Forest) → ids r (keys_and_values es) ≤ ids r es
+parts_no_more r nothing = Prim.omega arith
+parts_no_more r (absent rest) = parts_no_more r rest
+parts_no_more r (node k n below rest) = Prim.omega (arith, ids_joined r below (keys_and_values rest), parts_no_more r rest)
+
+weight_joined : (t u : Forest) → total weight (joined t u) ≡ total weight t + total weight u
+weight_joined nothing u = Prim.omega arith
+weight_joined (absent t) u = weight_joined t u
+weight_joined (node k n b t) u = Prim.omega (arith, weight_joined t u)
+
+parts_no_heavier : (es : Forest) → total weight (keys_and_values es) ≤ total weight es
+parts_no_heavier nothing = Prim.omega arith
+parts_no_heavier (absent rest) = parts_no_heavier rest
+parts_no_heavier (node k n below rest) = Prim.omega (arith, weight_joined below (keys_and_values rest), parts_no_heavier rest)
 
 -- ---- what is left is less
 
 object_less : (i j n : Note) (k : Kind) (parts : Forest) (y : Tree) → object_becomes i j k parts ≡ Some y → IsLess (record { kind = k; note = n; below = parts }) y
 object_less i j n object_expression (node properties l es nothing) y e =
-    let h = one_little i j (acting_values es) y (taken (are_plain es) (as_one i j (acting_values es)) y e).answers in
-    record { thins = λ r. Prim.omega (arith, h.fewer r, no_more r es); lighter = Prim.omega (arith, h.lighter, no_heavier es) }
+    let parts = keys_and_values es in
+    let h = one_little i j (acting parts) y (taken (all_come_apart es) (as_one i j (acting parts)) y e).answers in
+    record { thins = λ r. Prim.omega (arith, h.fewer r, no_more r parts, parts_no_more r es); lighter = Prim.omega (arith, h.lighter, no_heavier parts, parts_no_heavier es) }
 object_less i j n k parts y e = no_answer e
 
 pub object_is_less : (s : Spot) (n : Note) (k : Kind) (parts : Forest) (y : Tree) → object_left s n k parts ≡ Some y → IsLess (record { kind = k; note = n; below = parts }) y

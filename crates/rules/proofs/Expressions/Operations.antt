@@ -1,5 +1,5 @@
 -- What becomes of operations of which the value is known.
-use Rattle.std.proofs.Common.{◌≡◌, ◌⊎◌, inl, inr, ◌≤◌, ℕ, Bool, true, false, not, ◌||◌, Option, Some, None, if◌then◌else◌, refl, ap, ap₂, subst, arith}
+use Rattle.std.proofs.Common.{◌≡◌, inl, inr, ◌≤◌, ℕ, Bool, true, false, not, ◌||◌, Option, Some, None, if◌then◌else◌, refl, ap, ap₂, subst, arith}
 use Rattle.js_syntax.specs.declared.node_kind.NodeKind.{NodeKind as Kind}
 use Rattle.js_syntax.specs.declared.node_kind.NodeKind.TheVariants.{Literal as literal, UnaryExpression as unary_expression, BinaryExpression as binary_expression}
 use Rattle.js_syntax.specs.declared.value.LiteralValue.{LiteralValue}

@@ -4,7 +4,7 @@ use Rattle.js_syntax.specs.declared.node_kind.NodeKind.{NodeKind as Kind}
 use Rattle.js_syntax.specs.declared.node_kind.NodeKind.TheVariants.{IfStatement as if_statement}
 use Rattle.js_syntax.specs.Facts.{weight}
 use Rattle.js_syntax.specs.Node.{Forest, Tree, Note, nothing, node, absent, total}
-use Rattle.js_syntax.proofs.Truth.{both, first_of_both, second_of_both}
+use Rattle.js_syntax.proofs.Truth.{first_of_both, second_of_both}
 use Rattle.scope_counts.specs.Counts.{ids}
 use Rattle.steps.specs.Allowed.Branches.{declares_no_name}
 use Rattle.steps.specs.Allowed.KnownIf.{an_if}

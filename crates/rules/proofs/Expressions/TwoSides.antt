@@ -1,26 +1,49 @@
--- What becomes of comparisons of which nobody takes the value, and of which both sides act.
-use Rattle.std.proofs.Common.{◌≡◌, ◌∙◌, Some, None, if◌then◌else◌, sym, ap, arith}
+-- What becomes of operations on two sides of which nobody takes the value: both act, or a text stands beside what does.
+use Rattle.std.proofs.Common.{◌≡◌, ◌∙◌, Bool, true, false, ◌&&◌, Option, Some, None, if◌then◌else◌, refl, sym, ap, subst, arith}
 use Rattle.js_syntax.specs.declared.node_kind.NodeKind.{NodeKind as Kind}
 use Rattle.js_syntax.specs.declared.node_kind.NodeKind.TheVariants.{BinaryExpression as binary_expression}
+use Rattle.js_syntax.specs.declared.operator.BinaryOperator.TheVariants.{Addition as addition}
 use Rattle.js_syntax.specs.Node.{Forest, Tree, Note, nothing, node, bare, forest_of}
 use Rattle.min_context.specs.Place.{place_at}
 use Rattle.scope_laws.specs.Place as places
 use Rattle.scope_counts.specs.Edits.{Around}
-use Rattle.steps.specs.Allowed.TwoSides.{two_sides, TwoSides, both_sides_act}
+use Rattle.js_effects.specs.Silence.{only_combines}
+use Rattle.steps.specs.Allowed.TwoSides.{is_full_text, empty_text, text_emptied, two_sides, TwoSides, both_sides_act}
+use Rattle.steps.specs.Allowed.UnusedOperation.{acts}
+use Rattle.steps.proofs.Owed.TwoSides.{Sides, both_act, first_text, second_text, are_sides}
 use Rattle.rules.specs.DeadCode.Before.{before}
 use Rattle.rules.specs.Expressions.Uses.{Spot, spot_of}
 use Rattle.rules.specs.Expressions.Lists.{new_note}
 use Rattle.rules.specs.Expressions.TwoSides.{two_sides_become}
 use Rattle.rules.proofs.Expressions.Uses.{spot_at, spot_before}
-use Rattle.rules.proofs.Expressions.Becoming.{no_answer, IsLess}
-use Rattle.rules.proofs.Expressions.Lists.{HasAnswer, made, several_as, when_as, IsTaken, taken, several_little}
+use Rattle.rules.proofs.Expressions.Becoming.{no_answer, same_answer, IsLess}
+use Rattle.rules.proofs.Expressions.Lists.{HasAnswer, answer, made, several_as, when_as, IsTaken, taken, several_little}
 
--- ---- whether a comparison becomes anything doesn't depend on notes
+-- ---- whether an operation becomes anything doesn't depend on notes
+
+-- of two answers by a decision
+either_as : (b : Bool) (o p q r : Option Tree) (y : Tree) → (o ≡ Some y → HasAnswer p y) → (q ≡ Some y → HasAnswer r y) → (if b then o else q) ≡ Some y → HasAnswer (if b then p else r) y
+either_as true o p q r y h g e = h e
+either_as false o p q r y h g e = g e
+
+abbrev sum : Note → Forest → Tree
+sum n sides = record { kind = binary_expression addition; note = n; below = sides }
+
+sum_as : (n i : Note) (sides : Forest) (y : Tree) → Some (sum n sides) ≡ Some y → HasAnswer (Some (sum i sides)) y
+sum_as n i sides y e = subst (λ z. HasAnswer (Some (sum i sides)) z) (same_answer e) (answer (sum i sides) (sum n sides) refl)
+
+text_as : (n i : Note) (k : Kind) (parts : Forest) (y : Tree) → text_emptied n k parts ≡ Some y → HasAnswer (text_emptied i k parts) y
+text_as n i (binary_expression addition) (node k g a (node l h b nothing)) y e =
+    let first : Forest = node empty_text g nothing (node l h b nothing) in
+    let second : Forest = node k g a (node empty_text h nothing nothing) in
+    either_as (is_full_text k && acts l h b) (Some (sum n first)) (Some (sum i first)) (if is_full_text l && acts k g a then Some (sum n second) else None) (if is_full_text l && acts k g a then Some (sum i second) else None) y (sum_as n i first y)
+    (when_as (is_full_text l && acts k g a) (Some (sum n second)) (Some (sum i second)) y (sum_as n i second y)) e
+text_as n i k parts y e = no_answer e
 
 two_sides_as : (n m i j : Note) (k : Kind) (parts : Forest) (y : Tree) → two_sides n m k parts ≡ Some y → HasAnswer (two_sides i j k parts) y
 two_sides_as n m i j (binary_expression o) (node k g a (node l h b nothing)) y e =
     let both : Forest = node k g a (node l h b nothing) in
-    when_as _ (Some (made n m both)) (Some (made i j both)) y (several_as n m i j both y) e
+    either_as (only_combines (binary_expression o) both && (acts k g a && acts l h b)) (Some (made n m both)) (Some (made i j both)) (text_emptied n (binary_expression o) both) (text_emptied i (binary_expression o) both) y (several_as n m i j both y) (text_as n i (binary_expression o) both y) e
 two_sides_as n m i j k parts y e = no_answer e
 
 -- ---- the answer is an edit, and where an edit applies there is an answer
@@ -43,14 +66,15 @@ two_sides_edits_there a x y rest e = two_sides_edits (before a rest) x y (ap (λ
 pub two_sides_answers_there : (a : Around) (x z : Tree) (rest : Forest) → TwoSides (before a rest) x z → (y : Tree) × (two_sides_become (spot_of (place_at a)) x.note x.kind x.below ≡ Some y) × (bare (forest_of y) ≡ bare (forest_of z))
 two_sides_answers_there a x z rest o = let w = two_sides_answers (before a rest) x z o in (w.0, ap (λ s. two_sides_become s x.note x.kind x.below) (spot_before a rest) ∙ w.1, w.2)
 
--- ---- the comparison weighs more than a sequence
+-- ---- the operation weighs more than a sequence, and a text more than the empty one
 
-two_sides_less : (i j n : Note) (k : Kind) (parts : Forest) (y : Tree) → two_sides i j k parts ≡ Some y → IsLess (record { kind = k; note = n; below = parts }) y
-two_sides_less i j n (binary_expression o) (node k g a (node l m b nothing)) y e =
-    let both : Forest = node k g a (node l m b nothing) in
-    let h = several_little i j both y (taken _ (Some (made i j both)) y e).answers in
-    record { thins = λ r. Prim.omega (arith, h.fewer r); lighter = Prim.omega (arith, h.lighter) }
-two_sides_less i j n k parts y e = no_answer e
+sides_less : {i j : Note} {k : Kind} {parts : Forest} {y : Tree} (n : Note) → Sides i j k parts y → IsLess (record { kind = k; note = n; below = parts }) y
+sides_less {i = i} {j = j} n (both_act o k l g h a b combines) =
+    let both : Forest = node k g a (node l h b nothing) in
+    let little = several_little i j both (made i j both) refl in
+    record { thins = λ r. Prim.omega (arith, little.fewer r); lighter = Prim.omega (arith, little.lighter) }
+sides_less n (first_text c cs l g h a b) = record { thins = λ r. Prim.omega arith; lighter = Prim.omega arith }
+sides_less n (second_text c cs k g h a b) = record { thins = λ r. Prim.omega arith; lighter = Prim.omega arith }
 
 pub two_sides_is_less : (s : Spot) (n : Note) (k : Kind) (parts : Forest) (y : Tree) → two_sides_become s n k parts ≡ Some y → IsLess (record { kind = k; note = n; below = parts }) y
-two_sides_is_less s n k parts y e = two_sides_less (new_note n) (new_note n) n k parts y (two_sides_at s n k parts y e).answers
+two_sides_is_less s n k parts y e = sides_less n (are_sides (new_note n) (new_note n) k parts y (two_sides_at s n k parts y e).answers)

@@ -2,8 +2,6 @@
 use Rattle.std.proofs.Common.{◌≡◌, ◌∙◌, ◌≤◌, ◌⊎◌, inl, inr, ℕ, zero, suc, Bool, true, false, Option, Some, None, if◌then◌else◌, refl, sym, ap, subst, arith}
 use Rattle.js_syntax.specs.declared.node_kind.NodeKind.{NodeKind as Kind}
 use Rattle.js_syntax.specs.declared.node_kind.NodeKind.TheVariants.{UnaryExpression as unary_expression, BinaryExpression as binary_expression, LogicalExpression as logical_expression, ConditionalExpression as conditional_expression}
-use Rattle.js_syntax.specs.declared.operator.UnaryOperator.{UnaryOperator}
-use Rattle.js_syntax.specs.declared.operator.BinaryOperator.{BinaryOperator}
 use Rattle.js_syntax.specs.Facts.{weight}
 use Rattle.js_syntax.specs.Node.{Forest, Tree, Note, nothing, node, absent, forest_of, total}
 use Rattle.min_traverse.specs.Lawful.{or_same}
@@ -13,6 +11,8 @@ use Rattle.scope_laws.specs.Place as places
 use Rattle.scope_counts.specs.Edits.{Around}
 use Rattle.steps.specs.Allowed.Child.{child_at}
 use Rattle.steps.specs.Allowed.Unused.{is_unused_at}
+use Rattle.js_effects.specs.Silence.{only_combines}
+use Rattle.steps.specs.Allowed.Uses.{Use, operand_of}
 use Rattle.steps.specs.Allowed.UnusedOperation.{acts, index_if, operand_needed, side_needed, left_needed, condition_needed, needed_at, UnusedOperation, one_operand_acts}
 use Rattle.rules.specs.DeadCode.Before.{before}
 use Rattle.rules.specs.Expressions.Uses.{Spot, spot_of}
@@ -43,13 +43,13 @@ one_there : (k l : Kind) (n m : Note) (a c rest : Forest) (right b d : Bool) (i 
 one_there k l n m a c rest true b d i e = second_there k l n m a c rest b i e
 one_there k l n m a c rest false b d i e = first_there k n a (node l m c rest) d i e
 
-operand_there : (o : UnaryOperator) (below : Forest) (i : ℕ) → operand_needed o below ≡ Some i → Child i below
-operand_there o (node k n a nothing) i e = first_there k n a nothing _ i e
-operand_there o below i e = no_index e
+operand_there : (u : Use) (below : Forest) (i : ℕ) → operand_needed u below ≡ Some i → Child i below
+operand_there u (node k n a nothing) i e = first_there k n a nothing _ i e
+operand_there u below i e = no_index e
 
-side_there : (o : BinaryOperator) (below : Forest) (i : ℕ) → side_needed o below ≡ Some i → Child i below
-side_there o (node k n a (node l m b nothing)) i e = one_there k l n m a b nothing (acts l m b) _ _ i e
-side_there o below i e = no_index e
+side_there : (below : Forest) (i : ℕ) → side_needed below ≡ Some i → Child i below
+side_there (node k n a (node l m b nothing)) i e = one_there k l n m a b nothing (acts l m b) _ _ i e
+side_there below i e = no_index e
 
 left_there : (below : Forest) (i : ℕ) → left_needed below ≡ Some i → Child i below
 left_there (node k n a (node l m b nothing)) i e = first_there k n a (node l m b nothing) _ i e
@@ -59,9 +59,14 @@ condition_there : (below : Forest) (i : ℕ) → condition_needed below ≡ Some
 condition_there (node k n a (node l m b (node j h c nothing))) i e = first_there k n a (node l m b (node j h c nothing)) _ i e
 condition_there below i e = no_index e
 
+-- of an operation that does nothing itself
+when_combined : {i : ℕ} {o : Option ℕ} (b : Bool) → (if b then o else None) ≡ Some i → o ≡ Some i
+when_combined true e = e
+when_combined false e = no_index e
+
 needed_there : (k : Kind) (below : Forest) (i : ℕ) → needed_at k below ≡ Some i → Child i below
-needed_there (unary_expression o) below i e = operand_there o below i e
-needed_there (binary_expression o) below i e = side_there o below i e
+needed_there (unary_expression o) below i e = operand_there (operand_of o) below i (when_combined (only_combines (unary_expression o) below) e)
+needed_there (binary_expression o) below i e = side_there below i (when_combined (only_combines (binary_expression o) below) e)
 needed_there (logical_expression o) below i e = left_there below i e
 needed_there conditional_expression below i e = condition_there below i e
 needed_there k below i e = no_index e

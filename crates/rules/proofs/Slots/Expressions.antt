@@ -1,13 +1,13 @@
 -- In a tree that fits the table of node types each expression has the slot of expressions, but for the kinds that a chain, a directive
 -- or a method may hold.
-use Rattle.std.proofs.Common.{◌≡◌, ◌∙◌, inl, inr, ℕ, ◌==◌, List, [], ◌∷◌, Bool, true, false, not, ◌&&◌, ◌||◌, if◌then◌else◌, Some, None, refl, sym, ap, true≢false}
+use Rattle.std.proofs.Common.{◌≡◌, ◌∙◌, ℕ, [], ◌∷◌, Bool, true, false, not, ◌&&◌, if◌then◌else◌, Some, None, refl, sym, ap, true≢false}
 use Rattle.js_syntax.specs.Class.{Class, root, chain_part, directive_text, method_value}
 use Rattle.js_syntax.specs.declared.kind.PropertyKind.{PropertyKind}
 use Rattle.js_syntax.specs.declared.kind.PropertyKind.TheVariants as property_kind
 use Rattle.js_syntax.specs.declared.node_kind.NodeKind.{NodeKind as Kind}
 use Rattle.js_syntax.specs.Node.{Forest}
 use Rattle.js_syntax.specs.Table.{Row, a_call_expression, a_member_expression, a_text_literal, a_literal, a_reg_exp, a_function_expression, a_property, a_method_property, fields_of, type_of, stands}
-use Rattle.json_shape.specs.Shape.{Values, kind_in, IsChosen, is_method, first_of, Place as Planned, one, maybe_one, beyond, key_node, key_apart, list, list_with_holes, body, item_or_hole, item_of_body, places, Plan, IsOf, IsAt, Fits}
+use Rattle.json_shape.specs.Shape.{Values, kind_in, IsChosen, is_method, first_of, Place as Planned, one, maybe_one, places, Plan, IsOf, IsAt, Fits}
 use Rattle.json_shape.proofs.Choice.{is_list_kind}
 use Rattle.min_context.specs.Above.{holds_method, parent_of}
 use Rattle.min_context.specs.Place.{told_of, top}

@@ -1,5 +1,5 @@
 -- Both together.
-use Rattle.std.proofs.Common.{◌≡◌, ◌∙◌, sym, ap}
+use Rattle.std.proofs.Common.{◌∙◌, ap}
 use Rattle.js_syntax.specs.Class.{root}
 use Rattle.js_syntax.specs.Node.{Forest, Tree}
 use Rattle.json_shape.specs.Shape.{Fits}

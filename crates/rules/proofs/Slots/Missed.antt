@@ -1,5 +1,5 @@
 -- Of rows and trees, whether a node of some kinds stands at a place where it would be missed.
-use Rattle.std.proofs.Common.{◌≡◌, ◌∙◌, ℕ, suc, ◌++◌, List, [], ◌∷◌, Bool, true, false, not, ◌&&◌, Option, Some, None, slice_index_or, refl, sym, ap, true≢false}
+use Rattle.std.proofs.Common.{◌≡◌, ◌∙◌, ℕ, suc, ◌++◌, List, [], ◌∷◌, Bool, true, false, not, ◌&&◌, Some, None, slice_index_or, refl, sym, ap, true≢false}
 use Rattle.std.proofs.lemmas.List.{reverse-append}
 use Rattle.js_syntax.specs.Class.{root}
 use Rattle.js_syntax.specs.declared.node_kind.NodeKind.{NodeKind as Kind}

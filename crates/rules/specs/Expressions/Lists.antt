@@ -1,4 +1,4 @@
--- Arrays and sequences of which nobody takes the value.
+-- Arrays, sequences and templates of which nobody takes the value.
 use Rattle.std.specs.Prelude.{Option, None, if◌then◌else◌}
 use Rattle.js_syntax.specs.declared.node_kind.NodeKind.{NodeKind as Kind}
 use Rattle.js_syntax.specs.Node.{Forest, Tree, Note, node, nowhere}
@@ -10,7 +10,7 @@ use Rattle.rules.specs.Expressions.Uses.{Spot, spot_of}
 abbrev pub new_note : Note → Note
 new_note n = record { span = n.span; id = None }
 
--- of the list below an array or a sequence
+-- of the list below an array or a sequence, and of that of a template's texts
 abbrev pub list_note : (parts : Forest) → Note
 list_note (node k n below rest) = n
 list_note parts = nowhere

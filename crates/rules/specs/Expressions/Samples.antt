@@ -118,6 +118,10 @@ truth b = leaf (Kind.Literal (value.Boolean b))
 abbrev pub a_function : Forest
 a_function = function_of function_kind.Expression no [] []
 
+-- [e]() {}
+abbrev pub computed_method : (e : Forest) → Forest
+computed_method e = over (Kind.Property property_kind.Init true key_below) (joined e a_function)
+
 -- while (1) body
 abbrev pub endless : Forest → Forest
 endless body = over Kind.WhileStatement (joined (leaf (Kind.Literal (value.Number (pos 1)))) body)

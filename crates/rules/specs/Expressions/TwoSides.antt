@@ -1,4 +1,4 @@
--- Comparisons of which nobody takes the value, and of which both sides act.
+-- Operations on two sides of which nobody takes the value: both act, or a text stands beside what does.
 use Rattle.std.specs.Prelude.{Option, None, if◌then◌else◌}
 use Rattle.js_syntax.specs.declared.node_kind.NodeKind.{NodeKind as Kind}
 use Rattle.js_syntax.specs.Node.{Forest, Tree, Note}

@@ -70,7 +70,7 @@ pub fn answers_are_edits()
 {}
 
 /// Law: and where such an edit applies the rule answers what it leaves, or what more of them leave of that. Of a list, of what goes
-/// behind a zero, of a conditional one branch of which acts, of a sequence, of a comparison both sides of which act, of an object, and
+/// behind a zero, of a conditional one branch of which acts, of a sequence, of an operation both sides of which act, of an object, and
 /// of an operation of known value it answers what the edit leaves but for the notes of the new nodes.
 pub fn edits_are_answers()
     ensures conditional { (a : Around) (x y : Tree) (rest : Forest) → KnownConditional (before a rest) x y → conditional_becomes (spot_of (place_at a)) x.kind x.below ≡ Some y }

@@ -6,7 +6,7 @@ ghost use Rattle.js_syntax.specs.declared.operator.UnaryOperator.TheVariants as 
 ghost use Rattle.form_rules.specs.Samples.{a_module, a, no, reads, one, does, calls, let_, var_, block};
 ghost use Rattle.scope_rules.specs.Samples.{b};
 ghost use Rattle.steps.specs.Allowed.Rows.{null, conditional, either_way, empty, with_a};
-ghost use Rattle.rules.specs.Expressions.Samples.{left, left_of, doing, uses, member, logical, binary, unary, parenthesized, array, spread, sequence, indirect, empty_text, a_function, object, keyed, computed, number, word, truth, endless, template};
+ghost use Rattle.rules.specs.Expressions.Samples.{left, left_of, doing, uses, member, logical, binary, unary, parenthesized, array, spread, sequence, indirect, empty_text, a_function, object, keyed, computed, computed_method, number, word, truth, endless, template};
 
 /// A conditional on a test that is known becomes the branch that is taken, at any depth. A test that acts is left, and the branch behind
 /// it.
@@ -83,6 +83,8 @@ pub fn operations_left()
     ensures compared { left_of (unary unary_operator.LogicalNot (binary binary_operator.StrictEquality (calls (reads a)) one)) ≡ doing (calls (reads a)) }
     ensures negated { left_of (unary unary_operator.LogicalNot (unary unary_operator.LogicalNot (unary unary_operator.LogicalNot (calls (reads a))))) ≡ doing (calls (reads a)) }
     ensures typeof_call { left_of (unary unary_operator.Typeof (calls (reads a))) ≡ doing (calls (reads a)) }
+    ensures sign { left_of (unary unary_operator.UnaryNegation (unary unary_operator.LogicalNot (calls (reads a)))) ≡ doing (calls (reads a)) }
+    ensures primitive_side { left_of (binary binary_operator.Multiplication (unary unary_operator.LogicalNot (calls (reads a))) one) ≡ doing (calls (reads a)) }
     ensures left_side { left_of (logical logical_operator.And (calls (reads a)) one) ≡ doing (calls (reads a)) }
     ensures condition { left_of (conditional (calls (reads a)) one null) ≡ doing (calls (reads a)) }
     ensures right_side { left_of (binary binary_operator.StrictEquality one (calls (reads a))) ≡ doing (calls (reads a)) }
@@ -142,13 +144,23 @@ pub fn sequences_left()
     ensures function { left_of (uses (sequence (one ∷ a_function ∷ []))) ≡ doing (uses (indirect a_function)) }
 {}
 
-/// Where nobody takes the value of a comparison, and both sides act, it becomes a sequence of these. No name is known.
+/// Where nobody takes the value of an operation that does nothing itself, and both sides act, it becomes a sequence of these. No name is
+/// known.
 pub fn both_sides_left()
     ensures calls { left_of (binary binary_operator.StrictEquality (calls (reads a)) (calls (reads b))) ≡ doing (sequence (calls (reads a) ∷ calls (reads b) ∷ [])) }
     ensures names { left_of (binary binary_operator.LessThan (reads a) (reads b)) ≡ doing (sequence (reads a ∷ reads b ∷ [])) }
+    ensures primitive { left_of (binary binary_operator.Subtraction (unary unary_operator.LogicalNot (calls (reads a))) (unary unary_operator.Typeof (calls (reads b)))) ≡ doing (sequence (unary unary_operator.LogicalNot (calls (reads a)) ∷ unary unary_operator.Typeof (calls (reads b)) ∷ [])) }
     ensures in_branch { left_of (logical logical_operator.And (reads a) (binary binary_operator.Inequality (calls (reads a)) (calls (reads b)))) ≡ doing (logical logical_operator.And (reads a) (sequence (calls (reads a) ∷ calls (reads b) ∷ []))) }
     ensures sum { left_of (binary binary_operator.Addition (calls (reads a)) (calls (reads b))) ≡ doing (binary binary_operator.Addition (calls (reads a)) (calls (reads b))) }
     ensures used { left_of (uses (binary binary_operator.StrictEquality (calls (reads a)) (calls (reads b)))) ≡ doing (uses (binary binary_operator.StrictEquality (calls (reads a)) (calls (reads b)))) }
+{}
+
+/// Where nobody takes the value of a sum of a text and what acts, the text becomes the empty one.
+pub fn texts_left()
+    ensures before { left_of (binary binary_operator.Addition (word (codes "a")) (calls (reads a))) ≡ doing (binary binary_operator.Addition empty_text (calls (reads a))) }
+    ensures behind { left_of (binary binary_operator.Addition (calls (reads a)) (word (codes "a"))) ≡ doing (binary binary_operator.Addition (calls (reads a)) empty_text) }
+    ensures within { left_of (binary binary_operator.Addition (binary binary_operator.Addition (word (codes "a")) (calls (reads a))) (word (codes "b"))) ≡ doing (binary binary_operator.Addition (binary binary_operator.Addition (word (codes "a")) (calls (reads a))) empty_text) }
+    ensures used { left_of (uses (binary binary_operator.Addition (word (codes "a")) (calls (reads a)))) ≡ doing (uses (binary binary_operator.Addition (word (codes "a")) (calls (reads a)))) }
 {}
 
 /// Where nobody takes the value of an object literal the values are left that act, and one of them alone. A function doesn't act.
@@ -159,10 +171,19 @@ pub fn values_left()
     ensures in_branch { left_of (logical logical_operator.And (reads a) (object (keyed a (calls (reads b)) ∷ []))) ≡ doing (logical logical_operator.And (reads a) (calls (reads b))) }
 {}
 
-/// It stays where its value is used, and where a key is computed, a property is spread, or one sets the prototype (13.2.5.5, B.3.1).
+/// Before each value its key is left, if that is an expression that acts, where that is known to give a primitive value.
+pub fn keys_left()
+    ensures both { left_of (object (computed (unary unary_operator.LogicalNot (calls (reads a))) (calls (reads b)) ∷ [])) ≡ doing (sequence (unary unary_operator.LogicalNot (calls (reads a)) ∷ calls (reads b) ∷ [])) }
+    ensures one_key { left_of (object (computed (unary unary_operator.LogicalNot (calls (reads a))) one ∷ keyed b one ∷ [])) ≡ doing (unary unary_operator.LogicalNot (calls (reads a))) }
+    ensures one_value { left_of (object (computed (word (codes "__proto__")) (calls (reads a)) ∷ computed_method (number 1) ∷ [])) ≡ doing (calls (reads a)) }
+{}
+
+/// It stays where its value is used, and where a key may be an object, that of a method acts, a property is spread, or one sets the
+/// prototype (13.2.5.5, B.3.1).
 pub fn objects_that_stay()
     ensures used { left_of (uses (object (keyed a (calls (reads a)) ∷ []))) ≡ doing (uses (object (keyed a (calls (reads a)) ∷ []))) }
     ensures computed { left_of (object (computed (reads a) (calls (reads a)) ∷ [])) ≡ doing (object (computed (reads a) (calls (reads a)) ∷ [])) }
+    ensures method { left_of (object (computed_method (unary unary_operator.LogicalNot (calls (reads a))) ∷ [])) ≡ doing (object (computed_method (unary unary_operator.LogicalNot (calls (reads a))) ∷ [])) }
     ensures spread { left_of (object (spread (reads a) ∷ keyed a (calls (reads a)) ∷ [])) ≡ doing (object (spread (reads a) ∷ keyed a (calls (reads a)) ∷ [])) }
     ensures prototype { left_of (object (keyed (codes "__proto__") (calls (reads a)) ∷ [])) ≡ doing (object (keyed (codes "__proto__") (calls (reads a)) ∷ [])) }
 {}

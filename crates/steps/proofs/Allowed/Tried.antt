@@ -44,7 +44,7 @@ use Rattle.steps.specs.Allowed.TwoSides.{both_sides_act}
 use Rattle.steps.specs.Allowed.UnusedObject.{acting_values_stay}
 use Rattle.steps.specs.Allowed.KnownOperation.{known_literal, value_is_known, negative_is_known}
 use Rattle.steps.specs.Allowed.Edits.{Edit, leaves, becomes, empty_statement, empty_block, silent_statement, unused_function, unused_declaration, unused_import, unreached, untaken, idle_statement, repeated_import, known_conditional, known_side, known_if, dead_if, unused_operation, unused_list, indirect_choice, one_sided_choice, idle_parts, two_sides, unused_object, known_operation, unrun_value, idle_try}
-use Rattle.steps.specs.Allowed.Rows.{breaks_label, labeled_too, labeled, branch_of_if, in_branch, in_function, in_function_by, value_of_a, zero, loop, debugger, throwing_block, throwing_branch, broken_label, past, in_list, before, throws, behind_throw, call_of_a, null, if_one, if_null, either_way, conditional, logical, may_be_named, o_f, parenthesized, in_statement, called, called_in_parentheses, called_in_with, argument, operand, applied, equals, assigned, statement, ComesOut, Stays, StaysUnused, array, spread, hole, sequence, ListStays, ChoiceStays, PartsStay, SidesStay, object, a_is, b_is, getter_of_a, ObjectStays, literal, operation, OperationStays, behind_zero, placed, StaysDirect, FollowsNone, with_a, in_with_a, empty, a_is_read, a_is_exported, imports_nothing, behind_import, only_import, tried, tried_finally, finally_alone, while_, for_, loop}
+use Rattle.steps.specs.Allowed.Rows.{breaks_label, labeled_too, labeled, branch_of_if, in_branch, in_function, in_function_by, value_of_a, zero, loop, debugger, throwing_block, throwing_branch, broken_label, past, in_list, before, throws, behind_throw, call_of_a, null, if_one, if_null, either_way, conditional, logical, may_be_named, o_f, parenthesized, in_statement, called, called_in_parentheses, called_in_with, argument, operand, applied, equals, difference, sum, text, empty_text, assigned, statement, ComesOut, Stays, StaysUnused, array, spread, hole, sequence, ListStays, ChoiceStays, PartsStay, SidesStay, object, a_is, b_is, getter_of_a, keyed_by, method_by, not_a, ObjectStays, literal, operation, OperationStays, behind_zero, placed, StaysDirect, FollowsNone, with_a, in_with_a, empty, a_is_read, a_is_exported, imports_nothing, behind_import, only_import, tried, tried_finally, finally_alone, while_, for_, loop}
 
 pub empties_in_list : Edit (a_module (does one ∷ [])) (a_module (empty ∷ []))
 empties_in_list = becomes (before []) _ _ (silent_statement (silent_statement_empties nowhere nowhere nowhere _ nothing (inl refl, tt)))
@@ -274,6 +274,9 @@ negation_goes = becomes_first (Kind.UnaryExpression unary.LogicalNot) _ _ _ _ re
 pub typeof_goes : Edit (a_module (does (applied unary.Typeof call_of_a) ∷ [])) (a_module (does call_of_a ∷ []))
 typeof_goes = becomes_first (Kind.UnaryExpression unary.Typeof) _ _ _ _ refl
 
+pub sign_goes : Edit (a_module (does (applied unary.UnaryNegation not_a) ∷ [])) (a_module (does not_a ∷ []))
+sign_goes = becomes_first (Kind.UnaryExpression unary.UnaryNegation) _ _ _ _ refl
+
 pub first_side_stays : Edit (a_module (does (equals call_of_a one) ∷ [])) (a_module (does call_of_a ∷ []))
 first_side_stays = becomes_first (Kind.BinaryExpression binary.StrictEquality) _ _ _ _ refl
 
@@ -444,7 +447,7 @@ called_member_stays_behind y (idle_parts_leave n m _ _ is) = no_list is
 pub acting_parts_all_stay : PartsStay argument (sequence (call_of_a ∷ one ∷ []))
 acting_parts_all_stay y (idle_parts_leave n m _ _ is) = no_list is
 
--- ---- comparisons of which both sides act
+-- ---- operations of which both sides act
 
 pub acting_sides_stay : Edit (a_module (does (equals call_of_a o_f) ∷ [])) (a_module (does (sequence (call_of_a ∷ o_f ∷ [])) ∷ []))
 acting_sides_stay = becomes there _ _ (two_sides (both_sides_act nowhere nowhere _ _ refl refl))
@@ -452,8 +455,31 @@ acting_sides_stay = becomes there _ _ (two_sides (both_sides_act nowhere nowhere
 pub one_acting_side_stays : SidesStay statement (equals call_of_a one)
 one_acting_side_stays y (both_sides_act n m _ _ unused is) = no_list is
 
+pub primitive_sides_stay : Edit (a_module (does (difference not_a not_a) ∷ [])) (a_module (does (sequence (not_a ∷ not_a ∷ [])) ∷ []))
+primitive_sides_stay = becomes there _ _ (two_sides (both_sides_act nowhere nowhere _ _ refl refl))
+
+pub converting_sides_stay : SidesStay statement (difference not_a call_of_a)
+converting_sides_stay y (both_sides_act n m _ _ unused is) = no_list is
+
 pub used_comparison_stays : SidesStay argument (equals call_of_a o_f)
 used_comparison_stays y (both_sides_act n m _ _ unused is) = true≢false (sym unused)
+
+-- ---- sums of a text and what acts
+
+pub text_before_becomes_empty : Edit (a_module (does (sum text call_of_a) ∷ [])) (a_module (does (sum empty_text call_of_a) ∷ []))
+text_before_becomes_empty = becomes there _ _ (two_sides (both_sides_act nowhere nowhere _ _ refl refl))
+
+pub text_behind_becomes_empty : Edit (a_module (does (sum call_of_a text) ∷ [])) (a_module (does (sum call_of_a empty_text) ∷ []))
+text_behind_becomes_empty = becomes there _ _ (two_sides (both_sides_act nowhere nowhere _ _ refl refl))
+
+pub empty_text_stays : SidesStay statement (sum empty_text call_of_a)
+empty_text_stays y (both_sides_act n m _ _ unused is) = no_list is
+
+pub used_text_stays : SidesStay argument (sum text call_of_a)
+used_text_stays y (both_sides_act n m _ _ unused is) = true≢false (sym unused)
+
+pub number_in_a_sum_stays : SidesStay statement (sum one call_of_a)
+number_in_a_sum_stays y (both_sides_act n m _ _ unused is) = no_list is
 
 -- ---- object literals of which nobody takes the value
 
@@ -462,6 +488,18 @@ acting_value_stays = becomes there _ _ (unused_object (acting_values_stay nowher
 
 pub acting_values_all_stay : Edit (a_module (does (object (a_is call_of_a ∷ b_is o_f ∷ [])) ∷ [])) (a_module (does (sequence (call_of_a ∷ o_f ∷ [])) ∷ []))
 acting_values_all_stay = becomes there _ _ (unused_object (acting_values_stay nowhere nowhere _ _ refl refl))
+
+pub computed_keys_stay : Edit (a_module (does (object (keyed_by not_a o_f ∷ keyed_by (applied unary.Typeof one) call_of_a ∷ [])) ∷ [])) (a_module (does (sequence (not_a ∷ o_f ∷ call_of_a ∷ [])) ∷ []))
+computed_keys_stay = becomes there _ _ (unused_object (acting_values_stay nowhere nowhere _ _ refl refl))
+
+pub computed_key_stays_alone : Edit (a_module (does (object (keyed_by not_a one ∷ b_is one ∷ [])) ∷ [])) (a_module (does not_a ∷ []))
+computed_key_stays_alone = becomes there _ _ (unused_object (acting_values_stay nowhere nowhere _ _ refl refl))
+
+pub computed_prototype_leaves : Edit (a_module (does (object (keyed_by (literal (value.Text (codes "__proto__"))) call_of_a ∷ [])) ∷ [])) (a_module (does call_of_a ∷ []))
+computed_prototype_leaves = becomes there _ _ (unused_object (acting_values_stay nowhere nowhere _ _ refl refl))
+
+pub computed_method_leaves : Edit (a_module (does (object (method_by (literal (value.Text (codes "m"))) ∷ b_is call_of_a ∷ [])) ∷ [])) (a_module (does call_of_a ∷ []))
+computed_method_leaves = becomes there _ _ (unused_object (acting_values_stay nowhere nowhere _ _ refl refl))
 
 pub used_object_stays : ObjectStays argument (object (a_is one ∷ []))
 used_object_stays y (acting_values_stay n m _ _ unused is) = true≢false (sym unused)
@@ -474,6 +512,12 @@ getter_stays y (acting_values_stay n m _ _ unused is) = no_list is
 
 pub spread_object_stays : ObjectStays statement (object (spread (reads a) ∷ []))
 spread_object_stays y (acting_values_stay n m _ _ unused is) = no_list is
+
+pub unknown_key_stays : ObjectStays statement (object (keyed_by (reads a) call_of_a ∷ []))
+unknown_key_stays y (acting_values_stay n m _ _ unused is) = no_list is
+
+pub acting_method_key_stays : ObjectStays statement (object (method_by not_a ∷ []))
+acting_method_key_stays y (acting_values_stay n m _ _ unused is) = no_list is
 
 -- ---- operations on literals
 

@@ -1,5 +1,5 @@
 -- In a program that breaks no rule of form each sequence has two parts or more.
-use Rattle.std.proofs.Common.{◌≡◌, ℕ, ◌+◌, suc, [], ◌++◌, Bool, true, false, not, ◌&&◌, refl}
+use Rattle.std.proofs.Common.{◌≡◌, ℕ, ◌+◌, suc, [], ◌++◌, Bool, true, not, ◌&&◌, refl}
 use Rattle.std.specs.Prelude.{nat_lt}
 use Rattle.js_tree.specs.Count.{one_each, node_count}
 use Rattle.js_syntax.specs.declared.node_kind.NodeKind.{NodeKind as Kind}

@@ -16,7 +16,7 @@ use Rattle.form_rules.specs.Scope.{Declared, later, clash, both_parameters, vari
 use Rattle.form_rules.specs.Context.{Context, is_module, is_strict_function, is_method, is_absent}
 use Rattle.form_rules.specs.Rules.{places_of, all_but_first, each_breaks, declared_places, length_of, first_below, behind, functions_in, at_top, declared_by, rule_1, rule_2, rule_3, rule_4, rule_5, rule_6, rule_7, rule_8, rule_9, rule_10, rule_11, rule_12, broken_at, have_plain_parameters, is_arrow, may_repeat_parameters, has_label, has_loop, repeated_privates, privates_among, exported_among, repeated_exports, locals_among, undeclared, first_is_super, is_bare_name, is_default, is_constructor, early_rests, is_declarator_wrong, counts_right, is_declaration, has_handler_or_finalizer, parts_of}
 use Rattle.json_text.specs.Text.{is_identifier_name}
-use Rattle.steps.specs.KeepForm.Sheds.{row_below, Around, entered, Sheds}
+use Rattle.steps.specs.KeepForm.Sheds.{Around, entered, Sheds}
 use Rattle.steps.proofs.KeepForm.Fewer.{Fewer, none, SameName, none_later, none_repeated, none_exported_twice}
 use Rattle.steps.proofs.KeepForm.ShedNames.{fewer_declared, still_declared}
 use Rattle.steps.proofs.KeepForm.Rows.{stays_below, is_other, behind_left, absent_same}

@@ -34,6 +34,7 @@ use Rattle.steps.proofs.Owed.TwoSides.{two_sides_owes}
 use Rattle.steps.proofs.Owed.UnusedObject.{unused_object_owes}
 use Rattle.steps.proofs.Owed.KnownOperation.{known_operation_owes}
 use Rattle.steps.proofs.Owed.UnrunValue.{dropped, new_fits, rebuilt}
+use Rattle.steps.proofs.Owed.FitsBecoming.{taken_as}
 use Rattle.steps.proofs.Owed.Owed.{leaving}
 use Rattle.steps.proofs.Owed.Places.{place_of, rest_of, placed_is, without_is, listed_is}
 use Rattle.steps.proofs.Owed.TableKept as tables
@@ -95,7 +96,7 @@ by_parts a x y owed picks fits = record {
         rebuilt = owed.rebuilt fits;
         old_unasked = owed.old_unasked fits;
         unasked = owed.unasked fits;
-        declares = expression_declares_nothing (forest_of y) ((owed.takes fits).classes expression (owed.fits_expression fits));
+        declares = expression_declares_nothing (forest_of y) (taken_as (owed.takes fits) expression refl (owed.fits_expression fits));
         lighter = owed.lighter;
         no_deeper = owed.no_deeper;
         picks = picks;

@@ -1,16 +1,18 @@
--- What an array, an object literal or a sequence comes to: one of its parts, several in a sequence, or the last behind a zero; what a choice does: one of its
--- parts behind a zero, two of them as a logical expression, or its test and one of them in a sequence; what a comparison does: its sides in a sequence; and what an operation does of
--- which the value is known: a literal, or unary minus on one.
-use Rattle.std.proofs.Common.{◌≡◌, ℕ, suc, pos, Bool, true, false, not, Option, Some, None, if◌then◌else◌, refl, sym, subst, true≢false}
+-- What an array, a template, an object literal or a sequence comes to: one of its parts, several in a sequence, or the last behind a zero; what a choice does: one of its
+-- parts behind a zero, two of them as a logical expression, or its test and one of them in a sequence; what an operation on two sides does: these in a sequence, or a text
+-- on a side of it the empty one; and what an operation does of which the value is known: a literal, or unary minus on one.
+use Rattle.std.proofs.Common.{◌≡◌, ℕ, suc, pos, [], Bool, true, false, not, Option, Some, None, if◌then◌else◌, refl, sym, subst, true≢false}
 use Rattle.js_syntax.specs.declared.node_kind.NodeKind.{NodeKind as Kind}
-use Rattle.js_syntax.specs.declared.node_kind.NodeKind.TheVariants.{ArrayExpression as array_expression, Elements as elements, ObjectExpression as object_expression, Properties as properties, BinaryExpression as binary_expression, SequenceExpression as sequence_expression, Expressions as expressions, ConditionalExpression as conditional_expression, LogicalExpression as logical_expression, UnaryExpression as unary_expression, Literal as literal}
+use Rattle.js_syntax.specs.declared.node_kind.NodeKind.TheVariants.{ArrayExpression as array_expression, Elements as elements, ObjectExpression as object_expression, Properties as properties, BinaryExpression as binary_expression, SequenceExpression as sequence_expression, Expressions as expressions, TemplateLiteral as template_literal, Quasis as quasis, ConditionalExpression as conditional_expression, LogicalExpression as logical_expression, UnaryExpression as unary_expression, Literal as literal}
 use Rattle.js_syntax.specs.declared.operator.BinaryOperator.{BinaryOperator}
+use Rattle.js_syntax.specs.declared.operator.BinaryOperator.TheVariants.{Addition as addition}
 use Rattle.js_syntax.specs.declared.operator.UnaryOperator.TheVariants.{UnaryNegation}
 use Rattle.js_syntax.specs.declared.operator.LogicalOperator.{LogicalOperator}
 use Rattle.js_syntax.specs.declared.operator.LogicalOperator.TheVariants as logical
 use Rattle.js_syntax.specs.declared.value.LiteralValue.{LiteralValue}
 use Rattle.js_syntax.specs.declared.value.LiteralValue.TheVariants as value
-use Rattle.js_syntax.specs.Node.{Forest, Tree, Note, nothing, node, absent, alone}
+use Rattle.js_syntax.specs.Node.{Forest, Tree, Note, nothing, node, absent, alone, joined}
+use Rattle.js_effects.specs.Silence.{only_combines}
 use Rattle.min_pass.specs.Around.{outermost as asked_of_program}
 use Rattle.scope_laws.specs.Place.{Around}
 use Rattle.scope_laws.proofs.Bindings.{same_value}
@@ -20,8 +22,8 @@ use Rattle.js_syntax.proofs.Truth.{first_of_both}
 use Rattle.steps.specs.Allowed.IndirectChoice.{IndirectChoice, value_alone_counts, part_counts_behind_test}
 use Rattle.steps.specs.Allowed.OneSidedChoice.{sides, one_side, one_sided, OneSidedChoice, one_branch_acts}
 use Rattle.steps.specs.Allowed.IdleParts.{stays_before, counting, all_count, more_before, itself_or_behind, as_value_of, sequence_becomes, IdleParts, idle_parts_leave}
-use Rattle.steps.specs.Allowed.TwoSides.{two_sides, TwoSides, both_sides_act}
-use Rattle.steps.specs.Allowed.UnusedObject.{are_plain, acting_values, object_becomes, UnusedObject, acting_values_stay}
+use Rattle.steps.specs.Allowed.TwoSides.{TwoSides, both_sides_act}
+use Rattle.steps.specs.Allowed.UnusedObject.{all_come_apart, keys_and_values, object_becomes, UnusedObject, acting_values_stay}
 use Rattle.steps.specs.Allowed.KnownOperation.{is_literal, has_operand, KnownOperation, value_is_known, negative_is_known}
 use Rattle.steps.specs.Allowed.Places.{asked_at}
 use Rattle.steps.specs.Allowed.UnusedList.{acting, all_act, has_spread, as_one, list_becomes, UnusedList, acting_parts_stay}
@@ -33,14 +35,14 @@ use Rattle.steps.proofs.Owed.BehindTest.{Follows, consequent_follows, alternate_
 use Rattle.steps.proofs.Owed.IndirectChoice.{Counts, consequent_counts, alternate_counts, right_side_counts, part_that_counts}
 use Rattle.steps.proofs.Owed.KnownOperation.{Operation, on_one, on_two, is_operation_known, value_small, Negative, under_one, under_two, is_negative_known, negative_small, one_level}
 use Rattle.steps.proofs.Owed.KnownSizes.{IsSmall, below_largest}
-use Rattle.steps.proofs.Owed.UnusedObject.{Plain, none_left, value_stays, value_leaves, plain_properties}
+use Rattle.steps.proofs.Owed.TwoSides.{Sides, both_act, first_text, second_text, are_sides}
 
 -- some of the nodes of a row, in their order, or of a property its value
 pub data SomeOf : (r s : Forest) → Type 0 where
   none : SomeOf nothing nothing
   stays : {k : Kind} {n : Note} {a r s : Forest} → SomeOf r s → SomeOf (node k n a r) (node k n a s)
   leaves : {k : Kind} {n : Note} {a r s : Forest} → SomeOf r s → SomeOf (node k n a r) s
-  opens : {j k : Kind} {n m : Note} {a r s : Forest} → SomeOf r s → SomeOf (node j n (absent (node k m a nothing)) r) (node k m a s)
+  opens : {k : Kind} {n : Note} {a r s : Forest} → SomeOf (joined a r) s → SomeOf (node k n a r) s
   absent_leaves : {r s : Forest} → SomeOf r s → SomeOf (absent r) s
   absent_stays : {r s : Forest} → SomeOf r s → SomeOf (absent r) (absent s)
 
@@ -62,6 +64,11 @@ is_operator (unary_expression operator) = true
 is_operator (binary_expression operator) = true
 is_operator k = false
 
+-- one of a row becomes the empty text
+pub data Emptied : (r s : Forest) → Type 0 where
+  this_one : {k : Kind} {n : Note} {a r : Forest} → one_each k ≡ 1 → Emptied (node k n a r) (node (literal (value.Text [])) n nothing r)
+  a_later_one : {k : Kind} {n : Note} {a r s : Forest} → Emptied r s → Emptied (node k n a r) (node k n a s)
+
 pub data Picks : (k : Kind) (below : Forest) (l : Kind) (inner : Forest) → Type 0 where
   one_part : (k j l : Kind) (i m : Note) (parts inner : Forest) → holds_parts k j ≡ true → SomeOf parts (alone l m inner) → Picks k (node j i parts nothing) l inner
   several : (k j : Kind) (i m : Note) (parts left : Forest) → holds_parts k j ≡ true → SomeOf parts left → Picks k (node j i parts nothing) sequence_expression (node expressions m left nothing)
@@ -72,7 +79,11 @@ pub data Picks : (k : Kind) (below : Forest) (l : Kind) (inner : Forest) → Typ
   signed : (k t : Kind) (i m : Note) (d rest : Forest) (w : LiteralValue) → is_operator k ≡ true → one_each t ≡ 1 → IsSmall w → Picks k (node t i d rest) (unary_expression UnaryNegation) (alone (literal w) m nothing)
   zeroed : (k : Kind) (below : Forest) → one_each k ≡ 1 → Picks k below (literal (value.Number (pos 0))) nothing
   after_test : (k : Kind) (m : Note) (parts left : Forest) → is_choice k ≡ true → SomeOf parts left → Picks k parts sequence_expression (node expressions m left nothing)
+  -- of the second list below a template
+  one_substitution : (l : Kind) (h i m : Note) (texts parts inner : Forest) → SomeOf parts (alone l m inner) → Picks template_literal (node quasis h texts (node expressions i parts nothing)) l inner
+  substitutions : (h i m : Note) (texts parts left : Forest) → SomeOf parts left → Picks template_literal (node quasis h texts (node expressions i parts nothing)) sequence_expression (node expressions m left nothing)
   in_turn : (o : BinaryOperator) (m : Note) (sides : Forest) → Picks (binary_expression o) sides sequence_expression (node expressions m sides nothing)
+  with_less_text : (o : BinaryOperator) (old new : Forest) → Emptied old new → Picks (binary_expression o) old (binary_expression o) new
 
 -- ---- the parts that act
 
@@ -90,9 +101,17 @@ given : {X : Type 0} (b : Bool) (x y : X) → (if b then Some x else None) ≡ S
 given true x y e = same_value e
 given false x y e = absurd cc
 
+when_given : {X : Type 0} (b : Bool) (o : Option X) (y : X) → (if b then o else None) ≡ Some y → o ≡ Some y
+when_given true o y e = e
+when_given false o y e = absurd cc
+
 unless_given : {X : Type 0} (b : Bool) (o : Option X) (y : X) → (if b then None else o) ≡ Some y → o ≡ Some y
 unless_given true o y e = absurd cc
 unless_given false o y e = e
+
+where_given : {X : Type 0} (b : Bool) (o : Option X) (y : X) → (if b then o else None) ≡ Some y → o ≡ Some y
+where_given true o y e = e
+where_given false o y e = absurd cc
 
 module _ (k j : Kind) (i : Note) (parts : Forest) (holds : holds_parts k j ≡ true) where
   abbrev PicksTree : Tree → Type 0
@@ -105,11 +124,24 @@ module _ (k j : Kind) (i : Note) (parts : Forest) (holds : holds_parts k j ≡ t
   picks_one n m (node l h a (node x o b rest)) y some is = subst PicksTree (same_value is) (several k j i m parts (node l h a (node x o b rest)) holds some)
   picks_one n m (node l h a (absent rest)) y some is = subst PicksTree (same_value is) (several k j i m parts (node l h a (absent rest)) holds some)
 
+module _ (h i : Note) (texts parts : Forest) where
+  abbrev TemplateTree : Tree → Type 0
+  TemplateTree y = Picks template_literal (node quasis h texts (node expressions i parts nothing)) y.kind y.below
+
+  template_picks : (n m : Note) (left : Forest) (y : Tree) → SomeOf parts left → as_one n m left ≡ Some y → TemplateTree y
+  template_picks n m nothing y some is = absurd cc
+  template_picks n m (absent rest) y some is = subst TemplateTree (same_value is) (substitutions h i m texts parts (absent rest) some)
+  template_picks n m (node l j a nothing) y some is = subst TemplateTree (given (stands_bare as_value false l a) (record { kind = l; note = j; below = a }) y is) (one_substitution l h i j texts parts a some)
+  template_picks n m (node l j a (node x o b rest)) y some is = subst TemplateTree (same_value is) (substitutions h i m texts parts (node l j a (node x o b rest)) some)
+  template_picks n m (node l j a (absent rest)) y some is = subst TemplateTree (same_value is) (substitutions h i m texts parts (node l j a (absent rest)) some)
+
 list_picks : (n m : Note) (k : Kind) (a : Forest) (y : Tree) → list_becomes n m k a ≡ Some y → Picks k a y.kind y.below
 list_picks n m array_expression (node elements i parts nothing) y is =
     picks_one array_expression elements i parts refl n m (acting parts) y (some_act parts) (unless_given (has_spread parts) (as_one n m (acting parts)) y is)
 list_picks n m sequence_expression (node expressions i parts nothing) y is =
     picks_one sequence_expression expressions i parts refl n m (acting parts) y (some_act parts) (unless_given (all_act parts) (as_one n m (acting parts)) y is)
+list_picks n m template_literal (node quasis h texts (node expressions i parts nothing)) y is =
+    template_picks h i texts parts n m (acting parts) y (some_act parts) (when_given (only_combines template_literal (node quasis h texts (node expressions i parts nothing))) (as_one n m (acting parts)) y is)
 list_picks n m k a y is = absurd cc
 
 pub unused_list_picks : (a : Around) (x y : Tree) → UnusedList a x y → Picks x.kind x.below y.kind y.below
@@ -198,30 +230,31 @@ sequence_picks u in_with n m k a y is = absurd cc
 pub idle_parts_picks : (a : Around) (x y : Tree) → IdleParts a x y → Picks x.kind x.below y.kind y.below
 idle_parts_picks a _ _ (idle_parts_leave n m x y is) = sequence_picks (use_at a) (asked_at (asked_of_program true) a).in_with n m x.kind x.below y is
 
--- ---- the sides of a comparison
+-- ---- the sides of an operation
 
-sides_picks : (n m : Note) (k : Kind) (a : Forest) (y : Tree) → two_sides n m k a ≡ Some y → Picks k a y.kind y.below
-sides_picks n m (binary_expression o) (node k i a (node l j b nothing)) y is =
-    let sides = node k i a (node l j b nothing) in
-    subst (λ (y : Tree). Picks (binary_expression o) sides y.kind y.below) (given _ (record { kind = sequence_expression; note = n; below = node expressions m sides nothing }) y is) (in_turn o m sides)
-sides_picks n m k a y is = absurd cc
+sides_picks : {n m : Note} {k : Kind} {a : Forest} {y : Tree} → Sides n m k a y → Picks k a y.kind y.below
+sides_picks {m = m} (both_act o k l i j a b combines) = in_turn o m (node k i a (node l j b nothing))
+sides_picks (first_text c cs l i j a b) = with_less_text addition _ _ (this_one refl)
+sides_picks (second_text c cs k i j a b) = with_less_text addition _ _ (a_later_one (this_one refl))
 
 pub two_sides_picks : (a : Around) (x y : Tree) → TwoSides a x y → Picks x.kind x.below y.kind y.below
-two_sides_picks a _ _ (both_sides_act n m x y unused is) = sides_picks n m x.kind x.below y is
+two_sides_picks a _ _ (both_sides_act n m x y unused is) = sides_picks (are_sides n m x.kind x.below y is)
 
--- ---- the values of an object literal that act
+-- ---- the keys and values of an object literal that act
 
-some_values : {es left : Forest} → Plain es left → SomeOf es left
-some_values none_left = none
-some_values (value_stays plain rest) = opens (some_values rest)
-some_values (value_leaves plain idle rest) = leaves (some_values rest)
+some_before : (a more r : Forest) → SomeOf r (acting more) → SomeOf (joined a r) (acting (joined a more))
+some_before nothing more r some = some
+some_before (absent b) more r some = absent_leaves (some_before b more r some)
+some_before (node k n a b) more r some = some_if (acts k n a) k n a (joined b r) (acting (joined b more)) (some_before b more r some)
+
+some_parts : (es : Forest) → SomeOf es (acting (keys_and_values es))
+some_parts nothing = none
+some_parts (absent rest) = absent_leaves (some_parts rest)
+some_parts (node k n below rest) = opens (some_before below (keys_and_values rest) rest (some_parts rest))
 
 object_picks : (n m : Note) (k : Kind) (a : Forest) (y : Tree) → object_becomes n m k a ≡ Some y → Picks k a y.kind y.below
-object_picks n m object_expression (node properties i es nothing) y is = each (are_plain es) refl is
-  where
-    each : (b : Bool) → are_plain es ≡ b → (if b then as_one n m (acting_values es) else None) ≡ Some y → Picks object_expression (node properties i es nothing) y.kind y.below
-    each true plain is = picks_one object_expression properties i es refl n m (acting_values es) y (some_values (plain_properties es plain)) is
-    each false plain is = absurd cc
+object_picks n m object_expression (node properties i es nothing) y is =
+    picks_one object_expression properties i es refl n m (acting (keys_and_values es)) y (some_parts es) (where_given (all_come_apart es) (as_one n m (acting (keys_and_values es))) y is)
 object_picks n m k a y is = absurd cc
 
 pub unused_object_picks : (a : Around) (x y : Tree) → UnusedObject a x y → Picks x.kind x.below y.kind y.below

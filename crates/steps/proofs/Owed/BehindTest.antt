@@ -1,46 +1,42 @@
 -- What a choice owes on a test that acts, of which it is known which part counts: it becomes the sequence of the test and that part.
-use Rattle.std.proofs.Common.{◌≡◌, ◌≤◌, ◌<◌, [], ◌∷◌, Bool, true, false, ◌&&◌, Option, Some, None, if◌then◌else◌, arith, refl, sym, subst}
-use Rattle.js_syntax.specs.Class.{Class, root, expression}
+use Rattle.std.proofs.Common.{◌≡◌, ◌≤◌, ◌<◌, [], Bool, true, false, ◌&&◌, Option, Some, None, if◌then◌else◌, arith, refl, sym, subst}
+use Rattle.js_syntax.specs.Class.{root}
 use Rattle.js_syntax.specs.declared.node_kind.NodeKind.{NodeKind as Kind}
 use Rattle.js_syntax.specs.declared.node_kind.NodeKind.TheVariants.{ConditionalExpression as conditional_expression, LogicalExpression as logical_expression, SequenceExpression as sequence_expression}
 use Rattle.js_syntax.specs.declared.operator.LogicalOperator.{LogicalOperator}
 use Rattle.js_syntax.specs.Facts.{is_core, weight}
 use Rattle.js_syntax.specs.Node.{Note, Forest, Tree, nothing, node, alone, forest_of, total}
-use Rattle.js_syntax.specs.Table.{a_logical_expression, a_conditional_expression}
 use Rattle.js_syntax.proofs.Truth.{both}
 use Rattle.js_tree.specs.Count.{levels}
 use Rattle.js_rebuilt.specs.Rebuilt.{Rebuilt, ends, stays, leaves, opened}
 use Rattle.js_effects.specs.Answers.{bare_answers}
 use Rattle.js_effects.specs.Values.{truth_of}
 use Rattle.js_meaning.specs.Scope.{import_decls, specifier_decls}
-use Rattle.js_meaning_near.specs.Near.{is_calm, module_of}
+use Rattle.js_meaning_near.specs.Near.{module_of}
 use Rattle.js_meaning_near.specs.Purpose.{Purpose}
 use Rattle.js_meaning_near.specs.Local.{Stands, for_part}
-use Rattle.json_shape.specs.Shape.{one, these, Fits}
+use Rattle.json_shape.specs.Shape.{Fits}
 use Rattle.form_rules.specs.Form.{IsWellFormed}
 use Rattle.known_tests.specs.Tells.{way_known}
 use Rattle.known_tests.proofs.ByForm.{truth_gives, way_gives}
 use Rattle.known_tests.proofs.Taken.{consequent_behind, alternate_behind, right_side_behind}
 use Rattle.scope_laws.specs.Place.{Around, plug}
 use Rattle.steps.specs.Steps.{all_core}
-use Rattle.steps.specs.Allowed.Calls.{may_end}
 use Rattle.steps.specs.Allowed.IndirectChoice.{one_of, if_so, truth_beside, way_beside, in_turn, behind, behind_test}
 use Rattle.steps.specs.Allowed.KnownConditional.{a_conditional}
 use Rattle.steps.specs.Allowed.KnownSide.{a_logical}
 use Rattle.steps.specs.Allowed.UnusedOperation.{acts}
 use Rattle.steps.specs.Allowed.Wanted.{wanted_at}
-use Rattle.steps.proofs.Fit.CoreCalm.{nameless_as_planned}
 use Rattle.steps.proofs.Fit.Held.{core_below, core_here, core_alone}
 use Rattle.steps.specs.KeepForm.Part.{is_asked_for}
 use Rattle.steps.proofs.KeepForm.Rules.{first_empty, both_empty}
 use Rattle.steps.specs.Owed.Comes.{Comes}
-use Rattle.steps.specs.Owed.Owed.{MayChange, IsOther, is_read_name, ComesOut, ByParts, by_coming}
-use Rattle.steps.specs.Owed.TakesPlace.{TakesPlace}
-use Rattle.steps.proofs.Owed.BranchKinds.{IsExpression, expression_told}
+use Rattle.steps.specs.Owed.TakesPlace.{anywhere}
+use Rattle.steps.specs.Owed.Owed.{ComesOut, ByParts, by_coming}
 use Rattle.steps.proofs.Owed.ChoiceParts.{parts_of_conditional, sides_of_logical}
-use Rattle.steps.proofs.Owed.ChoiceRuns.{consequent_core, alternate_core, core_there, no_imports_below, imports_before, imports_behind}
-use Rattle.steps.proofs.Owed.FitsTaking.{as_conditional, conditional_stood, as_logical, logical_stood}
-use Rattle.steps.proofs.Owed.Undeclared.{DeclaresNothing, both_plainly}
+use Rattle.steps.proofs.Owed.Choices.{IsChoice, a_conditional_is, a_logical_is, choice_calm, choice_is_other, choice_ends, choice_may_change, choice_no_name, choice_unasked, choice_expression, choice_takes, choice_declares}
+use Rattle.steps.proofs.Owed.ChoiceRuns.{consequent_core, alternate_core, core_there, imports_before, imports_behind}
+use Rattle.steps.proofs.Owed.Undeclared.{both_plainly}
 use Rattle.steps.proofs.Owed.UnusedList.{Left, several_left, Parts, ImportsNone, left_rebuilt, left_fits, left_core, left_declares}
 
 abbrev tree : Kind → Note → (below : Forest) → Tree
@@ -85,6 +81,11 @@ part_follows n m o conditional_expression (node t p d (node k i b (node l j c no
 part_follows n m o (logical_expression q) (node t p d (node k i b nothing)) y is = side_follows n m o p t d q i k b (way_beside q t p d) y refl is
 part_follows n m o k below y is = absurd cc
 
+follows_choice : {n m : Note} {x y : Tree} → Follows n m x y → IsChoice x
+follows_choice (consequent_follows o p i j t k l d b c acting truth) = a_conditional_is o p i j t k l d b c
+follows_choice (alternate_follows o p i j t k l d b c acting truth) = a_conditional_is o p i j t k l d b c
+follows_choice (right_side_follows q o p i t k d b acting goes) = a_logical_is q o p i t k d b
+
 -- ---- the row that is left
 
 abbrev parts_listed : Forest → Forest
@@ -122,19 +123,6 @@ module _ {n m : Note} where
   parts_stay a {x = x} (alternate_follows o p i j t k l d b c acting truth) fits = let three = parts_of_conditional a o x.below fits in (three.0, (three.1.1.0, tt))
   parts_stay a {x = x} (right_side_follows q o p i t k d b acting goes) fits = sides_of_logical a q o x.below fits
 
-  old_expression : (a : Around) {x y : Tree} → Follows n m x y → Fits root (plug a (Some x)) → IsExpression x.kind x.below
-  old_expression a {x = x} (consequent_follows o p i j t k l d b c acting truth) fits = (a_conditional_expression, tt, refl, tt, refl, parts_of_conditional a o x.below fits)
-  old_expression a {x = x} (alternate_follows o p i j t k l d b c acting truth) fits = (a_conditional_expression, tt, refl, tt, refl, parts_of_conditional a o x.below fits)
-  old_expression a {x = x} (right_side_follows q o p i t k d b acting goes) fits = (a_logical_expression, (q, tt), refl, tt, refl, sides_of_logical a q o x.below fits)
-
-  takes_place : {x y : Tree} → Follows n m x y → IsExpression y.kind y.below → TakesPlace x y
-  takes_place {x = x} {y = y} (consequent_follows o p i j t k l d b c acting truth) of =
-      record { classes = λ (to : Class) f. (as_conditional y.kind y.below to (conditional_stood to o x.below f) of, tt); old_told = refl; new_told = expression_told y.kind y.below of }
-  takes_place {x = x} {y = y} (alternate_follows o p i j t k l d b c acting truth) of =
-      record { classes = λ (to : Class) f. (as_conditional y.kind y.below to (conditional_stood to o x.below f) of, tt); old_told = refl; new_told = expression_told y.kind y.below of }
-  takes_place {x = x} {y = y} (right_side_follows q o p i t k d b acting goes) of =
-      record { classes = λ (to : Class) f. (as_logical y.kind y.below to (logical_stood to o x.below q f) of, tt); old_told = refl; new_told = expression_told y.kind y.below of }
-
   -- ---- by its runs
 
   stands : (u : Purpose) {x y : Tree} → Follows n m x y → Stands u x.kind x.below sequence_expression y.below
@@ -171,37 +159,19 @@ module _ {n m : Note} where
       two_import_none t l p j d c (λ s. imports_before s t p d branches (none s)) (λ s. imports_behind s k i b (node l j c nothing) (imports_behind s t p d branches (none s)))
   left_imports_none (right_side_follows q o p i t k d b acting goes) none = none
 
-  is_choice_calm : {x y : Tree} → Follows n m x y → is_calm x.kind ≡ true
-  is_choice_calm (consequent_follows o p i j t k l d b c acting truth) = refl
-  is_choice_calm (alternate_follows o p i j t k l d b c acting truth) = refl
-  is_choice_calm (right_side_follows q o p i t k d b acting goes) = refl
-
 module _ (q s : Note) (program : Forest) (a : Around) (fits : Fits root (module_of q s program)) (form : IsWellFormed (module_of q s program)) (core : all_core (module_of q s program) ≡ true) where
-  row_declares : {n m : Note} {x y : Tree} → Follows n m x y → plug a (Some x) ≡ module_of q s program → DeclaresNothing x.below
-  row_declares {x = x} {y = y} (consequent_follows o p i j t k l d b c acting truth) is = record {
-    bound = nameless_as_planned x.below (these (one expression ∷ one expression ∷ one expression ∷ [])) refl (parts_of_conditional a o x.below (subst (Fits root) (sym is) fits)) (core_below x.kind o x.below nothing (core_there a x (subst (λ t. all_core t ≡ true) (sym is) core)));
-    imports = no_imports_below q s program a x y is fits form core conditional_expression refl refl (λ p i. refl);
-  }
-  row_declares {x = x} {y = y} (alternate_follows o p i j t k l d b c acting truth) is = record {
-    bound = nameless_as_planned x.below (these (one expression ∷ one expression ∷ one expression ∷ [])) refl (parts_of_conditional a o x.below (subst (Fits root) (sym is) fits)) (core_below x.kind o x.below nothing (core_there a x (subst (λ t. all_core t ≡ true) (sym is) core)));
-    imports = no_imports_below q s program a x y is fits form core conditional_expression refl refl (λ p i. refl);
-  }
-  row_declares {x = x} {y = y} (right_side_follows r o p i t k d b acting goes) is = record {
-    bound = nameless_as_planned x.below (these (one expression ∷ one expression ∷ [])) refl (sides_of_logical a r o x.below (subst (Fits root) (sym is) fits)) (core_below x.kind o x.below nothing (core_there a x (subst (λ t. all_core t ≡ true) (sym is) core)));
-    imports = no_imports_below q s program a x y is fits form core (logical_expression r) refl refl (λ p i. refl);
-  }
-
   comes : {n m : Note} {x y : Tree} → Follows n m x y → y.kind ≡ sequence_expression → plug a (Some x) ≡ module_of q s program → Comes a x y
   comes {n = n} {m = m} {x = x} {y = y} follows sequence is =
-      let h = row_declares follows is in
+      let choice = follows_choice follows in
+      let h = choice_declares q s program a y fits form core choice is in
       let there = subst (Fits root) (sym is) fits in
       let within = core_there a x (subst (λ t. all_core t ≡ true) (sym is) core) in
       record {
         inner = y.below;
         same = refl;
         stands = subst (λ k. Stands (wanted_at a) x.kind x.below k y.below) (sym sequence) (stands (wanted_at a) follows);
-        old_calm = is_choice_calm follows;
-        declares = both_plainly x.kind x.below y.kind y.note y.below nothing (is_choice_calm follows) h (left_declares (is_left follows) (parts_stay a follows there) (left_is_core follows within) (left_imports_none follows h.imports));
+        old_calm = choice_calm choice;
+        declares = both_plainly x.kind x.below y.kind y.note y.below nothing (choice_calm choice) h (left_declares (is_left follows) (parts_stay a follows there) (left_is_core follows within) (left_imports_none follows h.imports));
         core = λ c. left_core (is_left follows) (left_is_core follows c);
       }
 
@@ -212,31 +182,6 @@ module _ {n m : Note} where
   is_sequence (consequent_follows o p i j t k l d b c acting truth) = refl
   is_sequence (alternate_follows o p i j t k l d b c acting truth) = refl
   is_sequence (right_side_follows q o p i t k d b acting goes) = refl
-
-  is_other : {x y : Tree} → Follows n m x y → IsOther x
-  is_other (consequent_follows o p i j t k l d b c acting truth) = record { counts = refl; lists = λ h. refl; begins = λ h. refl; calls = refl }
-  is_other (alternate_follows o p i j t k l d b c acting truth) = record { counts = refl; lists = λ h. refl; begins = λ h. refl; calls = refl }
-  is_other (right_side_follows q o p i t k d b acting goes) = record { counts = refl; lists = λ h. refl; begins = λ h. refl; calls = refl }
-
-  may_end_there : {x y : Tree} → Follows n m x y → may_end x.kind ≡ true
-  may_end_there (consequent_follows o p i j t k l d b c acting truth) = refl
-  may_end_there (alternate_follows o p i j t k l d b c acting truth) = refl
-  may_end_there (right_side_follows q o p i t k d b acting goes) = refl
-
-  may_change_there : (a : Around) {x y : Tree} → Follows n m x y → MayChange a x
-  may_change_there a (consequent_follows o p i j t k l d b c acting truth) = refl
-  may_change_there a (alternate_follows o p i j t k l d b c acting truth) = refl
-  may_change_there a (right_side_follows q o p i t k d b acting goes) = refl
-
-  is_no_name : {x y : Tree} → Follows n m x y → is_read_name x.kind ≡ false
-  is_no_name (consequent_follows o p i j t k l d b c acting truth) = refl
-  is_no_name (alternate_follows o p i j t k l d b c acting truth) = refl
-  is_no_name (right_side_follows q o p i t k d b acting goes) = refl
-
-  is_unasked : {x y : Tree} → Follows n m x y → is_asked_for x.kind ≡ false
-  is_unasked (consequent_follows o p i j t k l d b c acting truth) = refl
-  is_unasked (alternate_follows o p i j t k l d b c acting truth) = refl
-  is_unasked (right_side_follows q o p i t k d b acting goes) = refl
 
   sequence_unasked : {x y : Tree} → Follows n m x y → is_asked_for y.kind ≡ false
   sequence_unasked (consequent_follows o p i j t k l d b c acting truth) = refl
@@ -253,13 +198,13 @@ module _ {n m : Note} where
     rebuilt = λ fits. is_rebuilt follows;
     lighter = is_lighter follows;
     no_deeper = is_no_deeper follows;
-    no_call = is_other follows;
-    ends = may_end_there follows;
-    may_change = may_change_there a follows;
-    fits_expression = λ fits. (old_expression a follows fits, tt);
-    takes = λ fits. takes_place follows (left_fits (is_left follows) (parts_stay a follows fits));
-    no_name = is_no_name follows;
-    old_unasked = λ fits. is_unasked follows;
+    no_call = choice_is_other (follows_choice follows);
+    ends = choice_ends (follows_choice follows);
+    may_change = choice_may_change a (follows_choice follows);
+    fits_expression = λ fits. (choice_expression a (follows_choice follows) fits, tt);
+    takes = λ fits. anywhere (choice_takes y (follows_choice follows) (left_fits (is_left follows) (parts_stay a follows fits)));
+    no_name = choice_no_name (follows_choice follows);
+    old_unasked = λ fits. choice_unasked (follows_choice follows);
     unasked = λ fits. sequence_unasked follows;
     comes_out = comes_out_there a follows;
     runs = by_coming (λ q s program is fits form core. comes q s program a fits form core follows (is_sequence follows) is);

@@ -21,7 +21,7 @@ use Rattle.steps.specs.Owed.TakesPlace.{is_told_by_class}
 use Rattle.steps.proofs.Owed.BranchKinds.{no_statement}
 use Rattle.steps.proofs.Owed.Expressions.{expression_declares_none, expression_stays_outside, expression_declares_nothing}
 use Rattle.steps.proofs.Owed.Calling.{other_uncalled}
-use Rattle.steps.proofs.Owed.FitsBecoming.{told_no_list, becoming_fits}
+use Rattle.steps.proofs.Owed.FitsBecoming.{told_no_list, taken_as, old_is_told, taking_fits}
 use Rattle.steps.proofs.Owed.PartForm.{nothing_declared, replaced_sheds}
 use Rattle.steps.proofs.Owed.RebuiltCounts.{rebuilt_kept}
 
@@ -48,7 +48,7 @@ module _ (a : Around) (x y : Tree) (owed : ByParts a x y) (fits : Fits root (plu
   old_fits = owed.fits_expression fits
 
   new_fits : Fits expression (forest_of y)
-  new_fits = (owed.takes fits).classes expression old_fits
+  new_fits = taken_as (owed.takes fits) expression refl old_fits
 
   is_expression : is_statement y.kind ≡ false
   is_expression = no_statement y.kind y.below new_fits.0
@@ -71,7 +71,7 @@ module _ (a : Around) (x y : Tree) (owed : ByParts a x y) (fits : Fits root (plu
   }
 
   old_moves : gives x.kind ≡ true
-  old_moves = moves x.kind (owed.takes fits).old_told owed.no_name (no_statement x.kind x.below old_fits.0) (owed.old_unasked fits)
+  old_moves = moves x.kind (old_is_told (owed.takes fits)) owed.no_name (no_statement x.kind x.below old_fits.0) (owed.old_unasked fits)
 
 pub by_parts : (a : Around) (x y : Tree) → ByParts a x y → Becoming a x y
 by_parts a x y owed = record {
@@ -79,7 +79,7 @@ by_parts a x y owed = record {
   no_call = other_uncalled a x owed.no_call;
   ends = inl owed.ends;
   may_change = inl owed.may_change;
-  fits = λ fits. becoming_fits a x y (owed.takes fits) fits;
+  fits = λ fits. taking_fits a x y (owed.takes fits) fits;
   sheds = λ fits. replaced_sheds a x y (replaced_by_parts (rebuilds a x y owed fits)) (old_moves a x y owed fits) owed.comes_out.undeleted fits;
   kept = λ fits s kept. rebuilt_kept a x y (owed.rebuilt fits) (expression_declares_nothing (forest_of x) (old_fits a x y owed fits)) (owed.old_unasked fits) (fits_program (plug a (Some x)) fits) s kept;
   runs = owed.runs;

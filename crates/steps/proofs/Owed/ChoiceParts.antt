@@ -1,6 +1,6 @@
 -- What lies below a conditional, an `if`, operators, lists and a call of a tree that fits the table of node types.
 use Rattle.std.proofs.Common.{◌≡◌, [], ◌∷◌, Bool, true, false, not, Some, refl, sym, ap, ◌∙◌, true≢false}
-use Rattle.js_syntax.specs.Class.{root, expression, statement, callee, argument, object_item}
+use Rattle.js_syntax.specs.Class.{root, expression, statement, callee, argument, object_item, quasi_item}
 use Rattle.js_syntax.specs.declared.node_kind.NodeKind.{NodeKind as Kind}
 use Rattle.js_syntax.specs.declared.operator.UnaryOperator.{UnaryOperator}
 use Rattle.js_syntax.specs.declared.operator.BinaryOperator.{BinaryOperator}
@@ -8,11 +8,10 @@ use Rattle.js_syntax.specs.declared.operator.LogicalOperator.{LogicalOperator}
 use Rattle.js_syntax.specs.Hint.{has, is_private}
 use Rattle.js_syntax.specs.Node.{Forest, Note}
 use Rattle.js_syntax.specs.Table.{Row, a_unary_expression, a_logical_expression, a_call_expression, fields_of}
-use Rattle.js_meaning_near.specs.Unused.{compares}
 use Rattle.json_shape.specs.Shape.{Values, kind_in, is_in, one, maybe_one, list, list_with_holes, places, these, Stand, Fits}
 use Rattle.scope_laws.specs.Place.{Around, plug}
-use Rattle.steps.proofs.Owed.FitsTaking.{is_if, if_parts, is_comparison, comparison_parts, is_but_in, binary_parts, array_parts, sequence_parts}
-use Rattle.steps.proofs.Owed.Made.{MadeBy, made_there, conditional_stands, object_stands}
+use Rattle.steps.proofs.Owed.FitsTaking.{is_if, if_parts, is_but_in, binary_parts, template_parts, array_parts, sequence_parts}
+use Rattle.steps.proofs.Owed.Made.{MadeBy, made_there, single_made_there, conditional_stands, object_stands}
 
 abbrev is_logical : Kind → Bool
 is_logical (Kind.LogicalExpression o) = true
@@ -77,11 +76,6 @@ operand_of_unary a o n below fits =
     let made = made_there a (record { kind = Kind.UnaryExpression o; note = n; below = below }) (these (one root ∷ [])) refl refl fits in
     row_of_unary o made.row made.values (has is_private below) below made.is made.stands
 
-pub sides_of_comparison : (a : Around) (o : BinaryOperator) → compares o ≡ true → (n : Note) (below : Forest) → Fits root (plug a (Some (record { kind = Kind.BinaryExpression o; note = n; below = below }))) → Two below
-sides_of_comparison a o h n below fits =
-    let made = made_there a (record { kind = Kind.BinaryExpression o; note = n; below = below }) (these (one root ∷ [])) refl refl fits in
-    comparison_parts (has is_private below) made.row made.values below made.chosen (ap is_comparison (sym made.is) ∙ h) made.stands
-
 pub sides_of_binary : (a : Around) (o : BinaryOperator) → is_in o ≡ false → (n : Note) (below : Forest) → Fits root (plug a (Some (record { kind = Kind.BinaryExpression o; note = n; below = below }))) → Two below
 sides_of_binary a o h n below fits =
     let made = made_there a (record { kind = Kind.BinaryExpression o; note = n; below = below }) (these (one root ∷ [])) refl refl fits in
@@ -91,6 +85,11 @@ pub parts_of_array : (a : Around) (n : Note) (below : Forest) → Fits root (plu
 parts_of_array a n below fits =
     let made = made_there a (record { kind = Kind.ArrayExpression; note = n; below = below }) (these (one root ∷ [])) refl refl fits in
     array_parts (has is_private below) made.row made.values below made.is made.stands
+
+pub parts_of_template : (a : Around) (n : Note) (below : Forest) → Fits root (plug a (Some (record { kind = Kind.TemplateLiteral; note = n; below = below }))) → Stand (these (list Kind.Quasis quasi_item ∷ list Kind.Expressions expression ∷ [])) below
+parts_of_template a n below fits =
+    let made = single_made_there a (record { kind = Kind.TemplateLiteral; note = n; below = below }) (these (one root ∷ [])) refl refl fits in
+    template_parts (has is_private below) made.row made.values below made.is made.stands
 
 pub properties_of_object : (a : Around) (n : Note) (below : Forest) → Fits root (plug a (Some (record { kind = Kind.ObjectExpression; note = n; below = below }))) → Stand (these (list Kind.Properties object_item ∷ [])) below
 properties_of_object a n below fits =

@@ -1,18 +1,17 @@
 -- Which nodes may take the place of others: a part of a choice or of a logical expression that of the whole, an empty statement that of one of an expression.
 use Rattle.std.proofs.Common.{◌≡◌, ◌∙◌, [], ◌∷◌, Bool, true, false, not, Some, refl, sym, ap, true≢false}
-use Rattle.js_syntax.specs.Class.{Class, module_item, statement, block, handler, expression, arrow_body, for_init, default_export, expression_or_private, callee, argument}
+use Rattle.js_syntax.specs.Class.{Class, module_item, statement, block, handler, expression, arrow_body, for_init, default_export, expression_or_private, callee, argument, template, quasi_item}
 use Rattle.js_syntax.specs.declared.node_kind.NodeKind.{NodeKind as Kind}
-use Rattle.js_syntax.specs.declared.node_kind.NodeKind.TheVariants.{ConditionalExpression as conditional_expression, UnaryExpression as unary_expression, BinaryExpression as binary_expression, LogicalExpression as logical_expression, IfStatement as if_statement, TryStatement as try_statement, ArrayExpression as array_expression, Elements as elements, ObjectExpression as object_expression, SequenceExpression as sequence_expression, Expressions as expressions}
+use Rattle.js_syntax.specs.declared.node_kind.NodeKind.TheVariants.{ConditionalExpression as conditional_expression, UnaryExpression as unary_expression, BinaryExpression as binary_expression, LogicalExpression as logical_expression, IfStatement as if_statement, TryStatement as try_statement, ArrayExpression as array_expression, Elements as elements, TemplateLiteral as template_literal, Quasis as quasis, Expressions as expressions, ObjectExpression as object_expression, SequenceExpression as sequence_expression, Expressions as expressions}
 use Rattle.js_syntax.specs.declared.operator.UnaryOperator.{UnaryOperator}
 use Rattle.js_syntax.specs.declared.operator.BinaryOperator.{BinaryOperator}
-use Rattle.js_syntax.specs.declared.operator.BinaryOperator.TheVariants as binary
 use Rattle.js_syntax.specs.declared.operator.LogicalOperator.{LogicalOperator}
 use Rattle.js_syntax.specs.Hint.{has, is_private}
 use Rattle.js_syntax.specs.Node.{Forest, Note, alone}
-use Rattle.js_syntax.specs.Table.{Row as TableRow, a_conditional_expression, a_unary_expression, a_binary_expression, an_in_expression, a_logical_expression, an_if_statement, a_try_statement, an_array_expression, an_object_expression, a_sequence_expression, fields_of, type_of, stands}
+use Rattle.js_syntax.specs.Table.{Row as TableRow, a_conditional_expression, a_unary_expression, a_binary_expression, an_in_expression, a_logical_expression, an_if_statement, a_try_statement, an_array_expression, a_template_literal, an_object_expression, a_sequence_expression, fields_of, type_of, stands}
 use Rattle.js_syntax.specs.declared.node_type.NodeType.{NodeType}
 use Rattle.js_syntax.specs.declared.node_type.NodeType.TheVariants as type
-use Rattle.js_meaning_near.specs.Unused.{compares}
+use Rattle.steps.specs.Owed.TakesPlace.{is_template}
 use Rattle.json_shape.specs.Shape.{Values, kind_in, first_of, is_in, IsChosen, one, maybe_one, list, list_with_holes, places, these, IsOf, Stand, Fits}
 
 -- ---- a class that takes conditionals takes expressions, and one that takes `if` takes statements
@@ -77,6 +76,18 @@ array_takes callee h = refl
 array_takes argument h = refl
 array_takes c h = absurd cc
 
+-- but the template behind a tag
+template_takes : (c : Class) → is_template c ≡ false → stands c type.TemplateLiteral ≡ Some a_template_literal → stands c type.ConditionalExpression ≡ Some a_conditional_expression
+template_takes template none h = absurd cc
+template_takes expression none h = refl
+template_takes arrow_body none h = refl
+template_takes for_init none h = refl
+template_takes default_export none h = refl
+template_takes expression_or_private none h = refl
+template_takes callee none h = refl
+template_takes argument none h = refl
+template_takes c none h = absurd cc
+
 object_takes : (c : Class) → stands c type.ObjectExpression ≡ Some an_object_expression → stands c type.ConditionalExpression ≡ Some a_conditional_expression
 object_takes expression h = refl
 object_takes arrow_body h = refl
@@ -131,6 +142,9 @@ module _ (k : Kind) (below : Forest) where
   pub as_array : (c : Class) → stands c type.ArrayExpression ≡ Some an_array_expression → IsOf k below (λ p. Stand p below) expression → IsOf k below (λ p. Stand p below) c
   as_array c takes of = as_conditional c (array_takes c takes) of
 
+  pub as_template : (c : Class) → is_template c ≡ false → stands c type.TemplateLiteral ≡ Some a_template_literal → IsOf k below (λ p. Stand p below) expression → IsOf k below (λ p. Stand p below) c
+  as_template c none takes of = as_conditional c (template_takes c none takes) of
+
   pub as_object : (c : Class) → stands c type.ObjectExpression ≡ Some an_object_expression → IsOf k below (λ p. Stand p below) expression → IsOf k below (λ p. Stand p below) c
   as_object c takes of = as_conditional c (object_takes c takes) of
 
@@ -157,10 +171,6 @@ abbrev is_unary : Kind → Bool
 is_unary (unary_expression operator) = true
 is_unary k = false
 
-abbrev pub is_comparison : Kind → Bool
-is_comparison (binary_expression operator) = compares operator
-is_comparison k = false
-
 abbrev is_binary : Kind → Bool
 is_binary (binary_expression operator) = true
 is_binary k = false
@@ -169,6 +179,10 @@ is_binary k = false
 abbrev pub is_but_in : Kind → Bool
 is_but_in (binary_expression operator) = not (is_in operator)
 is_but_in k = false
+
+abbrev is_template_kind : Kind → Bool
+is_template_kind template_literal = true
+is_template_kind k = false
 
 abbrev is_array : Kind → Bool
 is_array array_expression = true
@@ -220,23 +234,6 @@ unary_parts : (private : Bool) (r : TableRow) (vs : Values (fields_of r)) (parts
 unary_parts private a_unary_expression vs parts is stand = stand
 unary_parts private r vs parts is stand = absurd (true≢false (sym is))
 
-comparison_class : (c : Class) (r : TableRow) (vs : Values (fields_of r)) → is_comparison (kind_in r vs) ≡ true → stands c (type_of r) ≡ Some (first_of r)
-    → stands c type.BinaryExpression ≡ Some a_binary_expression
-comparison_class c a_binary_expression vs is stood = stood
-comparison_class c an_in_expression vs is stood = stood
-comparison_class c r vs is stood = absurd (true≢false (sym is))
-
--- `in` compares nothing
-in_compares_not : (o : BinaryOperator) → is_in o ≡ true → compares o ≡ true → ⊥
-in_compares_not binary.In h e = true≢false (sym e)
-in_compares_not o h e = absurd cc
-
-pub comparison_parts : (private : Bool) (r : TableRow) (vs : Values (fields_of r)) (parts : Forest) → IsChosen r vs → is_comparison (kind_in r vs) ≡ true → Stand (these (places private (fields_of r) vs)) parts
-    → Stand (these (one expression ∷ one expression ∷ [])) parts
-comparison_parts private a_binary_expression vs parts chosen is stand = stand
-comparison_parts private an_in_expression vs parts chosen is stand = absurd (in_compares_not vs.0 chosen is)
-comparison_parts private r vs parts chosen is stand = absurd (true≢false (sym is))
-
 binary_class : (c : Class) (r : TableRow) (vs : Values (fields_of r)) → is_binary (kind_in r vs) ≡ true → stands c (type_of r) ≡ Some (first_of r)
     → stands c type.BinaryExpression ≡ Some a_binary_expression
 binary_class c a_binary_expression vs is stood = stood
@@ -248,6 +245,16 @@ pub binary_parts : (private : Bool) (r : TableRow) (vs : Values (fields_of r)) (
 binary_parts private a_binary_expression vs parts chosen is stand = stand
 binary_parts private an_in_expression vs parts chosen is stand = absurd (true≢false (sym is ∙ ap not chosen))
 binary_parts private r vs parts chosen is stand = absurd (true≢false (sym is))
+
+template_class : (c : Class) (r : TableRow) (vs : Values (fields_of r)) → is_template_kind (kind_in r vs) ≡ true → stands c (type_of r) ≡ Some (first_of r)
+    → stands c type.TemplateLiteral ≡ Some a_template_literal
+template_class c a_template_literal vs is stood = stood
+template_class c r vs is stood = absurd (true≢false (sym is))
+
+pub template_parts : (private : Bool) (r : TableRow) (vs : Values (fields_of r)) (parts : Forest) → template_literal ≡ kind_in r vs → Stand (these (places private (fields_of r) vs)) parts
+    → Stand (these (list quasis quasi_item ∷ list expressions expression ∷ [])) parts
+template_parts private a_template_literal vs parts is stand = stand
+template_parts private r vs parts is stand = absurd (true≢false (ap is_template_kind is))
 
 array_class : (c : Class) (r : TableRow) (vs : Values (fields_of r)) → is_array (kind_in r vs) ≡ true → stands c (type_of r) ≡ Some (first_of r)
     → stands c type.ArrayExpression ≡ Some an_array_expression
@@ -314,14 +321,11 @@ module _ (c : Class) (n : Note) (below : Forest) where
   pub unary_below : (o : UnaryOperator) → Fits c (alone (unary_expression o) n below) → Stand (these (one expression ∷ [])) below
   unary_below o fits = unary_parts (has is_private below) fits.0.0 fits.0.1 below (ap is_unary (sym fits.0.4)) fits.0.5
 
-  pub comparison_stood : (o : BinaryOperator) → compares o ≡ true → Fits c (alone (binary_expression o) n below) → stands c type.BinaryExpression ≡ Some a_binary_expression
-  comparison_stood o h fits = comparison_class c fits.0.0 fits.0.1 (ap is_comparison (sym fits.0.4) ∙ h) fits.0.2
-
-  pub comparison_below : (o : BinaryOperator) → compares o ≡ true → Fits c (alone (binary_expression o) n below) → Stand (these (one expression ∷ one expression ∷ [])) below
-  comparison_below o h fits = comparison_parts (has is_private below) fits.0.0 fits.0.1 below fits.0.3 (ap is_comparison (sym fits.0.4) ∙ h) fits.0.5
-
   pub binary_stood : (o : BinaryOperator) → Fits c (alone (binary_expression o) n below) → stands c type.BinaryExpression ≡ Some a_binary_expression
   binary_stood o fits = binary_class c fits.0.0 fits.0.1 (ap is_binary (sym fits.0.4)) fits.0.2
+
+  pub template_stood : Fits c (alone template_literal n below) → stands c type.TemplateLiteral ≡ Some a_template_literal
+  template_stood fits = template_class c fits.0.0 fits.0.1 (ap is_template_kind (sym fits.0.4)) fits.0.2
 
   pub array_stood : Fits c (alone array_expression n below) → stands c type.ArrayExpression ≡ Some an_array_expression
   array_stood fits = array_class c fits.0.0 fits.0.1 (ap is_array (sym fits.0.4)) fits.0.2

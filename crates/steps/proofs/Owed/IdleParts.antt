@@ -37,6 +37,7 @@ use Rattle.steps.proofs.Fit.Held.{core_here, core_below, core_behind}
 use Rattle.steps.specs.KeepForm.Part.{is_asked_for}
 use Rattle.steps.proofs.KeepForm.Rules.{first_empty, second_empty, both_empty}
 use Rattle.steps.specs.Owed.Comes.{Comes}
+use Rattle.steps.specs.Owed.TakesPlace.{anywhere}
 use Rattle.steps.specs.Owed.Owed.{ComesOut, ByParts, by_coming}
 use Rattle.steps.proofs.Owed.Bare.{bare_comes_out, bare_at}
 use Rattle.steps.proofs.Owed.BranchKinds.{IsExpression, expression_told, bare_unasked}
@@ -426,7 +427,7 @@ module _ (a : Around) (p i : Note) (parts : Forest) where
       fits_expression = λ fits. (sequence_fits i parts (parts_there fits), tt);
       takes = λ fits.
           let of = value_fits left (kept_there fits) in
-          record { classes = λ (to : Class) f. (as_sequence y.kind y.below to (sequence_stood to p sequence.below f) of, tt); old_told = refl; new_told = expression_told y.kind y.below of };
+          anywhere (record { classes = λ (to : Class) f. (as_sequence y.kind y.below to (sequence_stood to p sequence.below f) of, tt); old_told = refl; new_told = expression_told y.kind y.below of });
       no_name = refl;
       old_unasked = λ fits. refl;
       unasked = λ fits. value_unasked left (kept_there fits);

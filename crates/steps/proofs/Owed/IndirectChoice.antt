@@ -1,43 +1,37 @@
 -- What a choice owes of which it is known which part counts, which becomes the part that counts behind a zero, or behind its test.
-use Rattle.std.proofs.Common.{◌≡◌, ◌≤◌, ◌<◌, [], ◌∷◌, ◌++◌, pos, Bool, true, false, ◌&&◌, Option, Some, None, arith, refl, sym, subst}
-use Rattle.js_syntax.specs.Class.{Class, root, expression}
+use Rattle.std.proofs.Common.{◌≡◌, ◌≤◌, ◌<◌, [], ◌++◌, pos, Bool, true, false, ◌&&◌, Option, Some, None, arith, refl, subst}
+use Rattle.js_syntax.specs.Class.{root}
 use Rattle.js_syntax.specs.declared.node_kind.NodeKind.{NodeKind as Kind}
 use Rattle.js_syntax.specs.declared.node_kind.NodeKind.TheVariants.{ConditionalExpression as conditional_expression, LogicalExpression as logical_expression, SequenceExpression as sequence_expression, Literal as literal}
 use Rattle.js_syntax.specs.declared.operator.LogicalOperator.{LogicalOperator}
 use Rattle.js_syntax.specs.declared.value.LiteralValue.TheVariants as value
 use Rattle.js_syntax.specs.Facts.{weight}
 use Rattle.js_syntax.specs.Node.{Note, Forest, Tree, nothing, node, forest_of, total}
-use Rattle.js_syntax.specs.Table.{a_literal, a_sequence_expression, a_logical_expression, a_conditional_expression}
+use Rattle.js_syntax.specs.Table.{a_literal, a_sequence_expression}
 use Rattle.js_syntax.proofs.Truth.{both}
 use Rattle.js_tree.specs.Count.{levels}
 use Rattle.js_rebuilt.specs.Rebuilt.{MayBeBuilt, Rebuilt, ends, stays, leaves, opened, built}
 use Rattle.js_meaning.specs.Scope.{names_of, bound_names, import_decls}
-use Rattle.js_meaning_near.specs.Near.{is_calm, module_of}
 use Rattle.js_meaning_near.specs.Purpose.{Purpose}
 use Rattle.js_meaning_near.specs.Local.{Stands, for_part}
-use Rattle.json_shape.specs.Shape.{one, these, Fits}
-use Rattle.form_rules.specs.Form.{IsWellFormed}
+use Rattle.json_shape.specs.Shape.{Fits}
 use Rattle.scope_laws.specs.Place.{Around, plug}
 use Rattle.steps.specs.Steps.{all_core}
 use Rattle.steps.specs.Allowed.IndirectChoice.{one_of, if_so, part_counts, behind_zero, IndirectChoice, value_alone_counts, part_counts_behind_test}
 use Rattle.steps.specs.Allowed.KnownConditional.{truth_known, a_conditional}
 use Rattle.steps.specs.Allowed.KnownSide.{side_known, a_logical}
 use Rattle.steps.specs.Allowed.Wanted.{wanted_at}
-use Rattle.steps.proofs.Fit.CoreCalm.{nameless_as_planned}
-use Rattle.steps.proofs.Fit.Held.{core_below}
-use Rattle.steps.specs.KeepForm.Part.{is_asked_for}
 use Rattle.steps.proofs.KeepForm.Rules.{first_empty, both_empty}
 use Rattle.steps.specs.Owed.Comes.{Comes}
-use Rattle.steps.specs.Allowed.Calls.{may_end}
-use Rattle.steps.specs.Owed.Owed.{MayChange, IsOther, is_read_name, ByParts, by_coming}
-use Rattle.steps.specs.Owed.TakesPlace.{TakesPlace}
+use Rattle.steps.specs.Owed.TakesPlace.{anywhere}
+use Rattle.steps.specs.Owed.Owed.{ByParts, by_coming}
 use Rattle.steps.proofs.Owed.BehindZero.{consequent_behind_zero, alternate_behind_zero, right_side_behind_zero}
 use Rattle.steps.proofs.Owed.BehindTest.{part_follows, follows_owes}
 use Rattle.steps.proofs.Owed.BranchKinds.{IsExpression}
 use Rattle.steps.proofs.Owed.ChoiceParts.{parts_of_conditional, sides_of_logical}
-use Rattle.steps.proofs.Owed.ChoiceRuns.{consequent_core, alternate_core, core_there, no_imports_below, imports_before}
+use Rattle.steps.proofs.Owed.Choices.{IsChoice, a_conditional_is, a_logical_is, choice_calm, choice_is_other, choice_ends, choice_may_change, choice_no_name, choice_unasked, choice_expression, choice_takes, choice_declares}
+use Rattle.steps.proofs.Owed.ChoiceRuns.{consequent_core, alternate_core, imports_before}
 use Rattle.steps.proofs.Owed.KnownTests.{test_tells, side_tells, test_weighs, side_weighs, test_counts, side_counts}
-use Rattle.steps.proofs.Owed.FitsTaking.{as_conditional, conditional_stood, as_logical, logical_stood}
 use Rattle.steps.proofs.Owed.Undeclared.{DeclaresNothing, nothing_behind, both_plainly}
 use Rattle.steps.proofs.Owed.UnusedList.{list_is_built, sequence_is_built}
 
@@ -68,6 +62,11 @@ pub part_that_counts : (o : Note) (k : Kind) (below : Forest) (z : Tree) → par
 part_that_counts o conditional_expression (node t p d (node k i b (node l j c nothing))) z is = branch_that_counts o p i j t k l d b c (truth_known t p d) z refl is
 part_that_counts o (logical_expression q) (node t p d (node k i b nothing)) z is = side_that_counts q o p i t k d b (side_known q t p d) z refl is
 part_that_counts o k below z is = absurd cc
+
+counted_choice : {x z : Tree} → Counts x z → IsChoice x
+counted_choice (consequent_counts o p i j t k l d b c truth) = a_conditional_is o p i j t k l d b c
+counted_choice (alternate_counts o p i j t k l d b c truth) = a_conditional_is o p i j t k l d b c
+counted_choice (right_side_counts q o p i t k d b goes) = a_logical_is q o p i t k d b
 
 -- ---- rebuilt
 
@@ -101,33 +100,11 @@ counted_expression a {x = x} (consequent_counts o p i j t k l d b c truth) fits 
 counted_expression a {x = x} (alternate_counts o p i j t k l d b c truth) fits = (parts_of_conditional a o x.below fits).1.1.0
 counted_expression a {x = x} (right_side_counts q o p i t k d b goes) fits = (sides_of_logical a q o x.below fits).1.0
 
-choice_expression : (a : Around) {x z : Tree} → Counts x z → Fits root (plug a (Some x)) → IsExpression x.kind x.below
-choice_expression a {x = x} (consequent_counts o p i j t k l d b c truth) fits = (a_conditional_expression, tt, refl, tt, refl, parts_of_conditional a o x.below fits)
-choice_expression a {x = x} (alternate_counts o p i j t k l d b c truth) fits = (a_conditional_expression, tt, refl, tt, refl, parts_of_conditional a o x.below fits)
-choice_expression a {x = x} (right_side_counts q o p i t k d b goes) fits = (a_logical_expression, (q, tt), refl, tt, refl, sides_of_logical a q o x.below fits)
-
 zero_expression : IsExpression number_zero nothing
 zero_expression = (a_literal, (value.Number (pos 0), tt), refl, tt, refl, tt)
 
 pub behind_expression : (n m i : Note) (z : Tree) → IsExpression z.kind z.below → IsExpression sequence_expression (behind_zero n m i z).below
 behind_expression n m i z of = (a_sequence_expression, tt, refl, tt, refl, ((refl, (zero_expression, (of, tt))), tt))
-
-behind_takes : (n m i : Note) {x z : Tree} → Counts x z → IsExpression z.kind z.below → TakesPlace x (behind_zero n m i z)
-behind_takes n m i {x = x} {z = z} (consequent_counts o p h j t k l d b c truth) of = record {
-  classes = λ (to : Class) fits. (as_conditional sequence_expression (behind_zero n m i z).below to (conditional_stood to o x.below fits) (behind_expression n m i z of), tt);
-  old_told = refl;
-  new_told = refl;
-}
-behind_takes n m i {x = x} {z = z} (alternate_counts o p h j t k l d b c truth) of = record {
-  classes = λ (to : Class) fits. (as_conditional sequence_expression (behind_zero n m i z).below to (conditional_stood to o x.below fits) (behind_expression n m i z of), tt);
-  old_told = refl;
-  new_told = refl;
-}
-behind_takes n m i {x = x} {z = z} (right_side_counts q o p h t k d b goes) of = record {
-  classes = λ (to : Class) fits. (as_logical sequence_expression (behind_zero n m i z).below to (logical_stood to o x.below q fits) (behind_expression n m i z of), tt);
-  old_told = refl;
-  new_told = refl;
-}
 
 -- ---- runs
 
@@ -161,40 +138,10 @@ behind_declares n m i z h =
       imports = λ source. both_empty (import_decls source part ++ []) [] (both_empty (import_decls source part) [] (h.imports source) refl) refl;
     }
 
-choice_calm : {x z : Tree} → Counts x z → is_calm x.kind ≡ true
-choice_calm (consequent_counts o p i j t k l d b c truth) = refl
-choice_calm (alternate_counts o p i j t k l d b c truth) = refl
-choice_calm (right_side_counts q o p i t k d b goes) = refl
-
 behind_stands : (u : Purpose) (n m i : Note) {x z : Tree} → Counts x z → Stands u x.kind x.below sequence_expression (behind_zero n m i z).below
 behind_stands u n m i (consequent_counts o p h j t k l d b c truth) = for_part (λ st. consequent_behind_zero u st p h j m i h t k l d b c (test_tells t p d true truth))
 behind_stands u n m i (alternate_counts o p h j t k l d b c truth) = for_part (λ st. alternate_behind_zero u st p h j m i j t k l d b c (test_tells t p d false truth))
 behind_stands u n m i (right_side_counts q o p h t k d b goes) = for_part (λ st. right_side_behind_zero u st q p h m i h t k d b (side_tells t p d q true goes).0)
-
-module _ (n m : Note) (program : Forest) (a : Around) (y : Tree) (fits : Fits root (module_of n m program)) (form : IsWellFormed (module_of n m program)) (core : all_core (module_of n m program) ≡ true) where
-  core_within : (x : Tree) → plug a (Some x) ≡ module_of n m program → all_core x.below ≡ true
-  core_within x is = core_below x.kind x.note x.below nothing (core_there a x (subst (λ t. all_core t ≡ true) (sym is) core))
-
-  conditional_declares : (o : Note) (below : Forest) → plug a (Some (tree conditional_expression o below)) ≡ module_of n m program → DeclaresNothing below
-  conditional_declares o below is =
-      let x = tree conditional_expression o below in
-      record {
-        bound = nameless_as_planned below (these (one expression ∷ one expression ∷ one expression ∷ [])) refl (parts_of_conditional a o below (subst (Fits root) (sym is) fits)) (core_within x is);
-        imports = no_imports_below n m program a x y is fits form core conditional_expression refl refl (λ p i. refl);
-      }
-
-  logical_declares : (q : LogicalOperator) (o : Note) (below : Forest) → plug a (Some (tree (logical_expression q) o below)) ≡ module_of n m program → DeclaresNothing below
-  logical_declares q o below is =
-      let x = tree (logical_expression q) o below in
-      record {
-        bound = nameless_as_planned below (these (one expression ∷ one expression ∷ [])) refl (sides_of_logical a q o below (subst (Fits root) (sym is) fits)) (core_within x is);
-        imports = no_imports_below n m program a x y is fits form core (logical_expression q) refl refl (λ p i. refl);
-      }
-
-  choice_declares : {x z : Tree} → Counts x z → plug a (Some x) ≡ module_of n m program → DeclaresNothing x.below
-  choice_declares {x = x} (consequent_counts o p i j t k l d b c truth) is = conditional_declares o x.below is
-  choice_declares {x = x} (alternate_counts o p i j t k l d b c truth) is = conditional_declares o x.below is
-  choice_declares {x = x} (right_side_counts q o p i t k d b goes) is = logical_declares q o x.below is
 
 behind_comes : (a : Around) (n m i : Note) {x z : Tree} → Counts x z → DeclaresNothing x.below → Comes a x (behind_zero n m i z)
 behind_comes a n m i {x = x} {z = z} counts h =
@@ -203,37 +150,12 @@ behind_comes a n m i {x = x} {z = z} counts h =
       inner = y.below;
       same = refl;
       stands = behind_stands (wanted_at a) n m i counts;
-      old_calm = choice_calm counts;
-      declares = both_plainly x.kind x.below sequence_expression n y.below nothing (choice_calm counts) h (behind_declares n m i z (counted_declares counts h));
+      old_calm = choice_calm (counted_choice counts);
+      declares = both_plainly x.kind x.below sequence_expression n y.below nothing (choice_calm (counted_choice counts)) h (behind_declares n m i z (counted_declares counts h));
       core = λ c. behind_core n m i z (counted_core counts c);
     }
 
 -- ---- all of it
-
-choice_is_other : {x z : Tree} → Counts x z → IsOther x
-choice_is_other (consequent_counts o p i j t k l d b c truth) = record { counts = refl; lists = λ h. refl; begins = λ h. refl; calls = refl }
-choice_is_other (alternate_counts o p i j t k l d b c truth) = record { counts = refl; lists = λ h. refl; begins = λ h. refl; calls = refl }
-choice_is_other (right_side_counts q o p i t k d b goes) = record { counts = refl; lists = λ h. refl; begins = λ h. refl; calls = refl }
-
-choice_ends : {x z : Tree} → Counts x z → may_end x.kind ≡ true
-choice_ends (consequent_counts o p i j t k l d b c truth) = refl
-choice_ends (alternate_counts o p i j t k l d b c truth) = refl
-choice_ends (right_side_counts q o p i t k d b goes) = refl
-
-choice_may_change : (a : Around) {x z : Tree} → Counts x z → MayChange a x
-choice_may_change a (consequent_counts o p i j t k l d b c truth) = refl
-choice_may_change a (alternate_counts o p i j t k l d b c truth) = refl
-choice_may_change a (right_side_counts q o p i t k d b goes) = refl
-
-choice_no_name : {x z : Tree} → Counts x z → is_read_name x.kind ≡ false
-choice_no_name (consequent_counts o p i j t k l d b c truth) = refl
-choice_no_name (alternate_counts o p i j t k l d b c truth) = refl
-choice_no_name (right_side_counts q o p i t k d b goes) = refl
-
-choice_unasked : {x z : Tree} → Counts x z → is_asked_for x.kind ≡ false
-choice_unasked (consequent_counts o p i j t k l d b c truth) = refl
-choice_unasked (alternate_counts o p i j t k l d b c truth) = refl
-choice_unasked (right_side_counts q o p i t k d b goes) = refl
 
 counted_owes : (a : Around) (n m i : Note) {x z : Tree} → Counts x z → ByParts a x (behind_zero n m i z)
 counted_owes a n m i {x = x} {z = z} counts =
@@ -242,16 +164,16 @@ counted_owes a n m i {x = x} {z = z} counts =
       rebuilt = λ fits. part_is_behind n m i x z (part_is_left counts);
       lighter = behind_lighter n m i counts;
       no_deeper = behind_no_deeper n m i counts;
-      no_call = choice_is_other counts;
-      ends = choice_ends counts;
-      may_change = choice_may_change a counts;
-      fits_expression = λ fits. (choice_expression a counts fits, tt);
-      takes = λ fits. behind_takes n m i counts (counted_expression a counts fits);
-      no_name = choice_no_name counts;
-      old_unasked = λ fits. choice_unasked counts;
+      no_call = choice_is_other (counted_choice counts);
+      ends = choice_ends (counted_choice counts);
+      may_change = choice_may_change a (counted_choice counts);
+      fits_expression = λ fits. (choice_expression a (counted_choice counts) fits, tt);
+      takes = λ fits. anywhere (choice_takes y (counted_choice counts) (behind_expression n m i z (counted_expression a counts fits)));
+      no_name = choice_no_name (counted_choice counts);
+      old_unasked = λ fits. choice_unasked (counted_choice counts);
       unasked = λ fits. refl;
       comes_out = record { undeleted = λ e. refl; uncalled = λ e. refl };
-      runs = by_coming (λ q s program is fits form core. behind_comes a n m i counts (choice_declares q s program a y fits form core counts is));
+      runs = by_coming (λ q s program is fits form core. behind_comes a n m i counts (choice_declares q s program a y fits form core (counted_choice counts) is));
     }
 
 pub indirect_choice_owes : (a : Around) (x y : Tree) → IndirectChoice a x y → ByParts a x y

@@ -59,6 +59,7 @@ use Rattle.steps.specs.Allowed.Wanted.{wanted_at}
 use Rattle.steps.proofs.Fit.CoreCalm.{nameless_as_planned}
 use Rattle.steps.proofs.Fit.Held.{core_below}
 use Rattle.steps.specs.Owed.Comes.{Comes}
+use Rattle.steps.specs.Owed.TakesPlace.{anywhere}
 use Rattle.steps.specs.Owed.Owed.{ByParts, by_coming}
 use Rattle.steps.proofs.Owed.BranchKinds.{IsExpression}
 use Rattle.steps.proofs.Owed.ChoiceParts.{Two, operand_of_unary, sides_of_binary}
@@ -412,7 +413,7 @@ module _ (a : Around) (n i : Note) (w : LiteralValue) where
       ends = refl;
       may_change = refl;
       fits_expression = λ fits. ((a_unary_expression, (o, tt), refl, tt, refl, operand_of_unary a o n operand fits), tt);
-      takes = λ fits. record { classes = λ (to : Class) f. (as_unary (literal w) nothing to (unary_stood to n operand o f) (literal_expression w), tt); old_told = refl; new_told = refl };
+      takes = λ fits. anywhere (record { classes = λ (to : Class) f. (as_unary (literal w) nothing to (unary_stood to n operand o f) (literal_expression w), tt); old_told = refl; new_told = refl });
       no_name = refl;
       old_unasked = λ fits. refl;
       unasked = λ fits. refl;
@@ -453,7 +454,7 @@ module _ (a : Around) (n i : Note) (w : LiteralValue) where
       ends = refl;
       may_change = refl;
       fits_expression = λ fits. ((a_binary_expression, (o, tt), refl, no_in, refl, two_there fits), tt);
-      takes = λ fits. record { classes = λ (to : Class) f. (as_binary (literal w) nothing to (binary_stood to n sides o f) (literal_expression w), tt); old_told = refl; new_told = refl };
+      takes = λ fits. anywhere (record { classes = λ (to : Class) f. (as_binary (literal w) nothing to (binary_stood to n sides o f) (literal_expression w), tt); old_told = refl; new_told = refl });
       no_name = refl;
       old_unasked = λ fits. refl;
       unasked = λ fits. refl;
@@ -495,7 +496,7 @@ module _ (a : Around) (n i j : Note) (z : ℕ) where
       ends = refl;
       may_change = refl;
       fits_expression = λ fits. ((a_unary_expression, (o, tt), refl, tt, refl, operand_of_unary a o n operand fits), tt);
-      takes = λ fits. record { classes = λ (to : Class) f. (as_unary minus.kind minus.below to (unary_stood to n operand o f) (minus_expression j z), tt); old_told = refl; new_told = refl };
+      takes = λ fits. anywhere (record { classes = λ (to : Class) f. (as_unary minus.kind minus.below to (unary_stood to n operand o f) (minus_expression j z), tt); old_told = refl; new_told = refl });
       no_name = refl;
       old_unasked = λ fits. refl;
       unasked = λ fits. refl;
@@ -530,7 +531,7 @@ module _ (a : Around) (n i j : Note) (z : ℕ) where
       ends = refl;
       may_change = refl;
       fits_expression = λ fits. ((a_binary_expression, (o, tt), refl, no_in, refl, sides_of_binary a o no_in n sides fits), tt);
-      takes = λ fits. record { classes = λ (to : Class) f. (as_binary minus.kind minus.below to (binary_stood to n sides o f) (minus_expression j z), tt); old_told = refl; new_told = refl };
+      takes = λ fits. anywhere (record { classes = λ (to : Class) f. (as_binary minus.kind minus.below to (binary_stood to n sides o f) (minus_expression j z), tt); old_told = refl; new_told = refl });
       no_name = refl;
       old_unasked = λ fits. refl;
       unasked = λ fits. refl;

@@ -80,13 +80,16 @@ module _ (a : Forest) (k : Kind) (single : is_single k ≡ true) where
 
 -- ---- at a place
 
-pub made_there : (a : Around) (x : Tree) (plan : Plan) → is_calm x.kind ≡ true → plan_passes is_sound plan ≡ true → Stand plan (plug a (Some x)) → MadeBy x.kind x.below
-made_there (first rest) x plan calm h st = made_at x.below x.kind (calm_single x.kind calm) (first_place plan) (first_passes is_sound plan refl h) st.0
-made_there (behind k n below a) x plan calm h st = made_there a x (shape.behind plan k) calm (behind_passes is_sound plan k h) st.1
-made_there (behind_none a) x plan calm h st = made_there a x (shape.behind plan Kind.Hole) calm (behind_passes is_sound plan Kind.Hole h) st.1
-made_there (under k n a rest) x plan calm h st =
+pub single_made_there : (a : Around) (x : Tree) (plan : Plan) → is_single x.kind ≡ true → plan_passes is_sound plan ≡ true → Stand plan (plug a (Some x)) → MadeBy x.kind x.below
+single_made_there (first rest) x plan single h st = made_at x.below x.kind single (first_place plan) (first_passes is_sound plan refl h) st.0
+single_made_there (behind k n below a) x plan single h st = single_made_there a x (shape.behind plan k) single (behind_passes is_sound plan k h) st.1
+single_made_there (behind_none a) x plan single h st = single_made_there a x (shape.behind plan Kind.Hole) single (behind_passes is_sound plan Kind.Hole h) st.1
+single_made_there (under k n a rest) x plan single h st =
     let planned = planned_below (plug a (Some x)) (first_place plan) k st.0 in
-    made_there a x planned.0 calm planned.1 planned.2
+    single_made_there a x planned.0 single planned.1 planned.2
+
+pub made_there : (a : Around) (x : Tree) (plan : Plan) → is_calm x.kind ≡ true → plan_passes is_sound plan ≡ true → Stand plan (plug a (Some x)) → MadeBy x.kind x.below
+made_there a x plan calm h st = single_made_there a x plan (calm_single x.kind calm) h st
 
 -- ---- what stands below some
 

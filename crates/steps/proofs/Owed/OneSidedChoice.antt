@@ -29,6 +29,7 @@ use Rattle.steps.proofs.Fit.Held.{core_here, core_below, core_behind, core_alone
 use Rattle.steps.specs.KeepForm.Part.{is_asked_for}
 use Rattle.steps.proofs.KeepForm.Rules.{first_empty, both_empty}
 use Rattle.steps.specs.Owed.Comes.{Comes}
+use Rattle.steps.specs.Owed.TakesPlace.{anywhere}
 use Rattle.steps.specs.Owed.Owed.{ByParts, by_coming}
 use Rattle.steps.proofs.Owed.BranchKinds.{IsExpression, expression_told}
 use Rattle.steps.proofs.Owed.ChoiceParts.{Two, Three, parts_of_conditional}
@@ -168,7 +169,7 @@ module _ (a : Around) (unused : is_unused_at a ≡ true) (p n : Note) (below : F
     fits_expression = λ fits. ((a_conditional_expression, tt, refl, tt, refl, three fits), tt);
     takes = λ fits.
         let of = side_expression side (three fits) in
-        record { classes = λ (to : Class) f. (as_conditional y.kind y.below to (conditional_stood to p below f) of, tt); old_told = refl; new_told = expression_told y.kind y.below of };
+        anywhere (record { classes = λ (to : Class) f. (as_conditional y.kind y.below to (conditional_stood to p below f) of, tt); old_told = refl; new_told = expression_told y.kind y.below of });
     no_name = refl;
     old_unasked = λ fits. refl;
     unasked = λ fits. side_unasked side;

@@ -1,5 +1,5 @@
 -- A core module does the same without an import that has no names, where a module is asked for before it that it asks for.
-use Rattle.std.proofs.Common.{◌≡◌, ◌∙◌, ◌⊎◌, inl, inr, ℕ, suc, ◌==◌, List, [], ◌∷◌, ◌++◌, Bool, true, false, ◌&&◌, ◌||◌, if◌then◌else◌, Option, Some, None, append-nil, bytes_eq, refl, sym, ap, ap₂, subst, true≢false}
+use Rattle.std.proofs.Common.{◌≡◌, ◌∙◌, inl, inr, ℕ, suc, ◌==◌, List, [], ◌∷◌, ◌++◌, Bool, true, false, ◌||◌, if◌then◌else◌, Some, None, append-nil, bytes_eq, refl, sym, ap, ap₂, subst, true≢false}
 use mathlib.Core.Path.{fun_ext}
 use Rattle.std.proofs.lemmas.Bool.{or_cases}
 use Rattle.std.proofs.lemmas.Slice.Eq.{bytes_eq-Decides}
@@ -8,17 +8,15 @@ use Rattle.js_syntax.specs.declared.node_kind.NodeKind.{NodeKind as Kind}
 use Rattle.js_syntax.specs.Facts.{is_core}
 use Rattle.js_syntax.specs.declared.kind.FunctionKind.{FunctionKind}
 use Rattle.js_syntax.specs.declared.kind.FunctionKind.TheVariants as function_kind
-use Rattle.js_syntax.specs.declared.kind.VariableKind.TheVariants as variable
 use Rattle.js_syntax.specs.declared.scalar.SourceType.{SourceType}
-use Rattle.js_syntax.specs.declared.scalar.SourceType.TheVariants as source_type
-use Rattle.js_syntax.specs.Node.{Forest, Tree, Note, nothing, node, absent, below_of}
+use Rattle.js_syntax.specs.Node.{Forest, Tree, Note, nothing, node, below_of}
 use Rattle.js_meaning.specs.Value.{Text, Env, this_name}
-use Rattle.js_meaning.specs.Trace.{Script, Ending, ended, Run}
-use Rattle.js_meaning.specs.State.{set_exports, M, Completion, normal, State, Out, goes, stops, more, go_on, bind, done, if_normal, seq}
-use Rattle.js_meaning.specs.Scope.{ready, decl, all_so, item_decls, lexical, vars_of, var_names, start_item, start, declare, module_decls}
+use Rattle.js_meaning.specs.Trace.{Ending, ended, Run}
+use Rattle.js_meaning.specs.State.{set_exports, M, normal, Out, goes, stops, more, bind, done, seq}
+use Rattle.js_meaning.specs.Scope.{ready, decl, all_so, item_decls, lexical, vars_of, var_names, start_item, start, declare}
 use Rattle.js_meaning.specs.Module.{sorted, resolve_entries, requests_of, requests, without as others, distinct, load_all, entries_of, entries, star_of, stars, exporting}
 use Rattle.js_meaning.specs.Host.{Enter}
-use Rattle.js_meaning.specs.Node.{run as run_under, Parts, each}
+use Rattle.js_meaning.specs.Node.{run as run_under, each}
 use Rattle.js_meaning.specs.Meaning.{does, if_core, eval, enter}
 use Rattle.js_meaning.specs.Run.{finish, finally, module_does, first_state, seen, run_within, run}
 use Rattle.js_meaning.specs.Kept.{refines, Refined}

@@ -1,70 +1,108 @@
--- What a comparison owes of which nobody takes the value, and of which both sides act: it becomes a sequence of these.
-use Rattle.std.proofs.Common.{◌≡◌, [], ◌∷◌, Bool, true, false, ◌&&◌, Some, None, if◌then◌else◌, arith, refl, sym, subst, true≢false}
+-- What an operation on two sides owes of which nobody takes the value, and of which both act: it becomes a sequence of these. And what a
+-- sum owes of which nobody takes the value, and of which a text becomes empty.
+use Rattle.std.proofs.Common.{◌≡◌, ◌≤◌, ◌<◌, ℕ, List, [], ◌∷◌, Bool, true, false, ◌&&◌, Some, None, if◌then◌else◌, arith, refl, sym, subst, true≢false}
 use Rattle.js_syntax.specs.Class.{Class, root, expression}
 use Rattle.js_syntax.specs.declared.node_kind.NodeKind.{NodeKind as Kind}
-use Rattle.js_syntax.specs.declared.node_kind.NodeKind.TheVariants.{BinaryExpression as binary_expression, SequenceExpression as sequence_expression, Expressions as expressions}
+use Rattle.js_syntax.specs.Facts.{is_core, weight}
+use Rattle.js_syntax.specs.declared.node_kind.NodeKind.TheVariants.{BinaryExpression as binary_expression, SequenceExpression as sequence_expression, Expressions as expressions, Literal as literal}
 use Rattle.js_syntax.specs.declared.operator.BinaryOperator.{BinaryOperator}
-use Rattle.js_syntax.specs.declared.operator.BinaryOperator.TheVariants as binary
-use Rattle.js_syntax.specs.Node.{Note, Forest, Tree, nothing, node}
+use Rattle.js_syntax.specs.declared.operator.BinaryOperator.TheVariants.{Addition as addition}
+use Rattle.js_syntax.specs.declared.value.LiteralValue.TheVariants as value
+use Rattle.js_syntax.specs.Node.{Note, Forest, Tree, nothing, node, joined, total, forest_of}
 use Rattle.js_syntax.specs.Table.{a_binary_expression}
-use Rattle.js_syntax.proofs.Truth.{first_of_both}
-use Rattle.js_rebuilt.specs.Rebuilt.{ends, stays, opened}
-use Rattle.js_meaning_near.specs.Near.{module_of}
-use Rattle.js_meaning_near.specs.Unused.{compares, all_needed, needed}
+use Rattle.js_syntax.proofs.Truth.{first_of_both, both}
+use Rattle.js_tree.specs.Count.{levels}
+use Rattle.js_rebuilt.specs.Rebuilt.{MayBeBuilt, Rebuilt, ends, stays, leaves, opened, built}
+use Rattle.js_meaning.specs.Value.{Text}
+use Rattle.js_meaning.specs.Scope.{bound_names, import_decls, specifier_decls}
+use Rattle.js_meaning_near.specs.Names.{Names}
+use Rattle.js_meaning_near.specs.Near.{module_of, SameEffects}
+use Rattle.js_effects.specs.Silence.{only_combines}
+use Rattle.js_meaning_near.specs.Unused.{all_needed, needed}
 use Rattle.js_meaning_near.proofs.Spared.{spared, binary_wasted}
-use Rattle.json_shape.specs.Shape.{is_in, one as one_place, these, Fits}
+use Rattle.js_meaning_near.proofs.Texts.{first_text_wasted, second_text_wasted}
+use Rattle.json_shape.specs.Shape.{one as one_place, these, Fits}
 use Rattle.form_rules.specs.Form.{IsWellFormed}
 use Rattle.scope_laws.specs.Place.{Around, plug}
 use Rattle.steps.specs.Steps.{all_core}
-use Rattle.steps.specs.Allowed.TwoSides.{two_sides, TwoSides, both_sides_act}
+use Rattle.steps.specs.Allowed.TwoSides.{is_full_text, empty_text, text_emptied, two_sides, TwoSides, both_sides_act}
 use Rattle.steps.specs.Allowed.Unused.{is_unused_at}
 use Rattle.steps.specs.Allowed.UnusedOperation.{acts}
 use Rattle.steps.specs.Allowed.Wanted.{wanted_at}
 use Rattle.steps.proofs.Fit.CoreCalm.{nameless_as_planned}
-use Rattle.steps.proofs.Fit.Held.{core_below}
+use Rattle.steps.proofs.Fit.Held.{core_here, core_below, core_behind}
+use Rattle.steps.proofs.KeepForm.Rules.{first_empty, second_empty, both_empty}
 use Rattle.steps.specs.Owed.Comes.{Comes}
+use Rattle.steps.specs.Owed.TakesPlace.{anywhere}
 use Rattle.steps.specs.Owed.Owed.{ByParts, by_coming}
-use Rattle.steps.proofs.Owed.BranchKinds.{expression_told}
-use Rattle.steps.proofs.Owed.ChoiceParts.{Two, sides_of_comparison}
+use Rattle.steps.proofs.Owed.BranchKinds.{IsExpression, expression_told}
+use Rattle.steps.proofs.Owed.ChoiceParts.{Two, sides_of_binary}
 use Rattle.steps.proofs.Owed.ChoiceRuns.{core_there, no_imports_below}
-use Rattle.steps.proofs.Owed.FitsTaking.{as_binary, comparison_stood}
+use Rattle.steps.proofs.Owed.FitsTaking.{as_binary, binary_stood}
+use Rattle.steps.proofs.Owed.KnownOperation.{literal_expression}
 use Rattle.steps.proofs.Owed.Undeclared.{DeclaresNothing, both_plainly}
 use Rattle.steps.proofs.Owed.UnusedList.{Left, several_left, Parts, left_rebuilt, left_fits, left_core, left_declares}
-use Rattle.steps.proofs.Owed.UnusedOperation.{comes_out}
+use Rattle.steps.proofs.Owed.UnusedOperation.{comes_out, combines_not_in, combines_answers}
 use Rattle.steps.proofs.Owed.UnusedPlace.{unused_in_module}
 
 abbrev tree : Kind → Note → (below : Forest) → Tree
 tree k n below = record { kind = k; note = n; below = below }
 
--- ---- a comparison, and the sequence of its sides
+-- ---- an operation, and the sequence of its sides
 
 abbrev in_turn : (n m : Note) → (sides : Forest) → Tree
 in_turn n m sides = tree sequence_expression n (node expressions m sides nothing)
 
+abbrev sum : (n : Note) → (sides : Forest) → Tree
+sum n sides = tree (binary_expression addition) n sides
+
 pub data Sides (n m : Note) : Kind → (below : Forest) → Tree → Type 0 where
-  both_act : (o : BinaryOperator) (k l : Kind) (i j : Note) (a b : Forest) → compares o ≡ true → Sides n m (binary_expression o) (node k i a (node l j b nothing)) (in_turn n m (node k i a (node l j b nothing)))
+  both_act : (o : BinaryOperator) (k l : Kind) (i j : Note) (a b : Forest) → only_combines (binary_expression o) (node k i a (node l j b nothing)) ≡ true → Sides n m (binary_expression o) (node k i a (node l j b nothing)) (in_turn n m (node k i a (node l j b nothing)))
+  first_text : (c : ℕ) (cs : List ℕ) (l : Kind) (i j : Note) (a b : Forest) → Sides n m (binary_expression addition) (node (literal (value.Text (c ∷ cs))) i a (node l j b nothing)) (sum n (node empty_text i nothing (node l j b nothing)))
+  second_text : (c : ℕ) (cs : List ℕ) (k : Kind) (i j : Note) (a b : Forest) → Sides n m (binary_expression addition) (node k i a (node (literal (value.Text (c ∷ cs))) j b nothing)) (sum n (node k i a (node empty_text j nothing nothing)))
 
-are_sides : (n m : Note) (k : Kind) (below : Forest) (y : Tree) → two_sides n m k below ≡ Some y → Sides n m k below y
-are_sides n m (binary_expression o) (node k i a (node l j b nothing)) y e = each (compares o && (acts k i a && acts l j b)) refl e
+pub data IsFullText : Kind → Type 0 where
+  a_full_text : (c : ℕ) (cs : List ℕ) → IsFullText (literal (value.Text (c ∷ cs)))
+
+pub full_text : (k : Kind) → is_full_text k ≡ true → IsFullText k
+full_text (literal (value.Text (c ∷ cs))) e = a_full_text c cs
+full_text (literal (value.Text [])) e = absurd (true≢false (sym e))
+full_text k e = absurd (true≢false (sym e))
+
+from_first : (n m : Note) (k l : Kind) (i j : Note) (a b : Forest) (y : Tree) → IsFullText k → sum n (node empty_text i nothing (node l j b nothing)) ≡ y → Sides n m (binary_expression addition) (node k i a (node l j b nothing)) y
+from_first n m _ l i j a b y (a_full_text c cs) is = subst (Sides n m (binary_expression addition) (node (literal (value.Text (c ∷ cs))) i a (node l j b nothing))) is (first_text c cs l i j a b)
+
+from_second : (n m : Note) (k l : Kind) (i j : Note) (a b : Forest) (y : Tree) → IsFullText l → sum n (node k i a (node empty_text j nothing nothing)) ≡ y → Sides n m (binary_expression addition) (node k i a (node l j b nothing)) y
+from_second n m k _ i j a b y (a_full_text c cs) is = subst (Sides n m (binary_expression addition) (node k i a (node (literal (value.Text (c ∷ cs))) j b nothing))) is (second_text c cs k i j a b)
+
+are_texts : (n m : Note) (o : BinaryOperator) (k l : Kind) (i j : Note) (a b : Forest) (y : Tree) → text_emptied n (binary_expression o) (node k i a (node l j b nothing)) ≡ Some y → Sides n m (binary_expression o) (node k i a (node l j b nothing)) y
+are_texts n m addition k l i j a b y e = each (is_full_text k && acts l j b) (is_full_text l && acts k i a) refl refl e
   where
-    each : (p : Bool) → (compares o && (acts k i a && acts l j b)) ≡ p → (if p then Some (in_turn n m (node k i a (node l j b nothing))) else None) ≡ Some y → Sides n m (binary_expression o) (node k i a (node l j b nothing)) y
-    each true both is = subst (Sides n m (binary_expression o) (node k i a (node l j b nothing))) (cc is) (both_act o k l i j a b (first_of_both (compares o) (acts k i a && acts l j b) both))
-    each false both is = absurd cc
-are_sides n m k below y e = absurd cc
+    each : (p q : Bool) → (is_full_text k && acts l j b) ≡ p → (is_full_text l && acts k i a) ≡ q
+        → (if p then Some (sum n (node empty_text i nothing (node l j b nothing))) else if q then Some (sum n (node k i a (node empty_text j nothing nothing))) else None) ≡ Some y
+        → Sides n m (binary_expression addition) (node k i a (node l j b nothing)) y
+    each true q first second is = from_first n m k l i j a b y (full_text k (first_of_both (is_full_text k) (acts l j b) first)) (cc is)
+    each false true first second is = from_second n m k l i j a b y (full_text l (first_of_both (is_full_text l) (acts k i a) second)) (cc is)
+    each false false first second is = absurd cc
+are_texts n m o k l i j a b y e = absurd cc
 
--- `in` compares nothing
-not_in : (o : BinaryOperator) → compares o ≡ true → is_in o ≡ false
-not_in binary.In h = absurd (true≢false (sym h))
-not_in o h = refl
+pub are_sides : (n m : Note) (k : Kind) (below : Forest) (y : Tree) → two_sides n m k below ≡ Some y → Sides n m k below y
+are_sides n m (binary_expression o) (node k i a (node l j b nothing)) y e = each (only_combines (binary_expression o) (node k i a (node l j b nothing)) && (acts k i a && acts l j b)) refl e
+  where
+    each : (p : Bool) → (only_combines (binary_expression o) (node k i a (node l j b nothing)) && (acts k i a && acts l j b)) ≡ p
+        → (if p then Some (in_turn n m (node k i a (node l j b nothing))) else text_emptied n (binary_expression o) (node k i a (node l j b nothing))) ≡ Some y → Sides n m (binary_expression o) (node k i a (node l j b nothing)) y
+    each true both is = subst (Sides n m (binary_expression o) (node k i a (node l j b nothing))) (cc is) (both_act o k l i j a b (first_of_both (only_combines (binary_expression o) (node k i a (node l j b nothing))) (acts k i a && acts l j b) both))
+    each false both is = are_texts n m o k l i j a b y is
+are_sides n m k below y e = absurd cc
 
 -- ---- all of it
 
-module _ (a : Around) (unused : is_unused_at a ≡ true) (p n m : Note) (o : BinaryOperator) (comparing : compares o ≡ true) (k l : Kind) (i j : Note) (b c : Forest) where
+module _ (a : Around) (unused : is_unused_at a ≡ true) (p n m : Note) (o : BinaryOperator) (k l : Kind) (i j : Note) (b c : Forest) (combines : only_combines (binary_expression o) (node k i b (node l j c nothing)) ≡ true) where
   abbrev sides : Forest
   sides = node k i b (node l j c nothing)
 
-  abbrev comparison : Tree
-  comparison = tree (binary_expression o) p sides
+  abbrev operation : Tree
+  operation = tree (binary_expression o) p sides
 
   abbrev several : Tree
   several = in_turn n m sides
@@ -72,28 +110,30 @@ module _ (a : Around) (unused : is_unused_at a ≡ true) (p n m : Note) (o : Bin
   left : Left n m sides several
   left = several_left k l i j b c nothing
 
-  two : Fits root (plug a (Some comparison)) → Two sides
-  two fits = sides_of_comparison a o comparing p sides fits
+  two : Fits root (plug a (Some operation)) → Two sides
+  two fits = sides_of_binary a o (combines_not_in o sides combines) p sides fits
 
-  sides_stay : Fits root (plug a (Some comparison)) → Parts sides
+  sides_stay : Fits root (plug a (Some operation)) → Parts sides
   sides_stay fits = two fits
 
-  comes : (q s : Note) (r : Forest) → plug a (Some comparison) ≡ module_of q s r → Fits root (module_of q s r) → IsWellFormed (module_of q s r) → all_core (module_of q s r) ≡ true → Comes a comparison several
+  comes : (q s : Note) (r : Forest) → plug a (Some operation) ≡ module_of q s r → Fits root (module_of q s r) → IsWellFormed (module_of q s r) → all_core (module_of q s r) ≡ true → Comes a operation several
   comes q s r is fits form core =
       let there = subst (Fits root) (sym is) fits in
-      let within = core_below (binary_expression o) p sides nothing (core_there a comparison (subst (λ t. all_core t ≡ true) (sym is) core)) in
-      let imports = no_imports_below q s r a comparison several is fits form core (binary_expression o) refl refl (λ s i. refl) in
+      let held = core_there a operation (subst (λ t. all_core t ≡ true) (sym is) core) in
+      let operator_core = core_here (binary_expression o) p sides nothing held in
+      let within = core_below (binary_expression o) p sides nothing held in
+      let imports = no_imports_below q s r a operation several is fits form core (binary_expression o) refl refl (λ s i. refl) in
       let none : DeclaresNothing sides = record { bound = nameless_as_planned sides (these (one_place expression ∷ one_place expression ∷ [])) refl (two there) within; imports = imports } in
       record {
         inner = several.below;
         same = refl;
-        stands = spared (wanted_at a) (binary_expression o) p m sides sides (unused_in_module a comparison is form unused) tt refl refl (λ st. binary_wasted st o k l p i j m b c sides comparing (needed (needed all_needed)));
+        stands = spared (wanted_at a) (binary_expression o) p m sides sides (unused_in_module a operation is form unused) tt refl refl (λ st. binary_wasted st o k l p i j m b c sides (combines_answers o sides combines operator_core) (needed (needed all_needed)));
         old_calm = refl;
         declares = both_plainly (binary_expression o) sides sequence_expression n several.below nothing refl none (left_declares left (sides_stay there) within imports);
         core = λ d. left_core left (core_below (binary_expression o) p sides nothing d);
       }
 
-  sides_owe : ByParts a comparison several
+  sides_owe : ByParts a operation several
   sides_owe = record {
     rebuilt = λ fits. opened refl (left_rebuilt sides left (stays (stays ends)));
     lighter = Prim.omega arith;
@@ -101,10 +141,10 @@ module _ (a : Around) (unused : is_unused_at a ≡ true) (p n m : Note) (o : Bin
     no_call = record { counts = refl; lists = λ i. refl; begins = λ i. refl; calls = refl };
     ends = refl;
     may_change = refl;
-    fits_expression = λ fits. ((a_binary_expression, (o, tt), refl, not_in o comparing, refl, two fits), tt);
+    fits_expression = λ fits. ((a_binary_expression, (o, tt), refl, combines_not_in o sides combines, refl, two fits), tt);
     takes = λ fits.
         let of = left_fits left (sides_stay fits) in
-        record { classes = λ (to : Class) f. (as_binary several.kind several.below to (comparison_stood to p sides o comparing f) of, tt); old_told = refl; new_told = expression_told several.kind several.below of };
+        anywhere (record { classes = λ (to : Class) f. (as_binary several.kind several.below to (binary_stood to p sides o f) of, tt); old_told = refl; new_told = expression_told several.kind several.below of });
     no_name = refl;
     old_unasked = λ fits. refl;
     unasked = λ fits. refl;
@@ -112,8 +152,85 @@ module _ (a : Around) (unused : is_unused_at a ≡ true) (p n m : Note) (o : Bin
     runs = by_coming comes;
   }
 
+-- ---- a sum, of which a text becomes empty
+
+sum_is_built : (sides : Forest) → MayBeBuilt (binary_expression addition) sides
+sum_is_built sides = record { operation = refl; calls_none = refl; breaks_none = λ c place. refl }
+
+text_is_empty : MayBeBuilt empty_text nothing
+text_is_empty = record { operation = refl; calls_none = refl; breaks_none = λ c place. refl }
+
+sum_declares : (n : Note) (sides : Forest) → DeclaresNothing sides → DeclaresNothing (forest_of (sum n sides))
+sum_declares n sides none = record { bound = both_empty (bound_names sides) [] none.bound refl; imports = λ s. both_empty (import_decls s sides) [] (none.imports s) refl }
+
+core_with_text : (k : Kind) (i j : Note) (b : Forest) → is_core k ≡ true → all_core b ≡ true → all_core (node k i b (node empty_text j nothing nothing)) ≡ true
+core_with_text k i j b here below = both (is_core k) (all_core b && true) here (both (all_core b) true below refl)
+
+-- what both owe alike
+module _ (a : Around) (unused : is_unused_at a ≡ true) (p n : Note) (old new : Forest) (rebuilt : Rebuilt (joined old nothing) (joined new nothing)) (lighter : total weight new < total weight old) (no_deeper : levels new ≤ levels old)
+    (two_new : Two old → Two new) (core_new : all_core old ≡ true → all_core new ≡ true) (imports_new : ((s : Text) → import_decls s old ≡ []) → (s : Text) → import_decls s new ≡ [])
+    (wasted_so : (st : Names) → SameEffects st (node (binary_expression addition) p old nothing) Kind.ExpressionStatement (node (binary_expression addition) n new nothing) (node (binary_expression addition) n new nothing) (node (binary_expression addition) n new nothing)) where
+  abbrev full : Tree
+  full = sum p old
+
+  abbrev emptied : Tree
+  emptied = sum n new
+
+  two_there : Fits root (plug a (Some full)) → Two old
+  two_there fits = sides_of_binary a addition refl p old fits
+
+  emptied_expression : Fits root (plug a (Some full)) → IsExpression (binary_expression addition) new
+  emptied_expression fits = (a_binary_expression, (addition, tt), refl, refl, refl, two_new (two_there fits))
+
+  emptied_comes : (q s : Note) (r : Forest) → plug a (Some full) ≡ module_of q s r → Fits root (module_of q s r) → IsWellFormed (module_of q s r) → all_core (module_of q s r) ≡ true → Comes a full emptied
+  emptied_comes q s r is fits form core =
+      let there = subst (Fits root) (sym is) fits in
+      let within = core_below (binary_expression addition) p old nothing (core_there a full (subst (λ t. all_core t ≡ true) (sym is) core)) in
+      let imports = no_imports_below q s r a full emptied is fits form core (binary_expression addition) refl refl (λ s i. refl) in
+      let none : DeclaresNothing old = record { bound = nameless_as_planned old (these (one_place expression ∷ one_place expression ∷ [])) refl (two_there there) within; imports = imports } in
+      let still : DeclaresNothing new = record { bound = nameless_as_planned new (these (one_place expression ∷ one_place expression ∷ [])) refl (two_new (two_there there)) (core_new within); imports = imports_new imports } in
+      record {
+        inner = new;
+        same = refl;
+        stands = spared (wanted_at a) (binary_expression addition) p n old (forest_of emptied) (unused_in_module a full is form unused) tt refl refl wasted_so;
+        old_calm = refl;
+        declares = both_plainly (binary_expression addition) old (binary_expression addition) n new nothing refl none (sum_declares n new still);
+        core = λ d. both (all_core new) true (core_new (core_below (binary_expression addition) p old nothing d)) refl;
+      }
+
+  emptied_owes : ByParts a full emptied
+  emptied_owes = record {
+    rebuilt = λ fits. opened refl (built (sum_is_built new) rebuilt);
+    lighter = Prim.omega (arith, lighter);
+    no_deeper = Prim.omega (arith, no_deeper);
+    no_call = record { counts = refl; lists = λ i. refl; begins = λ i. refl; calls = refl };
+    ends = refl;
+    may_change = refl;
+    fits_expression = λ fits. ((a_binary_expression, (addition, tt), refl, refl, refl, two_there fits), tt);
+    takes = λ fits.
+        let of = emptied_expression fits in
+        anywhere (record { classes = λ (to : Class) f. (as_binary (binary_expression addition) new to (binary_stood to p old addition f) of, tt); old_told = refl; new_told = refl });
+    no_name = refl;
+    old_unasked = λ fits. refl;
+    unasked = λ fits. refl;
+    comes_out = comes_out a emptied unused;
+    runs = by_coming emptied_comes;
+  }
+
 each_owes : (a : Around) (p n m : Note) (k : Kind) (below : Forest) (y : Tree) → is_unused_at a ≡ true → Sides n m k below y → ByParts a (tree k p below) y
-each_owes a p n m _ _ _ unused (both_act o k l i j b c comparing) = sides_owe a unused p n m o comparing k l i j b c
+each_owes a p n m _ _ _ unused (both_act o k l i j b c combines) = sides_owe a unused p n m o k l i j b c combines
+each_owes a p n m _ _ _ unused (first_text c cs l i j b d) =
+    let right = node l j d nothing in
+    emptied_owes a unused p n (node (literal (value.Text (c ∷ cs))) i b right) (node empty_text i nothing right) (leaves (built text_is_empty (stays ends))) (Prim.omega arith) (Prim.omega arith)
+    (λ two. (literal_expression (value.Text []), two.1)) (λ core. core_behind (literal (value.Text (c ∷ cs))) i b right core)
+    (λ none s. second_empty (import_decls s b) (import_decls s right) (none s))
+    (λ st. first_text_wasted st (c ∷ cs) [] l p n i i j b d nothing)
+each_owes a p n m _ _ _ unused (second_text c cs k i j b d) =
+    let left = node k i b nothing in
+    emptied_owes a unused p n (node k i b (node (literal (value.Text (c ∷ cs))) j d nothing)) (node k i b (node empty_text j nothing nothing)) (stays (leaves (built text_is_empty ends))) (Prim.omega arith) (Prim.omega arith)
+    (λ two. (two.0, (literal_expression (value.Text []), tt))) (λ core. core_with_text k i j b (core_here k i b (node (literal (value.Text (c ∷ cs))) j d nothing) core) (core_below k i b (node (literal (value.Text (c ∷ cs))) j d nothing) core))
+    (λ none s. both_empty (specifier_decls s k b (import_decls s b)) [] (first_empty (specifier_decls s k b (import_decls s b)) (import_decls s (node (literal (value.Text (c ∷ cs))) j d nothing)) (none s)) refl)
+    (λ st. second_text_wasted st (c ∷ cs) [] k p n j j i d b nothing)
 
 pub two_sides_owes : (a : Around) (x y : Tree) → TwoSides a x y → ByParts a x y
 two_sides_owes a x y (both_sides_act n m _ _ unused is) = each_owes a x.note n m x.kind x.below y unused (are_sides n m x.kind x.below y is)

@@ -1,10 +1,10 @@
--- What an array or a sequence owes of which nobody takes the value, and of which the parts stay that act.
+-- What an array, a sequence or a template owes of which nobody takes the value, and of which the parts stay that act.
 use Rattle.std.proofs.Common.{◌≡◌, inl, inr, ◌≤◌, ◌<◌, ◌+◌, ℕ, suc, pos, zero, List, [], ◌∷◌, ◌++◌, Bool, true, false, ◌&&◌, ◌||◌, Some, None, arith, refl, sym, ap, ◌∙◌, subst, true≢false}
 use Rattle.std.proofs.lemmas.Bool.{lt-ltb}
 use Rattle.std.specs.Prelude.{if◌then◌else◌}
 use Rattle.js_syntax.specs.Class.{Class, root, expression, argument}
 use Rattle.js_syntax.specs.declared.node_kind.NodeKind.{NodeKind as Kind}
-use Rattle.js_syntax.specs.declared.node_kind.NodeKind.TheVariants.{ArrayExpression as array_expression, Elements as elements, SequenceExpression as sequence_expression, Expressions as expressions, Hole as hole}
+use Rattle.js_syntax.specs.declared.node_kind.NodeKind.TheVariants.{ArrayExpression as array_expression, Elements as elements, SequenceExpression as sequence_expression, Expressions as expressions, TemplateLiteral as template_literal, Quasis as quasis, Hole as hole}
 use Rattle.js_syntax.specs.declared.kind.FunctionKind.{FunctionKind}
 use Rattle.js_syntax.specs.declared.kind.FunctionKind.TheVariants as function_kind
 use Rattle.js_syntax.specs.declared.value.LiteralValue.{LiteralValue}
@@ -12,9 +12,10 @@ use Rattle.js_syntax.specs.declared.value.LiteralValue.TheVariants as value
 use Rattle.js_syntax.specs.Core.{value_weight, text_weight}
 use Rattle.js_syntax.specs.Facts.{weight, is_core}
 use Rattle.js_syntax.specs.Node.{Note, Forest, Tree, nothing, node, absent, forest_of, joined, total}
-use Rattle.js_syntax.specs.Table.{Row, an_array_expression, a_sequence_expression, a_spread_element, fields_of, type_of, stands}
+use Rattle.js_syntax.specs.Table.{Row, an_array_expression, a_sequence_expression, a_template_literal, a_spread_element, fields_of, type_of, stands}
 use Rattle.js_syntax.proofs.Truth.{both, first_of_neither, second_of_neither}
 use Rattle.js_tree.specs.Count.{lower, levels_at, levels}
+use Rattle.js_effects.specs.Silence.{only_combines}
 use Rattle.js_rebuilt.specs.Rebuilt.{MayBeBuilt, Rebuilt, ends, stays, leaves, opened, built, absent_leaves}
 use Rattle.js_meaning.specs.Scope.{specifier_decls, import_decls}
 use Rattle.js_meaning.specs.Value.{Text}
@@ -42,14 +43,16 @@ use Rattle.steps.proofs.Fit.Held.{core_here, core_below, core_behind}
 use Rattle.steps.specs.KeepForm.Part.{is_asked_for}
 use Rattle.steps.proofs.KeepForm.Rules.{first_empty, second_empty, both_empty}
 use Rattle.steps.specs.Owed.Comes.{Comes}
+use Rattle.steps.specs.Owed.TakesPlace.{anywhere, untagged}
 use Rattle.steps.specs.Owed.Owed.{ByParts, by_coming}
 use Rattle.steps.proofs.Owed.Bare.{wanted_for, bare_for_runs}
 use Rattle.steps.proofs.Owed.BranchKinds.{IsExpression, expression_told, bare_unasked}
-use Rattle.steps.proofs.Owed.ChoiceParts.{parts_of_array, parts_of_sequence}
+use Rattle.steps.proofs.Owed.ChoiceParts.{parts_of_array, parts_of_sequence, parts_of_template}
 use Rattle.steps.proofs.Owed.ChoiceRuns.{core_there, no_imports_below}
-use Rattle.steps.proofs.Owed.FitsTaking.{as_array, array_stood, as_sequence, sequence_stood}
+use Rattle.steps.proofs.Owed.FitsTaking.{as_array, array_stood, as_sequence, sequence_stood, as_template, template_stood}
 use Rattle.steps.proofs.Owed.SilentAnywhere.{silent_anywhere}
 use Rattle.steps.proofs.Owed.Undeclared.{DeclaresNothing, both_plainly}
+use Rattle.steps.proofs.Owed.UntaggedPlace.{unused_is_untagged}
 use Rattle.steps.proofs.Owed.UnusedOperation.{bare_hoists, comes_out}
 use Rattle.steps.proofs.Owed.UnusedPlace.{unused_in_module}
 
@@ -73,7 +76,7 @@ is_left n m (node k i a nothing) y nodes e = alone_left (stands_bare as_value fa
 is_left n m (node k i a (absent r)) y nodes e = absurd nodes
 is_left n m (node k i a (node l j b r)) y nodes e = subst (Left n m (node k i a (node l j b r))) (cc e) (several_left k l i j a b r)
 
-acting_nodes : (parts : Forest) → AllNodes (acting parts)
+pub acting_nodes : (parts : Forest) → AllNodes (acting parts)
 acting_nodes nothing = tt
 acting_nodes (absent r) = acting_nodes r
 acting_nodes (node k n a r) = each (acts k n a) (acting_nodes r)
@@ -86,6 +89,7 @@ acting_nodes (node k n a r) = each (acts k n a) (acting_nodes r)
 pub data Listed (n m : Note) : Kind → (below : Forest) → Tree → Type 0 where
   an_array : (i : Note) (parts : Forest) (y : Tree) → has_spread parts ≡ false → Left n m (acting parts) y → Listed n m array_expression (node elements i parts nothing) y
   a_sequence : (i : Note) (parts : Forest) (y : Tree) → all_act parts ≡ false → Left n m (acting parts) y → Listed n m sequence_expression (node expressions i parts nothing) y
+  a_template : (h i : Note) (texts parts : Forest) (y : Tree) → Left n m (acting parts) y → Listed n m template_literal (node quasis h texts (node expressions i parts nothing)) y
 
 is_listed : (n m : Note) (k : Kind) (below : Forest) (y : Tree) → list_becomes n m k below ≡ Some y → Listed n m k below y
 is_listed n m array_expression (node elements i parts nothing) y e = by_spread (has_spread parts) refl e
@@ -98,6 +102,11 @@ is_listed n m sequence_expression (node expressions i parts nothing) y e = by_al
     by_all : (b : Bool) → all_act parts ≡ b → (if b then None else as_one n m (acting parts)) ≡ Some y → Listed n m sequence_expression (node expressions i parts nothing) y
     by_all true acting_all is = absurd cc
     by_all false some is = a_sequence i parts y some (is_left n m (acting parts) y (acting_nodes parts) is)
+is_listed n m template_literal (node quasis h texts (node expressions i parts nothing)) y e = by_kinds (only_combines template_literal (node quasis h texts (node expressions i parts nothing))) e
+  where
+    by_kinds : (b : Bool) → (if b then as_one n m (acting parts) else None) ≡ Some y → Listed n m template_literal (node quasis h texts (node expressions i parts nothing)) y
+    by_kinds true is = a_template h i texts parts y (is_left n m (acting parts) y (acting_nodes parts) is)
+    by_kinds false is = absurd cc
 is_listed n m k below y e = absurd cc
 
 -- ---- rebuilt
@@ -125,7 +134,7 @@ left_rebuilt {n = n} {m = m} t (several_left k l i j a b r) h =
 
 -- ---- what it weighs, and how many nodes and levels there are
 
-acting_less : (w : Kind → ℕ) (parts : Forest) → total w (acting parts) ≤ total w parts
+pub acting_less : (w : Kind → ℕ) (parts : Forest) → total w (acting parts) ≤ total w parts
 acting_less w nothing = Prim.omega arith
 acting_less w (absent r) = acting_less w r
 acting_less w (node k n a r) = each (acts k n a) (acting_less w r)
@@ -138,7 +147,7 @@ pub left_weighs : {n m : Note} {parts : Forest} {y : Tree} → Left n m parts y 
 left_weighs (one_left k i a bare) = Prim.omega arith
 left_weighs (several_left k l i j a b r) = Prim.omega arith
 
-acting_lower : (f g : ℕ → ℕ) → ((i : ℕ) → g i ≡ 0) → (parts : Forest) (i j : ℕ) → levels_at g j (acting parts) ≤ levels_at f i parts
+pub acting_lower : (f g : ℕ → ℕ) → ((i : ℕ) → g i ≡ 0) → (parts : Forest) (i j : ℕ) → levels_at g j (acting parts) ≤ levels_at f i parts
 acting_lower f g none nothing i j = Prim.omega arith
 acting_lower f g none (absent r) i j = acting_lower f g none r (suc i) j
 acting_lower f g none (node k n a r) i j = each (acts k n a) (λ q. acting_lower f g none r (suc i) q)
@@ -319,7 +328,7 @@ module _ (a : Around) (unused : is_unused_at a ≡ true) (p n m i : Note) (parts
       fits_expression = λ fits. (array_fits fits, tt);
       takes = λ fits.
           let of = left_fits left (elements_stay fits) in
-          record { classes = λ (to : Class) f. (as_array y.kind y.below to (array_stood to p array.below f) of, tt); old_told = refl; new_told = expression_told y.kind y.below of };
+          anywhere (record { classes = λ (to : Class) f. (as_array y.kind y.below to (array_stood to p array.below f) of, tt); old_told = refl; new_told = expression_told y.kind y.below of });
       no_name = refl;
       old_unasked = λ fits. refl;
       unasked = λ fits. left_unasked left (elements_stay fits);
@@ -371,7 +380,7 @@ module _ (a : Around) (unused : is_unused_at a ≡ true) (p n m i : Note) (parts
       fits_expression = λ fits. (sequence_fits fits, tt);
       takes = λ fits.
           let of = left_fits left (parts_stay fits) in
-          record { classes = λ (to : Class) f. (as_sequence y.kind y.below to (sequence_stood to p sequence.below f) of, tt); old_told = refl; new_told = expression_told y.kind y.below of };
+          anywhere (record { classes = λ (to : Class) f. (as_sequence y.kind y.below to (sequence_stood to p sequence.below f) of, tt); old_told = refl; new_told = expression_told y.kind y.below of });
       no_name = refl;
       old_unasked = λ fits. refl;
       unasked = λ fits. left_unasked left (parts_stay fits);
@@ -379,9 +388,41 @@ module _ (a : Around) (unused : is_unused_at a ≡ true) (p n m i : Note) (parts
       runs = by_coming sequence_comes;
     }
 
+-- its substitutions stand in the second list
+module _ (a : Around) (unused : is_unused_at a ≡ true) (p n m h i : Note) (texts parts : Forest) (y : Tree) (left : Left n m (acting parts) y) where
+  abbrev template : Tree
+  template = tree template_literal p (node quasis h texts (node expressions i parts nothing))
+
+  substitutions_stay : Fits root (plug a (Some template)) → Parts (acting parts)
+  substitutions_stay fits = acting_parts parts ((parts_of_template a p template.below fits).1.0.1)
+
+  template_is_lighter : total weight (forest_of y) < total weight (forest_of template)
+  template_is_lighter = let h = left_weighs left in let less = acting_less weight parts in Prim.omega (arith, h, less)
+
+  template_owes : ByParts a template y
+  template_owes = record {
+    rebuilt = λ fits. opened refl (leaves (opened refl (left_rebuilt (joined parts nothing) left (acting_rebuilt parts))));
+    lighter = template_is_lighter;
+    no_deeper = let h = left_lower (levels_at (λ i. lower expressions i) 0 parts) left (λ g none. acting_lower (λ i. lower expressions i) g none parts 0 0) in Prim.omega (arith, h);
+    no_call = record { counts = refl; lists = λ i. refl; begins = λ i. refl; calls = refl };
+    ends = refl;
+    may_change = refl;
+    fits_expression = λ fits. ((a_template_literal, tt, refl, tt, refl, parts_of_template a p template.below fits), tt);
+    takes = λ fits.
+        let of = left_fits left (substitutions_stay fits) in
+        untagged (unused_is_untagged a unused) (record { classes = λ (to : Class) none f. (as_template y.kind y.below to none (template_stood to p template.below f) of, tt); old_told = refl; new_told = expression_told y.kind y.below of });
+    no_name = refl;
+    old_unasked = λ fits. refl;
+    unasked = λ fits. left_unasked left (substitutions_stay fits);
+    comes_out = comes_out a y unused;
+    -- no template is core
+    runs = by_coming (λ q s b is fits form core. absurd (true≢false (sym (core_there a template (subst (λ t. all_core t ≡ true) (sym is) core)))));
+  }
+
 listed_owes : (a : Around) (p n m : Note) (k : Kind) (below : Forest) (y : Tree) → is_unused_at a ≡ true → Listed n m k below y → total weight (forest_of y) < total weight (node k p below nothing) → ByParts a (tree k p below) y
 listed_owes a p n m _ _ y unused (an_array i parts _ single left) lighter = array_owes a unused p n m i parts y left single lighter
 listed_owes a p n m _ _ y unused (a_sequence i parts _ some left) lighter = sequence_owes a unused p n m i parts y left lighter
+listed_owes a p n m _ _ y unused (a_template h i texts parts _ left) lighter = template_owes a unused p n m h i texts parts y left
 
 -- where the new one is lighter
 pub lighter_list_owes : (a : Around) (x y : Tree) → UnusedList a x y → total weight (forest_of y) < total weight (forest_of x) → ByParts a x y
@@ -442,6 +483,7 @@ acting_lighter (node k n a r) some = each (acts k n a) (is_list k) refl refl som
 
 list_is_heavier : (p n m : Note) (k : Kind) (below : Forest) (y : Tree) → Listed n m k below y → total weight (forest_of y) < total weight (node k p below nothing)
 list_is_heavier p n m _ _ y (an_array i parts _ single left) = array_is_heavier parts p i left
+list_is_heavier p n m _ _ y (a_template h i texts parts _ left) = let fewer = left_weighs left in let less = acting_less weight parts in Prim.omega (arith, fewer, less)
 list_is_heavier p n m _ _ y (a_sequence i parts _ some left) = let h = left_weighs left in let less = acting_lighter parts some in Prim.omega (arith, h, less)
 
 pub unused_list_owes : (a : Around) (x y : Tree) → UnusedList a x y → ByParts a x y

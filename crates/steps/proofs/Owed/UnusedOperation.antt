@@ -1,5 +1,5 @@
 -- What an operation owes of which nobody takes the value, and which becomes the operand that acts.
-use Rattle.std.proofs.Common.{◌≡◌, ℕ, [], ◌∷◌, Bool, true, false, not, ◌&&◌, ◌||◌, Some, arith, refl, sym, ap, ◌∙◌, subst}
+use Rattle.std.proofs.Common.{◌≡◌, ℕ, [], ◌∷◌, Bool, true, false, not, ◌&&◌, ◌||◌, Option, Some, None, true≢false, arith, refl, sym, ap, ◌∙◌, subst}
 use Rattle.std.specs.Prelude.{if◌then◌else◌}
 use Rattle.js_syntax.specs.Class.{Class, root, expression}
 use Rattle.js_syntax.specs.declared.node_kind.NodeKind.{NodeKind as Kind}
@@ -7,7 +7,10 @@ use Rattle.js_syntax.specs.declared.node_kind.NodeKind.TheVariants.{UnaryExpress
 use Rattle.js_syntax.specs.declared.kind.FunctionKind.TheVariants as function_kind
 use Rattle.js_syntax.specs.declared.operator.UnaryOperator.{UnaryOperator}
 use Rattle.js_syntax.specs.declared.operator.BinaryOperator.{BinaryOperator}
+use Rattle.js_syntax.specs.declared.operator.BinaryOperator.TheVariants as binary
 use Rattle.js_syntax.specs.declared.operator.LogicalOperator.{LogicalOperator}
+use Rattle.js_syntax.specs.Core.{is_core_binary}
+use Rattle.js_syntax.specs.Facts.{is_core}
 use Rattle.js_syntax.specs.Node.{Note, Forest, Tree, nothing, node, total}
 use Rattle.js_syntax.proofs.Truth.{first_of_both, second_of_both, first_of_neither, second_of_neither, not_true}
 use Rattle.js_meaning_near.specs.Names.{Names}
@@ -16,10 +19,11 @@ use Rattle.js_meaning_near.specs.Bare as runs
 use Rattle.js_meaning_near.specs.Local.{Stands}
 use Rattle.js_meaning_near.specs.Near.{module_of}
 use Rattle.js_meaning_near.specs.Purpose.{ForEffect}
-use Rattle.js_meaning_near.specs.Unused.{all_needed, needed, not_needed, is_total, compares, kind_of, below_of}
+use Rattle.js_effects.specs.Silence.{only_combines}
+use Rattle.js_meaning_near.specs.Unused.{all_needed, needed, not_needed, only_answers, kind_of, below_of}
 use Rattle.js_meaning_near.proofs.Spared.{spared, unary_wasted, binary_wasted, logical_wasted, conditional_wasted}
 use Rattle.js_meaning.specs.Node.{Wanted}
-use Rattle.json_shape.specs.Shape.{one as one_place, these, Fits}
+use Rattle.json_shape.specs.Shape.{is_in, one as one_place, these, Fits}
 use Rattle.form_rules.specs.Form.{IsWellFormed}
 use Rattle.scope_counts.proofs.Leaving.{logical_is_plain, conditional_is_plain}
 use Rattle.scope_counts.proofs.Rebuilding.{operation_is_plain}
@@ -29,19 +33,19 @@ use Rattle.steps.specs.Allowed.Child.{child_at}
 use Rattle.steps.specs.Allowed.Unused.{is_unused_at}
 use Rattle.steps.specs.Allowed.Uses.{Use, as_value, as_callee, as_deleted, operand_of, stands_bare}
 use Rattle.steps.specs.Allowed.Wanted.{wanted_at}
-use Rattle.steps.specs.Allowed.UnusedOperation.{acts, is_needed, index_if, needed_at, UnusedOperation, one_operand_acts}
+use Rattle.steps.specs.Allowed.UnusedOperation.{acts, is_needed, index_if, operand_needed, side_needed, needed_at, UnusedOperation, one_operand_acts}
 use Rattle.steps.proofs.Fit.CoreCalm.{nameless_as_planned}
-use Rattle.steps.proofs.Fit.Held.{core_below, core_behind, core_alone}
+use Rattle.steps.proofs.Fit.Held.{core_here, core_below, core_behind, core_alone}
 use Rattle.steps.specs.Owed.Comes.{Comes}
 use Rattle.steps.specs.Owed.Owed.{ComesOut, ByPart}
 use Rattle.steps.proofs.Owed.Bare.{wanted_for, bare_for_runs}
 use Rattle.steps.proofs.Owed.BranchKinds.{IsExpression, expression_told, no_statement, bare_unasked}
 use Rattle.steps.proofs.Owed.ByPart.{part_lighter}
-use Rattle.steps.proofs.Owed.ChoiceParts.{Two, operand_of_unary, sides_of_comparison, sides_of_logical, parts_of_conditional}
+use Rattle.steps.proofs.Owed.ChoiceParts.{Two, operand_of_unary, sides_of_binary, sides_of_logical, parts_of_conditional}
 use Rattle.steps.proofs.Owed.ChoiceRuns.{core_there, no_imports_below}
 use Rattle.steps.proofs.Owed.Expressions.{expression_declares_nothing}
 use Rattle.steps.proofs.Owed.Outward.{declares_row}
-use Rattle.steps.proofs.Owed.FitsTaking.{as_unary, unary_stood, as_binary, comparison_stood, as_logical, logical_stood, as_conditional, conditional_stood}
+use Rattle.steps.proofs.Owed.FitsTaking.{as_unary, unary_stood, as_binary, binary_stood, as_logical, logical_stood, as_conditional, conditional_stood}
 use Rattle.steps.proofs.Owed.PartForm.{none_of_binary, none_of_logical, none_of_conditional}
 use Rattle.steps.proofs.Owed.SilentAnywhere.{silent_anywhere}
 use Rattle.steps.proofs.Owed.Undeclared.{DeclaresNothing, nothing_behind, both_plainly}
@@ -54,10 +58,10 @@ abbrev tree : Kind → Note → (below : Forest) → Tree
 tree k n below = record { kind = k; note = n; below = below }
 
 pub data Needed : Kind → (parts : Forest) → Tree → Type 0 where
-  the_operand : (o : UnaryOperator) (k : Kind) (n : Note) (a : Forest) → is_total o ≡ true → stands_bare (operand_of o) false k a ≡ true → Needed (unary_expression o) (node k n a nothing) (tree k n a)
-  first_side : (o : BinaryOperator) (k l : Kind) (n m : Note) (a b : Forest) → compares o ≡ true → acts l m b ≡ false → stands_bare as_value false k a ≡ true
+  the_operand : (o : UnaryOperator) (k : Kind) (n : Note) (a : Forest) → only_combines (unary_expression o) (node k n a nothing) ≡ true → stands_bare (operand_of o) false k a ≡ true → Needed (unary_expression o) (node k n a nothing) (tree k n a)
+  first_side : (o : BinaryOperator) (k l : Kind) (n m : Note) (a b : Forest) → only_combines (binary_expression o) (node k n a (node l m b nothing)) ≡ true → acts l m b ≡ false → stands_bare as_value false k a ≡ true
       → Needed (binary_expression o) (node k n a (node l m b nothing)) (tree k n a)
-  second_side : (o : BinaryOperator) (k l : Kind) (n m : Note) (a b : Forest) → compares o ≡ true → acts k n a ≡ false → stands_bare as_value false l b ≡ true
+  second_side : (o : BinaryOperator) (k l : Kind) (n m : Note) (a b : Forest) → only_combines (binary_expression o) (node k n a (node l m b nothing)) ≡ true → acts k n a ≡ false → stands_bare as_value false l b ≡ true
       → Needed (binary_expression o) (node k n a (node l m b nothing)) (tree l m b)
   left_side : (o : LogicalOperator) (k l : Kind) (n m : Note) (a b : Forest) → acts l m b ≡ false → stands_bare as_value false k a ≡ true
       → Needed (logical_expression o) (node k n a (node l m b nothing)) (tree k n a)
@@ -71,28 +75,39 @@ index_is false i j e = absurd cc
 there : (k : Kind) (parts : Forest) (x y : Tree) (i j : ℕ) → i ≡ j → child_at i parts ≡ Some x → child_at j parts ≡ Some y → Needed k parts x → Needed k parts y
 there k parts x y i j same e f h = subst (Needed k parts) (cc (sym e ∙ ap (λ i. child_at i parts) same ∙ f)) h
 
-by_sides : (o : BinaryOperator) (k l : Kind) (n m : Note) (a b : Forest) (i : ℕ) (y : Tree) (second : Bool) → acts l m b ≡ second
-    → (if second then index_if (compares o && (not (acts k n a) && stands_bare as_value false l b)) 1 else index_if (compares o && is_needed as_value k n a) 0) ≡ Some i
+by_sides : (o : BinaryOperator) (k l : Kind) (n m : Note) (a b : Forest) (i : ℕ) (y : Tree) (second : Bool) → only_combines (binary_expression o) (node k n a (node l m b nothing)) ≡ true → acts l m b ≡ second
+    → (if second then index_if (not (acts k n a) && stands_bare as_value false l b) 1 else index_if (is_needed as_value k n a) 0) ≡ Some i
     → child_at i (node k n a (node l m b nothing)) ≡ Some y → Needed (binary_expression o) (node k n a (node l m b nothing)) y
-by_sides o k l n m a b i y true is e at =
-    let h = index_is (compares o && (not (acts k n a) && stands_bare as_value false l b)) 1 i e in
-    let others = second_of_both (compares o) (not (acts k n a) && stands_bare as_value false l b) h.0 in
+by_sides o k l n m a b i y true combines is e at =
+    let h = index_is (not (acts k n a) && stands_bare as_value false l b) 1 i e in
     there (binary_expression o) (node k n a (node l m b nothing)) (tree l m b) y 1 i h.1 refl at
-    (second_side o k l n m a b (first_of_both (compares o) (not (acts k n a) && stands_bare as_value false l b) h.0)
-    (not_true (acts k n a) (first_of_both (not (acts k n a)) (stands_bare as_value false l b) others)) (second_of_both (not (acts k n a)) (stands_bare as_value false l b) others))
-by_sides o k l n m a b i y false is e at =
-    let h = index_is (compares o && is_needed as_value k n a) 0 i e in
+    (second_side o k l n m a b combines
+    (not_true (acts k n a) (first_of_both (not (acts k n a)) (stands_bare as_value false l b) h.0)) (second_of_both (not (acts k n a)) (stands_bare as_value false l b) h.0))
+by_sides o k l n m a b i y false combines is e at =
+    let h = index_is (is_needed as_value k n a) 0 i e in
     there (binary_expression o) (node k n a (node l m b nothing)) (tree k n a) y 0 i h.1 refl at
-    (first_side o k l n m a b (first_of_both (compares o) (is_needed as_value k n a) h.0) is
-    (second_of_both (acts k n a) (stands_bare as_value false k a) (second_of_both (compares o) (is_needed as_value k n a) h.0)))
+    (first_side o k l n m a b combines is (second_of_both (acts k n a) (stands_bare as_value false k a) h.0))
+
+-- of an operation that does nothing itself
+when_combines : (b : Bool) (o : Option ℕ) (i : ℕ) → (if b then o else None) ≡ Some i → (b ≡ true) × (o ≡ Some i)
+when_combines true o i e = (refl, e)
+when_combines false o i e = absurd cc
+
+none_needed : {i : ℕ} (b : Bool) → (if b then None else None) ≡ Some i → ⊥
+none_needed true e = cc
+none_needed false e = cc
 
 pub needed_part : (k : Kind) (parts : Forest) (i : ℕ) (y : Tree) → needed_at k parts ≡ Some i → child_at i parts ≡ Some y → Needed k parts y
 needed_part (unary_expression o) (node k n a nothing) i y e at =
-    let h = index_is (is_total o && is_needed (operand_of o) k n a) 0 i e in
+    let w = when_combines (only_combines (unary_expression o) (node k n a nothing)) (operand_needed (operand_of o) (node k n a nothing)) i e in
+    let h = index_is (is_needed (operand_of o) k n a) 0 i w.1 in
     there (unary_expression o) (node k n a nothing) (tree k n a) y 0 i h.1 refl at
-    (the_operand o k n a (first_of_both (is_total o) (is_needed (operand_of o) k n a) h.0)
-    (second_of_both (acts k n a) (stands_bare (operand_of o) false k a) (second_of_both (is_total o) (is_needed (operand_of o) k n a) h.0)))
-needed_part (binary_expression o) (node k n a (node l m b nothing)) i y e at = by_sides o k l n m a b i y (acts l m b) refl e at
+    (the_operand o k n a w.0 (second_of_both (acts k n a) (stands_bare (operand_of o) false k a) h.0))
+needed_part (unary_expression o) parts i y e at = absurd (none_needed (only_combines (unary_expression o) parts) e)
+needed_part (binary_expression o) (node k n a (node l m b nothing)) i y e at =
+    let w = when_combines (only_combines (binary_expression o) (node k n a (node l m b nothing))) (side_needed (node k n a (node l m b nothing))) i e in
+    by_sides o k l n m a b i y (acts l m b) w.0 refl w.1 at
+needed_part (binary_expression o) parts i y e at = absurd (none_needed (only_combines (binary_expression o) parts) e)
 needed_part (logical_expression o) (node k n a (node l m b nothing)) i y e at =
     let h = index_is (not (acts l m b) && is_needed as_value k n a) 0 i e in
     there (logical_expression o) (node k n a (node l m b nothing)) (tree k n a) y 0 i h.1 refl at
@@ -154,8 +169,22 @@ comes_out a y unused = record {
 abbrev Whole : Note → Note → Forest → Around → Tree → Type 0
 Whole p q r a x = (plug a (Some x) ≡ module_of p q r) × (Fits root (module_of p q r) × (IsWellFormed (module_of p q r) × (all_core (module_of p q r) ≡ true)))
 
+-- the operation that stands there is core
+operator_core : {p q : Note} {r : Forest} (a : Around) (x : Tree) → Whole p q r a x → is_core x.kind ≡ true
+operator_core a x (is, (fits, (form, core))) = core_here x.kind x.note x.below nothing (core_there a x (subst (λ t. all_core t ≡ true) (sym is) core))
+
+-- what does nothing itself asks no object
+pub combines_not_in : (o : BinaryOperator) (sides : Forest) → only_combines (binary_expression o) sides ≡ true → is_in o ≡ false
+combines_not_in binary.In sides h = absurd (true≢false (sym h))
+combines_not_in o sides h = refl
+
+pub combines_answers : (o : BinaryOperator) (sides : Forest) → only_combines (binary_expression o) sides ≡ true → is_core_binary o ≡ true → only_answers o ≡ true
+combines_answers binary.In sides h core = absurd (true≢false (sym h))
+combines_answers binary.Instanceof sides h core = absurd (true≢false (sym h))
+combines_answers o sides h core = core
+
 module _ (a : Around) (unused : is_unused_at a ≡ true) (n : Note) where
-  module _ (o : UnaryOperator) (k : Kind) (m : Note) (b : Forest) (total : is_total o ≡ true) (bare : stands_bare (operand_of o) false k b ≡ true) where
+  module _ (o : UnaryOperator) (k : Kind) (m : Note) (b : Forest) (total : only_combines (unary_expression o) (node k m b nothing) ≡ true) (bare : stands_bare (operand_of o) false k b ≡ true) where
     abbrev operand : Forest
     operand = node k m b nothing
 
@@ -171,7 +200,7 @@ module _ (a : Around) (unused : is_unused_at a ≡ true) (n : Note) where
           inner = b;
           same = refl;
           stands = wasted a (unused_in_module a unary is form unused) (unary_expression o) n operand k m b (operand_of o) refl one.0 below bare
-              (λ st. unary_wasted st o k n m n b operand total (subst (λ w. runs.stands_bare w k b ≡ true) (sym (operand_wanted o)) (bare_for_runs (operand_of o) false k m b one.0 below bare)) (needed all_needed));
+              (λ st. unary_wasted st o k n m n b operand (operator_core a unary (is, (fits, (form, core)))) (subst (λ w. runs.stands_bare w k b ≡ true) (sym (operand_wanted o)) (bare_for_runs (operand_of o) false k m b one.0 below bare)) (needed all_needed));
           old_calm = refl;
           declares = both_plainly (unary_expression o) operand k m b nothing refl none none;
           core = λ c. core_below (unary_expression o) n operand nothing c;
@@ -202,12 +231,12 @@ module _ (a : Around) (unused : is_unused_at a ≡ true) (n : Note) where
     abbrev sides : Forest
     sides = node k m b right
 
-    module _ (o : BinaryOperator) (comparing : compares o ≡ true) where
+    module _ (o : BinaryOperator) (comparing : only_combines (binary_expression o) sides ≡ true) where
       abbrev comparison : Tree
       comparison = tree (binary_expression o) n sides
 
       sides_there : Fits root (plug a (Some comparison)) → Two sides
-      sides_there fits = sides_of_comparison a o comparing n sides fits
+      sides_there fits = sides_of_binary a o (combines_not_in o sides comparing) n sides fits
 
       sides_core : (p q : Note) (r : Forest) → Whole p q r a comparison → all_core sides ≡ true
       sides_core p q r (is, (fits, (form, core))) = core_below (binary_expression o) n sides nothing (core_there a comparison (subst (λ t. all_core t ≡ true) (sym is) core))
@@ -227,7 +256,7 @@ module _ (a : Around) (unused : is_unused_at a ≡ true) (n : Note) where
               inner = b;
               same = refl;
               stands = wasted a (unused_in_module a comparison whole.0 whole.1.1.0 unused) (binary_expression o) n sides k m b as_value refl two.0 (core_alone k m b right (sides_core p q r whole)) bare
-                  (λ st. binary_wasted st o k l n m i n b c left comparing (needed (not_needed (silent_anywhere st l i c idle) all_needed)));
+                  (λ st. binary_wasted st o k l n m i n b c left (combines_answers o sides comparing (operator_core a comparison whole)) (needed (not_needed (silent_anywhere st l i c idle) all_needed)));
               old_calm = refl;
               declares = both_plainly (binary_expression o) sides k m b right refl none none;
               core = λ d. core_alone k m b right (core_below (binary_expression o) n sides nothing d);
@@ -239,7 +268,7 @@ module _ (a : Around) (unused : is_unused_at a ≡ true) (n : Note) where
           no_call = record { counts = refl; lists = λ i. refl; begins = λ i. refl; calls = refl };
           ends = refl;
           may_change = refl;
-          takes = λ fits. let two = sides_there fits in record { classes = λ (to : Class) f. (as_binary k b to (comparison_stood to n sides o comparing f) two.0, tt); old_told = refl; new_told = expression_told k b two.0 };
+          takes = λ fits. let two = sides_there fits in record { classes = λ (to : Class) f. (as_binary k b to (binary_stood to n sides o f) two.0, tt); old_told = refl; new_told = expression_told k b two.0 };
           stands = λ fits.
               let two = sides_there fits in
               record { before = nothing; after = right; note = m; is_part = refl; gives = refl; unasked = bare_unasked k b two.0 as_value false bare; alike = no_statement k b two.0; none_before = λ s p. refl; none_after = none_of_binary o right };
@@ -257,7 +286,7 @@ module _ (a : Around) (unused : is_unused_at a ≡ true) (n : Note) where
               inner = c;
               same = refl;
               stands = wasted a (unused_in_module a comparison whole.0 whole.1.1.0 unused) (binary_expression o) n sides l i c as_value refl two.1.0 (core_behind k m b right (sides_core p q r whole)) bare
-                  (λ st. binary_wasted st o k l n m i n b c right comparing (not_needed (silent_anywhere st k m b idle) (needed all_needed)));
+                  (λ st. binary_wasted st o k l n m i n b c right (combines_answers o sides comparing (operator_core a comparison whole)) (not_needed (silent_anywhere st k m b idle) (needed all_needed)));
               old_calm = refl;
               declares = both_plainly (binary_expression o) sides l i c nothing refl none (nothing_behind k m b right none);
               core = λ d. core_behind k m b right (core_below (binary_expression o) n sides nothing d);
@@ -269,7 +298,7 @@ module _ (a : Around) (unused : is_unused_at a ≡ true) (n : Note) where
           no_call = record { counts = refl; lists = λ i. refl; begins = λ i. refl; calls = refl };
           ends = refl;
           may_change = refl;
-          takes = λ fits. let two = sides_there fits in record { classes = λ (to : Class) f. (as_binary l c to (comparison_stood to n sides o comparing f) two.1.0, tt); old_told = refl; new_told = expression_told l c two.1.0 };
+          takes = λ fits. let two = sides_there fits in record { classes = λ (to : Class) f. (as_binary l c to (binary_stood to n sides o f) two.1.0, tt); old_told = refl; new_told = expression_told l c two.1.0 };
           stands = λ fits.
               let two = sides_there fits in
               record { before = left; after = nothing; note = i; is_part = refl; gives = refl; unasked = bare_unasked l c two.1.0 as_value false bare; alike = no_statement l c two.1.0; none_before = none_of_binary o left; none_after = λ s p. refl };

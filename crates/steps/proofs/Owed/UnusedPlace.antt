@@ -1,5 +1,5 @@
 -- Where nobody takes the value of an expression a run asks for its effects alone, and it is used as a value.
-use Rattle.std.proofs.Common.{◌≡◌, ◌<◌, ◌≤◌, ℕ, zero, suc, Bool, true, false, not, ◌&&◌, ◌==◌, Some, arith, refl, sym, subst, true≢false}
+use Rattle.std.proofs.Common.{◌≡◌, ◌<◌, ℕ, suc, Bool, true, false, not, ◌&&◌, ◌==◌, Some, arith, refl, sym, subst, true≢false}
 use Rattle.std.specs.Prelude.{nat_lt, if◌then◌else◌}
 use Rattle.std.proofs.lemmas.Bool.Decides.{nat_tests}
 use Rattle.js_syntax.specs.declared.node_kind.NodeKind.{NodeKind as Kind}

@@ -11,6 +11,7 @@ use Rattle.js_syntax.specs.declared.operator.BinaryOperator.{BinaryOperator}
 use Rattle.js_syntax.specs.declared.operator.BinaryOperator.TheVariants as binary
 use Rattle.js_syntax.specs.declared.operator.LogicalOperator.{LogicalOperator}
 use Rattle.js_syntax.specs.declared.operator.UnaryOperator.{UnaryOperator}
+use Rattle.js_syntax.specs.declared.operator.UnaryOperator.TheVariants as unary
 use Rattle.js_syntax.specs.declared.value.Key.TheVariants as key
 use Rattle.js_syntax.specs.declared.value.LiteralValue.{LiteralValue}
 use Rattle.js_syntax.specs.declared.value.LiteralValue.TheVariants as value
@@ -156,6 +157,10 @@ logical o left right = over (Kind.LogicalExpression o) (joined left right)
 abbrev pub applied : UnaryOperator → (operand : Forest) → Forest
 applied o e = over (Kind.UnaryExpression o) e
 
+-- !a()
+abbrev pub not_a : Forest
+not_a = applied unary.LogicalNot call_of_a
+
 -- a literal, and operations on two
 abbrev pub literal : LiteralValue → Forest
 literal v = leaf (Kind.Literal v)
@@ -167,6 +172,20 @@ operation o left right = over (Kind.BinaryExpression o) (joined (literal left) (
 abbrev pub equals : (left right : Forest) → Forest
 equals left right = over (Kind.BinaryExpression binary.StrictEquality) (joined left right)
 
+-- left + right, and texts
+abbrev pub sum : (left right : Forest) → Forest
+sum left right = over (Kind.BinaryExpression binary.Addition) (joined left right)
+
+abbrev pub text : Forest
+text = literal (value.Text (codes "a"))
+
+abbrev pub empty_text : Forest
+empty_text = literal (value.Text [])
+
+-- left - right
+abbrev pub difference : (left right : Forest) → Forest
+difference left right = over (Kind.BinaryExpression binary.Subtraction) (joined left right)
+
 -- [parts], and ...e and a hole among them
 abbrev pub array : (parts : List Forest) → Forest
 array parts = over Kind.ArrayExpression (listed Kind.Elements parts)
@@ -177,7 +196,7 @@ spread e = over Kind.SpreadElement e
 abbrev pub hole : Forest
 hole = leaf Kind.Hole
 
--- ({ properties }); a: e and b: e; and get a() {}
+-- ({ properties }); a: e and b: e; get a() {}; [k]: e, and [k]() {}
 abbrev pub object : (properties : List Forest) → Forest
 object properties = over Kind.ObjectExpression (listed Kind.Properties properties)
 
@@ -189,6 +208,12 @@ b_is e = over (Kind.Property property.Init false (key.Name (codes "b"))) (joined
 
 abbrev pub getter_of_a : Forest
 getter_of_a = over (Kind.Property property.Get false (key.Name a)) (joined no (function_of function_kind.Expression no [] []))
+
+abbrev pub keyed_by : (k e : Forest) → Forest
+keyed_by k e = over (Kind.Property property.Init false key.Below) (joined k e)
+
+abbrev pub method_by : (k : Forest) → Forest
+method_by k = over (Kind.Property property.Init true key.Below) (joined k (function_of function_kind.Expression no [] []))
 
 -- parts with commas between them
 abbrev pub sequence : (parts : List Forest) → Forest
@@ -282,7 +307,7 @@ abbrev pub PartsStay : Around → Forest → Type 0
 PartsStay place (node k n below rest) = (y : Tree) → IdleParts place (record { kind = k; note = n; below = below }) y → ⊥
 PartsStay place e = ⊥
 
--- nor of a comparison, since both sides act
+-- nor of an operation, since both sides act
 abbrev pub SidesStay : Around → Forest → Type 0
 SidesStay place (node k n below rest) = (y : Tree) → TwoSides place (record { kind = k; note = n; below = below }) y → ⊥
 SidesStay place e = ⊥

@@ -1,8 +1,10 @@
--- Of an array or a sequence of which nobody takes the value the parts stay that act: one alone, or several in a sequence.
+-- Of an array or a sequence of which nobody takes the value the parts stay that act: one alone, or several in a sequence. So do the
+-- substitutions of a template, where each is primitive by its form (ECMA-262 13.2.8).
 use Rattle.std.specs.Prelude.{◌≡◌, Bool, true, false, ◌&&◌, ◌||◌, Option, Some, None, if◌then◌else◌}
 use Rattle.js_syntax.specs.declared.node_kind.NodeKind.{NodeKind as Kind}
-use Rattle.js_syntax.specs.declared.node_kind.NodeKind.TheVariants.{ArrayExpression as array_expression, Elements as elements, SequenceExpression as sequence_expression, Expressions as expressions, SpreadElement as spread_element}
+use Rattle.js_syntax.specs.declared.node_kind.NodeKind.TheVariants.{ArrayExpression as array_expression, Elements as elements, SequenceExpression as sequence_expression, Expressions as expressions, TemplateLiteral as template_literal, Quasis as quasis, SpreadElement as spread_element}
 use Rattle.js_syntax.specs.Node.{Forest, Tree, Note, nothing, node, absent}
+use Rattle.js_effects.specs.Silence.{only_combines}
 use Rattle.scope_laws.specs.Lists.{is_list}
 use Rattle.scope_laws.specs.Place.{Around}
 use Rattle.steps.specs.Allowed.Unused.{is_unused_at}
@@ -41,6 +43,8 @@ as_one n m parts = Some (record { kind = sequence_expression; note = n; below = 
 abbrev pub list_becomes : (n m : Note) → Kind → (below : Forest) → Option Tree
 list_becomes n m array_expression (node elements i parts nothing) = if has_spread parts then None else as_one n m (acting parts)
 list_becomes n m sequence_expression (node expressions i parts nothing) = if all_act parts then None else as_one n m (acting parts)
+list_becomes n m template_literal (node quasis h texts (node expressions i parts nothing)) =
+    if only_combines template_literal (node quasis h texts (node expressions i parts nothing)) then as_one n m (acting parts) else None
 list_becomes n m k below = None
 
 pub data UnusedList (a : Around) : (x y : Tree) → Type 0 where

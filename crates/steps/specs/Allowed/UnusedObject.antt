@@ -1,35 +1,53 @@
--- Of an object literal of which nobody takes the value the values of its properties stay that act: one alone, or several in a
--- sequence. Its keys evaluate nothing; a class would take its name from one (ECMA-262 8.4, 13.2.5.5).
+-- Of an object literal of which nobody takes the value the parts of its properties stay that act, one alone or several in a sequence: of
+-- each its key, if that is an expression, and then its value (ECMA-262 13.2.5.5). A class would take its name from the key (8.4). Nothing
+-- comes out of a method, which says of its function that it is one (13.2.5): it leaves whole where its key doesn't act, and where that
+-- does the object stays.
 use Rattle.std.specs.Prelude.{◌≡◌, Bool, true, false, not, ◌&&◌, ◌||◌, Option, Some, None, if◌then◌else◌}
 use Rattle.js_syntax.specs.declared.node_kind.NodeKind.{NodeKind as Kind}
 use Rattle.js_syntax.specs.declared.node_kind.NodeKind.TheVariants.{ObjectExpression as object_expression, Properties as properties, Property as property}
+use Rattle.js_syntax.specs.declared.kind.PropertyKind.{PropertyKind}
+use Rattle.js_syntax.specs.declared.kind.PropertyKind.TheVariants as property_kind
+use Rattle.js_syntax.specs.declared.value.Key.{Key}
+use Rattle.js_syntax.specs.declared.value.Key.TheVariants as key_form
 use Rattle.js_syntax.specs.Core.{is_plain_property}
-use Rattle.js_syntax.specs.Node.{Forest, Tree, Note, nothing, node, absent}
+use Rattle.js_syntax.specs.Node.{Forest, Tree, Note, nothing, node, absent, alone, joined}
+use Rattle.js_effects.specs.Answers.{bare_answers}
+use Rattle.js_effects.specs.Kinds.{is_primitive, types, type_at}
 use Rattle.scope_laws.specs.Place.{Around}
 use Rattle.steps.specs.Allowed.Unused.{is_unused_at}
 use Rattle.steps.specs.Allowed.UnusedOperation.{acts}
-use Rattle.steps.specs.Allowed.UnusedList.{as_one}
+use Rattle.steps.specs.Allowed.UnusedList.{acting, as_one}
 use Rattle.steps.specs.Allowed.Uses.{as_value, stands_bare}
 
--- whether a value may come out of its property
+-- whether a key or a value may come out of its property
 abbrev pub comes_out : (is_method : Bool) → Kind → Note → (below : Forest) → Bool
 comes_out is_method k n below = not (acts k n below) || (not is_method && stands_bare as_value false k below)
 
--- properties with plain keys, whose values may come out where they act
-abbrev pub are_plain : (es : Forest) → Bool
-are_plain nothing = true
-are_plain (node (property how is_method key) n (absent (node k m a nothing)) rest) = is_plain_property how key && (comes_out is_method k m a && are_plain rest)
-are_plain t = false
+-- A key that is an expression, of which the value is converted without an effect: its type is known, and primitive (7.1.19). It may be
+-- `__proto__`, which a static key alone may not (B.3.1).
+abbrev pub is_computed : PropertyKind → Key → (below : Forest) → Bool
+is_computed property_kind.Init key_form.Below below = is_primitive (type_at 0 (types bare_answers below))
+is_computed how key below = false
 
--- the values that act
-abbrev pub acting_values : (es : Forest) → Forest
-acting_values nothing = nothing
-acting_values (absent rest) = acting_values rest
-acting_values (node (property how is_method key) n (absent (node k m a nothing)) rest) = if acts k m a then node k m a (acting_values rest) else acting_values rest
-acting_values (node k n below rest) = acting_values rest
+-- whether a property does nothing beside its parts, and these may come out of it where they act
+abbrev pub comes_apart : Kind → (below : Forest) → Bool
+comes_apart (property how is_method key) (absent (node k m a nothing)) = is_plain_property how key && comes_out is_method k m a
+comes_apart (property how is_method key) (node j i b (node k m a nothing)) = is_computed how key (alone j i b) && (comes_out is_method j i b && comes_out is_method k m a)
+comes_apart k below = false
+
+abbrev pub all_come_apart : (es : Forest) → Bool
+all_come_apart nothing = true
+all_come_apart (absent rest) = false
+all_come_apart (node k n below rest) = comes_apart k below && all_come_apart rest
+
+-- the keys that are expressions, and the values
+abbrev pub keys_and_values : (es : Forest) → Forest
+keys_and_values nothing = nothing
+keys_and_values (absent rest) = keys_and_values rest
+keys_and_values (node k n below rest) = joined below (keys_and_values rest)
 
 abbrev pub object_becomes : (n m : Note) → Kind → (below : Forest) → Option Tree
-object_becomes n m object_expression (node properties i es nothing) = if are_plain es then as_one n m (acting_values es) else None
+object_becomes n m object_expression (node properties i es nothing) = if all_come_apart es then as_one n m (acting (keys_and_values es)) else None
 object_becomes n m k below = None
 
 pub data UnusedObject (a : Around) : (x y : Tree) → Type 0 where

@@ -1,14 +1,10 @@
 -- An operation of which nobody takes the value becomes the operand that acts, if that is one alone, and the operation does nothing
--- itself. A class stays where it is.
+-- itself: it converts nothing, or what is primitive by its form. A class stays where it is.
 use Rattle.std.specs.Prelude.{◌≡◌, ℕ, Bool, true, false, not, ◌&&◌, ◌||◌, Option, Some, None, [], if◌then◌else◌}
 use Rattle.js_syntax.specs.declared.node_kind.NodeKind.{NodeKind as Kind}
 use Rattle.js_syntax.specs.declared.node_kind.NodeKind.TheVariants.{UnaryExpression as unary_expression, BinaryExpression as binary_expression, LogicalExpression as logical_expression, ConditionalExpression as conditional_expression}
-use Rattle.js_syntax.specs.declared.operator.UnaryOperator.{UnaryOperator}
-use Rattle.js_syntax.specs.declared.operator.BinaryOperator.{BinaryOperator}
 use Rattle.js_syntax.specs.Node.{Forest, Tree, Note, nothing, node, alone}
-use Rattle.js_effects.specs.Silence.{may_have_effects}
--- operators that give a value, whatever they are applied to, and those that compare two (ECMA-262 13.5, 13.10, 13.11)
-use Rattle.js_meaning_near.specs.Unused.{is_total, compares}
+use Rattle.js_effects.specs.Silence.{may_have_effects, only_combines}
 use Rattle.scope_laws.specs.Place.{Around}
 use Rattle.steps.specs.Allowed.Child.{child_at}
 use Rattle.steps.specs.Allowed.Unused.{is_unused_at}
@@ -25,16 +21,15 @@ is_needed u k n below = acts k n below && stands_bare u false k below
 abbrev pub index_if : Bool → ℕ → Option ℕ
 index_if b i = if b then Some i else None
 
--- `!`, `void` and `typeof`: the operand acts
-abbrev pub operand_needed : UnaryOperator → (operand : Forest) → Option ℕ
-operand_needed o (node k n a nothing) = index_if (is_total o && is_needed (operand_of o) k n a) 0
-operand_needed o t = None
+-- the operand acts
+abbrev pub operand_needed : Use → (operand : Forest) → Option ℕ
+operand_needed u (node k n a nothing) = index_if (is_needed u k n a) 0
+operand_needed u t = None
 
--- a comparison: one side acts, and the other doesn't
-abbrev pub side_needed : BinaryOperator → (sides : Forest) → Option ℕ
-side_needed o (node k n a (node l m b nothing)) =
-    if acts l m b then index_if (compares o && (not (acts k n a) && stands_bare as_value false l b)) 1 else index_if (compares o && is_needed as_value k n a) 0
-side_needed o t = None
+-- one side acts, and the other doesn't
+abbrev pub side_needed : (sides : Forest) → Option ℕ
+side_needed (node k n a (node l m b nothing)) = if acts l m b then index_if (not (acts k n a) && stands_bare as_value false l b) 1 else index_if (is_needed as_value k n a) 0
+side_needed t = None
 
 -- `&&`, `||` and `??`: the left side acts, and the right one doesn't
 abbrev pub left_needed : (sides : Forest) → Option ℕ
@@ -48,8 +43,8 @@ condition_needed t = None
 
 -- which child is needed alone
 abbrev pub needed_at : Kind → (below : Forest) → Option ℕ
-needed_at (unary_expression o) below = operand_needed o below
-needed_at (binary_expression o) below = side_needed o below
+needed_at (unary_expression o) below = if only_combines (unary_expression o) below then operand_needed (operand_of o) below else None
+needed_at (binary_expression o) below = if only_combines (binary_expression o) below then side_needed below else None
 needed_at (logical_expression o) below = left_needed below
 needed_at conditional_expression below = condition_needed below
 needed_at k below = None

@@ -43,7 +43,7 @@ use Rattle.steps.specs.Owed.Good.{Good}
 use Rattle.steps.specs.Owed.Kept.{IsKept}
 use Rattle.steps.specs.KeepForm.Part.{is_asked_for, StandsFor}
 use Rattle.steps.specs.Owed.Part.{DeclaresNothing, IsPart}
-use Rattle.steps.specs.Owed.TakesPlace.{TakesPlace}
+use Rattle.steps.specs.Owed.TakesPlace.{TakesPlace, TakesThere}
 use Rattle.steps.specs.Owed.Seeking.{Within, Seeks}
 use Rattle.steps.specs.Owed.Unseen.{IsUnseen}
 
@@ -167,7 +167,7 @@ pub record ByParts (a : Around) (x y : Tree) : Type 0 where
   pub may_change : MayChange a x
   -- it may stand where the old one stood, by the table of node types, and by the rules of form, which ask for neither by its kind
   pub fits_expression : Fits root (plug a (Some x)) → Fits expression (forest_of x)
-  pub takes : Fits root (plug a (Some x)) → TakesPlace x y
+  pub takes : Fits root (plug a (Some x)) → TakesThere a x y
   pub no_name : is_read_name x.kind ≡ false
   pub old_unasked : Fits root (plug a (Some x)) → is_asked_for x.kind ≡ false
   pub unasked : Fits root (plug a (Some x)) → is_asked_for y.kind ≡ false

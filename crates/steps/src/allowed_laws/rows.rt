@@ -28,7 +28,7 @@ ghost use Rattle.steps.specs.Allowed.UnrunValue.{UnrunValue};
 ghost use Rattle.steps.specs.Allowed.IdleTry.{IdleTry};
 ghost use Rattle.steps.specs.Allowed.EmptyBlock.{EmptyBlock};
 ghost use Rattle.steps.specs.Allowed.Edits.{Edit};
-ghost use Rattle.steps.specs.Allowed.Rows.{before, breaks_label, labeled, labeled_too, tried, tried_finally, finally_alone, while_, for_, loop, branch_of_if, in_list, past, in_branch, in_function, in_function_by, value_of_a, zero, debugger, throwing_block, throwing_branch, broken_label, throws, behind_throw, call_of_a, null, if_one, if_null, either_way, conditional, logical, may_be_named, o_f, parenthesized, called, called_in_parentheses, called_in_with, argument, operand, applied, equals, assigned, statement, ComesOut, Stays, StaysUnused, array, spread, hole, sequence, ListStays, ChoiceStays, PartsStay, SidesStay, object, a_is, b_is, getter_of_a, ObjectStays, literal, operation, OperationStays, behind_zero, placed, StaysDirect, FollowsNone, with_a, in_with_a, empty, a_is_read, a_is_exported, imports_nothing, behind_import, behind_other};
+ghost use Rattle.steps.specs.Allowed.Rows.{before, breaks_label, labeled, labeled_too, tried, tried_finally, finally_alone, while_, for_, loop, branch_of_if, in_list, past, in_branch, in_function, in_function_by, value_of_a, zero, debugger, throwing_block, throwing_branch, broken_label, throws, behind_throw, call_of_a, null, if_one, if_null, either_way, conditional, logical, may_be_named, o_f, parenthesized, called, called_in_parentheses, called_in_with, argument, operand, applied, equals, difference, sum, text, empty_text, assigned, statement, ComesOut, Stays, StaysUnused, array, spread, hole, sequence, ListStays, ChoiceStays, PartsStay, SidesStay, object, a_is, b_is, getter_of_a, keyed_by, method_by, not_a, ObjectStays, literal, operation, OperationStays, behind_zero, placed, StaysDirect, FollowsNone, with_a, in_with_a, empty, a_is_read, a_is_exported, imports_nothing, behind_import, behind_other};
 
 /// A statement of a literal becomes empty, in a list and alone, and leaves the list then.
 pub fn silent_statements_go()
@@ -279,6 +279,7 @@ pub fn direct_choices_take_no_zero()
 pub fn unused_operations_become_operands()
     ensures negation { Edit (a_module (does (applied unary.LogicalNot call_of_a) ∷ [])) (a_module (does call_of_a ∷ [])) }
     ensures type_of { Edit (a_module (does (applied unary.Typeof call_of_a) ∷ [])) (a_module (does call_of_a ∷ [])) }
+    ensures sign { Edit (a_module (does (applied unary.UnaryNegation not_a) ∷ [])) (a_module (does not_a ∷ [])) }
     ensures first_side { Edit (a_module (does (equals call_of_a one) ∷ [])) (a_module (does call_of_a ∷ [])) }
     ensures second_side { Edit (a_module (does (equals null o_f) ∷ [])) (a_module (does o_f ∷ [])) }
     ensures left_side { Edit (a_module (does (logical operator.Coalesce (reads a) one) ∷ [])) (a_module (does (reads a) ∷ [])) }
@@ -342,29 +343,53 @@ pub fn needed_parts_stay()
     ensures acting { PartsStay argument (sequence (call_of_a ∷ one ∷ [])) }
 {}
 
-/// Of a comparison of which nobody takes the value, and of which both sides act, a sequence of these is left.
+/// Of an operation of which nobody takes the value, and of which both sides act, a sequence of these is left, if it compares or each of
+/// them is primitive by its form.
 pub fn two_sides_become_a_sequence()
-    ensures { Edit (a_module (does (equals call_of_a o_f) ∷ [])) (a_module (does (sequence (call_of_a ∷ o_f ∷ [])) ∷ [])) }
+    ensures compared { Edit (a_module (does (equals call_of_a o_f) ∷ [])) (a_module (does (sequence (call_of_a ∷ o_f ∷ [])) ∷ [])) }
+    ensures primitive { Edit (a_module (does (difference not_a not_a) ∷ [])) (a_module (does (sequence (not_a ∷ not_a ∷ [])) ∷ [])) }
 {}
 
-/// It stays where one side doesn't act, and where its value is taken.
-pub fn other_comparisons_stay()
+/// In a sum of which nobody takes the value a text becomes the empty one, beside what acts.
+pub fn texts_become_empty()
+    ensures before { Edit (a_module (does (sum text call_of_a) ∷ [])) (a_module (does (sum empty_text call_of_a) ∷ [])) }
+    ensures behind { Edit (a_module (does (sum call_of_a text) ∷ [])) (a_module (does (sum call_of_a empty_text) ∷ [])) }
+{}
+
+/// An empty one stays, and so does one in a sum whose value is taken, and what is no text.
+pub fn other_sums_stay()
+    ensures empty { SidesStay statement (sum empty_text call_of_a) }
+    ensures used { SidesStay argument (sum text call_of_a) }
+    ensures no_text { SidesStay statement (sum one call_of_a) }
+{}
+
+/// It stays where one side doesn't act, where its value is taken, and where it may convert an object.
+pub fn other_sides_stay()
     ensures one_side { SidesStay statement (equals call_of_a one) }
     ensures used { SidesStay argument (equals call_of_a o_f) }
+    ensures converted { SidesStay statement (difference not_a call_of_a) }
 {}
 
-/// Where nobody takes its value, of an object literal the values stay that act: one alone, or several in a sequence.
+/// Where nobody takes its value, of an object literal the values stay that act: one alone, or several in a sequence. Before each stays its
+/// key, if that is an expression that acts, where it gives a truth value, a text or another primitive value.
 pub fn unused_objects_become_values()
     ensures one_value { Edit (a_module (does (object (a_is call_of_a ∷ b_is one ∷ [])) ∷ [])) (a_module (does call_of_a ∷ [])) }
     ensures several { Edit (a_module (does (object (a_is call_of_a ∷ b_is o_f ∷ [])) ∷ [])) (a_module (does (sequence (call_of_a ∷ o_f ∷ [])) ∷ [])) }
+    ensures keys { Edit (a_module (does (object (keyed_by not_a o_f ∷ keyed_by (applied unary.Typeof one) call_of_a ∷ [])) ∷ [])) (a_module (does (sequence (not_a ∷ o_f ∷ call_of_a ∷ [])) ∷ [])) }
+    ensures one_key { Edit (a_module (does (object (keyed_by not_a one ∷ b_is one ∷ [])) ∷ [])) (a_module (does not_a ∷ [])) }
+    ensures prototype { Edit (a_module (does (object (keyed_by (literal (value.Text (codes "__proto__"))) call_of_a ∷ [])) ∷ [])) (a_module (does call_of_a ∷ [])) }
+    ensures method { Edit (a_module (does (object (method_by (literal (value.Text (codes "m"))) ∷ b_is call_of_a ∷ [])) ∷ [])) (a_module (does call_of_a ∷ [])) }
 {}
 
-/// It stays where its value is taken, where none of its values acts, where it has a getter, and where something is spread in it.
+/// It stays where its value is taken, where none of its values acts, where it has a getter, where something is spread in it, where a key
+/// may be an object, and where that of a method acts.
 pub fn other_objects_stay()
     ensures used { ObjectStays argument (object (a_is one ∷ [])) }
     ensures idle { ObjectStays statement (object (a_is one ∷ [])) }
     ensures getter { ObjectStays statement (object (getter_of_a ∷ [])) }
     ensures spread { ObjectStays statement (object (spread (reads a) ∷ [])) }
+    ensures unknown_key { ObjectStays statement (object (keyed_by (reads a) call_of_a ∷ [])) }
+    ensures method { ObjectStays statement (object (method_by not_a ∷ [])) }
 {}
 
 /// An operation of which the value is known becomes a literal of it, or unary minus on one.

@@ -1,6 +1,6 @@
 use Rattle.std.proofs.Common.{◌∙◌, length, drop, None, sym, ap, arith}
 use Rattle.js_syntax.specs.Node.{row}
-use Rattle.rules.specs.Expressions.Lists.{new_note, list_note}
+use Rattle.rules.specs.Expressions.Lists.{new_note}
 use Rattle.steps.specs.Allowed.UnusedList.{acting, as_one}
 use Rattle.min_expressions.specs.Lists.{are_one}
 use Rattle.min_expressions.proofs.Lists.{list_of, its_row, left_row, its_list, list_edits, list_kept}
@@ -8,28 +8,28 @@ use Rattle.min_expressions.proofs.list.keep_list.Goals as goal
 
 pub take_at-requires : goal.take_at-requires
 take_at-requires c =
-    let w = list_of (new_note c.args.node.now.note) (new_note (list_note c.args.node.now.below)) c.args.node.now.kind c.args.node.now.below c.requires.goes in
+    let w = list_of c.args.node.now.kind c.args.node.now.below c.requires.goes in
     omega (arith, its_row w.has _ _ c.replace_children-children.ensures.taken c.as_mut_slice.ensures.value)
 
 pub left_of-left-requires-clause-field : goal.left_of-left-requires-clause-field
 left_of-left-requires-clause-field c =
-    let w = list_of (new_note c.args.node.now.note) (new_note (list_note c.args.node.now.below)) c.args.node.now.kind c.args.node.now.below c.requires.goes in
+    let w = list_of c.args.node.now.kind c.args.node.now.below c.requires.goes in
     left_row w.has c.replace_children-children.result.len c.replace_children-children.result.items c.as_mut_slice.result.now c.take_at.new.children (drop (length c.take_at.new.children) c.replace_children-children.result.items)
     c.replace_children-children.ensures.taken c.as_mut_slice.ensures.value (omega (arith, c.as_mut_slice.ensures.len, ap length c.as_mut_slice.ensures.value)) c.take_at.auto.children
 
 pub left_of-left-requires-clause-one : goal.left_of-left-requires-clause-one
 left_of-left-requires-clause-one c =
-    let w = list_of (new_note c.args.node.now.note) (new_note (list_note c.args.node.now.below)) c.args.node.now.kind c.args.node.now.below c.requires.goes in
+    let w = list_of c.args.node.now.kind c.args.node.now.below c.requires.goes in
     ap (λ t. are_one (acting t.below)) (its_list w.has c.replace_children-children.ensures.taken c.as_mut_slice.ensures.value c.take_at.ensures.taken c.in-Some.is) ∙ w.is_one
 
 pub returns-in-Some-clause-kept : goal.returns-in-Some-clause-kept
 returns-in-Some-clause-kept c =
-    let w = list_of (new_note c.args.node.now.note) (new_note (list_note c.args.node.now.below)) c.args.node.now.kind c.args.node.now.below c.requires.goes in
+    let w = list_of c.args.node.now.kind c.args.node.now.below c.requires.goes in
     list_kept c.args.node.now w (its_list w.has c.replace_children-children.ensures.taken c.as_mut_slice.ensures.value c.take_at.ensures.taken c.in-Some.is)
     (ap (λ p. as_one (record { span = p; id = None }) (new_note c.in-Some.list.note) (acting c.in-Some.list.below)) (sym c.span-span.ensures) ∙ c.left_of-left.ensures.kept) c.replace_expression.ensures.put
 
 pub returns-in-Some-clause-edited : goal.returns-in-Some-clause-edited
 returns-in-Some-clause-edited c =
-    let w = list_of (new_note c.args.node.now.note) (new_note (list_note c.args.node.now.below)) c.args.node.now.kind c.args.node.now.below c.requires.goes in
+    let w = list_of c.args.node.now.kind c.args.node.now.below c.requires.goes in
     list_edits c.args.node.now _ _ w.has (its_list w.has c.replace_children-children.ensures.taken c.as_mut_slice.ensures.value c.take_at.ensures.taken c.in-Some.is) c.left_of-left.ensures.kept c.replace_expression.ensures.put
     c.replace_children-children.ensures.kind c.replace_children-children.ensures.note (c.replace_children-children.ensures.below ∙ ap row c.new.ensures.items) c.left_of-left.ensures.left c.replace_expression.ensures.dropped

@@ -1,9 +1,9 @@
 use Rattle.std.proofs.Common.{◌∙◌, sym}
-use Rattle.min_traverse.proofs.Joining.{does_none, does_some}
+use Rattle.min_traverse.proofs.Joining.{does_some}
 use Rattle.rules.specs.Expressions.Lists.{new_note}
 use Rattle.rules.specs.Expressions.TwoSides.{fold_two_sides}
 use Rattle.rules.specs.Expressions.Uses.{spot_of}
-use Rattle.min_expressions.proofs.TwoSides.{sides_there, sides_left, sides_stay}
+use Rattle.min_expressions.proofs.TwoSides.{sides_there, sides_left}
 use Rattle.min_expressions.proofs.fold.PeepholeOptimizations.fold_two_sides.Goals as goal
 
 pub keep_two_sides-requires : goal.keep_two_sides-requires
@@ -15,7 +15,5 @@ returns-then-sides_go-clause-does c =
     (sides_left (spot_of c.args.ctx.now.place) (new_note c.args.node.now.note) (new_note c.args.node.now.note) c.args.node.now.kind c.args.node.now.below c.keep_two_sides.new.node (sym c.sides_go.ensures ∙ c.if-sides_go.true) c.in_ok-keep_two_sides.ensures.kept)
     c.in_ok-keep_two_sides.ensures.edited
 
-pub returns-clause-does : goal.returns-clause-does
-returns-clause-does c =
-    does_none fold_two_sides c.args.ctx.now c.args.node.now
-    (sides_stay (spot_of c.args.ctx.now.place) (new_note c.args.node.now.note) (new_note c.args.node.now.note) c.args.node.now.kind c.args.node.now.below (sym c.sides_go.ensures ∙ c.if-sides_go.false))
+pub fold_text-requires : goal.fold_text-requires
+fold_text-requires c = record { stays = sym c.sides_go.ensures ∙ c.if-sides_go.false }

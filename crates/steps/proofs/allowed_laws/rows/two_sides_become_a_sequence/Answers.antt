@@ -1,5 +1,5 @@
-use Rattle.steps.proofs.Allowed.Tried.{acting_sides_stay}
+use Rattle.steps.proofs.Allowed.Tried.{acting_sides_stay, primitive_sides_stay}
 use Rattle.steps.proofs.allowed_laws.rows.two_sides_become_a_sequence.Goals as goal
 
 pub returns : goal.returns
-returns c = acting_sides_stay
+returns c = record { compared = acting_sides_stay; primitive = primitive_sides_stay }

@@ -3,8 +3,8 @@ use Rattle.js_syntax.specs.Node.{row}
 use Rattle.steps.specs.Allowed.UnusedList.{acting, as_one}
 use Rattle.rules.specs.Expressions.Lists.{new_note}
 use Rattle.min_expressions.proofs.Lists.{its_row, left_row, its_list}
-use Rattle.min_expressions.proofs.Objects.{is_object, values_one, object_kept, object_edits}
-use Rattle.min_expressions.proofs.object.keep_object.Goals as goal
+use Rattle.min_expressions.proofs.Objects.{is_object, parts_one, object_kept, object_edits}
+use Rattle.min_expressions.proofs.object.keep_parts.Goals as goal
 
 pub take_at-requires : goal.take_at-requires
 take_at-requires c =
@@ -20,17 +20,17 @@ left_of-left-requires-clause-field c =
 pub left_of-left-requires-clause-one : goal.left_of-left-requires-clause-one
 left_of-left-requires-clause-one c =
     let w = is_object c.args.node.now.kind c.args.node.now.below c.requires.goes in
-    values_one c.with_values-values.result w (its_list w.has c.replace_children-children.ensures.taken c.as_mut_slice.ensures.value c.take_at.ensures.taken c.in-Some.is) c.with_values-values.ensures.below
+    parts_one c.with_parts-in_turn.result w (its_list w.has c.replace_children-children.ensures.taken c.as_mut_slice.ensures.value c.take_at.ensures.taken c.in-Some.is) c.with_parts-in_turn.ensures.below
 
 pub returns-in-Some-clause-kept : goal.returns-in-Some-clause-kept
 returns-in-Some-clause-kept c =
     let w = is_object c.args.node.now.kind c.args.node.now.below c.requires.goes in
-    object_kept c.args.node.now c.with_values-values.result w (its_list w.has c.replace_children-children.ensures.taken c.as_mut_slice.ensures.value c.take_at.ensures.taken c.in-Some.is)
-    c.with_values-values.ensures.note c.with_values-values.ensures.below
-    (ap (λ p. as_one (record { span = p; id = None }) (new_note c.with_values-values.result.note) (acting c.with_values-values.result.below)) (sym c.span-span.ensures) ∙ c.left_of-left.ensures.kept) c.replace_expression.ensures.put
+    object_kept c.args.node.now c.with_parts-in_turn.result w (its_list w.has c.replace_children-children.ensures.taken c.as_mut_slice.ensures.value c.take_at.ensures.taken c.in-Some.is)
+    c.with_parts-in_turn.ensures.note c.with_parts-in_turn.ensures.below
+    (ap (λ p. as_one (record { span = p; id = None }) (new_note c.with_parts-in_turn.result.note) (acting c.with_parts-in_turn.result.below)) (sym c.span-span.ensures) ∙ c.left_of-left.ensures.kept) c.replace_expression.ensures.put
 
 pub returns-in-Some-clause-edited : goal.returns-in-Some-clause-edited
 returns-in-Some-clause-edited c =
     let w = is_object c.args.node.now.kind c.args.node.now.below c.requires.goes in
-    object_edits c.args.node.now c.with_values-values.result _ _ w (its_list w.has c.replace_children-children.ensures.taken c.as_mut_slice.ensures.value c.take_at.ensures.taken c.in-Some.is) c.with_values-values.ensures.below c.left_of-left.ensures.kept c.replace_expression.ensures.put
+    object_edits c.args.node.now c.with_parts-in_turn.result _ _ w (its_list w.has c.replace_children-children.ensures.taken c.as_mut_slice.ensures.value c.take_at.ensures.taken c.in-Some.is) c.with_parts-in_turn.ensures.below c.left_of-left.ensures.kept c.replace_expression.ensures.put
     c.replace_children-children.ensures.kind c.replace_children-children.ensures.note (c.replace_children-children.ensures.below ∙ ap row c.new.ensures.items) c.left_of-left.ensures.left c.replace_expression.ensures.dropped

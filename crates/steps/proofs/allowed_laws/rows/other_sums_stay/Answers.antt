@@ -1,0 +1,5 @@
+use Rattle.steps.proofs.Allowed.Tried.{empty_text_stays, used_text_stays, number_in_a_sum_stays}
+use Rattle.steps.proofs.allowed_laws.rows.other_sums_stay.Goals as goal
+
+pub returns : goal.returns
+returns c = record { empty = empty_text_stays; used = used_text_stays; no_text = number_in_a_sum_stays }
