@@ -9,12 +9,13 @@ def read_of(row, f):
     """The call that reads a field, and what of it may fail."""
     place = 'place_of(node_type, "%s")' % f.name
     if f.head == 'a_word': return '%s(node, %s)?' % (WORD_FIELDS[ENUM[f.rest[0]]], place)
-    if f.head == 'a_key': return 'key(node, Keys::%s, %s)?' % (camel(f.rest[0]), place)
+    if f.head == 'a_flag': return 'flag_field(node, %s)?' % place
+    if f.head == 'a_key': return 'key(alloc, node, Keys::%s, %s)?' % (camel(f.rest[0]), place)
     if f.head == 'a_mark': return 'is_marked(node, "%s")' % f.name
-    call = {'a_text': 'text' if rust_type(row, f) == 'Text' else 'ident', 'a_flag': 'flag_field', 'a_value': 'value', 'a_name': 'name', 'maybe_name': 'optional_name',
+    call = {'a_text': 'text' if rust_type(row, f) == 'Text' else 'ident', 'a_value': 'value', 'a_name': 'name', 'maybe_name': 'optional_name',
             'a_module_name': 'module_name', 'maybe_module_name': 'optional_module_name', 'a_source': 'source', 'a_template_text': 'template_text',
             'a_reg_exp_text': 'reg_exp_text'}[f.head]
-    return '%s(node, %s)?' % (call, place)
+    return '%s(alloc, node, %s)?' % (call, place)
 
 
 def made(row, values):
@@ -33,20 +34,25 @@ def variable(f): return {'static': 'is_static', 'kind': 'kind', 'source': 'modul
 def simple(row): return all(f.head == 'a_mark' for f in row.kept)
 
 
+def copies(row):
+    """Whether a text of the node is copied, which takes memory."""
+    return any(f.head not in ('a_mark', 'a_flag', 'a_word') for f in row.kept)
+
+
 def kinds_file():
     out = '// The kind of a node of each row.\n// %s\n' % GENERATED
-    out += 'ghost use Rattle.serde_json.specs.View.{view};\nghost use Rattle.js_syntax.specs.Table as table;\nghost use Rattle.json_text.specs.Answer.{Gives};\nghost use Rattle.json_table.specs.View.{row_view};\nghost use Rattle.json_read.specs.Kind.{kind_of};\n\n'
+    out += 'ghost use Rattle.json_value.specs.View.{view};\nghost use Rattle.js_syntax.specs.Table as table;\nghost use Rattle.json_text.specs.Answer.{Gives};\nghost use Rattle.json_table.specs.View.{row_view};\nghost use Rattle.json_read.specs.Kind.{kind_of};\n\n'
     out += 'use crate::owned::{ident, key, module_name, name, optional_module_name, optional_name, reg_exp_text, source, template_text, text, value};\n'
-    out += 'use js_syntax::{ClassKind, FunctionKind, NodeKind, NodeType};\nuse json_table::{Keys, Row};\nuse serde_json::Value;\n'
+    out += 'use js_syntax::{ClassKind, FunctionKind, NodeKind, NodeType};\nuse json_table::{Keys, Row};\nuse json_value::Value;\nuse std::alloc::Global;\n'
     out += 'use json_scan::{flag_field, is_marked, place_of, %s};\nuse json_text::TreeError;\n' % ', '.join(WORD_FIELDS.values())
     for r in ROWS:
         if simple(r): continue
-        out += '\n#[tactic(auto, using(json_scan::proofs::Steps::fails_bind))]\nfn %s(node: &Value) -> Result<NodeKind, TreeError>\n    ensures { Gives (λ k. k) result (kind_of table.%s (view node.now)) }\n{\n    let node_type = NodeType::%s;\n' % (name_of(r), r.name, r.type)
+        out += '\n#[tactic(auto, using(json_scan::proofs::Steps::fails_bind))]\nfn %s(%snode: &Value<\'_>) -> Result<NodeKind, TreeError>\n    ensures { Gives (λ k. k) result (kind_of table.%s (view node.now)) }\n{\n    let node_type = NodeType::%s;\n' % (name_of(r), 'alloc: Global, ' if copies(r) else '', r.name, r.type)
         for f in r.kept: out += '    let %s = %s;\n' % (variable(f), read_of(r, f))
         out += '    Ok(%s)\n}\n' % made(r, [variable(f) for f in r.kept])
-    out += '\n/// The kind of a node of this row.\npub fn node_kind(row: Row, node: &Value) -> Result<NodeKind, TreeError>\n    ensures { Gives (λ k. k) result (kind_of (row_view row) (view node.now)) }\n{\n    match row {\n'
+    out += '\n/// The kind of a node of this row.\npub fn node_kind(alloc: Global, row: Row, node: &Value<\'_>) -> Result<NodeKind, TreeError>\n    ensures { Gives (λ k. k) result (kind_of (row_view row) (view node.now)) }\n{\n    match row {\n'
     for r in ROWS:
-        call = 'Ok(%s)' % made(r, ['is_marked(node, "%s")' % f.name for f in r.kept]) if simple(r) else '%s(node)' % name_of(r)
+        call = 'Ok(%s)' % made(r, ['is_marked(node, "%s")' % f.name for f in r.kept]) if simple(r) else '%s(%snode)' % (name_of(r), 'alloc, ' if copies(r) else '')
         out += '        Row::%s => %s,\n' % (bare(r.name), call)
     return out + '    }\n}\n'
 

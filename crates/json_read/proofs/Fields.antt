@@ -4,8 +4,8 @@ use Rattle.std.specs.Option.{is_some}
 use Rattle.std.proofs.lemmas.List.{drop_all, take_all}
 use Rattle.serde_json.specs.Data.{Data, null, boolean, number, string, array, object}
 use Rattle.serde_json.specs.Find.{as_null, get}
-use Rattle.serde_json.specs.View.{view, items_view}
-use Rattle.serde_json.specs.declared.value.Value.{Value}
+use Rattle.json_value.specs.View.{view, items_view}
+use Rattle.json_value.specs.declared.value.Value.{Value}
 use Rattle.js_syntax.specs.Class.{Class, a_prologue, simple_target}
 use Rattle.js_syntax.specs.Table.{a_parenthesized_target}
 use Rattle.js_syntax.specs.Node.{Forest, nothing, joined, alone, nowhere}

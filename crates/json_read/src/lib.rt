@@ -1,6 +1,6 @@
 //! From bytes to the tree of a program.
 //!
-//! `read_tree` parses the bytes by `serde_json` and builds the tree of `js_tree` from the value. Its
+//! `read_tree` parses the bytes by `json_value` and builds the tree of `js_tree` from the value. Its
 //! contract is `json_text`'s definition: it answers the tree that the bytes are read as, or the first
 //! fault in reading order, or `Syntax` exactly where the bytes are no JSON; memory may be short at any
 //! time. `walk` goes over the fields of a node as the table lists them, each whole with the nodes below

@@ -1,6 +1,6 @@
 // A program, and the bytes that it is read from.
 ghost use Rattle.std.specs.Prelude.{◌≡◌, IfOk, IfErr, Ok};
-ghost use Rattle.serde_json.specs.View.{view};
+ghost use Rattle.json_value.specs.View.{view};
 ghost use Rattle.js_syntax.specs.Class.{root};
 ghost use Rattle.js_syntax.specs.Node.{forest_of};
 ghost use Rattle.json_text.specs.Answer.{Gives, IsReadAs, IsCauseOf};
@@ -12,14 +12,14 @@ use js_tree::Program;
 use json_scan::Place;
 use json_table::Wanted;
 use json_text::TreeError;
-use serde_json::{Category, Value};
+use json_value::{Scratch, Value, ValueError, read_value};
 use std::alloc::Global;
 
 // One more than the arrays and objects that JSON may nest.
 const MAX_LEVELS: usize = 128;
 
 // The program that a JSON value is.
-fn program(alloc: Global, value: &Value) -> Result<Program, TreeError>
+fn program(alloc: Global, value: &Value<'_>) -> Result<Program, TreeError>
     ensures { Gives forest_of result (reading.read_program (view value.now)) }
 {
     let place = Place {
@@ -32,7 +32,7 @@ fn program(alloc: Global, value: &Value) -> Result<Program, TreeError>
 
 /// The program that a JSON value is, as ESTree JSON. Each node of it stands where the table of node types takes it
 /// (`json_shape`). A value that JSON's limit of nesting lets in is never refused for its levels.
-pub fn read_program(alloc: Global, value: &Value) -> Result<Program, TreeError>
+pub fn read_program(alloc: Global, value: &Value<'_>) -> Result<Program, TreeError>
     ensures exact { Gives forest_of result (reading.read_program (view value.now)) }
     ensures fits { IfOk result (λ p. Fits root (forest_of p)) }
 {
@@ -47,9 +47,10 @@ pub fn read_tree(alloc: Global, bytes: &[u8]) -> Result<Program, TreeError>
     ensures fits { IfOk result (λ p. Fits root (forest_of p)) }
     ensures err { IfErr result (λ e. IsCauseOf e bytes.now) }
 {
-    match Value::from_slice(alloc, bytes) {
+    let mut scratch = Scratch::new(alloc);
+    match read_value(alloc, bytes, &mut scratch) {
         Ok(value) => read_program(alloc, &value),
-        Err(error) if error.classify() == Category::Memory => Err(TreeError::OutOfMemory),
-        Err(_) => Err(TreeError::Syntax),
+        Err(ValueError::OutOfMemory) => Err(TreeError::OutOfMemory),
+        Err(ValueError::Syntax) => Err(TreeError::Syntax),
     }
 }

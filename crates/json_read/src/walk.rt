@@ -1,6 +1,6 @@
 // Nodes, with all that lies below them.
 ghost use Rattle.std.specs.Prelude.{◌≡◌, ◌≢◌, ◌≤◌, length};
-ghost use Rattle.serde_json.specs.View.{view, items_view};
+ghost use Rattle.json_value.specs.View.{view, items_view};
 ghost use Rattle.js_syntax.specs.Node.{forest_of};
 ghost use Rattle.js_syntax.specs.Node as tree;
 ghost use Rattle.js_syntax.specs.Table as table;
@@ -22,7 +22,7 @@ use json_scan::{
 };
 use json_table::{Field, Row, Sort, Wanted};
 use json_text::TreeError;
-use serde_json::Value;
+use json_value::Value;
 use std::alloc::Global;
 
 /// The node that is wanted at this place, in a tree of at most so many levels.
@@ -30,7 +30,7 @@ use std::alloc::Global;
 pub fn read_node(
     alloc: Global,
     wanted: Wanted,
-    node: &Value,
+    node: &Value<'_>,
     place: Place,
     levels: usize,
 ) -> Result<Node, TreeError>
@@ -39,7 +39,7 @@ pub fn read_node(
     if levels == 0 {
         return Err(TreeError::Syntax);
     }
-    let kind = type_at(node, place)?;
+    let kind = type_at(alloc, node, place)?;
     let Some(row) = row_at(wanted, kind, node) else {
         return Err(place.fault());
     };
@@ -51,19 +51,19 @@ pub fn read_node(
 
 // A node of this row.
 #[cycle(walk)]
-fn read_row(alloc: Global, row: Row, node: &Value, levels: usize) -> Result<Node, TreeError>
+fn read_row(alloc: Global, row: Row, node: &Value<'_>, levels: usize) -> Result<Node, TreeError>
     requires { row ≢ ParenthesizedTarget }
     ensures { Gives forest_of result (reading.read_row (reading.read_node levels) (row_view row) (view node.now)) }
 {
     let children = read_below(alloc, row, node, levels)?;
     check_extras(node, row.node_type())?;
-    let kind = node_kind(row, node)?;
+    let kind = node_kind(alloc, row, node)?;
     Ok(Node::new(kind, span_of(node), children))
 }
 
 // What stands in parentheses where it is assigned: they are dropped.
 #[cycle(walk)]
-fn read_parenthesized(alloc: Global, node: &Value, levels: usize) -> Result<Node, TreeError>
+fn read_parenthesized(alloc: Global, node: &Value<'_>, levels: usize) -> Result<Node, TreeError>
     ensures { Gives forest_of result (reading.read_row (reading.read_node levels) table.a_parenthesized_target (view node.now)) }
 {
     let kind = NodeType::ParenthesizedExpression;
@@ -78,7 +78,7 @@ fn read_parenthesized(alloc: Global, node: &Value, levels: usize) -> Result<Node
 
 // How many nodes these fields mostly hold. A node takes more room than all else that is kept of a small one, and a vector that grows by
 // itself begins with room for four.
-fn room_for(fields: &[Field], node: &Value) -> usize
+fn room_for(fields: &[Field], node: &Value<'_>) -> usize
     ensures { result ≤ length fields.now }
 {
     let mut found = 0;
@@ -100,7 +100,7 @@ fn room_for(fields: &[Field], node: &Value) -> usize
 fn read_below(
     alloc: Global,
     row: Row,
-    node: &Value,
+    node: &Value<'_>,
     levels: usize,
 ) -> Result<Vec<Option<Node>>, TreeError>
     ensures { Gives (λ cs. tree.row cs.items) result (scan (reading.read_node levels) (table.type_of (row_view row)) (table.fields_of (row_view row)) (view node.now)) }
@@ -122,13 +122,13 @@ fn read_held(
     alloc: Global,
     kind: NodeType,
     field: &Field,
-    node: &Value,
+    node: &Value<'_>,
     levels: usize,
 ) -> Result<Option<Option<Node>>, TreeError>
     ensures { Gives held_row result (read_field (reading.read_node levels) kind (field_view field.now) (view node.now)) }
 {
     let place = place_of(kind, field.name);
-    match slot_of(node, kind, field)? {
+    match slot_of(alloc, node, kind, field)? {
         Slot::Scalar => Ok(None),
         Slot::Nothing => Ok(Some(None)),
         Slot::Node(wanted, value) => Ok(Some(Some(read_node(
@@ -157,7 +157,7 @@ fn read_items(
     front: Vec<Option<Node>>,
     wanted: Wanted,
     holes: bool,
-    items: &[Value],
+    items: &[Value<'_>],
     place: Place,
     levels: usize,
 ) -> Result<Vec<Option<Node>>, TreeError>
@@ -181,7 +181,7 @@ fn read_items(
 fn read_body(
     alloc: Global,
     wanted: Wanted,
-    items: &[Value],
+    items: &[Value<'_>],
     place: Place,
     levels: usize,
 ) -> Result<Vec<Option<Node>>, TreeError>

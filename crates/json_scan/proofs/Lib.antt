@@ -1,3 +1,4 @@
+mod Extras
 mod Outcomes
 pub mod Rows
 pub mod Steps

@@ -15,7 +15,7 @@ use Rattle.json_text.specs.Fault.{Fault, ◌>>=◌, fault_of}
 use Rattle.json_text.specs.Plain.{type_at, is_true_at, read_kept, read_check, read_identifier, read_literal_key, takes_literal, takes_private}
 use Rattle.json_text.specs.Reading.{Reader, read_child, read_maybe, read_or_hole, before, read_items, read_list, with_child, apart, within, static_key, read_key, read_body, read_fields}
 use Rattle.js_syntax.specs.declared.node_kind.NodeKind.TheVariants.{Statements as statements}
-use Rattle.json_scan.specs.Scan.{checked, read_field, scan, key_here, key_alone, read_kind}
+use Rattle.json_scan.specs.Scan.{checked, scan, key_here, key_alone, read_kind}
 
 -- reading whole gives what is read below, and the kind
 abbrev pub Reads : Result Forest Fault → Result (Kind × Forest) Fault → Result Kind Fault → Type 0

@@ -1,3 +1,4 @@
+pub mod Extra
 pub mod Outcome
 pub mod Place
 pub mod Scan

@@ -1,8 +1,8 @@
 -- What is read of a node before the node stands.
-use Rattle.std.specs.Prelude.{ℕ, List, ◌≡◌, Bool, true, false, Result, Ok, Err, string_bytes}
+use Rattle.std.specs.Prelude.{List, ◌≡◌, Bool, true, false, Result, Ok, Err}
 use Rattle.serde_json.specs.Data.{Data}
-use Rattle.serde_json.specs.View.{view, items_view}
-use Rattle.serde_json.specs.declared.value.Value as json
+use Rattle.json_value.specs.View.{view, items_view}
+use Rattle.json_value.specs.declared.value.Value as json
 use Rattle.js_syntax.specs.declared.value.LiteralValue.{LiteralValue as Value}
 use Rattle.js_syntax.specs.declared.value.LiteralValue.TheVariants.{Null as null, Boolean as boolean, Number as number, Text as text}
 use Rattle.js_syntax.specs.declared.value.Key.{Key}
@@ -35,7 +35,7 @@ abbrev pub value_view : LiteralText → Value
 value_view literal.Null = null
 value_view (literal.Boolean b) = boolean b
 value_view (literal.Number z) = number z
-value_view (literal.Text s) = text (string_bytes s.now)
+value_view (literal.Text s) = text s.now
 
 abbrev pub extra_view : code.Extra → Extra
 extra_view extra.TrueIsRefused = true_is_refused
@@ -43,11 +43,11 @@ extra_view extra.FullIsRefused = full_is_refused
 extra_view extra.ValueIsRefused = value_is_refused
 
 abbrev pub module_name_view : ModuleNameText → ModuleName
-module_name_view (module_name.Name s) = plain_name (string_bytes s.now)
-module_name_view (module_name.Text s) = quoted_name (string_bytes s.now)
+module_name_view (module_name.Name s) = plain_name s.now
+module_name_view (module_name.Text s) = quoted_name s.now
 
 abbrev pub key_view : KeyText → Key
-key_view (key.Text s) = key_text (string_bytes s.now)
+key_view (key.Text s) = key_text s.now
 key_view (key.Number n) = key_number n
 
 -- ---- slots

@@ -8,7 +8,7 @@ use Rattle.js_syntax.specs.declared.value.Key.TheVariants.{Below as key_below}
 use Rattle.js_syntax.specs.declared.node_kind.NodeKind.{NodeKind as Kind}
 use Rattle.js_syntax.specs.declared.node_kind.NodeKind.TheVariants.{Statements as statements}
 use Rattle.js_syntax.specs.Node.{Forest, nothing}
-use Rattle.js_syntax.specs.Field.{Keys, keeps, checks, a_key, child, maybe, each, each_or_hole, a_body, Sort, Field, field, Makes}
+use Rattle.js_syntax.specs.Field.{Keys, keeps, checks, a_key, child, maybe, each, each_or_hole, a_body, Field, field, Makes}
 use Rattle.js_syntax.specs.declared.node_type.NodeType.{NodeType}
 use Rattle.js_syntax.specs.declared.node_type.NodeType.TheVariants as type
 use Rattle.json_text.specs.Fault.{Fault, ◌>>=◌, fault_of}

@@ -1,7 +1,7 @@
 // Whether the fields that are no nodes say what they may.
 ghost use Rattle.std.specs.Prelude.{◌≡◌, is_some};
 ghost use Rattle.serde_json.specs.Find.{get};
-ghost use Rattle.serde_json.specs.View.{view};
+ghost use Rattle.json_value.specs.View.{view};
 ghost use Rattle.js_syntax.specs.Node.{nothing};
 ghost use Rattle.js_syntax.specs.Word.{word_named};
 ghost use Rattle.json_text.specs.Answer.{Gives};
@@ -24,7 +24,8 @@ use js_syntax::{
 };
 use json_table::{Check, Kept, Words};
 use json_text::TreeError;
-use serde_json::Value;
+use json_value::Value;
+use std::alloc::Global;
 
 // Whether the list has this word.
 fn is_word(words: Words, text: &str) -> bool
@@ -44,19 +45,20 @@ fn is_word(words: Words, text: &str) -> bool
 }
 
 #[tactic(auto, unfolding(json_text::specs::Plain::read_word))]
-fn check_word(node: &Value, words: Words, place: Place) -> Result<(), TreeError>
+fn check_word(node: &Value<'_>, words: Words, place: Place) -> Result<(), TreeError>
     ensures { Gives (λ _. nothing) result
         (checked (reading.read_word (words_view words) (fault_at place) (get place.field.now (view node.now)))) }
 {
     match node.get(place.field) {
-        Some(Value::String(text)) if is_word(words, text.as_str()) => Ok(()),
+        Some(Value::String(text)) if is_word(words, *text) => Ok(()),
         _ => Err(place.fault()),
     }
 }
 
 /// Whether a field says what the kind keeps of it.
 pub fn check_kept(
-    node: &Value,
+    alloc: Global,
+    node: &Value<'_>,
     kind: NodeType,
     name: &'static str,
     kept: Kept,
@@ -71,11 +73,11 @@ pub fn check_kept(
         Kept::Value => only_checked(literal_value(node, place)),
         Kept::Word(words) => check_word(node, words, place),
         Kept::Mark => Ok(()),
-        Kept::Name => only_checked(name_field(node, place)),
-        Kept::MaybeName => only_checked(optional_name_field(node, place)),
-        Kept::ModuleName => only_checked(module_name_field(node, place)),
-        Kept::MaybeModuleName => only_checked(optional_module_name_field(node, place)),
-        Kept::Source => only_checked(source_field(node, place)),
+        Kept::Name => only_checked(name_field(alloc, node, place)),
+        Kept::MaybeName => only_checked(optional_name_field(alloc, node, place)),
+        Kept::ModuleName => only_checked(module_name_field(alloc, node, place)),
+        Kept::MaybeModuleName => only_checked(optional_module_name_field(alloc, node, place)),
+        Kept::Source => only_checked(source_field(alloc, node, place)),
         Kept::TemplateText => {
             template_field(node, place)?;
             Ok(())
@@ -99,7 +101,12 @@ fn only_checked<T: Drop>(read: Result<T, TreeError>) -> Result<(), TreeError>
 
 /// Whether a field of which the kind keeps nothing says what it may.
 #[tactic(auto, unfolding(json_text::specs::Plain::read_check), using(crate::proofs::Steps::fails_bind))]
-pub fn check_said(node: &Value, check: Check, place: Place) -> Result<(), TreeError>
+pub fn check_said(
+    alloc: Global,
+    node: &Value<'_>,
+    check: Check,
+    place: Place,
+) -> Result<(), TreeError>
     ensures { Gives (λ _. nothing) result
         (checked (reading.read_check (check_view check) (fault_at place) (get place.field.now (view node.now)))) }
 {
@@ -115,14 +122,14 @@ pub fn check_said(node: &Value, check: Check, place: Place) -> Result<(), TreeEr
             }
         }
         Check::FixedName(name) => {
-            if name_field(node, place)?.as_str() != name {
+            if name_field(alloc, node, place)? != name {
                 return Err(place.fault());
             }
         }
         Check::NullOnly => match node.get(place.field) {
             None | Some(Value::Null) => {}
             Some(value) => {
-                type_at(value, place)?;
+                type_at(alloc, value, place)?;
                 return Err(place.fault());
             }
         },

@@ -1,15 +1,16 @@
 // What every node has, whatever its type.
-ghost use Rattle.std.specs.Prelude.{◌≡◌, Some};
+ghost use Rattle.std.specs.Prelude.{◌≡◌, false, Some};
 ghost use Rattle.serde_json.specs.Find.{get};
-ghost use Rattle.serde_json.specs.View.{view};
+ghost use Rattle.json_value.specs.View.{view};
 ghost use Rattle.json_text.specs.Answer.{Gives};
 ghost use Rattle.json_text.specs.Fault.{fault_of};
 ghost use Rattle.json_text.specs.Plain as reading;
 ghost use Rattle.json_scan.specs.Scalar.{extra_view};
+ghost use Rattle.json_scan.specs.Extra.{is_extra, has_extra, HasNoExtra};
 
 use js_syntax::NodeType;
 use json_text::TreeError;
-use serde_json::Value;
+use json_value::Value;
 
 // How a field may say more of a node than the table has.
 #[derive(Clone, Copy)]
@@ -22,7 +23,7 @@ enum Extra {
 // Whether the node has this field, and it says something.
 #[tactic(auto, unfolding(json_text::specs::Plain::check_extra))]
 fn check_extra(
-    node: &Value,
+    node: &Value<'_>,
     kind: NodeType,
     field: &'static str,
     extra: Extra,
@@ -39,7 +40,7 @@ fn check_extra(
     }
 }
 
-fn says_nothing(value: &Value, extra: Extra) -> bool
+fn says_nothing(value: &Value<'_>, extra: Extra) -> bool
     ensures { result ≡ reading.says_nothing (extra_view extra) (Some (view value.now)) }
 {
     match extra {
@@ -55,11 +56,51 @@ fn says_nothing(value: &Value, extra: Extra) -> bool
     }
 }
 
+fn is_extra(key: &str) -> bool
+    ensures { result ≡ is_extra key.now }
+{
+    matches!(
+        key,
+        "async"
+            | "generator"
+            | "await"
+            | "decorators"
+            | "attributes"
+            | "assertions"
+            | "options"
+            | "phase"
+    )
+}
+
+// Whether there is such a field, so that most nodes are looked through once.
+fn has_extra(members: &[(&str, Value<'_>)]) -> bool
+    ensures { result ≡ has_extra members.now }
+{
+    'members: for member in members {
+        if is_extra(member.0) {
+            return true;
+        }
+    }
+    false
+}
+
+fn may_have_extra(node: &Value<'_>) -> bool
+    ensures { result ≡ false → HasNoExtra (view node.now) }
+{
+    match node {
+        Value::Object(members) => has_extra(members.as_slice()),
+        _ => false,
+    }
+}
+
 /// Every node has none of the fields that say more than the table has.
 #[tactic(auto, unfolding(json_text::specs::Plain::check_extras), using(crate::proofs::Steps::fails_bind))]
-pub fn check_extras(node: &Value, kind: NodeType) -> Result<(), TreeError>
+pub fn check_extras(node: &Value<'_>, kind: NodeType) -> Result<(), TreeError>
     ensures { Gives (λ u. u) result (reading.check_extras kind (view node.now)) }
 {
+    if !may_have_extra(node) {
+        return Ok(());
+    }
     check_extra(node, kind, "async", Extra::TrueIsRefused)?;
     check_extra(node, kind, "generator", Extra::TrueIsRefused)?;
     check_extra(node, kind, "await", Extra::TrueIsRefused)?;

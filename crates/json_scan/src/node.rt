@@ -2,7 +2,7 @@
 ghost use Rattle.std.specs.Prelude.{◌≡◌, codes, Some};
 ghost use Rattle.std.specs.Option.{option_map};
 ghost use Rattle.serde_json.specs.Find.{get};
-ghost use Rattle.serde_json.specs.View.{view};
+ghost use Rattle.json_value.specs.View.{view};
 ghost use Rattle.js_syntax.specs.Table.{stands};
 ghost use Rattle.json_text.specs.Answer.{Gives};
 ghost use Rattle.json_text.specs.Plain as plain;
@@ -15,11 +15,12 @@ use crate::place::Place;
 use js_syntax::NodeType;
 use json_table::{Row, Wanted, row_of};
 use json_text::TreeError;
-use serde_json::Value;
+use json_value::Value;
+use std::alloc::Global;
 
 /// The type of a node, where the table has it.
 #[tactic(auto, unfolding(json_text::specs::Plain::type_at))]
-pub fn type_at(node: &Value, place: Place) -> Result<NodeType, TreeError>
+pub fn type_at(alloc: Global, node: &Value<'_>, place: Place) -> Result<NodeType, TreeError>
     ensures { Gives (λ t. t) result (plain.type_at (fault_at place) (view node.now)) }
 {
     if !node.is_object() {
@@ -31,16 +32,16 @@ pub fn type_at(node: &Value, place: Place) -> Result<NodeType, TreeError>
             field: "type",
         });
     };
-    match NodeType::named(name.as_str()) {
+    match NodeType::named(*name) {
         Some(kind) if is_known(kind, node) => Ok(kind),
         _ => Err(TreeError::UnknownNode {
-            kind: name.clone()?,
+            kind: String::from_str(alloc, *name)?,
         }),
     }
 }
 
 // A literal with a `bigint` isn't in the table.
-fn is_known(kind: NodeType, node: &Value) -> bool
+fn is_known(kind: NodeType, node: &Value<'_>) -> bool
     ensures { result ≡ plain.is_known kind (view node.now) }
 {
     match kind {
@@ -50,24 +51,24 @@ fn is_known(kind: NodeType, node: &Value) -> bool
 }
 
 // Whether the field has this text.
-pub fn is_this(node: &Value, field: &str, text: &str) -> bool
+pub fn is_this(node: &Value<'_>, field: &str, text: &str) -> bool
     ensures { result ≡ plain.is_this text.now (get field.now (view node.now)) }
 {
     match node.get(field) {
-        Some(Value::String(found)) => found.as_str() == text,
+        Some(Value::String(found)) => *found == text,
         _ => false,
     }
 }
 
 // Whether the field is a text.
-pub fn is_text(node: &Value, field: &str) -> bool
+pub fn is_text(node: &Value<'_>, field: &str) -> bool
     ensures { result ≡ plain.is_text_at (get field.now (view node.now)) }
 {
     matches!(node.get(field), Some(Value::String(_)))
 }
 
 // Whether the field is there and isn't null.
-fn is_there(node: &Value, field: &str) -> bool
+fn is_there(node: &Value<'_>, field: &str) -> bool
     ensures { result ≡ plain.is_there (get field.now (view node.now)) }
 {
     match node.get(field) {
@@ -77,7 +78,7 @@ fn is_there(node: &Value, field: &str) -> bool
 }
 
 // Whether a property is an accessor or method.
-fn is_method(node: &Value) -> bool
+fn is_method(node: &Value<'_>) -> bool
     ensures { result ≡ reading.is_method (view node.now) }
 {
     is_this(node, "kind", "get")
@@ -86,7 +87,7 @@ fn is_method(node: &Value) -> bool
 }
 
 // Whether the field is a node of this name.
-fn is_named(node: &Value, field: &str, name: &str) -> bool
+fn is_named(node: &Value<'_>, field: &str, name: &str) -> bool
     ensures { result ≡ reading.is_named name.now (get field.now (view node.now)) }
 {
     match node.get(field) {
@@ -97,7 +98,7 @@ fn is_named(node: &Value, field: &str, name: &str) -> bool
 
 // Which of the rows of one type it is, where several may stand.
 #[tactic(auto, unfolding(json_text::specs::Reading::row_here))]
-fn row_here(node: &Value, row: Row) -> Option<Row>
+fn row_here(node: &Value<'_>, row: Row) -> Option<Row>
     ensures { option_map row_view result ≡ reading.row_here (view node.now) (Some (row_view row)) }
 {
     let found = match row {
@@ -115,7 +116,7 @@ fn row_here(node: &Value, row: Row) -> Option<Row>
 }
 
 /// The row of a node, if it may stand where such a node is wanted.
-pub fn row_at(wanted: Wanted, kind: NodeType, node: &Value) -> Option<Row>
+pub fn row_at(wanted: Wanted, kind: NodeType, node: &Value<'_>) -> Option<Row>
     ensures { option_map row_view result ≡ reading.row_here (view node.now) (stands (class_view wanted) kind) }
 {
     match row_of(wanted, kind) {

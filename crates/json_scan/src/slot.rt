@@ -1,7 +1,7 @@
 // Where the nodes below a node are to be read.
 ghost use Rattle.std.specs.Prelude.{◌≡◌, codes};
 ghost use Rattle.serde_json.specs.Find.{get};
-ghost use Rattle.serde_json.specs.View.{view};
+ghost use Rattle.json_value.specs.View.{view};
 ghost use Rattle.js_syntax.specs.declared.node_kind.NodeKind.TheVariants.{Statements as statements};
 ghost use Rattle.json_text.specs.Fault.{fault_of};
 ghost use Rattle.json_text.specs.Plain as plain;
@@ -18,41 +18,46 @@ use crate::place::{Place, place_of};
 use js_syntax::NodeType;
 use json_table::{Field, Keys, List, Sort, Wanted};
 use json_text::TreeError;
-use serde_json::Value;
+use json_value::Value;
+use std::alloc::Global;
 
 /// What is to be read of a field: nothing, where it is no node; a node, the nodes of a list or of a
 /// body.
 #[derive(Clone, Copy)]
-pub enum Slot<'a> {
+pub enum Slot<'v, 't> {
     Scalar,
     Nothing,
-    Node(Wanted, &'a Value),
+    Node(Wanted, &'v Value<'t>),
     Items {
         list: List,
         wanted: Wanted,
         holes: bool,
-        items: &'a [Value],
+        items: &'v [Value<'t>],
     },
-    Body(Wanted, &'a [Value]),
+    Body(Wanted, &'v [Value<'t>]),
 }
 
 /// An expression statement with a text `directive`: at the head of a body it is a directive.
 #[tactic(auto, unfolding(json_text::specs::Reading::is_directive))]
-pub fn is_directive(node: &Value) -> bool
+pub fn is_directive(node: &Value<'_>) -> bool
     ensures { result ≡ reading.is_directive (view node.now) }
 {
     is_this(node, "type", "ExpressionStatement") && is_text(node, "directive")
 }
 
 /// Whether a key is computed.
-pub fn is_computed(node: &Value) -> bool
+pub fn is_computed(node: &Value<'_>) -> bool
     ensures { result ≡ plain.is_true_at (get (codes "computed") (view node.now)) }
 {
     matches!(node.get("computed"), Some(Value::Bool(true)))
 }
 
 #[tactic(auto, unfolding(json_text::specs::Reading::read_child))]
-fn child_slot<'a>(node: &'a Value, wanted: Wanted, place: Place) -> Result<Slot<'a>, TreeError>
+fn child_slot<'v, 't>(
+    node: &'v Value<'t>,
+    wanted: Wanted,
+    place: Place,
+) -> Result<Slot<'v, 't>, TreeError>
     ensures { Slots (λ below. reading.read_child (below (class_view wanted) (fault_at place)) (fault_at place) (get place.field.now (view node.now))) (fault_at place) result }
 {
     match node.get(place.field) {
@@ -62,7 +67,11 @@ fn child_slot<'a>(node: &'a Value, wanted: Wanted, place: Place) -> Result<Slot<
 }
 
 #[tactic(auto, unfolding(json_text::specs::Reading::read_maybe))]
-fn optional_slot<'a>(node: &'a Value, wanted: Wanted, place: Place) -> Result<Slot<'a>, TreeError>
+fn optional_slot<'v, 't>(
+    node: &'v Value<'t>,
+    wanted: Wanted,
+    place: Place,
+) -> Result<Slot<'v, 't>, TreeError>
     ensures { Slots (λ below. reading.read_maybe (below (class_view wanted) (fault_at place)) (get place.field.now (view node.now))) (fault_at place) result }
 {
     match node.get(place.field) {
@@ -72,13 +81,13 @@ fn optional_slot<'a>(node: &'a Value, wanted: Wanted, place: Place) -> Result<Sl
 }
 
 #[tactic(auto, unfolding(json_text::specs::Reading::read_list))]
-fn items_slot<'a>(
-    node: &'a Value,
+fn items_slot<'v, 't>(
+    node: &'v Value<'t>,
     list: List,
     wanted: Wanted,
     holes: bool,
     place: Place,
-) -> Result<Slot<'a>, TreeError>
+) -> Result<Slot<'v, 't>, TreeError>
     ensures { Slots (λ below. reading.read_list (list_view list) (reading.read_items (one_item holes (below (class_view wanted) (fault_at place)))) (fault_at place) (get place.field.now (view node.now))) (fault_at place) result }
 {
     match node.get(place.field) {
@@ -93,7 +102,11 @@ fn items_slot<'a>(
 }
 
 #[tactic(auto, unfolding(json_text::specs::Reading::read_list))]
-fn body_slot<'a>(node: &'a Value, wanted: Wanted, place: Place) -> Result<Slot<'a>, TreeError>
+fn body_slot<'v, 't>(
+    node: &'v Value<'t>,
+    wanted: Wanted,
+    place: Place,
+) -> Result<Slot<'v, 't>, TreeError>
     ensures { Slots (λ below. reading.read_list statements (reading.read_body below (class_view wanted) (fault_at place)) (fault_at place) (get place.field.now (view node.now))) (fault_at place) result }
 {
     match node.get(place.field) {
@@ -104,7 +117,12 @@ fn body_slot<'a>(node: &'a Value, wanted: Wanted, place: Place) -> Result<Slot<'
 
 // A key is a node where it is computed or private.
 #[tactic(auto, unfolding(json_text::specs::Reading::read_key))]
-fn key_slot<'a>(node: &'a Value, keys: Keys, place: Place) -> Result<Slot<'a>, TreeError>
+fn key_slot<'v, 't>(
+    alloc: Global,
+    node: &'v Value<'t>,
+    keys: Keys,
+    place: Place,
+) -> Result<Slot<'v, 't>, TreeError>
     ensures { Slots (λ below. key_below_of below (keys_view keys) (plain.is_true_at (get (codes "computed") (view node.now))) (fault_at place) (get place.field.now (view node.now))) (fault_at place) result }
 {
     let Some(key) = node.get(place.field) else {
@@ -113,7 +131,7 @@ fn key_slot<'a>(node: &'a Value, keys: Keys, place: Place) -> Result<Slot<'a>, T
     if is_computed(node) {
         return Ok(Slot::Node(Wanted::Expression, key));
     }
-    match type_at(key, place)? {
+    match type_at(alloc, key, place)? {
         NodeType::Identifier => {
             identifier_key(key)?;
             Ok(Slot::Nothing)
@@ -150,21 +168,26 @@ pub fn takes_private(keys: Keys) -> bool
 }
 
 /// Where what a field holds is to be read; a field that is no node is found to be right.
-pub fn slot_of<'a>(node: &'a Value, kind: NodeType, held: &Field) -> Result<Slot<'a>, TreeError>
+pub fn slot_of<'v, 't>(
+    alloc: Global,
+    node: &'v Value<'t>,
+    kind: NodeType,
+    held: &Field,
+) -> Result<Slot<'v, 't>, TreeError>
     ensures { Slots (λ below. read_field below kind (field_view held.now) (view node.now)) (fault_of kind held.now.name.now) result }
 {
     let name = held.name;
     let place = place_of(kind, name);
     match held.sort {
         Sort::Keeps(kept) => {
-            check_kept(node, kind, name, kept)?;
+            check_kept(alloc, node, kind, name, kept)?;
             Ok(Slot::Scalar)
         }
         Sort::Checks(check) => {
-            check_said(node, check, place)?;
+            check_said(alloc, node, check, place)?;
             Ok(Slot::Scalar)
         }
-        Sort::Key(keys) => key_slot(node, keys, place),
+        Sort::Key(keys) => key_slot(alloc, node, keys, place),
         Sort::Child(wanted) => child_slot(node, wanted, place),
         Sort::Maybe(wanted) => optional_slot(node, wanted, place),
         Sort::Each(list, wanted) => items_slot(node, list, wanted, false, place),

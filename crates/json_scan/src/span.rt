@@ -1,14 +1,14 @@
 // Where a node stood.
 ghost use Rattle.std.specs.Prelude.{◌≡◌};
 ghost use Rattle.serde_json.specs.Find.{get};
-ghost use Rattle.serde_json.specs.View.{view};
+ghost use Rattle.json_value.specs.View.{view};
 ghost use Rattle.json_text.specs.Reading as reading;
 
 use js_syntax::{SPAN, Span};
-use serde_json::Value;
+use json_value::Value;
 
 // A whole number of 32 bits.
-fn offset(node: &Value, field: &str) -> Option<u32>
+fn offset(node: &Value<'_>, field: &str) -> Option<u32>
     ensures { result ≡ reading.offset_at (get field.now (view node.now)) }
 {
     let Some(Value::Number(number)) = node.get(field) else {
@@ -22,7 +22,7 @@ fn offset(node: &Value, field: &str) -> Option<u32>
 
 /// Where the node stood.
 #[tactic(auto, unfolding(json_text::specs::Reading::span_of))]
-pub fn span_of(node: &Value) -> Span
+pub fn span_of(node: &Value<'_>) -> Span
     ensures { result ≡ reading.span_of (view node.now) }
 {
     match (offset(node, "start"), offset(node, "end")) {

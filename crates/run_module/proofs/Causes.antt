@@ -1,5 +1,5 @@
 -- From errors of parts to those of the whole.
-use Rattle.std.proofs.Common.{◌≡◌, ◌≤◌, ℕ, max, List, Option, Some, None, Result, Ok, Err, IfErr, codes, subst, arith}
+use Rattle.std.proofs.Common.{◌≡◌, ◌≤◌, ℕ, max, List, Option, Some, None, Result, Ok, Err, IfErr, codes, sym, ◌∙◌, subst, arith}
 use Rattle.std.specs.Ordering.{nat_cmp, match_ordering}
 use Rattle.std.specs.Cmp.Lexicographic.{slice_cmp}
 use Rattle.std.specs.declared.cmp.Ordering.{Ordering}
@@ -10,7 +10,7 @@ use Rattle.js_syntax.specs.Class.{root}
 use Rattle.js_syntax.specs.Node.{Forest, forest_of}
 use Rattle.js_meaning.specs.Trace.{Move}
 use Rattle.json_text.specs.Answer.{Gives}
-use Rattle.json_text.specs.Fault.{too_deep, untyped}
+use Rattle.json_text.specs.Fault.{Fault, too_deep, untyped}
 use Rattle.json_text.specs.Reading.{read_program}
 use Rattle.json_text.specs.declared.error.TreeError.{TreeError}
 use Rattle.json_text.specs.declared.error.TreeError.TheVariants as tree
@@ -80,6 +80,10 @@ causes OutOfMemory bytes d is within h = tt
 pub all_causes : {A : Type 0} (r : Result A RunError) (bytes : List ℕ) (d : Data) → IsJson bytes d → depth d ≤ max_depth → IfErr r (λ e. Fails e d) → IfErr r (λ e. IsCauseOf e bytes)
 all_causes (Ok x) bytes d is within h = tt
 all_causes (Err e) bytes d is within h = causes e bytes d is within h
+
+-- bytes hold one value, so what one reader finds in it the other does
+pub same_value : (bytes : List ℕ) (d e : Data) (outcome : Result Forest Fault) → IsJson bytes d → IsJson bytes e → HasProgram d outcome → HasProgram e outcome
+same_value bytes d e outcome one other has = let same : d ≡ e = cc (sym one.1 ∙ other.1) in subst (λ x. HasProgram x outcome) same has
 
 -- ---- a script is never at fault for its program
 

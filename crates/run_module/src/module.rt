@@ -1,6 +1,7 @@
 // From bytes to the text of a run.
 ghost use Rattle.std.specs.Prelude.{◌≡◌, Ok, IfOk, IfErr, string_bytes};
 ghost use Rattle.serde_json.specs.View.{view};
+ghost use Rattle.json_value.specs.View.{view as view_of};
 ghost use Rattle.js_syntax.specs.Node.{forest_of};
 ghost use Rattle.run_module.specs.Running.{HasProgram, HasRuns, IsRunOf, IsJson};
 ghost use Rattle.run_module.specs.Answer.{Fails, IsCauseOf, script_fault};
@@ -8,6 +9,7 @@ ghost use Rattle.run_module.specs.Answer.{Fails, IsCauseOf, script_fault};
 use crate::error::RunError;
 use js_tree::Program;
 use json_read::{TreeError, read_program};
+use json_value::{Scratch, ValueError, read_value};
 use min_driver::check;
 use run_core::run;
 use run_covered::first_outside;
@@ -17,9 +19,9 @@ use serde_json::{Category, Value};
 use std::alloc::Global;
 
 // The program that the value has.
-fn program(alloc: Global, value: &Value) -> Result<Program, RunError>
-    ensures ok { IfOk result (λ p. HasProgram (view value.now) (Ok (forest_of p))) }
-    ensures err { IfErr result (λ e. Fails e (view value.now)) }
+fn program_in(alloc: Global, value: &json_value::Value<'_>) -> Result<Program, RunError>
+    ensures ok { IfOk result (λ p. HasProgram (view_of value.now) (Ok (forest_of p))) }
+    ensures err { IfErr result (λ e. Fails e (view_of value.now)) }
 {
     match value.get("program") {
         Some(member) => match read_program(alloc, member) {
@@ -29,6 +31,19 @@ fn program(alloc: Global, value: &Value) -> Result<Program, RunError>
         None => Err(RunError::Bad {
             field: Field::Program,
         }),
+    }
+}
+
+// The program that the value of the bytes has. Its texts are borrowed while it is read.
+fn program(alloc: Global, bytes: &[u8]) -> Result<Program, RunError>
+    ensures ok { IfOk result (λ p. (d : _) × IsJson bytes.now d × HasProgram d (Ok (forest_of p))) }
+    ensures err { IfErr result (λ e. IsCauseOf e bytes.now) }
+{
+    let mut scratch = Scratch::new(alloc);
+    match read_value(alloc, bytes, &mut scratch) {
+        Ok(value) => program_in(alloc, &value),
+        Err(ValueError::OutOfMemory) => Err(RunError::OutOfMemory),
+        Err(ValueError::Syntax) => Err(RunError::Tree(TreeError::Syntax)),
     }
 }
 
@@ -74,14 +89,27 @@ fn trace(alloc: Global, value: &Value, program: &Program) -> Result<String, RunE
     }
 }
 
-// The text of the run that a value asks for.
-fn trace_of_value(alloc: Global, value: &Value) -> Result<String, RunError>
+// The text of the run that a value asks for, of which this is the program.
+fn trace_of_value(alloc: Global, value: &Value, program: &Program) -> Result<String, RunError>
+    requires read { HasProgram (view value.now) (Ok (forest_of program.now)) }
     ensures ok { IfOk result (λ s. IsRunOf (view value.now) (string_bytes s)) }
     ensures err { IfErr result (λ e. Fails e (view value.now)) }
 {
-    let program = program(alloc, value)?;
-    accept(alloc, value, &program)?;
-    trace(alloc, value, &program)
+    accept(alloc, value, program)?;
+    trace(alloc, value, program)
+}
+
+// The text of the run that bytes ask for, of which this is the program.
+fn trace_of_bytes(alloc: Global, bytes: &[u8], program: &Program) -> Result<String, RunError>
+    requires read { (d : _) × IsJson bytes.now d × HasProgram d (Ok (forest_of program.now)) }
+    ensures ok { IfOk result (λ s. (d : _) × IsJson bytes.now d × IsRunOf d (string_bytes s)) }
+    ensures err { IfErr result (λ e. IsCauseOf e bytes.now) }
+{
+    match Value::from_slice(alloc, bytes) {
+        Ok(value) => trace_of_value(alloc, &value, program),
+        Err(error) if error.classify() == Category::Memory => Err(RunError::OutOfMemory),
+        Err(_) => Err(RunError::Tree(TreeError::Syntax)),
+    }
 }
 
 /// The text of the run that bytes ask for, as JSON: `{"n":N,"program":TREE,"script":{"globals":[..],"moves":[..]}}`.
@@ -91,9 +119,6 @@ pub fn run_text(alloc: Global, bytes: &[u8]) -> Result<String, RunError>
     ensures ok { IfOk result (λ s. (d : _) × IsJson bytes.now d × IsRunOf d (string_bytes s)) }
     ensures err { IfErr result (λ e. IsCauseOf e bytes.now) }
 {
-    match Value::from_slice(alloc, bytes) {
-        Ok(value) => trace_of_value(alloc, &value),
-        Err(error) if error.classify() == Category::Memory => Err(RunError::OutOfMemory),
-        Err(_) => Err(RunError::Tree(TreeError::Syntax)),
-    }
+    let program = program(alloc, bytes)?;
+    trace_of_bytes(alloc, bytes, &program)
 }

@@ -1,4 +1,4 @@
-use Rattle.serde_json.specs.View.{view}
+use Rattle.json_value.specs.View.{view}
 use Rattle.json_read.proofs.Shapes.{fits}
 use Rattle.json_read.proofs.program.read_program.Goals as goal
 

@@ -1,7 +1,7 @@
 use Rattle.std.proofs.Common.{◌≡◌, [], ◌∙◌, true, Ok, Err, refl, sym, ap, arith, rules}
 use Rattle.std.proofs.lemmas.Result.{err_from_is_err_and}
 use Rattle.std.proofs.lemmas.List.{drop_all}
-use Rattle.serde_json.specs.View.{view}
+use Rattle.json_value.specs.View.{view}
 use Rattle.js_syntax.specs.Node.{row, forest_of}
 use Rattle.js_syntax.specs.Table as table
 use Rattle.json_table.specs.View.{class_view, row_view}

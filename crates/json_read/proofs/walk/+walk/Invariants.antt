@@ -1,5 +1,5 @@
 use Rattle.std.proofs.Common.{◌≡◌, ◌+◌, ◌*◌, drop, map, length}
-use Rattle.serde_json.specs.View.{view, items_view}
+use Rattle.json_value.specs.View.{view, items_view}
 use Rattle.js_syntax.specs.Node.{row}
 use Rattle.json_text.specs.Reading.{read_node, read_items, read_body, before}
 use Rattle.json_table.specs.View.{class_view, field_view}

@@ -1,0 +1,3 @@
+mod Reading
+mod Turns
+pub mod Views
