@@ -24,7 +24,7 @@ def names():
     out += 'use %snode_type.NodeType.TheVariants as type\n' % DECLARED
     out += '\nabbrev pub type_name : NodeType → List ℕ\n'
     out += ''.join('type_name type.%s = codes "%s"\n' % (t, t) for t in types())
-    out += '\nabbrev pub all_types : List NodeType\nall_types = %s ∷ []\n' % ' ∷ '.join('type.' + t for t in types())
+    out += '\n-- in the order in which a name is sought\nabbrev pub all_types : List NodeType\nall_types = %s ∷ []\n' % ' ∷ '.join('type.' + t for t in sought_types())
     return out + '''
 abbrev pub type_among : List ℕ → List NodeType → Option NodeType
 type_among s [] = None
@@ -172,7 +172,7 @@ def node_type():
     out += '\n    /// The type of this name, where the table has it.\n    pub fn named(name: &str) -> Option<NodeType>\n        ensures { result ≡ type_named name.now }\n    {\n        among(TYPES.as_slice(), name)\n    }\n}\n'
     out += '\n// By hand, as what a derived one prints is the name.\nimpl fmt::Debug for NodeType {\n    fn fmt<W: fmt::Write>(&self, f: &mut fmt::Formatter<W>) -> fmt::Result {\n        f.write_str(self.name())\n    }\n}\n'
     out += texts('NAMES', types(), 'The name of each type, in the order of the types.')
-    out += static('TYPES', 'NodeType', types(), 'The types, in the order of the definitions.')
+    out += static('TYPES', 'NodeType', sought_types(), 'The types, those that modules have most of first.')
     return out + search('among', 'NodeType', 'node_type', 'types', 'name', 'name', 'type_among name.now types.now', 'The first of these types that has this name.')
 
 

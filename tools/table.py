@@ -95,6 +95,14 @@ def types():
     return seen
 
 
+# The types that modules have most of, the most frequent first: a type is sought by its name in this order, and then among the others.
+FREQUENT = ['Identifier', 'MemberExpression', 'Literal', 'CallExpression', 'ExpressionStatement', 'BlockStatement', 'BinaryExpression', 'ThisExpression', 'VariableDeclarator', 'VariableDeclaration', 'ReturnStatement', 'IfStatement',
+            'AssignmentExpression', 'Property', 'FunctionExpression', 'ArrowFunctionExpression', 'UnaryExpression', 'LogicalExpression', 'FunctionDeclaration', 'ObjectExpression', 'ConditionalExpression']
+
+
+def sought_types(): return FREQUENT + [t for t in types() if t not in FREQUENT]
+
+
 def snake(name): return re.sub(r'(?<!^)([A-Z])', r'_\1', name).lower()
 def variants(words): return [v.split(' ') for v in words.split(', ')]
 def argument(t): return '(%s)' % t if ' ' in t else t
