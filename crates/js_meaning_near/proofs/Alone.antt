@@ -8,7 +8,7 @@ use Rattle.js_syntax.specs.Node.{Forest, nothing, node, absent}
 use Rattle.js_meaning.specs.Value.{Text, Slot, Env, Value, plain, closure, object, array, error, undef}
 use Rattle.js_meaning.specs.Trace.{Ending}
 use Rattle.js_meaning.specs.State.{State, Cell, cell, Completion, normal, gives, with_receiver, Out, goes, stops, M, more, go_on, bind, done, stop, unknown, if_normal, seq, if_gives, with_value, read, store}
-use Rattle.js_meaning.specs.Scope.{initialised, fill}
+use Rattle.js_meaning.specs.Scope.{initialised, look, fill}
 use Rattle.js_meaning.specs.Reference.{cell_value, name_value}
 use Rattle.js_meaning.specs.Expression.{call_value}
 use Rattle.js_meaning.specs.Host.{Enter}
@@ -16,9 +16,9 @@ use Rattle.js_meaning.specs.Node.{Ask, run, declares, now, Meaning, Parts, need,
 use Rattle.js_meaning.specs.Statement.{declarator}
 use Rattle.js_meaning.specs.Meaning.{eval}
 use Rattle.js_meaning_near.specs.Quiet.{OnlyAllocates, LeadsFrom, goes_on_as, stops_before, Leads, EndsQuietly, gives_quietly, stops_quietly, Quiet}
-use Rattle.js_meaning_near.specs.Wasted.{EndsSoon, ends_soon, stops_soon, IsSilent, Meets}
+use Rattle.js_meaning_near.specs.Wasted.{EndsSoon, ends_soon, stops_soon, IsSilent, Meets, Wastes, wastes_nothing, wastes_silent, wastes_known, wastes_call}
 use Rattle.js_meaning_near.specs.Names.{Status, Fact, known, silent_function, Lone, Names}
-use Rattle.js_meaning_near.specs.Near.{meaning, Silent, NoField, Idle, idle_empty, idle_expression, idle_no_expression, idle_statement, idle_function, idle_declarator, idle_bare_declarator, idle_cut_declarator, idle_declaration, AllIdle, all_idle, one_idle}
+use Rattle.js_meaning_near.specs.Near.{meaning, Silent, NoField, Idle, idle_empty, idle_expression, idle_no_expression, idle_waste, idle_statement, idle_function, idle_declarator, idle_bare_declarator, idle_cut_declarator, idle_declaration, AllIdle, all_idle, one_idle}
 use Rattle.js_meaning_near.proofs.Worlds.{Rule, only_value, left, both, slack, World, In, Sub, same, later, links_up}
 use Rattle.js_meaning_near.proofs.Relations.{LeftSlot, left_local, left_import, left_arguments, At, at_nowhere, at_loose, Budgets, as_many, no_more, Enters, CallEnds, call_gives, call_uncovered, call_out, at_live, at_known, at_dead, at_unread, Envs, SameOpt, SameAll, SameCell, same_normal, Obeys, SameExports, States, trace, Follows, both_go, old_stops, old_out, Acts}
 use Rattle.js_meaning_near.proofs.Acts.{acts_later, follows_back, nothing_more, stored_left}
@@ -212,6 +212,22 @@ silent_calls E n i (error j k) this vs y = absurd y
 pub call_alone : {w : World} {o p : Option Slot} (E : Enter) → Enters E → At w (known silent_function) o p → (v this : Value) (vs : List Value) → IsSilent v → Alone w false (call_value E v this vs)
 call_alone E n (at_known i l) v this vs y = silent_calls E n i v this vs y
 
+known_alone : {w : World} {b : Bool} {f : Fact} {o p : Option Slot} (x : Text) (k : Value → Value → M) → At w (known f) o p → ((v : Value) → Meets f v → Alone w b (k v undef)) → Alone w b (with_receiver (name_value o x) k)
+unfolding bind read done stop
+known_alone {w = w} {b = b} {f = f} x k (at_known {c = c} {d = d} i l) a = record { alone = λ w2 h s z r. go w2 h s z r (s.store c) (r.cells.obeyed c d (only_value f) (h.kept _ l)) }
+  where
+    go : (w2 : World) → Sub w w2 → (s z : State) → States w2 s z → (o : Cell) → Obeys (only_value f) o → Still w2 b z (go_on (cell_value o s) (if_gives k))
+    go w2 h s z r (cell constant None) y = stopped
+    go w2 h s z r (cell constant (Some v)) y = still_more ((a v y).alone w2 h s z r)
+
+-- what evaluates nothing that acts
+
+waste_alone : {st : Names} {e : Env} (E : Enter) → Enters E → {m : M} → Wastes E st e m [] → {w : World} {f : Env} → Envs w st e f → Alone w true m
+waste_alone E n (wastes_nothing q) r = soon_alone q
+waste_alone E n (wastes_silent q g) r = alone_value (quiet_alone q) (λ v. waste_alone E n (g v) r)
+waste_alone {e = e} E n (wastes_known {x = x} k q g) {w = w} {f = f} r = known_alone x k (subst (λ t. At w t (look e x) (look f x)) q (r.at x)) (λ v y. waste_alone E n (g v y) r)
+waste_alone {e = e} E n (wastes_call {x = x} v this vs q y g) {w = w} {f = f} r = alone_value (call_alone E n (subst (λ t. At w t (look e x) (look f x)) q (r.at x)) v this vs y) (λ u. waste_alone E n (g u) r)
+
 -- items that may leave
 
 silent_alone : {w : World} {st : Names} {k : Kind} {a : Forest} {e f : Env} (E : Enter) → Silent st k a → Envs w st e f → Alone w false (meaning E k a now e)
@@ -234,25 +250,27 @@ no_expression E (node k n a r) j y = absurd y
 mutual
   unfolding need may eval each
 
-  pub idle_alone : {w : World} {st : Names} {k : Kind} {a : Forest} {e f : Env} (E : Enter) (q : Ask) → Idle st k a → Envs w st e f → Alone w true (meaning E k a q e)
-  idle_alone E (run ls) idle_empty r = alone_done ends_normal
-  idle_alone E (run ls) (idle_expression x) r = silent_statement E x r
-  idle_alone E (run ls) (idle_no_expression {a = a} y) r = no_expression E a _ y
-  idle_alone E q (idle_statement d) r = leads_alone (d.nothing_done E q _)
-  idle_alone E (run ls) (idle_function d) r = alone_done ends_normal
-  idle_alone E (run ls) (idle_declaration {how = how} x) r = all_alone E (declares how) x r
-  idle_alone E (declares how) (idle_declarator {x = x} d y) r = alone_value (silent_alone E y r) (λ v. alone_fill v d (r.at x))
-  idle_alone E (declares how) (idle_bare_declarator {x = x} {a = a} d) r = bare_declarator E x a how d r
-  idle_alone E _ (idle_no_expression y) r = alone_unknown
-  idle_alone E (declares how) idle_cut_declarator r = alone_unknown
-  idle_alone E _ idle_cut_declarator r = alone_unknown
-  idle_alone E _ idle_empty r = alone_unknown
-  idle_alone E _ (idle_expression x) r = alone_unknown
-  idle_alone E _ (idle_function d) r = alone_unknown
-  idle_alone E _ (idle_declaration x) r = alone_unknown
-  idle_alone E _ (idle_declarator d y) r = alone_unknown
-  idle_alone E _ (idle_bare_declarator d) r = alone_unknown
+  pub idle_alone : {w : World} {st : Names} {k : Kind} {a : Forest} {e f : Env} (E : Enter) → Enters E → (q : Ask) → Idle st k a → Envs w st e f → Alone w true (meaning E k a q e)
+  idle_alone E n (run ls) idle_empty r = alone_done ends_normal
+  idle_alone E n (run ls) (idle_expression x) r = silent_statement E x r
+  idle_alone E n (run ls) (idle_no_expression {a = a} y) r = no_expression E a _ y
+  idle_alone {e = e} E n (run ls) (idle_waste x) r = waste_alone E n (x.wastes_all E e (envs_bind r) ls) r
+  idle_alone E n q (idle_statement d) r = leads_alone (d.nothing_done E q _)
+  idle_alone E n (run ls) (idle_function d) r = alone_done ends_normal
+  idle_alone E n (run ls) (idle_declaration {how = how} x) r = all_alone E n (declares how) x r
+  idle_alone E n (declares how) (idle_declarator {x = x} d y) r = alone_value (silent_alone E y r) (λ v. alone_fill v d (r.at x))
+  idle_alone E n (declares how) (idle_bare_declarator {x = x} {a = a} d) r = bare_declarator E x a how d r
+  idle_alone E n _ (idle_no_expression y) r = alone_unknown
+  idle_alone E n (declares how) idle_cut_declarator r = alone_unknown
+  idle_alone E n _ idle_cut_declarator r = alone_unknown
+  idle_alone E n _ idle_empty r = alone_unknown
+  idle_alone E n _ (idle_waste x) r = alone_unknown
+  idle_alone E n _ (idle_expression x) r = alone_unknown
+  idle_alone E n _ (idle_function d) r = alone_unknown
+  idle_alone E n _ (idle_declaration x) r = alone_unknown
+  idle_alone E n _ (idle_declarator d y) r = alone_unknown
+  idle_alone E n _ (idle_bare_declarator d) r = alone_unknown
 
-  all_alone : {w : World} {st : Names} {a : Forest} {e f : Env} (E : Enter) (q : Ask) → AllIdle st a → Envs w st e f → Alone w true (each q (eval E a) e)
-  all_alone E q all_idle r = alone_done ends_normal
-  all_alone E q (one_idle x y) r = alone_seq (idle_alone E q x r) (all_alone E q y r)
+  all_alone : {w : World} {st : Names} {a : Forest} {e f : Env} (E : Enter) → Enters E → (q : Ask) → AllIdle st a → Envs w st e f → Alone w true (each q (eval E a) e)
+  all_alone E n q all_idle r = alone_done ends_normal
+  all_alone E n q (one_idle x y) r = alone_seq (idle_alone E n q x r) (all_alone E n q y r)

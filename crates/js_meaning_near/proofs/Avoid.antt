@@ -15,7 +15,7 @@ use Rattle.js_meaning_near.specs.Purpose.{for_values}
 use Rattle.js_meaning_near.specs.Names.{Status, no_names, undeclared, loose, live, dead, unread, known, Names, with_name, Usable, Writable, Fillable, FillableIf, Lone, no_decls, in_both, in_both_unread, in_old_again, in_old, declared, names_below, Plainly, AllPlain, PlainBut}
 use Rattle.js_meaning_near.specs.Near.{Row, fields, items, row_below, Okay, ReceiverOk, Near, ExportsOk, NearModule, near_module}
 use Rattle.js_meaning_near.specs.Fit.{names_after, around_code, within_code, FunctionOk, Part, whole, others, NodeFits, IfCore, Fits}
-use Rattle.js_meaning_near.specs.Avoid.{declares, Dropping, Fewer, fewer_end, fewer_same, fewer_gone, Dropped, dropped_here, dropped_later, CellIf, HasCells, ExportsAvoid, CasesOk, NodeInPlace, InPlace, IsOther, IsOtherIf, Binding, NameAvoids, HoistedAvoids, code_declares, Unless, NodeAvoids, Avoids}
+use Rattle.js_meaning_near.specs.Avoid.{declares, Dropping, Fewer, fewer_end, fewer_same, fewer_gone, Dropped, dropped_here, dropped_later, CellIf, HasCells, ExportsAvoid, CasesOk, NotFunction, NodeInPlace, InPlace, IsOther, IsOtherIf, Binding, NameAvoids, HoistedAvoids, code_declares, Unless, NodeAvoids, Avoids}
 use Rattle.js_meaning_near.proofs.Nodes.{true_false}
 use Rattle.js_meaning_near.proofs.Fit.{decls_to}
 
@@ -218,10 +218,6 @@ below_plain Kind.Cases st t g h = h
 below_plain Kind.ForStatement st t g h = h
 below_plain Kind.CatchClause st t g h = h
 below_plain _ st t g h = g
-
-abbrev pub NotFunction : Kind → Type 0
-NotFunction (Kind.Function f pure) = ⊥
-NotFunction _ = Unit {0}
 
 okay_clear : (p : Row) (st : Names) (k : Kind) → NotFunction k → AllPlain st → CasesOk p k → Okay p st k
 okay_clear p st (Kind.ReferenceName x) n g c = usable_plain (st x) (g x)

@@ -25,7 +25,7 @@ use Rattle.js_meaning_near.specs.Bare.{stands_bare}
 true_false : true ≡ false → ⊥
 true_false e = cc
 
-allocates_nothing : (s : State) → OnlyAllocates s s
+pub allocates_nothing : (s : State) → OnlyAllocates s s
 allocates_nothing s = record { budget = refl; fresh = omega arith; store = λ i h. refl; globals = λ x. refl; imports = λ x y. refl; shown = refl; moves = refl; exports = refl; stars = refl }
 
 more_nothing : (o : Out) → more [] o ≡ o

@@ -154,7 +154,7 @@ near_rows E n (comes_to {us = us} {p = p} {l = l} {i = i} {j = j} {b = b} {c = c
 near_rows E n (wastes_more {us = us} {p = p} {c = c} {d = d} g q o t) = rows_with E p us c d (part (wasted_means E n g q (near_rows E n o))) (near_rows E n t)
 near_rows E n (one_sided {us = us} {p = p} {b = b} {c = c} {d = d} g q o t) = rows_with E p us c d (part (sided_means E b g q (near_rows E n o))) (near_rows E n t)
 near_rows E n (shorter {us = us} {p = p} {i = i} {j = j} {b = b} {c = c} {d = d} q o t) = rows_with E p us c d (part (shorter_means E i j b q (near_rows E n o))) (near_rows E n t)
-near_rows E n (leaves i c) = record { listed = λ {w} {e} {f} {q} r s. seq_alone (idle_alone E q i r) ((near_rows E n c).listed r s) }
+near_rows E n (leaves i c) = record { listed = λ {w} {e} {f} {q} r s. seq_alone (idle_alone E n q i r) ((near_rows E n c).listed r s) }
 near_rows E n (behind_jump {k = k} {n = m} {a = a} {c = c} {e = e} j u t) = list_behind E k m a c e j (near_rows E n t)
 
 -- functions

@@ -43,7 +43,7 @@ give_quiet : (v : Value) → Quiet (give v)
 unfolding done
 give_quiet v = record { quiet = λ s. gives_quietly (record { budget = refl; fresh = omega arith; store = λ i h. refl; globals = λ x. refl; imports = λ source x. refl; shown = refl; moves = refl; exports = refl; stars = refl }) }
 
-literal_silent : (st : Names) (v : Literal) (a : Forest) → Silent st (Kind.Literal v) a
+pub literal_silent : (st : Names) (v : Literal) (a : Forest) → Silent st (Kind.Literal v) a
 literal_silent st v a = record { silent = λ E env b. give_quiet (literal_value v) }
 
 -- an empty statement leaves the top of a module

@@ -17,6 +17,7 @@ use Rattle.js_meaning_near.specs.Near.{Row, items, fields, near_silent, near_kno
 use Rattle.js_meaning_near.specs.Fit.{whole, others, names_after, within_code, Fits}
 use Rattle.js_meaning_near.specs.Avoid.{declares, code_declares}
 use Rattle.js_meaning_near.specs.Rewritten.{SameNames, Below, BelowCode, Rewritten, at_place}
+use Rattle.js_meaning_near.specs.Purpose.{Purposes, purposes_behind, for_values}
 use Rattle.js_meaning_near.specs.Known.{Knows, DeclaredOnce, declared_here, declared_later, Knowing}
 use Rattle.js_meaning_near.proofs.Fit.{same_decls, fit}
 use Rattle.js_meaning_near.proofs.Avoid.{itself, with_same, plain_with, after_other, after_plain, after_both, usable_plain, receiver_ok}
@@ -82,7 +83,7 @@ exports_known x p st [] k = tt
 exports_known x p st (entry_local z y ∷ es) k = (known_usable x p st k y, exports_known x p st es k)
 exports_known x p st (entry_import z source name ∷ es) k = exports_known x p st es k
 
-decls_kept : {C : Names → Type 0} {a b : Forest} → Rewritten C whole items a b → module_decls a ≡ module_decls b
+decls_kept : {C : Names → Type 0} {us : Purposes} {a b : Forest} → Rewritten C whole us items a b → module_decls a ≡ module_decls b
 decls_kept s = ap₂ (λ (v : List Text) (w : List Decl). decl this_name ready ∷ all_so ready v ++ w) (vars_kept s) (lexical_kept s)
 
 loose_fresh : (p : Fact) → Fresh p loose
@@ -90,13 +91,13 @@ loose_fresh (exactly p) = tt
 loose_fresh silent_function = refl
 
 -- where a name holds a value from its initialisation on, it may be read as the value
-pub exact_scope : (n m : Note) (x : Text) (p : Plain) (a b : Forest) → DeclaredOnce x (module_decls b) → Rewritten (Knows x (exactly p)) whole items a b → entries a ≡ entries b → stars a ≡ stars b → requests a ≡ requests b → Refined (module_of n m a) (module_of n m b)
+pub exact_scope : (n m : Note) (x : Text) (p : Plain) (a b : Forest) → DeclaredOnce x (module_decls b) → Rewritten (Knows x (exactly p)) whole for_values items a b → entries a ≡ entries b → stars a ≡ stars b → requests a ≡ requests b → Refined (module_of n m a) (module_of n m b)
 exact_scope n m x p a b d s e t r =
     let k = knowing x (exactly p) no_names (λ y h. tt) tt d in
     near_refines n m n m (near_module (subst (λ ds. Decls no_names ds (module_decls b) k.within) (sym (decls_kept s)) k.decls) e (exports_known x (exactly p) k.within (entries a) k.knows) t r (rewritten_near k.within k.knows s))
 
 -- where a function of the module does nothing, calls of it may go
-pub loose_scope : (n m : Note) (x : Text) (p : Fact) (a b : Forest) → DeclaredOnce x (module_decls b) → Rewritten (Knows x p) whole items a b → entries a ≡ entries b → stars a ≡ stars b → requests a ≡ requests b → Kept (module_of n m a) (module_of n m b)
+pub loose_scope : (n m : Note) (x : Text) (p : Fact) (a b : Forest) → DeclaredOnce x (module_decls b) → Rewritten (Knows x p) whole for_values items a b → entries a ≡ entries b → stars a ≡ stars b → requests a ≡ requests b → Kept (module_of n m a) (module_of n m b)
 loose_scope n m x p a b d s e t r =
     let k = knowing x p loose_names (λ y h. tt) (loose_fresh p) d in
     loose_keeps n m n m (loose_module (subst (λ ds. Decls loose_names ds (module_decls b) k.within) (sym (decls_kept s)) k.decls) e (exports_known x p k.within (entries a) k.knows) t r (rewritten_near k.within k.knows s))
@@ -107,15 +108,15 @@ same_all : (k : Kind) (a : Forest) → SameNames k a k a
 same_all k a = record { name = refl; bound = refl; vars = refl; imports = λ source. refl; items = refl }
 
 -- a read of the name becomes the literal
-pub read_place : {x : Text} {p : Plain} {q : Row} {n m : Note} {r s : Forest} (v : Literal) → literal_value v ≡ plain p → Rewritten (Knows x (exactly p)) whole q r s → Rewritten (Knows x (exactly p)) whole q (node (Kind.ReferenceName x) n nothing r) (node (Kind.Literal v) m nothing s)
-read_place v e t = at_place (record { name = refl; bound = refl; vars = refl; imports = λ source. refl; items = refl }) (λ w st c d g o. changed (value_read g.known_so e) o) t
+pub read_place : {x : Text} {p : Plain} {us : Purposes} {q : Row} {n m : Note} {r s : Forest} (v : Literal) → literal_value v ≡ plain p → Rewritten (Knows x (exactly p)) whole (purposes_behind us) q r s → Rewritten (Knows x (exactly p)) whole us q (node (Kind.ReferenceName x) n nothing r) (node (Kind.Literal v) m nothing s)
+read_place v e t = at_place (record { name = refl; bound = refl; vars = refl; imports = λ source. refl; items = refl }) (λ st g o. changed (value_read g.known_so e) o) t
 
 -- the declarator that gives the value
-pub value_place : {x : Text} {p : Plain} {q : Row} {n i k : Note} {r s : Forest} (v : Literal) → literal_value v ≡ plain p → Rewritten (Knows x (exactly p)) whole q r s
-    → Rewritten (Knows x (exactly p)) whole q (node Kind.VariableDeclarator n (node (Kind.BindingName x) i nothing (node (Kind.Literal v) k nothing nothing)) r) (node Kind.VariableDeclarator n (node (Kind.BindingName x) i nothing (node (Kind.Literal v) k nothing nothing)) s)
-value_place v e t = at_place (same_all _ _) (λ w st c d g o. near_known g.known_so e o) t
+pub value_place : {x : Text} {p : Plain} {us : Purposes} {q : Row} {n i k : Note} {r s : Forest} (v : Literal) → literal_value v ≡ plain p → Rewritten (Knows x (exactly p)) whole (purposes_behind us) q r s
+    → Rewritten (Knows x (exactly p)) whole us q (node Kind.VariableDeclarator n (node (Kind.BindingName x) i nothing (node (Kind.Literal v) k nothing nothing)) r) (node Kind.VariableDeclarator n (node (Kind.BindingName x) i nothing (node (Kind.Literal v) k nothing nothing)) s)
+value_place v e t = at_place (same_all _ _) (λ st g o. near_known g.known_so e o) t
 
 -- the function itself, with its code
-pub function_place : {x : Text} {pure : Bool} {p : Row} {n : Note} {a r s : Forest} → first_name a ≡ Some x → ((st : Names) → Knows x silent_function st → SilentCode st a) → ((st : Names) → Knows x silent_function st → Fits others fields (within_code st function_kind.Declaration a) a)
-    → Rewritten (Knows x silent_function) whole p r s → Rewritten (Knows x silent_function) whole p (node (Kind.Function function_kind.Declaration pure) n a r) (node (Kind.Function function_kind.Declaration pure) n a s)
-function_place {a = a} e q f t = at_place (same_all _ _) (λ w st c d g o. near_silent g.known_so e e (q st g) (near_code (same_decls st (function_decls function_kind.Declaration a)) (receiver_ok st function_kind.Declaration a) refl (fit others fields _ a (f st g))) o) t
+pub function_place : {x : Text} {pure : Bool} {us : Purposes} {p : Row} {n : Note} {a r s : Forest} → first_name a ≡ Some x → ((st : Names) → Knows x silent_function st → SilentCode st a) → ((st : Names) → Knows x silent_function st → Fits others fields (within_code st function_kind.Declaration a) a)
+    → Rewritten (Knows x silent_function) whole (purposes_behind us) p r s → Rewritten (Knows x silent_function) whole us p (node (Kind.Function function_kind.Declaration pure) n a r) (node (Kind.Function function_kind.Declaration pure) n a s)
+function_place {a = a} e q f t = at_place (same_all _ _) (λ st g o. near_silent g.known_so e e (q st g) (near_code (same_decls st (function_decls function_kind.Declaration a)) (receiver_ok st function_kind.Declaration a) refl (fit others fields _ a (f st g))) o) t

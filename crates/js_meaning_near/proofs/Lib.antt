@@ -28,4 +28,6 @@ pub mod Unused
 pub mod Spared
 pub mod Texts
 pub mod Steady
+pub mod Calls
 pub mod Signed
+pub mod Bodies

@@ -16,7 +16,7 @@ use Rattle.js_meaning.specs.Expression.{receiver_of, fill_own, function_value, w
 use Rattle.js_meaning.specs.Statement.{for_does, catch_does}
 use Rattle.js_meaning.specs.Meaning.{default_does, does}
 use Rattle.js_meaning_near.specs.Names.{known, silent_function, unread, Names, Fillable, FillableIf, Decls, Copied, declared, names_below}
-use Rattle.js_meaning_near.specs.Near.{Idle, idle_empty, idle_expression, idle_no_expression, idle_statement, idle_function, idle_declarator, idle_bare_declarator, idle_cut_declarator, idle_declaration, statement_emptied, no_statement_emptied, value_read, SilentCode, near_silent, Row, fields, switch_fields, items, row_below, HoldsCases, Okay, key_of, keys, Heads, IsClosure, hoists_nothing, Unreached, goes_here, goes_behind, goes_behind_none, Near, behind_jump, wastes_more, one_sided, shorter, comes_to, near_nothing, near_absent, near_node, near_closure, near_hoisted, near_unread, near_known, near_uncovered, near_import, changed, same_effects, leaves, Code, sign_applied}
+use Rattle.js_meaning_near.specs.Near.{Idle, idle_empty, idle_expression, idle_no_expression, idle_waste, idle_statement, idle_function, idle_declarator, idle_bare_declarator, idle_cut_declarator, idle_declaration, statement_emptied, no_statement_emptied, value_read, SilentCode, near_silent, Row, fields, switch_fields, items, row_below, HoldsCases, Okay, key_of, keys, Heads, IsClosure, hoists_nothing, Unreached, goes_here, goes_behind, goes_behind_none, Near, behind_jump, wastes_more, one_sided, shorter, comes_to, near_nothing, near_absent, near_node, near_closure, near_hoisted, near_unread, near_known, near_uncovered, near_import, changed, same_effects, leaves, Code, sign_applied}
 use Rattle.js_meaning_near.specs.Purpose.{Purpose, for_value, for_effect, ForEffect, Purposes, for_values, loop_purposes, wanted_below}
 use Rattle.js_meaning_near.proofs.Worlds.{World}
 use Rattle.js_meaning_near.proofs.Relations.{At, Envs, Same, same_plain, same_closure, same_object, same_array, SameContent, same_empty, same_element, same_property, SameAll, all_nil, all_cons, same_gives, same_refers, same_at_member, same_breaks, same_continues, same_returns, same_throws, SameAsk, ActsForEffect, same_run, same_value, same_place, same_take, same_take_all, same_declares, same_collect, same_entry, same_matches, Acts, Means, same_turn, Enters, envs_later, same_later, all_later}
@@ -123,6 +123,7 @@ idle_starts (idle_expression q) r x = x
 idle_starts {w = w} {k = k} {a = a} {e = e} {m = m} {n = n} (idle_statement d) r x = subst (λ z. Acts w z n) (sym (starts_nothing k a (start a e) e m d.hoists)) x
 idle_starts (idle_function {x = n} d) r x = identity_left (λ i. fill_old _ d (r.at n) x)
 idle_starts (idle_no_expression y) r x = x
+idle_starts (idle_waste y) r x = x
 idle_starts idle_cut_declarator r x = x
 idle_starts (idle_declarator d q) r x = x
 idle_starts (idle_bare_declarator d) r x = x

@@ -21,7 +21,7 @@ use Rattle.js_meaning_near.specs.Names.{known, silent_function, Names, Binds}
 use Rattle.js_meaning_near.specs.Near.{Row, fields, same_effects, meaning, SameEffects, hoists_nothing}
 use Rattle.js_meaning_near.specs.Fit.{whole, Fits}
 use Rattle.js_meaning_near.specs.Rewritten.{SameNames, Rewritten, at_place}
-use Rattle.js_meaning_near.specs.Known.{Knows}
+use Rattle.js_meaning_near.specs.Purpose.{Purposes, purposes_behind}
 use Rattle.js_meaning_near.proofs.Effects.{more_nothing, bind_on, value_on}
 use Rattle.js_meaning_near.proofs.Fit.{fit}
 use Rattle.js_meaning_near.specs.Unused.{Needed, all_needed, needed, not_needed, kind_of, below_of}
@@ -220,10 +220,6 @@ call_wasted st x pure n m i j es ps q d = record {
 }
 
 -- such a statement as a place of change, where the parts stay
-pub effects_place : {C : Names → Type 0} {p : Row} {a b r s : Forest} {l : Kind} (n m : Note) (ps : Forest) → SameNames Kind.ExpressionStatement a l b → ((st : Names) → C st → SameEffects st a l b ps ps) → ((st : Names) → C st → Fits whole fields st ps)
-    → Rewritten C whole p r s → Rewritten C whole p (node Kind.ExpressionStatement n a r) (node l m b s)
-effects_place n m ps y f g t = at_place y (λ w st c d h o. same_effects (f st h) (fit whole fields st ps (g st h)) o) t
-
-pub call_place : {x : Text} {pure : Bool} {p : Row} {n m i j k : Note} {r s : Forest} → Rewritten (Knows x silent_function) whole p r s
-    → Rewritten (Knows x silent_function) whole p (node Kind.ExpressionStatement n (node (Kind.CallExpression false pure) m (node (Kind.ReferenceName x) i nothing (node Kind.Arguments j nothing nothing)) nothing) r) (node Kind.EmptyStatement k nothing s)
-call_place {x = x} {pure = pure} {n = n} {m = m} {i = i} {j = j} {k = k} t = effects_place n k nothing (record { name = refl; bound = refl; vars = refl; imports = λ source. refl; items = refl }) (λ st h. call_wasted st x pure m i j k nothing nothing h.known_so all_needed) (λ st h. tt) t
+pub effects_place : {C : Names → Type 0} {us : Purposes} {p : Row} {a b r s : Forest} {l : Kind} (n m : Note) (ps : Forest) → SameNames Kind.ExpressionStatement a l b → ((st : Names) → C st → SameEffects st a l b ps ps) → ((st : Names) → C st → Fits whole fields st ps)
+    → Rewritten C whole (purposes_behind us) p r s → Rewritten C whole us p (node Kind.ExpressionStatement n a r) (node l m b s)
+effects_place n m ps y f g t = at_place y (λ st h o. same_effects (f st h) (fit whole fields st ps (g st h)) o) t

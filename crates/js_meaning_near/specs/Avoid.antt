@@ -57,6 +57,11 @@ abbrev pub CasesOk : Row → Kind → Type 0
 CasesOk p Kind.Cases = HoldsCases p
 CasesOk p _ = Unit {0}
 
+-- functions have rules of their own
+abbrev pub NotFunction : Kind → Type 0
+NotFunction (Kind.Function f pure) = ⊥
+NotFunction _ = Unit {0}
+
 abbrev pub NodeInPlace : Row → Kind → (Part → Row → Type 0) → Type 0
 NodeInPlace p (Kind.Function f pure) below = below others fields
 NodeInPlace p k below = CasesOk p k × below whole (row_below k)

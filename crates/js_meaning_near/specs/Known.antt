@@ -27,9 +27,17 @@ pub record Knowing (x : Text) (p : Fact) (st : Names) (ds : List Decl) : Type 0 
   pub decls : Decls st ds ds within
   pub knows : Knows x p within
 
+-- `name(..) { .. }`
+abbrev pub code_of : Note → Note → Note → Note → Text → (parameters body : Forest) → Forest
+code_of i j k l x ps b = node (Kind.BindingName x) i nothing (node Kind.Parameters j ps (node Kind.FunctionBody k (node Kind.Statements l b nothing) nothing))
+
 -- `name() {}`
 abbrev pub empty_code : Note → Note → Note → Note → Text → Forest
-empty_code i j k l x = node (Kind.BindingName x) i nothing (node Kind.Parameters j nothing (node Kind.FunctionBody k (node Kind.Statements l nothing nothing) nothing))
+empty_code i j k l x = code_of i j k l x nothing nothing
+
+-- below a call of the name
+abbrev pub called : Note → Note → Text → (arguments : Forest) → Forest
+called i j x es = node (Kind.ReferenceName x) i nothing (node Kind.Arguments j es nothing)
 
 -- what a node does with a name of which something is known: it may read it, and doesn't assign or initialise it
 abbrev pub NameSteady : Text → Kind → Type 0

@@ -96,12 +96,17 @@ pub record DoesNothing (k : Kind) (a : Forest) : Type 0 where
   pub hoists : hoists_nothing k ≡ true
   pub nothing_done : (E : Enter) (q : Ask) (env : Env) → Leads (meaning E k a q env) (done normal)
 
+-- A statement of an expression of which nothing acts, though a function may be called that does nothing.
+pub record WastesAll (st : Names) (a : Forest) : Type 0 where
+  pub wastes_all : (E : Enter) (env : Env) → Binds st env → (ls : List Text) → Wastes E st env (meaning E Kind.ExpressionStatement a (run ls) env) []
+
 -- An item that may leave a list: of statements, or of declarators.
 mutual
   pub data Idle (st : Names) : Kind → Forest → Type 0 where
     idle_empty : {a : Forest} → Idle st Kind.EmptyStatement a
     idle_expression : {k : Kind} {n : Note} {a r : Forest} → Silent st k a → Idle st Kind.ExpressionStatement (node k n a r)
     idle_no_expression : {a : Forest} → NoField a → Idle st Kind.ExpressionStatement a
+    idle_waste : {a : Forest} → WastesAll st a → Idle st Kind.ExpressionStatement a
     idle_statement : {k : Kind} {a : Forest} → DoesNothing k a → Idle st k a
     idle_function : {pure : Bool} {x : Text} {n : Note} {a r : Forest} → Lone (st x) → Idle st (Kind.Function function_kind.Declaration pure) (node (Kind.BindingName x) n a r)
     idle_declarator : {x : Text} {k : Kind} {n m : Note} {a b r : Forest} → Lone (st x) → Silent st k b → Idle st Kind.VariableDeclarator (node (Kind.BindingName x) n a (node k m b r))

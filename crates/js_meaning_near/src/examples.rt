@@ -1,5 +1,5 @@
 // What the laws give for some modules. Each is a contract, so that the check proves it.
-ghost use Rattle.std.specs.Prelude.{◌≡◌, Bool, true, false, not};
+ghost use Rattle.std.specs.Prelude.{◌≡◌, Bool, true, false, not, None};
 ghost use Rattle.std.specs.Str.{bytes_eq};
 ghost use Rattle.js_syntax.specs.declared.node_kind.NodeKind.{NodeKind as Kind};
 ghost use Rattle.js_syntax.specs.declared.kind.FunctionKind.TheVariants as function_kind;
@@ -8,17 +8,18 @@ ghost use Rattle.js_syntax.specs.declared.operator.LogicalOperator.TheVariants a
 ghost use Rattle.js_syntax.specs.declared.value.LiteralValue.{LiteralValue as Literal};
 ghost use Rattle.js_syntax.specs.Node.{Note, Forest, nothing, node, absent, below_of};
 ghost use Rattle.js_meaning.specs.Value.{Text, this_name, Plain, plain, literal_value};
-ghost use Rattle.js_meaning.specs.Scope.{lexical, function_decls, module_decls};
+ghost use Rattle.js_meaning.specs.Scope.{first_name, lexical, function_decls, module_decls};
 ghost use Rattle.js_meaning.specs.Module.{entries};
-ghost use Rattle.js_meaning.specs.Kept.{Refined};
+ghost use Rattle.js_meaning.specs.Kept.{Kept, Refined};
 ghost use Rattle.js_meaning.specs.Node.{itself, to_call};
 ghost use Rattle.js_meaning.specs.Operator.{truthy};
 ghost use Rattle.js_meaning_near.specs.Bare.{stands_bare};
 ghost use Rattle.js_meaning_near.specs.Local.{Plainly, DeclaresNothing};
 ghost use Rattle.js_meaning_near.specs.Near.{cuts_off, hoists_nothing, fields, items, module_of};
 ghost use Rattle.js_meaning_near.specs.Fit.{whole};
-ghost use Rattle.js_meaning_near.specs.Avoid.{declares, HasCells, ExportsAvoid, InPlace, Avoids};
-ghost use Rattle.js_meaning_near.specs.Examples.{block_of, behind_name, function_of, declaration_of, expression_statement, literal_statement, empty_statement, if_of, choice_of, array_of, two_of, both_of};
+ghost use Rattle.js_meaning_near.specs.Avoid.{declares, code_declares, HasCells, ExportsAvoid, InPlace, Avoids};
+ghost use Rattle.js_meaning_near.specs.Known.{DeclaredOnce, Steady, called};
+ghost use Rattle.js_meaning_near.specs.Examples.{block_of, behind_name, function_of, declaration_of, call_statement, expression_statement, literal_statement, empty_statement, if_of, choice_of, array_of, two_of, both_of};
 
 /// An empty statement leaves a list of statements.
 pub fn an_empty_statement_leaves()
@@ -97,4 +98,20 @@ pub fn an_unused_value_is_not_made()
     ensures branch { (n : Note) (k l : Kind) (a b r : Forest) → hoists_nothing l ≡ true → Plainly Kind.ArrayExpression (node Kind.Elements n (node l n b nothing) nothing) l b →
         InPlace whole items (node Kind.ExpressionStatement n (both_of n k a l b) r) →
         Refined (module_of n n (node Kind.ExpressionStatement n (both_of n k a Kind.ArrayExpression (node Kind.Elements n (node l n b nothing) nothing)) r)) (module_of n n (node Kind.ExpressionStatement n (both_of n k a l b) r)) }
+{}
+
+/// A call of a function that gives back its first argument leaves its statement, with the argument that is silent, where one
+/// acts, and with the statement where none does.
+pub fn a_call_of_a_silent_function_leaves()
+    ensures one_acts { (n : Note) (x y f : Text) (v : Literal) (r : Forest) →
+        let parameters : Forest = node (Kind.BindingName y) n nothing nothing in
+        let body : Forest = node Kind.ReturnStatement n (node (Kind.ReferenceName y) n nothing nothing) nothing in
+        DeclaredOnce x (module_decls (function_of n x parameters body (call_statement n f nothing r))) → declares (code_declares function_kind.Declaration (behind_name n x parameters body)) x ≡ false → Steady x whole items r →
+        Kept (module_of n n (function_of n x parameters body (call_statement n x (node (Kind.CallExpression false false) n (called n n f nothing) (node (Kind.Literal v) n nothing nothing)) r)))
+        (module_of n n (function_of n x parameters body (call_statement n f nothing r))) }
+    ensures none_acts { (n : Note) (x y : Text) (v : Literal) (r : Forest) →
+        let parameters : Forest = node (Kind.BindingName y) n nothing nothing in
+        let body : Forest = node Kind.ReturnStatement n (node (Kind.ReferenceName y) n nothing nothing) nothing in
+        DeclaredOnce x (module_decls (function_of n x parameters body r)) → declares (code_declares function_kind.Declaration (behind_name n x parameters body)) x ≡ false → first_name r ≡ None → Steady x whole items r →
+        Kept (module_of n n (function_of n x parameters body (call_statement n x (node (Kind.Literal v) n nothing nothing) r))) (module_of n n (function_of n x parameters body r)) }
 {}

@@ -3,19 +3,21 @@ ghost use Rattle.std.specs.Prelude.{◌≡◌, Bool, true, false, List};
 ghost use Rattle.js_syntax.specs.declared.node_kind.NodeKind.{NodeKind as Kind};
 ghost use Rattle.js_syntax.specs.declared.value.LiteralValue.{LiteralValue as Literal};
 ghost use Rattle.js_syntax.specs.Core.{is_core_unary};
+ghost use Rattle.js_syntax.specs.Facts.{is_core};
+ghost use Rattle.js_syntax.specs.declared.kind.FunctionKind.{FunctionKind};
 ghost use Rattle.js_syntax.specs.Node.{Note, Forest, nothing, node};
 ghost use Rattle.js_meaning.specs.Value.{Text, Plain, literal_value};
 ghost use Rattle.js_meaning.specs.Operator.{truthy, goes_right};
 ghost use Rattle.js_meaning.specs.Expression.{wanted_by};
-ghost use Rattle.js_meaning.specs.Scope.{Decl, module_decls};
+ghost use Rattle.js_meaning.specs.Scope.{Decl, first_name, function_decls, module_decls};
 ghost use Rattle.js_meaning.specs.Kept.{Kept, KeptBack, Refined};
-ghost use Rattle.js_meaning_near.specs.Names.{Fact, exactly, known, silent_function, Names, Fillable, AllPlain, PlainBut};
+ghost use Rattle.js_meaning_near.specs.Names.{Fact, exactly, known, silent_function, Names, declared, Fillable, AllPlain, PlainBut};
 ghost use Rattle.js_meaning.specs.Module.{entries, stars, requests};
-ghost use Rattle.js_meaning_near.specs.Local.{Stands, Local, IsField};
-ghost use Rattle.js_meaning_near.specs.Purpose.{Purpose, ForEffect, asked, Purposes, for_values};
+ghost use Rattle.js_meaning_near.specs.Local.{KeysStay, Stands, Local, IsField};
+ghost use Rattle.js_meaning_near.specs.Purpose.{Purpose, ForEffect, asked, Purposes, purpose_here, purposes_behind, for_values, wanted_below};
 ghost use Rattle.js_meaning_near.specs.Bare.{stands_bare};
-ghost use Rattle.js_meaning_near.specs.Near.{is_blunt, is_calm, hoists_nothing, ComesTo, Silent, SameEffects, Shorter, Row, items, Near, NearModule, LooseModule, module_of};
-ghost use Rattle.js_meaning_near.specs.Rewritten.{Rewritten};
+ghost use Rattle.js_meaning_near.specs.Near.{is_blunt, is_calm, hoists_nothing, ComesTo, Silent, SameEffects, SilentCode, Shorter, Row, fields, items, row_below, is_row, Near, NearModule, LooseModule, module_of};
+ghost use Rattle.js_meaning_near.specs.Rewritten.{SameNames, DeclaresNone, Rewritten};
 ghost use Rattle.js_meaning_near.specs.Unused.{Needed, NeededValues, only_answers, kind_of, below_of, expression_kind, expression_below, IsSome};
 ghost use Rattle.js_syntax.specs.declared.operator.LogicalOperator.{LogicalOperator};
 ghost use Rattle.js_syntax.specs.declared.operator.LogicalOperator.TheVariants as logical;
@@ -24,11 +26,12 @@ ghost use Rattle.js_syntax.specs.declared.operator.BinaryOperator.TheVariants as
 ghost use Rattle.js_syntax.specs.declared.operator.UnaryOperator.{UnaryOperator};
 ghost use Rattle.js_syntax.specs.declared.operator.UnaryOperator.TheVariants as unary;
 ghost use Rattle.js_meaning_near.specs.Examples.{sum, text_of};
-ghost use Rattle.js_meaning_near.specs.Known.{Knows, Steady, DeclaredOnce, empty_code};
+ghost use Rattle.js_meaning_near.specs.Known.{Knows, Steady, DeclaredOnce, code_of, empty_code, called};
 ghost use Rattle.js_syntax.specs.declared.kind.FunctionKind.TheVariants as function_kind;
-ghost use Rattle.js_meaning_near.specs.Fit.{Part, whole, Fits};
+ghost use Rattle.js_meaning_near.specs.Fit.{Part, whole, others, within_code, Fits};
+ghost use Rattle.js_meaning_near.specs.Bodies.{QuietBody};
 ghost use Rattle.js_meaning_near.specs.Once.{Once};
-ghost use Rattle.js_meaning_near.specs.Avoid.{Dropped, HasCells, Dropping, InPlace, Avoids};
+ghost use Rattle.js_meaning_near.specs.Avoid.{declares, code_declares, NotFunction, Dropped, HasCells, Dropping, InPlace, Avoids};
 
 /// The law of contexts: of two near modules the new one refines the old one.
 pub fn near_modules_refine()
@@ -93,23 +96,50 @@ pub fn loose_modules_keep_runs()
 
 /// Rows with changes that are right where this is known of a name are near.
 pub fn what_is_rewritten_is_near()
-    ensures { (us : Purposes) (x : Text) (f : Fact) (p : Row) (st : Names) (a b : Forest) → Knows x f st → Rewritten (Knows x f) whole p a b → Near us p st a b }
+    ensures { (us : Purposes) (x : Text) (f : Fact) (p : Row) (st : Names) (a b : Forest) → Knows x f st → Rewritten (Knows x f) whole us p a b → Near us p st a b }
 {}
 
 /// Where a name of the module has one value from its initialisation on, reads of it, wherever they
 /// stand, may be that value.
 pub fn a_constant_may_be_read()
-    ensures { (n m : Note) (x : Text) (p : Plain) (a b : Forest) → DeclaredOnce x (module_decls b) → Rewritten (Knows x (exactly p)) whole items a b → entries a ≡ entries b → stars a ≡ stars b → requests a ≡ requests b → Refined (module_of n m a) (module_of n m b) }
+    ensures { (n m : Note) (x : Text) (p : Plain) (a b : Forest) → DeclaredOnce x (module_decls b) → Rewritten (Knows x (exactly p)) whole for_values items a b → entries a ≡ entries b → stars a ≡ stars b → requests a ≡ requests b → Refined (module_of n m a) (module_of n m b) }
 {}
 
 /// Calls of a function with an empty body may go, wherever they stand.
 pub fn calls_of_an_empty_function_leave()
     ensures { (n m o i j k l : Note) (pure : Bool) (x : Text) (r s : Forest) →
-        DeclaredOnce x (module_decls (node (Kind.Function function_kind.Declaration pure) o (empty_code i j k l x) s)) → Rewritten (Knows x silent_function) whole items r s →
+        DeclaredOnce x (module_decls (node (Kind.Function function_kind.Declaration pure) o (empty_code i j k l x) s)) → Rewritten (Knows x silent_function) whole for_values items r s →
         entries (node (Kind.Function function_kind.Declaration pure) o (empty_code i j k l x) r) ≡ entries (node (Kind.Function function_kind.Declaration pure) o (empty_code i j k l x) s) →
         stars (node (Kind.Function function_kind.Declaration pure) o (empty_code i j k l x) r) ≡ stars (node (Kind.Function function_kind.Declaration pure) o (empty_code i j k l x) s) →
         requests (node (Kind.Function function_kind.Declaration pure) o (empty_code i j k l x) r) ≡ requests (node (Kind.Function function_kind.Declaration pure) o (empty_code i j k l x) s) →
         Kept (module_of n m (node (Kind.Function function_kind.Declaration pure) o (empty_code i j k l x) r)) (module_of n m (node (Kind.Function function_kind.Declaration pure) o (empty_code i j k l x) s)) }
+{}
+
+/// So may calls of any function of the module that does nothing but give a value: a statement of one comes to the arguments
+/// that act, or leaves its list where none does, and so does a call of which nobody takes the value, or to a literal.
+pub fn calls_of_a_silent_function_leave()
+    ensures module { (n m : Note) (x : Text) (a b : Forest) → DeclaredOnce x (module_decls b) → Rewritten (Knows x silent_function) whole for_values items a b → entries a ≡ entries b → stars a ≡ stars b → requests a ≡ requests b → Kept (module_of n m a) (module_of n m b) }
+    ensures declaration { (us : Purposes) (p : Row) (x : Text) (pure : Bool) (n : Note) (a r s : Forest) → first_name a ≡ Some x → ((st : Names) → Knows x silent_function st → SilentCode st a) → ((st : Names) → Knows x silent_function st → Fits others fields (within_code st function_kind.Declaration a) a) →
+        Rewritten (Knows x silent_function) whole (purposes_behind us) p r s → Rewritten (Knows x silent_function) whole us p (node (Kind.Function function_kind.Declaration pure) n a r) (node (Kind.Function function_kind.Declaration pure) n a s) }
+    ensures statement { (us : Purposes) (p : Row) (x : Text) (pure : Bool) (n m i j k o : Note) (es ps r s : Forest) → SameNames Kind.ExpressionStatement (node (Kind.CallExpression false pure) m (called i j x es) nothing) (kind_of ps) (below_of o ps) →
+        ((st : Names) → Knows x silent_function st → Needed st es ps) → Steady x whole fields ps → Rewritten (Knows x silent_function) whole (purposes_behind us) p r s →
+        Rewritten (Knows x silent_function) whole us p (node Kind.ExpressionStatement n (node (Kind.CallExpression false pure) m (called i j x es) nothing) r) (node (kind_of ps) k (below_of o ps) s) }
+    ensures leaves { (us : Purposes) (x : Text) (pure : Bool) (n m i j : Note) (es r s : Forest) → DeclaresNone Kind.ExpressionStatement (node (Kind.CallExpression false pure) m (called i j x es) nothing) s →
+        ((st : Names) → Knows x silent_function st → Needed st es nothing) → Rewritten (Knows x silent_function) whole us items r s →
+        Rewritten (Knows x silent_function) whole us items (node Kind.ExpressionStatement n (node (Kind.CallExpression false pure) m (called i j x es) nothing) r) s }
+    ensures expression { (us : Purposes) (p : Row) (x : Text) (pure : Bool) (n m i j o : Note) (es ps r s : Forest) → ForEffect (purpose_here us (is_row r)) → IsSome ps → hoists_nothing (expression_kind ps) ≡ true →
+        SameNames (Kind.CallExpression false pure) (called i j x es) (expression_kind ps) (expression_below o ps) → ((st : Names) → Knows x silent_function st → Needed st es ps) → Steady x whole fields ps → Rewritten (Knows x silent_function) whole (purposes_behind us) p r s →
+        Rewritten (Knows x silent_function) whole us p (node (Kind.CallExpression false pure) n (called i j x es) r) (node (expression_kind ps) m (expression_below o ps) s) }
+    ensures nothing_acts { (us : Purposes) (p : Row) (x : Text) (pure : Bool) (n m i j : Note) (es r s : Forest) (v : Literal) → ForEffect (purpose_here us (is_row r)) → SameNames (Kind.CallExpression false pure) (called i j x es) (Kind.Literal v) nothing →
+        ((st : Names) → Knows x silent_function st → Needed st es nothing) → Rewritten (Knows x silent_function) whole (purposes_behind us) p r s →
+        Rewritten (Knows x silent_function) whole us p (node (Kind.CallExpression false pure) n (called i j x es) r) (node (Kind.Literal v) m nothing s) }
+{}
+
+/// Such a function is one whose parameters are names, and whose statements evaluate what is silent, for nothing, for names of
+/// its own or to return it; reading its own names is silent.
+pub fn a_function_of_silent_statements_is_silent()
+    ensures code { (st : Names) (i j k l : Note) (x : Text) (ps b : Forest) → QuietBody st i j k l x ps b → SilentCode st (code_of i j k l x ps b) }
+    ensures own_name { (st : Names) (a b : Forest) (x : Text) → declares (function_decls function_kind.Declaration a) x ≡ true → Silent (within_code st function_kind.Declaration a) (Kind.ReferenceName x) b }
 {}
 
 /// A logical expression whose left side is a literal comes to its right side, where that stands bare, or to the literal.
@@ -191,4 +221,15 @@ pub fn one_side_of_a_choice_may_stay()
 /// What only reads a name of which something is known stays.
 pub fn what_is_steady_fits()
     ensures { (x : Text) (f : Fact) (q : Part) (p : Row) (st : Names) (a : Forest) → Knows x f st → Steady x q p a → Fits q p st a }
+{}
+
+/// So it stays between changes, and around them where it doesn't declare the name again.
+pub fn what_is_steady_stays()
+    ensures stays { (us : Purposes) (p : Row) (x : Text) (f : Fact) (a : Forest) → Steady x whole p a → Rewritten (Knows x f) whole us p a a }
+    ensures behind { (us : Purposes) (p : Row) (x : Text) (f : Fact) (k : Kind) (n : Note) (a r s : Forest) → Steady x whole p (node k n a r) →
+        Rewritten (Knows x f) whole (purposes_behind us) p r s → Rewritten (Knows x f) whole us p (node k n a r) (node k n a s) }
+    ensures around { (us : Purposes) (p : Row) (x : Text) (f : Fact) (k : Kind) (n m : Note) (a b r : Forest) → is_core k ≡ true → NotFunction k → Steady x whole p (node k n a r) → KeysStay k a b → declares (declared k b) x ≡ false →
+        Rewritten (Knows x f) whole (wanted_below (purpose_here us (is_row r)) k) (row_below k) a b → Rewritten (Knows x f) whole us p (node k n a r) (node k m b r) }
+    ensures around_code { (us : Purposes) (p : Row) (x : Text) (f : Fact) (h : FunctionKind) (pure : Bool) (n m : Note) (a b r : Forest) → is_core (Kind.Function h pure) ≡ true → Steady x whole p (node (Kind.Function h pure) n a r) → declares (code_declares h b) x ≡ false →
+        Rewritten (Knows x f) others for_values fields a b → Rewritten (Knows x f) whole us p (node (Kind.Function h pure) n a r) (node (Kind.Function h pure) m b r) }
 {}

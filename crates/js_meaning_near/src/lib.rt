@@ -13,7 +13,8 @@
 //! `specs/Wasted.antt`), and so may an expression whose value nobody takes (`LessWaste`, `OneSided`, `Shorter`). What stands behind
 //! a jump in its list never runs (`Unreached`): a statement there that declares nothing may leave. Rows may change
 //! at any number of places by what is known of a name (`specs/Rewritten.antt`, `specs/Known.antt`). A name that is `loose` says
-//! that the new module may make fewer entries.
+//! that the new module may make fewer entries: calls of a function that does nothing but give a value may leave, and
+//! `specs/Bodies.antt` reads off a function's code that it does no more.
 //!
 //! `laws` has what is proved: a near module refines the old one (js_meaning's `Refined`), so it keeps its runs,
 //! and the way back. `notes`: runs don't see the notes of nodes, their spans and ids. `signs`: nor whether a negative number
