@@ -29,15 +29,15 @@ def whole(s): return s if s['type']=='Program' else prog([s])
 cases={}
 cases['statements']=[
  N('ExpressionStatement',expression=L('use strict'),directive='use strict'),
- B(N('DebuggerStatement')), N('IfStatement',test=a,consequent=N('EmptyStatement'),alternate=ES(b)), prog([N('WithStatement',object=a,body=B())],'script'),
+ B(N('DebuggerStatement')), N('IfStatement',test=a,consequent=N('EmptyStatement'),alternate=ES(b)), prog([N('WithStatement',object=a,body=B(ES(call(f))))],'script'),
  N('LabeledStatement',label=I('l'),body=N('WhileStatement',test=a,body=B(N('IfStatement',test=b,consequent=N('BreakStatement',label=I('l')),alternate=None),N('ContinueStatement',label=None)))),
  N('IfStatement',test=a,consequent=ES(b),alternate=None), N('IfStatement',test=a,consequent=ES(b),alternate=ES(c)),
  N('SwitchStatement',discriminant=a,cases=[N('SwitchCase',test=L(1),consequent=[ES(b)]),N('SwitchCase',test=None,consequent=[])]),
  N('ThrowStatement',argument=a), N('TryStatement',block=B(ES(call(f))),handler=N('CatchClause',param=I('e'),body=B()),finalizer=None),
  N('TryStatement',block=B(ES(call(f))),handler=None,finalizer=B()),
- N('DoWhileStatement',body=B(),test=a),
- N('ForStatement',init=var('let',(a,L(0))),test=None,update=None,body=B()), N('ForStatement',init=asg('=',a,L(1)),test=a,update=N('UpdateExpression',operator='++',prefix=False,argument=a),body=B()),
- N('ForInStatement',left=var('const',(a,None)),right=b,body=B()), N('ForOfStatement',left=mem(a,b),right=b,body=B(),**{'await':False}),
+ N('DoWhileStatement',body=B(ES(call(f))),test=a),
+ N('ForStatement',init=var('let',(a,L(0))),test=None,update=None,body=B(ES(call(f)))), N('ForStatement',init=asg('=',a,L(1)),test=a,update=N('UpdateExpression',operator='++',prefix=False,argument=a),body=N('EmptyStatement')),
+ N('ForInStatement',left=var('const',(a,None)),right=b,body=B(ES(call(f)))), N('ForOfStatement',left=mem(a,b),right=b,body=B(ES(call(f))),**{'await':False}),
  prog([fn('FunctionDeclaration',f,[a,N('AssignmentPattern',left=b,right=L(1)),N('RestElement',argument=N('ArrayPattern',elements=[None,c]))],B(N('ExpressionStatement',expression=L('d'),directive='d'),N('IfStatement',test=a,consequent=N('ReturnStatement',argument=a),alternate=None),N('ReturnStatement',argument=None)))],'script'),
 ]
 SILENT=('Literal','ArrowFunctionExpression','FunctionExpression','UnaryExpression')
@@ -201,7 +201,7 @@ S('for (const k of a) !k;',[N('ForOfStatement',left=var('const',(I('k'),None)),r
 S('1; l: 1; m: n: 1;',[ES(L(1)),LABEL('l',ES(L(1))),LABEL('m',LABEL('n',ES(L(1))))],[],1,0)
 S('with (o) 1; in a script',[N('WithStatement',object=I('o'),body=ES(L(1)))],[N('WithStatement',object=I('o'),body=EMPTY)],1,0,'script')
 S('function f(o, x) { with (o) x; } in a script',[F_('f',['o','x'],N('WithStatement',object=I('o'),body=ES(x)))],None,0,2,'script')
-S('if (a) while (b) 1; else if (c) 1; else { 1; }',[IF(N('WhileStatement',test=b,body=ES(L(1))),N('IfStatement',test=c,consequent=ES(L(1)),alternate=B(ES(L(1)))))],[IF(N('WhileStatement',test=b,body=EMPTY),N('IfStatement',test=c,consequent=EMPTY,alternate=B()))],1,0)
+S('if (a) while (b) 1; else if (c) 1; else { 1; }',[IF(N('WhileStatement',test=b,body=ES(L(1))),N('IfStatement',test=c,consequent=ES(L(1)),alternate=B(ES(L(1)))))],[IF(N('WhileStatement',test=b,body=EMPTY),N('IfStatement',test=c,consequent=EMPTY,alternate=EMPTY))],1,0)
 S('let x; if (a) x; b();',[x_is(None),IF(ES(x)),do('b')],[IF(EMPTY),do('b')],2,0)
 S('if (a) (() => { if (b) 1; }); use(() => { if (b) 1; });',[IF(ES(ARROW(N('IfStatement',test=b,consequent=ES(L(1)),alternate=None)))),use(ARROW(N('IfStatement',test=b,consequent=ES(L(1)),alternate=None)))],[IF(EMPTY),use(ARROW(N('IfStatement',test=b,consequent=EMPTY,alternate=None)))],1,0)
 S("'use strict'; if (a) 'use strict';",[STRICT,IF(ES(L('use strict')))],[STRICT,IF(EMPTY)],1,0)
@@ -279,7 +279,7 @@ WHEN=lambda test,then,other=None: N('IfStatement',test=test,consequent=then,alte
 S('if (false) f(); if (true) g(); if (0) f(); else g();',[WHEN(L(False),do('f')),WHEN(L(True),do('g')),WHEN(L(0),do('f'),do('g'))],[do('g'),do('g')],1,0)
 S('if (![]) { f(); } if (void 0) f(); else { g(); }',[WHEN(un('!',NONE),B(do('f'))),WHEN(un('void',L(0)),do('f'),B(do('g')))],[B(do('g'))],1,0)
 S("if ('b' === 'b') f(); else g(); whose test comes to its value first",[WHEN(bi('===',L('b'),L('b')),do('f'),do('g'))],[do('f')],1,0)
-S('if (a) { if (0) f(); } else if (1) g();',[WHEN(a,B(WHEN(L(0),do('f'))),WHEN(L(1),do('g')))],[WHEN(a,B(),do('g'))],1,0)
+S('if (a) { if (0) f(); } else if (1) g();',[WHEN(a,B(WHEN(L(0),do('f'))),WHEN(L(1),do('g')))],[WHEN(a,EMPTY,do('g'))],1,0)
 S('while (a) if (0) f();',[N('WhileStatement',test=a,body=WHEN(L(0),do('f')))],[N('WhileStatement',test=a,body=EMPTY)],1,0)
 S('if (1) { let x = 1; use(x); }',[WHEN(L(1),B(x_is(L(1)),use(x)))],[B(x_is(L(1)),use(x))],1,1)
 S('if (0) { let t = f(); const s = [t]; class c {} g(s); }',[WHEN(L(0),B(var('let',(I('t'),call(f))),var('const',(I('s'),N('ArrayExpression',elements=[I('t')]))),N('ClassDeclaration',id=I('c'),superClass=None,body=N('ClassBody',body=[])),ES(call(g,I('s')))))],[],1,0)
@@ -289,16 +289,16 @@ EACH=lambda *body: N('ForStatement',init=None,test=None,update=None,body=B(*body
 S('if (0) { var y = 1; } use(y); if (0) { try { f(); } catch (e) { var v = e; } } use(v); if (0) var w; whose branches declare names around them',[WHEN(L(0),B(var('var',(I('y'),L(1))))),use(I('y')),WHEN(L(0),B(TRY(B(do('f')),I('e'),var('var',(I('v'),I('e')))))),use(I('v')),WHEN(L(0),var('var',(I('w'),None)))],[WHEN(L(0),B(var('var',(I('y'),L(1))))),use(I('y')),WHEN(L(0),B(TRY(B(),I('e'),var('var',(I('v'),I('e')))))),use(I('v')),WHEN(L(0),var('var',(I('w'),None)))],1,3)
 S('if (0) { function z() { f(); } z(); } if (0) { var x; x = f(); for (;;) { g(x); } } which lose all that runs, and then the names',[WHEN(L(0),B(F_('z',[],do('f')),do('z'))),WHEN(L(0),B(var('var',(x,None)),ES(asg('=',x,call(f))),EACH(ES(call(g,x)))))],[],2,0)
 S('if (1) f(); else { g(); var v = g(); l: while (a) { break l; } } use(v);',[WHEN(L(1),do('f'),B(do('g'),var('var',(I('v'),call(g))),N('LabeledStatement',label=I('l'),body=N('WhileStatement',test=a,body=B(N('BreakStatement',label=I('l'))))))),use(I('v'))],[WHEN(L(1),do('f'),B(var('var',(I('v'),L(0))))),use(I('v'))],1,1)
-S('if (0) { for (var i = 0; i; ) { g(i); } switch (a) { case 1: f(); var w = 2; g(); } if (a) { f(); } else { g(); var z = 1; } } use(i, w, z);',[WHEN(L(0),B(N('ForStatement',init=var('var',(I('i'),L(0))),test=I('i'),update=None,body=B(ES(call(g,I('i'))))),N('SwitchStatement',discriminant=a,cases=[N('SwitchCase',test=L(1),consequent=[do('f'),var('var',(I('w'),L(2))),do('g')])]),WHEN(a,B(do('f')),B(do('g'),var('var',(I('z'),L(1))))))),do('use',I('i'),I('w'),I('z'))],[WHEN(L(0),B(N('ForStatement',init=var('var',(I('i'),L(0))),test=I('i'),update=None,body=B()),N('SwitchStatement',discriminant=a,cases=[N('SwitchCase',test=L(1),consequent=[var('var',(I('w'),L(2)))])]),WHEN(a,B(),B(var('var',(I('z'),L(1))))))),do('use',I('i'),I('w'),I('z'))],1,4)
+S('if (0) { for (var i = 0; i; ) { g(i); } switch (a) { case 1: f(); var w = 2; g(); } if (a) { f(); } else { g(); var z = 1; } } use(i, w, z);',[WHEN(L(0),B(N('ForStatement',init=var('var',(I('i'),L(0))),test=I('i'),update=None,body=B(ES(call(g,I('i'))))),N('SwitchStatement',discriminant=a,cases=[N('SwitchCase',test=L(1),consequent=[do('f'),var('var',(I('w'),L(2))),do('g')])]),WHEN(a,B(do('f')),B(do('g'),var('var',(I('z'),L(1))))))),do('use',I('i'),I('w'),I('z'))],[WHEN(L(0),B(N('ForStatement',init=var('var',(I('i'),L(0))),test=I('i'),update=None,body=EMPTY),N('SwitchStatement',discriminant=a,cases=[N('SwitchCase',test=L(1),consequent=[var('var',(I('w'),L(2)))])]),WHEN(a,EMPTY,B(var('var',(I('z'),L(1))))))),do('use',I('i'),I('w'),I('z'))],2,4)
 S("if (0) { eval('x'); var h = function () { g(); }; } use(h); whose function stays as it is",[WHEN(L(0),B(do('eval',L('x')),var('var',(I('h'),fn('FunctionExpression',None,[],B(do('g'))))))),use(I('h'))],[WHEN(L(0),B(var('var',(I('h'),fn('FunctionExpression',None,[],B(do('g'))))))),use(I('h'))],1,1)
 S('if (a) { f(); var p = 1; } if (0) { var q = 1; } else { g(); } use(p, q); where a branch runs',[WHEN(a,B(do('f'),var('var',(I('p'),L(1))))),WHEN(L(0),B(var('var',(I('q'),L(1)))),B(do('g'))),do('use',I('p'),I('q'))],None,0,2)
 IN_EACH=lambda of,left,right,*body: N('ForOfStatement' if of else 'ForInStatement',left=left,right=right,body=B(*body),**({'await':False} if of else {}))
 LET_EACH=lambda x,*body: N('ForStatement',init=var('let',(x,L(0))),test=x,update=None,body=B(*body))
 S('if (0) for (let i = 0; i; ) { g(i); } if (0) for (const x of a) { g(x); } if (0) for (let k in a) { let t = k; g(t); } whose heads declare names of the loops alone',[WHEN(L(0),LET_EACH(I('i'),ES(call(g,I('i'))))),WHEN(L(0),IN_EACH(True,var('const',(x,None)),a,ES(call(g,x)))),WHEN(L(0),IN_EACH(False,var('let',(I('k'),None)),a,var('let',(I('t'),I('k'))),ES(call(g,I('t')))))],[],1,0)
-S('if (0) { var y = 1; for (let i = 0; i; ) { g(i); } } use(y); if (0) for (var v of a) { g(v); } use(v);',[WHEN(L(0),B(var('var',(I('y'),L(1))),LET_EACH(I('i'),ES(call(g,I('i')))))),use(I('y')),WHEN(L(0),IN_EACH(True,var('var',(I('v'),None)),a,ES(call(g,I('v'))))),use(I('v'))],[WHEN(L(0),B(var('var',(I('y'),L(1))))),use(I('y')),WHEN(L(0),IN_EACH(True,var('var',(I('v'),None)),a)),use(I('v'))],1,2)
+S('if (0) { var y = 1; for (let i = 0; i; ) { g(i); } } use(y); if (0) for (var v of a) { g(v); } use(v);',[WHEN(L(0),B(var('var',(I('y'),L(1))),LET_EACH(I('i'),ES(call(g,I('i')))))),use(I('y')),WHEN(L(0),IN_EACH(True,var('var',(I('v'),None)),a,ES(call(g,I('v'))))),use(I('v'))],[WHEN(L(0),B(var('var',(I('y'),L(1))))),use(I('y')),WHEN(L(0),{**IN_EACH(True,var('var',(I('v'),None)),a),'body':EMPTY}),use(I('v'))],2,2)
 S('export function h() { return a; for (let i = 0; i; ) { g(i); } }',[export(F_('h',[],RETURN(a),LET_EACH(I('i'),ES(call(g,I('i'))))))],[export(F_('h',[],RETURN(a)))],1,0)
 S('export function h() { return a; for (b of c) { g(b); } for (const x in a) { g(x); } debugger; for (var v of a) { g(v); } }',[export(F_('h',[],RETURN(a),IN_EACH(True,b,c,ES(call(g,b))),IN_EACH(False,var('const',(x,None)),a,ES(call(g,x))),DEBUGGER,IN_EACH(True,var('var',(I('v'),None)),a,ES(call(g,I('v'))))))],[export(F_('h',[],RETURN(a),IN_EACH(True,var('var',(I('v'),None)),a,ES(call(g,I('v'))))))],1,1)
-S('if (0) { var y = 1; with (a) { g(); } for (var k in a) { debugger; g(); } } use(y, k); in a script',[WHEN(L(0),B(var('var',(I('y'),L(1))),N('WithStatement',object=a,body=B(ES(call(g)))),IN_EACH(False,var('var',(I('k'),None)),a,DEBUGGER,ES(call(g))))),do('use',I('y'),I('k'))],[WHEN(L(0),B(var('var',(I('y'),L(1))),IN_EACH(False,var('var',(I('k'),None)),a))),do('use',I('y'),I('k'))],1,2,'script')
+S('if (0) { var y = 1; with (a) { g(); } for (var k in a) { debugger; g(); } } use(y, k); in a script',[WHEN(L(0),B(var('var',(I('y'),L(1))),N('WithStatement',object=a,body=B(ES(call(g)))),IN_EACH(False,var('var',(I('k'),None)),a,DEBUGGER,ES(call(g))))),do('use',I('y'),I('k'))],[WHEN(L(0),B(var('var',(I('y'),L(1))),{**IN_EACH(False,var('var',(I('k'),None)),a),'body':EMPTY})),do('use',I('y'),I('k'))],2,2,'script')
 S('if (0) { try { f(); } catch (e) { g(e); } } if (0) try { let x = f(); g(x); } catch { const y = f(); g(y); } finally { g(); }',[WHEN(L(0),B(TRY(B(do('f')),I('e'),ES(call(g,I('e')))))),WHEN(L(0),{**TRY(B(x_is(call(f)),ES(call(g,x))),None,var('const',(I('y'),call(f))),ES(call(g,I('y')))),'finalizer':B(do('g'))})],[],1,0)
 S('if (0) { try { f(); } catch ({ a, b: [c] = d() }) { g(a, c); } } of a pattern',[WHEN(L(0),B(TRY(B(do('f')),N('ObjectPattern',properties=[prop(a,a,shorthand=True),prop(b,N('AssignmentPattern',left=N('ArrayPattern',elements=[c]),right=call(I('d'))))]),ES(call(g,a,c)))))],[],1,0)
 S('export function h() { return; try { f(); } catch (e) { let x = e; g(x); } }',[export(F_('h',[],RETURN(None),TRY(B(do('f')),I('e'),x_is(I('e')),ES(call(g,x)))))],[export(F_('h',[],RETURN(None)))],1,0)
@@ -321,8 +321,8 @@ S('{ let x = 1; } { function g() {} } l: { { 1; } }',[B(x_is(L(1))),B(F_('g',[])
 S('{ let x; { let y = x; } }',[B(x_is(None),B(var('let',(I('y'),x))))],[],2,0)
 S('if (1) {} else f(); if (0) f(); else { 1; }',[WHEN(L(1),B(),do('f')),WHEN(L(0),do('f'),B(ES(L(1))))],[],1,0)
 S('export function h() { {} return; {} } switch (a) { case 1: {} break; default: { ; } }',[export(F_('h',[],B(),RETURN(None),B())),N('SwitchStatement',discriminant=a,cases=[N('SwitchCase',test=L(1),consequent=[B(),BREAK()]),N('SwitchCase',test=None,consequent=[B(EMPTY)])])],[export(F_('h',[],RETURN(None))),N('SwitchStatement',discriminant=a,cases=[N('SwitchCase',test=L(1),consequent=[BREAK()]),N('SwitchCase',test=None,consequent=[])])],1,0)
-S('{ f(); } { { f(); } } m: while (a) {} whose blocks hold something',[B(do('f')),B(B(do('f'))),LABEL('m',N('WhileStatement',test=a,body=B()))],None,0,0)
-S('if (a) {} else {} while (b) {} whose blocks stand in no list',[IF(B(),B()),N('WhileStatement',test=b,body=B())],None,0,0)
+S('{ f(); } { { f(); } } m: while (a) ; whose blocks hold something',[B(do('f')),B(B(do('f'))),LABEL('m',N('WhileStatement',test=a,body=EMPTY))],None,0,0)
+S('if (a) {} else {} while (b) {} whose blocks stand in no list',[IF(B(),B()),N('WhileStatement',test=b,body=B())],[IF(EMPTY,EMPTY),N('WhileStatement',test=b,body=EMPTY)],1,0)
 S('if (0) { var x = f(); let y = g(x); { const z = new h(); use(z); } use(y); } use(x); whose values are never given',[WHEN(L(0),B(var('var',(x,call(f))),var('let',(I('y'),call(g,x))),B(var('const',(I('z'),N('NewExpression',callee=I('h'),arguments=[]))),use(I('z'))),use(I('y')))),use(x)],[WHEN(L(0),B(var('var',(x,L(0))))),use(x)],2,1)
 S("if (false) { var w = h('w'); w(f()); } else g();",[WHEN(L(False),B(var('var',(I('w'),call(I('h'),L('w')))),ES(call(I('w'),call(f)))),do('g'))],[do('g')],2,0)
 S('if (0) var x = f(), y = [g()]; else for (;;) g(); use(x); whose declaration stands in no list',[WHEN(L(0),var('var',(x,call(f)),(I('y'),N('ArrayExpression',elements=[call(g)]))),EACH(do('g'))),use(x)],[WHEN(L(0),var('var',(x,L(0)),(I('y'),L(0))),EACH(do('g'))),use(x)],1,1)
@@ -331,23 +331,23 @@ S('if (0) { var x = a, y = 1, z = function () { return f(); }; } use(x, y, z); w
 S('if (a) { var x = f(); } if (1) { var y = f(); } else { var z = f(); } use(x, y, z);',[WHEN(a,B(var('var',(x,call(f))))),WHEN(L(1),B(var('var',(I('y'),call(f)))),B(var('var',(I('z'),call(f))))),ES(call(I('use'),x,I('y'),I('z')))],[WHEN(a,B(var('var',(x,call(f))))),WHEN(L(1),B(var('var',(I('y'),call(f)))),B(var('var',(I('z'),L(0))))),ES(call(I('use'),x,I('y'),I('z')))],1,3)
 S("export function h() { if (0) { var x = eval('y'); } let y = 1; return x; }",[export(F_('h',[],WHEN(L(0),B(var('var',(x,call(I('eval'),L('y')))))),var('let',(I('y'),L(1))),RETURN(x)))],[export(F_('h',[],WHEN(L(0),B(var('var',(x,L(0))))),RETURN(x)))],2,1)
 S('if (0) { var x = f(); } use(x); in a script',[WHEN(L(0),B(var('var',(x,call(f))))),use(x)],[WHEN(L(0),B(var('var',(x,L(0))))),use(x)],1,1,'script')
-S('if (x && false) { g(); let y = g(); use(y); } if (f() || 1) g(); else { h(); var v = h(); } use(v); whose tests act',[WHEN(AND(x,L(False)),B(do('g'),var('let',(I('y'),call(g))),use(I('y')))),WHEN(OR(call(f),L(1)),do('g'),B(do('h'),var('var',(I('v'),call(I('h')))))),use(I('v'))],[WHEN(AND(x,L(False)),B()),WHEN(OR(call(f),L(1)),do('g'),B(var('var',(I('v'),L(0))))),use(I('v'))],2,1)
-S('if ([f()]) g(); else { h(); } if (f(), 0) { g(); } else h(); if (void f()) { g(); } whose tests act',[WHEN(N('ArrayExpression',elements=[call(f)]),do('g'),B(do('h'))),WHEN(N('SequenceExpression',expressions=[call(f),L(0)]),B(do('g')),do('h')),WHEN(un('void',call(f)),B(do('g')))],[WHEN(N('ArrayExpression',elements=[call(f)]),do('g'),B()),WHEN(N('SequenceExpression',expressions=[call(f),L(0)]),B(),do('h')),WHEN(un('void',call(f)),B())],1,0)
-S('let x = 1; export function h(p) { if (p && false) { use(x); } if (f() && 0) g(); } where a name goes with it',[x_is(L(1)),export(F_('h',['p'],WHEN(AND(I('p'),L(False)),B(use(x))),WHEN(AND(call(f),L(0)),do('g'))))],[export(F_('h',['p'],WHEN(AND(I('p'),L(False)),B()),WHEN(AND(call(f),L(0)),do('g'))))],2,1)
+S('if (x && false) { g(); let y = g(); use(y); } if (f() || 1) g(); else { h(); var v = h(); } use(v); whose tests act',[WHEN(AND(x,L(False)),B(do('g'),var('let',(I('y'),call(g))),use(I('y')))),WHEN(OR(call(f),L(1)),do('g'),B(do('h'),var('var',(I('v'),call(I('h')))))),use(I('v'))],[WHEN(AND(x,L(False)),EMPTY),WHEN(OR(call(f),L(1)),do('g'),B(var('var',(I('v'),L(0))))),use(I('v'))],2,1)
+S('if ([f()]) g(); else { h(); } if (f(), 0) { g(); } else h(); if (void f()) { g(); } whose tests act',[WHEN(N('ArrayExpression',elements=[call(f)]),do('g'),B(do('h'))),WHEN(N('SequenceExpression',expressions=[call(f),L(0)]),B(do('g')),do('h')),WHEN(un('void',call(f)),B(do('g')))],[WHEN(N('ArrayExpression',elements=[call(f)]),do('g'),EMPTY),WHEN(N('SequenceExpression',expressions=[call(f),L(0)]),EMPTY,do('h')),WHEN(un('void',call(f)),EMPTY)],2,0)
+S('let x = 1; export function h(p) { if (p && false) { use(x); } if (f() && 0) g(); } where a name goes with it',[x_is(L(1)),export(F_('h',['p'],WHEN(AND(I('p'),L(False)),B(use(x))),WHEN(AND(call(f),L(0)),do('g'))))],[export(F_('h',['p'],WHEN(AND(I('p'),L(False)),EMPTY),WHEN(AND(call(f),L(0)),do('g'))))],2,1)
 WHILE=lambda test,*body: N('WhileStatement',test=test,body=B(*body))
 LOOP=lambda init,test,*body: N('ForStatement',init=init,test=test,update=None,body=B(*body))
 FINALLY=lambda block,*body: N('TryStatement',block=block,handler=None,finalizer=B(*body))
 S('while (0) f(); for (; null;) { g(); let x = f(); } l: m: while (![]) { continue l; } f();',[WHILE(L(0),do('f')),LOOP(None,L(None),do('g'),x_is(call(f))),LABEL('l',LABEL('m',WHILE(un('!',N('ArrayExpression',elements=[])),N('ContinueStatement',label=I('l'))))),do('f')],[do('f')],1,0)
 S('try {} catch (e) { f(e); } try { ; } catch { g(); } finally { {} } l: try {} finally {}',[TRY(B(),I('e'),ES(call(f,I('e')))),{**TRY(B(EMPTY),None,do('g')),'finalizer':B(B())},LABEL('l',FINALLY(B()))],[],1,0)
 S('while (a) f(); do f(); while (0); for (f(); 0;) g(); for (let x = f(); 0;) g(); try { f(); } catch (e) {}',[WHILE(a,do('f')),N('DoWhileStatement',body=do('f'),test=L(0)),LOOP(call(f),L(0),do('g')),LOOP(x_is(call(f)),L(0),do('g')),TRY(B(do('f')),I('e'))],None,0,0)
-S('if (a) while (0) f(); which stands in no list',[WHEN(a,WHILE(L(0),do('f')))],None,0,0)
+S('if (a) while (0) f(); which stands in no list',[WHEN(a,WHILE(L(0),do('f')))],[WHEN(a,EMPTY)],1,0)
 S('while (0) { var x = 1; } use(x); while (0) { var y = 1; }',[WHILE(L(0),var('var',(x,L(1)))),use(x),WHILE(L(0),var('var',(I('y'),L(1))))],[WHILE(L(0),var('var',(x,L(1)))),use(x)],1,1)
-S('let x = 1; while (0) { use(x); } for (;;) { for (; 0;) continue; }',[x_is(L(1)),WHILE(L(0),use(x)),EACH(LOOP(None,L(0),N('ContinueStatement',label=None)))],[EACH()],2,0)
+S('let x = 1; while (0) { use(x); } for (;;) { for (; 0;) continue; }',[x_is(L(1)),WHILE(L(0),use(x)),EACH(LOOP(None,L(0),N('ContinueStatement',label=None)))],[{**EACH(),'body':EMPTY}],2,0)
 S("export function h() { while (0) { eval('x'); } let x = 1; }",[export(F_('h',[],WHILE(L(0),do('eval',L('x'))),x_is(L(1))))],[export(F_('h',[]))],2,0)
 S('while (0) f(); in a script',[WHILE(L(0),do('f'))],[],1,0,'script')
 HANDLED=lambda block,handler,*body: {**TRY(block,I('e'),*handler),'finalizer':B(*body)}
 S('try {} finally { f(); } try { ; } catch (e) { g(); } finally { f(); } l: try {} finally { f(); }',[FINALLY(B(),do('f')),HANDLED(B(EMPTY),[do('g')],do('f')),LABEL('l',FINALLY(B(),do('f')))],[B(do('f')),B(do('f')),LABEL('l',B(do('f')))],1,0)
-S('if (a) try {} finally { f(); } else try {} catch (e) { g(); } while (a) try {} catch (e) {}',[WHEN(a,FINALLY(B(),do('f')),TRY(B(),I('e'),do('g'))),N('WhileStatement',test=a,body=TRY(B(),I('e')))],[WHEN(a,B(do('f')),B()),N('WhileStatement',test=a,body=B())],1,0)
+S('if (a) try {} finally { f(); } else try {} catch (e) { g(); } while (a) try {} catch (e) {}',[WHEN(a,FINALLY(B(),do('f')),TRY(B(),I('e'),do('g'))),N('WhileStatement',test=a,body=TRY(B(),I('e')))],[WHEN(a,B(do('f')),EMPTY),N('WhileStatement',test=a,body=EMPTY)],1,0)
 S('try {} finally { while (a) f(); } try {} finally { l: for (;;) f(); } whose loops labels around would reach',[FINALLY(B(),N('WhileStatement',test=a,body=do('f'))),FINALLY(B(),LABEL('l',N('ForStatement',init=None,test=None,update=None,body=do('f'))))],None,0,0)
 S('try {} catch (e) { var x = f(); } finally { g(); } use(x);',[HANDLED(B(),[var('var',(x,call(f)))],do('g')),use(x)],None,0,1)
 S('export function h() { try {} finally { return 1; } f(); }',[export(F_('h',[],FINALLY(B(),RETURN(L(1))),do('f')))],[export(F_('h',[],B(RETURN(L(1)))))],1,0)
@@ -362,7 +362,15 @@ S('l: { f(); break l; } l: { m: { break m; f(); } g(); } l: { if (a) break l; f(
 S('l: for (;;) { m: { break l; } f(); m: { break m; } }',[LABEL('l',EACH(LABEL('m',B(JUMP())),do('f'),LABEL('m',B(JUMP('m')))))],[LABEL('l',EACH(LABEL('m',B(JUMP())),do('f')))],1,0)
 S('l: { break l; var x = f(); } use(x); whose name stays around',[LABEL('l',B(JUMP(),var('var',(x,call(f))))),use(x)],None,0,1)
 S('l: { break l; function g() {} g(); } l: { break l; class c { static { f(); } } }',[LABEL('l',B(JUMP(),F_('g',[]),do('g'))),LABEL('l',B(JUMP(),N('ClassDeclaration',id=I('c'),superClass=None,body=N('ClassBody',body=[N('StaticBlock',body=[do('f')])]))))],[],2,0)
-S('if (a) l: { break l; } which stands in no list',[IF(LABEL('l',B(JUMP())))],None,0,0)
+S('if (a) l: { break l; } which stands in no list',[IF(LABEL('l',B(JUMP())))],[IF(EMPTY)],1,0)
+S('if (f()) {} else g(); while (f()) {} do { {} } while (f()); for (;;) l: {} for (const x of f()) {} for (x in a) { ; }',[WHEN(call(f),B(),do('g')),N('WhileStatement',test=call(f),body=B()),N('DoWhileStatement',body=B(B()),test=call(f)),{**EACH(),'body':LABEL('l',B())},IN_EACH(True,var('const',(x,None)),call(f)),IN_EACH(False,x,a,EMPTY)],[WHEN(call(f),EMPTY,do('g')),N('WhileStatement',test=call(f),body=EMPTY),N('DoWhileStatement',body=EMPTY,test=call(f)),{**EACH(),'body':EMPTY},{**IN_EACH(True,var('const',(x,None)),call(f)),'body':EMPTY},{**IN_EACH(False,x,a),'body':EMPTY}],1,0)
+S('with (a) {} in a script',[N('WithStatement',object=a,body=B())],[N('WithStatement',object=a,body=EMPTY)],1,0,'script')
+S('if (a) l: m: try { ; } catch { f(); } else for (; 0;) f(); l: while (a) { 1; }',[IF(LABEL('l',LABEL('m',TRY(B(EMPTY),None,do('f')))),LOOP(None,L(0),do('f'))),LABEL('l',WHILE(a,ES(L(1))))],[IF(EMPTY,EMPTY),LABEL('l',N('WhileStatement',test=a,body=EMPTY))],1,0)
+S('if (a) while (0) { var x = 1; } use(x); whose branch declares a name around it',[WHEN(a,WHILE(L(0),var('var',(x,L(1))))),use(x)],None,0,1)
+S('if (a) { f(); } else { let y = f(); } try { f(); } catch {} finally {} whose blocks hold something, or are asked for',[IF(B(do('f')),B(var('let',(I('y'),call(f))))),{**TRY(B(do('f')),None),'finalizer':B()}],None,0,0)
+S('let x = 1; if (a) while (0) { use(x); } where a name goes with it',[x_is(L(1)),WHEN(a,WHILE(L(0),use(x)))],[WHEN(a,EMPTY)],2,0)
+S("export function h() { let x = 1; if (a) while (0) { eval('x'); } }",[export(F_('h',[],x_is(L(1)),WHEN(a,WHILE(L(0),do('eval',L('x'))))))],[export(F_('h',[],WHEN(a,EMPTY)))],2,0)
+S('if (a && 0) { f(); } whose branch holds nothing then',[WHEN(AND(a,L(0)),B(do('f')))],[WHEN(AND(a,L(0)),EMPTY)],2,0)
 S('let x = 1; l: { break l; let y = x; } export function h() { l: { break l; eval(x); } }',[x_is(L(1)),LABEL('l',B(JUMP(),var('let',(I('y'),x)))),export(F_('h',[],LABEL('l',B(JUMP(),do('eval',x)))))],[export(F_('h',[]))],2,0)
 S('l: { break l; f(); } l: { break l; var x; } in a script',[LABEL('l',B(JUMP(),do('f'))),LABEL('l',B(JUMP(),var('var',(x,None))))],[LABEL('l',B(JUMP(),var('var',(x,None))))],1,0,'script')
 S('class c { static { {} } } use(c);',[N('ClassDeclaration',id=I('c'),superClass=None,body=N('ClassBody',body=[N('StaticBlock',body=[B()])])),use(I('c'))],[N('ClassDeclaration',id=I('c'),superClass=None,body=N('ClassBody',body=[N('StaticBlock',body=[])])),use(I('c'))],1,1)
@@ -558,8 +566,8 @@ STATEMENTS=[
  ('if (0) a(); else f();',[WHEN(L(0),do('a'),CALL)],[CALL],1,0),
  ('if ([]) { f(); } else a();',[WHEN(ARR(),B(CALL),do('a'))],[B(CALL)],1,0),
  ('if (a) f(); else 1;',[WHEN(a,CALL,ES(L(1)))],[WHEN(a,CALL,EMPTY)],1,0),
- ('if (a) { 1; }',[WHEN(a,B(ES(L(1))))],[WHEN(a,B())],1,0),
- ('if (a && 0) { f(); }',[WHEN(AND(a,L(0)),B(CALL))],[WHEN(AND(a,L(0)),B())],1,0),
+ ('if (a) { 1; }',[WHEN(a,B(ES(L(1))))],[WHEN(a,EMPTY)],1,0),
+ ('if (a && 0) { f(); var x; } use(x);',[WHEN(AND(a,L(0)),B(CALL,x_is(None,'var'))),use(x)],[WHEN(AND(a,L(0)),B(x_is(None,'var'))),use(x)],1,1),
  ('if (0) { var x = f(); } use(x);',[WHEN(L(0),B(x_is(call(f),'var'))),use(x)],[WHEN(L(0),B(x_is(L(0),'var'))),use(x)],1,1),
  ('if (1) while (a) f();',[WHEN(L(1),N('WhileStatement',test=a,body=CALL))],None,0,0),
  # loops
@@ -567,11 +575,11 @@ STATEMENTS=[
  ('while (a) 1;',[N('WhileStatement',test=a,body=ES(L(1)))],[N('WhileStatement',test=a,body=EMPTY)],1,0),
  ('while (1) { break; f(); }',[WHILE(L(1),BREAK(),CALL)],[WHILE(L(1),BREAK())],1,0),
  ('do f(); while (0);',[DO(CALL,L(0))],None,0,0),
- ('do { 1; } while (a);',[DO(B(ES(L(1))),a)],[DO(B(),a)],1,0),
+ ('do { 1; } while (a);',[DO(B(ES(L(1))),a)],[DO(EMPTY,a)],1,0),
  ('for (; null;) f();',[N('ForStatement',init=None,test=L(None),update=None,body=CALL)],[],1,0),
  ('for (f(); 0;) a();',[N('ForStatement',init=call(f),test=L(0),update=None,body=do('a'))],None,0,0),
  ('for (let x = 0; x;) 1;',[N('ForStatement',init=x_is(L(0)),test=x,update=None,body=ES(L(1)))],[N('ForStatement',init=x_is(L(0)),test=x,update=None,body=EMPTY)],1,1),
- ('for (const x of a) { 1; }',[IN_EACH(True,x_is(None,'const'),a,ES(L(1)))],[IN_EACH(True,x_is(None,'const'),a)],1,0),
+ ('for (const x of a) { 1; }',[IN_EACH(True,x_is(None,'const'),a,ES(L(1)))],[{**IN_EACH(True,x_is(None,'const'),a),'body':EMPTY}],1,0),
  ('for (x in a) { f(); {} }',[IN_EACH(False,x,a,CALL,B())],[IN_EACH(False,x,a,CALL)],1,0),
  ('l: for (;;) { continue l; f(); }',[LABEL('l',EACH(CONTINUE(I('l')),CALL))],[LABEL('l',EACH(CONTINUE(I('l'))))],1,0),
  # `switch`, `try`, `with`, jumps
@@ -581,7 +589,7 @@ STATEMENTS=[
  ('try { f(); } catch (e) { 1; }',[TRY(B(CALL),I('e'),ES(L(1)))],[TRY(B(CALL),I('e'))],1,0),
  ('try { f(); } finally { 1; }',[FINALLY(B(CALL),ES(L(1)))],[FINALLY(B(CALL))],1,0),
  ('try {} finally { f(); }',[FINALLY(B(),CALL)],[B(CALL)],1,0),
- ('with (a) { 1; } in a script',[N('WithStatement',object=a,body=B(ES(L(1))))],[N('WithStatement',object=a,body=B())],1,0,'script'),
+ ('with (a) { 1; } in a script',[N('WithStatement',object=a,body=B(ES(L(1))))],[N('WithStatement',object=a,body=EMPTY)],1,0,'script'),
  ('throw a; f(); { f(); }',[THROW(a),CALL,B(CALL)],[THROW(a)],1,0),
  ('throw a; let x = f();',[THROW(a),x_is(call(f))],None,0,0),
  ('debugger; 1;',[DEBUGGER,ES(L(1))],[DEBUGGER],1,0),
@@ -694,8 +702,8 @@ def rows():
     yield "and an import without names is none of it: import { a } from 'm'; import 'm';", [
         ('call imports:', prog(again), 'passes 1 scopes 1\n%s\n' % text(prog(again[:1]))),
         ('call safest:', prog(again), 'passes 1 scopes 1\n%s\n' % text(prog(again[:1])))]
-    loop = lambda *body: N('WhileStatement', test=a, body=B(*body))
-    yield 'the scopes are those of what is left: let x; { ; } () => { x; }; and, with while (a) { ; } as well', [
+    loop = lambda *body: N('WhileStatement', test=a, body=B(*body, CALL))
+    yield 'the scopes are those of what is left: let x; { ; } () => { x; }; and, with while (a) { ; f(); } as well', [
         ('call dce:', prog([LET_X, B(EMPTY), ES(ARROW(ES(x)))]), 'passes 2 scopes 1\n%s\n' % text(prog([]))),
         ('call dce:', prog([LET_X, loop(EMPTY), B(EMPTY), ES(ARROW(ES(x)))]), 'passes 2 scopes 2\n%s\n' % text(prog([loop()])))]
 

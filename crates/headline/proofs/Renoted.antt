@@ -47,13 +47,14 @@ use Rattle.steps.specs.Allowed.EmptyBlock.{holds_nothing, EmptyBlock, empty_bloc
 use Rattle.steps.specs.Allowed.Unreached.{is_behind_jump, Unreached, never_runs}
 use Rattle.steps.specs.Allowed.RepeatedImport.{asks_for, is_asked_before, import_of, RepeatedImport, repeated_import_leaves}
 use Rattle.steps.specs.Allowed.IdleTry.{IdleTry}
+use Rattle.steps.specs.Allowed.IdleBody.{has_body, stands_as_body, IdleBody, idle_body_empties}
 use Rattle.steps.specs.Allowed.IdleStatement.{does_nothing, IdleStatement, idle_leaves}
 use Rattle.steps.specs.Allowed.UnrunValue.{passes, is_unrun, is_value_of, is_value, a_zero, UnrunValue, value_never_given}
 use Rattle.steps.specs.Allowed.Untaken.{truth_given, untaken_where, is_known, leads_to_untaken, begins_untaken, runs_inside, is_untaken, Untaken, never_taken}
 use Rattle.steps.proofs.Owed.Changing.{cuts_bare}
 use Rattle.steps.proofs.Owed.ExposedBare.{bare_inside, bare_below, bare_exposed}
 use Rattle.steps.proofs.Owed.Focus.{follows_there}
-use Rattle.headline.specs.Clean.{IsDead, an_empty_statement, an_empty_block, a_silent_statement, an_unused_function, an_unused_declarator, an_unused_import, a_known_conditional, a_known_side, an_unused_operation, an_unused_list, an_indirect_choice, a_one_sided_choice, idle_parts, two_sides, an_unused_object, a_known_operation, a_known_if, a_dead_if, an_unreached_statement, an_untaken_statement, an_unrun_value, an_idle_statement, a_repeated_import, an_idle_try, CleanBut}
+use Rattle.headline.specs.Clean.{IsDead, an_empty_statement, an_empty_block, a_silent_statement, an_unused_function, an_unused_declarator, an_unused_import, a_known_conditional, a_known_side, an_unused_operation, an_unused_list, an_indirect_choice, a_one_sided_choice, idle_parts, two_sides, an_unused_object, a_known_operation, a_known_if, a_dead_if, an_unreached_statement, an_untaken_statement, an_unrun_value, an_idle_statement, a_repeated_import, an_idle_try, an_idle_body, CleanBut}
 use Rattle.headline.proofs.RenotedUnused.{stands_as, needed_as, child_as, list_as}
 use Rattle.headline.proofs.RenotedChoice.{counts_as, follows_as}
 use Rattle.headline.proofs.RenotedParts.{side_as, sequence_as}
@@ -202,6 +203,7 @@ record Twin (t : Forest) (a : Around) (k : Kind) (n : Note) (b : Forest) : Type 
   unrun : (q : Bool) → is_unrun q around ≡ is_unrun q a
   value_of : (j : Kind) → is_value_of j around ≡ is_value_of j a
   value : is_value around ≡ is_value a
+  bodied : (begun : Bool) → stands_as_body begun around ≡ stands_as_body begun a
   ends : is_end around ≡ is_end a
   further : is_further around ≡ is_further a
   untaken_there : untaken_where around ≡ untaken_where a
@@ -228,6 +230,7 @@ twin (first rest) k n b (node l m c r) e = record {
   unrun = λ q. refl;
   value_of = λ j. no_value_first j _ _;
   value = refl;
+  bodied = λ begun. refl;
   ends = refl;
   further = refl;
   untaken_there = refl;
@@ -255,6 +258,7 @@ twin (behind j i d a) k n b (node l m c r) e =
       unrun = o.unrun;
       value_of = λ v. value_behind v j m c o.around ∙ ap (λ b. if b then is_value_of v (behind j m c (first nothing)) else false) o.ends ∙ same_behind_value v j m i c d a;
       value = o.value;
+      bodied = o.bodied;
       ends = refl;
       further = refl;
       untaken_there = where_behind j m c o.around ∙ ap (λ b. if b then Some true else None) o.further ∙ sym (where_behind j i d a);
@@ -282,6 +286,7 @@ twin (behind_none a) k n b (absent r) e =
       unrun = o.unrun;
       value_of = λ v. no_value_behind_none v o.around a;
       value = o.value;
+      bodied = o.bodied;
       ends = refl;
       further = refl;
       untaken_there = refl;
@@ -312,6 +317,7 @@ twin (under j i a rest) k n b (node l m c r) e =
       unrun = λ q. ap (λ f. is_unrun f o.around) (ap (λ b. q && passes j || b) (begins_as j o.around a o.leads)) ∙ o.unrun (q && passes j || begins_untaken j a);
       value_of = λ v. no_value_under v j m i o.around a _ _;
       value = ap₂ (λ b c. b || c) (o.value_of j) o.value;
+      bodied = λ begun. o.bodied (has_body j);
       ends = refl;
       further = refl;
       untaken_there = refl;
@@ -684,6 +690,14 @@ module _ (unused imports : Bool) (t u : Forest) (e : bare t ≡ bare u) (clean :
       let same = unseen declares_none declares_bare (forest_of now) (forest_of x) (ap (λ b. node x.kind nowhere b nothing) o.same) in
       clean.nothing_is_dead o.around (Some now) o.is (an_idle_statement o.around now (idle_leaves (item_as a o item) (unseen (does_nothing x.kind) (idle_bare x.kind) o.below x.below o.same ∙ idle) (same ∙ none)))
 
+  no_body : (a : Around) (x y : Tree) → u ≡ plug a (Some x) → IdleBody a x y → ⊥
+  no_body a _ _ is (idle_body_empties x m body idle none) =
+      let o = other_place a x.kind x.note x.below is in
+      let now : Tree = record { kind = x.kind; note = o.note; below = o.below } in
+      let same = unseen declares_none declares_bare (forest_of now) (forest_of x) (ap (λ b. node x.kind nowhere b nothing) o.same) in
+      let held = ap₂ (λ b c. b || c) (unseen (holds_nothing x.kind) (holds_bare x.kind) o.below x.below o.same) (unseen (does_nothing x.kind) (idle_bare x.kind) o.below x.below o.same) in
+      clean.nothing_is_dead o.around (Some now) o.is (an_idle_body o.around now _ (idle_body_empties now m (o.bodied false ∙ body) (held ∙ idle) (same ∙ none)))
+
   no_repeated : (a : Around) (x : Tree) → u ≡ plug a (Some x) → RepeatedImport a x → ⊥
   no_repeated a _ is (repeated_import_leaves source n m item asked) =
       let o = other_place a (import_of source n m).kind n (import_of source n m).below is in
@@ -716,6 +730,7 @@ module _ (unused imports : Bool) (t u : Forest) (e : bare t ≡ bare u) (clean :
   none_dead a x is (an_untaken_statement b y untaken) = no_untaken b y is untaken
   none_dead a x is (an_idle_statement b y idle) = no_idle b y is idle
   none_dead a x is (an_idle_try b y z idle) = no_idle_try b y z is idle
+  none_dead a x is (an_idle_body b y z idle) = no_body b y z is idle
   none_dead a x is (an_unrun_value b y z value) = no_value b y z is value
   none_dead a x is (a_repeated_import b y repeated) = no_repeated b y is repeated
 

@@ -26,7 +26,8 @@ use Rattle.steps.proofs.KeepForm.Asked.{is_of_catch, no_name_here, no_catch_belo
 use Rattle.steps.proofs.KeepForm.ShedNames.{none_declared}
 use Rattle.steps.specs.Allowed.Branches.{declares_none}
 use Rattle.steps.specs.Allowed.DeadIf.{nothing_is_run}
-use Rattle.steps.specs.Allowed.Edits.{Leaves, empty_statement, empty_block, unused_function, unused_declarator, unused_declaration, unused_import, unreached, untaken, idle_statement, repeated_import, Becomes, silent_statement, known_conditional, known_side, known_if, idle_try, dead_if, unused_operation, unused_list, indirect_choice, one_sided_choice, idle_parts, two_sides, unused_object, known_operation, unrun_value, Edit, leaves, becomes, Edits, no_edit, one_edit}
+use Rattle.steps.specs.Allowed.IdleBody.{idle_body_empties}
+use Rattle.steps.specs.Allowed.Edits.{Leaves, empty_statement, empty_block, unused_function, unused_declarator, unused_declaration, unused_import, unreached, untaken, idle_statement, repeated_import, Becomes, silent_statement, known_conditional, known_side, known_if, idle_try, idle_body, dead_if, unused_operation, unused_list, indirect_choice, one_sided_choice, idle_parts, two_sides, unused_object, known_operation, unrun_value, Edit, leaves, becomes, Edits, no_edit, one_edit}
 use Rattle.steps.specs.Allowed.EmptyBlock.{empty_block_leaves}
 use Rattle.steps.specs.Allowed.EmptyStatement.{empty_statement_leaves}
 use Rattle.steps.specs.Allowed.Exposure.{Exposure, shares, exposed_inside, exposed_of, exposed_at, exposure, is_script, evaluates_somewhere, function_is_exposed}
@@ -450,6 +451,7 @@ becomes_named a x y (dead_if (nothing_is_run n m i o t k d b truth undeclared)) 
     let below = node t m d branch in
     let tested = tested_row t m d branch (expression_declares_none (node t m d nothing) ((parts_of_if a n below fits).0, tt)) undeclared in
     empty_named s o ∙ sym (none_named s (forest_of x) (nothing_declared s 0 (forest_of x) (if_stays_outside s n below) (both (declares_none below) true tested refl)))
+becomes_named a x y (idle_body (idle_body_empties _ m body idle undeclared)) fits = λ s calm. empty_named s m ∙ sym (outside s (forest_of x) calm undeclared)
 becomes_named a x y (unused_operation c) fits = part_named a x y (unused_operation_owes a x y c) fits
 becomes_named a x y (unused_list c) fits = parts_named a x y (unused_list_owes a x y c) fits
 becomes_named a x y (indirect_choice c) fits = parts_named a x y (indirect_choice_owes a x y c) fits

@@ -42,6 +42,8 @@ use Rattle.steps.specs.Allowed.EmptyBlock.{EmptyBlock}
 use Rattle.steps.specs.Allowed.IdleStatement.{IdleStatement}
 -- and a `try` around nothing that comes to its finalizer
 use Rattle.steps.specs.Allowed.IdleTry.{IdleTry}
+-- and what does nothing, as a branch or a body
+use Rattle.steps.specs.Allowed.IdleBody.{IdleBody}
 -- and a statement in its list behind what cuts off, as a jump does, or in a branch that isn't taken
 use Rattle.steps.specs.Allowed.Unreached.{Unreached}
 use Rattle.steps.specs.Allowed.Untaken.{Untaken}
@@ -116,6 +118,9 @@ pub data IsDead (unused imports : Bool) (t : Forest) : Around → Option Tree �
   -- a `try` around nothing, if its handler declares no name around it and no loop in its finalizer is reached by labels: its finalizer, or
   -- its block where it has none, does what it does
   an_idle_try : (a : Around) (x y : Tree) → IdleTry x y → IsDead unused imports t a (Some x)
+  -- a block of nothing, a loop that never turns or a `try` around nothing as a branch of an `if` or as the body of a loop or of `with`, or one
+  -- behind labels, which declares no name around it: it does nothing
+  an_idle_body : (a : Around) (x y : Tree) → IdleBody a x y → IsDead unused imports t a (Some x)
   -- an import without names in a list of statements in which something before it asks for the same module: the module is loaded before,
   -- whatever is kept, for it has no name
   a_repeated_import : (a : Around) (x : Tree) → RepeatedImport a x → IsDead unused imports t a (Some x)

@@ -15,7 +15,7 @@ use Rattle.headline.proofs.Renoted.{clean_as}
 use Rattle.rules.proofs.Told.New.{new_told_only}
 use Rattle.exported_names.proofs.New.{known, only}
 use Rattle.rules.specs.DeadCode.Quiet.{EachNode, IsQuietAt}
-use Rattle.rules.specs.DeadCode.Rules.{Facts, where_of, is_silent_statement, has_dead}
+use Rattle.rules.specs.DeadCode.Rules.{Facts, where_of, has_dead, becomes_empty}
 use Rattle.rules.proofs.DeadCode.Walked.{quiet_nodes}
 use Rattle.rules.specs.Imports.Repeated.{list_once}
 use Rattle.rules.specs.Imports.Rules.{pruned}
@@ -43,7 +43,7 @@ list_stays : (k : Kind) (dead : Bool) → not (is_row k && dead) ≡ true → k 
 list_stays k false h e = refl
 list_stays k true h e = absurd (true≢false (sym h ∙ ap (λ (j : Kind). not (is_row j && true)) e))
 
-none_empty : (silent : Bool) (y : Tree) → not silent ≡ true → (if silent then Some y else None) ≡ None
+none_empty : (goes : Bool) (y : Tree) → not goes ≡ true → (if goes then Some y else None) ≡ None
 none_empty false y h = refl
 none_empty true y h = absurd (true≢false (sym h))
 
@@ -55,8 +55,8 @@ module _ (f : Facts) (p : Place) (n : Note) (k : Kind) (inner : Forest) (h : sta
   abbrev one_goes : Bool
   one_goes = is_row k && has_dead f (where_of p) inner
 
-  abbrev is_silent : Bool
-  is_silent = is_silent_statement f (where_of p) k inner
+  abbrev is_emptied : Bool
+  is_emptied = becomes_empty f p k inner
 
   abbrev is_settled : Bool
   is_settled = decides_none p n k inner && (wastes_none p n k inner && (keeps_parts p n k inner && computes_none n k inner))
@@ -64,11 +64,11 @@ module _ (f : Facts) (p : Place) (n : Note) (k : Kind) (inner : Forest) (h : sta
   abbrev uses_all : Bool
   uses_all = uses_names f p n k inner
 
-  at_node : (not one_goes ≡ true) × (not is_silent && (uses_all && is_settled) ≡ true)
-  at_node = and_parts (not one_goes) (not is_silent && (uses_all && is_settled)) h
+  at_node : (not one_goes ≡ true) × (not is_emptied && (uses_all && is_settled) ≡ true)
+  at_node = and_parts (not one_goes) (not is_emptied && (uses_all && is_settled)) h
 
-  at_statement : (not is_silent ≡ true) × (uses_all && is_settled ≡ true)
-  at_statement = and_parts (not is_silent) (uses_all && is_settled) at_node.1
+  at_statement : (not is_emptied ≡ true) × (uses_all && is_settled ≡ true)
+  at_statement = and_parts (not is_emptied) (uses_all && is_settled) at_node.1
 
   at_import : (uses_all ≡ true) × (is_settled ≡ true)
   at_import = and_parts uses_all is_settled at_statement.1
@@ -86,7 +86,7 @@ module _ (f : Facts) (p : Place) (n : Note) (k : Kind) (inner : Forest) (h : sta
   at_values = and_parts (keeps_parts p n k inner) (computes_none n k inner) at_parts.1
 
   quiet_here : IsQuietAt f p (record { kind = k; note = n; below = inner })
-  quiet_here = record { list = list_stays k (has_dead f (where_of p) inner) at_node.0; statement = none_empty is_silent _ at_statement.0 }
+  quiet_here = record { list = list_stays k (has_dead f (where_of p) inner) at_node.0; statement = none_empty is_emptied _ at_statement.0 }
 
   used_here : IsUsedAt f p (record { kind = k; note = n; below = inner })
   used_here =

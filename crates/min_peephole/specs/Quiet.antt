@@ -9,7 +9,7 @@ use Rattle.min_context.specs.Above.{above_of}
 use Rattle.min_context.specs.Place.{Place, Spot, place_of, next_of, below, top}
 use Rattle.exported_names.specs.Answers.{bound_of}
 use Rattle.exported_names.specs.Exported.{exported_of}
-use Rattle.rules.specs.DeadCode.Rules.{Facts, where_of, is_silent_statement, has_dead}
+use Rattle.rules.specs.DeadCode.Rules.{Facts, where_of, has_dead, becomes_empty}
 use Rattle.rules.specs.Imports.Repeated.{list_once}
 use Rattle.rules.specs.Imports.Rules.{pruned}
 use Rattle.rules.specs.Expressions.Uses.{spot_of}
@@ -59,7 +59,7 @@ uses_names f p n k inner = not (is_some (pruned f (where_of p) (record { kind = 
 abbrev pub stays : Facts → Place → Note → Kind → (inner : Forest) → Bool
 stays f p n k inner =
     not (is_row k && has_dead f (where_of p) inner)
-    && (not (is_silent_statement f (where_of p) k inner) && (uses_names f p n k inner && (decides_none p n k inner && (wastes_none p n k inner && (keeps_parts p n k inner && computes_none n k inner)))))
+    && (not (becomes_empty f p k inner) && (uses_names f p n k inner && (decides_none p n k inner && (wastes_none p n k inner && (keeps_parts p n k inner && computes_none n k inner)))))
 
 -- each node of a row, by its place
 abbrev pub all_stay : Facts → Spot → Forest → Bool

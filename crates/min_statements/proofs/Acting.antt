@@ -26,7 +26,7 @@ use Rattle.min_traverse.specs.declared.slot.Outer.{Outer}
 use Rattle.min_traverse.specs.declared.slot.Outer.TheVariants as outer
 use Rattle.min_traverse.proofs.Joining.{does_some, does_none, held_moves, unchanged_moves}
 use Rattle.rules.specs.DeadCode.Knows.{Knows}
-use Rattle.rules.specs.DeadCode.Rules.{Facts, Where, where_of, trimmed, is_silent_statement, emptied}
+use Rattle.rules.specs.DeadCode.Rules.{Facts, Where, where_of, trimmed, becomes_empty, emptied}
 use Rattle.rules.specs.Expressions.Jumps.{emptied_behind}
 use Rattle.rules.proofs.DeadCode.Keeping.{keeps}
 use Rattle.rules.proofs.DeadCode.Emptying.{statement_empties_there}
@@ -37,8 +37,8 @@ use Rattle.js_syntax.specs.Class.{root}
 use Rattle.rules.proofs.Told.Edited.{joined_only, calls_of, edits_names, edits_told_only}
 use Rattle.rules.proofs.Told.Nested.{edits_nest}
 use Rattle.rules.proofs.Export.Edited.{listed_stay}
-use Rattle.min_statements.specs.Own.{AnyEdit, ExportedOnly, Own, IsToldOnly, Found}
-use Rattle.min_statements.proofs.Calls.{is_no_name, silent_is_no_name, evals_kept, CallsStay, none_dropped}
+use Rattle.min_statements.specs.Own.{AnyEdit, ExportedOnly, Own, IsToldOnly}
+use Rattle.min_statements.proofs.Calls.{is_no_name, emptied_is_no_name, evals_kept, CallsStay, none_dropped}
 use Rattle.steps.specs.Allowed.Uses.{use_at, stands_bare}
 use Rattle.rules.specs.DeadCode.Before as in_row
 use Rattle.min_statements.specs.Shed.{shed, inert_shed, list_shed}
@@ -83,12 +83,12 @@ empty_edited c d x y tree drops =
     let e : Edited c x z true d = edited x z refl l (λ r. Prim.omega arith) (Prim.omega arith) in
     subst (λ q. Edited c x q true d) (sym tree) e
 
-empty_does : (names : Names) (c d : Seen) (x y : Tree) → is_silent_statement (facts_of names c) (where_of c.place) x.kind x.below ≡ true → y ≡ record { kind = empty_statement; note = unmarked x.note; below = nothing } → Edited c x y true d → Does (empty names) c x true d y
-empty_does names c d x y silent tree e =
+empty_does : (names : Names) (c d : Seen) (x y : Tree) → becomes_empty (facts_of names c) c.place x.kind x.below ≡ true → y ≡ record { kind = empty_statement; note = unmarked x.note; below = nothing } → Edited c x y true d → Does (empty names) c x true d y
+empty_does names c d x y goes tree e =
     let z : Tree = record { kind = empty_statement; note = unmarked x.note; below = nothing } in
-    does_some (empty names) c x y (some_left z silent ∙ ap Some (sym tree)) e
+    does_some (empty names) c x y (some_left z goes ∙ ap Some (sym tree)) e
 
-empty_does_none : (names : Names) (c : Seen) (x : Tree) → is_silent_statement (facts_of names c) (where_of c.place) x.kind x.below ≡ false → Does (empty names) c x false c x
+empty_does_none : (names : Names) (c : Seen) (x : Tree) → becomes_empty (facts_of names c) c.place x.kind x.below ≡ false → Does (empty names) c x false c x
 empty_does_none names c x e = does_none (empty names) c x (none_left (record { kind = empty_statement; note = unmarked x.note; below = nothing }) e)
 
 -- the same, of what code asks and answers
@@ -123,13 +123,11 @@ pub new_empty : (z : Tree) (n : Note) (s : Span) (items : List (Option Tree)) �
 new_empty z n s items new span none =
     new ∙ ap {A = Span} {B = Tree} (λ q. record { kind = empty_statement; note = record { span = q; id = None }; below = row items }) span ∙ ap {A = List (Option Tree)} {B = Tree} (λ l. record { kind = empty_statement; note = unmarked n; below = row l }) none
 
-pub empties : (names : Names) (c d : Seen) (x y : Tree) (f : Facts) (w : Where) → w ≡ where_of c.place → f ≡ facts_of names c → true ≡ is_silent_statement f w x.kind x.below → y ≡ record { kind = empty_statement; note = unmarked x.note; below = nothing } → Edited c x y true d → Does (empty names) c x true d y
-empties names c d x y f w at facts silent put e =
-    empty_does names c d x y (asked_so (λ g v t. is_silent_statement g v x.kind t) f (facts_of names c) w (where_of c.place) x.below x.below true silent facts at refl) put e
+pub empties : (names : Names) (c d : Seen) (x y : Tree) → true ≡ becomes_empty (facts_of names c) c.place x.kind x.below → y ≡ record { kind = empty_statement; note = unmarked x.note; below = nothing } → Edited c x y true d → Does (empty names) c x true d y
+empties names c d x y goes put e = empty_does names c d x y (sym goes) put e
 
-pub empties_none : (names : Names) (c : Seen) (x : Tree) (f : Facts) (w : Where) → w ≡ where_of c.place → f ≡ facts_of names c → false ≡ is_silent_statement f w x.kind x.below → Does (empty names) c x false c x
-empties_none names c x f w at facts silent =
-    empty_does_none names c x (asked_so (λ g v t. is_silent_statement g v x.kind t) f (facts_of names c) w (where_of c.place) x.below x.below false silent facts at refl)
+pub empties_none : (names : Names) (c : Seen) (x : Tree) → false ≡ becomes_empty (facts_of names c) c.place x.kind x.below → Does (empty names) c x false c x
+empties_none names c x stays = empty_does_none names c x (sym stays)
 
 -- ---- what is known
 
@@ -252,28 +250,28 @@ module _ (stays : Stays AnyEdit) (names : Names) where
           stayed tree (e.none refl)
 
   pub empty_moves : {c d : Seen} {x y : Tree} {answer : Bool} → Does (empty names) c x answer d y → NodeMoves Names AnyEdit (Holds Own) names c x names d y
-  empty_moves {c = c} {d = d} {x = x} {y = y} does = go (is_silent_statement (facts_of names c) (where_of c.place) x.kind x.below) refl
+  empty_moves {c = c} {d = d} {x = x} {y = y} does = go (becomes_empty (facts_of names c) c.place x.kind x.below) refl
     where
-      go : (v : Bool) → is_silent_statement (facts_of names c) (where_of c.place) x.kind x.below ≡ v → NodeMoves Names AnyEdit (Holds Own) names c x names d y
-      go true silent =
+      go : (v : Bool) → becomes_empty (facts_of names c) c.place x.kind x.below ≡ v → NodeMoves Names AnyEdit (Holds Own) names c x names d y
+      go true goes =
           let z : Tree = record { kind = empty_statement; note = unmarked x.note; below = nothing } in
-          let is : empty names c x ≡ Some z = some_left z silent in
+          let is : empty names c x ≡ Some z = some_left z goes in
           let tree : y ≡ z = does.tree ∙ ap (or_same x) is in
           let e : Edited c x y true d = subst (λ o. Edited c x y (is_some o) d) is does.edited in
-          let found : emptied (facts_of names c) (where_of c.place) x ≡ Some y = is ∙ ap Some (sym tree) in
+          let found : emptied (facts_of names c) c.place x ≡ Some y = is ∙ ap Some (sym tree) in
           moves
-          (λ a r p h. one (statement_empties_there (facts_of names c) (has c.marked) a x y r (known names (still c) (plug a (before x r)) h) (ap (λ q. emptied (facts_of names c) (where_of q) x) p ∙ found)))
-          (emptied_sheds (facts_of names c) (where_of c.place) x y found)
-          (emptied_is_lighter (facts_of names c) (where_of c.place) x y found)
+          (λ a r p h. one (statement_empties_there (facts_of names c) (has c.marked) a x y r (known names (still c) (plug a (before x r)) h) (ap (λ q. emptied (facts_of names c) q x) p ∙ found)))
+          (emptied_sheds (facts_of names c) c.place x y found)
+          (emptied_is_lighter (facts_of names c) c.place x y found)
           (λ a r p. record {
             fewer = Prim.omega (arith, ap (λ q. evals (forest_of q)) tree);
-            old = silent_is_no_name (facts_of names c) (where_of c.place) x.kind x.below silent;
+            old = emptied_is_no_name (facts_of names c) c.place x.kind x.below goes;
             in_with = false;
             bare = subst (λ k. stands_bare (use_at (in_row.before a r)) false k y.below ≡ true) (sym (ap (λ q. q.kind) tree)) refl;
           })
           e
-      go false silent =
-          let is : empty names c x ≡ None = none_left (record { kind = empty_statement; note = unmarked x.note; below = nothing }) silent in
+      go false stays =
+          let is : empty names c x ≡ None = none_left (record { kind = empty_statement; note = unmarked x.note; below = nothing }) stays in
           let tree : y ≡ x = does.tree ∙ ap (or_same x) is in
           let e : Edited c x y false d = subst (λ o. Edited c x y (is_some o) d) is does.edited in
           stayed tree (e.none refl)

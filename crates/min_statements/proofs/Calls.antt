@@ -1,17 +1,24 @@
 -- How often direct calls of `eval` stand in a tree of which a node becomes another.
-use Rattle.std.proofs.Common.{◌≡◌, ◌∙◌, ◌≤◌, ℕ, suc, Bool, true, false, true≢false, not, ◌||◌, if◌then◌else◌, cond, is_some, Some, None, codes, refl, sym, ap, subst, arith}
+use Rattle.std.proofs.Common.{◌≡◌, ◌∙◌, ◌⊎◌, inl, inr, ◌≤◌, ℕ, suc, Bool, true, false, true≢false, not, ◌||◌, ◌&&◌, if◌then◌else◌, cond, is_some, Some, None, codes, refl, sym, ap, subst, arith}
+use Rattle.std.proofs.lemmas.Bool.{or_cases}
 use Rattle.std.specs.Prelude.{nat_lt}
 use Rattle.std.specs.Str.{bytes_eq}
 use Rattle.js_syntax.specs.declared.node_kind.NodeKind.{NodeKind as Kind}
 use Rattle.js_syntax.specs.declared.node_kind.NodeKind.TheVariants.{ExpressionStatement as expression_statement, ReferenceName as reference_name, ParenthesizedExpression as parenthesized_expression, CallExpression as call_expression}
 use Rattle.js_syntax.specs.Node.{Forest, Note, Tree, nothing, node, absent}
+use Rattle.js_syntax.proofs.Truth.{first_of_both, second_of_both}
 use Rattle.js_tree.specs.Names.{eval_name, eval_of_call}
 use Rattle.scope_counts.specs.Edits.{Around, here, behind, behind_none, under, plug}
 use Rattle.scope_laws.specs.Place as places
 use Rattle.steps.specs.Allowed.Uses.{Use, as_value, as_callee, use_below, use_there, use_at, matters, may_take_name, stands_bare}
 use Rattle.min_context.specs.Edited.{evals}
+use Rattle.min_context.specs.Place.{Place}
+use Rattle.steps.specs.Allowed.Branches.{declares_no_name}
+use Rattle.steps.specs.Allowed.IdleBody.{is_idle_statement}
+use Rattle.steps.proofs.KeepForm.Asked.{idle_kinds}
+use Rattle.steps.proofs.Owed.IdleBody.{body_kind}
 use Rattle.rules.specs.DeadCode.Before.{before}
-use Rattle.rules.specs.DeadCode.Rules.{Facts, Where, is_silent_statement}
+use Rattle.rules.specs.DeadCode.Rules.{Facts, Where, where_of, is_silent_statement, is_body, is_idle_body, becomes_empty}
 
 -- a call of it isn't a direct one of `eval`, whatever lies below: it is no name and no parentheses
 abbrev pub is_no_name : Kind → Bool
@@ -19,9 +26,19 @@ is_no_name (reference_name s) = false
 is_no_name parenthesized_expression = false
 is_no_name k = true
 
-pub silent_is_no_name : (f : Facts) (w : Where) (k : Kind) (below : Forest) → is_silent_statement f w k below ≡ true → is_no_name k ≡ true
+silent_is_no_name : (f : Facts) (w : Where) (k : Kind) (below : Forest) → is_silent_statement f w k below ≡ true → is_no_name k ≡ true
 silent_is_no_name f w expression_statement below e = refl
 silent_is_no_name f w k below e = absurd (true≢false (sym e))
+
+pub emptied_is_no_name : (f : Facts) (p : Place) (k : Kind) (below : Forest) → becomes_empty f p k below ≡ true → is_no_name k ≡ true
+emptied_is_no_name f p k below e = by (or_cases (is_silent_statement f (where_of p) k below) (is_idle_body p k below) e)
+  where
+    by : (is_silent_statement f (where_of p) k below ≡ true) ⊎ (is_idle_body p k below ≡ true) → is_no_name k ≡ true
+    by (inl silent) = silent_is_no_name f (where_of p) k below silent
+    by (inr idle) =
+        let does = is_idle_statement k below in
+        let none = declares_no_name k below in
+        idle_kinds (λ z. is_no_name z ≡ true) refl refl refl refl refl (λ label. refl) k (body_kind k below (first_of_both does none (second_of_both (is_body p) (does && none) idle)))
 
 none_named : (k : Kind) (n : Note) (below rest : Forest) → is_no_name k ≡ true → is_some (eval_name (node k n below rest)) ≡ false
 none_named (reference_name s) n below rest e = absurd (true≢false (sym e))

@@ -1,5 +1,5 @@
--- What the hook of statements does: a silent one becomes empty, or else an `if` what is known of it or loses what never runs, or else names
--- leave an import.
+-- What the hook of statements does: a silent one, or one that does nothing as a branch or a body, becomes empty, or else an `if` what is
+-- known of it or loses what never runs, or else names leave an import.
 use Rattle.std.proofs.Common.{◌≡◌, ◌∙◌, Bool, true, false, ◌||◌, Option, Some, None, is_some, if◌then◌else◌, refl, sym, ap, subst, true≢false}
 use Rattle.js_syntax.specs.Node.{Forest, Tree}
 use Rattle.scope_counts.specs.Edits.{Around}
@@ -8,7 +8,7 @@ use Rattle.min_context.specs.Seen.{Seen}
 use Rattle.min_traverse.specs.Lawful.{Rule, Stays, Does, or_same, or_else}
 use Rattle.min_traverse.specs.Moves.{Holds, IsHere, NodeMoves}
 use Rattle.rules.specs.DeadCode.Before.{before}
-use Rattle.rules.specs.DeadCode.Rules.{where_of, is_silent_statement}
+use Rattle.rules.specs.DeadCode.Rules.{where_of, becomes_empty}
 use Rattle.rules.specs.Expressions.Ifs.{if_becomes}
 use Rattle.rules.specs.Expressions.Untaken.{if_left, if_ends, at_if_end}
 use Rattle.rules.specs.Imports.Rules.{pruned}
@@ -49,9 +49,9 @@ done_asks {c = c} {d = d} {x = x} {y = y} rule does quiet =
     asked_true c.requested (sym e.asked ∙ quiet)
 
 -- no statement becomes empty then
-none_silent : (silent : Bool) (y : Tree) → false ≡ is_some (if silent then Some y else None) → silent ≡ false
-none_silent true y e = absurd (true≢false (sym e))
-none_silent false y e = refl
+none_emptied : (goes : Bool) (y : Tree) → false ≡ is_some (if goes then Some y else None) → goes ≡ false
+none_emptied true y e = absurd (true≢false (sym e))
+none_emptied false y e = refl
 
 if_calls_stay : (c : Seen) (a : Around) (x y : Tree) (r : Forest) → IsHere c a → at_if_end c x ≡ Some y → CallsStay (before a r) x y
 if_calls_stay c a x y r here found = by (if_becomes x.note x.kind x.below) refl
@@ -69,7 +69,7 @@ module _ (stays : Stays AnyEdit) (names : Names) where
 
 -- nothing becomes of it
 abbrev FoundNothing : Names → Seen → Tree → Seen → Type 0
-FoundNothing names c x d = Found (statement_changes (facts_of names c) (where_of c.place) x) names c names d
+FoundNothing names c x d = Found (statement_changes (facts_of names c) c.place x) names c names d
 
 module _ (names : Names) {d : Seen} (quiet : d.requested ≡ false) where
   pub emptied_visits : {c : Seen} {x y : Tree} → Does (empty names) c x true d y → FoundNothing names c x d
@@ -84,9 +84,9 @@ module _ (names : Names) {d : Seen} (quiet : d.requested ≡ false) where
       let w = where_of c.place in
       let folds = after_nothing (empty names) at_if_end first second in
       let found = rule_visits names quiet (prune names) (after_nothing (empty names) (prune names) first (after_nothing at_if_end (prune names) second third)) in
-      let silent = none_silent (is_silent_statement f w x.kind x.below) _ first.answers in
+      let stays = none_emptied (becomes_empty f c.place x.kind x.below) _ first.answers in
       record {
         names_same = found.names_same;
         context_same = found.context_same;
-        none = ap (λ b. b || is_some (if_ends x.note x.kind x.below) || is_some (pruned f w x)) silent ∙ ap (λ b. b || is_some (pruned f w x)) (sym folds.answers) ∙ found.none;
+        none = ap (λ b. b || is_some (if_ends x.note x.kind x.below) || is_some (pruned f w x)) stays ∙ ap (λ b. b || is_some (pruned f w x)) (sym folds.answers) ∙ found.none;
       }

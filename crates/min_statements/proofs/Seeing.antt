@@ -1,8 +1,8 @@
 -- A walk that asked for no other pass saw each node, and nothing of it goes or comes to its parts or its value.
-use Rattle.std.proofs.Common.{◌≡◌, ◌∙◌, [], ℕ, Bool, false, true, not, ◌||◌, if◌then◌else◌, Option, Some, None, is_some, refl, sym, ap, subst, true≢false}
+use Rattle.std.proofs.Common.{◌≡◌, ◌∙◌, [], ℕ, Bool, false, true, not, ◌||◌, ◌&&◌, if◌then◌else◌, Option, Some, None, is_some, refl, sym, ap, subst, true≢false}
 use Rattle.js_syntax.specs.Class.{root}
 use Rattle.js_syntax.specs.declared.node_kind.NodeKind.{NodeKind as Kind}
-use Rattle.js_syntax.specs.declared.node_kind.NodeKind.TheVariants.{ExpressionStatement as expression_statement, EmptyStatement as empty_statement, IfStatement as if_statement, TryStatement as try_statement, ImportDeclaration as import_declaration, ArrayExpression as array_expression, TemplateLiteral as template_literal, ObjectExpression as object_expression, UnaryExpression as unary_expression, BinaryExpression as binary_expression, SequenceExpression as sequence_expression, ConditionalExpression as conditional_expression, LogicalExpression as logical_expression}
+use Rattle.js_syntax.specs.declared.node_kind.NodeKind.TheVariants.{ExpressionStatement as expression_statement, EmptyStatement as empty_statement, BlockStatement as block_statement, LabeledStatement as labeled_statement, IfStatement as if_statement, TryStatement as try_statement, WhileStatement as while_statement, ForStatement as for_statement, ImportDeclaration as import_declaration, ArrayExpression as array_expression, TemplateLiteral as template_literal, ObjectExpression as object_expression, UnaryExpression as unary_expression, BinaryExpression as binary_expression, SequenceExpression as sequence_expression, ConditionalExpression as conditional_expression, LogicalExpression as logical_expression}
 use Rattle.json_shape.specs.Shape.{Fits}
 use Rattle.min_pass.specs.Pass.{unmarked}
 use Rattle.js_syntax.specs.Node.{Forest, Tree, Note, nothing, node, absent, alone, forest_of}
@@ -17,7 +17,7 @@ use Rattle.min_traverse.specs.declared.slot.Middle.{Middle}
 use Rattle.min_traverse.specs.declared.slot.Middle.TheVariants as middle
 use Rattle.min_traverse.specs.declared.slot.Inner.{Inner}
 use Rattle.min_traverse.specs.declared.slot.Inner.TheVariants as inner
-use Rattle.rules.specs.DeadCode.Rules.{Facts, Where, where_of, has_dead, is_silent_statement}
+use Rattle.rules.specs.DeadCode.Rules.{Facts, Where, where_of, has_dead, is_body, becomes_empty}
 use Rattle.rules.specs.Expressions.Jumps.{has_inert, left_if, list_reached}
 use Rattle.min_statements.specs.Acts.{has_gone, list_changes}
 use Rattle.min_statements.specs.Own.{Visited, is_written, statement_changes}
@@ -62,7 +62,7 @@ becomes p x = becomes_so (spot_of p) x.note x.kind x.below
 -- of a list of statements, of a statement and of an expression that has its own slot
 record IsAlive (f : Facts) (p : Place) (x : Tree) : Type 0 where
   list : outer_slot (above_place p) x.kind ≡ outer.Statements → list_changes f (where_of p) x.below ≡ false
-  statement : outer_slot (above_place p) x.kind ≡ outer.Statement → statement_changes f (where_of p) x ≡ false
+  statement : outer_slot (above_place p) x.kind ≡ outer.Statement → statement_changes f p x ≡ false
   expression : middle_slot (above_place p) x.kind ≡ middle.Expression → is_some (becomes p x) ≡ false
 
 abbrev Same : Names → Seen → Names → Seen → Type 0
@@ -109,7 +109,7 @@ module _ (s : Names) (k : Seen) (x : Tree) (s' : Names) (k' : Seen) where
   record Left (o : Outer) : Type 0 where
     same : Same s k s' k'
     list : o ≡ outer.Statements → list_changes (facts_of s k) (where_of k.place) x.below ≡ false
-    statement : o ≡ outer.Statement → statement_changes (facts_of s k) (where_of k.place) x ≡ false
+    statement : o ≡ outer.Statement → statement_changes (facts_of s k) k.place x ≡ false
 
   left_outer : (o : Outer) → Called Visited is_written (exit_outer o) s k x s' k' → Left o
   left_outer outer.Statements h = record { same = (sym h.names_same, sym h.context_same); list = λ e. h.none; statement = λ e. absurd Prim.cc }
@@ -155,7 +155,7 @@ at_node p x s k s' k' at v inside =
       record {
         list = λ q. subst (λ g. list_changes g (where_of p) x.below ≡ false) facts_2 (subst (λ z. list_changes (facts_of v.exits.s2 v.exits.k2) (where_of z) x.below ≡ false) place_2 (f.list q));
         statement = λ q.
-            subst (λ g. statement_changes g (where_of p) x ≡ false) facts_2 (subst (λ z. statement_changes (facts_of v.exits.s2 v.exits.k2) (where_of z) x ≡ false) place_2 (f.statement q));
+            subst (λ g. statement_changes g p x ≡ false) facts_2 (subst (λ z. statement_changes (facts_of v.exits.s2 v.exits.k2) z x ≡ false) place_2 (f.statement q));
         expression = λ q. subst (λ z. is_some (becomes z x) ≡ false) place_1 (e.expression q);
       },
       subst (λ g. EachNode (IsAlive g) (below p (above_of x.kind x.note)) x.below) facts_1 inside.each,
@@ -203,12 +203,33 @@ neither true b e = absurd (true≢false e)
 neither false b e = (refl, e)
 
 -- where none of the kinds that the hook looks at changes
-abbrev Unchanged : Facts → Where → Note → Kind → Forest → Type 0
-Unchanged f w n k b = is_always_statement k ≡ true → statement_changes f w (record { kind = k; note = n; below = b }) ≡ false
+abbrev Unchanged : Facts → Place → Note → Kind → Forest → Type 0
+Unchanged f p n k b = is_always_statement k ≡ true → statement_changes f p (record { kind = k; note = n; below = b }) ≡ false
 
-not_silent : (f : Facts) (w : Where) (n : Note) (k : Kind) (b : Forest) → Unchanged f w n k b → is_silent_statement f w k b ≡ false
-not_silent f w n expression_statement b h = let silent = is_silent_statement f w expression_statement b in (neither silent false (neither (silent || false) false (h refl)).0).0
-not_silent f w n k b h = refl
+module _ (f : Facts) (p : Place) (n : Note) where
+  -- what a statement that didn't change did neither
+  none_goes_empty : (k : Kind) (b : Forest) → statement_changes f p (record { kind = k; note = n; below = b }) ≡ false → becomes_empty f p k b ≡ false
+  none_goes_empty k b e = (neither (becomes_empty f p k b) (is_some (if_ends n k b)) (neither (becomes_empty f p k b || is_some (if_ends n k b)) (is_some (pruned f (where_of p) (record { kind = k; note = n; below = b }))) e).0).0
+
+  none_ends : (k : Kind) (b : Forest) → statement_changes f p (record { kind = k; note = n; below = b }) ≡ false → is_some (if_ends n k b) ≡ false
+  none_ends k b e = (neither (becomes_empty f p k b) (is_some (if_ends n k b)) (neither (becomes_empty f p k b || is_some (if_ends n k b)) (is_some (pruned f (where_of p) (record { kind = k; note = n; below = b }))) e).0).1
+
+  none_pruned : (k : Kind) (b : Forest) → statement_changes f p (record { kind = k; note = n; below = b }) ≡ false → is_some (pruned f (where_of p) (record { kind = k; note = n; below = b })) ≡ false
+  none_pruned k b e = (neither (becomes_empty f p k b || is_some (if_ends n k b)) (is_some (pruned f (where_of p) (record { kind = k; note = n; below = b }))) e).1
+
+-- other kinds never do nothing
+never_idle : (b : Bool) → b && false ≡ false
+never_idle true = refl
+never_idle false = refl
+
+not_emptied : (f : Facts) (p : Place) (n : Note) (k : Kind) (b : Forest) → Unchanged f p n k b → becomes_empty f p k b ≡ false
+not_emptied f p n expression_statement b h = none_goes_empty f p n expression_statement b (h refl)
+not_emptied f p n block_statement b h = none_goes_empty f p n block_statement b (h refl)
+not_emptied f p n (labeled_statement label) b h = none_goes_empty f p n (labeled_statement label) b (h refl)
+not_emptied f p n try_statement b h = none_goes_empty f p n try_statement b (h refl)
+not_emptied f p n while_statement b h = none_goes_empty f p n while_statement b (h refl)
+not_emptied f p n for_statement b h = none_goes_empty f p n for_statement b (h refl)
+not_emptied f p n k b h = never_idle (is_body p)
 
 none_is : (o : Option Tree) → is_some o ≡ false → o ≡ None
 none_is None e = refl
@@ -223,18 +244,18 @@ second_none None None e = refl
 second_none None (Some y) e = absurd (true≢false e)
 second_none (Some y) p e = absurd (true≢false e)
 
-not_known : (f : Facts) (w : Where) (n : Note) (k : Kind) (b : Forest) → Unchanged f w n k b → if_becomes n k b ≡ None
-not_known f w n if_statement b h = first_none (if_becomes n if_statement b) (if_left n if_statement b) (neither (is_some (if_ends n if_statement b)) false (h refl)).0
-not_known f w n try_statement b h = first_none (if_becomes n try_statement b) (if_left n try_statement b) (neither (is_some (if_ends n try_statement b)) false (h refl)).0
-not_known f w n k b h = refl
+not_known : (f : Facts) (p : Place) (n : Note) (k : Kind) (b : Forest) → Unchanged f p n k b → if_becomes n k b ≡ None
+not_known f p n if_statement b h = first_none (if_becomes n if_statement b) (if_left n if_statement b) (none_ends f p n if_statement b (h refl))
+not_known f p n try_statement b h = first_none (if_becomes n try_statement b) (if_left n try_statement b) (none_ends f p n try_statement b (h refl))
+not_known f p n k b h = refl
 
-not_left : (f : Facts) (w : Where) (n : Note) (k : Kind) (b : Forest) → Unchanged f w n k b → if_left n k b ≡ None
-not_left f w n if_statement b h = second_none (if_becomes n if_statement b) (if_left n if_statement b) (neither (is_some (if_ends n if_statement b)) false (h refl)).0
-not_left f w n k b h = refl
+not_left : (f : Facts) (p : Place) (n : Note) (k : Kind) (b : Forest) → Unchanged f p n k b → if_left n k b ≡ None
+not_left f p n if_statement b h = second_none (if_becomes n if_statement b) (if_left n if_statement b) (none_ends f p n if_statement b (h refl))
+not_left f p n k b h = refl
 
-none_unused : (f : Facts) (w : Where) (n : Note) (k : Kind) (b : Forest) → Unchanged f w n k b → (let x : Tree = record { kind = k; note = n; below = b } in pruned f w x ≡ None)
-none_unused f w n (import_declaration source) b h = none_is (pruned f w (record { kind = import_declaration source; note = n; below = b })) (h refl)
-none_unused f w n k b h = refl
+none_unused : (f : Facts) (p : Place) (n : Note) (k : Kind) (b : Forest) → Unchanged f p n k b → (let x : Tree = record { kind = k; note = n; below = b } in pruned f (where_of p) x ≡ None)
+none_unused f p n (import_declaration source) b h = none_is (pruned f (where_of p) (record { kind = import_declaration source; note = n; below = b })) (none_pruned f p n (import_declaration source) b (h refl))
+none_unused f p n k b h = refl
 
 -- no import leaves a list
 none_again : (f : Facts) (w : Where) (n : Note) (k : Kind) (b : Forest) → (k ≡ Kind.Statements → list_changes f w b ≡ false) → list_once n k b ≡ None
@@ -242,12 +263,12 @@ none_again f w n Kind.Statements b h = ap (λ c. once_if c n b) (neither (has_go
 none_again f w n k b h = refl
 
 used_at : (f : Facts) (p : Place) (x : Tree) → IsAlive f p x → HasSlots p x → IsUsedAt f p x
-used_at f p x h slots = (none_unused f (where_of p) x.note x.kind x.below (λ e. h.statement (slots.statement e)), none_again f (where_of p) x.note x.kind x.below (λ e. h.list (slots.list e)))
+used_at f p x h slots = (none_unused f p x.note x.kind x.below (λ e. h.statement (slots.statement e)), none_again f (where_of p) x.note x.kind x.below (λ e. h.list (slots.list e)))
 
 quiet_at : (f : Facts) (p : Place) (x : Tree) → IsAlive f p x → HasSlots p x → IsQuietAt f p x
 quiet_at f p x h slots = record {
   list = λ e. (neither (has_inert false x.below) (has_dead f (where_of p) x.below) (neither (has_gone f (where_of p) x.below) (has_repeated [] x.below) (h.list (slots.list e))).0).1;
-  statement = none_left (record { kind = empty_statement; note = unmarked x.note; below = nothing }) (not_silent f (where_of p) x.note x.kind x.below (λ e. h.statement (slots.statement e)));
+  statement = none_left (record { kind = empty_statement; note = unmarked x.note; below = nothing }) (not_emptied f p x.note x.kind x.below (λ e. h.statement (slots.statement e)));
 }
 
 -- nodes of other kinds come to nothing
@@ -348,7 +369,7 @@ none_behind f w n k b h = refl
 settled_at : (f : Facts) (p : Place) (x : Tree) → IsAlive f p x → HasSlots p x → IsSettledAt p x
 settled_at f p x h slots =
     let e = settled_kind (spot_of p) x.note x.kind x.below (λ e. h.expression (slots.expression e)) in
-    record { conditional = e.0; logical = e.1; unused = e.2; list = e.3; indirect = e.4; one_sided = e.5; sequence = e.6; two_sides = e.7; object = e.8; known = e.9; statement = not_known f (where_of p) x.note x.kind x.below (λ e. h.statement (slots.statement e)); jumps = none_behind f (where_of p) x.note x.kind x.below (λ e. h.list (slots.list e)); untaken = not_left f (where_of p) x.note x.kind x.below (λ e. h.statement (slots.statement e)) }
+    record { conditional = e.0; logical = e.1; unused = e.2; list = e.3; indirect = e.4; one_sided = e.5; sequence = e.6; two_sides = e.7; object = e.8; known = e.9; statement = not_known f p x.note x.kind x.below (λ e. h.statement (slots.statement e)); jumps = none_behind f (where_of p) x.note x.kind x.below (λ e. h.list (slots.list e)); untaken = not_left f p x.note x.kind x.below (λ e. h.statement (slots.statement e)) }
 
 -- Nothing of a program goes by what is known that a walk found as it is, and no expression of it comes to its parts or its value.
 pub none_goes : (s s' : Names) (k k' : Seen) (x y : Tree) → k.place ≡ outside → y ≡ x → Fits root (forest_of y) → Visits Visited is_written top (forest_of x) s k s' k' → IsQuiet (facts_of s' k') (forest_of y)

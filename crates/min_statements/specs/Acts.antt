@@ -31,9 +31,9 @@ drop_repeated c x = asked_once x
 abbrev pub list_changes : Facts → Where → Forest → Bool
 list_changes f w t = has_gone f w t || has_repeated [] t
 
--- a silent statement becomes empty
+-- a silent statement becomes empty, and so does one that does nothing as a branch or a body
 abbrev pub empty : Names → Seen → Tree → Option Tree
-empty names c x = emptied (facts_of names c) (where_of c.place) x
+empty names c x = emptied (facts_of names c) c.place x
 
 -- of an import, the names leave that nobody uses
 abbrev pub prune : Names → Seen → Tree → Option Tree

@@ -1,6 +1,7 @@
 -- What the walker asks of the whole program beside that the context is true, and what it leaves known.
 use Rattle.std.specs.Prelude.{◌≡◌, ℕ, Bool, true, false, ◌||◌, Some, is_some}
 use Rattle.js_syntax.specs.Node.{Forest, Tree}
+use Rattle.min_context.specs.Place.{Place}
 use Rattle.min_context.specs.Seen.{Seen}
 use Rattle.min_options.specs.declared.options.CompressOptions.{CompressOptions}
 use Rattle.min_traverse.specs.declared.slot.Hook.{Hook}
@@ -14,7 +15,7 @@ use Rattle.rules.specs.Told.Parts.{CallsToldOnly, NamesToldOnly}
 use Rattle.js_effects.specs.Silence.{is_marked}
 use Rattle.rules.specs.DeadCode.Quiet.{IsExported}
 use Rattle.rules.specs.DeadCode.Knows.{TellsBound, TellsExported}
-use Rattle.rules.specs.DeadCode.Rules.{Facts, Where, where_of, is_silent_statement}
+use Rattle.rules.specs.DeadCode.Rules.{Facts, where_of, becomes_empty}
 use Rattle.rules.specs.Expressions.Known.{at_expression_end}
 use Rattle.rules.specs.Expressions.Untaken.{if_ends}
 use Rattle.rules.specs.Imports.Rules.{pruned}
@@ -54,8 +55,8 @@ is_written hook.ExitExpression = true
 is_written h = false
 
 -- a statement becomes empty, or comes to a branch of it, or loses what goes of a branch, or names leave it
-abbrev pub statement_changes : Facts → Where → Tree → Bool
-statement_changes f w x = is_silent_statement f w x.kind x.below || is_some (if_ends x.note x.kind x.below) || is_some (pruned f w x)
+abbrev pub statement_changes : Facts → Place → Tree → Bool
+statement_changes f p x = becomes_empty f p x.kind x.below || is_some (if_ends x.note x.kind x.below) || is_some (pruned f (where_of p) x)
 
 -- nothing changed, and of what the hook looks at nothing goes or becomes another
 pub record Found (dead : Bool) (names : Names) (c : Seen) (later : Names) (d : Seen) : Type 0 where
@@ -65,6 +66,6 @@ pub record Found (dead : Bool) (names : Names) (c : Seen) (later : Names) (d : S
 
 abbrev pub Visited : Hook → Names → Seen → Tree → Names → Seen → Type 0
 Visited hook.ExitStatements names c x later d = Found (list_changes (facts_of names c) (where_of c.place) x.below) names c later d
-Visited hook.ExitStatement names c x later d = Found (statement_changes (facts_of names c) (where_of c.place) x) names c later d
+Visited hook.ExitStatement names c x later d = Found (statement_changes (facts_of names c) c.place x) names c later d
 Visited hook.ExitExpression names c x later d = Found (is_some (at_expression_end c x)) names c later d
 Visited h names c x later d = Unit {0}

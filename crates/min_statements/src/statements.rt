@@ -19,9 +19,10 @@ use scope_table::Scoping;
 use std::alloc::{AllocError, Global};
 use std::marker::Model;
 
-/// Takes dead code out of lists of statements and unused names out of imports, empties silent statements elsewhere, and lets expressions
-/// and `if`s that known tests decide come to the part that counts, alone or behind a zero, operations, arrays, objects and sequences of
-/// which nobody takes the value to what of them acts, and operations that don't act to their values.
+/// Takes dead code out of lists of statements and unused names out of imports, empties silent statements elsewhere and branches and bodies
+/// that do nothing, and lets expressions and `if`s that known tests decide come to the part that counts, alone or behind a zero,
+/// operations, arrays, objects and sequences of which nobody takes the value to what of them acts, and operations that don't act to their
+/// values.
 pub struct Statements {
     // Of each reference by its id, whether it has a symbol: this stays through a run.
     bound: Vec<bool>,

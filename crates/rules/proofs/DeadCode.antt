@@ -7,6 +7,7 @@ pub mod Unused
 pub mod Leaving
 pub mod Items
 pub mod Trimming
+pub mod Bodies
 pub mod Emptying
 pub mod Lighter
 pub mod Splitting

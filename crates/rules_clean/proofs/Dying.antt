@@ -1,6 +1,6 @@
 -- What the rules take out of a program is dead code, so that of a program without any they take out nothing.
-use Rattle.std.proofs.Common.{◌≡◌, ◌∙◌, ◌==◌, ℕ, List, length, Bool, true, false, not, ◌&&◌, ◌||◌, if◌then◌else◌, true≢false, Option, Some, None, refl, sym, ap, subst}
-use Rattle.std.proofs.lemmas.Bool.{and_parts}
+use Rattle.std.proofs.Common.{◌≡◌, ◌∙◌, ◌==◌, ◌⊎◌, inl, inr, ℕ, List, length, Bool, true, false, not, ◌&&◌, ◌||◌, if◌then◌else◌, true≢false, Option, Some, None, refl, sym, ap, subst}
+use Rattle.std.proofs.lemmas.Bool.{and_parts, or_cases}
 use Rattle.js_syntax.specs.declared.node_kind.NodeKind.{NodeKind as Kind}
 use Rattle.js_syntax.specs.declared.node_kind.NodeKind.TheVariants.{EmptyStatement as empty_statement, BlockStatement as block_statement, LabeledStatement as labeled_statement, ExpressionStatement as expression_statement, Function as function, VariableDeclaration as variable_declaration, VariableDeclarator as variable_declarator, Declarators as declarators, BindingName as binding_name, Statements as statements}
 use Rattle.js_syntax.specs.declared.kind.FunctionKind.TheVariants as function_kind
@@ -24,13 +24,14 @@ use Rattle.steps.specs.Allowed.SilentStatement.{a_statement}
 use Rattle.steps.specs.Allowed.UnusedFunction.{a_function, UnusedFunction, unused_function_leaves}
 use Rattle.steps.specs.Allowed.UnusedDeclarator.{a_declarator}
 use Rattle.steps.specs.Marked.Flags.{scope_has, is_sloppy_block}
-use Rattle.headline.specs.Clean.{CleanBut, IsDead, an_empty_statement, an_empty_block, a_silent_statement, an_unused_function, an_unused_declarator}
+use Rattle.headline.specs.Clean.{CleanBut, IsDead, an_empty_statement, an_empty_block, a_silent_statement, an_idle_body, an_unused_function, an_unused_declarator}
 use Rattle.js_syntax.proofs.Truth.{not_true}
-use Rattle.rules.specs.DeadCode.Rules.{Facts, Where, has_with, where_of, scope_of, is_unlisted, is_global, function_is_unused, variable_is_unused, is_silent_statement, one_goes, item_has_dead, has_dead}
+use Rattle.rules.specs.DeadCode.Rules.{Facts, Where, has_with, where_of, scope_of, is_unlisted, is_global, function_is_unused, variable_is_unused, is_silent_statement, one_goes, item_has_dead, has_dead, is_idle_body, becomes_empty}
 use Rattle.rules.specs.DeadCode.Knows.{Knows}
 use Rattle.rules.specs.DeadCode.Quiet.{IsQuiet}
 use Rattle.rules.proofs.DeadCode.Keeping.{Known}
 use Rattle.rules.proofs.DeadCode.LaidOut.{is_laid_at, laid_here}
+use Rattle.rules.proofs.DeadCode.Bodies.{idle_empties}
 use Rattle.rules.proofs.DeadCode.Places.{to, plugged, join, plug_join, is_row, asked_to, with_is}
 use Rattle.rules.proofs.DeadCode.Leaving.{Quiet, statement_silent, function_unused, declarator_unused}
 use Rattle.rules.proofs.DeadCode.Items.{IsItems, items_where, item_there, knows_there, known_laid, item_scope, declaration, in_declaration, declarator_plugged, declarator_there, declarator_with, declarator_declares}
@@ -88,6 +89,13 @@ module _ (f : Facts) where
       (not_true (may_have_effects f.bound (has_with (place_at a).ancestors) (alone k l inner)) e))))
   silent_dead a expression_statement n below rest h laid e = wrong laid
   silent_dead a k n below rest h laid e = wrong e
+
+  emptied_dead : (a : counts.Around) (x : Tree) (rest : Forest) → Known f (plug a (node x.kind x.note x.below rest)) → is_laid_at x.kind x.below ≡ true → becomes_empty f (place_at a) x.kind x.below ≡ true → HasDead f (plug a (node x.kind x.note x.below rest))
+  emptied_dead a x rest h laid e = by (or_cases (is_silent_statement f (where_of (place_at a)) x.kind x.below) (is_idle_body (place_at a) x.kind x.below) e)
+    where
+      by : (is_silent_statement f (where_of (place_at a)) x.kind x.below ≡ true) ⊎ (is_idle_body (place_at a) x.kind x.below ≡ true) → HasDead f (plug a (node x.kind x.note x.below rest))
+      by (inl silent) = silent_dead a x.kind x.note x.below rest h laid silent
+      by (inr idle) = dead_there f a (Some x) rest (an_idle_body (to a (first rest)) x _ (idle_empties a x x.note rest idle))
 
   module _ (p : Place) where
     block_dead : (a : counts.Around) (x : Tree) (rest : Forest) → IsItems p a → holds_nothing x.kind x.below ≡ true → HasDead f (plug a (node x.kind x.note x.below rest))
@@ -162,7 +170,7 @@ rules_rest f marked t h clean = record {
       let u = node x.kind x.note x.below rest in
       let laid = laid_here x.kind x.note x.below rest (known_laid f a u (known is)) in
       ap (λ b. if b then Some (record { kind = empty_statement; note = without_mark x.note; below = nothing }) else None)
-      (not_so (is_silent_statement f (where_of (place_at a)) x.kind x.below) (λ e. clean_has_none f t clean (subst (λ v. HasDead f v) (sym is) (silent_dead f a x.kind x.note x.below rest (known is) laid e))));
+      (not_so (becomes_empty f (place_at a) x.kind x.below) (λ e. clean_has_none f t clean (subst (λ v. HasDead f v) (sym is) (emptied_dead f a x rest (known is) laid e))));
 }
   where
     known : {u : Forest} → t ≡ u → Known f u

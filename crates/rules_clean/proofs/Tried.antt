@@ -48,7 +48,7 @@ function_parts = ((a_binding_name, (a, tt), refl, tt, refl, tt), ((refl, tt), ((
 fits : (source : SourceType) → Fits root (over (Kind.Program source) (listed Kind.Statements (function_a [] [] ∷ [])))
 fits source = ((a_program, (source, tt), refl, tt, refl, ((refl, (inr (refl, (a_function_declaration, (false, tt), refl, tt, refl, function_parts)), tt)), tt)), tt)
 
-still : {f : Facts} {p : Place} {x : Tree} → has_dead f (where_of p) x.below ≡ false → emptied f (where_of p) x ≡ None → IsQuietAt f p x
+still : {f : Facts} {p : Place} {x : Tree} → has_dead f (where_of p) x.below ≡ false → emptied f p x ≡ None → IsQuietAt f p x
 still stays statement = record { list = λ is. stays; statement = statement }
 
 settles : {p : Place} {x : Tree} → conditional_becomes (spot_of p) x.kind x.below ≡ None → logical_becomes (spot_of p) x.kind x.below ≡ None → unused_becomes (spot_of p) x.kind x.below ≡ None

@@ -68,6 +68,8 @@ pub mod UnrunRuns
 pub mod UnrunValue
 pub mod TryRuns
 pub mod IdleTry
+pub mod BodyPlace
+pub mod IdleBody
 pub mod LeftRuns
 pub mod SilentAnywhere
 pub mod UnusedPlace

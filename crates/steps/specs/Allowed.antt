@@ -33,6 +33,7 @@ pub mod Untaken
 pub mod IdleStatement
 pub mod UnrunValue
 pub mod IdleTry
+pub mod IdleBody
 pub mod Edits
 pub mod Arranged
 pub mod Rows

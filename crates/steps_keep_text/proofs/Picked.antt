@@ -1,7 +1,7 @@
 -- What comes of an array, an object literal, a sequence, a choice, an operation on two sides or one of known value counts no more.
-use Rattle.std.proofs.Common.{◌≡◌, ◌≤◌, ◌+◌, ℕ, pos, [], arith, refl}
+use Rattle.std.proofs.Common.{◌≡◌, ◌≤◌, ◌+◌, ℕ, pos, [], true, arith, refl}
 use Rattle.js_syntax.specs.declared.node_kind.NodeKind.{NodeKind as Kind}
-use Rattle.js_syntax.specs.declared.node_kind.NodeKind.TheVariants.{EmptyStatement as empty_statement, ExpressionStatement as expression_statement, IfStatement as if_statement, ArrayExpression as array_expression, Elements as elements, ObjectExpression as object_expression, Properties as properties, BinaryExpression as binary_expression, SequenceExpression as sequence_expression, TemplateLiteral as template_literal, Expressions as expressions, ConditionalExpression as conditional_expression, LogicalExpression as logical_expression, UnaryExpression as unary_expression, Literal as literal}
+use Rattle.js_syntax.specs.declared.node_kind.NodeKind.TheVariants.{EmptyStatement as empty_statement, ExpressionStatement as expression_statement, ArrayExpression as array_expression, Elements as elements, ObjectExpression as object_expression, Properties as properties, BinaryExpression as binary_expression, SequenceExpression as sequence_expression, TemplateLiteral as template_literal, Expressions as expressions, ConditionalExpression as conditional_expression, LogicalExpression as logical_expression, UnaryExpression as unary_expression, Literal as literal}
 use Rattle.js_syntax.specs.declared.operator.BinaryOperator.{BinaryOperator}
 use Rattle.js_syntax.specs.declared.operator.UnaryOperator.{UnaryOperator}
 use Rattle.js_syntax.specs.declared.operator.UnaryOperator.TheVariants.{UnaryNegation}
@@ -10,6 +10,7 @@ use Rattle.js_syntax.specs.declared.value.LiteralValue.{LiteralValue}
 use Rattle.js_syntax.specs.declared.value.LiteralValue.TheVariants as value
 use Rattle.js_syntax.specs.Node.{Forest, total}
 use Rattle.json_kept.proofs.Depths.{total_joined}
+use Rattle.steps.specs.KeepForm.Part.{may_be_idle}
 use Rattle.steps.proofs.Owed.KnownSizes.{IsSmall}
 use Rattle.js_tree.specs.Count.{one_each}
 use Rattle.steps.proofs.Marked.Picked.{SomeOf, none, stays, leaves, opens, absent_leaves, absent_stays, Picks, one_part, several, part_behind_zero, last_behind_zero, two_parts, after_test, known, signed, zeroed, one_substitution, substitutions, in_turn, with_less_text, Emptied, this_one, a_later_one}
@@ -17,7 +18,7 @@ use Rattle.steps.proofs.Marked.Picked.{SomeOf, none, stays, leaves, opens, absen
 -- counts by which what edits build counts no more than what it is built of
 pub record IsSparing (counts : Kind → ℕ) : Type 0 where
   pub empty : counts empty_statement ≤ counts expression_statement
-  pub empty_if : counts empty_statement ≤ counts if_statement
+  pub empty_idle : (k : Kind) → may_be_idle k ≡ true → counts empty_statement ≤ counts k
   pub of_array : counts sequence_expression ≤ counts array_expression
   pub of_elements : counts expressions ≤ counts elements
   pub of_template : counts sequence_expression ≤ counts template_literal
@@ -38,7 +39,7 @@ pub record IsSparing (counts : Kind → ℕ) : Type 0 where
 pub uncounted : (counts : Kind → ℕ) → counts empty_statement ≡ 0 → counts sequence_expression ≡ 0 → counts expressions ≡ 0 → ((w : LiteralValue) → IsSmall w → counts (literal w) ≡ 0) → ((o : LogicalOperator) → counts (logical_expression o) ≡ 0) → counts (unary_expression UnaryNegation) ≡ 0 → IsSparing counts
 uncounted counts empty sequence list small logical minus = record {
   empty = Prim.omega (arith, empty);
-  empty_if = Prim.omega (arith, empty);
+  empty_idle = λ k idle. Prim.omega (arith, empty);
   of_array = Prim.omega (arith, sequence);
   of_elements = Prim.omega (arith, list);
   of_template = Prim.omega (arith, sequence);

@@ -1,12 +1,14 @@
 -- What edits leave of a tree is no larger, by any count of its nodes, and no deeper.
 use Rattle.std.proofs.Common.{◌≡◌, ◌≤◌, ◌+◌, ℕ, suc, Bool, true, false, refl, sym, true≢false, arith}
 use Rattle.js_syntax.specs.declared.node_kind.NodeKind.{NodeKind as Kind}
-use Rattle.js_syntax.specs.declared.node_kind.NodeKind.TheVariants.{Class as class}
+use Rattle.js_syntax.specs.declared.node_kind.NodeKind.TheVariants.{EmptyStatement as empty_statement, Class as class}
 use Rattle.js_syntax.specs.Node.{Forest, Note, nothing, node, absent, joined, bare, total}
 use Rattle.js_tree.specs.Count.{one_each, node_count, lower, levels_at, levels}
 use Rattle.json_kept.proofs.Depths.{total_joined}
 use Rattle.scope_laws.specs.Lists.{is_list}
 use Rattle.scope_laws.proofs.Notes.{total_bare, unseen}
+use Rattle.steps.specs.KeepForm.Part.{may_be_idle}
+use Rattle.steps.proofs.KeepForm.Asked.{idle_kinds}
 use Rattle.steps.proofs.Marked.Cuts as cuts
 use Rattle.steps.proofs.Marked.Cuts.{Cuts}
 use Rattle.steps_keep_text.proofs.Along.{IsShed}
@@ -18,7 +20,7 @@ module _ (counts : Kind → ℕ) (spares : IsSparing counts) where
   cut_lighter : (listed : Bool) (t u : Forest) → Cuts listed t u → total counts u ≤ total counts t
   cut_lighter listed t u (cuts.leaves k n below rest plain) = Prim.omega arith
   cut_lighter listed t u (cuts.empties l n m below rest) = Prim.omega (arith, spares.empty)
-  cut_lighter listed t u (cuts.empties_if l n m below rest) = Prim.omega (arith, spares.empty_if)
+  cut_lighter listed t u (cuts.empties_idle l k n m below rest idle) = Prim.omega (arith, spares.empty_idle k idle)
   cut_lighter listed t u (cuts.parts i k l n m b v w rest gives unasked) = Prim.omega (arith, total_joined counts v (node l m b w))
   cut_lighter listed t u (cuts.rebuilds i k l n m a b rest made) = Prim.omega (arith, picked_counts counts spares made.picks)
   cut_lighter listed t u (cuts.inside l k n below now rest called c) = Prim.omega (arith, cut_lighter (is_list k) below now c)
@@ -49,10 +51,14 @@ part_levels more at nothing l m b w = Prim.omega arith
 part_levels more at (absent v) l m b w = part_levels more (suc at) v l m b w
 part_levels more at (node k n below v) l m b w = Prim.omega (arith, part_levels more (suc at) v l m b w)
 
+-- a statement that may do nothing is a node, as an empty one is
+one_idle : (k : Kind) → may_be_idle k ≡ true → one_each empty_statement ≤ one_each k
+one_idle k idle = idle_kinds (λ z. one_each empty_statement ≤ one_each z) (Prim.omega arith) (Prim.omega arith) (Prim.omega arith) (Prim.omega arith) (Prim.omega arith) (λ label. Prim.omega arith) k idle
+
 cut_levels : (more : ℕ → ℕ) (at : ℕ) (listed : Bool) (t u : Forest) → Cuts listed t u → (listed ≡ true → IsLevel more) → levels_at more at u ≤ levels_at more at t
 cut_levels more at listed t u (cuts.leaves k n below rest plain) level = Prim.omega (arith, moved more (level refl) at (suc at) rest)
 cut_levels more at listed t u (cuts.empties l n m below rest) level = Prim.omega arith
-cut_levels more at listed t u (cuts.empties_if l n m below rest) level = Prim.omega arith
+cut_levels more at listed t u (cuts.empties_idle l k n m below rest idle) level = Prim.omega (arith, one_idle k idle)
 cut_levels more at listed t u (cuts.parts i k l n m b v w rest gives unasked) level = Prim.omega (arith, part_levels (lower k) 0 v l m b w)
 cut_levels more at listed t u (cuts.rebuilds i k l n m a b rest made) level = Prim.omega (arith, made.no_deeper)
 cut_levels more at listed t u (cuts.inside l k n below now rest called c) level = Prim.omega (arith, cut_levels (lower k) 0 (is_list k) below now c (list_level k))
@@ -70,7 +76,7 @@ levels_shed = record { renoted = unseen levels (bare_levels (λ at. 0) 0); cut =
 pub nodes_shed : IsShed node_count
 nodes_shed = counts_shed one_each (record {
   empty = Prim.omega arith;
-  empty_if = Prim.omega arith;
+  empty_idle = one_idle;
   of_array = Prim.omega arith;
   of_elements = Prim.omega arith;
   of_template = Prim.omega arith;

@@ -45,11 +45,14 @@ use Rattle.steps.specs.Allowed.Untaken.{never_taken}
 use Rattle.steps.specs.Allowed.RepeatedImport.{repeated_import_leaves}
 use Rattle.steps.specs.Allowed.IdleStatement.{idle_leaves}
 use Rattle.steps.specs.Allowed.IdleTry.{finalizer_is_run, finalizer_is_run_alone, block_is_run}
+use Rattle.steps.specs.Allowed.IdleBody.{is_idle_statement, idle_body_empties}
 use Rattle.steps.specs.Allowed.UnrunValue.{is_value_of, is_value, value_never_given}
 use Rattle.steps.specs.Allowed.Uses.{Use}
 use Rattle.steps.proofs.Owed.IdleStatement.{idle_runs}
+use Rattle.steps.proofs.KeepForm.Asked.{idle_kinds}
+use Rattle.steps.proofs.Owed.IdleBody.{body_kind}
 use Rattle.headline.specs.Headline.{ImportsAreUsed}
-use Rattle.headline.specs.Clean.{IsDead, an_empty_statement, an_empty_block, a_silent_statement, an_unused_function, an_unused_declarator, an_unused_import, a_known_conditional, a_known_side, an_unused_operation, an_unused_list, an_indirect_choice, a_one_sided_choice, idle_parts, two_sides, an_unused_object, a_known_operation, a_known_if, a_dead_if, an_unreached_statement, an_untaken_statement, an_unrun_value, an_idle_statement, a_repeated_import, an_idle_try, Clean}
+use Rattle.headline.specs.Clean.{IsDead, an_empty_statement, an_empty_block, a_silent_statement, an_unused_function, an_unused_declarator, an_unused_import, a_known_conditional, a_known_side, an_unused_operation, an_unused_list, an_indirect_choice, a_one_sided_choice, idle_parts, two_sides, an_unused_object, a_known_operation, a_known_if, a_dead_if, an_unreached_statement, an_untaken_statement, an_unrun_value, an_idle_statement, a_repeated_import, an_idle_try, an_idle_body, Clean}
 use Rattle.min_peephole.specs.Quiet.{is_quiet}
 use Rattle.min_peephole.proofs.Quieted.{quiet_clean}
 use Rattle.test_headline.specs.Rows as row
@@ -193,6 +196,12 @@ label_is_dead c = c.nothing_is_dead (before []) _ refl (an_idle_statement (befor
 -- try {} finally { a(); }
 pub try_is_dead : Clean row.runs_finalizer → ⊥
 try_is_dead c = c.nothing_is_dead (before []) _ refl (an_idle_try (before []) _ _ (finalizer_is_run nowhere nowhere nowhere _ _ refl refl))
+
+-- while (a) {}
+pub body_is_dead : Clean row.turns_around_block → ⊥
+body_is_dead c =
+    let place = in_list (under Kind.WhileStatement nowhere (past (reads a) (first nothing)) nothing) in
+    c.nothing_is_dead place _ refl (an_idle_body place _ _ (idle_body_empties _ nowhere refl refl refl))
 
 -- if (null) var a = b(); use(a);
 pub value_is_dead : Clean row.gives_call → ⊥
@@ -700,6 +709,9 @@ block_suspect Kind.BlockStatement below h = refl
 block_suspect (Kind.LabeledStatement l) below h = refl
 block_suspect k below h = absurd Prim.cc
 
+body_suspect : (k : Kind) (below : Forest) → is_idle_statement k below ≡ true → is_suspect k ≡ true
+body_suspect k below idle = idle_kinds (λ z. is_suspect z ≡ true) refl refl refl refl refl (λ label. refl) k (body_kind k below idle)
+
 import_suspect : (k : Kind) → binds_import k ≡ true → is_suspect k ≡ true
 import_suspect (Kind.ImportSpecifier name) h = refl
 import_suspect Kind.ImportDefaultSpecifier h = refl
@@ -736,6 +748,7 @@ dead_suspect t a x is (an_unrun_value b y _ (value_never_given n _ given unrun d
 dead_suspect t a x is (an_idle_try b y z (finalizer_is_run n i j c d idle loops)) = ap has_suspect is ∙ suspect_there b _ refl
 dead_suspect t a x is (an_idle_try b y z (finalizer_is_run_alone n i h j k c d e idle none loops)) = ap has_suspect is ∙ suspect_there b _ refl
 dead_suspect t a x is (an_idle_try b y z (block_is_run n i h k c d idle none)) = ap has_suspect is ∙ suspect_there b _ refl
+dead_suspect t a x is (an_idle_body b _ _ (idle_body_empties y m body idle none)) = ap has_suspect is ∙ suspect_there b y (body_suspect y.kind y.below idle)
 dead_suspect t a x is (an_idle_statement b y (idle_leaves item idle none)) = ap has_suspect is ∙ suspect_there b y (runs_suspect y.kind (idle_runs y.kind y.below idle))
 dead_suspect t a x is (a_repeated_import b _ (repeated_import_leaves source n m item asked)) = ap has_suspect is ∙ suspect_there b _ refl
 

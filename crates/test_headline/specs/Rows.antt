@@ -238,6 +238,10 @@ leaves_label = form.a_module (labeled (form.block (breaks_label ∷ form.does ca
 abbrev pub runs_finalizer : Forest
 runs_finalizer = form.a_module (finally_alone (form.does call_of_a ∷ []) ∷ [])
 
+-- while (a) {}
+abbrev pub turns_around_block : Forest
+turns_around_block = form.a_module (while_ (form.reads form.a) (form.block []) ∷ [])
+
 -- l: while (null) a();
 abbrev pub never_turns : Forest
 never_turns = form.a_module (labeled (while_ null (form.does call_of_a)) ∷ [])

@@ -67,8 +67,8 @@ pub fn what_others_may_use_stays()
 /// 1;`, what stands right in `null && a();`, what of `!(a() === 1);`, of `[a(), 1];` and of `({ a: a() });` is no call, the `1` of `use((1,
 /// a));` and of `(1, o.g)();`, the comparison of `a() === b();`, the negation of `use(!0);`, the `if` of `if (1) a(); else b();` and of `if
 /// (null) a();`, the call of `throw 1; a();`, that of `b` in `if (null) { var a = 1; b(); } use(a);` and in `if (a && null) { b(); }`, `l:
-/// { {} }`, `l: while (null) a();`, the call of `if (null) var a = b(); use(a);`, `l: { break l; a(); }`, or the `try` of `try {} finally {
-/// a(); }`.
+/// { {} }`, `l: while (null) a();`, the call of `if (null) var a = b(); use(a);`, `l: { break l; a(); }`, the `try` of `try {} finally {
+/// a(); }`, or the block of `while (a) {}`.
 pub fn dead_code_goes()
     ensures number { Headline row.dead row.dead → ⊥ }
     ensures conditional { Headline row.takes_branch row.takes_branch → ⊥ }
@@ -93,6 +93,7 @@ pub fn dead_code_goes()
     ensures unrun { Headline row.gives_call row.gives_call → ⊥ }
     ensures left_at_once { Headline row.leaves_label row.leaves_label → ⊥ }
     ensures finalizer { Headline row.runs_finalizer row.runs_finalizer → ⊥ }
+    ensures body { Headline row.turns_around_block row.turns_around_block → ⊥ }
 {}
 
 /// `1;` is dead code, and so are `{ ; }`'s empty statement, a function that nothing calls, one of two declarators, a name of an import that
@@ -107,7 +108,8 @@ pub fn dead_code_goes()
 /// one of a branch that isn't taken and has to stay for the name that it declares: `if (null) { var a = 1; b(); } use(a);`, or for its
 /// test: `if (a && null) { b(); }`, a block of nothing, or what labels one: `l: { {} }`, a loop that never turns: `l: while (null) a();`, a
 /// value that is never given: `if (null) var a = b(); use(a);`, an import without names behind one of its module: `import a from 'm';
-/// import 'm';`, what a jump to its label leaves at once: `l: { break l; a(); }`, and a `try` around nothing: `try {} finally { a(); }`.
+/// import 'm';`, what a jump to its label leaves at once: `l: { break l; a(); }`, a `try` around nothing: `try {} finally { a(); }`, and a
+/// block of nothing that is a body: `while (a) {}`.
 pub fn dead_code_is_told()
     ensures number { Clean (a_module (does one ∷ [])) → ⊥ }
     ensures empty { Clean (a_module (block (empty ∷ []) ∷ [])) → ⊥ }
@@ -138,6 +140,7 @@ pub fn dead_code_is_told()
     ensures repeated { Clean row.imports_again → ⊥ }
     ensures left_at_once { Clean row.leaves_label → ⊥ }
     ensures finalizer { Clean row.runs_finalizer → ⊥ }
+    ensures body { Clean row.turns_around_block → ⊥ }
 {}
 
 /// A call is none, nor a function that is exported, a variable beside a direct call of `eval`, a function of a script, a

@@ -24,6 +24,7 @@ use Rattle.scope_counts.specs.Edits.{here, behind, behind_none, under, plug}
 use Rattle.scope_counts.specs.Scopes.{unmarked}
 use Rattle.steps.proofs.Naming.Sites.{binding_second}
 use Rattle.steps.specs.Allowed.EmptyBlock.{holds_nothing, EmptyBlock, empty_block_leaves}
+use Rattle.steps.specs.Allowed.IdleBody.{IdleBody}
 use Rattle.steps.specs.Allowed.Exposure.{Exposure, exposure, is_script, shares, function_is_exposed, evaluates_somewhere, IsOwnFunction, IsOwnDeclarator}
 use Rattle.steps.specs.Allowed.Places.{a_node, asked_at, IsItem, IsDeclarator, At}
 use Rattle.steps.specs.Allowed.Free.{Free, FreeDeclarator}
@@ -33,11 +34,12 @@ use Rattle.steps.specs.Allowed.UnusedDeclarator.{a_declarator, SilentDeclarator}
 use Rattle.steps.proofs.Owed.Places.{place_of, rest_of}
 use Rattle.steps.specs.Marked.Flags.{Stand, scope_has, is_sloppy_block, stand_inside, first_mark, stands_of, stand_at, stand}
 use Rattle.steps.proofs.Marked.Telling.{stand_exposed}
-use Rattle.js_syntax.proofs.Truth.{neither, first_of_neither, second_of_neither}
-use Rattle.rules.specs.DeadCode.Rules.{Facts, Where, has_with, where_of, scope_of, is_unlisted, is_global, variable_is_unused, is_quiet, one_goes, item_has_dead}
+use Rattle.js_syntax.proofs.Truth.{neither, first_of_neither, second_of_neither, first_of_either, second_of_either}
+use Rattle.rules.specs.DeadCode.Rules.{Facts, Where, has_with, where_of, scope_of, is_unlisted, is_global, variable_is_unused, is_quiet, is_silent_statement, one_goes, item_has_dead, is_idle_body}
 use Rattle.rules.specs.DeadCode.Knows.{Knows}
 use Rattle.rules.proofs.DeadCode.Keeping.{Known}
 use Rattle.rules.proofs.DeadCode.LaidOut.{has_list, is_laid, fits_laid, laid_here}
+use Rattle.rules.proofs.DeadCode.Bodies.{idle_told}
 use Rattle.rules.proofs.DeadCode.Places.{to, plugged, join, plug_join, asked_row, asked_to, is_row, with_is}
 use Rattle.rules.proofs.DeadCode.Numbers.{Same, whole_stand, stand_to, stand_along}
 use Rattle.rules.proofs.DeadCode.Silent.{of_left, of_right}
@@ -140,6 +142,10 @@ module _ (f : Facts) where
 
   -- ---- statements
 
+  some_empty : (b : Bool) (e : Tree) → b ≡ true → (if b then Some e else None) ≡ None → ⊥
+  some_empty true e h q = none_is_some (sym q)
+  some_empty false e h q = true≢false (sym h)
+
   silent_alive : (a : counts.Around) (rest : Forest) (n : Note) (below : Forest)
       → let b = to a (first rest) in
       Good f (places.plug b (a_node expression_statement n below)) → At b (a_node expression_statement n below) (SilentStatement (places.plug b (a_node expression_statement n below)) below) → ⊥
@@ -155,11 +161,17 @@ module _ (f : Facts) where
       let idle = idle_row f t g.knows in_with cs 0 next below (of_right (references_among (sites_of t)) own (sites cs 0 next below) (of_left (references_among (sites_of t)) (own ++ sites cs 0 next below) [] place.references)) place.holds_there in
       let with_there : in_with ≡ has_with (place_at a).ancestors = ap (λ (w : Asked). w.in_with) (asked_to (asked_of_program true) a (first rest)) ∙ with_is a in
       let quiet = (good_row a y rest g).quiet.statements_stay a y rest refl in
-      some_silent (may_have_effects f.bound (has_with (place_at a).ancestors) below) (record { kind = empty_statement; note = without_mark n; below = nothing }) (subst (λ v. may_have_effects f.bound v below ≡ false) with_there idle) quiet
-    where
-      some_silent : (b : Bool) (e : Tree) → b ≡ false → (if not b then Some e else None) ≡ None → ⊥
-      some_silent true e h q = true≢false h
-      some_silent false e h q = none_is_some (sym q)
+      some_empty (not (may_have_effects f.bound (has_with (place_at a).ancestors) below) || is_idle_body (place_at a) expression_statement below) (record { kind = empty_statement; note = without_mark n; below = nothing })
+      (first_of_either (not (may_have_effects f.bound (has_with (place_at a).ancestors) below)) (is_idle_body (place_at a) expression_statement below) (ap not (subst (λ v. may_have_effects f.bound v below ≡ false) with_there idle)))
+      quiet
+
+  -- one that does nothing, as a branch or a body
+  body_alive : (a : counts.Around) (rest : Forest) (x y : Tree) → Good f (places.plug (to a (first rest)) (Some x)) → IdleBody (to a (first rest)) x y → ⊥
+  body_alive a rest x y g idle =
+      let quiet = (good_row a x rest g).quiet.statements_stay a x rest refl in
+      let silent = is_silent_statement f (where_of (place_at a)) x.kind x.below in
+      some_empty (silent || is_idle_body (place_at a) x.kind x.below) (record { kind = empty_statement; note = without_mark x.note; below = nothing })
+      (second_of_either silent (is_idle_body (place_at a) x.kind x.below) (idle_told a x y rest idle)) quiet
 
   -- ---- declarators
 
@@ -339,6 +351,10 @@ module _ (f : Facts) (t : Forest) (knows : Knows f unmarked t) (exactly : Exactl
       let y = a_node expression_statement n below in
       subst (λ c. Good f (places.plug c y) → At c y (SilentStatement (places.plug c y) below) → ⊥) (whole_place b) (silent_alive f (place_of b) (rest_of b) n below) (good_there y is)
       (subst (λ v. At b y (SilentStatement v below)) is silent)
+
+  pub no_idle_body : (x y : Tree) → t ≡ places.plug b (Some x) → IdleBody b x y → ⊥
+  no_idle_body x y is idle =
+      subst (λ c. Good f (places.plug c (Some x)) → IdleBody c x y → ⊥) (whole_place b) (body_alive f (place_of b) (rest_of b) x y) (good_there (Some x) is) idle
 
   pub no_unused_function : (pure : Bool) (n m : Note) (x : List ℕ) (rest : Forest) → t ≡ places.plug b (a_function pure n m x rest) → f.keeps_unused ≡ false → IsItem b → IsOwnFunction b (a_function pure n m x rest) → At b (a_function pure n m x rest) (Free t variable.Let x) → ⊥
   no_unused_function pure n m x rest is unkept item own free =

@@ -1,6 +1,6 @@
 -- What is left is lighter where anything goes, and the same where nothing does.
-use Rattle.std.proofs.Common.{◌≡◌, ◌∙◌, ◌≤◌, ◌+◌, ℕ, Bool, true, false, not, ◌||◌, if◌then◌else◌, cond, Some, true≢false, refl, sym, ap, ap₂, subst, arith}
-use Rattle.std.proofs.lemmas.Bool.{and_parts}
+use Rattle.std.proofs.Common.{◌≡◌, ◌∙◌, ◌⊎◌, inl, inr, ◌≤◌, ◌+◌, ℕ, Bool, true, false, not, ◌&&◌, ◌||◌, if◌then◌else◌, cond, Some, true≢false, refl, sym, ap, ap₂, subst, arith}
+use Rattle.std.proofs.lemmas.Bool.{and_parts, or_cases}
 use Rattle.js_syntax.specs.declared.node_kind.NodeKind.{NodeKind as Kind}
 use Rattle.js_syntax.specs.declared.node_kind.NodeKind.TheVariants.{EmptyStatement as empty_statement, BlockStatement as block_statement, LabeledStatement as labeled_statement, ExpressionStatement as expression_statement, Function as function, VariableDeclaration as variable_declaration, VariableDeclarator as variable_declarator, Declarators as declarators, BindingName as binding_name}
 use Rattle.js_syntax.specs.declared.kind.FunctionKind.TheVariants as function_kind
@@ -8,8 +8,12 @@ use Rattle.js_syntax.specs.declared.kind.VariableKind.{VariableKind}
 use Rattle.js_syntax.specs.Facts as facts
 use Rattle.js_syntax.specs.Node.{Forest, Tree, Note, nothing, node, absent, forest_of, total}
 use Rattle.scope_counts.specs.Counts.{Weight, tally, by_id, ids}
-use Rattle.js_syntax.proofs.Truth.{first_of_neither, second_of_neither, neither}
-use Rattle.rules.specs.DeadCode.Rules.{Facts, Where, declarator_goes, one_goes, one_stays, declarators_left, declaration_goes, is_silent_statement, item_goes, declaration_left, item_left, trimmed, declaration_has_dead, item_has_dead, has_dead, emptied}
+use Rattle.js_syntax.proofs.Truth.{first_of_both, second_of_both, first_of_neither, second_of_neither, neither}
+use Rattle.min_context.specs.Place.{Place}
+use Rattle.steps.specs.Allowed.Branches.{declares_no_name}
+use Rattle.steps.specs.Allowed.IdleBody.{is_idle_statement}
+use Rattle.steps.proofs.Owed.IdleBody.{body_kind, idle_weighs}
+use Rattle.rules.specs.DeadCode.Rules.{Facts, Where, declarator_goes, one_goes, one_stays, declarators_left, declaration_goes, is_silent_statement, item_goes, declaration_left, item_left, trimmed, declaration_has_dead, item_has_dead, has_dead, where_of, is_body, is_idle_body, emptied}
 use Rattle.rules.proofs.DeadCode.Emptying.{empties}
 
 wrong : {P : Type 0} → false ≡ true → P
@@ -189,17 +193,25 @@ module _ (f : Facts) (w : Where) where
   pub trimmed_sheds : (row : Forest) (r : ℕ) → ids r (trimmed f w row) ≤ ids r row
   trimmed_sheds row r = trimmed_fewer (by_id r) row
 
-  -- ---- a statement
+-- ---- a statement
 
-  silent_weighs : (k : Kind) (below : Forest) → is_silent_statement f w k below ≡ true → 2 ≤ facts.weight k
+module _ (f : Facts) (p : Place) where
+  silent_weighs : (k : Kind) (below : Forest) → is_silent_statement f (where_of p) k below ≡ true → 2 ≤ facts.weight k
   silent_weighs expression_statement below e = Prim.omega arith
   silent_weighs k below e = wrong e
 
-  pub emptied_is_lighter : (x y : Tree) → emptied f w x ≡ Some y → total facts.weight (forest_of y) + 1 ≤ total facts.weight (forest_of x)
+  empty_weighs : (k : Kind) (below : Forest) → (is_silent_statement f (where_of p) k below ≡ true) ⊎ (is_idle_body p k below ≡ true) → 2 ≤ facts.weight k
+  empty_weighs k below (inl silent) = silent_weighs k below silent
+  empty_weighs k below (inr idle) =
+      let idles = is_idle_statement k below in
+      let none = declares_no_name k below in
+      idle_weighs k (body_kind k below (first_of_both idles none (second_of_both (is_body p) (idles && none) idle)))
+
+  pub emptied_is_lighter : (x y : Tree) → emptied f p x ≡ Some y → total facts.weight (forest_of y) + 1 ≤ total facts.weight (forest_of x)
   emptied_is_lighter x y e =
-      let o = empties f w x y e in
-      let weighs : 2 ≤ facts.weight x.kind = silent_weighs x.kind x.below o.silent in
+      let o = empties f p x y e in
+      let weighs : 2 ≤ facts.weight x.kind = empty_weighs x.kind x.below (or_cases (is_silent_statement f (where_of p) x.kind x.below) (is_idle_body p x.kind x.below) o.goes) in
       subst (λ (t : Tree). total facts.weight (forest_of t) + 1 ≤ total facts.weight (forest_of x)) o.tree (Prim.omega (arith, weighs))
 
-  pub emptied_sheds : (x y : Tree) → emptied f w x ≡ Some y → (r : ℕ) → ids r (forest_of y) ≤ ids r (forest_of x)
-  emptied_sheds x y e r = subst (λ (t : Tree). ids r (forest_of t) ≤ ids r (forest_of x)) (empties f w x y e).tree (Prim.omega arith)
+  pub emptied_sheds : (x y : Tree) → emptied f p x ≡ Some y → (r : ℕ) → ids r (forest_of y) ≤ ids r (forest_of x)
+  emptied_sheds x y e r = subst (λ (t : Tree). ids r (forest_of t) ≤ ids r (forest_of x)) (empties f p x y e).tree (Prim.omega arith)

@@ -15,6 +15,7 @@ use Rattle.scope_rules.specs.Site.{BindingSite, opens_one, scope_count, bindings
 use Rattle.scope_laws.specs.Exact.{Among}
 use Rattle.scope_laws.specs.Place.{Around, first, behind, behind_none, under, plug}
 use Rattle.steps.specs.Naming.Standing.{exported_declarations}
+use Rattle.steps.proofs.KeepForm.Asked.{idle_kinds}
 use Rattle.steps.proofs.Fit.Enclosing.{fits_enclosed}
 use Rattle.steps.specs.KeepForm.Part.{is_asked_for}
 use Rattle.steps.proofs.Fit.Modules.{fits_program}
@@ -35,7 +36,8 @@ use Rattle.steps.specs.Allowed.IdleStatement.{idle_leaves}
 use Rattle.steps.specs.Allowed.RepeatedImport.{import_of, repeated_import_leaves}
 use Rattle.steps.specs.Allowed.UnrunValue.{value_never_given}
 use Rattle.steps.specs.Allowed.DeadIf.{DeadIf, nothing_is_run}
-use Rattle.steps.specs.Allowed.Edits.{Leaves, empty_statement, empty_block, unused_function, unused_declarator, unused_declaration, unused_import, unreached, untaken, idle_statement, repeated_import, Becomes, silent_statement, known_conditional, known_side, known_if, dead_if, unused_operation, unused_list, indirect_choice, one_sided_choice, idle_parts, two_sides, unused_object, known_operation, unrun_value, idle_try, Edit, leaves, becomes, TreeEdits, no_tree_edit, one_tree_edit}
+use Rattle.steps.specs.Allowed.IdleBody.{idle_body_empties}
+use Rattle.steps.specs.Allowed.Edits.{Leaves, empty_statement, empty_block, unused_function, unused_declarator, unused_declaration, unused_import, unreached, untaken, idle_statement, repeated_import, Becomes, silent_statement, known_conditional, known_side, known_if, dead_if, unused_operation, unused_list, indirect_choice, one_sided_choice, idle_parts, two_sides, unused_object, known_operation, unrun_value, idle_try, idle_body, Edit, leaves, becomes, TreeEdits, no_tree_edit, one_tree_edit}
 use Rattle.steps.specs.Owed.Kept.{is_program}
 use Rattle.steps.specs.Owed.Owed.{ByPart, ByParts}
 use Rattle.steps.specs.Owed.Part.{DeclaresNothing}
@@ -50,6 +52,7 @@ use Rattle.steps.proofs.Owed.KnownConditional.{known_conditional_owes}
 use Rattle.steps.proofs.Owed.KnownSide.{known_side_owes}
 use Rattle.steps.proofs.Owed.KnownIf.{tested_row, known_if_owes}
 use Rattle.steps.proofs.Owed.IdleTry.{idle_try_owes}
+use Rattle.steps.proofs.Owed.IdleBody.{body_kind}
 use Rattle.steps.proofs.Owed.UnusedOperation.{unused_operation_owes}
 use Rattle.steps.proofs.Owed.UnusedList.{unused_list_owes}
 use Rattle.steps.proofs.Owed.IndirectChoice.{indirect_choice_owes}
@@ -201,6 +204,11 @@ module _ (e : BindingSite) (top : e.layer.scope ≡ 0) where
       subst ExportedBy (made_plug a y)
       (settled a x (Some y) Anything fits (λ rest. refl) (λ f. absurd (true≢false f)) (anywhere (Some x) false (λ at. outermost) 0 0 a)
       (λ w c next some any. undeclared_stays e top x (Some y) (dead_declares_nothing a x y (nothing_is_run n m i o tested k d b truth none) fits) c next some) h)
+  changed a x y (idle_body (idle_body_empties _ m body idle none)) fits h =
+      subst ExportedBy (made_plug a y)
+      (settled a x (Some y) Anything fits (λ rest. idle_kinds (λ z. is_program (node z x.note x.below rest) ≡ false) refl refl refl refl refl (λ label. refl) x.kind (body_kind x.kind x.below idle)) (λ f. absurd (true≢false f))
+      (anywhere (Some x) false (λ at. outermost) 0 0 a)
+      (λ w c next some any. undeclared_stays e top x (Some y) (declares_nothing (forest_of x) none (enclosed_alone_there a x.kind x.note x.below (fits_enclosed (plug a (Some x)) fits))) c next some) h)
   changed a x y (unused_operation c) fits h = part_settled a x y (unused_operation_owes a x y c) fits h
   changed a x y (unused_list c) fits h = parts_settled a x y (unused_list_owes a x y c) fits h
   changed a x y (indirect_choice c) fits h = parts_settled a x y (indirect_choice_owes a x y c) fits h

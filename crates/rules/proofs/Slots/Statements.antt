@@ -1,15 +1,15 @@
--- In a tree that fits the table of node types each list of statements, each statement of an expression, each `if`, each `try` and each import
--- has its own slot.
+-- In a tree that fits the table of node types each list of statements, each statement of an expression, each `if`, `try`, `while` and `for`,
+-- each block, each labeled statement and each import has its own slot.
 use Rattle.std.proofs.Common.{◌≡◌, ◌∙◌, inl, inr, ℕ, ◌==◌, List, [], ◌∷◌, Bool, true, false, not, ◌&&◌, ◌||◌, if◌then◌else◌, Some, refl, sym, ap, true≢false}
-use Rattle.js_syntax.specs.Class.{Class, root, a_prologue, module_item, statement, expression, private_key, method_value, binding_value, target_value}
+use Rattle.js_syntax.specs.Class.{Class, root, a_prologue, module_item, statement, block, expression, private_key, method_value, binding_value, target_value}
 use Rattle.js_syntax.specs.declared.node_kind.NodeKind.{NodeKind as Kind}
-use Rattle.js_syntax.specs.declared.node_kind.NodeKind.TheVariants.{Statements as statements, ExpressionStatement as expression_statement, IfStatement as if_statement, TryStatement as try_statement, ImportDeclaration as import_declaration}
+use Rattle.js_syntax.specs.declared.node_kind.NodeKind.TheVariants.{Statements as statements, ExpressionStatement as expression_statement, BlockStatement as block_statement, LabeledStatement as labeled_statement, IfStatement as if_statement, TryStatement as try_statement, WhileStatement as while_statement, ForStatement as for_statement, ImportDeclaration as import_declaration}
 use Rattle.js_syntax.specs.declared.node_type.NodeType.TheVariants as type
 use Rattle.js_syntax.specs.declared.value.Key.{Key}
 use Rattle.js_syntax.specs.declared.value.Key.TheVariants.{Name as key_name, Below as key_below}
 use Rattle.js_syntax.specs.Field.{Keys, class_key, property_key}
 use Rattle.js_syntax.specs.Node.{Forest}
-use Rattle.js_syntax.specs.Table.{Row, an_expression_statement, an_if_statement, a_try_statement, an_import_declaration, a_method_definition, a_property_definition, a_property, a_method_property, a_binding_property, a_target_property, fields_of, type_of, stands}
+use Rattle.js_syntax.specs.Table.{Row, an_expression_statement, a_block_statement, a_labeled_statement, an_if_statement, a_try_statement, a_while_statement, a_for_statement, an_import_declaration, a_method_definition, a_property_definition, a_property, a_method_property, a_binding_property, a_target_property, fields_of, type_of, stands}
 use Rattle.json_shape.specs.Shape.{Values, kind_in, IsChosen, first_of, Place as Planned, one, maybe_one, beyond, key_node, key_apart, list, list_with_holes, body, item_or_hole, item_of_body, key_place, places, Plan, IsOf, IsAt, Fits}
 use Rattle.json_shape.proofs.Choice.{is_list_kind}
 use Rattle.min_context.specs.Above.{parent_of}
@@ -27,8 +27,12 @@ use Rattle.rules.proofs.Slots.Missed.{none_missed, plain_row, places_seen, fits_
 abbrev pub is_watched : Kind → Bool
 is_watched statements = true
 is_watched expression_statement = true
+is_watched block_statement = true
+is_watched (labeled_statement label) = true
 is_watched if_statement = true
 is_watched try_statement = true
+is_watched while_statement = true
+is_watched for_statement = true
 is_watched (import_declaration source) = true
 is_watched k = false
 
@@ -50,15 +54,23 @@ statement_slot false false e = absurd (true≢false e)
 
 pub slot_of_statement : (a : Ancestor) (k : Kind) → is_always_statement k ≡ true → is_missed a ≡ false → outer_slot a k ≡ outer.Statement
 slot_of_statement a expression_statement is e = statement_slot (is_key_place a) (is_statement_place a) e
+slot_of_statement a block_statement is e = statement_slot (is_key_place a) (is_statement_place a) e
+slot_of_statement a (labeled_statement label) is e = statement_slot (is_key_place a) (is_statement_place a) e
 slot_of_statement a if_statement is e = statement_slot (is_key_place a) (is_statement_place a) e
 slot_of_statement a try_statement is e = statement_slot (is_key_place a) (is_statement_place a) e
+slot_of_statement a while_statement is e = statement_slot (is_key_place a) (is_statement_place a) e
+slot_of_statement a for_statement is e = statement_slot (is_key_place a) (is_statement_place a) e
 slot_of_statement a (import_declaration source) is e = statement_slot (is_key_place a) (is_statement_place a) e
 slot_of_statement a k is e = absurd (true≢false (sym is))
 
 pub watched : (k : Kind) → is_always_statement k ≡ true → is_watched k ≡ true
 watched expression_statement is = refl
+watched block_statement is = refl
+watched (labeled_statement label) is = refl
 watched if_statement is = refl
 watched try_statement is = refl
+watched while_statement is = refl
+watched for_statement is = refl
 watched (import_declaration source) is = refl
 watched k is = absurd (true≢false (sym is))
 
@@ -71,6 +83,7 @@ told_same p at previous = refl
 abbrev may_be_statement : Class → Bool
 may_be_statement module_item = true
 may_be_statement statement = true
+may_be_statement block = true
 may_be_statement c = false
 
 abbrev may_hold : Planned → Bool
@@ -90,6 +103,17 @@ may_class module_item e = refl
 may_class statement e = refl
 may_class c e = absurd Prim.cc
 
+may_class_block : (c : Class) → stands c type.BlockStatement ≡ Some a_block_statement → may_be_statement c ≡ true
+may_class_block module_item e = refl
+may_class_block statement e = refl
+may_class_block block e = refl
+may_class_block c e = absurd Prim.cc
+
+may_class_labeled : (c : Class) → stands c type.LabeledStatement ≡ Some a_labeled_statement → may_be_statement c ≡ true
+may_class_labeled module_item e = refl
+may_class_labeled statement e = refl
+may_class_labeled c e = absurd Prim.cc
+
 may_class_if : (c : Class) → stands c type.IfStatement ≡ Some an_if_statement → may_be_statement c ≡ true
 may_class_if module_item e = refl
 may_class_if statement e = refl
@@ -100,14 +124,28 @@ may_class_try module_item e = refl
 may_class_try statement e = refl
 may_class_try c e = absurd Prim.cc
 
+may_class_while : (c : Class) → stands c type.WhileStatement ≡ Some a_while_statement → may_be_statement c ≡ true
+may_class_while module_item e = refl
+may_class_while statement e = refl
+may_class_while c e = absurd Prim.cc
+
+may_class_for : (c : Class) → stands c type.ForStatement ≡ Some a_for_statement → may_be_statement c ≡ true
+may_class_for module_item e = refl
+may_class_for statement e = refl
+may_class_for c e = absurd Prim.cc
+
 may_class_import : (c : Class) → stands c type.ImportDeclaration ≡ Some an_import_declaration → may_be_statement c ≡ true
 may_class_import module_item e = refl
 may_class_import c e = absurd Prim.cc
 
 may_row : (c : Class) (r : Row) (vs : Values (fields_of r)) → stands c (type_of r) ≡ Some (first_of r) → is_watched (kind_in r vs) ≡ true → may_be_statement c ≡ true
 may_row c an_expression_statement vs e h = may_class c e
+may_row c a_block_statement vs e h = may_class_block c e
+may_row c a_labeled_statement vs e h = may_class_labeled c e
 may_row c an_if_statement vs e h = may_class_if c e
 may_row c a_try_statement vs e h = may_class_try c e
+may_row c a_while_statement vs e h = may_class_while c e
+may_row c a_for_statement vs e h = may_class_for c e
 may_row c an_import_declaration vs e h = may_class_import c e
 may_row c r vs e h = absurd (true≢false (sym h))
 

@@ -23,7 +23,8 @@ use Rattle.rules.specs.DeadCode.Quiet.{ToldOnly}
 use Rattle.rules.specs.Told.Places.{EachPlace}
 use Rattle.rules.specs.Told.Parts.{FlagsTellOnly, TellsCallsOnly, TellsNamesOnly, CallsToldOnly, NamesToldOnly}
 use Rattle.rules.proofs.Told.Standing.{strict_code, is_block, shares_code, exposed_in_scope, inside_reads, scope_evaluates, scope_strict, scope_sloppy, scope_names, scope_variables, scope_outside, variables_within}
-use Rattle.rules.proofs.Told.Trims.{Alike, Trims, leaves, empties, empties_if, parts, rebuilds, inside, behind, behind_none, fewer, trims}
+use Rattle.steps.proofs.KeepForm.Asked.{idle_kinds}
+use Rattle.rules.proofs.Told.Trims.{Alike, Trims, leaves, empties, empties_idle, parts, rebuilds, inside, behind, behind_none, fewer, trims}
 use Rattle.rules.proofs.Told.Walking.{trimmed_stays}
 
 -- ---- the parts, and both
@@ -159,7 +160,7 @@ record SameRoot (all : Bool) (t u : Forest) : Type 0 where
 root_stays : (all listed : Bool) (t u : Forest) → Trims all listed t u → listed ≡ false → is_program t ≡ true → SameRoot all t u
 root_stays all listed t u (leaves k n below rest) l e = never (sym l)
 root_stays all listed t u (empties r n m below rest) l e = never e
-root_stays all listed t u (empties_if r n m below rest) l e = never e
+root_stays all listed t u (empties_idle r k n m below rest idle) l e = never (idle_kinds (λ z. false ≡ is_program (node z n below rest)) refl refl refl refl refl (λ label. refl) k idle ∙ e)
 root_stays all listed t u (parts r k x i j b v w rest gives) l e = never (sym (no_program k i (joined v (node x j b w)) rest gives) ∙ e)
 root_stays all listed t u (rebuilds r k x n m a b rest made unasked) l e = never (sym (part_no_program k n a rest unasked) ∙ e)
 root_stays all listed t u (inside r (kind.Program source) n below now rest a h) l e = record { script = refl; mark = refl; calls = a.calls }

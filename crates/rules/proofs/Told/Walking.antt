@@ -10,7 +10,7 @@ use Rattle.scope_counts.proofs.Rebuilding.{operation_is_plain}
 use Rattle.steps.specs.Marked.Flags.{is_within}
 use Rattle.rules.specs.Told.Places.{EachPlace}
 use Rattle.rules.proofs.Told.Standing.{list_outside, plain_outside}
-use Rattle.rules.proofs.Told.Trims.{Alike, alike_itself, Trims, leaves, empties, empties_if, parts, rebuilds, inside, behind, behind_none}
+use Rattle.rules.proofs.Told.Trims.{Alike, alike_itself, Trims, leaves, empties, empties_idle, parts, rebuilds, inside, behind, behind_none}
 
 -- `Follows q p` says what is around a place now, q, of what was around it, p. Where a node stands another may stand that makes no scope,
 -- and around an operation is what is around its parts.
@@ -96,7 +96,7 @@ module _ {S : Type 0} (all : Bool) (around : S → Kind → Note → Forest → 
   pub trimmed_stays : (listed : Bool) (t u : Forest) → Trims all listed t u → (qs ps : ℕ → S) (i j : ℕ) → Covers listed qs ps → (listed ≡ false → i ≡ j) → EachPlace around P ps j t → EachPlace around P qs i u
   trimmed_stays listed t u (leaves k n below rest) qs ps i j c f h = row_stays true rest qs ps i (suc j) c (λ l. absurd (true≢false l)) h.2
   trimmed_stays listed t u (empties r n m below rest) qs ps i j c f h = (keeps (qs i) (ps j) kind.EmptyStatement m nothing nothing (alike_itself all kind.EmptyStatement nothing) (c i j f) (anew (ps j) kind.ExpressionStatement kind.EmptyStatement n m below nothing refl h.0), tt, row_stays r rest qs ps (suc i) (suc j) c (λ l. ap suc (f l)) h.2)
-  trimmed_stays listed t u (empties_if r n m below rest) qs ps i j c f h = (keeps (qs i) (ps j) kind.EmptyStatement m nothing nothing (alike_itself all kind.EmptyStatement nothing) (c i j f) (anew (ps j) kind.IfStatement kind.EmptyStatement n m below nothing refl h.0), tt, row_stays r rest qs ps (suc i) (suc j) c (λ l. ap suc (f l)) h.2)
+  trimmed_stays listed t u (empties_idle r k n m below rest idle) qs ps i j c f h = (keeps (qs i) (ps j) kind.EmptyStatement m nothing nothing (alike_itself all kind.EmptyStatement nothing) (c i j f) (anew (ps j) k kind.EmptyStatement n m below nothing refl h.0), tt, row_stays r rest qs ps (suc i) (suc j) c (λ l. ap suc (f l)) h.2)
   trimmed_stays listed t u (parts r k l m n b v w rest gives) qs ps i j c f h =
       let whole = joined v (node l n b w) in
       let part = part_there (around (ps j) k m whole) v l n b w 0 h.1 in

@@ -45,7 +45,7 @@ pub record Exactly (f : Facts) (t : Forest) : Type 0 where
 
 pub record IsQuiet (f : Facts) (t : Forest) : Type 0 where
   pub lists : (a : Around) (n : Note) (row rest : Forest) → t ≡ plug a (node statements n row rest) → has_dead f (where_of (place_at a)) row ≡ false
-  pub statements_stay : (a : Around) (x : Tree) (rest : Forest) → t ≡ plug a (node x.kind x.note x.below rest) → emptied f (where_of (place_at a)) x ≡ None
+  pub statements_stay : (a : Around) (x : Tree) (rest : Forest) → t ≡ plug a (node x.kind x.note x.below rest) → emptied f (place_at a) x ≡ None
 
 -- ---- node by node, as a walk goes
 
@@ -57,4 +57,4 @@ EachNode Q s (node k n inner rest) = Q (place_of s) (record { kind = k; note = n
 
 pub record IsQuietAt (f : Facts) (p : Place) (x : Tree) : Type 0 where
   pub list : x.kind ≡ statements → has_dead f (where_of p) x.below ≡ false
-  pub statement : emptied f (where_of p) x ≡ None
+  pub statement : emptied f p x ≡ None

@@ -7,15 +7,19 @@ use Rattle.js_syntax.specs.declared.kind.VariableKind.{VariableKind}
 use Rattle.js_syntax.specs.declared.kind.VariableKind.TheVariants as variable
 use Rattle.js_syntax.specs.Node.{Forest, Tree, nothing, node, absent}
 use Rattle.js_effects.specs.Silence.{is_marked, may_have_effects}
+use Rattle.min_context.specs.Ancestry.{nearest}
 use Rattle.min_context.specs.Place.{Place}
 use Rattle.min_context.specs.declared.ancestor.Ancestor.{Ancestor}
 use Rattle.min_context.specs.declared.ancestor.Ancestor.TheVariants.{Field as field}
+use Rattle.min_context.specs.declared.ancestor.Parent.{Parent}
 use Rattle.min_context.specs.declared.ancestor.Parent.TheVariants as parent
 use Rattle.min_pass.specs.Pass.{is_given, unmarked}
 use Rattle.scope_rules.specs.ScopeFlags as scope_flag
 use Rattle.scope_rules.specs.Table.{Scoping}
 use Rattle.scope_table.specs.Reading.{symbol_at}
+use Rattle.steps.specs.Allowed.Branches.{declares_no_name}
 use Rattle.steps.specs.Allowed.EmptyBlock.{idles}
+use Rattle.steps.specs.Allowed.IdleBody.{is_idle_statement}
 use Rattle.steps.specs.Marked.Flags.{scope_has, is_sloppy_block}
 
 -- What is known of the program: its table; of each reference by its id, whether it has a symbol; of each symbol by its number,
@@ -151,6 +155,33 @@ has_dead f w nothing = false
 has_dead f w (absent rest) = has_dead f w rest
 has_dead f w (node k n below rest) = item_has_dead f w k below || has_dead f w rest
 
--- A silent statement becomes empty, wherever it stands.
-abbrev pub emptied : Facts → Where → Tree → Option Tree
-emptied f w x = if is_silent_statement f w x.kind x.below then Some (record { kind = empty_statement; note = unmarked x.note; below = nothing }) else None
+-- ---- statements that become empty
+
+-- statements right below which a statement stands, and no list of them
+abbrev pub has_body_under : Parent → Bool
+has_body_under parent.IfStatement = true
+has_body_under parent.WithStatement = true
+has_body_under parent.WhileStatement = true
+has_body_under parent.DoWhileStatement = true
+has_body_under parent.ForStatement = true
+has_body_under parent.ForInStatement = true
+has_body_under parent.ForOfStatement = true
+has_body_under p = false
+
+abbrev pub is_body_under : Ancestor → Bool
+is_body_under (field p at) = has_body_under p
+is_body_under a = false
+
+abbrev pub is_body : Place → Bool
+is_body p = is_body_under (nearest p.ancestors 0)
+
+-- one that does nothing and declares no name around it, as a branch or a body
+abbrev pub is_idle_body : Place → Kind → (below : Forest) → Bool
+is_idle_body p k below = is_body p && (is_idle_statement k below && declares_no_name k below)
+
+-- and a silent one, wherever it stands
+abbrev pub becomes_empty : Facts → Place → Kind → (below : Forest) → Bool
+becomes_empty f p k below = is_silent_statement f (where_of p) k below || is_idle_body p k below
+
+abbrev pub emptied : Facts → Place → Tree → Option Tree
+emptied f p x = if becomes_empty f p x.kind x.below then Some (record { kind = empty_statement; note = unmarked x.note; below = nothing }) else None

@@ -15,7 +15,11 @@ use Rattle.scope_rules.specs.Samples.{Row}
 use Rattle.scope_rules.specs.Table.{Scoping}
 use Rattle.steps.specs.Allowed.Exposure.{Exposure}
 use Rattle.steps.specs.Marked.Flags.{scope_has, is_sloppy_block, Stand, stand_inside, stands_of}
-use Rattle.rules.specs.DeadCode.Rules.{Facts, Where, trimmed}
+use Rattle.min_context.specs.Place.{Place}
+use Rattle.min_context.specs.declared.ancestor.Ancestor.TheVariants.{Field as field}
+use Rattle.min_context.specs.declared.ancestor.Parent.{Parent}
+use Rattle.min_context.specs.declared.ancestor.Parent.TheVariants as parent
+use Rattle.rules.specs.DeadCode.Rules.{Facts, Where, trimmed, becomes_empty}
 
 -- by its own table, and what is exported, where nothing is kept
 abbrev pub facts_of : (exported : List Bool) → Forest → Facts
@@ -58,6 +62,20 @@ declares_each how ds = over (Kind.VariableDeclaration how) (listed Kind.Declarat
 -- let a = 1;
 abbrev pub let_one : Forest
 let_one = declares_each variable.Let (declarator (binds a) one ∷ [])
+
+-- ---- what becomes empty
+
+-- right below a node, whose child it is
+abbrev pub right_below : Parent → (at : ℕ) → Place
+right_below p at = record { ancestors = field p at ∷ []; scope = 0; hoist_scope = 0; block_scope = 0 }
+
+abbrev pub as_body : Place
+as_body = right_below parent.WhileStatement 1
+
+-- whether the one statement becomes empty, where nothing is known of names
+abbrev pub empties : Place → Forest → Bool
+empties p (node k n below rest) = becomes_empty (facts_of [] nothing) p k below
+empties p t = false
 
 -- ---- whether flags tell only what is so
 

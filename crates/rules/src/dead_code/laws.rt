@@ -12,7 +12,7 @@ ghost use Rattle.js_syntax.specs.Facts.{weight};
 ghost use Rattle.js_syntax.specs.Node.{Forest, Tree, node, forest_of, total};
 ghost use Rattle.js_syntax.specs.declared.node_kind.NodeKind.TheVariants.{Statements as statements};
 ghost use Rattle.js_syntax.specs.Node.{Note};
-ghost use Rattle.min_context.specs.Place.{place_at};
+ghost use Rattle.min_context.specs.Place.{Place, place_at};
 ghost use Rattle.scope_counts.specs.Counts.{ids};
 ghost use Rattle.scope_counts.specs.Edits.{Around, plug};
 ghost use Rattle.scope_counts.specs.Losing.{MarksWhatLeft, Prunes};
@@ -56,9 +56,10 @@ pub fn places_have_the_scopes_that_flags_tell_of()
     ensures in_with { (a : Around) (rest : Forest) → (asked_at (outermost true) (before a rest)).in_with ≡ (where_of (place_at a)).in_with }
 {}
 
-/// Law: by what is known a statement that becomes empty is silent where it stands, so that this is an edit.
+/// Law: by what is known a statement that becomes empty is silent where it stands, or does nothing as a branch or a body, so that this is
+/// an edit.
 pub fn silent_statements_may_become_empty()
-    ensures { (f : Facts) (marked : ℕ → Bool) (a : Around) (x y : Tree) (rest : Forest) → Knows f marked (plug a (node x.kind x.note x.below rest)) → emptied f (where_of (place_at a)) x ≡ Some y
+    ensures { (f : Facts) (marked : ℕ → Bool) (a : Around) (x y : Tree) (rest : Forest) → Knows f marked (plug a (node x.kind x.note x.below rest)) → emptied f (place_at a) x ≡ Some y
         → Edit (plug a (node x.kind x.note x.below rest)) (plug a (node y.kind y.note y.below rest)) }
 {}
 
@@ -80,8 +81,8 @@ pub fn a_trimmed_list_is_lighter()
 
 /// Law: so is a statement that becomes empty.
 pub fn an_emptied_statement_is_lighter()
-    ensures lighter { (f : Facts) (w : Where) (x y : Tree) → emptied f w x ≡ Some y → total weight (forest_of y) + 1 ≤ total weight (forest_of x) }
-    ensures references { (f : Facts) (w : Where) (x y : Tree) → emptied f w x ≡ Some y → (r : ℕ) → ids r (forest_of y) ≤ ids r (forest_of x) }
+    ensures lighter { (f : Facts) (p : Place) (x y : Tree) → emptied f p x ≡ Some y → total weight (forest_of y) + 1 ≤ total weight (forest_of x) }
+    ensures references { (f : Facts) (p : Place) (x y : Tree) → emptied f p x ≡ Some y → (r : ℕ) → ids r (forest_of y) ≤ ids r (forest_of x) }
 {}
 
 /// Law: what the context of a walk tells stays true of what edits leave, once exactly what left is marked.

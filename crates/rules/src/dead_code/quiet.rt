@@ -7,6 +7,7 @@ ghost use Rattle.min_context.specs.Place.{top};
 ghost use Rattle.scope_laws.specs.Place.{Around, plug};
 ghost use Rattle.scope_counts.specs.Scopes.{unmarked};
 ghost use Rattle.steps.specs.Allowed.EmptyBlock.{EmptyBlock};
+ghost use Rattle.steps.specs.Allowed.IdleBody.{IdleBody};
 ghost use Rattle.steps.specs.Allowed.Exposure.{IsOwnFunction, IsOwnDeclarator};
 ghost use Rattle.steps.specs.Allowed.Free.{Free, FreeDeclarator};
 ghost use Rattle.steps.specs.Allowed.Places.{a_node, IsItem, IsDeclarator, At};
@@ -23,13 +24,14 @@ pub fn walks_see_what_is_quiet()
 {}
 
 /// Law: a program of which the rules take nothing out has no empty statement in a list, nor a block of nothing, no silent statement
-/// anywhere, and in lists, unless that is kept, no function declaration or declarator with a silent initialiser whose name nothing refers
+/// anywhere, none that does nothing as a branch or a body, and in lists, unless that is kept, no function declaration or declarator with a silent initialiser whose name nothing refers
 /// to, no export is of and no other code may use.
 pub fn what_is_quiet_has_no_dead_code()
     ensures empty_statements { (f : Facts) (t : Forest) → Knows f unmarked t → Exactly f t → IsQuiet f t → (a : Around) → (n : Note) → t ≡ plug a (a_node empty_statement n nothing) → IsItem a → ⊥ }
     ensures empty_blocks { (f : Facts) (t : Forest) → Knows f unmarked t → Exactly f t → IsQuiet f t → (a : Around) → (x : Tree) → t ≡ plug a (Some x) → EmptyBlock a x → ⊥ }
     ensures silent_statements { (f : Facts) (t : Forest) → Knows f unmarked t → Exactly f t → IsQuiet f t → (a : Around) → (n : Note) (below : Forest) → t ≡ plug a (a_node expression_statement n below)
         → At a (a_node expression_statement n below) (SilentStatement t below) → ⊥ }
+    ensures idle_bodies { (f : Facts) (t : Forest) → Knows f unmarked t → Exactly f t → IsQuiet f t → (a : Around) → (x y : Tree) → t ≡ plug a (Some x) → IdleBody a x y → ⊥ }
     ensures functions { (f : Facts) (t : Forest) → Knows f unmarked t → Exactly f t → IsQuiet f t → (a : Around) → (pure : Bool) (n m : Note) (x : List ℕ) (rest : Forest) → t ≡ plug a (a_function pure n m x rest) → f.keeps_unused ≡ false → IsItem a
         → IsOwnFunction a (a_function pure n m x rest) → At a (a_function pure n m x rest) (Free t variable.Let x) → ⊥ }
     ensures declarators { (f : Facts) (t : Forest) → Knows f unmarked t → Exactly f t → IsQuiet f t → (a : Around) → (n m : Note) (x : List ℕ) (value : Forest) → t ≡ plug a (a_declarator n m x value) → f.keeps_unused ≡ false → IsDeclarator a

@@ -1,5 +1,5 @@
 // Small programs, by computing.
-ghost use Rattle.std.specs.Prelude.{◌≡◌, [], ◌∷◌, true};
+ghost use Rattle.std.specs.Prelude.{◌≡◌, [], ◌∷◌, true, false};
 ghost use Rattle.js_syntax.specs.Node.{Forest};
 ghost use Rattle.scope_rules.specs.Table.{Scoping};
 ghost use Rattle.scope_rules.specs.Worked.{blocks, functions, classes, statements, calls_of_eval};
@@ -8,10 +8,11 @@ ghost use Rattle.steps.specs.Marked.Flags.{stands_of};
 ghost use Rattle.rules.specs.DeadCode.Quiet.{ToldOnly};
 ghost use Rattle.js_syntax.specs.declared.node_kind.NodeKind.TheVariants.{EmptyStatement as empty_statement};
 ghost use Rattle.js_syntax.specs.declared.kind.VariableKind.TheVariants as variable;
-ghost use Rattle.form_rules.specs.Samples.{leaf, no, a_module, a_script, a, binds, reads, does, let_, var_, block, function_a, calls};
+ghost use Rattle.form_rules.specs.Samples.{leaf, no, a_module, a_script, a, binds, reads, does, one, let_, var_, block, function_a, calls};
 ghost use Rattle.scope_rules.specs.Samples.{b};
-ghost use Rattle.steps.specs.Allowed.Rows.{call_of_eval};
-ghost use Rattle.rules.specs.DeadCode.Samples.{in_with, at_top, left_at, left, left_in_block, these, declarator, declares_each, let_one, do_flags_tell_only, new_flags_tell_only};
+ghost use Rattle.min_context.specs.declared.ancestor.Parent.TheVariants as parent;
+ghost use Rattle.steps.specs.Allowed.Rows.{call_of_a, call_of_eval, null, labeled, breaks_label, tried, while_};
+ghost use Rattle.rules.specs.DeadCode.Samples.{in_with, at_top, left_at, left, left_in_block, these, right_below, as_body, empties, declarator, declares_each, let_one, do_flags_tell_only, new_flags_tell_only};
 
 /// Statements that do nothing go, and what they alone used stays until they are gone.
 pub fn statements_left()
@@ -41,6 +42,21 @@ pub fn declarators_left()
     ensures some { left (a_module (declares_each variable.Let (declarator (binds a) (calls (reads a)) ∷ declarator (binds b) no ∷ []) ∷ [])) ≡ these (declares_each variable.Let (declarator (binds a) (calls (reads a)) ∷ []) ∷ []) }
     ensures silent { left (a_module (let_one ∷ [])) ≡ these [] }
     ensures in_with { left_at in_with [] (a_module (let_one ∷ let_ b ∷ [])) ≡ these (let_one ∷ []) }
+{}
+
+/// What does nothing becomes empty as the body of a loop, or as a branch of an `if`, and not as the block of a handler or behind a label;
+/// where it declares a name around it, it stays, as what acts does. A silent statement becomes empty wherever it stands.
+pub fn statements_become_empty()
+    ensures block { empties as_body (block []) ≡ true }
+    ensures branch { empties (right_below parent.IfStatement 2) (block []) ≡ true }
+    ensures never_turns { empties as_body (while_ null (block (does call_of_a ∷ let_ a ∷ []))) ≡ true }
+    ensures tried { empties as_body (tried (does call_of_a ∷ [])) ≡ true }
+    ensures labeled { empties as_body (labeled (block (breaks_label ∷ does call_of_a ∷ []))) ≡ true }
+    ensures variable { empties as_body (while_ null (block (var_ a ∷ []))) ≡ false }
+    ensures acting { empties as_body (block (does call_of_a ∷ [])) ≡ false }
+    ensures of_handler { empties (right_below parent.CatchClause 1) (block []) ≡ false }
+    ensures behind_label { empties (right_below parent.LabeledStatement 0) (block []) ≡ false }
+    ensures silent { empties (right_below parent.LabeledStatement 0) (does one) ≡ true }
 {}
 
 /// The flags of new tables tell of each worked program only what is so.

@@ -32,6 +32,7 @@ use Rattle.steps.specs.Allowed.Unreached.{Unreached, never_runs}
 use Rattle.steps.specs.Allowed.Untaken.{Untaken, never_taken}
 use Rattle.steps.specs.Allowed.IdleTry.{IdleTry, finalizer_is_run, finalizer_is_run_alone, block_is_run}
 use Rattle.steps.specs.Allowed.IdleStatement.{IdleStatement, idle_leaves}
+use Rattle.steps.specs.Allowed.IdleBody.{IdleBody, idle_body_empties}
 use Rattle.steps.specs.Allowed.UnrunValue.{UnrunValue, value_never_given}
 use Rattle.steps.specs.Allowed.EmptyBlock.{EmptyBlock, empty_block_leaves}
 use Rattle.steps.specs.Allowed.DeadIf.{DeadIf, nothing_is_run}
@@ -43,7 +44,7 @@ use Rattle.steps.specs.Allowed.IdleParts.{idle_parts_leave}
 use Rattle.steps.specs.Allowed.TwoSides.{both_sides_act}
 use Rattle.steps.specs.Allowed.UnusedObject.{acting_values_stay}
 use Rattle.steps.specs.Allowed.KnownOperation.{known_literal, value_is_known, negative_is_known}
-use Rattle.steps.specs.Allowed.Edits.{Edit, leaves, becomes, empty_statement, empty_block, silent_statement, unused_function, unused_declaration, unused_import, unreached, untaken, idle_statement, repeated_import, known_conditional, known_side, known_if, dead_if, unused_operation, unused_list, indirect_choice, one_sided_choice, idle_parts, two_sides, unused_object, known_operation, unrun_value, idle_try}
+use Rattle.steps.specs.Allowed.Edits.{Edit, leaves, becomes, empty_statement, empty_block, silent_statement, unused_function, unused_declaration, unused_import, unreached, untaken, idle_statement, repeated_import, known_conditional, known_side, known_if, dead_if, unused_operation, unused_list, indirect_choice, one_sided_choice, idle_parts, two_sides, unused_object, known_operation, unrun_value, idle_try, idle_body}
 use Rattle.steps.specs.Allowed.Rows.{breaks_label, labeled_too, labeled, branch_of_if, in_branch, in_function, in_function_by, value_of_a, zero, loop, debugger, throwing_block, throwing_branch, broken_label, past, in_list, before, throws, behind_throw, call_of_a, null, if_one, if_null, either_way, conditional, logical, may_be_named, o_f, parenthesized, in_statement, called, called_in_parentheses, called_in_with, argument, operand, applied, equals, difference, sum, text, empty_text, assigned, statement, ComesOut, Stays, StaysUnused, array, spread, hole, sequence, ListStays, ChoiceStays, PartsStay, SidesStay, object, a_is, b_is, getter_of_a, keyed_by, method_by, not_a, ObjectStays, literal, operation, OperationStays, behind_zero, placed, StaysDirect, FollowsNone, with_a, in_with_a, empty, a_is_read, a_is_exported, imports_nothing, behind_import, only_import, tried, tried_finally, finally_alone, while_, for_, loop}
 
 pub empties_in_list : Edit (a_module (does one ∷ [])) (a_module (empty ∷ []))
@@ -718,6 +719,35 @@ finally_behind_jump_stays items n (idle_leaves item idle none) = true≢false (s
 
 pub jump_with_variable_stays : (items : List Forest) (n : Note) → IdleStatement (before items) (record { kind = Kind.LabeledStatement (codes "l"); note = n; below = block (breaks_label ∷ var_ a ∷ []) }) → ⊥
 jump_with_variable_stays items n (idle_leaves item idle none) = true≢false (sym none)
+
+-- ---- and is a branch or a body
+
+abbrev body_of_while : Around
+body_of_while = in_list (under Kind.WhileStatement nowhere (past (reads a) (first nothing)) nothing)
+
+pub idle_block_empties : Edit (a_module (if_one (block []) ∷ [])) (a_module (if_one empty ∷ []))
+idle_block_empties = becomes consequent _ _ (idle_body (idle_body_empties _ nowhere refl refl refl))
+
+pub idle_while_empties : Edit (a_module (if_one (while_ null (block (does call_of_a ∷ let_ a ∷ []))) ∷ [])) (a_module (if_one empty ∷ []))
+idle_while_empties = becomes consequent _ _ (idle_body (idle_body_empties _ nowhere refl refl refl))
+
+pub idle_label_empties : Edit (a_module (if_one (labeled (block (breaks_label ∷ does call_of_a ∷ []))) ∷ [])) (a_module (if_one empty ∷ []))
+idle_label_empties = becomes consequent _ _ (idle_body (idle_body_empties _ nowhere refl refl refl))
+
+pub idle_body_of_while_empties : Edit (a_module (while_ (reads a) (tried (does call_of_a ∷ [])) ∷ [])) (a_module (while_ (reads a) empty ∷ []))
+idle_body_of_while_empties = becomes body_of_while _ _ (idle_body (idle_body_empties _ nowhere refl refl refl))
+
+pub acting_body_stays : (n : Note) (y : Tree) → IdleBody body_of_while (record { kind = Kind.BlockStatement; note = n; below = listed Kind.Statements (does call_of_a ∷ []) }) y → ⊥
+acting_body_stays n y (idle_body_empties _ m body idle none) = true≢false (sym idle)
+
+pub body_with_variable_stays : (n : Note) (y : Tree) → IdleBody body_of_while (record { kind = Kind.WhileStatement; note = n; below = joined null (block (var_ a ∷ [])) }) y → ⊥
+body_with_variable_stays n y (idle_body_empties _ m body idle none) = true≢false (sym none)
+
+pub block_of_try_stays : (x y : Tree) → IdleBody (in_list (under Kind.TryStatement nowhere (first (absent (block []))) nothing)) x y → ⊥
+block_of_try_stays x y (idle_body_empties _ m body idle none) = true≢false (sym body)
+
+pub block_behind_label_stays : (x y : Tree) → IdleBody (in_list (under (Kind.LabeledStatement (codes "l")) nowhere (first nothing) nothing)) x y → ⊥
+block_behind_label_stays x y (idle_body_empties _ m body idle none) = true≢false (sym body)
 
 -- ---- a `try` around nothing
 

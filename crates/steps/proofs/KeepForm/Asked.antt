@@ -1,5 +1,5 @@
 -- What the rules of form see of a node that none of them asks for.
-use Rattle.std.proofs.Common.{◌≡◌, ℕ, [], Bool, true, false, not, ◌||◌, refl, sym, ap, ◌∙◌}
+use Rattle.std.proofs.Common.{◌≡◌, ℕ, List, [], Bool, true, false, not, ◌||◌, refl, sym, ap, ◌∙◌}
 use Rattle.js_syntax.specs.declared.node_kind.NodeKind.{NodeKind as Kind}
 use Rattle.js_syntax.specs.declared.node_kind.NodeKind.TheVariants.{Program as program, Directive as directive, Statements as statements, FunctionBody as function_body, BlockStatement as block_statement, Cases as cases, SwitchCase as switch_case, SwitchStatement as switch_statement, LabeledStatement as labeled_statement, TryStatement as try_statement, CatchClause as catch_clause, IfStatement as if_statement, WithStatement as with_statement, WhileStatement as while_statement, DoWhileStatement as do_while_statement, ForStatement as for_statement, ForInStatement as for_in_statement, ForOfStatement as for_of_statement, Class as class, ClassBody as class_body, Members as members, MethodDefinition as method_definition, PropertyDefinition as property_definition, BindingName as binding_name, ReferenceName as reference_name, PrivateName as private_name, Super as super, ParenthesizedExpression as parenthesized_expression, ConditionalExpression as conditional_expression, UnaryExpression as unary_expression, BinaryExpression as binary_expression, LogicalExpression as logical_expression, VariableDeclaration as variable_declaration, Declarators as declarators, VariableDeclarator as variable_declarator, Parameters as parameters, Properties as properties, Elements as elements, Specifiers as specifiers, BindingRest as binding_rest, TargetRest as target_rest, BindingObject as binding_object, BindingArray as binding_array, BindingProperty as binding_property, BindingDefault as binding_default, ImportDeclaration as import_declaration, ImportSpecifier as import_specifier, ImportDefaultSpecifier as import_default_specifier, ImportNamespaceSpecifier as import_namespace_specifier, ExportNamedDeclaration as export_named_declaration, ExportSpecifier as export_specifier, ForeignSpecifier as foreign_specifier, ExportDefaultDeclaration as export_default_declaration, ExportAllDeclaration as export_all_declaration, Function as function}
 use Rattle.js_syntax.specs.Node.{Note, Forest, node, alone}
@@ -13,9 +13,20 @@ use Rattle.form_rules.specs.declared.sought.Sought.TheVariants.{Nothing as none_
 use Rattle.form_rules.specs.Context.{has_use_strict, is_strict_list, is_strict_function, private_key_of, privates_of, is_loop}
 use Rattle.form_rules.specs.Scope.{bound_below, variables_below, scope_below, function_below, sought_below, declared_here}
 use Rattle.form_rules.specs.Rules.{are_names, have_plain_parameters, private_of, first_is_super, is_bare_name, is_name_first, is_rest, is_default, is_constructor, named_by, locals_named, locals_by, exported_by}
-use Rattle.steps.specs.KeepForm.Part.{gives_way, is_statement, is_asked_for, asks_further, Replaces, by_part, by_parts}
+use Rattle.steps.specs.KeepForm.Part.{gives_way, is_statement, may_be_idle, is_asked_for, asks_further, Replaces, by_part, by_parts}
 use Rattle.steps.specs.KeepForm.Sheds.{Row, parts, items, of_item, of_declarators, of_head, of_import, of_specifiers, other, asked_below, may_empty, Around, may_give_way, sought_inside}
 use Rattle.js_syntax.proofs.Truth.{not_true, first_of_both, second_of_both}
+
+-- ---- what holds of each kind of statement that may do nothing
+
+pub idle_kinds : (P : Kind → Type 0) → P block_statement → P if_statement → P try_statement → P while_statement → P for_statement → ((label : List ℕ) → P (labeled_statement label)) → (k : Kind) → may_be_idle k ≡ true → P k
+idle_kinds P block choice tried looping counting labels block_statement h = block
+idle_kinds P block choice tried looping counting labels (labeled_statement label) h = labels label
+idle_kinds P block choice tried looping counting labels if_statement h = choice
+idle_kinds P block choice tried looping counting labels try_statement h = tried
+idle_kinds P block choice tried looping counting labels while_statement h = looping
+idle_kinds P block choice tried looping counting labels for_statement h = counting
+idle_kinds P block choice tried looping counting labels k h = absurd cc
 
 -- ---- what is seen of such a node in its row
 

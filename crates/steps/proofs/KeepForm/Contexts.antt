@@ -15,7 +15,7 @@ inside_same w c (function how pure) a b i j h e = ap (λ x. in_function how (c.s
 inside_same w c (class how) a b i j h e =
     let stays = stays_below w.row (class how) refl in
     ap (λ x. in_class x (extends_another b) c) (privates_same stays h) ∙ ap (λ x. in_class (privates_of a) x c) (extends_same stays h)
-inside_same w c (labeled_statement label) a b i j h e = ap (λ x. labeled (record { name = label; is_loop = x }) c) (loop_same (stays_below w.row (labeled_statement label) refl) h)
+inside_same w c (labeled_statement label) a b i j h e = ap (λ x. labeled (record { name = label; is_loop = x }) c) (loop_same (stays_below w.row (labeled_statement label) refl) refl h)
 inside_same w c (method_definition how is_static key) a b i j h e = ap (λ x. inside c (method_definition how is_static key) a x) (sym (e (stays_below w.row (method_definition how is_static key) refl)))
 inside_same w c (property_definition is_static key) a b i j h e = ap (λ x. inside c (property_definition is_static key) a x) (sym (e (stays_below w.row (property_definition is_static key) refl)))
 inside_same w c (property how is_one key) a b i j h e = ap (λ x. inside c (property how is_one key) a x) (sym (e (stays_below w.row (property how is_one key) refl)))

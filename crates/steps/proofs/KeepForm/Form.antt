@@ -2,7 +2,7 @@
 use Rattle.std.proofs.Common.{◌≡◌, ℕ, ◌+◌, suc, List, [], ◌∷◌, ◌++◌, false, None, refl, sym, ap, ◌∙◌}
 use Rattle.js_tree.specs.Count.{one_each, node_count}
 use Rattle.js_syntax.specs.declared.node_kind.NodeKind.{NodeKind as Kind}
-use Rattle.js_syntax.specs.declared.node_kind.NodeKind.TheVariants.{Program as program, EmptyStatement as empty_statement, ExpressionStatement as expression_statement, IfStatement as if_statement}
+use Rattle.js_syntax.specs.declared.node_kind.NodeKind.TheVariants.{Program as program, EmptyStatement as empty_statement, ExpressionStatement as expression_statement}
 use Rattle.js_syntax.specs.Node.{Note, Forest, nothing, node, absent, joined}
 use Rattle.form_rules.specs.declared.rule.Break.{Break}
 use Rattle.form_rules.specs.Break.{least}
@@ -11,9 +11,9 @@ use Rattle.form_rules.specs.Context.{Context, inside}
 use Rattle.form_rules.specs.Rules.{broken_at}
 use Rattle.form_rules.specs.Form.{broken_in, source_of, broken, IsWellFormed}
 use Rattle.steps.specs.KeepForm.Part.{is_asked_for, StandsFor, Replaces, by_part, by_parts}
-use Rattle.steps.specs.KeepForm.Sheds.{may_leave, Around, entered, outermost, Sheds, ends, keeps_absent, keeps, leaves, empties, empties_if, becomes}
+use Rattle.steps.specs.KeepForm.Sheds.{may_leave, Around, entered, outermost, Sheds, ends, keeps_absent, keeps, leaves, empties, empties_idle, becomes}
 use Rattle.steps.proofs.KeepForm.Contexts.{inside_same}
-use Rattle.steps.proofs.KeepForm.Asked.{old_unasked, new_unasked}
+use Rattle.steps.proofs.KeepForm.Asked.{idle_kinds, old_unasked, new_unasked}
 use Rattle.steps.proofs.KeepForm.Rows.{itself}
 use Rattle.steps.proofs.KeepForm.Alone.{passed_on, inside_alike, rules_alike}
 use Rattle.steps.proofs.KeepForm.Rebuilding.{moved, rebuilt_kept}
@@ -67,10 +67,10 @@ form_kept (empties {n = n} {m = m} {a = a} {r = r} {s = s} may rest) f g same i 
     both_empty (broken_at (g j) empty_statement q nothing ++ []) (broken_in g (suc j) (q + node_count (node empty_statement m nothing nothing)) s) (both_empty (broken_at (g j) empty_statement q nothing) [] (empty_keeps (g j) q) refl)
     (form_kept rest f g same (suc i) (suc j) (p + node_count (node expression_statement n a nothing)) (q + node_count (node empty_statement m nothing nothing)) (λ d. ap (λ n. suc n) (e d))
     (second_empty (broken_at (f i) expression_statement p a ++ broken_in (inside (f i) expression_statement a) 0 (p + one_each expression_statement) a) (broken_in f (suc i) (p + node_count (node expression_statement n a nothing)) r) h))
-form_kept (empties_if {n = n} {m = m} {a = a} {r = r} {s = s} may unnamed rest) f g same i j p q e h =
+form_kept (empties_idle {k = k} {n = n} {m = m} {a = a} {r = r} {s = s} idle loops may unnamed rest) f g same i j p q e h =
     both_empty (broken_at (g j) empty_statement q nothing ++ []) (broken_in g (suc j) (q + node_count (node empty_statement m nothing nothing)) s) (both_empty (broken_at (g j) empty_statement q nothing) [] (empty_keeps (g j) q) refl)
-    (form_kept rest f g same (suc i) (suc j) (p + node_count (node if_statement n a nothing)) (q + node_count (node empty_statement m nothing nothing)) (λ d. ap (λ n. suc n) (e d))
-    (second_empty (broken_at (f i) if_statement p a ++ broken_in (inside (f i) if_statement a) 0 (p + one_each if_statement) a) (broken_in f (suc i) (p + node_count (node if_statement n a nothing)) r) h))
+    (form_kept rest f g same (suc i) (suc j) (p + node_count (node k n a nothing)) (q + node_count (node empty_statement m nothing nothing)) (λ d. ap (λ n. suc n) (e d))
+    (second_empty (broken_at (f i) k p a ++ broken_in (inside (f i) k a) 0 (p + one_each k) a) (broken_in f (suc i) (p + node_count (node k n a nothing)) r) h))
 form_kept (becomes {k = k} {l = l} {n = n} {m = m} {a = a} {b = b} {r = r} {s = s} part may bare rest) f g same i j p q e h =
     let own = broken_at (f i) k p a in
     let below = broken_in (inside (f i) k a) 0 (p + one_each k) a in
@@ -97,7 +97,7 @@ source_same stays (keeps_absent rest) = refl
 source_same stays (keeps {k = k} {n = n} {m = m} {a = a} {b = b} {r = r} {s = s} one below rest) = source_node k n m a b r s
 source_same stays (leaves may out strict rest) = absurd (cc (stays, may))
 source_same stays (empties may rest) = refl
-source_same stays (empties_if may unnamed rest) = refl
+source_same stays (empties_idle {k = k} {n = n} {a = a} {r = r} idle loops may unnamed rest) = idle_kinds (λ z. source_of nothing ≡ source_of (node z n a r)) refl refl refl refl refl (λ label. refl) k idle
 source_same stays (becomes {k = k} {l = l} {n = n} {m = m} {a = a} {b = b} {r = r} {s = s} part may bare rest) = no_source l m b s (new_unasked part) ∙ sym (no_source k n a r (old_unasked part))
 
 pub stays_well_formed : (t u : Forest) → Sheds outermost t u → IsWellFormed t → IsWellFormed u

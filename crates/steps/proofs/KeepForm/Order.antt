@@ -6,9 +6,9 @@ use Rattle.js_syntax.specs.Node.{Note, Forest, nothing, node, absent, joined}
 use Rattle.form_rules.specs.Context.{has_use_strict}
 use Rattle.json_shape.specs.Shape.{is_directive_kind}
 use Rattle.steps.specs.KeepForm.Part.{gives_way, is_statement, is_asked_for, Replaces, by_part, by_parts}
-use Rattle.steps.specs.KeepForm.Sheds.{Row, other, parts, items, row_below, may_leave, may_empty, may_give_way, Around, entered, Sheds, ends, keeps_absent, keeps, leaves, empties, empties_if, becomes}
+use Rattle.steps.specs.KeepForm.Sheds.{Row, other, parts, items, row_below, may_leave, may_empty, may_give_way, Around, entered, Sheds, ends, keeps_absent, keeps, leaves, empties, empties_idle, becomes}
 use Rattle.steps.proofs.KeepForm.Rows.{stays_below, behind_left, is_usual, is_other}
-use Rattle.steps.proofs.KeepForm.Asked.{old_unasked, new_unasked, alike, statement_may}
+use Rattle.steps.proofs.KeepForm.Asked.{idle_kinds, old_unasked, new_unasked, alike, statement_may}
 use Rattle.steps.proofs.KeepForm.Seen.{strict_same}
 use Rattle.steps.specs.KeepForm.Layout.{is_declarators, is_list_first, are_specifiers_first, binds_none, stands_right, is_laid_out}
 use Rattle.steps.proofs.KeepForm.Laid.{laid_absent, laid_order, laid_right, laid_below, laid_behind}
@@ -124,7 +124,7 @@ list_same stays (keeps_absent rest) = refl
 list_same stays (keeps {k = k} {n = n} {m = m} {a = a} {b = b} {r = r} {s = s} one below rest) = list_node k n m a b r s
 list_same stays (leaves may out strict rest) = absurd (cc (stays, may))
 list_same stays (empties may rest) = refl
-list_same stays (empties_if may unnamed rest) = refl
+list_same stays (empties_idle {k = k} {n = n} {a = a} {r = r} idle loops may unnamed rest) = idle_kinds (λ z. false ≡ is_list_first (node z n a r)) refl refl refl refl refl (λ label. refl) k idle
 list_same stays (becomes {k = k} {l = l} {n = n} {m = m} {a = a} {b = b} {r = r} {s = s} part may bare rest) = no_list l m b s (new_unasked part) ∙ sym (no_list k n a r (old_unasked part))
 
 specifiers_node : (k : Kind) (n m : Note) (a b r s : Forest) → are_specifiers_first (node k m b s) ≡ are_specifiers_first (node k n a r)
@@ -137,7 +137,7 @@ specifiers_same stays (keeps_absent rest) = refl
 specifiers_same stays (keeps {k = k} {n = n} {m = m} {a = a} {b = b} {r = r} {s = s} one below rest) = specifiers_node k n m a b r s
 specifiers_same stays (leaves may out strict rest) = absurd (cc (stays, may))
 specifiers_same stays (empties may rest) = refl
-specifiers_same stays (empties_if may unnamed rest) = refl
+specifiers_same stays (empties_idle {k = k} {n = n} {a = a} {r = r} idle loops may unnamed rest) = idle_kinds (λ z. false ≡ are_specifiers_first (node z n a r)) refl refl refl refl refl (λ label. refl) k idle
 specifiers_same stays (becomes {k = k} {l = l} {n = n} {m = m} {a = a} {b = b} {r = r} {s = s} part may bare rest) = no_specifiers l m b s (new_unasked part) ∙ sym (no_specifiers k n a r (old_unasked part))
 
 binds_node : (k : Kind) (n m : Note) (a b r s : Forest) → binds_none s ≡ binds_none r → binds_none (node k m b s) ≡ binds_none (node k n a r)
@@ -150,7 +150,7 @@ binds_same stays (keeps_absent rest) = binds_same stays rest
 binds_same stays (keeps {k = k} {n = n} {m = m} {a = a} {b = b} {r = r} {s = s} one below rest) = binds_node k n m a b r s (binds_same stays rest)
 binds_same stays (leaves may out strict rest) = absurd (cc (stays, may))
 binds_same stays (empties may rest) = binds_same stays rest
-binds_same stays (empties_if may unnamed rest) = binds_same stays rest
+binds_same stays (empties_idle {k = k} {n = n} {a = a} {r = r} idle loops may unnamed rest) = binds_same stays rest ∙ idle_kinds (λ z. binds_none r ≡ binds_none (node z n a r)) refl refl refl refl refl (λ label. refl) k idle
 binds_same stays (becomes {k = k} {l = l} {n = n} {m = m} {a = a} {b = b} {r = r} {s = s} part may bare rest) =
     no_name l m b s (new_unasked part) ∙ binds_same stays rest ∙ sym (no_name k n a r (old_unasked part))
 
@@ -176,8 +176,8 @@ stays_laid_out (keeps {w = w} {k = k} {n = n} {m = m} {a = a} {b = b} {r = r} {s
 stays_laid_out (leaves {w = w} {k = k} {n = n} {a = a} {r = r} may out strict rest) h = stays_laid_out rest (laid_behind w.row k n a r h)
 stays_laid_out (empties {w = w} {n = n} {m = m} {a = a} {r = r} {s = s} may rest) h =
     both (not (has_use_strict s)) (is_laid_out w.row s) (ap not (strict_same rest) ∙ laid_order w.row expression_statement n a r h) (stays_laid_out rest (laid_behind w.row expression_statement n a r h))
-stays_laid_out (empties_if {w = w} {n = n} {m = m} {a = a} {r = r} {s = s} may unnamed rest) h =
-    both (not (has_use_strict s)) (is_laid_out w.row s) (ap not (strict_same rest) ∙ laid_order w.row if_statement n a r h) (stays_laid_out rest (laid_behind w.row if_statement n a r h))
+stays_laid_out (empties_idle {w = w} {k = k} {n = n} {m = m} {a = a} {r = r} {s = s} idle loops may unnamed rest) h =
+    both (not (has_use_strict s)) (is_laid_out w.row s) (ap not (strict_same rest) ∙ ap (λ d. d || not (has_use_strict r)) (idle_kinds (λ z. false ≡ is_directive_kind z) refl refl refl refl refl (λ label. refl) k idle) ∙ laid_order w.row k n a r h) (stays_laid_out rest (laid_behind w.row k n a r h))
 stays_laid_out (becomes {w = w} {k = k} {l = l} {n = n} {m = m} {a = a} {b = b} {r = r} {s = s} part may bare rest) h =
     both (is_directive_kind l || not (has_use_strict s)) (stands_right w.row l b && (is_laid_out (row_below w.row l) b && is_laid_out w.row s))
     (ap (λ x. x || not (has_use_strict s)) (no_directive l (new_unasked part)) ∙ ap not (strict_same rest)

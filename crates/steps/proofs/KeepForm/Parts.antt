@@ -3,12 +3,12 @@ use Rattle.std.proofs.Common.{◌≡◌, ℕ, ◌+◌, ◌≤◌, List, [], ◌�
 use Rattle.std.proofs.lemmas.Bool.Decides.{nat_tests}
 use Rattle.js_tree.specs.Count.{node_count}
 use Rattle.js_syntax.specs.declared.node_kind.NodeKind.{NodeKind as Kind}
-use Rattle.js_syntax.specs.declared.node_kind.NodeKind.TheVariants.{EmptyStatement as empty_statement, ExpressionStatement as expression_statement, IfStatement as if_statement, SwitchCase as switch_case, MethodDefinition as method_definition, VariableDeclaration as variable_declaration, Declarators as declarators}
+use Rattle.js_syntax.specs.declared.node_kind.NodeKind.TheVariants.{EmptyStatement as empty_statement, ExpressionStatement as expression_statement, SwitchCase as switch_case, MethodDefinition as method_definition, VariableDeclaration as variable_declaration, Declarators as declarators}
 use Rattle.js_syntax.specs.declared.kind.MethodKind.TheVariants as method_kind
 use Rattle.js_syntax.specs.declared.kind.VariableKind.{VariableKind}
 use Rattle.js_syntax.specs.Node.{Forest, nothing, node}
 use Rattle.form_rules.specs.Rules.{places_of, all_but_first, first_below, length_of, is_default, is_constructor, has_initializer, is_declarator_wrong, counts_right}
-use Rattle.steps.specs.KeepForm.Sheds.{Row, parts, items, of_item, of_declarators, of_head, of_import, of_specifiers, other, row_below, asked_below, may_leave, may_empty, keeps_one, Around, entered, Sheds, ends, keeps_absent, keeps, leaves, empties, empties_if, becomes}
+use Rattle.steps.specs.KeepForm.Sheds.{Row, parts, items, of_item, of_declarators, of_head, of_import, of_specifiers, other, row_below, asked_below, may_leave, may_empty, keeps_one, Around, entered, Sheds, ends, keeps_absent, keeps, leaves, empties, empties_idle, becomes}
 use Rattle.steps.specs.KeepForm.Part.{is_asked_for}
 use Rattle.steps.proofs.KeepForm.Asked.{new_unasked, no_default, no_constructor, not_asked}
 use Rattle.steps.proofs.KeepForm.Fewer.{Fewer, none, both, more}
@@ -38,8 +38,8 @@ module _ (test : Kind → Forest → Bool) where
   places_fewer p q same emptied unasked (leaves {k = k} {n = n} {a = a} may out strict rest) = less_if (test k a) q (places_fewer p (q + node_count (node k n a nothing)) same emptied unasked rest)
   places_fewer p q same emptied unasked (empties {n = n} {m = m} {a = a} may rest) =
       rw (emptied may) (less_if (test expression_statement a) q (places_fewer (p + node_count (node empty_statement m nothing nothing)) (q + node_count (node expression_statement n a nothing)) same emptied unasked rest))
-  places_fewer p q same emptied unasked (empties_if {n = n} {m = m} {a = a} may unnamed rest) =
-      rw (emptied may) (less_if (test if_statement a) q (places_fewer (p + node_count (node empty_statement m nothing nothing)) (q + node_count (node if_statement n a nothing)) same emptied unasked rest))
+  places_fewer p q same emptied unasked (empties_idle {k = k} {n = n} {m = m} {a = a} idle loops may unnamed rest) =
+      rw (emptied may) (less_if (test k a) q (places_fewer (p + node_count (node empty_statement m nothing nothing)) (q + node_count (node k n a nothing)) same emptied unasked rest))
   places_fewer p q same emptied unasked (becomes {w = w} {k = k} {l = l} {n = n} {m = m} {a = a} {b = b} part may bare rest) =
       rw (unasked (not_asked w k may) l b (new_unasked part)) (less_if (test k a) q (places_fewer (p + node_count (node l m b nothing)) (q + node_count (node k n a nothing)) same emptied unasked rest))
 
@@ -157,7 +157,7 @@ length_fewer (keeps_absent rest) = length_fewer rest
 length_fewer (keeps one below rest) = omega (arith, length_fewer rest)
 length_fewer (leaves may out strict rest) = omega (arith, length_fewer rest)
 length_fewer (empties may rest) = omega (arith, length_fewer rest)
-length_fewer (empties_if may unnamed rest) = omega (arith, length_fewer rest)
+length_fewer (empties_idle idle loops may unnamed rest) = omega (arith, length_fewer rest)
 length_fewer (becomes part may bare rest) = omega (arith, length_fewer rest)
 
 counts_fewer : (is_head : Bool) (m n : ℕ) → m ≤ n → (n == 0 || not (m == 0)) ≡ true → counts_right is_head n ≡ true → counts_right is_head m ≡ true
@@ -177,7 +177,7 @@ counts_stay is_head is asked (keeps {w = w} {k = k} {a = a} {b = b} one below re
     counts_in is_head (row_below w.row k) a b (below_declaration w.row k is) one (length_fewer below) (λ d. length_same d below) right
 counts_stay is_head {w = w} is asked (leaves may out strict rest) right = absurd (cc (may, (variables_stay w.row is).0))
 counts_stay is_head {w = w} is asked (empties may rest) right = absurd (cc (may, (variables_stay w.row is).1))
-counts_stay is_head {w = w} is asked (empties_if may unnamed rest) right = absurd (cc (may, (variables_stay w.row is).1))
+counts_stay is_head {w = w} is asked (empties_idle idle loops may unnamed rest) right = absurd (cc (may, (variables_stay w.row is).1))
 counts_stay is_head {w = w} is asked (becomes {k = k} part may bare rest) right = absurd (cc (asked, not_asked w k may))
 
 pub below_same : {w : Around} {t u : Forest} → w.row ≡ other → w.is_asked ≡ true → Sheds w t u → length_of (first_below u) ≡ length_of (first_below t)
@@ -186,7 +186,7 @@ below_same is asked (keeps_absent rest) = refl
 below_same is asked (keeps {w = w} {k = k} one below rest) = length_same (plain_stays w.row k (ap is_plain is)) below
 below_same is asked (leaves may out strict rest) = absurd (cc (may, ap may_leave is))
 below_same is asked (empties may rest) = absurd (cc (may, ap may_empty is))
-below_same is asked (empties_if may unnamed rest) = absurd (cc (may, ap may_empty is))
+below_same is asked (empties_idle idle loops may unnamed rest) = absurd (cc (may, ap may_empty is))
 below_same is asked (becomes {w = w} {k = k} part may bare rest) = absurd (cc (asked, not_asked w k may))
 
 plain_below : (row : Row) (k : Kind) → of_variables row ≡ true → is_plain (row_below row k) ≡ true
@@ -220,5 +220,5 @@ declarators_left is_head how p q is asked (keeps_absent rest) right = refl
 declarators_left is_head how p q is asked (keeps {w = w} {k = k} one below rest) right = none_wrong is_head how p q (plain_below w.row k is) (asked_in_it w.row k is) below right
 declarators_left is_head how p q {w = w} is asked (leaves may out strict rest) right = absurd (cc (may, (variables_stay w.row is).0))
 declarators_left is_head how p q {w = w} is asked (empties may rest) right = absurd (cc (may, (variables_stay w.row is).1))
-declarators_left is_head how p q {w = w} is asked (empties_if may unnamed rest) right = absurd (cc (may, (variables_stay w.row is).1))
+declarators_left is_head how p q {w = w} is asked (empties_idle idle loops may unnamed rest) right = absurd (cc (may, (variables_stay w.row is).1))
 declarators_left is_head how p q {w = w} is asked (becomes {k = k} part may bare rest) right = absurd (cc (asked, not_asked w k may))

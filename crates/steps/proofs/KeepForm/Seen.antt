@@ -3,16 +3,16 @@ use Rattle.std.proofs.Common.{◌≡◌, ℕ, ◌+◌, List, [], ◌∷◌, ◌+
 use Rattle.std.specs.Str.{bytes_eq}
 use Rattle.js_tree.specs.Count.{node_count}
 use Rattle.js_syntax.specs.declared.node_kind.NodeKind.{NodeKind as Kind}
-use Rattle.js_syntax.specs.declared.node_kind.NodeKind.TheVariants.{Directive as directive, Statements as statements, FunctionBody as function_body, Parameters as parameters, BindingName as binding_name, ReferenceName as reference_name, ParenthesizedExpression as parenthesized_expression, Super as super, PrivateName as private_name, ClassBody as class_body, Members as members, MethodDefinition as method_definition, PropertyDefinition as property_definition, LabeledStatement as labeled_statement}
+use Rattle.js_syntax.specs.declared.node_kind.NodeKind.TheVariants.{Directive as directive, Statements as statements, FunctionBody as function_body, Parameters as parameters, BindingName as binding_name, ReferenceName as reference_name, ParenthesizedExpression as parenthesized_expression, Super as super, PrivateName as private_name, ClassBody as class_body, Members as members, MethodDefinition as method_definition, PropertyDefinition as property_definition, LabeledStatement as labeled_statement, EmptyStatement as empty_statement}
 use Rattle.js_syntax.specs.declared.value.Key.TheVariants.{Below as key_below}
 use Rattle.js_syntax.specs.Node.{Note, Forest, nothing, node, alone}
 use Rattle.form_rules.specs.declared.role.Half.{Half}
 use Rattle.form_rules.specs.declared.role.Half.TheVariants.{Whole as whole}
 use Rattle.form_rules.specs.Context.{has_use_strict, is_strict_list, is_strict_function, private_key_of, privates_of, extends_another, is_absent, is_loop}
 use Rattle.form_rules.specs.Rules.{are_names, have_plain_parameters, Private, privates_named, half_of, private_of, privates_among, first_is_super, is_bare_name, is_name_first, is_last, is_rest, early_rests}
-use Rattle.steps.specs.KeepForm.Sheds.{row_below, deleted_below, may_leave, may_come_out, Around, entered, Sheds, ends, keeps_absent, keeps, leaves, empties, empties_if, becomes}
-use Rattle.steps.proofs.KeepForm.Asked.{old_unasked, new_unasked, not_strict, no_strict_list, no_body, no_name, no_parameters, no_private_key, no_privates, no_private, no_loop, no_super, bare_alone, no_bound_name, no_rest}
-use Rattle.steps.proofs.KeepForm.Fewer.{Fewer, none, both, beside, SamePrivate, left_out, leave_out}
+use Rattle.steps.specs.KeepForm.Sheds.{row_below, deleted_below, labeled_below, may_leave, may_come_out, Around, entered, Sheds, ends, keeps_absent, keeps, leaves, empties, empties_idle, becomes}
+use Rattle.steps.proofs.KeepForm.Asked.{idle_kinds, old_unasked, new_unasked, not_strict, no_strict_list, no_body, no_name, no_parameters, no_private_key, no_privates, no_private, no_loop, no_super, bare_alone, no_bound_name, no_rest}
+use Rattle.steps.proofs.KeepForm.Fewer.{Fewer, none, both, behind_all, beside, SamePrivate, left_out, leave_out}
 use Rattle.js_syntax.proofs.Truth.{not_true}
 use Rattle.steps.proofs.KeepForm.Rows.{stays_below, behind_left, behind_is, absent_same}
 
@@ -28,7 +28,7 @@ strict_same (keeps_absent rest) = refl
 strict_same (keeps {k = k} {n = n} {m = m} {a = a} {b = b} {r = r} {s = s} one below rest) = strict_node k n m a b r s (strict_same rest)
 strict_same (leaves may out strict rest) = strict_same rest ∙ strict
 strict_same (empties may rest) = refl
-strict_same (empties_if may unnamed rest) = refl
+strict_same (empties_idle {k = k} {n = n} {a = a} {r = r} idle loops may unnamed rest) = idle_kinds (λ z. false ≡ has_use_strict (node z n a r)) refl refl refl refl refl (λ label. refl) k idle
 strict_same (becomes {k = k} {l = l} {n = n} {m = m} {a = a} {b = b} {r = r} {s = s} part may bare rest) = not_strict l m b s (new_unasked part) ∙ sym (not_strict k n a r (old_unasked part))
 
 list_node : (w : Around) (k : Kind) (n m : Note) (a b r s : Forest) → Sheds (entered w k a) a b → is_strict_list (node k m b s) ≡ is_strict_list (node k n a r)
@@ -41,7 +41,7 @@ list_same stays (keeps_absent rest) = refl
 list_same stays (keeps {w = w} {k = k} {n = n} {m = m} {a = a} {b = b} {r = r} {s = s} one below rest) = list_node w k n m a b r s below
 list_same stays (leaves may out strict rest) = absurd (cc (stays, may))
 list_same stays (empties may rest) = refl
-list_same stays (empties_if may unnamed rest) = refl
+list_same stays (empties_idle {k = k} {n = n} {a = a} {r = r} idle loops may unnamed rest) = idle_kinds (λ z. false ≡ is_strict_list (node z n a r)) refl refl refl refl refl (λ label. refl) k idle
 list_same stays (becomes {k = k} {l = l} {n = n} {m = m} {a = a} {b = b} {r = r} {s = s} part may bare rest) = no_strict_list l m b s (new_unasked part) ∙ sym (no_strict_list k n a r (old_unasked part))
 
 function_node : (w : Around) (k : Kind) (n m : Note) (a b r s : Forest) → Sheds (entered w k a) a b → is_strict_function s ≡ is_strict_function r → is_strict_function (node k m b s) ≡ is_strict_function (node k n a r)
@@ -54,7 +54,7 @@ function_same stays (keeps_absent rest) = function_same stays rest
 function_same stays (keeps {w = w} {k = k} {n = n} {m = m} {a = a} {b = b} {r = r} {s = s} one below rest) = function_node w k n m a b r s below (function_same stays rest)
 function_same stays (leaves may out strict rest) = absurd (cc (stays, may))
 function_same stays (empties may rest) = function_same stays rest
-function_same stays (empties_if may unnamed rest) = function_same stays rest
+function_same stays (empties_idle {k = k} {n = n} {a = a} {r = r} idle loops may unnamed rest) = function_same stays rest ∙ idle_kinds (λ z. is_strict_function r ≡ is_strict_function (node z n a r)) refl refl refl refl refl (λ label. refl) k idle
 function_same stays (becomes {k = k} {l = l} {n = n} {m = m} {a = a} {b = b} {r = r} {s = s} part may bare rest) =
     no_body l m b s (new_unasked part) ∙ function_same stays rest ∙ sym (no_body k n a r (old_unasked part))
 
@@ -70,7 +70,7 @@ names_same stays (keeps_absent rest) = names_same stays rest
 names_same stays (keeps {k = k} {n = n} {m = m} {a = a} {b = b} {r = r} {s = s} one below rest) = names_node k n m a b r s (names_same stays rest)
 names_same stays (leaves may out strict rest) = absurd (cc (stays, may))
 names_same stays (empties may rest) = refl
-names_same stays (empties_if may unnamed rest) = refl
+names_same stays (empties_idle {k = k} {n = n} {a = a} {r = r} idle loops may unnamed rest) = idle_kinds (λ z. false ≡ are_names (node z n a r)) refl refl refl refl refl (λ label. refl) k idle
 names_same stays (becomes {k = k} {l = l} {n = n} {m = m} {a = a} {b = b} {r = r} {s = s} part may bare rest) = no_name l m b s (new_unasked part) ∙ sym (no_name k n a r (old_unasked part))
 
 plain_node : (w : Around) (k : Kind) (n m : Note) (a b r s : Forest) → Sheds (entered w k a) a b → have_plain_parameters s ≡ have_plain_parameters r → have_plain_parameters (node k m b s) ≡ have_plain_parameters (node k n a r)
@@ -83,7 +83,7 @@ plain_same stays (keeps_absent rest) = plain_same stays rest
 plain_same stays (keeps {w = w} {k = k} {n = n} {m = m} {a = a} {b = b} {r = r} {s = s} one below rest) = plain_node w k n m a b r s below (plain_same stays rest)
 plain_same stays (leaves may out strict rest) = absurd (cc (stays, may))
 plain_same stays (empties may rest) = plain_same stays rest
-plain_same stays (empties_if may unnamed rest) = plain_same stays rest
+plain_same stays (empties_idle {k = k} {n = n} {a = a} {r = r} idle loops may unnamed rest) = plain_same stays rest ∙ idle_kinds (λ z. have_plain_parameters r ≡ have_plain_parameters (node z n a r)) refl refl refl refl refl (λ label. refl) k idle
 plain_same stays (becomes {k = k} {l = l} {n = n} {m = m} {a = a} {b = b} {r = r} {s = s} part may bare rest) =
     no_parameters l m b s (new_unasked part) ∙ plain_same stays rest ∙ sym (no_parameters k n a r (old_unasked part))
 
@@ -99,7 +99,7 @@ key_same stays (keeps_absent rest) = refl
 key_same stays (keeps {k = k} {n = n} {m = m} {a = a} {b = b} {r = r} {s = s} one below rest) = key_node k n m a b r s
 key_same stays (leaves may out strict rest) = absurd (cc (stays, may))
 key_same stays (empties may rest) = refl
-key_same stays (empties_if may unnamed rest) = refl
+key_same stays (empties_idle {k = k} {n = n} {a = a} {r = r} idle loops may unnamed rest) = idle_kinds (λ z. [] ≡ private_key_of (node z n a r)) refl refl refl refl refl (λ label. refl) k idle
 key_same stays (becomes {k = k} {l = l} {n = n} {m = m} {a = a} {b = b} {r = r} {s = s} part may bare rest) = no_private_key l m b s (new_unasked part) ∙ sym (no_private_key k n a r (old_unasked part))
 
 privates_node : (w : Around) (k : Kind) (n m : Note) (a b r s : Forest) → Sheds (entered w k a) a b → (may_leave (row_below w.row k) ≡ false → privates_of b ≡ privates_of a) → privates_of s ≡ privates_of r
@@ -118,7 +118,7 @@ privates_same stays (keeps_absent rest) = privates_same stays rest
 privates_same stays (keeps {w = w} {k = k} {n = n} {m = m} {a = a} {b = b} {r = r} {s = s} one below rest) = privates_node w k n m a b r s below (λ d. privates_same d below) (privates_same stays rest)
 privates_same stays (leaves may out strict rest) = absurd (cc (stays, may))
 privates_same stays (empties may rest) = privates_same stays rest
-privates_same stays (empties_if may unnamed rest) = privates_same stays rest
+privates_same stays (empties_idle {k = k} {n = n} {a = a} {r = r} idle loops may unnamed rest) = privates_same stays rest ∙ idle_kinds (λ z. privates_of r ≡ privates_of (node z n a r)) refl refl refl refl refl (λ label. refl) k idle
 privates_same stays (becomes {k = k} {l = l} {n = n} {m = m} {a = a} {b = b} {r = r} {s = s} part may bare rest) =
     no_privates l m b s (new_unasked part) ∙ privates_same stays rest ∙ sym (no_privates k n a r (old_unasked part))
 
@@ -142,24 +142,25 @@ privates_fewer p q stays (keeps {w = w} {k = k} {n = n} {m = m} {a = a} {b = b} 
     beside (private_node w k p q a b below) (privates_fewer (p + node_count (node k m b nothing)) (q + node_count (node k n a nothing)) stays rest)
 privates_fewer p q stays (leaves may out strict rest) = absurd (cc (stays, may))
 privates_fewer p q stays (empties may rest) = privates_fewer _ _ stays rest
-privates_fewer p q stays (empties_if may unnamed rest) = privates_fewer _ _ stays rest
+privates_fewer p q stays (empties_idle {k = k} {a = a} idle loops may unnamed rest) = behind_all (private_of k q a) (privates_fewer _ _ stays rest)
 privates_fewer p q stays (becomes {k = k} {l = l} {n = n} {m = m} {a = a} {b = b} {r = r} {s = s} part may bare rest) =
     rw (no_private l p b (new_unasked part), no_private k q a (old_unasked part)) (privates_fewer _ _ stays rest)
 
 -- ---- loops, `super`, and names in parentheses
 
-loop_node : (w : Around) (k : Kind) (n m : Note) (a b r s : Forest) → (may_leave (row_below w.row k) ≡ false → is_loop b ≡ is_loop a) → is_loop (node k m b s) ≡ is_loop (node k n a r)
-loop_node w (labeled_statement label) n m a b r s f = f (stays_below w.row (labeled_statement label) refl)
+loop_node : (w : Around) (k : Kind) (n m : Note) (a b r s : Forest) → (may_leave (row_below w.row k) ≡ false → labeled_below k ≡ true → is_loop b ≡ is_loop a) → is_loop (node k m b s) ≡ is_loop (node k n a r)
+loop_node w (labeled_statement label) n m a b r s f = f (stays_below w.row (labeled_statement label) refl) refl
 loop_node w k n m a b r s f = refl
 
-pub loop_same : {w : Around} {t u : Forest} → may_leave w.row ≡ false → Sheds w t u → is_loop u ≡ is_loop t
-loop_same stays ends = refl
-loop_same stays (keeps_absent rest) = refl
-loop_same stays (keeps {w = w} {k = k} {n = n} {m = m} {a = a} {b = b} {r = r} {s = s} one below rest) = loop_node w k n m a b r s (λ d. loop_same d below)
-loop_same stays (leaves may out strict rest) = absurd (cc (stays, may))
-loop_same stays (empties may rest) = refl
-loop_same stays (empties_if may unnamed rest) = refl
-loop_same stays (becomes {k = k} {l = l} {n = n} {m = m} {a = a} {b = b} {r = r} {s = s} part may bare rest) = no_loop l m b s (new_unasked part) ∙ sym (no_loop k n a r (old_unasked part))
+-- behind a label
+pub loop_same : {w : Around} {t u : Forest} → may_leave w.row ≡ false → w.is_labeled ≡ true → Sheds w t u → is_loop u ≡ is_loop t
+loop_same stays labeled ends = refl
+loop_same stays labeled (keeps_absent rest) = refl
+loop_same stays labeled (keeps {w = w} {k = k} {n = n} {m = m} {a = a} {b = b} {r = r} {s = s} one below rest) = loop_node w k n m a b r s (λ d e. loop_same d e below)
+loop_same stays labeled (leaves may out strict rest) = absurd (cc (stays, may))
+loop_same stays labeled (empties may rest) = refl
+loop_same stays labeled (empties_idle idle loops may unnamed rest) = sym (loops labeled)
+loop_same stays labeled (becomes {k = k} {l = l} {n = n} {m = m} {a = a} {b = b} {r = r} {s = s} part may bare rest) = no_loop l m b s (new_unasked part) ∙ sym (no_loop k n a r (old_unasked part))
 
 super_node : (k : Kind) (n m : Note) (a b r s : Forest) → first_is_super (node k m b s) ≡ first_is_super (node k n a r)
 super_node super n m a b r s = refl
@@ -171,7 +172,7 @@ super_same stays (keeps_absent rest) = refl
 super_same stays (keeps {k = k} {n = n} {m = m} {a = a} {b = b} {r = r} {s = s} one below rest) = super_node k n m a b r s
 super_same stays (leaves may out strict rest) = absurd (cc (stays, may))
 super_same stays (empties may rest) = refl
-super_same stays (empties_if may unnamed rest) = refl
+super_same stays (empties_idle {k = k} {n = n} {a = a} {r = r} idle loops may unnamed rest) = idle_kinds (λ z. false ≡ first_is_super (node z n a r)) refl refl refl refl refl (λ label. refl) k idle
 super_same stays (becomes {k = k} {l = l} {n = n} {m = m} {a = a} {b = b} {r = r} {s = s} part may bare rest) = no_super l m b s (new_unasked part) ∙ sym (no_super k n a r (old_unasked part))
 
 bare_node : (w : Around) (k : Kind) (n m : Note) (a b r s : Forest) → w.is_deleted ≡ true → (may_leave (row_below w.row k) ≡ false → deleted_below w.is_deleted k ≡ true → is_bare_name b ≡ true → is_bare_name a ≡ true)
@@ -191,7 +192,7 @@ bare_kept stays taken (keeps_absent rest) h = h
 bare_kept stays taken (keeps {w = w} {k = k} {n = n} {m = m} {a = a} {b = b} {r = r} {s = s} one below rest) h = bare_node w k n m a b r s taken (λ d e. bare_kept d e below) h
 bare_kept stays taken (leaves may out strict rest) h = absurd (cc (stays, may))
 bare_kept stays taken (empties may rest) h = h
-bare_kept stays taken (empties_if may unnamed rest) h = h
+bare_kept stays taken (empties_idle idle loops may unnamed rest) h = absurd (true≢false (sym h))
 bare_kept stays taken (becomes {w = w} {l = l} {m = m} {b = b} {s = s} part may bare rest) h = absurd (true≢false (sym h ∙ bare_alone l m b s ∙ not_out w.is_deleted (alone l m b) taken bare))
 
 name_node : (k : Kind) (n m : Note) (a b r s : Forest) → is_name_first (node k m b s) ≡ is_name_first (node k n a r)
@@ -204,7 +205,7 @@ name_same stays (keeps_absent rest) = refl
 name_same stays (keeps {k = k} {n = n} {m = m} {a = a} {b = b} {r = r} {s = s} one below rest) = name_node k n m a b r s
 name_same stays (leaves may out strict rest) = absurd (cc (stays, may))
 name_same stays (empties may rest) = refl
-name_same stays (empties_if may unnamed rest) = refl
+name_same stays (empties_idle {k = k} {n = n} {a = a} {r = r} idle loops may unnamed rest) = idle_kinds (λ z. false ≡ is_name_first (node z n a r)) refl refl refl refl refl (λ label. refl) k idle
 name_same stays (becomes {k = k} {l = l} {n = n} {m = m} {a = a} {b = b} {r = r} {s = s} part may bare rest) = no_bound_name l m b s (new_unasked part) ∙ sym (no_bound_name k n a r (old_unasked part))
 
 -- ---- rests stand last
@@ -215,7 +216,7 @@ last_same stays (keeps_absent rest) = refl
 last_same stays (keeps one below rest) = refl
 last_same stays (leaves may out strict rest) = absurd (cc (stays, may))
 last_same stays (empties may rest) = refl
-last_same stays (empties_if may unnamed rest) = refl
+last_same stays (empties_idle idle loops may unnamed rest) = refl
 last_same stays (becomes part may bare rest) = refl
 
 pub rests_last : (p q : ℕ) {w : Around} {t u : Forest} → may_leave w.row ≡ false → Sheds w t u → early_rests q t ≡ [] → early_rests p u ≡ []
@@ -226,7 +227,8 @@ rests_last p q stays (keeps {k = k} {n = n} {m = m} {a = a} {b = b} {r = r} one 
     leave_out _ _ _ (ap (λ x. is_rest k && not x) (last_same stays rest) ∙ told.0) (rests_last (p + node_count (node k m b nothing)) (q + node_count (node k n a nothing)) stays rest told.1)
 rests_last p q stays (leaves may out strict rest) h = absurd (cc (stays, may))
 rests_last p q stays (empties may rest) h = rests_last _ _ stays rest h
-rests_last p q stays (empties_if may unnamed rest) h = rests_last _ _ stays rest h
+rests_last p q stays (empties_idle {k = k} {n = n} {m = m} {a = a} {r = r} idle loops may unnamed rest) h =
+    rests_last (p + node_count (node empty_statement m nothing nothing)) (q + node_count (node k n a nothing)) stays rest (left_out (is_rest k && not (is_last r)) q (early_rests (q + node_count (node k n a nothing)) r) h).1
 rests_last p q stays (becomes {k = k} {l = l} {n = n} {m = m} {a = a} {b = b} {r = r} {s = s} part may bare rest) h =
     rw (no_rest l (new_unasked part)) (rests_last (p + node_count (node l m b nothing)) (q + node_count (node k n a nothing)) stays rest
     (left_out (is_rest k && not (is_last r)) q (early_rests (q + node_count (node k n a nothing)) r) h).1)

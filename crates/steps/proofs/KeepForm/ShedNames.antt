@@ -4,14 +4,14 @@ use Rattle.std.specs.Str.{bytes_eq}
 use Rattle.std.proofs.lemmas.Slice.Eq.{bytes_eq-Decides}
 use Rattle.js_tree.specs.Count.{one_each, node_count}
 use Rattle.js_syntax.specs.declared.node_kind.NodeKind.{NodeKind as Kind}
-use Rattle.js_syntax.specs.declared.node_kind.NodeKind.TheVariants.{Program as program, BindingName as binding_name, EmptyStatement as empty_statement, ExpressionStatement as expression_statement, IfStatement as if_statement}
+use Rattle.js_syntax.specs.declared.node_kind.NodeKind.TheVariants.{Program as program, BindingName as binding_name, EmptyStatement as empty_statement, ExpressionStatement as expression_statement}
 use Rattle.js_syntax.specs.Node.{Note, Forest, nothing, node, absent, alone, joined}
 use Rattle.form_rules.specs.declared.sought.Sought.{Sought}
 use Rattle.form_rules.specs.declared.sought.Sought.TheVariants.{Nothing as none_sought, Names as names, Bound as bound, Scope as scope, Variables as variables, FunctionScope as function_scope, CatchScope as catch_scope}
 use Rattle.js_syntax.specs.declared.scalar.SourceType.{SourceType}
 use Rattle.form_rules.specs.Scope.{Declared, declared, declared_here, sought_below}
 use Rattle.form_rules.specs.Rules.{Exported, is_exported, is_declared}
-use Rattle.steps.specs.KeepForm.Sheds.{Around, exports_none, sought_inside, exported_below, Sheds, ends, keeps_absent, keeps, leaves, empties, empties_if, becomes}
+use Rattle.steps.specs.KeepForm.Sheds.{Around, exports_none, sought_inside, exported_below, Sheds, ends, keeps_absent, keeps, leaves, empties, empties_idle, becomes}
 use Rattle.steps.specs.KeepForm.Part.{StandsFor, RebuildsTo, Replaces, by_part, by_parts}
 use Rattle.steps.proofs.KeepForm.Asked.{old_unasked, no_name_here, is_of_catch, sought_alike, no_catch_below, no_catch_inside, not_asked}
 use Rattle.steps.proofs.KeepForm.Fewer.{Fewer, none, both, more, fewest, behind_all, beside, SameName}
@@ -89,10 +89,10 @@ fewer_declared s p q catch (empties {n = n} {m = m} {a = a} {s = r} h rest) =
     rw (declares_nothing s p m r)
     (behind_all (declared_here s q expression_statement ++ declared (sought_below s expression_statement) (q + one_each expression_statement) a)
     (fewer_declared s (p + node_count (alone empty_statement m nothing)) (q + node_count (alone expression_statement n a)) catch rest))
-fewer_declared s p q catch (empties_if {n = n} {m = m} {a = a} {s = r} h unnamed rest) =
+fewer_declared s p q catch (empties_idle {k = k} {n = n} {m = m} {a = a} {s = r} idle loops h unnamed rest) =
     rw (declares_nothing s p m r)
-    (behind_all (declared_here s q if_statement ++ declared (sought_below s if_statement) (q + one_each if_statement) a)
-    (fewer_declared s (p + node_count (alone empty_statement m nothing)) (q + node_count (alone if_statement n a)) catch rest))
+    (behind_all (declared_here s q k ++ declared (sought_below s k) (q + one_each k) a)
+    (fewer_declared s (p + node_count (alone empty_statement m nothing)) (q + node_count (alone k n a)) catch rest))
 fewer_declared s p q catch (becomes {w = w} {k = k} {l = l} {n = n} {m = m} {a = a} {b = b} part may bare rest) =
     beside (behind_all (declared_here s q k) (replaced_declared s p (q + one_each k) (no_catch (is_of_catch s) refl) part))
     (fewer_declared s (p + node_count (alone l m b)) (q + node_count (alone k n a)) catch rest)
@@ -241,8 +241,8 @@ still_declared x p q calm (leaves {w = w} {k = k} {n = n} {a = a} {r = r} may ou
 still_declared x p q calm (empties {w = w} {n = n} {m = m} {a = a} {r = r} {s = s} may rest) e h =
     ap (is_declared x) (declares_nothing w.sought p m s)
     ∙ still_declared x (p + node_count (alone empty_statement m nothing)) (q + node_count (alone expression_statement n a)) calm rest e (sym (ap (is_declared x) (nothing_of_expression w.sought q n a r)) ∙ h)
-still_declared x p q calm (empties_if {w = w} {n = n} {m = m} {a = a} {r = r} {s = s} may unnamed rest) e h =
-    let further = skipped w.sought q (alone if_statement n a) r (unnamed w.sought q) in
+still_declared x p q calm (empties_idle {w = w} {k = k} {n = n} {m = m} {a = a} {r = r} {s = s} idle loops may unnamed rest) e h =
+    let further = skipped w.sought q (alone k n a) r (unnamed q) in
     ap (is_declared x) (declares_nothing w.sought p m s) ∙ still_declared x (p + node_count (alone empty_statement m nothing)) further.0 calm rest e (sym (ap (is_declared x) further.1) ∙ h)
 still_declared x p q calm (becomes {w = w} {k = k} {l = l} {n = n} {m = m} {a = a} {b = b} {r = r} {s = s} part may bare rest) e h =
     declared_node x w.sought p l m b s

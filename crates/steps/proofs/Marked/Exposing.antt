@@ -19,7 +19,8 @@ use Rattle.steps.specs.KeepForm.Part.{gives_way, is_asked_for}
 use Rattle.steps.specs.Owed.Kept.{is_program}
 use Rattle.steps.specs.Allowed.Exposure.{Exposure, in_code, in_block, declaring, shares, is_script_source, at_function_name, at_class_name, exposed_inside, beside_program}
 use Rattle.js_syntax.proofs.Truth.{first_of_either, second_of_either}
-use Rattle.steps.proofs.Marked.Cuts.{Cuts, leaves, empties, empties_if, parts, rebuilds, inside, behind, behind_none}
+use Rattle.steps.proofs.KeepForm.Asked.{idle_kinds}
+use Rattle.steps.proofs.Marked.Cuts.{Cuts, leaves, empties, empties_idle, parts, rebuilds, inside, behind, behind_none}
 use Rattle.steps.proofs.Marked.Rebuilding.{one_evals}
 
 -- ---- truth values
@@ -86,7 +87,7 @@ evals_part (node k n c v) l j b w e = second_of_either (is_some (eval_of_call k 
 evals_stay : (listed : Bool) (t u : Forest) → Cuts listed t u → Only (has_eval u) (has_eval t)
 evals_stay listed t u (leaves k n below rest plain) e = second_of_either (is_some (eval_of_call k below) || has_eval below) (has_eval rest) e
 evals_stay listed t u (empties r n m below rest) e = second_of_either (has_eval below) (has_eval rest) e
-evals_stay listed t u (empties_if r n m below rest) e = second_of_either (has_eval below) (has_eval rest) e
+evals_stay listed t u (empties_idle r k n m below rest idle) e = second_of_either (is_some (eval_of_call k below) || has_eval below) (has_eval rest) e
 evals_stay listed t u (parts r k l i j b v w rest gives unasked) e =
     let whole = joined v (node l j b w) in
     only_or (is_some (eval_of_call l b) || has_eval b) (has_eval rest) (is_some (eval_of_call k whole) || has_eval whole) (has_eval rest)
@@ -103,7 +104,7 @@ evals_stay listed t u (behind_none r rest now h) e = evals_stay r rest now h e
 evals_behind : (listed : Bool) (t u : Forest) → Cuts listed t u → listed ≡ false → Only (has_eval (behind_first u)) (has_eval (behind_first t))
 evals_behind listed t u (leaves k n below rest plain) l e = absurd (true≢false l)
 evals_behind listed t u (empties r n m below rest) l e = e
-evals_behind listed t u (empties_if r n m below rest) l e = e
+evals_behind listed t u (empties_idle r k n m below rest idle) l e = e
 evals_behind listed t u (parts r k x i j b v w rest gives unasked) l e = e
 evals_behind listed t u (rebuilds r k x n m a b rest made) l e = e
 evals_behind listed t u (inside r k n below now rest called h) l e = e
@@ -122,7 +123,7 @@ use_strict_stays : (listed : Bool) (t u : Forest) → Cuts listed t u → Only (
 use_strict_stays listed t u (leaves (kind.Directive written) n below rest plain) e = absurd (true≢false plain)
 use_strict_stays listed t u (leaves k n below rest plain) e = never e
 use_strict_stays listed t u (empties r n m below rest) e = never e
-use_strict_stays listed t u (empties_if r n m below rest) e = never e
+use_strict_stays listed t u (empties_idle r k n m below rest idle) e = never (idle_kinds (λ z. false ≡ has_use_strict (node z n below rest)) refl refl refl refl refl (λ label. refl) k idle ∙ e)
 use_strict_stays listed t u (parts r k l i j b v w rest gives unasked) e = never (sym (no_directive k i (joined v (node l j b w)) rest gives) ∙ e)
 use_strict_stays listed t u (rebuilds r k l n m a b rest made) e = never (sym (part_no_directive k n a rest made.old_unasked) ∙ e)
 use_strict_stays listed t u (inside r (kind.Directive written) n below now rest called h) e = e
@@ -135,7 +136,7 @@ use_strict_stays listed t u (behind_none r rest now h) e = never e
 list_stays : (listed : Bool) (t u : Forest) → Cuts listed t u → listed ≡ false → Only (is_strict_list t) (is_strict_list u)
 list_stays listed t u (leaves k n below rest plain) l e = absurd (true≢false l)
 list_stays listed t u (empties r n m below rest) l e = never e
-list_stays listed t u (empties_if r n m below rest) l e = never e
+list_stays listed t u (empties_idle r k n m below rest idle) l e = never (idle_kinds (λ z. false ≡ is_strict_list (node z n below rest)) refl refl refl refl refl (λ label. refl) k idle ∙ e)
 list_stays listed t u (parts r k x i j b v w rest gives unasked) l e = never (sym (no_list k i (joined v (node x j b w)) rest gives) ∙ e)
 list_stays listed t u (rebuilds r k x n m a b rest made) l e = never (sym (part_no_list k n a rest made.old_unasked) ∙ e)
 list_stays listed t u (inside r kind.Statements n below now rest called h) l e = use_strict_stays true below now h e
@@ -147,7 +148,7 @@ list_stays listed t u (behind_none r rest now h) l e = never e
 function_stays : (listed : Bool) (t u : Forest) → Cuts listed t u → listed ≡ false → Only (is_strict_function t) (is_strict_function u)
 function_stays listed t u (leaves k n below rest plain) l e = absurd (true≢false l)
 function_stays listed t u (empties r n m below rest) l e = e
-function_stays listed t u (empties_if r n m below rest) l e = e
+function_stays listed t u (empties_idle r k n m below rest idle) l e = idle_kinds (λ z. is_strict_function rest ≡ is_strict_function (node z n below rest)) refl refl refl refl refl (λ label. refl) k idle ∙ e
 function_stays listed t u (parts r k x i j b v w rest gives unasked) l e = part_no_body x j b rest unasked ∙ sym (whole_no_body k i (joined v (node x j b w)) rest gives) ∙ e
 function_stays listed t u (rebuilds r k x n m a b rest made) l e = part_no_body x m b rest made.unasked ∙ sym (part_no_body k n a rest made.old_unasked) ∙ e
 function_stays listed t u (inside r kind.FunctionBody n below now rest called h) l e = list_stays false below now h refl e
@@ -159,7 +160,7 @@ function_stays listed t u (behind_none r rest now h) l e = function_stays r rest
 there_same : (listed : Bool) (t u : Forest) → Cuts listed t u → listed ≡ false → is_there u ≡ is_there t
 there_same listed t u (leaves k n below rest plain) l = absurd (true≢false l)
 there_same listed t u (empties r n m below rest) l = refl
-there_same listed t u (empties_if r n m below rest) l = refl
+there_same listed t u (empties_idle r k n m below rest idle) l = refl
 there_same listed t u (parts r k x i j b v w rest gives unasked) l = refl
 there_same listed t u (rebuilds r k x n m a b rest made) l = refl
 there_same listed t u (inside r k n below now rest called h) l = refl
@@ -169,7 +170,7 @@ there_same listed t u (behind_none r rest now h) l = refl
 second_same : (listed : Bool) (t u : Forest) → Cuts listed t u → listed ≡ false → has_second u ≡ has_second t
 second_same listed t u (leaves k n below rest plain) l = absurd (true≢false l)
 second_same listed t u (empties r n m below rest) l = refl
-second_same listed t u (empties_if r n m below rest) l = refl
+second_same listed t u (empties_idle r k n m below rest idle) l = refl
 second_same listed t u (parts r k x i j b v w rest gives unasked) l = refl
 second_same listed t u (rebuilds r k x n m a b rest made) l = refl
 second_same listed t u (inside r k n below now rest called h) l = refl
@@ -262,7 +263,7 @@ less_inside k now below t l at = l
 pub below_stays : (listed : Bool) (t u : Forest) → Cuts listed t u → listed ≡ false → is_program t ≡ true → Only (has_eval (below_of u)) (has_eval (below_of t))
 below_stays listed t u (leaves k n below rest plain) l is e = absurd (true≢false l)
 below_stays listed t u (empties r n m below rest) l is e = never e
-below_stays listed t u (empties_if r n m below rest) l is e = never e
+below_stays listed t u (empties_idle r k n m below rest idle) l is e = never e
 below_stays listed t u (parts r k x i j b v w rest gives unasked) l is e = evals_part v x j b w (second_of_either (is_some (eval_of_call x b)) (has_eval b) e)
 below_stays listed t u (rebuilds r k x n m a b rest made) l is e = never (sym (part_no_program k n a rest made.old_unasked) ∙ is)
 below_stays listed t u (inside r k n below now rest called h) l is e = evals_stay (is_list k) below now h e

@@ -11,9 +11,10 @@ use Rattle.js_rebuilt.specs.Rebuilt.{Rebuilt}
 use Rattle.json_shape.specs.Shape.{is_directive_kind, Fits}
 use Rattle.scope_laws.specs.Place as places
 use Rattle.scope_counts.specs.Edits.{Around, plug, in_list}
-use Rattle.steps.specs.KeepForm.Part.{gives_way, is_asked_for}
+use Rattle.steps.specs.KeepForm.Part.{gives_way, may_be_idle, is_asked_for}
 use Rattle.steps.specs.Allowed.SilentStatement.{silent_statement_empties}
 use Rattle.steps.specs.Allowed.DeadIf.{nothing_is_run}
+use Rattle.steps.specs.Allowed.IdleBody.{idle_body_empties}
 use Rattle.steps.specs.Allowed.UnrunValue.{a_zero, value_never_given}
 use Rattle.steps.specs.Allowed.Edits as edits
 use Rattle.steps.specs.Allowed.Edits.{Leaves, Edit}
@@ -25,6 +26,7 @@ use Rattle.steps.proofs.Owed.Expressions.{expression_declares_nothing}
 use Rattle.steps.proofs.Owed.KnownSide.{known_side_owes}
 use Rattle.steps.proofs.Owed.KnownIf.{known_if_owes}
 use Rattle.steps.proofs.Owed.IdleTry.{idle_try_owes}
+use Rattle.steps.proofs.Owed.IdleBody.{body_kind}
 use Rattle.steps.proofs.Owed.UnusedOperation.{unused_operation_owes}
 use Rattle.steps.proofs.Owed.UnusedList.{unused_list_owes}
 use Rattle.steps.proofs.Owed.IndirectChoice.{indirect_choice_owes}
@@ -52,12 +54,12 @@ pub record IsRebuilt (k : Kind) (n : Note) (a : Forest) (l : Kind) (m : Note) (b
   pub no_deeper : levels (alone l m b) ≤ levels (alone k n a)
   pub picks : Picks k a l b
 
--- A node leaves a list, a statement of an expression or an `if` becomes empty, a part of a node comes in its place, or an expression is
+-- A node leaves a list, a statement of an expression or one that does nothing becomes empty, a part of a node comes in its place, or an expression is
 -- rebuilt of its parts; what comes isn't the name `eval` if it is called.
 pub data Local (place : Around) : (t u : Forest) → Type 0 where
   leaves : (k : Kind) (n : Note) (b rest : Forest) → in_list false place ≡ true → is_directive_kind k ≡ false → 1 ≤ total weight (alone k n b) → Local place (node k n b rest) rest
   empties : (n m : Note) (b rest : Forest) → Local place (node expression_statement n b rest) (node empty_statement m nothing rest)
-  empties_if : (n m : Note) (b rest : Forest) → Local place (node if_statement n b rest) (node empty_statement m nothing rest)
+  empties_idle : (k : Kind) (n m : Note) (b rest : Forest) → may_be_idle k ≡ true → Local place (node k n b rest) (node empty_statement m nothing rest)
   parts : (k l : Kind) (i j : Note) (b v w rest : Forest) → gives_way k ≡ true → is_asked_for l ≡ false → (called_at false place ≡ true → is_some (eval_name (node l j b rest)) ≡ false)
       → Local place (node k i (joined v (node l j b w)) rest) (node l j b rest)
   rebuilds : (k l : Kind) (n m : Note) (a b rest : Forest) → IsRebuilt k n a l m b → (called_at false place ≡ true → is_some (eval_name (node l m b rest)) ≡ false) → Local place (node k n a rest) (node l m b rest)
@@ -133,7 +135,15 @@ is_local t u (edits.becomes a x y (edits.dead_if (nothing_is_run n m i o tested 
   place = place_of a;
   old = node if_statement n (node tested m d (node k i b (absent nothing))) (rest_of a);
   new = node empty_statement o nothing (rest_of a);
-  local = empties_if n o (node tested m d (node k i b (absent nothing))) (rest_of a);
+  local = empties_idle if_statement n o (node tested m d (node k i b (absent nothing))) (rest_of a) refl;
+  old_is = placed_is a x;
+  new_is = placed_is a y;
+}
+is_local t u (edits.becomes a x y (edits.idle_body (idle_body_empties _ m body idle none))) fits = record {
+  place = place_of a;
+  old = node x.kind x.note x.below (rest_of a);
+  new = node empty_statement m nothing (rest_of a);
+  local = empties_idle x.kind x.note m x.below (rest_of a) (body_kind x.kind x.below idle);
   old_is = placed_is a x;
   new_is = placed_is a y;
 }

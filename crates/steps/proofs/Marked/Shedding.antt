@@ -18,7 +18,8 @@ use Rattle.scope_counts.specs.Scopes.{EachName, EachDeclaration, EachUse, EachRe
 use Rattle.steps.specs.KeepForm.Part.{gives_way}
 use Rattle.steps.specs.Allowed.Edits.{Edit, TreeEdits, no_tree_edit, one_tree_edit}
 use Rattle.steps.proofs.Owed.FitsEdits.{edit_fits}
-use Rattle.steps.proofs.Marked.Local.{Local, leaves, empties, empties_if, parts, rebuilds, is_local}
+use Rattle.steps.proofs.Owed.IdleBody.{idle_weighs}
+use Rattle.steps.proofs.Marked.Local.{Local, leaves, empties, empties_idle, parts, rebuilds, is_local}
 
 -- ---- references
 
@@ -31,7 +32,7 @@ module _ (w : Weight) where
   tally_local : (place : Around) (t u : Forest) → Local place t u → tally w u ≤ tally w t
   tally_local place t u (leaves k n b rest listed plain weighs) = Prim.omega arith
   tally_local place t u (empties n m b rest) = Prim.omega arith
-  tally_local place t u (empties_if n m b rest) = Prim.omega arith
+  tally_local place t u (empties_idle k n m b rest idle) = Prim.omega arith
   tally_local place t u (parts k l i j b v x rest gives unasked uncalled) = Prim.omega (arith, tally_joined v (node l j b x))
   tally_local place t u (rebuilds k l n m a b rest made uncalled) = Prim.omega (arith, rebuilt_tally w made.rebuilt)
 
@@ -70,7 +71,7 @@ weight_joined (node k n b v) t = Prim.omega (arith, weight_joined v t)
 weight_local : (place : Around) (t u : Forest) → Local place t u → total facts.weight u < total facts.weight t
 weight_local place t u (leaves k n b rest listed plain weighs) = Prim.omega (arith, weighs)
 weight_local place t u (empties n m b rest) = Prim.omega arith
-weight_local place t u (empties_if n m b rest) = Prim.omega arith
+weight_local place t u (empties_idle k n m b rest idle) = let more = idle_weighs k idle in Prim.omega (arith, more)
 weight_local place t u (parts k l i j b v x rest gives unasked uncalled) = Prim.omega (arith, weight_joined v (node l j b x), gives_weight k gives)
 weight_local place t u (rebuilds k l n m a b rest made uncalled) = Prim.omega (arith, made.lighter)
 
@@ -128,7 +129,7 @@ module _ (P : List ℕ → Option ℕ → Type 0) where
   declared_local : (place : Around) (t u : Forest) → Local place t u → EachDeclaration P t → EachDeclaration P u
   declared_local place t u (leaves k n b rest listed plain weighs) e = e.2
   declared_local place t u (empties n m b rest) e = (tt, tt, e.2)
-  declared_local place t u (empties_if n m b rest) e = (tt, tt, e.2)
+  declared_local place t u (empties_idle k n m b rest idle) e = (tt, tt, e.2)
   declared_local place t u (parts k l i j b v x rest gives unasked uncalled) e = let inner = declared_part v l j b x e.1 in (inner.0, inner.1, e.2)
   declared_local place t u (rebuilds k l n m a b rest made uncalled) e = each_declaring P u (λ d h. declaring_each P t e d ((rebuilt_thins (λ r. false) k l n m a b rest made.rebuilt).declarations d h))
 
@@ -158,7 +159,7 @@ module _ (P : List ℕ → Option ℕ → Type 0) where
   referring_local : (place : Around) (t u : Forest) → Local place t u → EachReference P t → EachReference P u
   referring_local place t u (leaves k n b rest listed plain weighs) e = e.2
   referring_local place t u (empties n m b rest) e = (tt, tt, e.2)
-  referring_local place t u (empties_if n m b rest) e = (tt, tt, e.2)
+  referring_local place t u (empties_idle k n m b rest idle) e = (tt, tt, e.2)
   referring_local place t u (parts k l i j b v x rest gives unasked uncalled) e = let inner = referring_part v l j b x e.1 in (inner.0, inner.1, e.2)
   referring_local place t u (rebuilds k l n m a b rest made uncalled) e = each_referring P u (λ d h. referring_each P t e d ((rebuilt_thins (λ r. false) k l n m a b rest made.rebuilt).references d h))
 

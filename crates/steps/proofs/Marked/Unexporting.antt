@@ -34,7 +34,8 @@ use Rattle.steps.specs.Owed.Kept.{is_program}
 use Rattle.steps.specs.Owed.Part.{DeclaresNothing}
 use Rattle.steps.proofs.Owed.FitsEdits.{edit_fits}
 use Rattle.steps.specs.Marked.Exports.{IsMarkedAmong, WasExported}
-use Rattle.steps.proofs.Marked.Cuts.{Cuts, leaves, empties, empties_if, parts, rebuilds, inside as cut_inside, behind, behind_none, edit_cuts}
+use Rattle.steps.proofs.KeepForm.Asked.{idle_kinds}
+use Rattle.steps.proofs.Marked.Cuts.{Cuts, leaves, empties, empties_idle, parts, rebuilds, inside as cut_inside, behind, behind_none, edit_cuts}
 use Rattle.steps.proofs.Marked.Telling.{no_program}
 use Rattle.steps.proofs.Marked.Exposing.{never, part_no_program, thinner_cuts}
 
@@ -320,7 +321,7 @@ module _ (e : BindingSite) (top : e.layer.scope ≡ 0) where
       found_third (if all then own_sites (ps j) n k below else []) (collected (all || is_export k) (inside (ps j) other k below) 0 (other + opens_one k below) below) (collected all ps (suc j) (other + scope_count (node k n below nothing)) rest)
       (row_found all true rest qs ps i (suc j) next (other + scope_count (node k n below nothing)) some c (λ l. absurd (true≢false l)) h)
   cuts_found all listed t u (empties r n m below rest) qs ps i j next other some c f h = emptied_found all r kind.ExpressionStatement n m below rest qs ps i j next other some c f h
-  cuts_found all listed t u (empties_if r n m below rest) qs ps i j next other some c f h = emptied_found all r kind.IfStatement n m below rest qs ps i j next other some c f h
+  cuts_found all listed t u (empties_idle r k n m below rest idle) qs ps i j next other some c f h = emptied_found all r k n m below rest qs ps i j next other some c f h
   cuts_found all listed t u (parts r k l m n b v w rest gives unasked) qs ps i j next other some c f h =
       let whole = joined v (node l n b w) in
       by whole refl (binding_in e (if all then own_sites (qs i) n l b else []) (collected (all || is_export l) (inside (qs i) next l b) 0 (next + opens_one l b) b) (collected all qs (suc i) (next + scope_count (node l n b nothing)) rest) h)
@@ -394,7 +395,7 @@ module _ (e : BindingSite) (top : e.layer.scope ≡ 0) where
   root_found : (listed : Bool) (t u : Forest) → Cuts listed t u → listed ≡ false → is_program t ≡ true → Among e (bindings_among (collected_exports u)) → Found (collected_exports t)
   root_found listed t u (leaves k n below rest plain) l is h = absurd (true≢false l)
   root_found listed t u (empties r n m below rest) l is h = never is
-  root_found listed t u (empties_if r n m below rest) l is h = never is
+  root_found listed t u (empties_idle r k n m below rest idle) l is h = never (idle_kinds (λ z. false ≡ is_program (node z n below rest)) refl refl refl refl refl (λ label. refl) k idle ∙ is)
   root_found listed t u (parts r k x m n b v w rest gives unasked) l is h = never (sym (no_program k m (joined v (node x n b w)) rest gives) ∙ is)
   root_found listed t u (rebuilds r k x n m a b rest made) l is h = never (sym (part_no_program k n a rest made.old_unasked) ∙ is)
   root_found listed t u (cut_inside r (kind.Program source) n below now rest called x) l is h =

@@ -10,12 +10,13 @@ use Rattle.min_pass.specs.declared.around.Around.{Around as Asked}
 use Rattle.min_pass.specs.Around.{entered as asked_below, outermost as asked_of_program}
 use Rattle.scope_laws.specs.Place.{Around, first, behind, behind_none, under, plug}
 use Rattle.steps.specs.Allowed.Places.{a_node, asked_at, has_node}
-use Rattle.steps.specs.Owed.Owed.{MayChange, IsIdleItem}
+use Rattle.steps.specs.Owed.Owed.{MayChange, MayAround, IsIdleItem}
 use Rattle.js_meaning_near.specs.Near.{Glance, glance_below, glance_behind, is_any, cuts_by, cuts_so, row_cuts, cuts_off}
 use Rattle.min_pass.specs.declared.around.Row.TheVariants.{Items as items}
+use Rattle.steps.specs.Allowed.IdleBody.{has_body, stands_as_body, IsBody}
 use Rattle.steps.specs.Allowed.Unreached.{is_behind_jump}
 use Rattle.steps.specs.Allowed.Untaken.{begins_untaken, runs_inside, led_by}
-use Rattle.steps.specs.Allowed.UnrunValue.{passes, is_unrun}
+use Rattle.steps.specs.Allowed.UnrunValue.{passes}
 use Rattle.steps.proofs.Owed.Calling.{bare_begins}
 use Rattle.steps.proofs.Owed.EmptyBlock.{bare_idles}
 use Rattle.steps.proofs.Owed.ExposedBare.{bare_inside, bare_below, bare_exposed}
@@ -90,6 +91,32 @@ module _ (evaluates : Bool) where
   if_may w e kind.IfStatement a below h = refl
   if_may w e k a below h = absurd (true≢false (sym h))
 
+  -- the body of a statement: that may change
+  with_body_may : (w : Asked) (e : Exposure) (k : Kind) (below : Forest) → has_body k ≡ true → may_change_at evaluates w e k below ≡ true
+  with_body_may w e kind.IfStatement below h = refl
+  with_body_may w e kind.WithStatement below h = refl
+  with_body_may w e kind.WhileStatement below h = refl
+  with_body_may w e kind.DoWhileStatement below h = refl
+  with_body_may w e kind.ForStatement below h = refl
+  with_body_may w e kind.ForInStatement below h = refl
+  with_body_may w e kind.ForOfStatement below h = refl
+  with_body_may w e k below h = absurd (true≢false (sym h))
+
+  body_there : (w : Asked) (es : ℕ → Exposure) (at : ℕ) (a : Around) (x : Tree) (begun : Bool) → stands_as_body begun a ≡ true → (begun ≡ true) ⊎ (may_change evaluates w es at (plug a (Some x)) ≡ true)
+  body_there w es at (first rest) x begun e = inl e
+  body_there w es at (behind k n below a) x begun e =
+      elim (body_there w es (suc at) a x begun e) [
+        | inl found ↦ inl found
+        | inr may ↦ inr (later_may w es at k below (plug a (Some x)) may)
+      ]
+  body_there w es at (behind_none a) x begun e = body_there w es (suc at) a x begun e
+  body_there w es at (under k n a rest) x begun e =
+      let t = plug a (Some x) in
+      elim (body_there (asked_below w k) (exposed_inside (es at) k t) 0 a x (has_body k) e) [
+        | inl found ↦ inr (first_of_either (may_here w es at k t) (ends_before w.row k t rest || may_change evaluates w es (suc at) rest) (first_of_either (may_change_at evaluates w (es at) k t) (may_change evaluates (asked_below w k) (exposed_inside (es at) k t) 0 t) (with_body_may w (es at) k t found)))
+        | inr may ↦ inr (inner_may w es at k t rest may)
+      ]
+
   untaken_there : (passes : Kind → Bool) (w : Asked) (es : ℕ → Exposure) (at : ℕ) (a : Around) (x : Tree) (untaken : Bool) → led_by passes untaken a ≡ true → (untaken ≡ true) ⊎ (may_change evaluates w es at (plug a (Some x)) ≡ true)
   untaken_there passes w es at (first rest) x untaken e = inl e
   untaken_there passes w es at (behind k n below a) x untaken e =
@@ -120,13 +147,22 @@ led_may_change passes a x untaken =
       | inr may ↦ may
     ]
 
+body_may_change : (a : Around) (x : Tree) → IsBody a → may_change_somewhere (plug a (Some x)) ≡ true
+body_may_change a x body =
+    let t = plug a (Some x) in
+    elim (body_there (evaluates_somewhere t) (asked_of_program true) (exposed_of t) 0 a x false body) [
+      | inl e ↦ absurd (true≢false (sym e))
+      | inr may ↦ may
+    ]
+
 -- by shape
 pub owed_may_change : (a : Around) (x : Tree) → MayChange a x → may_change_somewhere (plug a (Some x)) ≡ true
 owed_may_change a x may = somewhere a x.kind x.note x.below may
 
-pub node_may_change : (a : Around) (x : Tree) → MayChange a x ⊎ (is_unrun false a ≡ true) → may_change_somewhere (plug a (Some x)) ≡ true
+pub node_may_change : (a : Around) (x : Tree) → MayChange a x ⊎ MayAround a → may_change_somewhere (plug a (Some x)) ≡ true
 node_may_change a x (inl may) = owed_may_change a x may
-node_may_change a x (inr unrun) = led_may_change passes a x unrun
+node_may_change a x (inr (inl unrun)) = led_may_change passes a x unrun
+node_may_change a x (inr (inr body)) = body_may_change a x body
 
 pub item_may_change : (a : Around) (x : Tree) → MayChange a x ⊎ IsIdleItem a → may_change_somewhere (plug a (Some x)) ≡ true
 item_may_change a x (inl may) = owed_may_change a x may

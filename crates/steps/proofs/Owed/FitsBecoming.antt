@@ -111,6 +111,14 @@ module _ (every tagged : Bool) (k : Kind) (below other : Forest) (private : is_l
   stands_inside (item_of_body c) ok none (inl of) = inl (of_inside a_prologue of)
   stands_inside (item_of_body c) ok none (inr at) = inr (at.0, of_inside c at.1)
 
+module _ (x y : Tree) (old_told : is_told_by_class x.kind ≡ true) (new_told : is_told_by_class y.kind ≡ true) where
+  -- a private name stands in the row if one stood there
+  pub private_taken : (a : Around) → has is_private (plug a (Some x)) ≡ has is_private (plug a (Some y))
+  private_taken (first rest) = ap (λ (b : Bool). b || has is_private rest) (told_not_private x.kind old_told ∙ sym (told_not_private y.kind new_told))
+  private_taken (behind k n below a) = ap (λ (b : Bool). is_private k || b) (private_taken a)
+  private_taken (behind_none a) = private_taken a
+  private_taken (under k n a rest) = refl
+
 module _ (x y : Tree) (every : Bool) (classes : (c : Class) → Allowed every c → Fits c (forest_of x) → Fits c (forest_of y)) (old_told : is_told_by_class x.kind ≡ true) (new_told : is_told_by_class y.kind ≡ true) where
   of_taken : (c : Class) → Allowed every c → IsOf x.kind x.below (λ p. Stand p x.below) c → IsOf y.kind y.below (λ p. Stand p y.below) c
   of_taken c may of = (classes c may (of, tt)).0
@@ -140,13 +148,6 @@ module _ (x y : Tree) (every : Bool) (classes : (c : Class) → Allowed every c 
   same_behind (all_or_holes c) = refl
   same_behind (all_of_body c) = ap (after_body_item c) same_directive
 
-  -- a private name stands in the row if one stood there
-  private_taken : (a : Around) → has is_private (plug a (Some x)) ≡ has is_private (plug a (Some y))
-  private_taken (first rest) = ap (λ (b : Bool). b || has is_private rest) (told_not_private x.kind old_told ∙ sym (told_not_private y.kind new_told))
-  private_taken (behind k n below a) = ap (λ (b : Bool). is_private k || b) (private_taken a)
-  private_taken (behind_none a) = private_taken a
-  private_taken (under k n a rest) = refl
-
   becoming_stands : (tagged : Bool) (a : Around) (plan : Plan) → plan_ok plan ≡ true → (tagged ≡ false → (every || plans_none plan) ≡ true) → (every || not (stands_tagged tagged a)) ≡ true
       → Stand plan (plug a (Some x)) → Stand plan (plug a (Some y))
   becoming_stands tagged (first rest) plan ok none there h =
@@ -157,7 +158,7 @@ module _ (x y : Tree) (every : Bool) (classes : (c : Class) → Allowed every c 
   becoming_stands tagged (behind_none a) plan ok none there h =
       (h.0, becoming_stands tagged a (plan_behind plan hole) (behind_ok plan hole ok) (λ e. further every (plans_none plan) (plans_none (plan_behind plan hole)) (none_behind plan hole) (none e)) there h.1)
   becoming_stands tagged (under k n a rest) plan ok none there h = (
-    stands_inside every tagged k (plug a (Some x)) (plug a (Some y)) (λ e. private_taken a) (λ p fine planned. becoming_stands (tagged_below tagged k) a p fine planned there) (first_place plan) (first_ok plan ok)
+    stands_inside every tagged k (plug a (Some x)) (plug a (Some y)) (λ e. private_taken x y old_told new_told a) (λ p fine planned. becoming_stands (tagged_below tagged k) a p fine planned there) (first_place plan) (first_ok plan ok)
         (λ e. further every (plans_none plan) (no_template (first_place plan)) (none_first plan) (none e)) h.0,
     h.1,
   )

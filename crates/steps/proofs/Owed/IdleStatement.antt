@@ -98,7 +98,7 @@ behind_label l k a (inr leaves) none E env q = arrive_leads l (meaning E k a q e
 
 -- ---- the node
 
-nothing_done_by : (k : Kind) (a : Forest) → does_nothing k a ≡ true → declares_no_name k a ≡ true → DoesNothing k a
+pub nothing_done_by : (k : Kind) (a : Forest) → does_nothing k a ≡ true → declares_no_name k a ≡ true → DoesNothing k a
 nothing_done_by while_statement (node t m d rest) h none = while_does_nothing t m d rest (test_tells t m d false (fails (truth_known t m d) h))
 nothing_done_by while_statement nothing h none = no_kind h
 nothing_done_by while_statement (absent rest) h none = no_kind h

@@ -26,7 +26,7 @@ use Rattle.steps.specs.Allowed.Uses.{Use, as_value, as_deleted, operand_of, use_
 use Rattle.steps.specs.Allowed.Branches.{is_handler, lets_only_at, lets_only, inside_or_parameter, inside_from, stays_inside, declares_none_at, none_or_parameter, none_from, declares_none}
 use Rattle.steps.specs.Allowed.Places.{a_node}
 use Rattle.steps.specs.KeepForm.Part.{gives_way, is_statement, is_asked_for, StandsFor, Replaces, by_part}
-use Rattle.steps.specs.KeepForm.Sheds.{Row, of_declarators, row_below, asked_below, deleted_below, may_empty, may_give_way, may_come_out, keeps_one, Around, entered, outermost, Sheds, keeps_absent, keeps, empties_if, becomes}
+use Rattle.steps.specs.KeepForm.Sheds.{Row, of_declarators, row_below, asked_below, deleted_below, may_empty, may_give_way, may_come_out, keeps_one, Around, entered, outermost, Sheds, keeps_absent, keeps, empties_idle, becomes}
 use Rattle.steps.proofs.KeepForm.Firm.{is_told_apart, gives, may_all_give_way, fits_may_give_way}
 use Rattle.steps.proofs.KeepForm.Rows.{itself, keeps_itself}
 use Rattle.steps.proofs.KeepForm.Rules.{both_empty}
@@ -175,7 +175,7 @@ catch_is_no_catch : (s : Sort) (k : Kind) → is_catch (catch_below s k) ≡ fal
 catch_is_no_catch s block_statement = refl
 catch_is_no_catch s k = refl
 
-below_no_catch : (s : Sought) (k : Kind) → is_catch (sought_below s k) ≡ false
+pub below_no_catch : (s : Sought) (k : Kind) → is_catch (sought_below s k) ≡ false
 below_no_catch none k = refl
 below_no_catch (names f) k = refl
 below_no_catch (bound f) k = bound_is_no_catch f k
@@ -346,17 +346,18 @@ abbrev FirstBecomes : (x y : Tree) → Type 0
 FirstBecomes x y =
     (z : Around) (rest : Forest) → may_give_way z.row z.is_asked x.kind ≡ true → may_come_out z.is_deleted (forest_of y) ≡ true → Sheds z (node x.kind x.note x.below rest) (node y.kind y.note y.below rest)
 
-module _ (x y : Tree) (first_becomes : FirstBecomes x y) (moves : gives x.kind ≡ true) where
+module _ (x y : Tree) where
   as_many : (a : place.Around) → length_of (plug a (Some y)) ≡ length_of (plug a (Some x))
   as_many (first rest) = refl
   as_many (behind k n b a) = ap (λ i. suc i) (as_many a)
   as_many (behind_none a) = as_many a
   as_many (under k n a rest) = refl
 
-  keeps_all : (row : Row) (a : place.Around) → keeps_one row (plug a (Some x)) (plug a (Some y)) ≡ true
+  pub keeps_all : (row : Row) (a : place.Around) → keeps_one row (plug a (Some x)) (plug a (Some y)) ≡ true
   keeps_all of_declarators a = ap (λ i. length_of (plug a (Some x)) == 0 || not (i == 0)) (as_many a) ∙ keeps_itself of_declarators (plug a (Some x))
   keeps_all row a = refl
 
+module _ (x y : Tree) (first_becomes : FirstBecomes x y) (moves : gives x.kind ≡ true) where
   may_there : (z : Around) → (not (gives x.kind) || may_give_way z.row z.is_asked x.kind) ≡ true → may_give_way z.row z.is_asked x.kind ≡ true
   may_there z h = ap (λ g. not g || may_give_way z.row z.is_asked x.kind) (sym moves) ∙ h
 
@@ -373,7 +374,7 @@ module _ (x y : Tree) (first_becomes : FirstBecomes x y) (moves : gives x.kind �
       (second_of_both (not (gives k) || may_give_way z.row z.is_asked k) (may_all_give_way (row_below z.row k) (asked_below z.row k) b && may_all_give_way z.row z.is_asked (plug a (Some x))) h)))
   sheds_there (behind_none a) z us at used out h = keeps_absent (sheds_there a z us (suc at) used out h)
   sheds_there (under k n a rest) z us at used out h =
-      keeps (keeps_all (row_below z.row k) a)
+      keeps (keeps_all x y (row_below z.row k) a)
       (sheds_there a (entered z k (plug a (Some x))) (λ i. use_below (us at) k i) 0 (λ i d. deleted_there z.is_deleted (us at) k i (used at) d) out (first_of_both (may_all_give_way (row_below z.row k) (asked_below z.row k) (plug a (Some x))) (may_all_give_way z.row z.is_asked rest)
       (second_of_both (not (gives k) || may_give_way z.row z.is_asked k) (may_all_give_way (row_below z.row k) (asked_below z.row k) (plug a (Some x)) && may_all_give_way z.row z.is_asked rest) h)))
       (itself z rest)
@@ -392,5 +393,5 @@ pub emptied_if_sheds : (a : place.Around) (n m : Note) (below : Forest) → ((s 
 emptied_if_sheds a n m below unnamed fits =
     let old : Tree = record { kind = if_statement; note = n; below = below } in
     let new : Tree = record { kind = empty_statement; note = m; below = nothing } in
-    sheds_there old new (λ z rest may bare. empties_if (second_of_both (not z.is_asked) (may_empty z.row) may) unnamed (itself z rest)) refl a outermost (λ i. as_value) 0 (λ i d. absurd (true≢false (sym d))) (λ d. refl)
+    sheds_there old new (λ z rest may bare. empties_idle refl (λ labeled. refl) (second_of_both (not z.is_asked) (may_empty z.row) may) (unnamed z.sought) (itself z rest)) refl a outermost (λ i. as_value) 0 (λ i d. absurd (true≢false (sym d))) (λ d. refl)
     (fits_may_give_way (plug a (Some old)) fits)

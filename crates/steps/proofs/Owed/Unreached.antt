@@ -3,20 +3,22 @@ use Rattle.std.proofs.Common.{◌≡◌, ◌∙◌, ◌≤◌, ◌⊎◌, ℕ, �
 use Rattle.js_syntax.specs.Class.{root}
 use Rattle.js_syntax.specs.declared.node_kind.NodeKind.{NodeKind as Kind}
 use Rattle.js_syntax.specs.Facts.{weight}
-use Rattle.js_syntax.specs.Node.{Forest, Tree, forest_of}
+use Rattle.js_syntax.specs.Node.{Note, Forest, Tree, forest_of}
 use Rattle.js_meaning.specs.Scope.{vars_of, var_names, import_decls}
 use Rattle.js_meaning_near.specs.Purpose.{for_values}
-use Rattle.js_meaning_near.specs.Near.{is_calm, fields}
+use Rattle.js_meaning_near.specs.Near.{is_calm, fields, module_of}
 use Rattle.js_meaning_near.specs.Local as local
 use Rattle.js_meaning_near.specs.Local.{Local}
 use Rattle.js_meaning_near.proofs.Local.{calm_specifier}
 use Rattle.form_rules.specs.declared.sought.Sought.{Sought}
 use Rattle.form_rules.specs.declared.sought.Sought.TheVariants.{CatchScope as catch_scope}
 use Rattle.form_rules.specs.Rules.{Exported}
+use Rattle.form_rules.specs.Form.{IsWellFormed}
 use Rattle.json_shape.specs.Shape.{is_directive_kind, Fits}
 use Rattle.scope_rules.specs.Context.{Context, outermost}
 use Rattle.scope_laws.specs.Place.{Around, plug}
 use Rattle.scope_laws.specs.Lists.{without}
+use Rattle.steps.specs.Steps.{all_core}
 use Rattle.steps.specs.Allowed.Branches.{declares_none}
 use Rattle.steps.specs.Allowed.Places.{IsItem}
 use Rattle.steps.specs.Allowed.Unreached.{only_runs, Unreached, never_runs}
@@ -76,7 +78,20 @@ pub no_catch : (t : Forest) (s : Sought) (es : List Exported) (c : Context) → 
 no_catch t (catch_scope f) es c h = absurd h
 no_catch t s es c h = refl
 
+pub runs_calm : (k : Kind) → only_runs k ≡ true → is_calm k ≡ true
+runs_calm k h = (of_kind k h).calm
+
 -- ---- all of it
+
+-- in a core module it declares nothing outside
+pub runs_declare_nothing : (a : Around) (x : Tree) → only_runs x.kind ≡ true → declares_none (forest_of x) ≡ true
+    → (n m : Note) (b : Forest) → plug a (Some x) ≡ module_of n m b → Fits root (module_of n m b) → IsWellFormed (module_of n m b) → all_core (module_of n m b) ≡ true → local.DeclaresNothing x.kind x.below
+runs_declare_nothing a x runs none n m b is fits form core =
+    let kind = of_kind x.kind runs in
+    record {
+      vars = first_empty (vars_of x.kind x.below (var_names x.below)) [] (no_variables (forest_of x) none);
+      imports = λ source. calm_specifier source x.kind x.below (import_decls source x.below) kind.calm ∙ no_imports_below n m b a x x is fits form core x.kind refl kind.calm kind.leads source;
+    }
 
 -- of a statement of which no run shows that it leaves
 pub unshown_owes : (a : Around) (x : Tree) → IsItem a → Uncounted false a x → MayChange a x ⊎ IsIdleItem a → only_runs x.kind ≡ true → declares_none (forest_of x) ≡ true
@@ -93,10 +108,7 @@ unshown_owes a x item uncounted may runs none change =
       unexported = follows_there (λ b c i. Unit {0}) (IsUnexported (plug a (Some x)) x)
           (λ b c i h z within right seeks. ap (exports_none z.exported) (nothing_declared z.sought 0 (forest_of x) (outside_as z.sought (forest_of x) (no_catch (plug a (Some x)) z.sought z.exported c seeks)) none)) (Some x) a false (λ at. outermost) 0 0
           (always (Some x) a false (λ at. outermost) 0 0);
-      runs = by_change (λ n m b is fits form core. change kind.states (record {
-        vars = first_empty (vars_of x.kind x.below (var_names x.below)) [] (no_variables (forest_of x) none);
-        imports = λ source. calm_specifier source x.kind x.below (import_decls source x.below) kind.calm ∙ no_imports_below n m b a x x is fits form core x.kind refl kind.calm kind.leads source;
-      }) (subst (Fits root) (sym is) fits));
+      runs = by_change (λ n m b is fits form core. change kind.states (runs_declare_nothing a x runs none n m b is fits form core) (subst (Fits root) (sym is) fits));
     }
 
 -- and of one that never runs, wherever that is known from

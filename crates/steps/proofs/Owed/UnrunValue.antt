@@ -223,7 +223,7 @@ module _ (a : Around) (n : Note) (x : Tree) (is_given : is_value a ≡ true) (un
     lighter = Prim.omega (arith, kind.weighs);
     no_call = record { counts = kind.counts (begins_with_call x.below); lists = kind.lists; begins = kind.begins; calls = inr is_given };
     ends = inl kind.ends;
-    may_change = inr unrun;
+    may_change = inr (inl unrun);
     fits = λ fits. value_stands x n kind.told a (these (one root ∷ [])) is_given refl fits;
     sheds = λ fits. replaced_sheds a x zero (replaced_by_parts (rebuilds fits)) (moves x.kind kind.told kind.unread (no_statement x.kind x.below (old_fits fits).0) kind.unasked) (λ e. refl) fits;
     kept = λ fits s kept. rebuilt_kept a x zero rebuilt (expression_declares_nothing (forest_of x) (old_fits fits)) kind.unasked (fits_program (plug a (Some x)) fits) s kept;

@@ -29,6 +29,7 @@ use Rattle.steps.specs.Allowed.UnusedObject.{UnusedObject}
 use Rattle.steps.specs.Allowed.KnownOperation.{KnownOperation}
 use Rattle.steps.specs.Allowed.UnrunValue.{UnrunValue}
 use Rattle.steps.specs.Allowed.IdleTry.{IdleTry}
+use Rattle.steps.specs.Allowed.IdleBody.{IdleBody}
 
 -- which items may leave the list in which they stand
 pub data Leaves (a : Around) (x : Tree) : Type 0 where
@@ -60,6 +61,7 @@ pub data Becomes (a : Around) (x y : Tree) : Type 0 where
   known_operation : KnownOperation a x y → Becomes a x y
   unrun_value : UnrunValue a x y → Becomes a x y
   idle_try : IdleTry x y → Becomes a x y
+  idle_body : IdleBody a x y → Becomes a x y
 
 pub data Edit : (t u : Forest) → Type 0 where
   leaves : (a : Around) (x : Tree) → Leaves a x → Edit (plug a (Some x)) (without a)

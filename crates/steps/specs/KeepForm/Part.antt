@@ -40,6 +40,16 @@ is_statement for_in_statement = true
 is_statement for_of_statement = true
 is_statement k = false
 
+-- statements that may do nothing, whatever stands around them
+abbrev pub may_be_idle : Kind → Bool
+may_be_idle block_statement = true
+may_be_idle (labeled_statement label) = true
+may_be_idle if_statement = true
+may_be_idle try_statement = true
+may_be_idle while_statement = true
+may_be_idle for_statement = true
+may_be_idle k = false
+
 -- Nodes for which rules of the nodes around them ask, by what they are or by what they declare; and those for which it matters
 -- whether they are a method's function, stand alone as the body of a statement, or stand in the head of a loop. Of a name, in
 -- parentheses or not, `delete` asks, where it stands.

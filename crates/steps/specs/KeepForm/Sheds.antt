@@ -1,18 +1,18 @@
 -- What a program may lose so that no rule of form is broken by it: items of lists of statements, declarators of such items, names of
--- imports, expressions that are statements, an `if` that declares nothing, and what stands around a part of a node, or around those
--- of an expression.
+-- imports, expressions that are statements, statements that do nothing and declare nothing, and what stands around a part of a node,
+-- or around those of an expression.
 use Rattle.std.specs.Prelude.{◌≡◌, ℕ, List, [], ◌∷◌, Bool, true, false, not, ◌&&◌, ◌||◌, ◌==◌}
 use Rattle.js_syntax.specs.declared.node_kind.NodeKind.{NodeKind as Kind}
-use Rattle.js_syntax.specs.declared.node_kind.NodeKind.TheVariants.{Program as program, ExpressionStatement as expression_statement, EmptyStatement as empty_statement, IfStatement as if_statement, UnaryExpression as unary_expression, ParenthesizedExpression as parenthesized_expression}
+use Rattle.js_syntax.specs.declared.node_kind.NodeKind.TheVariants.{Program as program, ExpressionStatement as expression_statement, EmptyStatement as empty_statement, LabeledStatement as labeled_statement, UnaryExpression as unary_expression, ParenthesizedExpression as parenthesized_expression}
 use Rattle.js_syntax.specs.declared.operator.UnaryOperator.TheVariants as unary
 use Rattle.js_syntax.specs.Node.{Note, Forest, nothing, node, absent, alone}
 use Rattle.form_rules.specs.declared.sought.Sought.{Sought}
 use Rattle.form_rules.specs.declared.sought.Sought.TheVariants.{Nothing as none, Scope as scope}
-use Rattle.form_rules.specs.Context.{has_use_strict}
+use Rattle.form_rules.specs.Context.{has_use_strict, is_loop}
 use Rattle.form_rules.specs.Scope.{Declared, sought_below, declared}
 use Rattle.form_rules.specs.Rules.{Exported, first_below, length_of, at_top, locals_among, is_exported, is_bare_name}
 pub use Rattle.steps.specs.KeepForm.Row.{Row, parts, items, of_item, of_declarators, of_head, of_import, of_specifiers, other, has_statements, row_below, may_leave, may_empty}
-use Rattle.steps.specs.KeepForm.Part.{is_statement, asks_further, Replaces}
+use Rattle.steps.specs.KeepForm.Part.{is_statement, may_be_idle, asks_further, Replaces}
 
 -- whether a rule asks what lies below the nodes of a row
 abbrev pub asked_below : Row → Kind → Bool
@@ -26,13 +26,19 @@ deleted_below is_deleted (unary_expression unary.Delete) = true
 deleted_below is_deleted parenthesized_expression = is_deleted
 deleted_below is_deleted k = false
 
+-- whether the nodes of a row are what a label stands before
+abbrev pub labeled_below : Kind → Bool
+labeled_below (labeled_statement label) = true
+labeled_below k = false
+
 -- What stands around a place: its row, and whether a rule asks what lies below the nodes there; whether they are the operand of a
--- `delete`, of which one asks for a name; the names that the program around exports without declaring them there, and what is
--- sought at the place for the names that are declared at the top of that program.
+-- `delete`, of which one asks for a name, or stand behind a label, of which one asks for a loop; the names that the program around
+-- exports without declaring them there, and what is sought at the place for the names that are declared at the top of that program.
 pub record Around : Type 0 where
   pub row : Row
   pub is_asked : Bool
   pub is_deleted : Bool
+  pub is_labeled : Bool
   pub exported : List Exported
   pub sought : Sought
 
@@ -45,10 +51,10 @@ sought_inside s (program source) = scope (at_top source)
 sought_inside s k = sought_below s k
 
 abbrev pub entered : Around → Kind → (below : Forest) → Around
-entered w k below = record { row = row_below w.row k; is_asked = asked_below w.row k; is_deleted = deleted_below w.is_deleted k; exported = exported_below w.exported k below; sought = sought_inside w.sought k }
+entered w k below = record { row = row_below w.row k; is_asked = asked_below w.row k; is_deleted = deleted_below w.is_deleted k; is_labeled = labeled_below k; exported = exported_below w.exported k below; sought = sought_inside w.sought k }
 
 abbrev pub outermost : Around
-outermost = record { row = other; is_asked = false; is_deleted = false; exported = []; sought = none }
+outermost = record { row = other; is_asked = false; is_deleted = false; is_labeled = false; exported = []; sought = none }
 
 -- none of these declares a name that is exported
 abbrev pub exports_none : List Exported → List Declared → Bool
@@ -79,9 +85,9 @@ pub data Sheds : Around → (t u : Forest) → Type 0 where
       → Sheds w (node k n a r) s
   -- a statement of an expression becomes empty
   empties : {w : Around} {n m : Note} {a r s : Forest} → may_empty w.row ≡ true → Sheds w r s → Sheds w (node expression_statement n a r) (node empty_statement m nothing s)
-  -- an `if` that declares nothing becomes empty
-  empties_if : {w : Around} {n m : Note} {a r s : Forest} → may_empty w.row ≡ true → ((sought : Sought) (place : ℕ) → declared sought place (alone if_statement n a) ≡ []) → Sheds w r s
-      → Sheds w (node if_statement n a r) (node empty_statement m nothing s)
+  -- a statement that declares nothing becomes empty, but for a loop behind its label, which `continue` may ask for (ECMA-262 14.8.1)
+  empties_idle : {w : Around} {k : Kind} {n m : Note} {a r s : Forest} → may_be_idle k ≡ true → (w.is_labeled ≡ true → is_loop (node k n a r) ≡ false) → may_empty w.row ≡ true
+      → ((place : ℕ) → declared w.sought place (alone k n a) ≡ []) → Sheds w r s → Sheds w (node k n a r) (node empty_statement m nothing s)
   -- a part of a node stands for it, or an expression is rebuilt of its parts
   becomes : {w : Around} {k l : Kind} {n m : Note} {a b r s : Forest} → Replaces k n a l m b → may_give_way w.row w.is_asked k ≡ true → may_come_out w.is_deleted (alone l m b) ≡ true → Sheds w r s
       → Sheds w (node k n a r) (node l m b s)

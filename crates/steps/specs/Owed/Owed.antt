@@ -30,6 +30,7 @@ use Rattle.steps.specs.KeepForm.Sheds as shed
 use Rattle.steps.specs.KeepForm.Sheds.{exports_none, Sheds}
 use Rattle.steps.specs.Fit.Enclosed.{is_enclosed}
 use Rattle.steps.specs.Allowed.Uses.{as_callee, as_deleted, use_at}
+use Rattle.steps.specs.Allowed.IdleBody.{IsBody}
 use Rattle.steps.specs.Allowed.Imports.{IsImported}
 use Rattle.steps.specs.Allowed.Places.{asked_at, IsItem, IsDeclarator, has_other, At}
 use Rattle.steps.specs.Allowed.Calls.{is_call, begins_with_call, counted, may_end, of_list, of_program}
@@ -76,6 +77,10 @@ IsIdleItem a = IsItem a × NeverRuns false a
 -- edits of a node of this kind are among those of which `may_change_somewhere` tells
 abbrev pub MayChange : Around → Tree → Type 0
 MayChange a x = may_change_at (evaluates_somewhere (plug a (Some x))) (asked_at (asked_of_program true) a) (exposure a (Some x)) x.kind x.below ≡ true
+
+-- or it stands below one of which it tells: in a value that is never given, or as the body of a statement
+abbrev pub MayAround : Around → Type 0
+MayAround a = (is_unrun false a ≡ true) ⊎ IsBody a
 
 -- an item of a list of statements, a declarator of one where another stays, or a name of an import
 abbrev pub IsListed : Around → Type 0
@@ -125,7 +130,7 @@ pub record Becoming (a : Around) (x y : Tree) : Type 0 where
   pub lighter : total weight (forest_of y) < total weight (forest_of x)
   pub no_call : IsUncalled a x
   pub ends : (may_end x.kind ≡ true) ⊎ (may_end y.kind ≡ false)
-  pub may_change : MayChange a x ⊎ (is_unrun false a ≡ true)
+  pub may_change : MayChange a x ⊎ MayAround a
   -- the table of node types, the rules of form, and the table of scopes, symbols and references
   pub fits : Fits root (plug a (Some x)) → Fits root (plug a (Some y))
   pub sheds : Fits root (plug a (Some x)) → Sheds shed.outermost (plug a (Some x)) (plug a (Some y))

@@ -7,7 +7,7 @@ ghost use Rattle.js_syntax.specs.declared.operator.BinaryOperator.TheVariants as
 ghost use Rattle.js_syntax.specs.declared.operator.LogicalOperator.TheVariants as operator;
 ghost use Rattle.js_syntax.specs.declared.operator.UnaryOperator.TheVariants as unary;
 ghost use Rattle.js_syntax.specs.declared.value.LiteralValue.TheVariants as value;
-ghost use Rattle.js_syntax.specs.Node.{Tree, Note, Forest, nothing, nowhere, joined};
+ghost use Rattle.js_syntax.specs.Node.{Tree, Note, Forest, nothing, absent, nowhere, joined};
 ghost use Rattle.form_rules.specs.Samples.{a_module, over, a, binds, reads, listed, no, one, does, declares, let_, var_, function_a, block};
 ghost use Rattle.scope_rules.specs.Context.{body_of};
 ghost use Rattle.scope_rules.specs.Binding.{named_in};
@@ -26,6 +26,7 @@ ghost use Rattle.steps.specs.Allowed.Untaken.{Untaken};
 ghost use Rattle.steps.specs.Allowed.IdleStatement.{IdleStatement};
 ghost use Rattle.steps.specs.Allowed.UnrunValue.{UnrunValue};
 ghost use Rattle.steps.specs.Allowed.IdleTry.{IdleTry};
+ghost use Rattle.steps.specs.Allowed.IdleBody.{IdleBody};
 ghost use Rattle.steps.specs.Allowed.EmptyBlock.{EmptyBlock};
 ghost use Rattle.steps.specs.Allowed.Edits.{Edit};
 ghost use Rattle.steps.specs.Allowed.Rows.{before, breaks_label, labeled, labeled_too, tried, tried_finally, finally_alone, while_, for_, loop, branch_of_if, in_list, past, in_branch, in_function, in_function_by, value_of_a, zero, debugger, throwing_block, throwing_branch, broken_label, throws, behind_throw, call_of_a, null, if_one, if_null, either_way, conditional, logical, may_be_named, o_f, parenthesized, called, called_in_parentheses, called_in_with, argument, operand, applied, equals, difference, sum, text, empty_text, assigned, statement, ComesOut, Stays, StaysUnused, array, spread, hole, sequence, ListStays, ChoiceStays, PartsStay, SidesStay, object, a_is, b_is, getter_of_a, keyed_by, method_by, not_a, ObjectStays, literal, operation, OperationStays, behind_zero, placed, StaysDirect, FollowsNone, with_a, in_with_a, empty, a_is_read, a_is_exported, imports_nothing, behind_import, behind_other};
@@ -171,6 +172,19 @@ pub fn what_does_nothing_leaves()
     ensures jumps_inside { (items : List Forest) (n : Note) → IdleStatement (before items) (record { kind = Kind.LabeledStatement (codes "m"); note = n; below = block (broken_label ∷ does call_of_a ∷ []) }) → ⊥ }
     ensures jumps_finally { (items : List Forest) (n : Note) → IdleStatement (before items) (record { kind = Kind.LabeledStatement (codes "l"); note = n; below = over Kind.TryStatement (joined (block (breaks_label ∷ [])) (joined no (block (does call_of_a ∷ [])))) }) → ⊥ }
     ensures jump_with_var { (items : List Forest) (n : Note) → IdleStatement (before items) (record { kind = Kind.LabeledStatement (codes "l"); note = n; below = block (breaks_label ∷ var_ a ∷ []) }) → ⊥ }
+{}
+
+/// A block of nothing, or what does nothing whatever it holds, becomes empty as the branch of an `if` or the body of a loop. It stays where
+/// it does something or declares a name around it, where a `try` asks for a block, and behind a label, with which it does nothing.
+pub fn idle_bodies_become_empty()
+    ensures branch { Edit (a_module (if_one (block []) ∷ [])) (a_module (if_one empty ∷ [])) }
+    ensures while_loop { Edit (a_module (if_one (while_ null (block (does call_of_a ∷ let_ a ∷ []))) ∷ [])) (a_module (if_one empty ∷ [])) }
+    ensures labeled { Edit (a_module (if_one (labeled (block (breaks_label ∷ does call_of_a ∷ []))) ∷ [])) (a_module (if_one empty ∷ [])) }
+    ensures body { Edit (a_module (while_ (reads a) (tried (does call_of_a ∷ [])) ∷ [])) (a_module (while_ (reads a) empty ∷ [])) }
+    ensures acting { (n : Note) (y : Tree) → IdleBody (in_list (under Kind.WhileStatement nowhere (past (reads a) (first nothing)) nothing)) (record { kind = Kind.BlockStatement; note = n; below = listed Kind.Statements (does call_of_a ∷ []) }) y → ⊥ }
+    ensures variable { (n : Note) (y : Tree) → IdleBody (in_list (under Kind.WhileStatement nowhere (past (reads a) (first nothing)) nothing)) (record { kind = Kind.WhileStatement; note = n; below = joined null (block (var_ a ∷ [])) }) y → ⊥ }
+    ensures of_try { (x y : Tree) → IdleBody (in_list (under Kind.TryStatement nowhere (first (absent (block []))) nothing)) x y → ⊥ }
+    ensures behind_label { (x y : Tree) → IdleBody (in_list (under (Kind.LabeledStatement (codes "l")) nowhere (first nothing) nothing)) x y → ⊥ }
 {}
 
 /// A `try` around nothing becomes its finalizer, wherever it stands, or its block where it has none. It stays where its block holds
