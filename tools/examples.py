@@ -52,7 +52,7 @@ cases['expressions']=[N('ThrowStatement',argument=e) if e['type'] in SILENT else
  N('ConditionalExpression',test=a,consequent=b,alternate=c),
  call(a,b,N('SpreadElement',argument=c),pure=True),dict(N('NewExpression',callee=a,arguments=[b]),pure=True),
  N('ChainExpression',expression=mem(call(mem(a,b,opt=True),optional=True),c)),N('ParenthesizedExpression',expression=a),N('SequenceExpression',expressions=[a,b]),
- tmpl(['a','b'],[c]),N('TaggedTemplateExpression',tag=a,quasi=tmpl(['z'],[])),
+ call(I('use'),tmpl(['a','b'],[c])),N('TaggedTemplateExpression',tag=a,quasi=tmpl(['z'],[])),
  call(I('use'),N('Literal',value={},regex=dict(pattern='a',flags='g'))),fn('FunctionExpression',None,[],B(N('ReturnStatement',argument=N('MetaProperty',meta=I('new'),property=I('target'))))),N('MetaProperty',meta=I('import'),property=I('meta')),N('ImportExpression',source=a),
 ]]
 cases['classes']=[
@@ -441,6 +441,10 @@ S('`a${!f()}b${1}`; `${!f()}${typeof g()}`; whose substitutions are primitive',[
 S('`${f()}`; f`${!g()}`; use(`${!f()}`); which may convert objects, are tagged, or taken',[ES(tmpl(['',''],[call(f)])),ES(N('TaggedTemplateExpression',tag=f,quasi=tmpl(['',''],[NOT(call(g))]))),use(tmpl(['',''],[NOT(call(f))]))],None,0,0)
 S('"a" + f(); f() + "a"; of which no text is seen',[ES(SAME(L('a'),call(f),'+')),ES(SAME(call(f),L('a'),'+'))],[ES(SAME(L(''),call(f),'+')),ES(SAME(call(f),L(''),'+'))],1,0)
 S('use("a" + f()); "" + f(); 1 + f(); f() + g(); which is taken, empty, or no text',[use(SAME(L('a'),call(f),'+')),ES(SAME(L(''),call(f),'+')),ES(SAME(L(1),call(f),'+')),ES(SAME(call(f),call(g),'+'))],None,0,0)
+S('`a${f()}b`; `a${f()}${1}b`; of which no text is seen',[ES(tmpl(['a','b'],[call(f)])),ES(tmpl(['a','','b'],[call(f),L(1)]))],[ES(tmpl(['',''],[call(f)])),ES(tmpl(['','',''],[call(f),L(1)]))],1,0)
+S('`\\n${f()}`; which is written otherwise than it reads',[ES(N('TemplateLiteral',quasis=[N('TemplateElement',value=dict(raw='\\n',cooked='\n'),tail=False),N('TemplateElement',value=dict(raw='',cooked=''),tail=True)],expressions=[call(f)]))],[ES(tmpl(['',''],[call(f)]))],1,0)
+S('g(), `a${f()}`; [`a${f()}`]; x = `a${f()}`, g(); which is unused behind what comes out, or taken',[ES(SEQ(call(g),tmpl(['a',''],[call(f)]))),ES(N('ArrayExpression',elements=[tmpl(['a',''],[call(f)])])),ES(SEQ(asg('=',x,tmpl(['a',''],[call(f)])),call(g)))],[ES(SEQ(call(g),tmpl(['',''],[call(f)]))),ES(tmpl(['',''],[call(f)])),ES(SEQ(asg('=',x,tmpl(['a',''],[call(f)])),call(g)))],2,0)
+S('use(`a${f()}`); f`a${g()}`; ({ a: `a${f()}` }).a; whose texts are taken',[use(tmpl(['a',''],[call(f)])),ES(N('TaggedTemplateExpression',tag=f,quasi=tmpl(['a',''],[call(g)]))),ES(mem(OBJ(prop(a,tmpl(['a',''],[call(f)]))),a))],None,0,0)
 S('use(f() === g()); f() + g();',[use(SAME(call(f),call(g))),ES(SAME(call(f),call(g),'+'))],None,0,0)
 S('({ a: f(), b: 1 }); ({ a: f(), b: g() });',[ES(OBJ(prop(a,call(f)),prop(b,L(1)))),ES(OBJ(prop(a,call(f)),prop(b,call(g))))],[do('f'),ES(SEQ(call(f),call(g)))],1,0)
 S('({ ...f() }); ({ [a]: f() }); ({ __proto__: f() }); use({ a: f() });',[ES(OBJ(N('SpreadElement',argument=call(f)))),ES(OBJ(prop(a,call(f),computed=True))),ES(OBJ(prop(I('__proto__'),call(f)))),use(OBJ(prop(a,call(f))))],None,0,0)

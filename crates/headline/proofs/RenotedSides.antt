@@ -1,7 +1,8 @@
--- Whether both sides of an operation act, or a text stands beside one that does, and which keys and values of an object literal do, doesn't see notes.
-use Rattle.std.proofs.Common.{◌≡◌, ◌∙◌, Bool, true, false, not, ◌&&◌, ◌||◌, Option, Some, None, is_some, if◌then◌else◌, refl, sym, ap, ap₂}
+-- Whether both sides of an operation act, or a text stands beside one that does, whether a template has texts, and which keys and values of an object literal act,
+-- doesn't see notes.
+use Rattle.std.proofs.Common.{◌≡◌, ◌∙◌, suc, ◌==◌, Bool, true, false, not, ◌&&◌, ◌||◌, Option, Some, None, is_some, if◌then◌else◌, refl, sym, ap, ap₂}
 use Rattle.js_syntax.specs.declared.node_kind.NodeKind.{NodeKind as Kind}
-use Rattle.js_syntax.specs.declared.node_kind.NodeKind.TheVariants.{BinaryExpression as binary_expression, SequenceExpression as sequence_expression, Expressions as expressions, ObjectExpression as object_expression, Properties as properties, Property as property}
+use Rattle.js_syntax.specs.declared.node_kind.NodeKind.TheVariants.{BinaryExpression as binary_expression, SequenceExpression as sequence_expression, Expressions as expressions, ObjectExpression as object_expression, Properties as properties, Property as property, TemplateLiteral as template_literal, Quasis as quasis}
 use Rattle.js_syntax.specs.declared.kind.PropertyKind.{PropertyKind}
 use Rattle.js_syntax.specs.declared.kind.PropertyKind.TheVariants as property_kind
 use Rattle.js_syntax.specs.declared.operator.BinaryOperator.TheVariants.{Addition as addition}
@@ -9,13 +10,14 @@ use Rattle.js_syntax.specs.declared.value.Key.{Key}
 use Rattle.js_syntax.specs.declared.value.Key.TheVariants as key_form
 use Rattle.js_syntax.specs.Core.{is_plain_property}
 use Rattle.js_syntax.specs.Node.{Forest, Tree, Note, nothing, node, absent, alone, joined, nowhere, bare}
+use Rattle.form_rules.specs.Rules.{length_of}
 use Rattle.js_effects.specs.Kinds.{is_primitive, type_at}
 use Rattle.js_effects.specs.Silence.{only_combines}
 use Rattle.scope_laws.proofs.Notes.{unseen}
 use Rattle.steps.specs.Allowed.Uses.{as_value}
 use Rattle.steps.specs.Allowed.UnusedOperation.{acts}
 use Rattle.steps.specs.Allowed.UnusedList.{acting, as_one}
-use Rattle.steps.specs.Allowed.TwoSides.{is_full_text, empty_text, text_emptied, two_sides}
+use Rattle.steps.specs.Allowed.TwoSides.{is_full_text, empty_text, has_text, has_texts, is_whole, without_texts, text_emptied, two_sides}
 use Rattle.steps.specs.Allowed.UnusedObject.{comes_out, is_computed, comes_apart, all_come_apart, keys_and_values, object_becomes}
 use Rattle.headline.proofs.RenotedUnused.{stands_bare_bare, acts_bare, combines_bare, acting_bare, as_one_bare, some_if, some_tree}
 use Rattle.headline.proofs.RenotedKnown.{types_bare}
@@ -29,6 +31,22 @@ some_or false y o = refl
 abbrev sum : (n : Note) → (sides : Forest) → Tree
 sum n sides = record { kind = binary_expression addition; note = n; below = sides }
 
+texts_bare : (t : Forest) → has_texts (bare t) ≡ has_texts t
+texts_bare nothing = refl
+texts_bare (absent t) = texts_bare t
+texts_bare (node k n a t) = ap (λ b. has_text k || b) (texts_bare t)
+
+length_bare : (t : Forest) → length_of (bare t) ≡ length_of t
+length_bare nothing = refl
+length_bare (absent t) = length_bare t
+length_bare (node k n a t) = ap suc (length_bare t)
+
+whole_bare : (t parts : Forest) → is_whole (bare t) (bare parts) ≡ is_whole t parts
+whole_bare t parts = ap₂ (λ i j. i == suc j) (length_bare t) (length_bare parts)
+
+abbrev template : (n : Note) → (parts : Forest) → Tree
+template n parts = record { kind = template_literal; note = n; below = parts }
+
 text_bare : (n : Note) (k : Kind) (t : Forest) → is_some (text_emptied n k (bare t)) ≡ is_some (text_emptied n k t)
 text_bare n (binary_expression addition) (node k i a (node l j b nothing)) =
     some_or (is_full_text k && acts l nowhere (bare b)) (sum n (node empty_text nowhere nothing (node l nowhere (bare b) nothing))) (if is_full_text l && acts k nowhere (bare a) then Some (sum n (node k nowhere (bare a) (node empty_text nowhere nothing nothing))) else None)
@@ -37,6 +55,9 @@ text_bare n (binary_expression addition) (node k i a (node l j b nothing)) =
     ∙ ap (λ x. is_full_text l && x) (acts_bare k i a)
     ∙ sym (some_if (is_full_text l && acts k i a) (sum n (node k i a (node empty_text j nothing nothing)))))
     ∙ sym (some_or (is_full_text k && acts l j b) (sum n (node empty_text i nothing (node l j b nothing))) (if is_full_text l && acts k i a then Some (sum n (node k i a (node empty_text j nothing nothing))) else None))
+text_bare n template_literal (node quasis h t (node expressions j parts nothing)) =
+    some_if (has_texts (bare t) && is_whole (bare t) (bare parts)) (template n (node quasis nowhere (without_texts (bare t)) (node expressions nowhere (bare parts) nothing))) ∙ ap₂ (λ b c. b && c) (texts_bare t) (whole_bare t parts)
+    ∙ sym (some_if (has_texts t && is_whole t parts) (template n (node quasis h (without_texts t) (node expressions j parts nothing))))
 text_bare n k t = refl
 
 sides_bare : (n m : Note) (k : Kind) (t : Forest) → is_some (two_sides n m k (bare t)) ≡ is_some (two_sides n m k t)
@@ -46,6 +67,7 @@ sides_bare n m (binary_expression o) (node k i a (node l j b nothing)) =
     ∙ ap₂ (λ x y. x || y) (ap₂ (λ c x. c && x) (combines_bare (binary_expression o) (node k i a (node l j b nothing))) (ap₂ (λ x y. x && y) (acts_bare k i a) (acts_bare l j b))) (text_bare n (binary_expression o) (node k i a (node l j b nothing)))
     ∙ sym (some_or (only_combines (binary_expression o) (node k i a (node l j b nothing)) && (acts k i a && acts l j b)) (record { kind = sequence_expression; note = n; below = node expressions m (node k i a (node l j b nothing)) nothing })
     (text_emptied n (binary_expression o) (node k i a (node l j b nothing))))
+sides_bare n m template_literal t = text_bare n template_literal t
 sides_bare n m k t = refl
 
 pub two_sides_as : (n m : Note) (k : Kind) (f g : Forest) (y : Tree) → bare f ≡ bare g → two_sides n m k g ≡ Some y → (z : Tree) × (two_sides n m k f ≡ Some z)

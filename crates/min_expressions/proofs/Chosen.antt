@@ -9,7 +9,7 @@ use Rattle.steps.specs.Allowed.KnownSide.{side_known}
 use Rattle.steps.specs.Allowed.Uses.{stands_bare}
 use Rattle.rules.specs.Expressions.Uses.{Spot}
 use Rattle.rules.specs.Expressions.Known.{branch_taken, by_condition, conditional_becomes, side_taken, by_left_side, logical_becomes}
-use Rattle.min_expressions.specs.Kept.{child_at, kept_if, branch_kept, branch_of, conditional_keeps, side_kept, side_of, logical_keeps, parts_of, is_call}
+use Rattle.min_expressions.specs.Kept.{child_at, kept_if, branch_kept, branch_of, conditional_keeps, side_kept, side_of, logical_keeps, parts_of}
 
 -- the child at an index, if there is one
 abbrev pub chosen : Option ℕ → Forest → Option Tree

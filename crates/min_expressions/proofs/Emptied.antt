@@ -4,7 +4,7 @@ use Rattle.std.specs.Prelude.{slice_index_or, slice_set}
 use Rattle.std.specs.Option.{option_map}
 use Rattle.std.proofs.lemmas.List.{take_all, take-append-le}
 use Rattle.js_syntax.specs.declared.node_kind.NodeKind.{NodeKind as Kind}
-use Rattle.js_syntax.specs.declared.node_kind.NodeKind.TheVariants.{BinaryExpression as binary_expression, Literal as literal}
+use Rattle.js_syntax.specs.declared.node_kind.NodeKind.TheVariants.{BinaryExpression as binary_expression, Literal as literal, TemplateLiteral as template_literal, Quasis as quasis, Expressions as expressions}
 use Rattle.js_syntax.specs.declared.operator.BinaryOperator.TheVariants.{Addition as addition}
 use Rattle.js_syntax.specs.declared.value.LiteralValue.TheVariants as value
 use Rattle.js_syntax.specs.Node.{Forest, Tree, Note, nothing, node, absent, alone, row, forest_of}
@@ -13,16 +13,17 @@ use Rattle.js_effects.specs.Silence.{only_combines}
 use Rattle.scope_counts.specs.Counts.{ids}
 use Rattle.min_context.specs.Edited.{evals, Leaves, DropsNode, Edited}
 use Rattle.min_context.specs.Seen.{Seen}
-use Rattle.steps.specs.Allowed.TwoSides.{is_full_text, empty_text, text_emptied, two_sides}
+use Rattle.steps.specs.Allowed.TwoSides.{is_full_text, empty_text, has_texts, is_whole, without_texts, text_emptied, two_sides}
 use Rattle.steps.specs.Allowed.UnusedOperation.{acts}
 use Rattle.steps.proofs.Owed.TwoSides.{IsFullText, a_full_text, full_text}
 use Rattle.rules.specs.Expressions.Uses.{Spot}
 use Rattle.min_expressions.specs.TwoSides.{sides_act, sides_go, text_for, text_goes, emptied}
+use Rattle.min_expressions.specs.Textless.{template_has_texts, texts_go}
 use Rattle.min_expressions.specs.Unused.{tree_acts}
 use Rattle.min_expressions.proofs.Chosen.{two, no_index}
 use Rattle.min_expressions.proofs.Leaving.{emptied as itself_alone, edits_to}
 use Rattle.min_expressions.proofs.Sided.{two_in}
-use Rattle.min_expressions.proofs.TwoSides.{if_true, if_false}
+use Rattle.min_expressions.proofs.TwoSides.{if_true, if_false, both_true}
 
 abbrev sum : Kind
 sum = binary_expression addition
@@ -131,6 +132,7 @@ otherwise n m (binary_expression addition) (node k i a nothing) e = refl
 otherwise n m (binary_expression addition) (node k i a (absent rest)) e = refl
 otherwise n m (binary_expression addition) (node k i a (node l j b (absent rest))) e = refl
 otherwise n m (binary_expression addition) (node k i a (node l j b (node h p c rest))) e = refl
+otherwise n m template_literal t e = refl
 otherwise n m k t e = refl
 
 neither_text : (p q : Bool) (y z : Tree) → which p q ≡ None → (if p then Some y else if q then Some z else None) ≡ None
@@ -138,10 +140,12 @@ neither_text true q y z e = absurd Prim.cc
 neither_text false true y z e = absurd Prim.cc
 neither_text false false y z e = refl
 
-none_emptied : (n : Note) (k : Kind) (t : Forest) → text_for k t ≡ None → text_emptied n k t ≡ None
-none_emptied n (binary_expression addition) (node k i a (node l j b nothing)) e =
+none_emptied : (n : Note) (k : Kind) (t : Forest) → text_for k t ≡ None → template_has_texts k t ≡ false → text_emptied n k t ≡ None
+none_emptied n (binary_expression addition) (node k i a (node l j b nothing)) e f =
     neither_text (is_full_text k && acts l j b) (is_full_text l && acts k i a) (sum_of n (node empty_text i nothing (node l j b nothing))) (sum_of n (node k i a (node empty_text j nothing nothing))) e
-none_emptied n k t e = refl
+none_emptied n template_literal (node quasis h elements (node expressions j parts nothing)) e f =
+    if_false (has_texts elements && is_whole elements parts) (Some (record { kind = template_literal; note = n; below = node quasis h (without_texts elements) (node expressions j parts nothing) })) None f
+none_emptied n k t e f = refl
 
 unused_if : (b : Bool) (o : Option ℕ) (i : ℕ) → (if b then o else None) ≡ Some i → (b ≡ true) × (o ≡ Some i)
 unused_if true o i e = (refl, e)
@@ -151,18 +155,25 @@ act_not : (b c : Bool) → b && c ≡ false → b ≡ true → c ≡ false
 act_not true c e f = e
 act_not false c e f = absurd (true≢false (sym f))
 
-none_if : (b c : Bool) (o : Option ℕ) (p : Option Tree) → (b && c) ≡ false → (if b then o else None) ≡ None → (c ≡ false → o ≡ None → p ≡ None) → (if b then p else None) ≡ None
-none_if true c o p e f h = h e f
-none_if false c o p e f h = refl
+none_if : (b c d : Bool) (o : Option ℕ) (p : Option Tree) → (b && c) ≡ false → (if b then o else None) ≡ None → (b && d) ≡ false → (c ≡ false → o ≡ None → d ≡ false → p ≡ None) → (if b then p else None) ≡ None
+none_if true c d o p e f g h = h e f g
+none_if false c d o p e f g h = refl
 
 module _ (s : Spot) (k : Kind) (t : Forest) where
   pub text_there : (i : ℕ) → text_goes s k t ≡ Some i → text_for k t ≡ Some i
   text_there i e = (unused_if s.is_unused (text_for k t) i e).1
 
-  pub text_left : (n m : Note) (i : ℕ) (y : Tree) → sides_go s k t ≡ false → text_goes s k t ≡ Some i → text_emptied n k t ≡ Some y → (if s.is_unused then two_sides n m k t else None) ≡ Some y
-  text_left n m i y stay goes is =
-      let unused = (unused_if s.is_unused (text_for k t) i goes).0 in
-      ap (λ b. if b then two_sides n m k t else None) unused ∙ otherwise n m k t (act_not s.is_unused (sides_act k t) stay unused) ∙ is
+  left : (n m : Note) (y : Tree) → sides_go s k t ≡ false → s.is_unused ≡ true → text_emptied n k t ≡ Some y → (if s.is_unused then two_sides n m k t else None) ≡ Some y
+  left n m y stay unused is = ap (λ b. if b then two_sides n m k t else None) unused ∙ otherwise n m k t (act_not s.is_unused (sides_act k t) stay unused) ∙ is
 
-  pub text_stays : (n m : Note) → sides_go s k t ≡ false → text_goes s k t ≡ None → (if s.is_unused then two_sides n m k t else None) ≡ None
-  text_stays n m stay none = none_if s.is_unused (sides_act k t) (text_for k t) (two_sides n m k t) stay none (λ still no_text. otherwise n m k t still ∙ none_emptied n k t no_text)
+  pub text_left : (n m : Note) (i : ℕ) (y : Tree) → sides_go s k t ≡ false → text_goes s k t ≡ Some i → text_emptied n k t ≡ Some y → (if s.is_unused then two_sides n m k t else None) ≡ Some y
+  text_left n m i y stay goes is = left n m y stay (unused_if s.is_unused (text_for k t) i goes).0 is
+
+  pub texts_there : texts_go s k t ≡ true → template_has_texts k t ≡ true
+  texts_there e = (both_true s.is_unused (template_has_texts k t) e).1
+
+  pub texts_left : (n m : Note) (y : Tree) → sides_go s k t ≡ false → texts_go s k t ≡ true → text_emptied n k t ≡ Some y → (if s.is_unused then two_sides n m k t else None) ≡ Some y
+  texts_left n m y stay goes is = left n m y stay (both_true s.is_unused (template_has_texts k t) goes).0 is
+
+  pub text_stays : (n m : Note) → sides_go s k t ≡ false → text_goes s k t ≡ None → texts_go s k t ≡ false → (if s.is_unused then two_sides n m k t else None) ≡ None
+  text_stays n m stay none no_texts = none_if s.is_unused (sides_act k t) (template_has_texts k t) (text_for k t) (two_sides n m k t) stay none no_texts (λ still no_text textless. otherwise n m k t still ∙ none_emptied n k t no_text textless)

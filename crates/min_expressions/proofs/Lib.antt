@@ -9,6 +9,7 @@ pub mod BehindTest
 pub mod Sequences
 pub mod Templates
 pub mod TwoSides
+pub mod Textless
 pub mod Emptied
 pub mod Objects
 pub mod Negative

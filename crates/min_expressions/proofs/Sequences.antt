@@ -21,7 +21,7 @@ use Rattle.min_expressions.specs.Lists.{only}
 use Rattle.min_expressions.specs.Sequences.{item_stays, some_stay, more_alone, leaving, last_stands, are_value, comes_behind, parts_go, only_goes, sequence_goes}
 use Rattle.rules.proofs.Expressions.Sequences.{some_left, first_leaves, none_behind}
 use Rattle.min_expressions.proofs.Leaving.{Adds, ids_add, evals_add, leaves_none, leaves_more, same_some}
-use Rattle.min_expressions.proofs.Lists.{or_false, no_node, no_list, no_tree, made, unless_same, HasList, sequence_list, parts_edits, Counts, made_counts}
+use Rattle.min_expressions.proofs.Lists.{or_false, no_node, no_list, no_tree, unless_same, HasList, sequence_list, parts_edits, Counts, made_counts}
 
 -- ---- parts in front of another
 

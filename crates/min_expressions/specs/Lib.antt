@@ -8,6 +8,7 @@ pub mod OneSided
 pub mod Sequences
 pub mod Templates
 pub mod TwoSides
+pub mod Textless
 pub mod Objects
 pub mod MayChange
 pub mod Pair

@@ -1,5 +1,5 @@
 // Rewritings of one expression.
-ghost use Rattle.std.specs.Prelude.{◌≡◌, false, IfOk, IfErr};
+ghost use Rattle.std.specs.Prelude.{◌≡◌, false, None, IfOk, IfErr};
 ghost use Rattle.min_traverse.specs.Lawful.{Does, either};
 ghost use Rattle.rules.specs.Expressions.Known.{fold_conditional, fold_logical, at_expression_end};
 ghost use Rattle.rules.specs.Expressions.Unused.{fold_unused};
@@ -12,7 +12,7 @@ ghost use Rattle.rules.specs.Expressions.Objects.{fold_object};
 ghost use Rattle.rules.specs.Expressions.Operations.{fold_to_literal, fold_to_negative, fold_known};
 ghost use Rattle.rules.specs.Expressions.Uses.{spot_of};
 ghost use Rattle.min_expressions.specs.Kept.{matters_at};
-ghost use Rattle.min_expressions.specs.TwoSides.{sides_go};
+ghost use Rattle.min_expressions.specs.TwoSides.{sides_go, text_goes};
 
 use crate::bare::matters_here;
 use crate::behind_test::{branch_leaves, keep_both, keep_branch, right_follows};
@@ -24,6 +24,7 @@ use crate::one_sided::{keep_one_side, stays_one_sided};
 use crate::operation::{known_literal, known_negative, put_literal, put_negative};
 use crate::sequence::{keep_sequence, sequence_goes};
 use crate::template::{keep_substitutions, template_goes};
+use crate::texts::{empty_texts, texts_go};
 use crate::two_sides::{empty_text, keep_two_sides, sides_go, text_goes};
 use crate::unused::{keep_needed, unused_keeps};
 use js_tree::Node;
@@ -96,7 +97,21 @@ fn fold_to_sequences(node: &mut Node, ctx: &mut MinifierTraverseCtx) -> Result<b
     Ok(PeepholeOptimizations::remove_sequence_expression(node, ctx))
 }
 
-// What becomes of a sum of a text and what acts.
+// What becomes of a template that has texts.
+fn fold_texts(node: &mut Node, ctx: &mut MinifierTraverseCtx) -> bool
+    requires stays { sides_go (spot_of ctx.old.place) node.old.kind node.old.below ≡ false }
+    requires no_sum { text_goes (spot_of ctx.old.place) node.old.kind node.old.below ≡ None }
+    ensures { Does fold_two_sides ctx.old node.old result ctx.new node.new }
+{
+    if texts_go(node, ctx) {
+        empty_texts(node, ctx);
+        true
+    } else {
+        false
+    }
+}
+
+// What becomes of a sum of a text and what acts, and of a template that has texts.
 fn fold_text(node: &mut Node, ctx: &mut MinifierTraverseCtx) -> bool
     requires stays { sides_go (spot_of ctx.old.place) node.old.kind node.old.below ≡ false }
     ensures { Does fold_two_sides ctx.old node.old result ctx.new node.new }
@@ -106,7 +121,7 @@ fn fold_text(node: &mut Node, ctx: &mut MinifierTraverseCtx) -> bool
             empty_text(node, index, ctx);
             true
         }
-        None => false,
+        None => fold_texts(node, ctx),
     }
 }
 
@@ -288,7 +303,7 @@ impl PeepholeOptimizations {
 
     /// Where nobody takes the value, an operation of which both sides act becomes a sequence of these, as `f(), g()`, if it does nothing
     /// itself: it compares, or both sides are primitive by their form. A text on a side of a sum, beside what acts, becomes the empty one,
-    /// as `"a" + f()` becomes `"" + f()`. It fails only for want of memory; then all is as it was.
+    /// as `"a" + f()` becomes `"" + f()`, and so do the texts of a template. It fails only for want of memory; then all is as it was.
     pub fn fold_two_sides(
         node: &mut Node,
         ctx: &mut MinifierTraverseCtx,

@@ -11,9 +11,9 @@
 //! `(f(), 1), g()` (`put_behind_test`). A conditional of which nobody takes the value and one branch alone acts becomes `test &&
 //! consequent` or `test || alternate` (`fold_one_sided_choice`), and of any sequence the parts leave that don't act, but the last, which
 //! comes to stand behind a zero where it matters that it doesn't stand there itself (`remove_sequence_expression`). An operation of which
-//! nobody takes the value and both sides act becomes a sequence of these (`fold_two_sides`), and of an object literal of which nobody takes
-//! the value the keys and values stay that act (`remove_unused_object`). An operation that doesn't act becomes a literal of its value, or
-//! unary minus on one, as far as that is known (`fold_known_operation`).
+//! nobody takes the value and both sides act becomes a sequence of these, and in a sum and a template texts become empty
+//! (`fold_two_sides`); of an object literal of which nobody takes the value the keys and values stay that act (`remove_unused_object`). An
+//! operation that doesn't act becomes a literal of its value, or unary minus on one, as far as that is known (`fold_known_operation`).
 //!
 //! What comes out is moved to where the whole stood, a sequence is made of the vectors that are there, and the context is told of all that
 //! leaves, and of nothing else. Only a new zero, the row of a new list and a value that is worked out take memory, before anything is
@@ -38,6 +38,7 @@ mod parts;
 mod preserve;
 mod sequence;
 mod template;
+mod texts;
 mod two_sides;
 mod unused;
 mod uses;

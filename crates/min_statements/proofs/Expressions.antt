@@ -23,7 +23,7 @@ use Rattle.steps.specs.Allowed.UnusedObject.{all_come_apart, keys_and_values, ob
 use Rattle.steps.specs.Allowed.KnownOperation.{known_literal, KnownOperation, value_is_known, negative_is_known}
 use Rattle.steps.proofs.Owed.KnownOperation.{Negative, under_one, under_two, is_negative_known}
 use Rattle.steps.specs.Allowed.Uses.{Use, as_value, as_typed, use_at, matters, may_take_name, stands_bare}
-use Rattle.steps.proofs.Owed.TwoSides.{Sides, both_act, first_text, second_text, are_sides}
+use Rattle.steps.proofs.Owed.TwoSides.{Sides, both_act, first_text, second_text, no_texts, are_sides}
 use Rattle.steps.proofs.Owed.UnusedPlace.{unused_as_value}
 use Rattle.steps.proofs.Owed.UnusedOperation.{Needed, the_operand, first_side, second_side, left_side, the_condition, needed_part}
 use Rattle.min_context.specs.Edited.{evals, Edited}
@@ -49,7 +49,7 @@ use Rattle.rules.proofs.Expressions.Lists.{list_edits_there}
 use Rattle.rules.proofs.Expressions.Indirect.{indirect_edits_there}
 use Rattle.rules.proofs.Expressions.OneSided.{one_sided_edits_there}
 use Rattle.rules.proofs.Expressions.Sequences.{sequence_edits_there}
-use Rattle.rules.proofs.Expressions.TwoSides.{two_sides_edits_there}
+use Rattle.rules.proofs.Expressions.TwoSides.{two_sides_edits_there, elements_evals}
 use Rattle.rules.proofs.Expressions.Objects.{object_edits_there}
 use Rattle.rules.proofs.Expressions.Operations.{known_edits}
 use Rattle.rules.proofs.Expressions.Folding.{expressions_fold}
@@ -261,12 +261,13 @@ sequence_call a w n m i k below y e = no_answer e
 idle_parts_call : (a : places.Around) (x y : Tree) → IdleParts a x y → CallsStay a x y
 idle_parts_call a _ _ (idle_parts_leave n m x y becomes) = sequence_call a _ n m x.note x.kind x.below y becomes
 
--- ---- what becomes a sequence of its sides, or has a text that becomes empty
+-- ---- what becomes a sequence of its sides, or has texts that become empty
 
 sides_call : {n m : Note} {k : Kind} {parts : Forest} {y : Tree} (a : places.Around) (i : Note) → Sides n m k parts y → CallsStay a (record { kind = k; note = i; below = parts }) y
 sides_call a i (both_act o k l h j b c combines) = record { fewer = Prim.omega arith; old = refl; in_with = false; bare = refl }
 sides_call a i (first_text t ts l h j b c) = record { fewer = Prim.omega arith; old = refl; in_with = false; bare = refl }
 sides_call a i (second_text t ts k h j b c) = record { fewer = Prim.omega arith; old = refl; in_with = false; bare = refl }
+sides_call a i (no_texts h j texts parts has) = record { fewer = Prim.omega (arith, elements_evals texts); old = refl; in_with = false; bare = refl }
 
 two_sides_calls : (a : places.Around) (x y : Tree) → TwoSides a x y → CallsStay a x y
 two_sides_calls a _ _ (both_sides_act n m x y unused becomes) = sides_call a x.note (are_sides n m x.kind x.below y becomes)

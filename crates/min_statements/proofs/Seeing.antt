@@ -346,7 +346,7 @@ settled_kind s n template_literal b h =
     let l = unused_list_becomes s n template_literal b in
     let v = last_three (or_else (or_else (or_else (or_else u l) None) (one_sided_becomes s n template_literal b)) None) (two_sides_become s n template_literal b) (object_left s n template_literal b) (known_becomes n template_literal b) (h refl) in
     let w = last_none (or_else (or_else u l) None) (one_sided_becomes s n template_literal b) None v.0 in
-    (refl, refl, none_either_way s.is_unused, second_none u l (ap is_some (first_none (or_else u l) None w.0)), refl, none_either_way s.is_unused, refl, none_either_way s.is_unused, none_either_way s.is_unused, no_negative n template_literal b refl)
+    (refl, refl, none_either_way s.is_unused, second_none u l (ap is_some (first_none (or_else u l) None w.0)), refl, none_either_way s.is_unused, refl, v.1, none_either_way s.is_unused, no_negative n template_literal b refl)
 settled_kind s n sequence_expression b h =
     let u = unused_becomes s sequence_expression b in
     let l = unused_list_becomes s n sequence_expression b in

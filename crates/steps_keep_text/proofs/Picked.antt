@@ -1,19 +1,21 @@
 -- What comes of an array, an object literal, a sequence, a choice, an operation on two sides or one of known value counts no more.
-use Rattle.std.proofs.Common.{◌≡◌, ◌≤◌, ◌+◌, ℕ, pos, [], true, arith, refl}
+use Rattle.std.proofs.Common.{◌≡◌, ◌≤◌, ◌+◌, ℕ, pos, [], Bool, true, arith, refl}
 use Rattle.js_syntax.specs.declared.node_kind.NodeKind.{NodeKind as Kind}
-use Rattle.js_syntax.specs.declared.node_kind.NodeKind.TheVariants.{EmptyStatement as empty_statement, ExpressionStatement as expression_statement, ArrayExpression as array_expression, Elements as elements, ObjectExpression as object_expression, Properties as properties, BinaryExpression as binary_expression, SequenceExpression as sequence_expression, TemplateLiteral as template_literal, Expressions as expressions, ConditionalExpression as conditional_expression, LogicalExpression as logical_expression, UnaryExpression as unary_expression, Literal as literal}
+use Rattle.js_syntax.specs.declared.node_kind.NodeKind.TheVariants.{EmptyStatement as empty_statement, ExpressionStatement as expression_statement, ArrayExpression as array_expression, Elements as elements, ObjectExpression as object_expression, Properties as properties, BinaryExpression as binary_expression, SequenceExpression as sequence_expression, TemplateLiteral as template_literal, Expressions as expressions, ConditionalExpression as conditional_expression, LogicalExpression as logical_expression, UnaryExpression as unary_expression, Literal as literal, TemplateElement as template_element}
 use Rattle.js_syntax.specs.declared.operator.BinaryOperator.{BinaryOperator}
 use Rattle.js_syntax.specs.declared.operator.UnaryOperator.{UnaryOperator}
 use Rattle.js_syntax.specs.declared.operator.UnaryOperator.TheVariants.{UnaryNegation}
 use Rattle.js_syntax.specs.declared.operator.LogicalOperator.{LogicalOperator}
 use Rattle.js_syntax.specs.declared.value.LiteralValue.{LiteralValue}
 use Rattle.js_syntax.specs.declared.value.LiteralValue.TheVariants as value
-use Rattle.js_syntax.specs.Node.{Forest, total}
+use Rattle.js_syntax.specs.Node.{Forest, nothing, node, absent, total}
+use Rattle.js_syntax.specs.declared.value.TemplateText.{TemplateText}
 use Rattle.json_kept.proofs.Depths.{total_joined}
 use Rattle.steps.specs.KeepForm.Part.{may_be_idle}
 use Rattle.steps.proofs.Owed.KnownSizes.{IsSmall}
 use Rattle.js_tree.specs.Count.{one_each}
-use Rattle.steps.proofs.Marked.Picked.{SomeOf, none, stays, leaves, opens, absent_leaves, absent_stays, Picks, one_part, several, part_behind_zero, last_behind_zero, two_parts, after_test, known, signed, zeroed, one_substitution, substitutions, in_turn, with_less_text, Emptied, this_one, a_later_one}
+use Rattle.steps.specs.Allowed.TwoSides.{no_text, without_text, without_texts}
+use Rattle.steps.proofs.Marked.Picked.{SomeOf, none, stays, leaves, opens, absent_leaves, absent_stays, Picks, one_part, several, part_behind_zero, last_behind_zero, two_parts, after_test, known, signed, zeroed, one_substitution, substitutions, in_turn, with_less_text, with_no_texts, Emptied, this_one, a_later_one}
 
 -- counts by which what edits build counts no more than what it is built of
 pub record IsSparing (counts : Kind → ℕ) : Type 0 where
@@ -34,10 +36,12 @@ pub record IsSparing (counts : Kind → ℕ) : Type 0 where
   pub minus_of_one : (o : UnaryOperator) → counts (unary_expression UnaryNegation) ≤ counts (unary_expression o)
   pub minus_of_two : (o : BinaryOperator) → counts (unary_expression UnaryNegation) ≤ counts (binary_expression o)
   pub operand : (t : Kind) (w : LiteralValue) → one_each t ≡ 1 → IsSmall w → counts (literal w) ≤ counts t
+  pub of_element : (text : TemplateText) (tail : Bool) → counts (template_element no_text tail) ≤ counts (template_element text tail)
 
 -- as they are where none of that is counted
-pub uncounted : (counts : Kind → ℕ) → counts empty_statement ≡ 0 → counts sequence_expression ≡ 0 → counts expressions ≡ 0 → ((w : LiteralValue) → IsSmall w → counts (literal w) ≡ 0) → ((o : LogicalOperator) → counts (logical_expression o) ≡ 0) → counts (unary_expression UnaryNegation) ≡ 0 → IsSparing counts
-uncounted counts empty sequence list small logical minus = record {
+pub uncounted : (counts : Kind → ℕ) → counts empty_statement ≡ 0 → counts sequence_expression ≡ 0 → counts expressions ≡ 0 → ((w : LiteralValue) → IsSmall w → counts (literal w) ≡ 0) → ((o : LogicalOperator) → counts (logical_expression o) ≡ 0) → counts (unary_expression UnaryNegation) ≡ 0
+    → ((tail : Bool) → counts (template_element no_text tail) ≡ 0) → IsSparing counts
+uncounted counts empty sequence list small logical minus element = record {
   empty = Prim.omega (arith, empty);
   empty_idle = λ k idle. Prim.omega (arith, empty);
   of_array = Prim.omega (arith, sequence);
@@ -55,6 +59,7 @@ uncounted counts empty sequence list small logical minus = record {
   minus_of_one = λ o. Prim.omega (arith, minus);
   minus_of_two = λ o. Prim.omega (arith, minus);
   operand = λ t w h s. Prim.omega (arith, small w s);
+  of_element = λ text tail. Prim.omega (arith, element tail);
 }
 
 module _ (counts : Kind → ℕ) where
@@ -69,6 +74,15 @@ module _ (counts : Kind → ℕ) where
   emptied_counts : IsSparing counts → {r s : Forest} → Emptied r s → total counts s ≤ total counts r
   emptied_counts spares (this_one {k = k} one) = Prim.omega (arith, spares.operand k (value.Text []) one tt)
   emptied_counts spares (a_later_one rest) = Prim.omega (arith, emptied_counts spares rest)
+
+  element_counts : IsSparing counts → (k : Kind) → counts (without_text k) ≤ counts k
+  element_counts spares (template_element text tail) = spares.of_element text tail
+  element_counts spares k = Prim.omega arith
+
+  elements_count : IsSparing counts → (t : Forest) → total counts (without_texts t) ≤ total counts t
+  elements_count spares nothing = Prim.omega arith
+  elements_count spares (absent t) = elements_count spares t
+  elements_count spares (node k n a t) = Prim.omega (arith, element_counts spares k, elements_count spares t)
 
   pub picked_counts : IsSparing counts → {k l : Kind} {a b : Forest} → Picks k a l b → counts l + total counts b ≤ counts k + total counts a
   picked_counts spares (one_part k j l i m parts inner holds some) = Prim.omega (arith, some_counts some)
@@ -88,6 +102,7 @@ module _ (counts : Kind → ℕ) where
   picked_counts spares (substitutions h i m texts parts left some) = Prim.omega (arith, spares.of_template, some_counts some)
   picked_counts spares (in_turn o m sides) = Prim.omega (arith, spares.of_comparison o)
   picked_counts spares (with_less_text o old new less) = Prim.omega (arith, emptied_counts spares less)
+  picked_counts spares (with_no_texts h texts rest) = Prim.omega (arith, elements_count spares texts)
   picked_counts spares (known (unary_expression o) below w operator small) = Prim.omega (arith, spares.of_one o w small)
   picked_counts spares (known (binary_expression o) below w operator small) = Prim.omega (arith, spares.of_two o w small)
   picked_counts spares (known k below w operator small) = absurd cc

@@ -92,4 +92,5 @@ nodes_shed = counts_shed one_each (record {
   minus_of_one = λ o. Prim.omega arith;
   minus_of_two = λ o. Prim.omega arith;
   operand = λ t w h s. Prim.omega (arith, h);
+  of_element = λ text tail. Prim.omega arith;
 })

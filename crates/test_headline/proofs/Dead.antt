@@ -669,6 +669,7 @@ sequence_suspect u w n m k below y h = absurd Prim.cc
 
 both_suspect : (n m : Note) (k : Kind) (below : Forest) (y : Tree) → two_sides_at n m k below ≡ Some y → is_suspect k ≡ true
 both_suspect n m (Kind.BinaryExpression o) below y h = refl
+both_suspect n m Kind.TemplateLiteral below y h = refl
 both_suspect n m k below y h = absurd Prim.cc
 
 object_suspect : (n m : Note) (k : Kind) (below : Forest) (y : Tree) → object_becomes n m k below ≡ Some y → is_suspect k ≡ true

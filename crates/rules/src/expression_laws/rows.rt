@@ -5,7 +5,7 @@ ghost use Rattle.js_syntax.specs.declared.operator.LogicalOperator.TheVariants a
 ghost use Rattle.js_syntax.specs.declared.operator.UnaryOperator.TheVariants as unary_operator;
 ghost use Rattle.form_rules.specs.Samples.{a_module, a, no, reads, one, does, calls, let_, var_, block};
 ghost use Rattle.scope_rules.specs.Samples.{b};
-ghost use Rattle.steps.specs.Allowed.Rows.{null, conditional, either_way, empty, with_a};
+ghost use Rattle.steps.specs.Allowed.Rows.{null, conditional, either_way, empty, with_a, template as template_of};
 ghost use Rattle.rules.specs.Expressions.Samples.{left, left_of, doing, uses, member, logical, binary, unary, parenthesized, array, spread, sequence, indirect, empty_text, a_function, object, keyed, computed, computed_method, number, word, truth, endless, template};
 
 /// A conditional on a test that is known becomes the branch that is taken, at any depth. A test that acts is left, and the branch behind
@@ -155,12 +155,16 @@ pub fn both_sides_left()
     ensures used { left_of (uses (binary binary_operator.StrictEquality (calls (reads a)) (calls (reads b)))) ≡ doing (uses (binary binary_operator.StrictEquality (calls (reads a)) (calls (reads b)))) }
 {}
 
-/// Where nobody takes the value of a sum of a text and what acts, the text becomes the empty one.
+/// Where nobody takes the value of a sum of a text and what acts, the text becomes the empty one, and so do the texts of a template that
+/// may convert an object.
 pub fn texts_left()
     ensures before { left_of (binary binary_operator.Addition (word (codes "a")) (calls (reads a))) ≡ doing (binary binary_operator.Addition empty_text (calls (reads a))) }
     ensures behind { left_of (binary binary_operator.Addition (calls (reads a)) (word (codes "a"))) ≡ doing (binary binary_operator.Addition (calls (reads a)) empty_text) }
     ensures within { left_of (binary binary_operator.Addition (binary binary_operator.Addition (word (codes "a")) (calls (reads a))) (word (codes "b"))) ≡ doing (binary binary_operator.Addition (binary binary_operator.Addition (word (codes "a")) (calls (reads a))) empty_text) }
     ensures used { left_of (uses (binary binary_operator.Addition (word (codes "a")) (calls (reads a)))) ≡ doing (uses (binary binary_operator.Addition (word (codes "a")) (calls (reads a)))) }
+    ensures template { left_of (template_of (codes "a") (calls (reads a))) ≡ doing (template_of [] (calls (reads a))) }
+    ensures used_template { left_of (uses (template_of (codes "a") (calls (reads a)))) ≡ doing (uses (template_of (codes "a") (calls (reads a)))) }
+    ensures primitive { left_of (template_of (codes "a") (unary unary_operator.LogicalNot (calls (reads a)))) ≡ doing (unary unary_operator.LogicalNot (calls (reads a))) }
 {}
 
 /// Where nobody takes the value of an object literal the values are left that act, and one of them alone. A function doesn't act.

@@ -45,7 +45,7 @@ use Rattle.steps.specs.Allowed.TwoSides.{both_sides_act}
 use Rattle.steps.specs.Allowed.UnusedObject.{acting_values_stay}
 use Rattle.steps.specs.Allowed.KnownOperation.{known_literal, value_is_known, negative_is_known}
 use Rattle.steps.specs.Allowed.Edits.{Edit, leaves, becomes, empty_statement, empty_block, silent_statement, unused_function, unused_declaration, unused_import, unreached, untaken, idle_statement, repeated_import, known_conditional, known_side, known_if, dead_if, unused_operation, unused_list, indirect_choice, one_sided_choice, idle_parts, two_sides, unused_object, known_operation, unrun_value, idle_try, idle_body}
-use Rattle.steps.specs.Allowed.Rows.{breaks_label, labeled_too, labeled, branch_of_if, in_branch, in_function, in_function_by, value_of_a, zero, loop, debugger, throwing_block, throwing_branch, broken_label, past, in_list, before, throws, behind_throw, call_of_a, null, if_one, if_null, either_way, conditional, logical, may_be_named, o_f, parenthesized, in_statement, called, called_in_parentheses, called_in_with, argument, operand, applied, equals, difference, sum, text, empty_text, assigned, statement, ComesOut, Stays, StaysUnused, array, spread, hole, sequence, ListStays, ChoiceStays, PartsStay, SidesStay, object, a_is, b_is, getter_of_a, keyed_by, method_by, not_a, ObjectStays, literal, operation, OperationStays, behind_zero, placed, StaysDirect, FollowsNone, with_a, in_with_a, empty, a_is_read, a_is_exported, imports_nothing, behind_import, only_import, tried, tried_finally, finally_alone, while_, for_, loop}
+use Rattle.steps.specs.Allowed.Rows.{breaks_label, labeled_too, labeled, branch_of_if, in_branch, in_function, in_function_by, value_of_a, zero, loop, debugger, throwing_block, throwing_branch, broken_label, past, in_list, before, throws, behind_throw, call_of_a, null, if_one, if_null, either_way, conditional, logical, may_be_named, o_f, parenthesized, in_statement, called, called_in_parentheses, called_in_with, argument, operand, applied, equals, difference, sum, text, empty_text, template, tagged, assigned, statement, ComesOut, Stays, StaysUnused, array, spread, hole, sequence, ListStays, ChoiceStays, PartsStay, SidesStay, object, a_is, b_is, getter_of_a, keyed_by, method_by, not_a, ObjectStays, literal, operation, OperationStays, behind_zero, placed, StaysDirect, FollowsNone, with_a, in_with_a, empty, a_is_read, a_is_exported, imports_nothing, behind_import, only_import, tried, tried_finally, finally_alone, while_, for_, loop}
 
 pub empties_in_list : Edit (a_module (does one ∷ [])) (a_module (empty ∷ []))
 empties_in_list = becomes (before []) _ _ (silent_statement (silent_statement_empties nowhere nowhere nowhere _ nothing (inl refl, tt)))
@@ -481,6 +481,18 @@ used_text_stays y (both_sides_act n m _ _ unused is) = true≢false (sym unused)
 
 pub number_in_a_sum_stays : SidesStay statement (sum one call_of_a)
 number_in_a_sum_stays y (both_sides_act n m _ _ unused is) = no_list is
+
+pub template_loses_its_text : Edit (a_module (does (template (codes "a") call_of_a) ∷ [])) (a_module (does (template [] call_of_a) ∷ []))
+template_loses_its_text = becomes there _ _ (two_sides (both_sides_act nowhere nowhere _ _ refl refl))
+
+pub empty_template_stays : SidesStay statement (template [] call_of_a)
+empty_template_stays y (both_sides_act n m _ _ unused is) = no_list is
+
+pub used_template_stays : SidesStay argument (template (codes "a") call_of_a)
+used_template_stays y (both_sides_act n m _ _ unused is) = true≢false (sym unused)
+
+pub tagged_template_stays : SidesStay tagged (template (codes "a") call_of_a)
+tagged_template_stays y (both_sides_act n m _ _ unused is) = true≢false (sym unused)
 
 -- ---- object literals of which nobody takes the value
 

@@ -1,6 +1,7 @@
 -- What an array, a template, an object literal or a sequence comes to: one of its parts, several in a sequence, or the last behind a zero; what a choice does: one of its
 -- parts behind a zero, two of them as a logical expression, or its test and one of them in a sequence; what an operation on two sides does: these in a sequence, or a text
--- on a side of it the empty one; and what an operation does of which the value is known: a literal, or unary minus on one.
+-- on a side of it the empty one; what a template does of which nobody takes the value: itself without its texts; and what an operation does of which the value is known: a
+-- literal, or unary minus on one.
 use Rattle.std.proofs.Common.{◌≡◌, ℕ, suc, pos, [], Bool, true, false, not, Option, Some, None, if◌then◌else◌, refl, sym, subst, true≢false}
 use Rattle.js_syntax.specs.declared.node_kind.NodeKind.{NodeKind as Kind}
 use Rattle.js_syntax.specs.declared.node_kind.NodeKind.TheVariants.{ArrayExpression as array_expression, Elements as elements, ObjectExpression as object_expression, Properties as properties, BinaryExpression as binary_expression, SequenceExpression as sequence_expression, Expressions as expressions, TemplateLiteral as template_literal, Quasis as quasis, ConditionalExpression as conditional_expression, LogicalExpression as logical_expression, UnaryExpression as unary_expression, Literal as literal}
@@ -22,7 +23,7 @@ use Rattle.js_syntax.proofs.Truth.{first_of_both}
 use Rattle.steps.specs.Allowed.IndirectChoice.{IndirectChoice, value_alone_counts, part_counts_behind_test}
 use Rattle.steps.specs.Allowed.OneSidedChoice.{sides, one_side, one_sided, OneSidedChoice, one_branch_acts}
 use Rattle.steps.specs.Allowed.IdleParts.{stays_before, counting, all_count, more_before, itself_or_behind, as_value_of, sequence_becomes, IdleParts, idle_parts_leave}
-use Rattle.steps.specs.Allowed.TwoSides.{TwoSides, both_sides_act}
+use Rattle.steps.specs.Allowed.TwoSides.{without_texts, TwoSides, both_sides_act}
 use Rattle.steps.specs.Allowed.UnusedObject.{all_come_apart, keys_and_values, object_becomes, UnusedObject, acting_values_stay}
 use Rattle.steps.specs.Allowed.KnownOperation.{is_literal, has_operand, KnownOperation, value_is_known, negative_is_known}
 use Rattle.steps.specs.Allowed.Places.{asked_at}
@@ -35,7 +36,7 @@ use Rattle.steps.proofs.Owed.BehindTest.{Follows, consequent_follows, alternate_
 use Rattle.steps.proofs.Owed.IndirectChoice.{Counts, consequent_counts, alternate_counts, right_side_counts, part_that_counts}
 use Rattle.steps.proofs.Owed.KnownOperation.{Operation, on_one, on_two, is_operation_known, value_small, Negative, under_one, under_two, is_negative_known, negative_small, one_level}
 use Rattle.steps.proofs.Owed.KnownSizes.{IsSmall, below_largest}
-use Rattle.steps.proofs.Owed.TwoSides.{Sides, both_act, first_text, second_text, are_sides}
+use Rattle.steps.proofs.Owed.TwoSides.{Sides, both_act, first_text, second_text, no_texts, are_sides}
 
 -- some of the nodes of a row, in their order, or of a property its value
 pub data SomeOf : (r s : Forest) → Type 0 where
@@ -84,6 +85,7 @@ pub data Picks : (k : Kind) (below : Forest) (l : Kind) (inner : Forest) → Typ
   substitutions : (h i m : Note) (texts parts left : Forest) → SomeOf parts left → Picks template_literal (node quasis h texts (node expressions i parts nothing)) sequence_expression (node expressions m left nothing)
   in_turn : (o : BinaryOperator) (m : Note) (sides : Forest) → Picks (binary_expression o) sides sequence_expression (node expressions m sides nothing)
   with_less_text : (o : BinaryOperator) (old new : Forest) → Emptied old new → Picks (binary_expression o) old (binary_expression o) new
+  with_no_texts : (h : Note) (texts rest : Forest) → Picks template_literal (node quasis h texts rest) template_literal (node quasis h (without_texts texts) rest)
 
 -- ---- the parts that act
 
@@ -236,6 +238,7 @@ sides_picks : {n m : Note} {k : Kind} {a : Forest} {y : Tree} → Sides n m k a 
 sides_picks {m = m} (both_act o k l i j a b combines) = in_turn o m (node k i a (node l j b nothing))
 sides_picks (first_text c cs l i j a b) = with_less_text addition _ _ (this_one refl)
 sides_picks (second_text c cs k i j a b) = with_less_text addition _ _ (a_later_one (this_one refl))
+sides_picks (no_texts h j texts parts has) = with_no_texts h texts (node expressions j parts nothing)
 
 pub two_sides_picks : (a : Around) (x y : Tree) → TwoSides a x y → Picks x.kind x.below y.kind y.below
 two_sides_picks a _ _ (both_sides_act n m x y unused is) = sides_picks (are_sides n m x.kind x.below y is)

@@ -1,5 +1,5 @@
 -- Small programs that the definitions are tried on.
-use Rattle.std.specs.Prelude.{List, [], ◌∷◌, pos, Bool, true, false, Some, None, codes}
+use Rattle.std.specs.Prelude.{ℕ, List, [], ◌∷◌, pos, Bool, true, false, Some, None, codes}
 use Rattle.js_syntax.specs.declared.node_kind.NodeKind.{NodeKind as Kind}
 use Rattle.js_syntax.specs.declared.scalar.SourceType.TheVariants as source_type
 use Rattle.js_syntax.specs.declared.kind.FunctionKind.TheVariants as function_kind
@@ -182,6 +182,13 @@ text = literal (value.Text (codes "a"))
 abbrev pub empty_text : Forest
 empty_text = literal (value.Text [])
 
+-- `text${part}`
+abbrev pub template : (raw : List ℕ) → (part : Forest) → Forest
+template raw part =
+    over Kind.TemplateLiteral (joined
+    (listed Kind.Quasis (leaf (Kind.TemplateElement (record { raw = raw; cooked = Some raw }) false) ∷ leaf (Kind.TemplateElement (record { raw = []; cooked = Some [] }) true) ∷ []))
+    (listed Kind.Expressions (part ∷ [])))
+
 -- left - right
 abbrev pub difference : (left right : Forest) → Forest
 difference left right = over (Kind.BinaryExpression binary.Subtraction) (joined left right)
@@ -244,6 +251,10 @@ in_statement place = in_list (under Kind.ExpressionStatement nowhere place nothi
 -- the places of e in e(), in (e)(), in a(e), in typeof e, in delete (e) and the like, and in x = e
 abbrev pub called : Around
 called = in_statement (under (Kind.CallExpression false false) nowhere (first (listed Kind.Arguments [])) nothing)
+
+-- and in a``
+abbrev pub tagged : Around
+tagged = in_statement (under Kind.TaggedTemplateExpression nowhere (past (reads a) (first nothing)) nothing)
 
 abbrev pub called_in_parentheses : Around
 called_in_parentheses =

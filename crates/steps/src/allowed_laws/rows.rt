@@ -29,7 +29,7 @@ ghost use Rattle.steps.specs.Allowed.IdleTry.{IdleTry};
 ghost use Rattle.steps.specs.Allowed.IdleBody.{IdleBody};
 ghost use Rattle.steps.specs.Allowed.EmptyBlock.{EmptyBlock};
 ghost use Rattle.steps.specs.Allowed.Edits.{Edit};
-ghost use Rattle.steps.specs.Allowed.Rows.{before, breaks_label, labeled, labeled_too, tried, tried_finally, finally_alone, while_, for_, loop, branch_of_if, in_list, past, in_branch, in_function, in_function_by, value_of_a, zero, debugger, throwing_block, throwing_branch, broken_label, throws, behind_throw, call_of_a, null, if_one, if_null, either_way, conditional, logical, may_be_named, o_f, parenthesized, called, called_in_parentheses, called_in_with, argument, operand, applied, equals, difference, sum, text, empty_text, assigned, statement, ComesOut, Stays, StaysUnused, array, spread, hole, sequence, ListStays, ChoiceStays, PartsStay, SidesStay, object, a_is, b_is, getter_of_a, keyed_by, method_by, not_a, ObjectStays, literal, operation, OperationStays, behind_zero, placed, StaysDirect, FollowsNone, with_a, in_with_a, empty, a_is_read, a_is_exported, imports_nothing, behind_import, behind_other};
+ghost use Rattle.steps.specs.Allowed.Rows.{before, breaks_label, labeled, labeled_too, tried, tried_finally, finally_alone, while_, for_, loop, branch_of_if, in_list, past, in_branch, in_function, in_function_by, value_of_a, zero, debugger, throwing_block, throwing_branch, broken_label, throws, behind_throw, call_of_a, null, if_one, if_null, either_way, conditional, logical, may_be_named, o_f, parenthesized, called, called_in_parentheses, called_in_with, argument, operand, applied, equals, difference, sum, text, empty_text, template, tagged, assigned, statement, ComesOut, Stays, StaysUnused, array, spread, hole, sequence, ListStays, ChoiceStays, PartsStay, SidesStay, object, a_is, b_is, getter_of_a, keyed_by, method_by, not_a, ObjectStays, literal, operation, OperationStays, behind_zero, placed, StaysDirect, FollowsNone, with_a, in_with_a, empty, a_is_read, a_is_exported, imports_nothing, behind_import, behind_other};
 
 /// A statement of a literal becomes empty, in a list and alone, and leaves the list then.
 pub fn silent_statements_go()
@@ -364,17 +364,22 @@ pub fn two_sides_become_a_sequence()
     ensures primitive { Edit (a_module (does (difference not_a not_a) ∷ [])) (a_module (does (sequence (not_a ∷ not_a ∷ [])) ∷ [])) }
 {}
 
-/// In a sum of which nobody takes the value a text becomes the empty one, beside what acts.
+/// In a sum of which nobody takes the value a text becomes the empty one, beside what acts, and in a template each text.
 pub fn texts_become_empty()
     ensures before { Edit (a_module (does (sum text call_of_a) ∷ [])) (a_module (does (sum empty_text call_of_a) ∷ [])) }
     ensures behind { Edit (a_module (does (sum call_of_a text) ∷ [])) (a_module (does (sum call_of_a empty_text) ∷ [])) }
+    ensures template { Edit (a_module (does (template (codes "a") call_of_a) ∷ [])) (a_module (does (template [] call_of_a) ∷ [])) }
 {}
 
-/// An empty one stays, and so does one in a sum whose value is taken, and what is no text.
+/// An empty one stays, and so does one in a sum whose value is taken, and what is no text. So do the texts of a template where its value
+/// is taken, as a tag before it takes it too.
 pub fn other_sums_stay()
     ensures empty { SidesStay statement (sum empty_text call_of_a) }
     ensures used { SidesStay argument (sum text call_of_a) }
     ensures no_text { SidesStay statement (sum one call_of_a) }
+    ensures empty_template { SidesStay statement (template [] call_of_a) }
+    ensures used_template { SidesStay argument (template (codes "a") call_of_a) }
+    ensures tagged { SidesStay tagged (template (codes "a") call_of_a) }
 {}
 
 /// It stays where one side doesn't act, where its value is taken, and where it may convert an object.

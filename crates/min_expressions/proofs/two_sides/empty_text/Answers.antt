@@ -1,5 +1,5 @@
-use Rattle.std.proofs.Common.{◌∙◌, Some, None, length, drop, slice_index_or, sym, ap, ap₂, arith}
-use Rattle.js_syntax.specs.Node.{Tree, Note, row}
+use Rattle.std.proofs.Common.{◌∙◌, Some, None, length, drop, sym, ap, ap₂, arith}
+use Rattle.js_syntax.specs.Node.{Tree, row}
 use Rattle.rules.specs.Expressions.Lists.{new_note}
 use Rattle.min_expressions.proofs.Emptied.{sum_of, has_text, is_there, text_taken, row_left, text_edits}
 use Rattle.min_expressions.proofs.two_sides.empty_text.Goals as goal
