@@ -1,6 +1,6 @@
 -- Whether both sides of an operation act, or a text stands beside one that does, whether a template has texts, and which keys and values of an object literal act,
 -- doesn't see notes.
-use Rattle.std.proofs.Common.{◌≡◌, ◌∙◌, suc, ◌==◌, Bool, true, false, not, ◌&&◌, ◌||◌, Option, Some, None, is_some, if◌then◌else◌, refl, sym, ap, ap₂}
+use Rattle.std.proofs.Common.{◌≡◌, ◌∙◌, get_or, suc, ◌==◌, Bool, true, false, not, ◌&&◌, ◌||◌, Option, Some, None, is_some, if◌then◌else◌, refl, sym, ap, ap₂}
 use Rattle.js_syntax.specs.declared.node_kind.NodeKind.{NodeKind as Kind}
 use Rattle.js_syntax.specs.declared.node_kind.NodeKind.TheVariants.{BinaryExpression as binary_expression, SequenceExpression as sequence_expression, Expressions as expressions, ObjectExpression as object_expression, Properties as properties, Property as property, TemplateLiteral as template_literal, Quasis as quasis}
 use Rattle.js_syntax.specs.declared.kind.PropertyKind.{PropertyKind}
@@ -11,13 +11,15 @@ use Rattle.js_syntax.specs.declared.value.Key.TheVariants as key_form
 use Rattle.js_syntax.specs.Core.{is_plain_property}
 use Rattle.js_syntax.specs.Node.{Forest, Tree, Note, nothing, node, absent, alone, joined, nowhere, bare}
 use Rattle.form_rules.specs.Rules.{length_of}
+use Rattle.js_effects.specs.declared.value.ValueType.TheVariants.{Undetermined}
 use Rattle.js_effects.specs.Kinds.{is_primitive, type_at}
 use Rattle.js_effects.specs.Silence.{only_combines}
+use Rattle.js_tree.specs.Walk.{is_list}
 use Rattle.scope_laws.proofs.Notes.{unseen}
 use Rattle.steps.specs.Allowed.Uses.{as_value}
 use Rattle.steps.specs.Allowed.UnusedOperation.{acts}
 use Rattle.steps.specs.Allowed.UnusedList.{acting, as_one}
-use Rattle.steps.specs.Allowed.TwoSides.{is_full_text, empty_text, has_text, has_texts, is_whole, without_texts, text_emptied, two_sides}
+use Rattle.steps.specs.Allowed.TwoSides.{empty_text, is_empty_text, is_text_type, gives_text, has_text, has_texts, is_whole, without_texts, text_emptied, two_sides}
 use Rattle.steps.specs.Allowed.UnusedObject.{comes_out, is_computed, comes_apart, all_come_apart, keys_and_values, object_becomes}
 use Rattle.headline.proofs.RenotedUnused.{stands_bare_bare, acts_bare, combines_bare, acting_bare, as_one_bare, some_if, some_tree}
 use Rattle.headline.proofs.RenotedKnown.{types_bare}
@@ -30,6 +32,9 @@ some_or false y o = refl
 
 abbrev sum : (n : Note) → (sides : Forest) → Tree
 sum n sides = record { kind = binary_expression addition; note = n; below = sides }
+
+gives_bare : (k : Kind) (n : Note) (a : Forest) → gives_text k nowhere (bare a) ≡ gives_text k n a
+gives_bare k n a = ap₂ (λ x y. not (is_empty_text k) && (not (x || is_list k) && is_text_type y)) (acts_bare k n a) (ap (λ ts. get_or ts 0 Undetermined) (types_bare (alone k n a)))
 
 texts_bare : (t : Forest) → has_texts (bare t) ≡ has_texts t
 texts_bare nothing = refl
@@ -49,12 +54,12 @@ template n parts = record { kind = template_literal; note = n; below = parts }
 
 text_bare : (n : Note) (k : Kind) (t : Forest) → is_some (text_emptied n k (bare t)) ≡ is_some (text_emptied n k t)
 text_bare n (binary_expression addition) (node k i a (node l j b nothing)) =
-    some_or (is_full_text k && acts l nowhere (bare b)) (sum n (node empty_text nowhere nothing (node l nowhere (bare b) nothing))) (if is_full_text l && acts k nowhere (bare a) then Some (sum n (node k nowhere (bare a) (node empty_text nowhere nothing nothing))) else None)
-    ∙ ap₂ (λ x y. (is_full_text k && x) || y) (acts_bare l j b)
-    (some_if (is_full_text l && acts k nowhere (bare a)) (sum n (node k nowhere (bare a) (node empty_text nowhere nothing nothing)))
-    ∙ ap (λ x. is_full_text l && x) (acts_bare k i a)
-    ∙ sym (some_if (is_full_text l && acts k i a) (sum n (node k i a (node empty_text j nothing nothing)))))
-    ∙ sym (some_or (is_full_text k && acts l j b) (sum n (node empty_text i nothing (node l j b nothing))) (if is_full_text l && acts k i a then Some (sum n (node k i a (node empty_text j nothing nothing))) else None))
+    some_or (gives_text k nowhere (bare a) && acts l nowhere (bare b)) (sum n (node empty_text nowhere nothing (node l nowhere (bare b) nothing))) (if gives_text l nowhere (bare b) && acts k nowhere (bare a) then Some (sum n (node k nowhere (bare a) (node empty_text nowhere nothing nothing))) else None)
+    ∙ ap₂ (λ x y. x || y) (ap₂ (λ x y. x && y) (gives_bare k i a) (acts_bare l j b))
+    (some_if (gives_text l nowhere (bare b) && acts k nowhere (bare a)) (sum n (node k nowhere (bare a) (node empty_text nowhere nothing nothing)))
+    ∙ ap₂ (λ x y. x && y) (gives_bare l j b) (acts_bare k i a)
+    ∙ sym (some_if (gives_text l j b && acts k i a) (sum n (node k i a (node empty_text j nothing nothing)))))
+    ∙ sym (some_or (gives_text k i a && acts l j b) (sum n (node empty_text i nothing (node l j b nothing))) (if gives_text l j b && acts k i a then Some (sum n (node k i a (node empty_text j nothing nothing))) else None))
 text_bare n template_literal (node quasis h t (node expressions j parts nothing)) =
     some_if (has_texts (bare t) && is_whole (bare t) (bare parts)) (template n (node quasis nowhere (without_texts (bare t)) (node expressions nowhere (bare parts) nothing))) ∙ ap₂ (λ b c. b && c) (texts_bare t) (whole_bare t parts)
     ∙ sym (some_if (has_texts t && is_whole t parts) (template n (node quasis h (without_texts t) (node expressions j parts nothing))))

@@ -4,23 +4,19 @@ use Rattle.std.specs.Prelude.{slice_index_or, slice_set}
 use Rattle.std.specs.Option.{option_map}
 use Rattle.std.proofs.lemmas.List.{take_all, take-append-le}
 use Rattle.js_syntax.specs.declared.node_kind.NodeKind.{NodeKind as Kind}
-use Rattle.js_syntax.specs.declared.node_kind.NodeKind.TheVariants.{BinaryExpression as binary_expression, Literal as literal, TemplateLiteral as template_literal, Quasis as quasis, Expressions as expressions}
+use Rattle.js_syntax.specs.declared.node_kind.NodeKind.TheVariants.{BinaryExpression as binary_expression, TemplateLiteral as template_literal, Quasis as quasis, Expressions as expressions}
 use Rattle.js_syntax.specs.declared.operator.BinaryOperator.TheVariants.{Addition as addition}
-use Rattle.js_syntax.specs.declared.value.LiteralValue.TheVariants as value
 use Rattle.js_syntax.specs.Node.{Forest, Tree, Note, nothing, node, absent, alone, row, forest_of}
-use Rattle.js_syntax.proofs.Truth.{first_of_both, second_of_both}
 use Rattle.js_effects.specs.Silence.{only_combines}
 use Rattle.scope_counts.specs.Counts.{ids}
 use Rattle.min_context.specs.Edited.{evals, Leaves, DropsNode, Edited}
 use Rattle.min_context.specs.Seen.{Seen}
-use Rattle.steps.specs.Allowed.TwoSides.{is_full_text, empty_text, has_texts, is_whole, without_texts, text_emptied, two_sides}
+use Rattle.steps.specs.Allowed.TwoSides.{gives_text, empty_text, has_texts, is_whole, without_texts, text_emptied, two_sides}
 use Rattle.steps.specs.Allowed.UnusedOperation.{acts}
-use Rattle.steps.proofs.Owed.TwoSides.{IsFullText, a_full_text, full_text}
 use Rattle.rules.specs.Expressions.Uses.{Spot}
 use Rattle.min_expressions.specs.TwoSides.{sides_act, sides_go, text_for, text_goes, emptied}
 use Rattle.min_expressions.specs.Textless.{template_has_texts, texts_go}
-use Rattle.min_expressions.specs.Unused.{tree_acts}
-use Rattle.min_expressions.proofs.Chosen.{two, no_index}
+use Rattle.min_expressions.proofs.Chosen.{no_index}
 use Rattle.min_expressions.proofs.Leaving.{emptied as itself_alone, edits_to}
 use Rattle.min_expressions.proofs.Sided.{two_in}
 use Rattle.min_expressions.proofs.TwoSides.{if_true, if_false, both_true}
@@ -44,9 +40,9 @@ pub record HasText (k : Kind) (t : Forest) (i : ℕ) : Type 0 where
   pub ids_split : (r : ℕ) (n m : Note) → ids r (alone k n t) ≡ (ids r (forest_of text) + ids r (alone k n nothing)) + ids r (alone sum m (row (slice_set items i (Some (emptied text)))))
   pub evals_split : (n m : Note) → evals (alone k n t) ≡ (evals (forest_of text) + evals (alone k n nothing)) + evals (alone sum m (row (slice_set items i (Some (emptied text)))))
 
-first_has : (k l : Kind) (i j : Note) (a b : Forest) → IsFullText k → (is_full_text k && acts l j b) ≡ true → HasText sum (node k i a (node l j b nothing)) 0
-first_has _ l i j a b (a_full_text c cs) e =
-    let text : Tree = record { kind = literal (value.Text (c ∷ cs)); note = i; below = a } in
+first_has : (k l : Kind) (i j : Note) (a b : Forest) → (gives_text k i a && acts l j b) ≡ true → HasText sum (node k i a (node l j b nothing)) 0
+first_has k l i j a b e =
+    let text : Tree = record { kind = k; note = i; below = a } in
     let other : Tree = record { kind = l; note = j; below = b } in
     record {
       items = Some text ∷ Some other ∷ [];
@@ -55,14 +51,14 @@ first_has _ l i j a b (a_full_text c cs) e =
       within = Prim.omega arith;
       two_there = refl;
       there = λ d. refl;
-      becomes = λ n. if_true (acts l j b) _ _ e;
+      becomes = λ n. if_true (gives_text k i a && acts l j b) _ _ e;
       ids_split = λ r n m. Prim.omega arith;
       evals_split = λ n m. Prim.omega arith;
     }
 
-second_has : (k l : Kind) (i j : Note) (a b : Forest) → IsFullText l → (is_full_text k && acts l j b) ≡ false → (is_full_text l && acts k i a) ≡ true → HasText sum (node k i a (node l j b nothing)) 1
-second_has k _ i j a b (a_full_text c cs) f e =
-    let text : Tree = record { kind = literal (value.Text (c ∷ cs)); note = j; below = b } in
+second_has : (k l : Kind) (i j : Note) (a b : Forest) → (gives_text k i a && acts l j b) ≡ false → (gives_text l j b && acts k i a) ≡ true → HasText sum (node k i a (node l j b nothing)) 1
+second_has k l i j a b f e =
+    let text : Tree = record { kind = l; note = j; below = b } in
     let other : Tree = record { kind = k; note = i; below = a } in
     record {
       items = Some other ∷ Some text ∷ [];
@@ -71,7 +67,7 @@ second_has k _ i j a b (a_full_text c cs) f e =
       within = Prim.omega arith;
       two_there = refl;
       there = λ d. refl;
-      becomes = λ n. if_false (is_full_text k && acts (literal (value.Text (c ∷ cs))) j b) _ _ f ∙ if_true (acts k i a) _ _ e;
+      becomes = λ n. if_false (gives_text k i a && acts l j b) _ _ f ∙ if_true (gives_text l j b && acts k i a) _ _ e;
       ids_split = λ r n m. Prim.omega arith;
       evals_split = λ n m. Prim.omega arith;
     }
@@ -83,11 +79,11 @@ same_index : {i j : ℕ} → Some i ≡ Some j → i ≡ j
 same_index e = Prim.cc
 
 pub has_text : (k : Kind) (t : Forest) (i : ℕ) → text_for k t ≡ Some i → HasText k t i
-has_text (binary_expression addition) (node k h a (node l j b nothing)) i e = each (is_full_text k && acts l j b) (is_full_text l && acts k h a) refl refl e
+has_text (binary_expression addition) (node k h a (node l j b nothing)) i e = each (gives_text k h a && acts l j b) (gives_text l j b && acts k h a) refl refl e
   where
-    each : (p q : Bool) → (is_full_text k && acts l j b) ≡ p → (is_full_text l && acts k h a) ≡ q → which p q ≡ Some i → HasText sum (node k h a (node l j b nothing)) i
-    each true q first second is = subst (HasText sum (node k h a (node l j b nothing))) (same_index is) (first_has k l h j a b (full_text k (first_of_both (is_full_text k) (acts l j b) first)) first)
-    each false true first second is = subst (HasText sum (node k h a (node l j b nothing))) (same_index is) (second_has k l h j a b (full_text l (first_of_both (is_full_text l) (acts k h a) second)) first second)
+    each : (p q : Bool) → (gives_text k h a && acts l j b) ≡ p → (gives_text l j b && acts k h a) ≡ q → which p q ≡ Some i → HasText sum (node k h a (node l j b nothing)) i
+    each true q first second is = subst (HasText sum (node k h a (node l j b nothing))) (same_index is) (first_has k l h j a b first)
+    each false true first second is = subst (HasText sum (node k h a (node l j b nothing))) (same_index is) (second_has k l h j a b first second)
     each false false first second is = no_index is
 has_text (binary_expression addition) (node k h a (node l j b (node m n c nothing))) i e = no_index e
 has_text (binary_expression addition) (node k h a (node l j b (node m n c (absent r)))) i e = no_index e
@@ -142,7 +138,7 @@ neither_text false false y z e = refl
 
 none_emptied : (n : Note) (k : Kind) (t : Forest) → text_for k t ≡ None → template_has_texts k t ≡ false → text_emptied n k t ≡ None
 none_emptied n (binary_expression addition) (node k i a (node l j b nothing)) e f =
-    neither_text (is_full_text k && acts l j b) (is_full_text l && acts k i a) (sum_of n (node empty_text i nothing (node l j b nothing))) (sum_of n (node k i a (node empty_text j nothing nothing))) e
+    neither_text (gives_text k i a && acts l j b) (gives_text l j b && acts k i a) (sum_of n (node empty_text i nothing (node l j b nothing))) (sum_of n (node k i a (node empty_text j nothing nothing))) e
 none_emptied n template_literal (node quasis h elements (node expressions j parts nothing)) e f =
     if_false (has_texts elements && is_whole elements parts) (Some (record { kind = template_literal; note = n; below = node quasis h (without_texts elements) (node expressions j parts nothing) })) None f
 none_emptied n k t e f = refl

@@ -6,7 +6,7 @@ use Rattle.js_syntax.specs.declared.node_kind.NodeKind.TheVariants.{BinaryExpres
 use Rattle.js_syntax.specs.declared.operator.BinaryOperator.TheVariants.{Addition as addition}
 use Rattle.js_syntax.specs.Node.{Forest, Tree, nothing}
 use Rattle.js_effects.specs.Silence.{only_combines}
-use Rattle.steps.specs.Allowed.TwoSides.{is_full_text, empty_text}
+use Rattle.steps.specs.Allowed.TwoSides.{gives_text, empty_text}
 use Rattle.rules.specs.Expressions.Uses.{Spot}
 use Rattle.min_expressions.specs.Kept.{Parts, pair, parts_of}
 use Rattle.min_expressions.specs.Unused.{tree_acts}
@@ -26,7 +26,7 @@ sides_go s k below = s.is_unused && sides_act k below
 -- ---- the text of a sum, by its index
 
 abbrev pub text_between : (left right : Tree) → Option ℕ
-text_between x y = if is_full_text x.kind && tree_acts y then Some 0 else if is_full_text y.kind && tree_acts x then Some 1 else None
+text_between x y = if gives_text x.kind x.note x.below && tree_acts y then Some 0 else if gives_text y.kind y.note y.below && tree_acts x then Some 1 else None
 
 abbrev pub text_of_parts : Parts → Option ℕ
 text_of_parts (pair x y) = text_between x y

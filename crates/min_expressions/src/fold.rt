@@ -302,8 +302,9 @@ impl PeepholeOptimizations {
     }
 
     /// Where nobody takes the value, an operation of which both sides act becomes a sequence of these, as `f(), g()`, if it does nothing
-    /// itself: it compares, or both sides are primitive by their form. A text on a side of a sum, beside what acts, becomes the empty one,
-    /// as `"a" + f()` becomes `"" + f()`, and so do the texts of a template. It fails only for want of memory; then all is as it was.
+    /// itself: it compares, or both sides are primitive by their form. What does nothing but give a text on a side of a sum, beside what
+    /// acts, becomes the empty one, as `"a" + f()` becomes `"" + f()`, and so do the texts of a template. It fails only for want of memory;
+    /// then all is as it was.
     pub fn fold_two_sides(
         node: &mut Node,
         ctx: &mut MinifierTraverseCtx,

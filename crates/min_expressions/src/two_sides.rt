@@ -1,26 +1,27 @@
-// An operation on two sides of which nobody takes the value, and of which both act. And a sum, of which one side is a text and the other acts.
+// An operation on two sides of which nobody takes the value, and of which both act. And a sum, of which one side does nothing but give a text
+// and the other acts.
 ghost use Rattle.std.specs.Prelude.{◌≡◌, ◌<◌, [], ◌∷◌, length, slice_index_or, slice_set, OnOk, OnErr, Some, None, true};
 ghost use Rattle.std.specs.Option.{option_map};
 ghost use Rattle.js_syntax.specs.Node.{row};
 ghost use Rattle.scope_counts.specs.Counts.{ids};
 ghost use Rattle.min_context.specs.Edited.{evals, Leaves, Edited};
-ghost use Rattle.steps.specs.Allowed.TwoSides.{is_full_text, text_emptied, two_sides};
+ghost use Rattle.steps.specs.Allowed.TwoSides.{is_empty_text, is_text_type, gives_text, text_emptied, two_sides};
 ghost use Rattle.rules.specs.Expressions.Lists.{new_note};
 ghost use Rattle.rules.specs.Expressions.Uses.{spot_of};
 ghost use Rattle.min_expressions.specs.Kept.{parts_of};
 ghost use Rattle.min_expressions.specs.TwoSides as sides;
 
 use crate::indirect::one_field;
-use crate::list::sequence;
+use crate::list::{acts_or_is_list, sequence};
 use crate::one_sided::mark_branch;
 use crate::parts::{Parts, parts_of};
 use crate::unused::acts;
 use crate::uses::is_unused_from;
-use js_effects::only_combines;
+use js_effects::{BareContext, ValueType, only_combines, value_type};
 use js_syntax::{BinaryOperator, LiteralValue, NodeKind, Text};
 use js_tree::{Node, put_child, take};
 use min_context::MinifierTraverseCtx;
-use std::alloc::AllocError;
+use std::alloc::{AllocError, Global};
 
 // ---- whether it becomes these
 
@@ -73,42 +74,59 @@ pub(crate) fn keep_two_sides(
 
 // ---- which text of a sum becomes the empty one
 
-fn is_full_text(kind: &NodeKind) -> bool
-    ensures { result ≡ is_full_text kind.now }
+fn is_empty_text(kind: &NodeKind) -> bool
+    ensures { result ≡ is_empty_text kind.now }
 {
     match kind {
-        NodeKind::Literal(LiteralValue::Text(text)) => text.as_str() != "",
+        NodeKind::Literal(LiteralValue::Text(text)) => text.as_str() == "",
         _ => false,
     }
 }
 
-fn text_between(left: &Node, right: &Node) -> Option<usize>
+fn is_text_type(value: ValueType) -> bool
+    ensures { result ≡ is_text_type value }
+{
+    matches!(value, ValueType::String)
+}
+
+// Whether it does nothing but give a text, as far as its form tells, and isn't the literal of the empty one.
+fn gives_text(node: &Node, alloc: Global) -> bool
+    ensures { result ≡ gives_text node.now.kind node.now.note node.now.below }
+{
+    !is_empty_text(node.kind())
+        && (!acts_or_is_list(node) && is_text_type(value_type(node, &BareContext::new(alloc))))
+}
+
+fn text_between(left: &Node, right: &Node, alloc: Global) -> Option<usize>
     ensures { result ≡ sides.text_between left.now right.now }
 {
-    if is_full_text(left.kind()) && acts(right) {
+    if gives_text(left, alloc) && acts(right) {
         Some(0)
-    } else if is_full_text(right.kind()) && acts(left) {
+    } else if gives_text(right, alloc) && acts(left) {
         Some(1)
     } else {
         None
     }
 }
 
-fn text_of_parts(children: &[Option<Node>]) -> Option<usize>
+fn text_of_parts(children: &[Option<Node>], alloc: Global) -> Option<usize>
     ensures { result ≡ sides.text_of_parts (parts_of (row children.now)) }
 {
     match parts_of(children) {
-        Parts::Pair(left, right) => text_between(left, right),
+        Parts::Pair(left, right) => text_between(left, right, alloc),
         Parts::Triple(_, _, _) => None,
         Parts::Others => None,
     }
 }
 
-fn text_for(node: &Node) -> Option<usize>
+fn text_for(node: &Node, alloc: Global) -> Option<usize>
     ensures { result ≡ sides.text_for node.now.kind node.now.below }
 {
     match node.kind() {
-        NodeKind::BinaryExpression(BinaryOperator::Addition) => text_of_parts(node.children()),
+        NodeKind::BinaryExpression(BinaryOperator::Addition) => text_of_parts(
+            node.children(),
+            alloc,
+        ),
         _ => None,
     }
 }
@@ -118,7 +136,7 @@ pub(crate) fn text_goes(node: &Node, ctx: &MinifierTraverseCtx) -> Option<usize>
     ensures { result ≡ sides.text_goes (spot_of ctx.now.place) node.now.kind node.now.below }
 {
     if is_unused_from(ctx.ancestors_above()) {
-        text_for(node)
+        text_for(node, ctx.alloc())
     } else {
         None
     }

@@ -265,8 +265,8 @@ idle_parts_call a _ _ (idle_parts_leave n m x y becomes) = sequence_call a _ n m
 
 sides_call : {n m : Note} {k : Kind} {parts : Forest} {y : Tree} (a : places.Around) (i : Note) → Sides n m k parts y → CallsStay a (record { kind = k; note = i; below = parts }) y
 sides_call a i (both_act o k l h j b c combines) = record { fewer = Prim.omega arith; old = refl; in_with = false; bare = refl }
-sides_call a i (first_text t ts l h j b c) = record { fewer = Prim.omega arith; old = refl; in_with = false; bare = refl }
-sides_call a i (second_text t ts k h j b c) = record { fewer = Prim.omega arith; old = refl; in_with = false; bare = refl }
+sides_call a i (first_text k l h j b c is) = record { fewer = Prim.omega arith; old = refl; in_with = false; bare = refl }
+sides_call a i (second_text k l h j b c is) = record { fewer = Prim.omega arith; old = refl; in_with = false; bare = refl }
 sides_call a i (no_texts h j texts parts has) = record { fewer = Prim.omega (arith, elements_evals texts); old = refl; in_with = false; bare = refl }
 
 two_sides_calls : (a : places.Around) (x y : Tree) → TwoSides a x y → CallsStay a x y

@@ -81,6 +81,7 @@ pub mod IndirectChoice
 pub mod OneSidedChoice
 pub mod LastPart
 pub mod IdleParts
+pub mod SilentTexts
 pub mod TwoSides
 pub mod UnusedObject
 pub mod KnownSizes

@@ -1,5 +1,5 @@
--- What becomes of operations on two sides of which nobody takes the value: both act, or a text stands beside what does. And of templates
--- that have texts.
+-- What becomes of operations on two sides of which nobody takes the value: both act, or one that does nothing but give a text stands beside
+-- what does. And of templates that have texts.
 use Rattle.std.proofs.Common.{◌≡◌, ◌∙◌, ℕ, Bool, true, false, ◌&&◌, Option, Some, None, if◌then◌else◌, refl, sym, ap, subst, arith}
 use Rattle.js_syntax.specs.declared.node_kind.NodeKind.{NodeKind as Kind}
 use Rattle.js_syntax.specs.declared.node_kind.NodeKind.TheVariants.{BinaryExpression as binary_expression, TemplateLiteral as template_literal, Quasis as quasis, Expressions as expressions, TemplateElement as template_element}
@@ -12,8 +12,9 @@ use Rattle.scope_laws.specs.Place as places
 use Rattle.scope_counts.specs.Edits.{Around}
 use Rattle.js_syntax.proofs.Truth.{first_of_both}
 use Rattle.js_effects.specs.Silence.{only_combines}
-use Rattle.steps.specs.Allowed.TwoSides.{is_full_text, empty_text, has_texts, is_whole, without_texts, text_emptied, two_sides, TwoSides, both_sides_act}
+use Rattle.steps.specs.Allowed.TwoSides.{empty_text, gives_text, has_texts, is_whole, without_texts, text_emptied, two_sides, TwoSides, both_sides_act}
 use Rattle.steps.specs.Allowed.UnusedOperation.{acts}
+use Rattle.steps.proofs.Owed.SilentTexts.{its_text}
 use Rattle.steps.proofs.Owed.TwoSides.{Sides, both_act, first_text, second_text, no_texts, elements_lighter, are_sides}
 use Rattle.rules.specs.DeadCode.Before.{before}
 use Rattle.rules.specs.Expressions.Uses.{Spot, spot_of}
@@ -46,8 +47,8 @@ text_as : (n i : Note) (k : Kind) (parts : Forest) (y : Tree) → text_emptied n
 text_as n i (binary_expression addition) (node k g a (node l h b nothing)) y e =
     let first : Forest = node empty_text g nothing (node l h b nothing) in
     let second : Forest = node k g a (node empty_text h nothing nothing) in
-    either_as (is_full_text k && acts l h b) (Some (sum n first)) (Some (sum i first)) (if is_full_text l && acts k g a then Some (sum n second) else None) (if is_full_text l && acts k g a then Some (sum i second) else None) y (sum_as n i first y)
-    (when_as (is_full_text l && acts k g a) (Some (sum n second)) (Some (sum i second)) y (sum_as n i second y)) e
+    either_as (gives_text k g a && acts l h b) (Some (sum n first)) (Some (sum i first)) (if gives_text l h b && acts k g a then Some (sum n second) else None) (if gives_text l h b && acts k g a then Some (sum i second) else None) y (sum_as n i first y)
+    (when_as (gives_text l h b && acts k g a) (Some (sum n second)) (Some (sum i second)) y (sum_as n i second y)) e
 text_as n i template_literal (node quasis h texts (node expressions j parts nothing)) y e =
     let left : Forest = node quasis h (without_texts texts) (node expressions j parts nothing) in
     when_as (has_texts texts && is_whole texts parts) (Some (template n left)) (Some (template i left)) y (template_as n i left y) e
@@ -100,8 +101,8 @@ sides_less {i = i} {j = j} n (both_act o k l g h a b combines) =
     let both : Forest = node k g a (node l h b nothing) in
     let little = several_little i j both (made i j both) refl in
     record { thins = λ r. Prim.omega (arith, little.fewer r); lighter = Prim.omega (arith, little.lighter) }
-sides_less n (first_text c cs l g h a b) = record { thins = λ r. Prim.omega arith; lighter = Prim.omega arith }
-sides_less n (second_text c cs k g h a b) = record { thins = λ r. Prim.omega arith; lighter = Prim.omega arith }
+sides_less n (first_text k l g h a b is) = record { thins = λ r. Prim.omega arith; lighter = Prim.omega (arith, (its_text k g a is).weighs) }
+sides_less n (second_text k l g h a b is) = record { thins = λ r. Prim.omega arith; lighter = Prim.omega (arith, (its_text l h b is).weighs) }
 sides_less n (no_texts h j texts parts has) = record { thins = λ r. Prim.omega (arith, elements_ids r texts); lighter = Prim.omega (arith, elements_lighter texts (first_of_both (has_texts texts) (is_whole texts parts) has)) }
 
 pub two_sides_is_less : (s : Spot) (n : Note) (k : Kind) (parts : Forest) (y : Tree) → two_sides_become s n k parts ≡ Some y → IsLess (record { kind = k; note = n; below = parts }) y

@@ -1,4 +1,5 @@
--- Operations on two sides of which nobody takes the value: both act, or a text stands beside what does. And templates that have texts.
+-- Operations on two sides of which nobody takes the value: both act, or one that does nothing but give a text stands beside what does. And
+-- templates that have texts.
 use Rattle.std.specs.Prelude.{Option, None, if◌then◌else◌}
 use Rattle.js_syntax.specs.declared.node_kind.NodeKind.{NodeKind as Kind}
 use Rattle.js_syntax.specs.Node.{Forest, Tree, Note}

@@ -9,7 +9,7 @@
 //! test where that acts. `specs/Expressions/OneSided.antt` has that of conditionals of which nobody takes the value and one branch alone
 //! acts: they become `&&` or `||`. `specs/Expressions/Sequences.antt` has that of sequences whose value may be taken: the parts leave that
 //! don't act, but the last. `specs/Expressions/TwoSides.antt` has that of operations of which nobody takes the value and both sides act:
-//! they become a sequence of these, or a text on a side of a sum the empty one, as the texts of a template do.
+//! they become a sequence of these, or what does nothing but give a text on a side of a sum the empty one, as the texts of a template do.
 //! `specs/Expressions/Objects.antt` has that of object literals of which nobody takes the value: the keys and values of their properties
 //! are left that act. `specs/Expressions/Operations.antt` has that of operations that don't act and of which the value is known: they
 //! become a literal of it, or unary minus on one, wherever they stand. `specs/Expressions/Ifs.antt` has that of statements `if` on a test

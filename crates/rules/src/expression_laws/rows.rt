@@ -155,13 +155,16 @@ pub fn both_sides_left()
     ensures used { left_of (uses (binary binary_operator.StrictEquality (calls (reads a)) (calls (reads b)))) ≡ doing (uses (binary binary_operator.StrictEquality (calls (reads a)) (calls (reads b)))) }
 {}
 
-/// Where nobody takes the value of a sum of a text and what acts, the text becomes the empty one, and so do the texts of a template that
-/// may convert an object.
+/// Where nobody takes the value of a sum of a text and what acts, the text becomes the empty one, and so does what does nothing but give
+/// one. So do the texts of a template that may convert an object.
 pub fn texts_left()
     ensures before { left_of (binary binary_operator.Addition (word (codes "a")) (calls (reads a))) ≡ doing (binary binary_operator.Addition empty_text (calls (reads a))) }
     ensures behind { left_of (binary binary_operator.Addition (calls (reads a)) (word (codes "a"))) ≡ doing (binary binary_operator.Addition (calls (reads a)) empty_text) }
     ensures within { left_of (binary binary_operator.Addition (binary binary_operator.Addition (word (codes "a")) (calls (reads a))) (word (codes "b"))) ≡ doing (binary binary_operator.Addition (binary binary_operator.Addition (word (codes "a")) (calls (reads a))) empty_text) }
     ensures used { left_of (uses (binary binary_operator.Addition (word (codes "a")) (calls (reads a)))) ≡ doing (uses (binary binary_operator.Addition (word (codes "a")) (calls (reads a)))) }
+    ensures silent { left_of (binary binary_operator.Addition (binary binary_operator.Addition (word (codes "a")) (number 1)) (calls (reads a))) ≡ doing (binary binary_operator.Addition empty_text (calls (reads a))) }
+    ensures silent_behind { left_of (binary binary_operator.Addition (calls (reads a)) (binary binary_operator.Addition (number 1) (word (codes "a")))) ≡ doing (binary binary_operator.Addition (calls (reads a)) empty_text) }
+    ensures silent_number { left_of (binary binary_operator.Addition (number 1) (calls (reads a))) ≡ doing (binary binary_operator.Addition (number 1) (calls (reads a))) }
     ensures template { left_of (template_of (codes "a") (calls (reads a))) ≡ doing (template_of [] (calls (reads a))) }
     ensures used_template { left_of (uses (template_of (codes "a") (calls (reads a)))) ≡ doing (uses (template_of (codes "a") (calls (reads a)))) }
     ensures primitive { left_of (template_of (codes "a") (unary unary_operator.LogicalNot (calls (reads a)))) ≡ doing (unary unary_operator.LogicalNot (calls (reads a))) }

@@ -482,6 +482,15 @@ used_text_stays y (both_sides_act n m _ _ unused is) = true≢false (sym unused)
 pub number_in_a_sum_stays : SidesStay statement (sum one call_of_a)
 number_in_a_sum_stays y (both_sides_act n m _ _ unused is) = no_list is
 
+pub silent_text_becomes_empty : Edit (a_module (does (sum (applied unary.Typeof one) call_of_a) ∷ [])) (a_module (does (sum empty_text call_of_a) ∷ []))
+silent_text_becomes_empty = becomes there _ _ (two_sides (both_sides_act nowhere nowhere _ _ refl refl))
+
+pub silent_text_behind_becomes_empty : Edit (a_module (does (sum call_of_a (applied unary.Typeof one)) ∷ [])) (a_module (does (sum call_of_a empty_text) ∷ []))
+silent_text_behind_becomes_empty = becomes there _ _ (two_sides (both_sides_act nowhere nowhere _ _ refl refl))
+
+pub silent_truth_stays : SidesStay statement (sum (applied unary.LogicalNot one) call_of_a)
+silent_truth_stays y (both_sides_act n m _ _ unused is) = no_list is
+
 pub template_loses_its_text : Edit (a_module (does (template (codes "a") call_of_a) ∷ [])) (a_module (does (template [] call_of_a) ∷ []))
 template_loses_its_text = becomes there _ _ (two_sides (both_sides_act nowhere nowhere _ _ refl refl))
 

@@ -36,6 +36,7 @@ use Rattle.steps.proofs.Owed.BehindTest.{Follows, consequent_follows, alternate_
 use Rattle.steps.proofs.Owed.IndirectChoice.{Counts, consequent_counts, alternate_counts, right_side_counts, part_that_counts}
 use Rattle.steps.proofs.Owed.KnownOperation.{Operation, on_one, on_two, is_operation_known, value_small, Negative, under_one, under_two, is_negative_known, negative_small, one_level}
 use Rattle.steps.proofs.Owed.KnownSizes.{IsSmall, below_largest}
+use Rattle.steps.proofs.Owed.SilentTexts.{its_text}
 use Rattle.steps.proofs.Owed.TwoSides.{Sides, both_act, first_text, second_text, no_texts, are_sides}
 
 -- some of the nodes of a row, in their order, or of a property its value
@@ -236,8 +237,8 @@ idle_parts_picks a _ _ (idle_parts_leave n m x y is) = sequence_picks (use_at a)
 
 sides_picks : {n m : Note} {k : Kind} {a : Forest} {y : Tree} → Sides n m k a y → Picks k a y.kind y.below
 sides_picks {m = m} (both_act o k l i j a b combines) = in_turn o m (node k i a (node l j b nothing))
-sides_picks (first_text c cs l i j a b) = with_less_text addition _ _ (this_one refl)
-sides_picks (second_text c cs k i j a b) = with_less_text addition _ _ (a_later_one (this_one refl))
+sides_picks (first_text k l i j a b is) = with_less_text addition _ _ (this_one (its_text k i a is).counts)
+sides_picks (second_text k l i j a b is) = with_less_text addition _ _ (a_later_one (this_one (its_text l j b is).counts))
 sides_picks (no_texts h j texts parts has) = with_no_texts h texts (node expressions j parts nothing)
 
 pub two_sides_picks : (a : Around) (x y : Tree) → TwoSides a x y → Picks x.kind x.below y.kind y.below

@@ -4,7 +4,7 @@ use Rattle.std.proofs.Common.{◌≡◌, ◌≤◌, ◌<◌, ◌+◌, ℕ, suc, 
 use Rattle.js_syntax.specs.Class.{Class, root, expression, quasi_item}
 use Rattle.js_syntax.specs.declared.node_kind.NodeKind.{NodeKind as Kind}
 use Rattle.js_syntax.specs.Facts.{is_core, weight}
-use Rattle.js_syntax.specs.declared.node_kind.NodeKind.TheVariants.{BinaryExpression as binary_expression, SequenceExpression as sequence_expression, Expressions as expressions, Literal as literal, TemplateLiteral as template_literal, Quasis as quasis, TemplateElement as template_element}
+use Rattle.js_syntax.specs.declared.node_kind.NodeKind.TheVariants.{BinaryExpression as binary_expression, SequenceExpression as sequence_expression, Expressions as expressions, TemplateLiteral as template_literal, Quasis as quasis, TemplateElement as template_element}
 use Rattle.js_syntax.specs.declared.operator.BinaryOperator.{BinaryOperator}
 use Rattle.js_syntax.specs.declared.operator.BinaryOperator.TheVariants.{Addition as addition}
 use Rattle.js_syntax.specs.declared.value.LiteralValue.TheVariants as value
@@ -22,14 +22,13 @@ use Rattle.js_meaning_near.specs.Near.{module_of, SameEffects}
 use Rattle.js_effects.specs.Silence.{only_combines}
 use Rattle.js_meaning_near.specs.Unused.{all_needed, needed}
 use Rattle.js_meaning_near.proofs.Spared.{spared, binary_wasted}
-use Rattle.js_meaning_near.proofs.Texts.{first_text_wasted, second_text_wasted}
 use Rattle.json_shape.specs.Shape.{Values, kind_in, places, one as one_place, these, all, IsOf, Stand, Fits}
 use Rattle.form_rules.specs.Break.{unless}
 use Rattle.form_rules.specs.Form.{IsWellFormed}
 use Rattle.form_rules.specs.Rules.{length_of}
 use Rattle.scope_laws.specs.Place.{Around, plug}
 use Rattle.steps.specs.Steps.{all_core}
-use Rattle.steps.specs.Allowed.TwoSides.{is_full_text, empty_text, is_written, has_text, has_texts, no_text, is_whole, without_text, without_texts, text_emptied, two_sides, TwoSides, both_sides_act}
+use Rattle.steps.specs.Allowed.TwoSides.{empty_text, gives_text, is_written, has_text, has_texts, no_text, is_whole, without_text, without_texts, text_emptied, two_sides, TwoSides, both_sides_act}
 use Rattle.steps.specs.Allowed.Unused.{is_unused_at}
 use Rattle.steps.specs.Allowed.UnusedOperation.{acts}
 use Rattle.steps.specs.Allowed.Wanted.{wanted_at}
@@ -45,6 +44,8 @@ use Rattle.steps.proofs.Owed.ChoiceRuns.{core_there, no_imports_below}
 use Rattle.steps.proofs.Owed.FitsTaking.{as_binary, binary_stood, as_template, template_stood}
 use Rattle.steps.proofs.Owed.KnownOperation.{literal_expression}
 use Rattle.steps.proofs.Owed.Undeclared.{DeclaresNothing, both_plainly}
+use Rattle.steps.proofs.Owed.SilentAnywhere.{silent_anywhere}
+use Rattle.steps.proofs.Owed.SilentTexts.{its_text, first_silent_wasted, second_silent_wasted}
 use Rattle.steps.proofs.Owed.UntaggedPlace.{unused_is_untagged}
 use Rattle.steps.proofs.Owed.UnusedList.{Left, several_left, Parts, left_rebuilt, left_fits, left_core, left_declares}
 use Rattle.steps.proofs.Owed.UnusedOperation.{comes_out, combines_not_in, combines_answers}
@@ -63,33 +64,19 @@ sum n sides = tree (binary_expression addition) n sides
 
 pub data Sides (n m : Note) : Kind → (below : Forest) → Tree → Type 0 where
   both_act : (o : BinaryOperator) (k l : Kind) (i j : Note) (a b : Forest) → only_combines (binary_expression o) (node k i a (node l j b nothing)) ≡ true → Sides n m (binary_expression o) (node k i a (node l j b nothing)) (in_turn n m (node k i a (node l j b nothing)))
-  first_text : (c : ℕ) (cs : List ℕ) (l : Kind) (i j : Note) (a b : Forest) → Sides n m (binary_expression addition) (node (literal (value.Text (c ∷ cs))) i a (node l j b nothing)) (sum n (node empty_text i nothing (node l j b nothing)))
-  second_text : (c : ℕ) (cs : List ℕ) (k : Kind) (i j : Note) (a b : Forest) → Sides n m (binary_expression addition) (node k i a (node (literal (value.Text (c ∷ cs))) j b nothing)) (sum n (node k i a (node empty_text j nothing nothing)))
+  first_text : (k l : Kind) (i j : Note) (a b : Forest) → gives_text k i a ≡ true → Sides n m (binary_expression addition) (node k i a (node l j b nothing)) (sum n (node empty_text i nothing (node l j b nothing)))
+  second_text : (k l : Kind) (i j : Note) (a b : Forest) → gives_text l j b ≡ true → Sides n m (binary_expression addition) (node k i a (node l j b nothing)) (sum n (node k i a (node empty_text j nothing nothing)))
   no_texts : (h j : Note) (elements parts : Forest) → (has_texts elements && is_whole elements parts) ≡ true
       → Sides n m template_literal (node quasis h elements (node expressions j parts nothing)) (tree template_literal n (node quasis h (without_texts elements) (node expressions j parts nothing)))
 
-pub data IsFullText : Kind → Type 0 where
-  a_full_text : (c : ℕ) (cs : List ℕ) → IsFullText (literal (value.Text (c ∷ cs)))
-
-pub full_text : (k : Kind) → is_full_text k ≡ true → IsFullText k
-full_text (literal (value.Text (c ∷ cs))) e = a_full_text c cs
-full_text (literal (value.Text [])) e = absurd (true≢false (sym e))
-full_text k e = absurd (true≢false (sym e))
-
-from_first : (n m : Note) (k l : Kind) (i j : Note) (a b : Forest) (y : Tree) → IsFullText k → sum n (node empty_text i nothing (node l j b nothing)) ≡ y → Sides n m (binary_expression addition) (node k i a (node l j b nothing)) y
-from_first n m _ l i j a b y (a_full_text c cs) is = subst (Sides n m (binary_expression addition) (node (literal (value.Text (c ∷ cs))) i a (node l j b nothing))) is (first_text c cs l i j a b)
-
-from_second : (n m : Note) (k l : Kind) (i j : Note) (a b : Forest) (y : Tree) → IsFullText l → sum n (node k i a (node empty_text j nothing nothing)) ≡ y → Sides n m (binary_expression addition) (node k i a (node l j b nothing)) y
-from_second n m k _ i j a b y (a_full_text c cs) is = subst (Sides n m (binary_expression addition) (node k i a (node (literal (value.Text (c ∷ cs))) j b nothing))) is (second_text c cs k i j a b)
-
 are_texts : (n m : Note) (o : BinaryOperator) (k l : Kind) (i j : Note) (a b : Forest) (y : Tree) → text_emptied n (binary_expression o) (node k i a (node l j b nothing)) ≡ Some y → Sides n m (binary_expression o) (node k i a (node l j b nothing)) y
-are_texts n m addition k l i j a b y e = each (is_full_text k && acts l j b) (is_full_text l && acts k i a) refl refl e
+are_texts n m addition k l i j a b y e = each (gives_text k i a && acts l j b) (gives_text l j b && acts k i a) refl refl e
   where
-    each : (p q : Bool) → (is_full_text k && acts l j b) ≡ p → (is_full_text l && acts k i a) ≡ q
+    each : (p q : Bool) → (gives_text k i a && acts l j b) ≡ p → (gives_text l j b && acts k i a) ≡ q
         → (if p then Some (sum n (node empty_text i nothing (node l j b nothing))) else if q then Some (sum n (node k i a (node empty_text j nothing nothing))) else None) ≡ Some y
         → Sides n m (binary_expression addition) (node k i a (node l j b nothing)) y
-    each true q first second is = from_first n m k l i j a b y (full_text k (first_of_both (is_full_text k) (acts l j b) first)) (cc is)
-    each false true first second is = from_second n m k l i j a b y (full_text l (first_of_both (is_full_text l) (acts k i a) second)) (cc is)
+    each true q first second is = subst (Sides n m (binary_expression addition) (node k i a (node l j b nothing))) (cc is) (first_text k l i j a b (first_of_both (gives_text k i a) (acts l j b) first))
+    each false true first second is = subst (Sides n m (binary_expression addition) (node k i a (node l j b nothing))) (cc is) (second_text k l i j a b (first_of_both (gives_text l j b) (acts k i a) second))
     each false false first second is = absurd cc
 are_texts n m o k l i j a b y e = absurd cc
 
@@ -365,18 +352,20 @@ module _ (a : Around) (unused : is_unused_at a ≡ true) (p n h j : Note) (eleme
 
 each_owes : (a : Around) (p n m : Note) (k : Kind) (below : Forest) (y : Tree) → is_unused_at a ≡ true → Sides n m k below y → ByParts a (tree k p below) y
 each_owes a p n m _ _ _ unused (both_act o k l i j b c combines) = sides_owe a unused p n m o k l i j b c combines
-each_owes a p n m _ _ _ unused (first_text c cs l i j b d) =
+each_owes a p n m _ _ _ unused (first_text k l i j b d is) =
     let right = node l j d nothing in
-    emptied_owes a unused p n (node (literal (value.Text (c ∷ cs))) i b right) (node empty_text i nothing right) (leaves (built text_is_empty (stays ends))) (Prim.omega arith) (Prim.omega arith)
-    (λ two. (literal_expression (value.Text []), two.1)) (λ core. core_behind (literal (value.Text (c ∷ cs))) i b right core)
-    (λ none s. second_empty (import_decls s b) (import_decls s right) (none s))
-    (λ st. first_text_wasted st (c ∷ cs) [] l p n i i j b d nothing)
-each_owes a p n m _ _ _ unused (second_text c cs k i j b d) =
+    let text = its_text k i b is in
+    emptied_owes a unused p n (node k i b right) (node empty_text i nothing right) (leaves (built text_is_empty (stays ends))) (Prim.omega (arith, text.weighs)) (Prim.omega (arith, text.counts))
+    (λ two. (literal_expression (value.Text []), two.1)) (λ core. core_behind k i b right core)
+    (λ none s. second_empty (specifier_decls s k b (import_decls s b)) (import_decls s right) (none s))
+    (λ st. first_silent_wasted st k l p n i j i b d nothing (silent_anywhere st k i b text.idle) text.type)
+each_owes a p n m _ _ _ unused (second_text k l i j b d is) =
     let left = node k i b nothing in
-    emptied_owes a unused p n (node k i b (node (literal (value.Text (c ∷ cs))) j d nothing)) (node k i b (node empty_text j nothing nothing)) (stays (leaves (built text_is_empty ends))) (Prim.omega arith) (Prim.omega arith)
-    (λ two. (two.0, (literal_expression (value.Text []), tt))) (λ core. core_with_text k i j b (core_here k i b (node (literal (value.Text (c ∷ cs))) j d nothing) core) (core_below k i b (node (literal (value.Text (c ∷ cs))) j d nothing) core))
-    (λ none s. both_empty (specifier_decls s k b (import_decls s b)) [] (first_empty (specifier_decls s k b (import_decls s b)) (import_decls s (node (literal (value.Text (c ∷ cs))) j d nothing)) (none s)) refl)
-    (λ st. second_text_wasted st (c ∷ cs) [] k p n j j i d b nothing)
+    let text = its_text l j d is in
+    emptied_owes a unused p n (node k i b (node l j d nothing)) (node k i b (node empty_text j nothing nothing)) (stays (leaves (built text_is_empty ends))) (Prim.omega (arith, text.weighs)) (Prim.omega (arith, text.counts))
+    (λ two. (two.0, (literal_expression (value.Text []), tt))) (λ core. core_with_text k i j b (core_here k i b (node l j d nothing) core) (core_below k i b (node l j d nothing) core))
+    (λ none s. both_empty (specifier_decls s k b (import_decls s b)) [] (first_empty (specifier_decls s k b (import_decls s b)) (import_decls s (node l j d nothing)) (none s)) refl)
+    (λ st. second_silent_wasted st l k p n j i j d b nothing (silent_anywhere st l j d text.idle) text.type)
 each_owes a p n m _ _ _ unused (no_texts h j elements parts has) = template_owes a unused p n h j elements parts has
 
 pub two_sides_owes : (a : Around) (x y : Tree) → TwoSides a x y → ByParts a x y

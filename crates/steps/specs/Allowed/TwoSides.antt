@@ -1,26 +1,40 @@
 -- An operation on two sides of which nobody takes the value, and of which both act, becomes a sequence of these, if it does nothing itself
 -- (ECMA-262 13.6 to 13.12). Of a sum that may convert an object a text on one side becomes empty: the other side is converted alike
--- (13.15.3). So do the texts of a template, between which its substitutions are converted (13.2.8.6).
-use Rattle.std.specs.Prelude.{◌≡◌, List, [], ◌∷◌, ℕ, suc, ◌==◌, Bool, true, false, ◌&&◌, ◌||◌, Option, Some, None, if◌then◌else◌}
+-- (13.15.3). So does what does nothing but give a text, and so do the texts of a template, between which its substitutions are converted
+-- (13.2.8.6).
+use Rattle.std.specs.Prelude.{◌≡◌, List, [], ◌∷◌, ℕ, suc, ◌==◌, Bool, true, false, not, ◌&&◌, ◌||◌, Option, Some, None, if◌then◌else◌}
 use Rattle.js_syntax.specs.declared.node_kind.NodeKind.{NodeKind as Kind}
 use Rattle.js_syntax.specs.declared.node_kind.NodeKind.TheVariants.{BinaryExpression as binary_expression, SequenceExpression as sequence_expression, Expressions as expressions, Literal as literal, TemplateLiteral as template_literal, Quasis as quasis, TemplateElement as template_element}
 use Rattle.js_syntax.specs.declared.operator.BinaryOperator.TheVariants.{Addition as addition}
 use Rattle.js_syntax.specs.declared.value.LiteralValue.TheVariants as value
-use Rattle.js_syntax.specs.Node.{Forest, Tree, Note, nothing, node, absent}
+use Rattle.js_syntax.specs.Node.{Forest, Tree, Note, nothing, node, absent, alone}
 use Rattle.js_syntax.specs.declared.value.TemplateText.{TemplateText}
 use Rattle.form_rules.specs.Rules.{length_of}
+use Rattle.js_effects.specs.declared.value.ValueType.{ValueType}
+use Rattle.js_effects.specs.declared.value.ValueType.TheVariants.{String}
+use Rattle.js_effects.specs.Answers.{bare_answers}
+use Rattle.js_effects.specs.Kinds.{type_of}
 use Rattle.js_effects.specs.Silence.{only_combines}
+use Rattle.js_tree.specs.Walk.{is_list}
 use Rattle.scope_laws.specs.Place.{Around}
 use Rattle.steps.specs.Allowed.Unused.{is_unused_at}
 use Rattle.steps.specs.Allowed.UnusedOperation.{acts}
 
--- a text that isn't empty
-abbrev pub is_full_text : Kind → Bool
-is_full_text (literal (value.Text (c ∷ cs))) = true
-is_full_text k = false
-
 abbrev pub empty_text : Kind
 empty_text = literal (value.Text [])
+
+abbrev pub is_empty_text : Kind → Bool
+is_empty_text (literal (value.Text [])) = true
+is_empty_text k = false
+
+abbrev pub is_text_type : ValueType → Bool
+is_text_type String = true
+is_text_type t = false
+
+-- Whether an expression does nothing but give a text, as far as its form tells, and isn't the literal of the empty one. A list weighs
+-- nothing, and none stands among expressions.
+abbrev pub gives_text : Kind → Note → (below : Forest) → Bool
+gives_text k n a = not (is_empty_text k) && (not (acts k n a || is_list k) && is_text_type (type_of bare_answers (alone k n a)))
 
 -- whether a text of a template, as it is written, isn't empty
 abbrev pub is_written : (raw : List ℕ) → Bool
@@ -55,9 +69,9 @@ is_whole elements parts = length_of elements == suc (length_of parts)
 -- a text of a sum beside what acts, and all texts of a template
 abbrev pub text_emptied : (n : Note) → Kind → (below : Forest) → Option Tree
 text_emptied n (binary_expression addition) (node k i a (node l j b nothing)) =
-    if is_full_text k && acts l j b
+    if gives_text k i a && acts l j b
     then Some (record { kind = binary_expression addition; note = n; below = node empty_text i nothing (node l j b nothing) })
-    else if is_full_text l && acts k i a then Some (record { kind = binary_expression addition; note = n; below = node k i a (node empty_text j nothing nothing) }) else None
+    else if gives_text l j b && acts k i a then Some (record { kind = binary_expression addition; note = n; below = node k i a (node empty_text j nothing nothing) }) else None
 text_emptied n template_literal (node quasis i elements (node expressions j parts nothing)) =
     if has_texts elements && is_whole elements parts then Some (record { kind = template_literal; note = n; below = node quasis i (without_texts elements) (node expressions j parts nothing) }) else None
 text_emptied n k below = None

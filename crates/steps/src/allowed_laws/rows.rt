@@ -364,10 +364,13 @@ pub fn two_sides_become_a_sequence()
     ensures primitive { Edit (a_module (does (difference not_a not_a) ∷ [])) (a_module (does (sequence (not_a ∷ not_a ∷ [])) ∷ [])) }
 {}
 
-/// In a sum of which nobody takes the value a text becomes the empty one, beside what acts, and in a template each text.
+/// In a sum of which nobody takes the value a text becomes the empty one, beside what acts, and so does what does nothing but give one;
+/// in a template each text does.
 pub fn texts_become_empty()
     ensures before { Edit (a_module (does (sum text call_of_a) ∷ [])) (a_module (does (sum empty_text call_of_a) ∷ [])) }
     ensures behind { Edit (a_module (does (sum call_of_a text) ∷ [])) (a_module (does (sum call_of_a empty_text) ∷ [])) }
+    ensures silent { Edit (a_module (does (sum (applied unary.Typeof one) call_of_a) ∷ [])) (a_module (does (sum empty_text call_of_a) ∷ [])) }
+    ensures silent_behind { Edit (a_module (does (sum call_of_a (applied unary.Typeof one)) ∷ [])) (a_module (does (sum call_of_a empty_text) ∷ [])) }
     ensures template { Edit (a_module (does (template (codes "a") call_of_a) ∷ [])) (a_module (does (template [] call_of_a) ∷ [])) }
 {}
 
@@ -377,6 +380,7 @@ pub fn other_sums_stay()
     ensures empty { SidesStay statement (sum empty_text call_of_a) }
     ensures used { SidesStay argument (sum text call_of_a) }
     ensures no_text { SidesStay statement (sum one call_of_a) }
+    ensures silent { SidesStay statement (sum (applied unary.LogicalNot one) call_of_a) }
     ensures empty_template { SidesStay statement (template [] call_of_a) }
     ensures used_template { SidesStay argument (template (codes "a") call_of_a) }
     ensures tagged { SidesStay tagged (template (codes "a") call_of_a) }
