@@ -43,6 +43,7 @@ use Rattle.steps.specs.Allowed.KnownOperation.{KnownOperation, value_is_known, n
 use Rattle.steps.specs.Allowed.Branches.{declares_none}
 use Rattle.steps.specs.Allowed.KnownIf.{KnownIf}
 use Rattle.steps.specs.Allowed.DeadIf.{DeadIf}
+use Rattle.steps.specs.Allowed.EmptyIf.{EmptyIf}
 use Rattle.steps.specs.Allowed.EmptyBlock.{holds_nothing, EmptyBlock, empty_block_leaves}
 use Rattle.steps.specs.Allowed.Unreached.{is_behind_jump, Unreached, never_runs}
 use Rattle.steps.specs.Allowed.RepeatedImport.{asks_for, is_asked_before, import_of, RepeatedImport, repeated_import_leaves}
@@ -54,7 +55,7 @@ use Rattle.steps.specs.Allowed.Untaken.{truth_given, untaken_where, is_known, le
 use Rattle.steps.proofs.Owed.Changing.{cuts_bare}
 use Rattle.steps.proofs.Owed.ExposedBare.{bare_inside, bare_below, bare_exposed}
 use Rattle.steps.proofs.Owed.Focus.{follows_there}
-use Rattle.headline.specs.Clean.{IsDead, an_empty_statement, an_empty_block, a_silent_statement, an_unused_function, an_unused_declarator, an_unused_import, a_known_conditional, a_known_side, an_unused_operation, an_unused_list, an_indirect_choice, a_one_sided_choice, idle_parts, two_sides, an_unused_object, a_known_operation, a_known_if, a_dead_if, an_unreached_statement, an_untaken_statement, an_unrun_value, an_idle_statement, a_repeated_import, an_idle_try, an_idle_body, CleanBut}
+use Rattle.headline.specs.Clean.{IsDead, an_empty_statement, an_empty_block, a_silent_statement, an_unused_function, an_unused_declarator, an_unused_import, a_known_conditional, a_known_side, an_unused_operation, an_unused_list, an_indirect_choice, a_one_sided_choice, idle_parts, two_sides, an_unused_object, a_known_operation, a_known_if, a_dead_if, an_empty_if, an_unreached_statement, an_untaken_statement, an_unrun_value, an_idle_statement, a_repeated_import, an_idle_try, an_idle_body, CleanBut}
 use Rattle.headline.proofs.RenotedUnused.{stands_as, needed_as, child_as, list_as}
 use Rattle.headline.proofs.RenotedChoice.{counts_as, follows_as}
 use Rattle.headline.proofs.RenotedParts.{side_as, sequence_as}
@@ -63,7 +64,7 @@ use Rattle.headline.proofs.RenotedKnown.{known_as, negative_as, given_bare, trut
 use Rattle.steps.proofs.Owed.EmptyBlock.{holds_bare}
 use Rattle.headline.proofs.RenotedIdle.{idle_bare}
 use Rattle.headline.proofs.RenotedTry.{idle_try_as}
-use Rattle.headline.proofs.RenotedIf.{declares_bare, known_if_as, dead_if_as}
+use Rattle.headline.proofs.RenotedIf.{declares_bare, known_if_as, dead_if_as, empty_if_as}
 use Rattle.headline.proofs.RenotedSites.{free_as, inside_same, opens_same, same_binding}
 
 -- ---- two trees node by node
@@ -656,6 +657,13 @@ module _ (unused imports : Bool) (t u : Forest) (e : bare t ≡ bare u) (clean :
       let z = dead_if_as o.note o.below x y o.same dead in
       clean.nothing_is_dead o.around (Some now) o.is (a_dead_if o.around now z.0 z.1)
 
+  no_empty_if : (a : Around) (x y : Tree) → u ≡ plug a (Some x) → EmptyIf x y → ⊥
+  no_empty_if a x y is empty =
+      let o = other_place a x.kind x.note x.below is in
+      let now : Tree = record { kind = x.kind; note = o.note; below = o.below } in
+      let z = empty_if_as o.note o.below x y o.same empty in
+      clean.nothing_is_dead o.around (Some now) o.is (an_empty_if o.around now z.0 z.1)
+
   no_block : (a : Around) (x : Tree) → u ≡ plug a (Some x) → EmptyBlock a x → ⊥
   no_block a x is (empty_block_leaves item nothing_held) =
       let o = other_place a x.kind x.note x.below is in
@@ -729,6 +737,7 @@ module _ (unused imports : Bool) (t u : Forest) (e : bare t ≡ bare u) (clean :
   none_dead a x is (an_unreached_statement b y unreached) = no_unreached b y is unreached
   none_dead a x is (an_untaken_statement b y untaken) = no_untaken b y is untaken
   none_dead a x is (an_idle_statement b y idle) = no_idle b y is idle
+  none_dead a x is (an_empty_if b y z empty) = no_empty_if b y z is empty
   none_dead a x is (an_idle_try b y z idle) = no_idle_try b y z is idle
   none_dead a x is (an_idle_body b y z idle) = no_body b y z is idle
   none_dead a x is (an_unrun_value b y z value) = no_value b y z is value

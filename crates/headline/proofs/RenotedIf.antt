@@ -3,8 +3,10 @@ use Rattle.std.proofs.Common.{◌≡◌, ◌↔◌, ◌∙◌, Bool, false, ◌&
 use Rattle.js_syntax.specs.declared.node_kind.NodeKind.{NodeKind as Kind}
 use Rattle.js_syntax.specs.Node.{Forest, Tree, Note, nothing, node, absent, nowhere, bare}
 use Rattle.js_meaning_near.specs.Local.{IsField}
+use Rattle.steps.specs.Allowed.Arranged.{is_nothing}
 use Rattle.steps.specs.Allowed.Branches.{is_handler, lets_only_at, lets_only, inside_or_parameter, inside_from, none_or_parameter, none_from, declares_none}
 use Rattle.steps.specs.Allowed.DeadIf.{DeadIf, nothing_is_run}
+use Rattle.steps.specs.Allowed.EmptyIf.{is_empty, are_empty, statement_of, EmptyIf, test_stays}
 use Rattle.steps.specs.Allowed.KnownIf.{KnownIf, consequent_is_run, alternate_is_run}
 use Rattle.headline.proofs.RenotedKnown.{truth_bare}
 
@@ -72,3 +74,33 @@ pub dead_if_as : (n : Note) (f : Forest) (x y : Tree) → bare f ≡ bare x.belo
 dead_if_as n f x y e dead =
     let there = dead_bare n x y dead in
     dead_there n x.kind f there.0 (subst (λ t. DeadIf (record { kind = x.kind; note = n; below = t }) there.0) (sym e) there.1)
+
+-- ---- an `if` whose branches are empty
+
+nothing_bare : (t : Forest) → is_nothing (bare t) ≡ is_nothing t
+nothing_bare nothing = refl
+nothing_bare (absent r) = refl
+nothing_bare (node k n b r) = refl
+
+one_bare : (k : Kind) (b : Forest) → is_empty k (bare b) ≡ is_empty k b
+one_bare Kind.EmptyStatement b = nothing_bare b
+one_bare k b = refl
+
+empty_bare : (t : Forest) → are_empty (bare t) ≡ are_empty t
+empty_bare nothing = refl
+empty_bare (absent r) = refl
+empty_bare (node k n b nothing) = refl
+empty_bare (node k n b (absent nothing)) = one_bare k b
+empty_bare (node k n b (absent (absent r))) = refl
+empty_bare (node k n b (absent (node l m c r))) = refl
+empty_bare (node k n b (node l m c nothing)) = ap₂ (λ x y. x && y) (one_bare k b) (one_bare l c)
+empty_bare (node k n b (node l m c (absent r))) = refl
+empty_bare (node k n b (node l m c (node z i d r))) = refl
+
+empty_there : (n : Note) (k : Kind) (f : Forest) (z : Tree) → EmptyIf (record { kind = k; note = n; below = bare f }) z → (y : Tree) × EmptyIf (record { kind = k; note = n; below = f }) y
+empty_there n _ (node t m d branches) _ (test_stays _ _ o _ _ _ empty unnamed) = (_, test_stays n m o t d branches (sym (empty_bare branches) ∙ empty) unnamed)
+empty_there n k f z h = elim h [ ]
+
+pub empty_if_as : (n : Note) (f : Forest) (x y : Tree) → bare f ≡ bare x.below → EmptyIf x y → (z : Tree) × EmptyIf (record { kind = x.kind; note = n; below = f }) z
+empty_if_as n f _ _ e (test_stays _ m o t d branches empty unnamed) =
+    empty_there n Kind.IfStatement f _ (subst (λ u. EmptyIf (record { kind = Kind.IfStatement; note = n; below = u }) (statement_of o nowhere t (bare d))) (sym e) (test_stays n nowhere o t (bare d) (bare branches) (empty_bare branches ∙ empty) unnamed))

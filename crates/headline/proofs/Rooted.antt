@@ -26,8 +26,9 @@ use Rattle.steps.proofs.KeepForm.Asked.{is_of_catch, no_name_here, no_catch_belo
 use Rattle.steps.proofs.KeepForm.ShedNames.{none_declared}
 use Rattle.steps.specs.Allowed.Branches.{declares_none}
 use Rattle.steps.specs.Allowed.DeadIf.{nothing_is_run}
+use Rattle.steps.specs.Allowed.EmptyIf.{test_stays}
 use Rattle.steps.specs.Allowed.IdleBody.{idle_body_empties}
-use Rattle.steps.specs.Allowed.Edits.{Leaves, empty_statement, empty_block, unused_function, unused_declarator, unused_declaration, unused_import, unreached, untaken, idle_statement, repeated_import, Becomes, silent_statement, known_conditional, known_side, known_if, idle_try, idle_body, dead_if, unused_operation, unused_list, indirect_choice, one_sided_choice, idle_parts, two_sides, unused_object, known_operation, unrun_value, Edit, leaves, becomes, Edits, no_edit, one_edit}
+use Rattle.steps.specs.Allowed.Edits.{Leaves, empty_statement, empty_block, unused_function, unused_declarator, unused_declaration, unused_import, unreached, untaken, idle_statement, repeated_import, Becomes, silent_statement, known_conditional, known_side, known_if, idle_try, idle_body, empty_if, dead_if, unused_operation, unused_list, indirect_choice, one_sided_choice, idle_parts, two_sides, unused_object, known_operation, unrun_value, Edit, leaves, becomes, Edits, no_edit, one_edit}
 use Rattle.steps.specs.Allowed.EmptyBlock.{empty_block_leaves}
 use Rattle.steps.specs.Allowed.EmptyStatement.{empty_statement_leaves}
 use Rattle.steps.specs.Allowed.Exposure.{Exposure, shares, exposed_inside, exposed_of, exposed_at, exposure, is_script, evaluates_somewhere, function_is_exposed}
@@ -52,6 +53,7 @@ use Rattle.steps.proofs.Owed.Focus.{something}
 use Rattle.steps.proofs.Owed.IndirectChoice.{indirect_choice_owes}
 use Rattle.steps.proofs.Owed.IdleParts.{idle_parts_owes}
 use Rattle.steps.proofs.Owed.KnownConditional.{known_conditional_owes}
+use Rattle.steps.proofs.Owed.EmptyIf.{empty_declares}
 use Rattle.steps.proofs.Owed.IdleTry.{idle_try_owes}
 use Rattle.steps.proofs.Owed.KnownIf.{tested_row, known_if_owes}
 use Rattle.steps.proofs.Owed.KnownOperation.{known_operation_owes}
@@ -451,6 +453,10 @@ becomes_named a x y (dead_if (nothing_is_run n m i o t k d b truth undeclared)) 
     let below = node t m d branch in
     let tested = tested_row t m d branch (expression_declares_none (node t m d nothing) ((parts_of_if a n below fits).0, tt)) undeclared in
     empty_named s o ∙ sym (none_named s (forest_of x) (nothing_declared s 0 (forest_of x) (if_stays_outside s n below) (both (declares_none below) true tested refl)))
+becomes_named a x y (empty_if (test_stays n m o t d branches empty unnamed)) fits = λ s calm.
+    let below = node t m d branches in
+    let tested = tested_row t m d branches (expression_declares_none (node t m d nothing) ((parts_of_if a n below fits).0, tt)) (empty_declares branches empty) in
+    statement_named s o (node t m d nothing) ∙ sym (none_named s (forest_of x) (nothing_declared s 0 (forest_of x) (if_stays_outside s n below) (both (declares_none below) true tested refl)))
 becomes_named a x y (idle_body (idle_body_empties _ m body idle undeclared)) fits = λ s calm. empty_named s m ∙ sym (outside s (forest_of x) calm undeclared)
 becomes_named a x y (unused_operation c) fits = part_named a x y (unused_operation_owes a x y c) fits
 becomes_named a x y (unused_list c) fits = parts_named a x y (unused_list_owes a x y c) fits

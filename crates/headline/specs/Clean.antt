@@ -36,6 +36,7 @@ use Rattle.steps.specs.Allowed.KnownOperation.{KnownOperation}
 -- and an `if` on a test that is known, and the branch that runs, or nothing
 use Rattle.steps.specs.Allowed.KnownIf.{KnownIf}
 use Rattle.steps.specs.Allowed.DeadIf.{DeadIf}
+use Rattle.steps.specs.Allowed.EmptyIf.{EmptyIf}
 -- and a block of nothing
 use Rattle.steps.specs.Allowed.EmptyBlock.{EmptyBlock}
 -- and a loop that never turns, or a `try` around nothing
@@ -117,6 +118,7 @@ pub data IsDead (unused imports : Bool) (t : Forest) : Around → Option Tree �
   an_idle_statement : (a : Around) (x : Tree) → IdleStatement a x → IsDead unused imports t a (Some x)
   -- a `try` around nothing, if its handler declares no name around it and no loop in its finalizer is reached by labels: its finalizer, or
   -- its block where it has none, does what it does
+  an_empty_if : (a : Around) (x y : Tree) → EmptyIf x y → IsDead unused imports t a (Some x)
   an_idle_try : (a : Around) (x y : Tree) → IdleTry x y → IsDead unused imports t a (Some x)
   -- a block of nothing, a loop that never turns or a `try` around nothing as a branch of an `if` or as the body of a loop or of `with`, or one
   -- behind labels, which declares no name around it: it does nothing

@@ -16,7 +16,7 @@ use Rattle.steps.specs.Allowed.Edits.{Edits, no_edit}
 use Rattle.steps.proofs.Allowed.Composing.{edits_follow}
 use Rattle.json_shape.specs.Shape.{Fits}
 use Rattle.headline.specs.Clean.{CleanBut}
-use Rattle.headline.specs.Headline.{loaded, root_names, HasSharedNames, ImportsAreUsed}
+use Rattle.headline.specs.Headline.{ImportsAreUsed}
 use Rattle.headline.proofs.Headline.{kept_by, back_by}
 use Rattle.headline.proofs.Loading.{edits_load}
 use Rattle.headline.proofs.Rooted.{edits_names}
@@ -34,7 +34,7 @@ use Rattle.steps_keep_text.proofs.Smaller.{nodes_shed, levels_shed}
 use Rattle.min_driver.specs.Left.{IsLeft}
 use Rattle.min_driver.specs.Limit.{IsWithinLimits}
 use Rattle.min_driver.specs.Minify.{IsCleanBy, KeepsNothing}
-use Rattle.min_peephole.specs.CleanBy.{keeps_unused, keeps_imports}
+use Rattle.min_peephole.specs.CleanBy.{keeps_unused}
 pub use Rattle.min_peephole.proofs.Keeping.{dce_clean}
 use Rattle.steps.specs.Allowed.Exposure.{is_script, evaluates_somewhere}
 use Rattle.min_driver.proofs.Cleared.{cleared_levels}

@@ -1,8 +1,8 @@
 -- What the options for dead code elimination alone and the smallest ones keep: nothing.
-use Rattle.std.proofs.Common.{◌≡◌, Bool, false, ap, subst}
+use Rattle.std.proofs.Common.{Bool, false, ap, subst}
 use Rattle.js_syntax.specs.Node.{Forest}
 use Rattle.headline.specs.Clean.{CleanBut, Clean}
-use Rattle.min_options.specs.Options.{HasOptions, all_kept, IsDce, IsSmallest}
+use Rattle.min_options.specs.Options.{HasOptions, IsDce, IsSmallest}
 use Rattle.min_options.specs.declared.options.CompressOptions.{CompressOptions}
 use Rattle.min_options.specs.declared.options.CompressOptionsKeepNames.{CompressOptionsKeepNames}
 use Rattle.min_options.specs.declared.options.CompressOptionsUnused.TheVariants.{Remove}

@@ -31,6 +31,7 @@ use Rattle.rules.specs.Expressions.Sequences.{sequence_left}
 use Rattle.rules.specs.Expressions.TwoSides.{two_sides_become}
 use Rattle.rules.specs.Expressions.Objects.{object_left}
 use Rattle.rules.specs.Expressions.Operations.{known_becomes}
+use Rattle.rules.specs.Expressions.EmptyIfs.{test_left}
 use Rattle.rules.specs.Expressions.Ifs.{if_becomes}
 use Rattle.rules.specs.Expressions.Jumps.{list_reached}
 use Rattle.rules.specs.Expressions.Untaken.{if_left}
@@ -108,11 +109,13 @@ module _ (f : Facts) (p : Place) (n : Note) (k : Kind) (inner : Forest) (h : sta
       let values = not (is_some (object_left (spot_of p) n k inner)) in
       let keeps = and_parts (not (is_some (sequence_left (spot_of p) n k inner))) (both && values) at_values.0 in
       let parts = and_parts both values keeps.1 in
+      let tested = not (is_some (test_left n k inner)) in
       let reached = not (is_some (list_reached n k inner)) in
       let taken = not (is_some (if_left n k inner)) in
-      let computes = and_parts (not (is_some (known_becomes n k inner))) (not (is_some (if_becomes n k inner)) && (reached && taken)) at_values.1 in
-      let statements = and_parts (not (is_some (if_becomes n k inner))) (reached && taken) computes.1 in
-      let runs = and_parts reached taken statements.1 in
+      let computes = and_parts (not (is_some (known_becomes n k inner))) (not (is_some (if_becomes n k inner)) && (tested && (reached && taken))) at_values.1 in
+      let statements = and_parts (not (is_some (if_becomes n k inner))) (tested && (reached && taken)) computes.1 in
+      let tests = and_parts tested (reached && taken) statements.1 in
+      let runs = and_parts reached taken tests.1 in
       record {
         conditional = none_there (conditional_becomes (spot_of p) k inner) decides.0;
         logical = none_there (logical_becomes (spot_of p) k inner) others.0;
@@ -125,6 +128,7 @@ module _ (f : Facts) (p : Place) (n : Note) (k : Kind) (inner : Forest) (h : sta
         object = none_there (object_left (spot_of p) n k inner) parts.1;
         known = none_there (known_becomes n k inner) computes.0;
         statement = none_there (if_becomes n k inner) statements.0;
+        test = none_there (test_left n k inner) tests.0;
         jumps = none_there (list_reached n k inner) runs.0;
         untaken = none_there (if_left n k inner) runs.1;
       }

@@ -22,6 +22,7 @@ use Rattle.rules.specs.Expressions.Sequences.{sequence_left}
 use Rattle.rules.specs.Expressions.TwoSides.{two_sides_become}
 use Rattle.rules.specs.Expressions.Objects.{object_left}
 use Rattle.rules.specs.Expressions.Operations.{known_becomes}
+use Rattle.rules.specs.Expressions.EmptyIfs.{test_left}
 use Rattle.rules.specs.Expressions.Ifs.{if_becomes}
 use Rattle.rules.specs.Expressions.Jumps.{list_reached}
 use Rattle.rules.specs.Expressions.Untaken.{if_left}
@@ -49,7 +50,7 @@ keeps_parts p n k inner = not (is_some (sequence_left (spot_of p) n k inner)) &&
 
 -- and is no operation that comes to its value, nor an `if` that comes to a branch or becomes empty, and has nothing that never runs
 abbrev pub computes_none : Note → Kind → (inner : Forest) → Bool
-computes_none n k inner = not (is_some (known_becomes n k inner)) && (not (is_some (if_becomes n k inner)) && (not (is_some (list_reached n k inner)) && not (is_some (if_left n k inner))))
+computes_none n k inner = not (is_some (known_becomes n k inner)) && (not (is_some (if_becomes n k inner)) && (not (is_some (test_left n k inner)) && (not (is_some (list_reached n k inner)) && not (is_some (if_left n k inner)))))
 
 -- and is no import that a name leaves, nor a list that an import leaves
 abbrev pub uses_names : Facts → Place → Note → Kind → (inner : Forest) → Bool

@@ -10,6 +10,7 @@ use Rattle.min_traverse.specs.Moves.{Holds, IsHere, NodeMoves}
 use Rattle.rules.specs.DeadCode.Before.{before}
 use Rattle.rules.specs.DeadCode.Rules.{where_of, becomes_empty}
 use Rattle.rules.specs.Expressions.Ifs.{if_becomes}
+use Rattle.rules.specs.Expressions.EmptyIfs.{test_left}
 use Rattle.rules.specs.Expressions.Untaken.{if_left, if_ends, at_if_end}
 use Rattle.rules.specs.Imports.Rules.{pruned}
 use Rattle.rules.proofs.Expressions.Folding.{ifs_end}
@@ -19,6 +20,7 @@ use Rattle.min_statements.specs.Walker.{Names, facts_of}
 use Rattle.min_statements.proofs.Acting.{asked_true}
 use Rattle.min_statements.proofs.Calls.{CallsStay}
 use Rattle.min_statements.proofs.Expressions.{rule_moves, rule_visits}
+use Rattle.min_statements.proofs.Tests.{test_calls}
 use Rattle.min_statements.proofs.Branches.{if_calls}
 use Rattle.min_statements.proofs.Thinning.{left_calls}
 use Rattle.min_statements.proofs.Pruning.{prune_moves}
@@ -56,9 +58,13 @@ none_emptied false y e = refl
 if_calls_stay : (c : Seen) (a : Around) (x y : Tree) (r : Forest) → IsHere c a → at_if_end c x ≡ Some y → CallsStay (before a r) x y
 if_calls_stay c a x y r here found = by (if_becomes x.note x.kind x.below) refl
   where
+    by_test : (o : Option Tree) → test_left x.note x.kind x.below ≡ o → or_else (test_left x.note x.kind x.below) (if_left x.note x.kind x.below) ≡ Some y → CallsStay (before a r) x y
+    by_test (Some z) is e = test_calls (before a r) x y (is ∙ sym (ap (λ o. or_else o (if_left x.note x.kind x.below)) is) ∙ e)
+    by_test None is e = left_calls (before a r) x y (sym (ap (λ o. or_else o (if_left x.note x.kind x.below)) is) ∙ e)
+
     by : (o : Option Tree) → if_becomes x.note x.kind x.below ≡ o → CallsStay (before a r) x y
-    by (Some z) is = if_calls (before a r) x y (is ∙ sym (ap (λ o. or_else o (if_left x.note x.kind x.below)) is) ∙ found)
-    by None is = left_calls (before a r) x y (sym (ap (λ o. or_else o (if_left x.note x.kind x.below)) is) ∙ found)
+    by (Some z) is = if_calls (before a r) x y (is ∙ sym (ap (λ o. or_else (or_else o (test_left x.note x.kind x.below)) (if_left x.note x.kind x.below)) is) ∙ found)
+    by None is = by_test (test_left x.note x.kind x.below) refl (sym (ap (λ o. or_else (or_else o (test_left x.note x.kind x.below)) (if_left x.note x.kind x.below)) is) ∙ found)
 
 module _ (stays : Stays AnyEdit) (names : Names) where
   pub fold_moves : {c k d : Seen} {x z y : Tree} {answer : Bool} → Does (empty names) c x false k z → Does at_if_end k z answer d y → NodeMoves Names AnyEdit (Holds Own) names c x names d y

@@ -7,6 +7,7 @@ mod Calls
 mod Acting
 mod Expressions
 mod Branches
+mod Tests
 mod Pruning
 mod Ending
 mod Repeating

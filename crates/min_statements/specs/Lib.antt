@@ -3,6 +3,7 @@ pub mod Walker
 pub mod Shed
 pub mod Acts
 pub mod Ifs
+pub mod Tests
 pub mod Own
 pub mod Behind
 pub mod Untaken

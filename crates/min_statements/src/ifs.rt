@@ -9,6 +9,7 @@ ghost use Rattle.min_statements.specs.Ifs.{branches_of, told_branches, index_if,
 
 use crate::blocks::idles;
 use crate::emptied::put_empty;
+use crate::empty_ifs::fold_empty_if;
 use crate::inside::declares_no_name;
 use crate::tries::{are_blocks, has_no_loop, is_block};
 use crate::untaken::{drop_branch, rid_branch, untaken_at};
@@ -41,14 +42,14 @@ fn is_branch(kind: &NodeKind) -> bool
 
 /// The test of an `if`, and its branches, or its one branch; the block of a `try`, a handler and a finalizer, or one of them; or other
 /// parts.
-enum Branches<'a> {
+pub(crate) enum Branches<'a> {
     Both(&'a Node, &'a Node, &'a Node),
     One(&'a Node, &'a Node),
     Last(&'a Node, &'a Node),
     Others,
 }
 
-fn branches_of<'a>(children: &'a [Option<Node>]) -> Branches<'a>
+pub(crate) fn branches_of<'a>(children: &'a [Option<Node>]) -> Branches<'a>
     ensures { told_branches result ≡ branches_of (row children.now) }
 {
     match children {
@@ -172,8 +173,9 @@ fn thin_branch(node: &mut Node, ctx: &mut MinifierTraverseCtx) -> bool
 }
 
 /// An `if` on a test that is known becomes the branch that runs, if that means the same wherever it stands and the other one declares no
-/// name around it; and empty, if there is no branch to run. A `try` around nothing becomes its finalizer, or its block. Else, what declares
-/// no name around it leaves the branch that isn't taken. The context is told.
+/// name around it; and empty, if there is no branch to run. A `try` around nothing becomes its finalizer, or its block. An `if` whose
+/// branches are empty becomes a statement of its test. Else, what declares no name around it leaves the branch that isn't taken. The
+/// context is told.
 pub fn try_fold_if(node: &mut Node, ctx: &mut MinifierTraverseCtx) -> bool
     ensures does { Does at_if_end ctx.old node.old result ctx.new node.new }
 {
@@ -186,6 +188,12 @@ pub fn try_fold_if(node: &mut Node, ctx: &mut MinifierTraverseCtx) -> bool
             put_empty(node, ctx);
             true
         }
-        None => thin_branch(node, ctx),
+        None => {
+            if fold_empty_if(node, ctx) {
+                true
+            } else {
+                thin_branch(node, ctx)
+            }
+        }
     }
 }

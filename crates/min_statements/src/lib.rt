@@ -3,12 +3,13 @@
 //! `Statements` is the walker (min_traverse): behind a list it takes out what stands behind a jump there and declares nothing around it,
 //! and what rules/DeadCode says goes of it (`trim_statements`), or imports without names behind other requests of their modules
 //! (`remove_repeated_imports`), behind a silent statement elsewhere it leaves an empty one, and so behind a branch or a body that does
-//! nothing (`empty_statement`), behind an `if` on a test that is known the branch that runs, or an empty statement, or the `if` without what
-//! declares no name in the other branch, and without the values there (`try_fold_if`), behind an import the import without the names that
-//! nobody uses (`remove_unused_import_specifiers`), behind an expression that a known test decides the part that counts, alone, behind a
-//! zero, or behind the test where that acts, behind an operation of which nobody takes the value the operands that act, behind such an
-//! array, object or sequence its parts that act, and behind an operation that doesn't act its value (min_expressions). Each call does exactly what its rule says, marks what left before it is let
-//! go, and touches nothing where nothing goes. `walk_statements` is one pass over a program: what is left comes by edits that a dead code
+//! nothing (`empty_statement`), behind an `if` on a test that is known the branch that runs, or an empty statement, or the `if` without
+//! what declares no name in the other branch, and without the values there, and behind one whose branches are empty a statement of its test
+//! (`try_fold_if`), behind an import the import without the names that nobody uses (`remove_unused_import_specifiers`), behind an
+//! expression that a known test decides the part that counts, alone, behind a zero, or behind the test where that acts, behind an operation
+//! of which nobody takes the value the operands that act, behind such an array, object or sequence its parts that act, and behind an
+//! operation that doesn't act its value (min_expressions). Each call does exactly what its rule says, marks what left before it is let go,
+//! and touches nothing where nothing goes. `walk_statements` is one pass over a program: what is left comes by edits that a dead code
 //! remover may make (steps/Allowed), what was known of the program (`Knows`) is known of what is left, and where no other pass is asked
 //! for, nothing of it goes (`IsQuiet` of rules/DeadCode, `ImportsUsed` of rules/Imports) or comes to its parts or its value (`IsSettled` of
 //! rules/Expressions).
@@ -16,6 +17,7 @@
 
 mod blocks;
 mod emptied;
+mod empty_ifs;
 mod facts;
 mod goes;
 mod idle;

@@ -9,6 +9,7 @@ pub mod TwoSides
 pub mod Objects
 pub mod Operations
 pub mod Ifs
+pub mod EmptyIfs
 pub mod Jumps
 pub mod Thinner
 pub mod Untaken

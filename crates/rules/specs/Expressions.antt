@@ -8,6 +8,7 @@ pub mod TwoSides
 pub mod Objects
 pub mod Operations
 pub mod Ifs
+pub mod EmptyIfs
 pub mod Jumps
 pub mod Untaken
 pub mod Known

@@ -70,6 +70,8 @@ pub mod TryRuns
 pub mod IdleTry
 pub mod BodyPlace
 pub mod IdleBody
+pub mod TestCounts
+pub mod EmptyIf
 pub mod LeftRuns
 pub mod SilentAnywhere
 pub mod UnusedPlace

@@ -34,6 +34,7 @@ pub mod IdleStatement
 pub mod UnrunValue
 pub mod IdleTry
 pub mod IdleBody
+pub mod EmptyIf
 pub mod Edits
 pub mod Arranged
 pub mod Rows

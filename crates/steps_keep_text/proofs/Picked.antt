@@ -11,7 +11,7 @@ use Rattle.js_syntax.specs.declared.value.LiteralValue.TheVariants as value
 use Rattle.js_syntax.specs.Node.{Forest, nothing, node, absent, total}
 use Rattle.js_syntax.specs.declared.value.TemplateText.{TemplateText}
 use Rattle.json_kept.proofs.Depths.{total_joined}
-use Rattle.steps.specs.KeepForm.Part.{may_be_idle}
+use Rattle.steps.specs.KeepForm.Part.{may_be_idle, is_tested}
 use Rattle.steps.proofs.Owed.KnownSizes.{IsSmall}
 use Rattle.js_tree.specs.Count.{one_each}
 use Rattle.steps.specs.Allowed.TwoSides.{no_text, without_text, without_texts}
@@ -21,6 +21,7 @@ use Rattle.steps.proofs.Marked.Picked.{SomeOf, none, stays, leaves, opens, absen
 pub record IsSparing (counts : Kind → ℕ) : Type 0 where
   pub empty : counts empty_statement ≤ counts expression_statement
   pub empty_idle : (k : Kind) → may_be_idle k ≡ true → counts empty_statement ≤ counts k
+  pub statement_of_test : (k : Kind) → is_tested k ≡ true → counts expression_statement ≤ counts k
   pub of_array : counts sequence_expression ≤ counts array_expression
   pub of_elements : counts expressions ≤ counts elements
   pub of_template : counts sequence_expression ≤ counts template_literal
@@ -39,11 +40,12 @@ pub record IsSparing (counts : Kind → ℕ) : Type 0 where
   pub of_element : (text : TemplateText) (tail : Bool) → counts (template_element no_text tail) ≤ counts (template_element text tail)
 
 -- as they are where none of that is counted
-pub uncounted : (counts : Kind → ℕ) → counts empty_statement ≡ 0 → counts sequence_expression ≡ 0 → counts expressions ≡ 0 → ((w : LiteralValue) → IsSmall w → counts (literal w) ≡ 0) → ((o : LogicalOperator) → counts (logical_expression o) ≡ 0) → counts (unary_expression UnaryNegation) ≡ 0
+pub uncounted : (counts : Kind → ℕ) → counts empty_statement ≡ 0 → counts expression_statement ≡ 0 → counts sequence_expression ≡ 0 → counts expressions ≡ 0 → ((w : LiteralValue) → IsSmall w → counts (literal w) ≡ 0) → ((o : LogicalOperator) → counts (logical_expression o) ≡ 0) → counts (unary_expression UnaryNegation) ≡ 0
     → ((tail : Bool) → counts (template_element no_text tail) ≡ 0) → IsSparing counts
-uncounted counts empty sequence list small logical minus element = record {
+uncounted counts empty statement sequence list small logical minus element = record {
   empty = Prim.omega (arith, empty);
   empty_idle = λ k idle. Prim.omega (arith, empty);
+  statement_of_test = λ k tested. Prim.omega (arith, statement);
   of_array = Prim.omega (arith, sequence);
   of_elements = Prim.omega (arith, list);
   of_template = Prim.omega (arith, sequence);

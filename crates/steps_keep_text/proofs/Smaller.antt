@@ -1,14 +1,14 @@
 -- What edits leave of a tree is no larger, by any count of its nodes, and no deeper.
 use Rattle.std.proofs.Common.{◌≡◌, ◌≤◌, ◌+◌, ℕ, suc, Bool, true, false, refl, sym, true≢false, arith}
 use Rattle.js_syntax.specs.declared.node_kind.NodeKind.{NodeKind as Kind}
-use Rattle.js_syntax.specs.declared.node_kind.NodeKind.TheVariants.{EmptyStatement as empty_statement, Class as class}
+use Rattle.js_syntax.specs.declared.node_kind.NodeKind.TheVariants.{EmptyStatement as empty_statement, ExpressionStatement as expression_statement, Class as class}
 use Rattle.js_syntax.specs.Node.{Forest, Note, nothing, node, absent, joined, bare, total}
 use Rattle.js_tree.specs.Count.{one_each, node_count, lower, levels_at, levels}
 use Rattle.json_kept.proofs.Depths.{total_joined}
 use Rattle.scope_laws.specs.Lists.{is_list}
 use Rattle.scope_laws.proofs.Notes.{total_bare, unseen}
 use Rattle.steps.specs.KeepForm.Part.{may_be_idle}
-use Rattle.steps.proofs.KeepForm.Asked.{idle_kinds}
+use Rattle.steps.proofs.KeepForm.Asked.{idle_kinds, tested_kinds}
 use Rattle.steps.proofs.Marked.Cuts as cuts
 use Rattle.steps.proofs.Marked.Cuts.{Cuts}
 use Rattle.steps_keep_text.proofs.Along.{IsShed}
@@ -21,6 +21,7 @@ module _ (counts : Kind → ℕ) (spares : IsSparing counts) where
   cut_lighter listed t u (cuts.leaves k n below rest plain) = Prim.omega arith
   cut_lighter listed t u (cuts.empties l n m below rest) = Prim.omega (arith, spares.empty)
   cut_lighter listed t u (cuts.empties_idle l k n m below rest idle) = Prim.omega (arith, spares.empty_idle k idle)
+  cut_lighter listed t u (cuts.tests l k z n m i b after rest tested) = Prim.omega (arith, spares.statement_of_test k tested)
   cut_lighter listed t u (cuts.parts i k l n m b v w rest gives unasked) = Prim.omega (arith, total_joined counts v (node l m b w))
   cut_lighter listed t u (cuts.rebuilds i k l n m a b rest made) = Prim.omega (arith, picked_counts counts spares made.picks)
   cut_lighter listed t u (cuts.inside l k n below now rest called c) = Prim.omega (arith, cut_lighter (is_list k) below now c)
@@ -59,6 +60,7 @@ cut_levels : (more : ℕ → ℕ) (at : ℕ) (listed : Bool) (t u : Forest) → 
 cut_levels more at listed t u (cuts.leaves k n below rest plain) level = Prim.omega (arith, moved more (level refl) at (suc at) rest)
 cut_levels more at listed t u (cuts.empties l n m below rest) level = Prim.omega arith
 cut_levels more at listed t u (cuts.empties_idle l k n m below rest idle) level = Prim.omega (arith, one_idle k idle)
+cut_levels more at listed t u (cuts.tests z k l n m i b after rest tested) level = tested_kinds (λ y. levels_at more at (node expression_statement m (node l i b nothing) rest) ≤ levels_at more at (node y n (node l i b after) rest)) (Prim.omega arith) k tested
 cut_levels more at listed t u (cuts.parts i k l n m b v w rest gives unasked) level = Prim.omega (arith, part_levels (lower k) 0 v l m b w)
 cut_levels more at listed t u (cuts.rebuilds i k l n m a b rest made) level = Prim.omega (arith, made.no_deeper)
 cut_levels more at listed t u (cuts.inside l k n below now rest called c) level = Prim.omega (arith, cut_levels (lower k) 0 (is_list k) below now c (list_level k))
@@ -77,6 +79,7 @@ pub nodes_shed : IsShed node_count
 nodes_shed = counts_shed one_each (record {
   empty = Prim.omega arith;
   empty_idle = one_idle;
+  statement_of_test = λ k tested. tested_kinds (λ z. one_each expression_statement ≤ one_each z) (Prim.omega arith) k tested;
   of_array = Prim.omega arith;
   of_elements = Prim.omega arith;
   of_template = Prim.omega arith;

@@ -48,19 +48,19 @@ small_inexact_size w small = refl
 
 module _ (t u : Forest) (edits : Edits t u) (fits : Fits root t) where
   pub fewer_misnamed : total misnamed u ≤ total misnamed t
-  fewer_misnamed = edits_shed (total misnamed) (counts_shed misnamed (uncounted misnamed refl refl refl small_misnamed (λ o. refl) refl (λ tail. refl))) t u edits fits
+  fewer_misnamed = edits_shed (total misnamed) (counts_shed misnamed (uncounted misnamed refl refl refl refl small_misnamed (λ o. refl) refl (λ tail. refl))) t u edits fits
 
   pub fewer_negative : total negative u ≤ total negative t
-  fewer_negative = edits_shed (total negative) (counts_shed negative (uncounted negative refl refl refl small_negative (λ o. refl) refl (λ tail. refl))) t u edits fits
+  fewer_negative = edits_shed (total negative) (counts_shed negative (uncounted negative refl refl refl refl small_negative (λ o. refl) refl (λ tail. refl))) t u edits fits
 
   pub left_as_it_is : IsWrittenAsItIs t → IsWrittenAsItIs u
   left_as_it_is so = record { numbers = Prim.omega (arith, fewer_negative, so.numbers); names = Prim.omega (arith, fewer_misnamed, so.names) }
 
   pub left_exact : IsExact t → IsExact u
-  left_exact exact = Prim.omega (arith, edits_shed (total inexact) (counts_shed inexact (uncounted inexact refl refl refl small_inexact (λ o. refl) refl (λ tail. refl))) t u edits fits, exact)
+  left_exact exact = Prim.omega (arith, edits_shed (total inexact) (counts_shed inexact (uncounted inexact refl refl refl refl small_inexact (λ o. refl) refl (λ tail. refl))) t u edits fits, exact)
 
   pub left_exact_sizes : total inexact_size t ≡ 0 → total inexact_size u ≡ 0
-  left_exact_sizes exact = Prim.omega (arith, edits_shed (total inexact_size) (counts_shed inexact_size (uncounted inexact_size refl refl refl small_inexact_size (λ o. refl) refl (λ tail. refl))) t u edits fits, exact)
+  left_exact_sizes exact = Prim.omega (arith, edits_shed (total inexact_size) (counts_shed inexact_size (uncounted inexact_size refl refl refl refl small_inexact_size (λ o. refl) refl (λ tail. refl))) t u edits fits, exact)
 
   pub left_readable : IsExact t → depth (data_of u) ≤ max_depth → IsReadable u
   left_readable exact shallow = record { shape = edits_fit t u edits fits; values = left_exact exact; nesting = shallow }

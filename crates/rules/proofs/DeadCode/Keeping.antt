@@ -12,8 +12,8 @@ use Rattle.steps.proofs.Fit.Modules.{fits_program}
 use Rattle.steps.specs.Owed.Kept.{is_program}
 use Rattle.steps.proofs.Owed.FitsEdits.{edit_fits, tree_edits_fit}
 use Rattle.steps.specs.Marked.Flags.{first_mark}
-use Rattle.steps.proofs.KeepForm.Asked.{idle_kinds}
-use Rattle.steps.proofs.Marked.Cuts.{Cuts, leaves, empties, empties_idle, parts, rebuilds, inside, behind, behind_none, edit_cuts}
+use Rattle.steps.proofs.KeepForm.Asked.{idle_kinds, tested_kinds}
+use Rattle.steps.proofs.Marked.Cuts.{Cuts, leaves, empties, empties_idle, tests, parts, rebuilds, inside, behind, behind_none, edit_cuts}
 use Rattle.steps.proofs.Marked.Exposing.{part_no_program}
 use Rattle.steps.proofs.Marked.Telling.{no_program, edits_told}
 use Rattle.steps.proofs.Marked.Tables.{edits_keep_marked}
@@ -38,6 +38,7 @@ root_cut : (listed : Bool) (t u : Forest) → Cuts listed t u → listed ≡ fal
 root_cut listed t u (leaves k n below rest plain) l e = absurd (true≢false l)
 root_cut listed t u (empties r n m below rest) l e = never e
 root_cut listed t u (empties_idle r k n m below rest idle) l e = never (idle_kinds (λ z. false ≡ is_program (node z n below rest)) refl refl refl refl refl (λ label. refl) k idle ∙ e)
+root_cut listed t u (tests r k x n m i b after rest tested) l e = never (tested_kinds (λ z. false ≡ is_program (node z n (node x i b after) rest)) refl k tested ∙ e)
 root_cut listed t u (parts r k x i j b v w rest gives unasked) l e = never (sym (no_program k i (joined v (node x j b w)) rest gives) ∙ e)
 root_cut listed t u (rebuilds r k x n m a b rest made) l e = never (sym (part_no_program k n a rest made.old_unasked) ∙ e)
 root_cut listed t u (inside r k n below now rest called h) l e = record { script = script_first k n n now below rest rest; mark = refl }

@@ -36,8 +36,10 @@ use Rattle.steps.specs.Allowed.IdleStatement.{idle_leaves}
 use Rattle.steps.specs.Allowed.RepeatedImport.{import_of, repeated_import_leaves}
 use Rattle.steps.specs.Allowed.UnrunValue.{value_never_given}
 use Rattle.steps.specs.Allowed.DeadIf.{DeadIf, nothing_is_run}
+use Rattle.steps.specs.Allowed.EmptyIf.{are_empty, test_stays}
+use Rattle.steps.specs.Allowed.KnownIf.{an_if}
 use Rattle.steps.specs.Allowed.IdleBody.{idle_body_empties}
-use Rattle.steps.specs.Allowed.Edits.{Leaves, empty_statement, empty_block, unused_function, unused_declarator, unused_declaration, unused_import, unreached, untaken, idle_statement, repeated_import, Becomes, silent_statement, known_conditional, known_side, known_if, dead_if, unused_operation, unused_list, indirect_choice, one_sided_choice, idle_parts, two_sides, unused_object, known_operation, unrun_value, idle_try, idle_body, Edit, leaves, becomes, TreeEdits, no_tree_edit, one_tree_edit}
+use Rattle.steps.specs.Allowed.Edits.{Leaves, empty_statement, empty_block, unused_function, unused_declarator, unused_declaration, unused_import, unreached, untaken, idle_statement, repeated_import, Becomes, silent_statement, known_conditional, known_side, known_if, dead_if, unused_operation, unused_list, indirect_choice, one_sided_choice, idle_parts, two_sides, unused_object, known_operation, unrun_value, idle_try, idle_body, empty_if, Edit, leaves, becomes, TreeEdits, no_tree_edit, one_tree_edit}
 use Rattle.steps.specs.Owed.Kept.{is_program}
 use Rattle.steps.specs.Owed.Owed.{ByPart, ByParts}
 use Rattle.steps.specs.Owed.Part.{DeclaresNothing}
@@ -51,6 +53,7 @@ use Rattle.steps.proofs.Owed.Inside.{enclosed_below, enclosed_rest}
 use Rattle.steps.proofs.Owed.KnownConditional.{known_conditional_owes}
 use Rattle.steps.proofs.Owed.KnownSide.{known_side_owes}
 use Rattle.steps.proofs.Owed.KnownIf.{tested_row, known_if_owes}
+use Rattle.steps.proofs.Owed.EmptyIf.{empty_declares}
 use Rattle.steps.proofs.Owed.IdleTry.{idle_try_owes}
 use Rattle.steps.proofs.Owed.IdleBody.{body_kind}
 use Rattle.steps.proofs.Owed.UnusedOperation.{unused_operation_owes}
@@ -95,6 +98,13 @@ dead_declares_nothing a x y (nothing_is_run n m i o tested k d b truth none) fit
     let below = node tested m d branch in
     let undeclared = tested_row tested m d branch (expression_declares_none (node tested m d nothing) ((parts_of_if a n below fits).0, tt)) none in
     declares_nothing (forest_of x) (both (declares_none below) true undeclared refl) (enclosed_alone_there a kind.IfStatement n below (fits_enclosed (plug a (Some x)) fits))
+
+-- nor does one whose branches are empty
+empty_if_declares_nothing : (a : Around) (n m : Note) (tested : Kind) (d branches : Forest) → are_empty branches ≡ true → Fits root (plug a (Some (an_if n tested m d branches))) → DeclaresNothing (forest_of (an_if n tested m d branches))
+empty_if_declares_nothing a n m tested d branches empty fits =
+    let below = node tested m d branches in
+    let undeclared = tested_row tested m d branches (expression_declares_none (node tested m d nothing) ((parts_of_if a n below fits).0, tt)) (empty_declares branches empty) in
+    declares_nothing (forest_of (an_if n tested m d branches)) (both (declares_none below) true undeclared refl) (enclosed_alone_there a kind.IfStatement n below (fits_enclosed (plug a (Some (an_if n tested m d branches))) fits))
 
 -- a statement is no program
 runs_no_program : (k : Kind) (n : Note) (below rest : Forest) → only_runs k ≡ true → is_program (node k n below rest) ≡ false
@@ -204,6 +214,10 @@ module _ (e : BindingSite) (top : e.layer.scope ≡ 0) where
       subst ExportedBy (made_plug a y)
       (settled a x (Some y) Anything fits (λ rest. refl) (λ f. absurd (true≢false f)) (anywhere (Some x) false (λ at. outermost) 0 0 a)
       (λ w c next some any. undeclared_stays e top x (Some y) (dead_declares_nothing a x y (nothing_is_run n m i o tested k d b truth none) fits) c next some) h)
+  changed a x y (empty_if (test_stays n m o tested d branches empty unnamed)) fits h =
+      subst ExportedBy (made_plug a y)
+      (settled a x (Some y) Anything fits (λ rest. refl) (λ f. absurd (true≢false f)) (anywhere (Some x) false (λ at. outermost) 0 0 a)
+      (λ w c next some any. undeclared_stays e top x (Some y) (empty_if_declares_nothing a n m tested d branches empty fits) c next some) h)
   changed a x y (idle_body (idle_body_empties _ m body idle none)) fits h =
       subst ExportedBy (made_plug a y)
       (settled a x (Some y) Anything fits (λ rest. idle_kinds (λ z. is_program (node z x.note x.below rest) ≡ false) refl refl refl refl refl (λ label. refl) x.kind (body_kind x.kind x.below idle)) (λ f. absurd (true≢false f))

@@ -23,8 +23,8 @@ use Rattle.rules.specs.DeadCode.Quiet.{ToldOnly}
 use Rattle.rules.specs.Told.Places.{EachPlace}
 use Rattle.rules.specs.Told.Parts.{FlagsTellOnly, TellsCallsOnly, TellsNamesOnly, CallsToldOnly, NamesToldOnly}
 use Rattle.rules.proofs.Told.Standing.{strict_code, is_block, shares_code, exposed_in_scope, inside_reads, scope_evaluates, scope_strict, scope_sloppy, scope_names, scope_variables, scope_outside, variables_within}
-use Rattle.steps.proofs.KeepForm.Asked.{idle_kinds}
-use Rattle.rules.proofs.Told.Trims.{Alike, Trims, leaves, empties, empties_idle, parts, rebuilds, inside, behind, behind_none, fewer, trims}
+use Rattle.steps.proofs.KeepForm.Asked.{idle_kinds, tested_kinds}
+use Rattle.rules.proofs.Told.Trims.{Alike, Trims, leaves, empties, empties_idle, tests, parts, rebuilds, inside, behind, behind_none, fewer, trims}
 use Rattle.rules.proofs.Told.Walking.{trimmed_stays}
 
 -- ---- the parts, and both
@@ -161,6 +161,7 @@ root_stays : (all listed : Bool) (t u : Forest) → Trims all listed t u → lis
 root_stays all listed t u (leaves k n below rest) l e = never (sym l)
 root_stays all listed t u (empties r n m below rest) l e = never e
 root_stays all listed t u (empties_idle r k n m below rest idle) l e = never (idle_kinds (λ z. false ≡ is_program (node z n below rest)) refl refl refl refl refl (λ label. refl) k idle ∙ e)
+root_stays all listed t u (tests r k x n m i b after rest tested) l e = never (tested_kinds (λ z. false ≡ is_program (node z n (node x i b after) rest)) refl k tested ∙ e)
 root_stays all listed t u (parts r k x i j b v w rest gives) l e = never (sym (no_program k i (joined v (node x j b w)) rest gives) ∙ e)
 root_stays all listed t u (rebuilds r k x n m a b rest made unasked) l e = never (sym (part_no_program k n a rest unasked) ∙ e)
 root_stays all listed t u (inside r (kind.Program source) n below now rest a h) l e = record { script = refl; mark = refl; calls = a.calls }
@@ -182,7 +183,7 @@ module _ (all : Bool) (t u : Forest) (e : Edit t u) (fits : Fits root t) (left :
 
   throughout_stays : (P : Stand → Type 0) → ((q p : Stand) → Stays all q p → P p → P q) → Throughout P (stands_of t) 0 t → Throughout P (stands_of u) 0 u
   throughout_stays P keeps h =
-      trimmed_stays all stand_inside (λ p k n below. P p) (Stays all) (stays_inside all) (stays_through all) (λ q p k n now below a f x. keeps q p f x) (λ p k l n m below now none x. x) operation_inside false t u edit_trims (stands_of u) (stands_of t) 0 0
+      trimmed_stays all stand_inside (λ p k n below. P p) (Stays all) (stays_inside all) (stays_through all) (λ q p k n now below a f x. keeps q p f x) (λ p k l n m below now none x. x) operation_inside (λ p n below at. refl) false t u edit_trims (stands_of u) (stands_of t) 0 0
       (λ i j f. stays_at_root all t u edit_root i j (f refl)) (λ l. refl) h
 
 edit_names : (s : Scoping) (t u : Forest) → Edit t u → Fits root t → NamesToldOnly s t → NamesToldOnly s u

@@ -28,7 +28,7 @@ use Rattle.rules.specs.Told.Nesting.{scope_inside, IsScopeIn, NestsAt, own_scope
 use Rattle.rules.proofs.Told.Standing.{strict_code, within_opens, operation_outside}
 use Rattle.rules.proofs.Told.Contexts.{looks, inside_looks}
 use Rattle.rules.proofs.Told.Made.{IsMade, scope_of, EachMade, new_made}
-use Rattle.rules.proofs.Told.Trims.{Trims, leaves, empties, empties_idle, parts, rebuilds, inside as inside_it, behind, behind_none, trims}
+use Rattle.rules.proofs.Told.Trims.{Trims, leaves, empties, empties_idle, tests, parts, rebuilds, inside as inside_it, behind, behind_none, trims}
 use Rattle.rules.proofs.Told.Walking.{trimmed_stays}
 
 -- ---- counts
@@ -139,6 +139,8 @@ fewer_marks : (i : ℕ) (all listed : Bool) (t u : Forest) → Trims all listed 
 fewer_marks i all listed t u (leaves k n below rest) = Prim.omega (arith, marks_of_node i k n below rest)
 fewer_marks i all listed t u (empties r n m below rest) = Prim.omega (arith, marks_of_node i kind.ExpressionStatement n below rest)
 fewer_marks i all listed t u (empties_idle r k n m below rest idle) = Prim.omega (arith, marks_of_node i k n below rest)
+fewer_marks i all listed t u (tests r k l n m j b after rest tested) =
+    Prim.omega (arith, marks_of_node i kind.ExpressionStatement m (node l j b nothing) rest, marks_of_node i k n (node l j b after) rest, marks_of_node i l j b nothing, marks_of_node i l j b after)
 fewer_marks i all listed t u (parts r k l m n b v w rest gives) = Prim.omega (arith, marks_of_node i l n b rest, marks_of_node i k m (joined v (node l n b w)) rest, part_marks i v l n b w)
 fewer_marks i all listed t u (rebuilds r k l n m a b rest made unasked) =
     Prim.omega (arith, marks_of_node i k n a rest, marks_of_node i l m b rest, marks_of_node i k n a nothing, marks_of_node i l m b nothing, rebuilt_marks i made)
@@ -153,7 +155,7 @@ edit_nests s t u e fits h =
     let trimmed = trims false false other t u (edit_cuts t u e fits) (fits_laid_out t fits) (λ g. never g) in
     record {
       nested = trimmed_stays false scope_inside (NestsAt s) (λ q p. q ≡ p) (λ q p k n now below a f i j w. ap₂ (λ (b : Bool) (o : Option ℕ). if b then n.id else o) w f)
-          (λ q p k n below at w f. f ∙ sym (ap (λ (b : Bool). if b then n.id else p) w)) (λ q p k n now below a f x o. subst (λ y. IsScopeIn s y n) (sym f) (x (sym a.opens ∙ o))) (λ p k l n m below now none x o. never (sym none ∙ o)) (λ k is p n below at. ap (λ (b : Bool). if b then n.id else p) (operation_outside k is below at)) false t u trimmed (λ at. None)
+          (λ q p k n below at w f. f ∙ sym (ap (λ (b : Bool). if b then n.id else p) w)) (λ q p k n now below a f x o. subst (λ y. IsScopeIn s y n) (sym f) (x (sym a.opens ∙ o))) (λ p k l n m below now none x o. never (sym none ∙ o)) (λ k is p n below at. ap (λ (b : Bool). if b then n.id else p) (operation_outside k is below at)) (λ p n below at. refl) false t u trimmed (λ at. None)
           (λ at. None) 0 0 (λ i j f. refl) (λ l. refl) h.nested;
       once = λ i. Prim.omega (arith, h.once i, fewer_marks i false false t u trimmed);
     }

@@ -11,10 +11,10 @@ use Rattle.form_rules.specs.Context.{is_module, has_use_strict, is_strict_list, 
 use Rattle.scope_rules.specs.Context.{opens}
 use Rattle.scope_rules.specs.Site.{has_eval, scope_row}
 use Rattle.scope_laws.specs.Lists.{is_list}
-use Rattle.steps.specs.KeepForm.Part.{gives_way, may_be_idle, is_asked_for}
+use Rattle.steps.specs.KeepForm.Part.{gives_way, may_be_idle, is_tested, is_asked_for}
 use Rattle.steps.specs.KeepForm.Sheds.{Row, row_below}
 use Rattle.steps.specs.KeepForm.Layout.{is_laid_out}
-use Rattle.steps.proofs.KeepForm.Asked.{idle_kinds}
+use Rattle.steps.proofs.KeepForm.Asked.{idle_kinds, tested_kinds}
 use Rattle.steps.proofs.KeepForm.Laid.{laid_absent, laid_order, laid_below, laid_behind}
 use Rattle.steps.specs.Marked.Flags.{is_within}
 use Rattle.steps.proofs.Marked.Cuts as cuts
@@ -35,6 +35,7 @@ directives_back : (listed : Bool) (m : Row) (t u : Forest) → Cuts listed t u �
 directives_back listed m t u (cuts.leaves k n below rest plain) laid e = never (none_behind (is_directive_kind k) (has_use_strict rest) (laid_order m k n below rest laid) plain e)
 directives_back listed m t u (cuts.empties r n i below rest) laid e = never e
 directives_back listed m t u (cuts.empties_idle r k n i below rest idle) laid e = never e
+directives_back listed m t u (cuts.tests r k l n i j b after rest tested) laid e = never e
 directives_back listed m t u (cuts.parts r k l i j b v w rest gives unasked) laid e = never (sym (part_no_directive l j b rest unasked) ∙ e)
 directives_back listed m t u (cuts.rebuilds r k l n i a b rest made) laid e = never (sym (part_no_directive l i b rest made.unasked) ∙ e)
 directives_back listed m t u (cuts.inside r (kind.Directive written) n below now rest called h) laid e = e
@@ -49,6 +50,7 @@ list_back : (listed : Bool) (m : Row) (t u : Forest) → Cuts listed t u → lis
 list_back listed m t u (cuts.leaves k n below rest plain) l laid e = absurd (true≢false l)
 list_back listed m t u (cuts.empties r n i below rest) l laid e = never e
 list_back listed m t u (cuts.empties_idle r k n i below rest idle) l laid e = never e
+list_back listed m t u (cuts.tests r k x n i j b after rest tested) l laid e = never e
 list_back listed m t u (cuts.parts r k x i j b v w rest gives unasked) l laid e = never (sym (part_no_list x j b rest unasked) ∙ e)
 list_back listed m t u (cuts.rebuilds r k x n i a b rest made) l laid e = never (sym (part_no_list x i b rest made.unasked) ∙ e)
 list_back listed m t u (cuts.inside r kind.Statements n below now rest called h) l laid e = directives_back true (row_below m kind.Statements) below now h (laid_below m kind.Statements n below rest laid) e
@@ -61,6 +63,7 @@ function_back : (listed : Bool) (m : Row) (t u : Forest) → Cuts listed t u →
 function_back listed m t u (cuts.leaves k n below rest plain) l laid e = absurd (true≢false l)
 function_back listed m t u (cuts.empties r n i below rest) l laid e = e
 function_back listed m t u (cuts.empties_idle r k n i below rest idle) l laid e = sym (idle_kinds (λ z. is_strict_function rest ≡ is_strict_function (node z n below rest)) refl refl refl refl refl (λ label. refl) k idle) ∙ e
+function_back listed m t u (cuts.tests r k x n i j b after rest tested) l laid e = sym (tested_kinds (λ z. is_strict_function rest ≡ is_strict_function (node z n (node x j b after) rest)) refl k tested) ∙ e
 function_back listed m t u (cuts.parts r k x i j b v w rest gives unasked) l laid e = whole_no_body k i (joined v (node x j b w)) rest gives ∙ sym (part_no_body x j b rest unasked) ∙ e
 function_back listed m t u (cuts.rebuilds r k x n i a b rest made) l laid e = part_no_body k n a rest made.old_unasked ∙ sym (part_no_body x i b rest made.unasked) ∙ e
 function_back listed m t u (cuts.inside r kind.FunctionBody n below now rest called h) l laid e = list_back false (row_below m kind.FunctionBody) below now h refl (laid_below m kind.FunctionBody n below rest laid) e
@@ -118,6 +121,7 @@ pub fewer : (listed : Bool) (t u : Forest) → Cuts listed t u → evals u ≤ e
 fewer listed t u (cuts.leaves k n below rest plain) = Prim.omega arith
 fewer listed t u (cuts.empties r n m below rest) = Prim.omega arith
 fewer listed t u (cuts.empties_idle r k n m below rest idle) = Prim.omega arith
+fewer listed t u (cuts.tests r k l n m i b after rest tested) = Prim.omega arith
 fewer listed t u (cuts.parts r k l i j b v w rest gives unasked) = Prim.omega (arith, part_fewer v l j b w)
 fewer listed t u (cuts.rebuilds r k l n m a b rest made) = Prim.omega (arith, rebuilt_fewer made.rebuilt)
 fewer listed t u (cuts.inside r k n below now rest called h) = Prim.omega (arith, fewer (is_list k) below now h, fewer_calls k below now called)
@@ -155,6 +159,7 @@ behind_same : (listed : Bool) (t u : Forest) → Cuts listed t u → listed ≡ 
 behind_same listed t u (cuts.leaves k n below rest plain) l same = absurd (true≢false l)
 behind_same listed t u (cuts.empties r n m below rest) l same = refl
 behind_same listed t u (cuts.empties_idle r k n m below rest idle) l same = refl
+behind_same listed t u (cuts.tests r k x n m i b after rest tested) l same = refl
 behind_same listed t u (cuts.parts r k x i j b v w rest gives unasked) l same = refl
 behind_same listed t u (cuts.rebuilds r k x n m a b rest made) l same = refl
 behind_same listed t u (cuts.inside r k n below now rest called h) l same = refl
@@ -192,6 +197,7 @@ pub data Trims (all : Bool) : (listed : Bool) → (t u : Forest) → Type 0 wher
   leaves : (k : Kind) (n : Note) (below rest : Forest) → Trims all true (node k n below rest) rest
   empties : (listed : Bool) (n m : Note) (below rest : Forest) → Trims all listed (node kind.ExpressionStatement n below rest) (node kind.EmptyStatement m nothing rest)
   empties_idle : (listed : Bool) (k : Kind) (n m : Note) (below rest : Forest) → may_be_idle k ≡ true → Trims all listed (node k n below rest) (node kind.EmptyStatement m nothing rest)
+  tests : (listed : Bool) (k l : Kind) (n m i : Note) (b after rest : Forest) → is_tested k ≡ true → Trims all listed (node k n (node l i b after) rest) (node kind.ExpressionStatement m (node l i b nothing) rest)
   parts : (listed : Bool) (k l : Kind) (i j : Note) (b v w rest : Forest) → gives_way k ≡ true → Trims all listed (node k i (joined v (node l j b w)) rest) (node l j b rest)
   rebuilds : (listed : Bool) (k l : Kind) (n m : Note) (a b rest : Forest) → Rebuilt (alone k n a) (alone l m b) → is_asked_for k ≡ false → Trims all listed (node k n a rest) (node l m b rest)
   inside : (listed : Bool) (k : Kind) (n : Note) (below now rest : Forest) → Alike all k now below → Trims all (is_list k) below now → Trims all listed (node k n below rest) (node k n now rest)
@@ -202,6 +208,7 @@ pub trims : (all listed : Bool) (m : Row) (t u : Forest) → Cuts listed t u →
 trims all listed m t u (cuts.leaves k n below rest plain) laid same = leaves k n below rest
 trims all listed m t u (cuts.empties r n i below rest) laid same = empties r n i below rest
 trims all listed m t u (cuts.empties_idle r k n i below rest idle) laid same = empties_idle r k n i below rest idle
+trims all listed m t u (cuts.tests r k l n i j b after rest tested) laid same = tests r k l n i j b after rest tested
 trims all listed m t u (cuts.parts r k l i j b v w rest gives unasked) laid same = parts r k l i j b v w rest gives
 trims all listed m t u (cuts.rebuilds r k l n i a b rest made) laid same = rebuilds r k l n i a b rest made.rebuilt made.old_unasked
 trims all listed m t u (cuts.inside r k n below now rest called h) laid same =

@@ -9,17 +9,19 @@ use Rattle.scope_laws.specs.Lists.{is_list}
 use Rattle.scope_counts.proofs.Rebuilding.{operation_is_plain}
 use Rattle.steps.specs.Marked.Flags.{is_within}
 use Rattle.rules.specs.Told.Places.{EachPlace}
+use Rattle.steps.proofs.KeepForm.Asked.{tested_gives}
 use Rattle.rules.proofs.Told.Standing.{list_outside, plain_outside}
-use Rattle.rules.proofs.Told.Trims.{Alike, alike_itself, Trims, leaves, empties, empties_idle, parts, rebuilds, inside, behind, behind_none}
+use Rattle.rules.proofs.Told.Trims.{Alike, alike_itself, Trims, leaves, empties, empties_idle, tests, parts, rebuilds, inside, behind, behind_none}
 
 -- `Follows q p` says what is around a place now, q, of what was around it, p. Where a node stands another may stand that makes no scope,
--- and around an operation is what is around its parts.
+-- and around an operation, or a statement of one, is what is around its parts.
 module _ {S : Type 0} (all : Bool) (around : S → Kind → Note → Forest → ℕ → S) (P : S → Kind → Note → Forest → Type 0) (Follows : S → S → Type 0)
     (descends : (q p : S) (k : Kind) (n : Note) (now below : Forest) → Alike all k now below → Follows q p → (i j : ℕ) → is_within k now i ≡ is_within k below j → Follows (around q k n now i) (around p k n below j))
     (passes : (q p : S) (k : Kind) (n : Note) (below : Forest) (at : ℕ) → is_within k below at ≡ false → Follows q p → Follows q (around p k n below at))
     (keeps : (q p : S) (k : Kind) (n : Note) (now below : Forest) → Alike all k now below → Follows q p → P p k n below → P q k n now)
     (anew : (p : S) (k l : Kind) (n m : Note) (below now : Forest) → opens l now ≡ false → P p k n below → P p l m now)
-    (plain : (k : Kind) → is_operation k ≡ true → (p : S) (n : Note) (below : Forest) (at : ℕ) → around p k n below at ≡ p) where
+    (plain : (k : Kind) → is_operation k ≡ true → (p : S) (n : Note) (below : Forest) (at : ℕ) → around p k n below at ≡ p)
+    (statement : (p : S) (n : Note) (below : Forest) (at : ℕ) → around p kind.ExpressionStatement n below at ≡ p) where
   -- in a list it doesn't matter which place it is
   abbrev pub Covers : (listed : Bool) → (qs ps : ℕ → S) → Type 0
   Covers listed qs ps = (i j : ℕ) → (listed ≡ false → i ≡ j) → Follows (qs i) (ps j)
@@ -97,6 +99,20 @@ module _ {S : Type 0} (all : Bool) (around : S → Kind → Note → Forest → 
   trimmed_stays listed t u (leaves k n below rest) qs ps i j c f h = row_stays true rest qs ps i (suc j) c (λ l. absurd (true≢false l)) h.2
   trimmed_stays listed t u (empties r n m below rest) qs ps i j c f h = (keeps (qs i) (ps j) kind.EmptyStatement m nothing nothing (alike_itself all kind.EmptyStatement nothing) (c i j f) (anew (ps j) kind.ExpressionStatement kind.EmptyStatement n m below nothing refl h.0), tt, row_stays r rest qs ps (suc i) (suc j) c (λ l. ap suc (f l)) h.2)
   trimmed_stays listed t u (empties_idle r k n m below rest idle) qs ps i j c f h = (keeps (qs i) (ps j) kind.EmptyStatement m nothing nothing (alike_itself all kind.EmptyStatement nothing) (c i j f) (anew (ps j) k kind.EmptyStatement n m below nothing refl h.0), tt, row_stays r rest qs ps (suc i) (suc j) c (λ l. ap suc (f l)) h.2)
+  trimmed_stays listed t u (tests r k l n m x b after rest tested) qs ps i j c f h =
+      let whole = node l x b after in
+      let p = around (ps j) k n whole 0 in
+      let new = node l x b nothing in
+      let q = around (qs i) kind.ExpressionStatement m new 0 in
+      let over = subst (λ z. Follows z p) (sym (statement (qs i) m new 0)) (passes (qs i) (ps j) k n whole 0 (plain_outside k (tested_gives k tested) whole 0) (c i j f)) in (
+        keeps (qs i) (ps j) kind.ExpressionStatement m new new (alike_itself all kind.ExpressionStatement new) (c i j f) (anew (ps j) k kind.ExpressionStatement n m whole new refl h.0),
+        (
+          keeps q p l x b b (alike_itself all l b) over h.1.0,
+          row_stays (is_list l) b (around q l x b) (around p l x b) 0 0 (covers_inside q p l x b b (alike_itself all l b) over) (λ e. refl) h.1.1,
+          tt,
+        ),
+        row_stays r rest qs ps (suc i) (suc j) c (λ e. ap suc (f e)) h.2,
+      )
   trimmed_stays listed t u (parts r k l m n b v w rest gives) qs ps i j c f h =
       let whole = joined v (node l n b w) in
       let part = part_there (around (ps j) k m whole) v l n b w 0 h.1 in

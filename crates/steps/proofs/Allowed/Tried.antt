@@ -33,6 +33,8 @@ use Rattle.steps.specs.Allowed.Untaken.{Untaken, never_taken}
 use Rattle.steps.specs.Allowed.IdleTry.{IdleTry, finalizer_is_run, finalizer_is_run_alone, block_is_run}
 use Rattle.steps.specs.Allowed.IdleStatement.{IdleStatement, idle_leaves}
 use Rattle.steps.specs.Allowed.IdleBody.{IdleBody, idle_body_empties}
+use Rattle.js_syntax.specs.declared.kind.FunctionKind.TheVariants as function_kind
+use Rattle.steps.specs.Allowed.EmptyIf.{EmptyIf, test_stays}
 use Rattle.steps.specs.Allowed.UnrunValue.{UnrunValue, value_never_given}
 use Rattle.steps.specs.Allowed.EmptyBlock.{EmptyBlock, empty_block_leaves}
 use Rattle.steps.specs.Allowed.DeadIf.{DeadIf, nothing_is_run}
@@ -44,7 +46,7 @@ use Rattle.steps.specs.Allowed.IdleParts.{idle_parts_leave}
 use Rattle.steps.specs.Allowed.TwoSides.{both_sides_act}
 use Rattle.steps.specs.Allowed.UnusedObject.{acting_values_stay}
 use Rattle.steps.specs.Allowed.KnownOperation.{known_literal, value_is_known, negative_is_known}
-use Rattle.steps.specs.Allowed.Edits.{Edit, leaves, becomes, empty_statement, empty_block, silent_statement, unused_function, unused_declaration, unused_import, unreached, untaken, idle_statement, repeated_import, known_conditional, known_side, known_if, dead_if, unused_operation, unused_list, indirect_choice, one_sided_choice, idle_parts, two_sides, unused_object, known_operation, unrun_value, idle_try, idle_body}
+use Rattle.steps.specs.Allowed.Edits.{Edit, leaves, becomes, empty_statement, empty_block, silent_statement, unused_function, unused_declaration, unused_import, unreached, untaken, idle_statement, repeated_import, known_conditional, known_side, known_if, dead_if, unused_operation, unused_list, indirect_choice, one_sided_choice, idle_parts, two_sides, unused_object, known_operation, unrun_value, idle_try, idle_body, empty_if}
 use Rattle.steps.specs.Allowed.Rows.{breaks_label, labeled_too, labeled, branch_of_if, in_branch, in_function, in_function_by, value_of_a, zero, loop, debugger, throwing_block, throwing_branch, broken_label, past, in_list, before, throws, behind_throw, call_of_a, null, if_one, if_null, either_way, conditional, logical, may_be_named, o_f, parenthesized, in_statement, called, called_in_parentheses, called_in_with, argument, operand, applied, equals, difference, sum, text, empty_text, template, tagged, assigned, statement, ComesOut, Stays, StaysUnused, array, spread, hole, sequence, ListStays, ChoiceStays, PartsStay, SidesStay, object, a_is, b_is, getter_of_a, keyed_by, method_by, not_a, ObjectStays, literal, operation, OperationStays, behind_zero, placed, StaysDirect, FollowsNone, with_a, in_with_a, empty, a_is_read, a_is_exported, imports_nothing, behind_import, only_import, tried, tried_finally, finally_alone, while_, for_, loop}
 
 pub empties_in_list : Edit (a_module (does one ∷ [])) (a_module (empty ∷ []))
@@ -769,6 +771,26 @@ block_of_try_stays x y (idle_body_empties _ m body idle none) = true≢false (sy
 
 pub block_behind_label_stays : (x y : Tree) → IdleBody (in_list (under (Kind.LabeledStatement (codes "l")) nowhere (first nothing) nothing)) x y → ⊥
 block_behind_label_stays x y (idle_body_empties _ m body idle none) = true≢false (sym body)
+
+-- ---- an `if` whose branches are empty
+
+pub empty_if_comes : Edit (a_module (either_way call_of_a empty no ∷ [])) (a_module (does call_of_a ∷ []))
+empty_if_comes = becomes (before []) _ _ (empty_if (test_stays nowhere nowhere nowhere _ _ _ refl refl))
+
+pub empty_branches_come : Edit (a_module (either_way (reads a) empty empty ∷ [])) (a_module (does (reads a) ∷ []))
+empty_branches_come = becomes (before []) _ _ (empty_if (test_stays nowhere nowhere nowhere _ _ _ refl refl))
+
+pub empty_if_in_a_branch_comes : Edit (a_module (if_one (either_way call_of_a empty no) ∷ [])) (a_module (if_one (does call_of_a) ∷ []))
+empty_if_in_a_branch_comes = becomes consequent _ _ (empty_if (test_stays nowhere nowhere nowhere _ _ _ refl refl))
+
+pub full_alternate_stays : (y : Tree) → EmptyIf (an_if nowhere (Kind.ReferenceName a) nowhere nothing (joined empty (does call_of_a))) y → ⊥
+full_alternate_stays y (test_stays n m o t d branches empty unnamed) = true≢false (sym empty)
+
+pub full_consequent_stays : (y : Tree) → EmptyIf (an_if nowhere (Kind.ReferenceName a) nowhere nothing (joined (does call_of_a) empty)) y → ⊥
+full_consequent_stays y (test_stays n m o t d branches empty unnamed) = true≢false (sym empty)
+
+pub if_on_a_function_stays : (pure : Bool) (d branches : Forest) (y : Tree) → EmptyIf (an_if nowhere (Kind.Function function_kind.Arrow pure) nowhere d branches) y → ⊥
+if_on_a_function_stays pure d branches y (test_stays n m o t e b empty unnamed) = true≢false unnamed
 
 -- ---- a `try` around nothing
 

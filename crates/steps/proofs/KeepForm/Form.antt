@@ -1,19 +1,19 @@
 -- What is left of a program that breaks no rule of form breaks none.
-use Rattle.std.proofs.Common.{◌≡◌, ℕ, ◌+◌, suc, List, [], ◌∷◌, ◌++◌, false, None, refl, sym, ap, ◌∙◌}
+use Rattle.std.proofs.Common.{◌≡◌, ℕ, ◌+◌, suc, List, [], ◌∷◌, ◌++◌, ◌&&◌, Bool, true, false, not, None, refl, sym, ap, ◌∙◌}
 use Rattle.js_tree.specs.Count.{one_each, node_count}
 use Rattle.js_syntax.specs.declared.node_kind.NodeKind.{NodeKind as Kind}
-use Rattle.js_syntax.specs.declared.node_kind.NodeKind.TheVariants.{Program as program, EmptyStatement as empty_statement, ExpressionStatement as expression_statement}
+use Rattle.js_syntax.specs.declared.node_kind.NodeKind.TheVariants.{Program as program, EmptyStatement as empty_statement, ExpressionStatement as expression_statement, IfStatement as if_statement}
 use Rattle.js_syntax.specs.Node.{Note, Forest, nothing, node, absent, joined}
 use Rattle.form_rules.specs.declared.rule.Break.{Break}
-use Rattle.form_rules.specs.Break.{least}
+use Rattle.form_rules.specs.Break.{unless, least}
 use Rattle.form_rules.specs.Context as context
-use Rattle.form_rules.specs.Context.{Context, inside}
+use Rattle.form_rules.specs.Context.{Context, below_it, inside}
 use Rattle.form_rules.specs.Rules.{broken_at}
 use Rattle.form_rules.specs.Form.{broken_in, source_of, broken, IsWellFormed}
-use Rattle.steps.specs.KeepForm.Part.{is_asked_for, StandsFor, Replaces, by_part, by_parts}
+use Rattle.steps.specs.KeepForm.Part.{is_asked_for, is_tested, StandsFor, Replaces, by_part, by_parts, by_test}
 use Rattle.steps.specs.KeepForm.Sheds.{may_leave, Around, entered, outermost, Sheds, ends, keeps_absent, keeps, leaves, empties, empties_idle, becomes}
 use Rattle.steps.proofs.KeepForm.Contexts.{inside_same}
-use Rattle.steps.proofs.KeepForm.Asked.{idle_kinds, old_unasked, new_unasked}
+use Rattle.steps.proofs.KeepForm.Asked.{idle_kinds, tested_kinds, old_unasked, new_unasked}
 use Rattle.steps.proofs.KeepForm.Rows.{itself}
 use Rattle.steps.proofs.KeepForm.Alone.{passed_on, inside_alike, rules_alike}
 use Rattle.steps.proofs.KeepForm.Rebuilding.{moved, rebuilt_kept}
@@ -42,10 +42,34 @@ part_kept c k l a b p q part h =
     (moved b (inside d l b) (inside c l b) (λ x. sym (inside_alike c l b x part.unasked) ∙ ap (λ y. inside y l b x) (sym same) ∙ inside_alike d l b x part.unasked) 0 (there.1 + one_each l) (q + one_each l)
     (second_empty own below front))
 
+-- a statement of an expression breaks no rule itself
+alone_keeps : (alone : Bool) (place : ℕ) → (unless (not (alone && false)) place 11 ++ []) ++ [] ≡ []
+alone_keeps true place = refl
+alone_keeps false place = refl
+
+-- the test breaks none in a statement of it
+module _ (c : Context) (l : Kind) (i : Note) (b after : Forest) (p q : ℕ) where
+  abbrev NoneBroken : Type 0
+  NoneBroken = broken_at c expression_statement q (node l i b nothing) ++ broken_in (inside c expression_statement (node l i b nothing)) 0 (q + one_each expression_statement) (node l i b nothing) ≡ []
+
+  test_of_if : broken_in (inside c if_statement (node l i b after)) 0 p (node l i b after) ≡ [] → NoneBroken
+  test_of_if h =
+      let there : ℕ → Context = λ at. below_it c in
+      let own = broken_at (below_it c) l p b ++ broken_in (inside (below_it c) l b) 0 (p + one_each l) b in
+      both_empty (broken_at c expression_statement q (node l i b nothing)) (broken_in there 0 (q + one_each expression_statement) (node l i b nothing)) (alone_keeps c.is_alone q)
+      (moved (node l i b nothing) there there (λ at. refl) 0 p (q + one_each expression_statement)
+      (both_empty own [] (first_empty own (broken_in (inside c if_statement (node l i b after)) 1 (p + node_count (node l i b nothing)) after) h) refl))
+
+  test_kept : (k : Kind) → is_tested k ≡ true → broken_in (inside c k (node l i b after)) 0 p (node l i b after) ≡ [] → NoneBroken
+  test_kept k tested = tested_kinds (λ z. broken_in (inside c z (node l i b after)) 0 p (node l i b after) ≡ [] → NoneBroken) test_of_if k tested
+
 replaced_kept : (c : Context) (p q : ℕ) {k l : Kind} {n m : Note} {a b : Forest} → Replaces k n a l m b → broken_at c k p a ++ broken_in (inside c k a) 0 (p + one_each k) a ≡ []
     → broken_at c l q b ++ broken_in (inside c l b) 0 (q + one_each l) b ≡ []
 replaced_kept c p q {k = k} {l = l} {a = a} {b = b} (by_part part) h = part_kept c k l a b (p + one_each k) q part (second_empty (broken_at c k p a) (broken_in (inside c k a) 0 (p + one_each k) a) h)
 replaced_kept c p q {k = k} {l = l} {n = n} {m = m} {a = a} {b = b} (by_parts made) h = rebuilt_kept c k l n m a b p q made h
+replaced_kept c p q {k = k} (by_test {l = l} {i = i} {b = b} {after = after} tested unasked is none) h =
+    let below = node l i b after in
+    test_kept c l i b after (p + one_each k) q k tested (second_empty (broken_at c k p below) (broken_in (inside c k below) 0 (p + one_each k) below) h)
 
 -- Nodes have the contexts that they had: in a list all have the same one.
 pub form_kept : {w : Around} {t u : Forest} → Sheds w t u → (f g : ℕ → Context) → ((i j : ℕ) → (may_leave w.row ≡ false → i ≡ j) → g j ≡ f i) → (i j p q : ℕ) → (may_leave w.row ≡ false → i ≡ j) → broken_in f i p t ≡ [] → broken_in g j q u ≡ []

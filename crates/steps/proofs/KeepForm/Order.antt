@@ -5,7 +5,7 @@ use Rattle.js_syntax.specs.declared.node_kind.NodeKind.TheVariants.{Program as p
 use Rattle.js_syntax.specs.Node.{Note, Forest, nothing, node, absent, joined}
 use Rattle.form_rules.specs.Context.{has_use_strict}
 use Rattle.json_shape.specs.Shape.{is_directive_kind}
-use Rattle.steps.specs.KeepForm.Part.{gives_way, is_statement, is_asked_for, Replaces, by_part, by_parts}
+use Rattle.steps.specs.KeepForm.Part.{gives_way, is_statement, is_asked_for, Replaces, by_part, by_parts, by_test}
 use Rattle.steps.specs.KeepForm.Sheds.{Row, other, parts, items, row_below, may_leave, may_empty, may_give_way, Around, entered, Sheds, ends, keeps_absent, keeps, leaves, empties, empties_idle, becomes}
 use Rattle.steps.proofs.KeepForm.Rows.{stays_below, behind_left, is_usual, is_other}
 use Rattle.steps.proofs.KeepForm.Asked.{idle_kinds, old_unasked, new_unasked, alike, statement_may}
@@ -106,11 +106,22 @@ laid_part row nothing after l n b h = laid_below row l n b after h
 laid_part row (absent r) after l n b h = laid_part row r after l n b (laid_absent row (joined r (node l n b after)) h)
 laid_part row (node j m c r) after l n b h = laid_part row r after l n b (laid_behind row j m c (joined r (node l n b after)) h)
 
+either_true : (b : Bool) → (b || true) ≡ true
+either_true true = refl
+either_true false = refl
+
 laid_replaced : (w : Around) {k l : Kind} {n m : Note} {a b : Forest} → Replaces k n a l m b → may_give_way w.row w.is_asked k ≡ true → is_laid_out (row_below w.row k) a ≡ true → is_laid_out (row_below w.row l) b ≡ true
 laid_replaced w {k = k} {l = l} {b = b} (by_part part) may h =
     ap (λ row. is_laid_out row b) (same_row w k l part.gives part.unasked part.alike may)
     ∙ laid_part (row_below w.row k) part.before part.after l part.note b (ap (is_laid_out (row_below w.row k)) (sym part.is_part) ∙ h)
 laid_replaced w {l = l} {b = b} (by_parts made) may h = ap (λ row. is_laid_out row b) (is_other w.row l (of_expression l made.unasked made.expression)) ∙ made.laid_out
+laid_replaced w {k = k} (by_test {l = l} {i = i} {b = b} {after = after} tested unasked is none) may h =
+    let usual = of_expression l unasked is in
+    let inner = row_below w.row k in
+    ap (λ row. is_laid_out row (node l i b nothing)) (is_other w.row expression_statement refl)
+    ∙ both (is_directive_kind l || true) (stands_right other l b && (is_laid_out (row_below other l) b && true)) (either_true (is_directive_kind l))
+    (both (stands_right other l b) (is_laid_out (row_below other l) b && true) (right_there other l b unasked (λ statement. absurd (cc (statement, is))))
+    (both (is_laid_out (row_below other l) b) true (ap (λ row. is_laid_out row b) (is_other other l usual ∙ sym (is_other inner l usual)) ∙ laid_below inner l i b after h) refl))
 
 -- ---- first nodes, where nothing leaves
 

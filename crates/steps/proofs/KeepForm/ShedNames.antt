@@ -12,7 +12,7 @@ use Rattle.js_syntax.specs.declared.scalar.SourceType.{SourceType}
 use Rattle.form_rules.specs.Scope.{Declared, declared, declared_here, sought_below}
 use Rattle.form_rules.specs.Rules.{Exported, is_exported, is_declared}
 use Rattle.steps.specs.KeepForm.Sheds.{Around, exports_none, sought_inside, exported_below, Sheds, ends, keeps_absent, keeps, leaves, empties, empties_idle, becomes}
-use Rattle.steps.specs.KeepForm.Part.{StandsFor, RebuildsTo, Replaces, by_part, by_parts}
+use Rattle.steps.specs.KeepForm.Part.{StandsFor, RebuildsTo, Replaces, by_part, by_parts, by_test}
 use Rattle.steps.proofs.KeepForm.Asked.{old_unasked, no_name_here, is_of_catch, sought_alike, no_catch_below, no_catch_inside, not_asked}
 use Rattle.steps.proofs.KeepForm.Fewer.{Fewer, none, both, more, fewest, behind_all, beside, SameName}
 use Rattle.js_syntax.proofs.Truth.{second_of_either}
@@ -33,6 +33,19 @@ declares_nothing (scope f) p m t = refl
 declares_nothing variables p m t = refl
 declares_nothing function_scope p m t = refl
 declares_nothing (catch_scope f) p m t = refl
+
+-- a statement of an expression declares nothing
+nothing_of_expression : (s : Sought) (p : ℕ) (n : Note) (a r : Forest) → declared s p (node expression_statement n a r) ≡ declared s (p + node_count (alone expression_statement n a)) r
+nothing_of_expression none_sought p n a r = rw (none_declared (p + one_each expression_statement) a) refl
+nothing_of_expression (names f) p n a r = rw (none_declared (p + one_each expression_statement) a) refl
+nothing_of_expression (bound f) p n a r = rw (none_declared (p + one_each expression_statement) a) refl
+nothing_of_expression (scope f) p n a r = rw (none_declared (p + one_each expression_statement) a) refl
+nothing_of_expression variables p n a r = rw (none_declared (p + one_each expression_statement) a) refl
+nothing_of_expression function_scope p n a r = rw (none_declared (p + one_each expression_statement) a) refl
+nothing_of_expression (catch_scope f) p n a r = rw (none_declared (p + one_each expression_statement) a) refl
+
+of_statement : (s : Sought) (p : ℕ) (n : Note) (a : Forest) → declared_here s p expression_statement ++ declared (sought_below s expression_statement) (p + one_each expression_statement) a ≡ []
+of_statement s p n a = sym (append-nil (declared_here s p expression_statement ++ declared (sought_below s expression_statement) (p + one_each expression_statement) a)) ∙ nothing_of_expression s p n a nothing
 
 -- a name that stands here is the same, wherever here is
 same_here : (s : Sought) (p q : ℕ) (k : Kind) → Fewer Declared SameName (declared_here s p k) (declared_here s q k)
@@ -76,6 +89,8 @@ replaced_declared : (s : Sought) (p q : ℕ) {k l : Kind} {n m : Note} {a b : Fo
     → Fewer Declared SameName (declared_here s p l ++ declared (sought_below s l) (p + one_each l) b) (declared (sought_below s k) q a)
 replaced_declared s p q {k = k} {l = l} {a = a} {b = b} calm (by_part part) = part_declared s k l a b p q calm part
 replaced_declared s p q {k = k} {l = l} {n = n} {m = m} {a = a} {b = b} calm (by_parts made) = rw (rebuilt_declared s k l n m a b p made) (fewest (declared (sought_below s k) q a))
+replaced_declared s p q {k = k} {m = m} calm (by_test {l = l} {i = i} {b = b} {after = after} tested unasked is silent) =
+    rw (of_statement s p m (node l i b nothing)) (fewest (declared (sought_below s k) q (node l i b after)))
 
 pub fewer_declared : {w : Around} {t u : Forest} (s : Sought) (p q : ℕ) → (is_of_catch s ≡ true → w.is_asked ≡ true) → Sheds w t u → Fewer Declared SameName (declared s p u) (declared s q t)
 fewer_declared s p q catch ends = none
@@ -151,16 +166,6 @@ no_program_sought variables source = refl
 no_program_sought function_scope source = refl
 no_program_sought (catch_scope f) source = refl
 
--- a statement of an expression declares nothing
-nothing_of_expression : (s : Sought) (p : ℕ) (n : Note) (a r : Forest) → declared s p (node expression_statement n a r) ≡ declared s (p + node_count (alone expression_statement n a)) r
-nothing_of_expression none_sought p n a r = rw (none_declared (p + one_each expression_statement) a) refl
-nothing_of_expression (names f) p n a r = rw (none_declared (p + one_each expression_statement) a) refl
-nothing_of_expression (bound f) p n a r = rw (none_declared (p + one_each expression_statement) a) refl
-nothing_of_expression (scope f) p n a r = rw (none_declared (p + one_each expression_statement) a) refl
-nothing_of_expression variables p n a r = rw (none_declared (p + one_each expression_statement) a) refl
-nothing_of_expression function_scope p n a r = rw (none_declared (p + one_each expression_statement) a) refl
-nothing_of_expression (catch_scope f) p n a r = rw (none_declared (p + one_each expression_statement) a) refl
-
 -- below a program in a program nothing is sought
 kept_below : (x : List ℕ) (es : List Exported) (s : Sought) (k : Kind) (p q : ℕ) (a b : Forest) → is_exported x es ≡ true
     → (is_exported x (exported_below es k a) ≡ true → is_declared x (declared (sought_inside s k) q a) ≡ true → is_declared x (declared (sought_inside s k) p b) ≡ true)
@@ -203,10 +208,14 @@ still_by_part x s k l a b p q calm part h =
     amid_none false true c f g h = refl
     amid_none false false c f g h = absurd (cc (g, h))
 
+-- below what declares nothing nothing is declared
+below_nothing : (s : Sought) (k : Kind) (n : Note) (a : Forest) → declared s 0 (alone k n a) ≡ [] → declared (sought_below s k) (0 + one_each k) a ≡ []
+below_nothing s k n a silent =
+    no_second (declared_here s 0 k) (declared (sought_below s k) (0 + one_each k) a) (sym (append-nil (declared_here s 0 k ++ declared (sought_below s k) (0 + one_each k) a)) ∙ silent)
+
 -- below what is rebuilt nothing was declared
 nothing_below : (s : Sought) (k l : Kind) (n m : Note) (a b : Forest) → RebuildsTo k n a l m b → declared (sought_below s k) (0 + one_each k) a ≡ []
-nothing_below s k l n m a b made =
-    no_second (declared_here s 0 k) (declared (sought_below s k) (0 + one_each k) a) (sym (append-nil (declared_here s 0 k ++ declared (sought_below s k) (0 + one_each k) a)) ∙ made.none s 0)
+nothing_below s k l n m a b made = below_nothing s k n a (made.none s 0)
 
 still_replaced : (x : List ℕ) (s : Sought) (p q : ℕ) {k l : Kind} {n m : Note} {a b : Forest} → is_of_catch s ≡ false → Replaces k n a l m b → is_declared x (declared (sought_below s k) q a) ≡ true
     → is_declared x (declared (sought_below s l) p b) ≡ true
@@ -214,6 +223,10 @@ still_replaced x s p q {k = k} {l = l} {a = a} {b = b} calm (by_part part) h = s
 still_replaced x s p q {k = k} {l = l} {n = n} {m = m} {a = a} {b = b} calm (by_parts made) h =
     let there = declared_in_more x (same_anywhere (sought_below s k) q (0 + one_each k) a) h in
     absurd (cc (there, ap (is_declared x) (nothing_below s k l n m a b made)))
+still_replaced x s p q {k = k} {n = n} calm (by_test {l = l} {i = i} {b = b} {after = after} tested unasked is silent) h =
+    let below = node l i b after in
+    let there = declared_in_more x (same_anywhere (sought_below s k) q (0 + one_each k) below) h in
+    absurd (cc (there, ap (is_declared x) (below_nothing s k n below (silent s 0))))
 
 -- what is exported is declared by what is left
 pub still_declared : (x : List ℕ) (p q : ℕ) {w : Around} {t u : Forest} → is_of_catch w.sought ≡ false → Sheds w t u → is_exported x w.exported ≡ true

@@ -9,7 +9,7 @@ use Rattle.json_shape.specs.Shape.{is_directive_kind, Fits}
 use Rattle.scope_laws.specs.Lists.{is_list}
 use Rattle.scope_counts.specs.Edits as place
 use Rattle.scope_counts.specs.Edits.{Around, here, under, plug, in_list}
-use Rattle.steps.specs.KeepForm.Part.{gives_way, may_be_idle, is_asked_for}
+use Rattle.steps.specs.KeepForm.Part.{gives_way, may_be_idle, is_tested, is_asked_for}
 use Rattle.steps.specs.Allowed.Edits.{Edit}
 use Rattle.steps.proofs.Marked.Called.{called_below, called_at, NamesStay, no_list_called, calls_stay}
 use Rattle.steps.proofs.Marked.Local as local
@@ -20,6 +20,7 @@ pub data Cuts : (listed : Bool) → (t u : Forest) → Type 0 where
   leaves : (k : Kind) (n : Note) (below rest : Forest) → is_directive_kind k ≡ false → Cuts true (node k n below rest) rest
   empties : (listed : Bool) (n m : Note) (below rest : Forest) → Cuts listed (node expression_statement n below rest) (node empty_statement m nothing rest)
   empties_idle : (listed : Bool) (k : Kind) (n m : Note) (below rest : Forest) → may_be_idle k ≡ true → Cuts listed (node k n below rest) (node empty_statement m nothing rest)
+  tests : (listed : Bool) (k l : Kind) (n m i : Note) (b after rest : Forest) → is_tested k ≡ true → Cuts listed (node k n (node l i b after) rest) (node expression_statement m (node l i b nothing) rest)
   parts : (listed : Bool) (k l : Kind) (i j : Note) (b v w rest : Forest) → gives_way k ≡ true → is_asked_for l ≡ false → Cuts listed (node k i (joined v (node l j b w)) rest) (node l j b rest)
   rebuilds : (listed : Bool) (k l : Kind) (n m : Note) (a b rest : Forest) → IsRebuilt k n a l m b → Cuts listed (node k n a rest) (node l m b rest)
   inside : (listed : Bool) (k : Kind) (n : Note) (below now rest : Forest) → (is_some (eval_of_call k now) ≡ true → is_some (eval_of_call k below) ≡ true) → Cuts (is_list k) below now → Cuts listed (node k n below rest) (node k n now rest)
@@ -30,6 +31,7 @@ cut_here : (a : Around) (t u : Forest) → Local a t u → (listed : Bool) → i
 cut_here a t u (local.leaves k n b rest is plain weighs) listed e = subst (λ l. Cuts l (node k n b rest) rest) (sym is ∙ e) (leaves k n b rest plain)
 cut_here a t u (local.empties n m b rest) listed e = empties listed n m b rest
 cut_here a t u (local.empties_idle k n m b rest idle) listed e = empties_idle listed k n m b rest idle
+cut_here a t u (local.tests k l n m i b after rest tested) listed e = tests listed k l n m i b after rest tested
 cut_here a t u (local.parts k l i j b v w rest gives unasked uncalled) listed e = parts listed k l i j b v w rest gives unasked
 cut_here a t u (local.rebuilds k l n m b c rest made uncalled) listed e = rebuilds listed k l n m b c rest made
 
@@ -38,6 +40,7 @@ names_stay : (a : Around) (t u : Forest) → Local a t u → called_at false a �
 names_stay a t u (local.leaves k n b rest is plain weighs) c e = absurd (true≢false (sym is ∙ no_list_called a false false (λ g. refl) c))
 names_stay a t u (local.empties n m b rest) c e = absurd (true≢false (sym e))
 names_stay a t u (local.empties_idle k n m b rest idle) c e = absurd (true≢false (sym e))
+names_stay a t u (local.tests k l n m i b after rest tested) c e = absurd (true≢false (sym e))
 names_stay a t u (local.parts k l i j b v w rest gives unasked uncalled) c e = absurd (true≢false (sym e ∙ uncalled c))
 names_stay a t u (local.rebuilds k l n m b d rest made uncalled) c e = absurd (true≢false (sym e ∙ uncalled c))
 

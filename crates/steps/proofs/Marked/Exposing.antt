@@ -19,8 +19,8 @@ use Rattle.steps.specs.KeepForm.Part.{gives_way, is_asked_for}
 use Rattle.steps.specs.Owed.Kept.{is_program}
 use Rattle.steps.specs.Allowed.Exposure.{Exposure, in_code, in_block, declaring, shares, is_script_source, at_function_name, at_class_name, exposed_inside, beside_program}
 use Rattle.js_syntax.proofs.Truth.{first_of_either, second_of_either}
-use Rattle.steps.proofs.KeepForm.Asked.{idle_kinds}
-use Rattle.steps.proofs.Marked.Cuts.{Cuts, leaves, empties, empties_idle, parts, rebuilds, inside, behind, behind_none}
+use Rattle.steps.proofs.KeepForm.Asked.{idle_kinds, tested_kinds}
+use Rattle.steps.proofs.Marked.Cuts.{Cuts, leaves, empties, empties_idle, tests, parts, rebuilds, inside, behind, behind_none}
 use Rattle.steps.proofs.Marked.Rebuilding.{one_evals}
 
 -- ---- truth values
@@ -79,6 +79,10 @@ part_no_program l n b rest e = refl
 
 -- ---- calls of `eval`
 
+or_nothing : (b : Bool) → (b || false) ≡ true → b ≡ true
+or_nothing true e = e
+or_nothing false e = e
+
 evals_part : (v : Forest) (l : Kind) (j : Note) (b w : Forest) → Only (is_some (eval_of_call l b) || has_eval b) (has_eval (joined v (node l j b w)))
 evals_part nothing l j b w e = first_of_either (is_some (eval_of_call l b) || has_eval b) (has_eval w) e
 evals_part (absent v) l j b w e = evals_part v l j b w e
@@ -88,6 +92,11 @@ evals_stay : (listed : Bool) (t u : Forest) → Cuts listed t u → Only (has_ev
 evals_stay listed t u (leaves k n below rest plain) e = second_of_either (is_some (eval_of_call k below) || has_eval below) (has_eval rest) e
 evals_stay listed t u (empties r n m below rest) e = second_of_either (has_eval below) (has_eval rest) e
 evals_stay listed t u (empties_idle r k n m below rest idle) e = second_of_either (is_some (eval_of_call k below) || has_eval below) (has_eval rest) e
+evals_stay listed t u (tests r k l n m i b after rest tested) e =
+    let part = is_some (eval_of_call l b) || has_eval b in
+    let whole = node l i b after in
+    only_or (part || false) (has_eval rest) (is_some (eval_of_call k whole) || has_eval whole) (has_eval rest)
+    (λ h. second_of_either (is_some (eval_of_call k whole)) (has_eval whole) (first_of_either part (has_eval after) (or_nothing part h))) kept e
 evals_stay listed t u (parts r k l i j b v w rest gives unasked) e =
     let whole = joined v (node l j b w) in
     only_or (is_some (eval_of_call l b) || has_eval b) (has_eval rest) (is_some (eval_of_call k whole) || has_eval whole) (has_eval rest)
@@ -105,6 +114,7 @@ evals_behind : (listed : Bool) (t u : Forest) → Cuts listed t u → listed ≡
 evals_behind listed t u (leaves k n below rest plain) l e = absurd (true≢false l)
 evals_behind listed t u (empties r n m below rest) l e = e
 evals_behind listed t u (empties_idle r k n m below rest idle) l e = e
+evals_behind listed t u (tests r k x n m i b after rest tested) l e = e
 evals_behind listed t u (parts r k x i j b v w rest gives unasked) l e = e
 evals_behind listed t u (rebuilds r k x n m a b rest made) l e = e
 evals_behind listed t u (inside r k n below now rest called h) l e = e
@@ -124,6 +134,7 @@ use_strict_stays listed t u (leaves (kind.Directive written) n below rest plain)
 use_strict_stays listed t u (leaves k n below rest plain) e = never e
 use_strict_stays listed t u (empties r n m below rest) e = never e
 use_strict_stays listed t u (empties_idle r k n m below rest idle) e = never (idle_kinds (λ z. false ≡ has_use_strict (node z n below rest)) refl refl refl refl refl (λ label. refl) k idle ∙ e)
+use_strict_stays listed t u (tests r k l n m i b after rest tested) e = never (tested_kinds (λ z. false ≡ has_use_strict (node z n (node l i b after) rest)) refl k tested ∙ e)
 use_strict_stays listed t u (parts r k l i j b v w rest gives unasked) e = never (sym (no_directive k i (joined v (node l j b w)) rest gives) ∙ e)
 use_strict_stays listed t u (rebuilds r k l n m a b rest made) e = never (sym (part_no_directive k n a rest made.old_unasked) ∙ e)
 use_strict_stays listed t u (inside r (kind.Directive written) n below now rest called h) e = e
@@ -137,6 +148,7 @@ list_stays : (listed : Bool) (t u : Forest) → Cuts listed t u → listed ≡ f
 list_stays listed t u (leaves k n below rest plain) l e = absurd (true≢false l)
 list_stays listed t u (empties r n m below rest) l e = never e
 list_stays listed t u (empties_idle r k n m below rest idle) l e = never (idle_kinds (λ z. false ≡ is_strict_list (node z n below rest)) refl refl refl refl refl (λ label. refl) k idle ∙ e)
+list_stays listed t u (tests r k x n m i b after rest tested) l e = never (tested_kinds (λ z. false ≡ is_strict_list (node z n (node x i b after) rest)) refl k tested ∙ e)
 list_stays listed t u (parts r k x i j b v w rest gives unasked) l e = never (sym (no_list k i (joined v (node x j b w)) rest gives) ∙ e)
 list_stays listed t u (rebuilds r k x n m a b rest made) l e = never (sym (part_no_list k n a rest made.old_unasked) ∙ e)
 list_stays listed t u (inside r kind.Statements n below now rest called h) l e = use_strict_stays true below now h e
@@ -149,6 +161,7 @@ function_stays : (listed : Bool) (t u : Forest) → Cuts listed t u → listed �
 function_stays listed t u (leaves k n below rest plain) l e = absurd (true≢false l)
 function_stays listed t u (empties r n m below rest) l e = e
 function_stays listed t u (empties_idle r k n m below rest idle) l e = idle_kinds (λ z. is_strict_function rest ≡ is_strict_function (node z n below rest)) refl refl refl refl refl (λ label. refl) k idle ∙ e
+function_stays listed t u (tests r k x n m i b after rest tested) l e = tested_kinds (λ z. is_strict_function rest ≡ is_strict_function (node z n (node x i b after) rest)) refl k tested ∙ e
 function_stays listed t u (parts r k x i j b v w rest gives unasked) l e = part_no_body x j b rest unasked ∙ sym (whole_no_body k i (joined v (node x j b w)) rest gives) ∙ e
 function_stays listed t u (rebuilds r k x n m a b rest made) l e = part_no_body x m b rest made.unasked ∙ sym (part_no_body k n a rest made.old_unasked) ∙ e
 function_stays listed t u (inside r kind.FunctionBody n below now rest called h) l e = list_stays false below now h refl e
@@ -161,6 +174,7 @@ there_same : (listed : Bool) (t u : Forest) → Cuts listed t u → listed ≡ f
 there_same listed t u (leaves k n below rest plain) l = absurd (true≢false l)
 there_same listed t u (empties r n m below rest) l = refl
 there_same listed t u (empties_idle r k n m below rest idle) l = refl
+there_same listed t u (tests r k x n m i b after rest tested) l = refl
 there_same listed t u (parts r k x i j b v w rest gives unasked) l = refl
 there_same listed t u (rebuilds r k x n m a b rest made) l = refl
 there_same listed t u (inside r k n below now rest called h) l = refl
@@ -171,6 +185,7 @@ second_same : (listed : Bool) (t u : Forest) → Cuts listed t u → listed ≡ 
 second_same listed t u (leaves k n below rest plain) l = absurd (true≢false l)
 second_same listed t u (empties r n m below rest) l = refl
 second_same listed t u (empties_idle r k n m below rest idle) l = refl
+second_same listed t u (tests r k x n m i b after rest tested) l = refl
 second_same listed t u (parts r k x i j b v w rest gives unasked) l = refl
 second_same listed t u (rebuilds r k x n m a b rest made) l = refl
 second_same listed t u (inside r k n below now rest called h) l = refl
@@ -264,6 +279,7 @@ pub below_stays : (listed : Bool) (t u : Forest) → Cuts listed t u → listed 
 below_stays listed t u (leaves k n below rest plain) l is e = absurd (true≢false l)
 below_stays listed t u (empties r n m below rest) l is e = never e
 below_stays listed t u (empties_idle r k n m below rest idle) l is e = never e
+below_stays listed t u (tests r k x n m i b after rest tested) l is e = never (tested_kinds (λ z. false ≡ is_program (node z n (node x i b after) rest)) refl k tested ∙ is)
 below_stays listed t u (parts r k x i j b v w rest gives unasked) l is e = evals_part v x j b w (second_of_either (is_some (eval_of_call x b)) (has_eval b) e)
 below_stays listed t u (rebuilds r k x n m a b rest made) l is e = never (sym (part_no_program k n a rest made.old_unasked) ∙ is)
 below_stays listed t u (inside r k n below now rest called h) l is e = evals_stay (is_list k) below now h e

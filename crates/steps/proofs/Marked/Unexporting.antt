@@ -34,8 +34,8 @@ use Rattle.steps.specs.Owed.Kept.{is_program}
 use Rattle.steps.specs.Owed.Part.{DeclaresNothing}
 use Rattle.steps.proofs.Owed.FitsEdits.{edit_fits}
 use Rattle.steps.specs.Marked.Exports.{IsMarkedAmong, WasExported}
-use Rattle.steps.proofs.KeepForm.Asked.{idle_kinds}
-use Rattle.steps.proofs.Marked.Cuts.{Cuts, leaves, empties, empties_idle, parts, rebuilds, inside as cut_inside, behind, behind_none, edit_cuts}
+use Rattle.steps.proofs.KeepForm.Asked.{idle_kinds, tested_kinds, tested_gives}
+use Rattle.steps.proofs.Marked.Cuts.{Cuts, leaves, empties, empties_idle, tests, parts, rebuilds, inside as cut_inside, behind, behind_none, edit_cuts}
 use Rattle.steps.proofs.Marked.Telling.{no_program}
 use Rattle.steps.proofs.Marked.Exposing.{never, part_no_program, thinner_cuts}
 
@@ -322,6 +322,34 @@ module _ (e : BindingSite) (top : e.layer.scope ≡ 0) where
       (row_found all true rest qs ps i (suc j) next (other + scope_count (node k n below nothing)) some c (λ l. absurd (true≢false l)) h)
   cuts_found all listed t u (empties r n m below rest) qs ps i j next other some c f h = emptied_found all r kind.ExpressionStatement n m below rest qs ps i j next other some c f h
   cuts_found all listed t u (empties_idle r k n m below rest idle) qs ps i j next other some c f h = emptied_found all r k n m below rest qs ps i j next other some c f h
+  cuts_found all listed t u (tests r k l n m y b after rest tested) qs ps i j next other some c f h =
+      by (binding_in e (if all then own_sites (qs i) m kind.ExpressionStatement (node l y b nothing) else []) (collected (all || is_export kind.ExpressionStatement) (inside (qs i) next kind.ExpressionStatement (node l y b nothing)) 0 (next + opens_one kind.ExpressionStatement (node l y b nothing)) (node l y b nothing)) (collected all qs (suc i) (next + scope_count (node kind.ExpressionStatement m (node l y b nothing) nothing)) rest) h)
+    where
+      none_own_here : (a : Bool) → Among e (bindings_among (if a then own_sites (qs i) m kind.ExpressionStatement (node l y b nothing) else [])) → ⊥
+      none_own_here true g = g
+      none_own_here false g = g
+
+      as_all : (a : Bool) → a || false ≡ a
+      as_all true = refl
+      as_all false = refl
+
+      here_found : Among e (bindings_among (collected (all || is_export kind.ExpressionStatement) (inside (qs i) next kind.ExpressionStatement (node l y b nothing)) 0 (next + opens_one kind.ExpressionStatement (node l y b nothing)) (node l y b nothing))) → Found (collected (all || is_export k) (inside (ps j) other k (node l y b after)) 0 (other + opens_one k (node l y b after)) (node l y b after))
+      here_found g =
+          let gives = tested_gives k tested in
+          subst (λ a. Found (collected a (inside (ps j) other k (node l y b after)) 0 (other + opens_one k (node l y b after)) (node l y b after))) (sym (no_export all k gives))
+          (part_found all nothing l y b after (inside (qs i) next kind.ExpressionStatement (node l y b nothing) 0) (inside (ps j) other k (node l y b after)) 0 (next + opens_one kind.ExpressionStatement (node l y b nothing)) (other + opens_one k (node l y b after))
+          (Prim.omega (arith, some)) (λ at. let there = ahead_part (qs i) (ps j) next other some (c i j f) k (node l y b after) gives at in record { variables = there.variables; block = there.block; declaring = there.declaring })
+          (subst (λ a. Among e (bindings_among (collected a (inside (qs i) next kind.ExpressionStatement (node l y b nothing)) 0 (next + opens_one kind.ExpressionStatement (node l y b nothing)) (node l y b nothing)))) (as_all all) g))
+
+      by : InThree e (bindings_among (if all then own_sites (qs i) m kind.ExpressionStatement (node l y b nothing) else [])) (bindings_among (collected (all || is_export kind.ExpressionStatement) (inside (qs i) next kind.ExpressionStatement (node l y b nothing)) 0 (next + opens_one kind.ExpressionStatement (node l y b nothing)) (node l y b nothing)))
+          (bindings_among (collected all qs (suc i) (next + scope_count (node kind.ExpressionStatement m (node l y b nothing) nothing)) rest)) → Found (collected all ps j other (node k n (node l y b after) rest))
+      by (in_first g) = absurd (none_own_here all g)
+      by (in_second g) =
+          found_second (if all then own_sites (ps j) n k (node l y b after) else []) (collected (all || is_export k) (inside (ps j) other k (node l y b after)) 0 (other + opens_one k (node l y b after)) (node l y b after)) (collected all ps (suc j) (other + scope_count (node k n (node l y b after) nothing)) rest)
+          (here_found g)
+      by (in_third g) =
+          found_third (if all then own_sites (ps j) n k (node l y b after) else []) (collected (all || is_export k) (inside (ps j) other k (node l y b after)) 0 (other + opens_one k (node l y b after)) (node l y b after)) (collected all ps (suc j) (other + scope_count (node k n (node l y b after) nothing)) rest)
+          (row_found all r rest qs ps (suc i) (suc j) (next + scope_count (node kind.ExpressionStatement m (node l y b nothing) nothing)) (other + scope_count (node k n (node l y b after) nothing)) (Prim.omega (arith, some)) c (λ a. ap suc (f a)) g)
   cuts_found all listed t u (parts r k l m n b v w rest gives unasked) qs ps i j next other some c f h =
       let whole = joined v (node l n b w) in
       by whole refl (binding_in e (if all then own_sites (qs i) n l b else []) (collected (all || is_export l) (inside (qs i) next l b) 0 (next + opens_one l b) b) (collected all qs (suc i) (next + scope_count (node l n b nothing)) rest) h)
@@ -396,6 +424,7 @@ module _ (e : BindingSite) (top : e.layer.scope ≡ 0) where
   root_found listed t u (leaves k n below rest plain) l is h = absurd (true≢false l)
   root_found listed t u (empties r n m below rest) l is h = never is
   root_found listed t u (empties_idle r k n m below rest idle) l is h = never (idle_kinds (λ z. false ≡ is_program (node z n below rest)) refl refl refl refl refl (λ label. refl) k idle ∙ is)
+  root_found listed t u (tests r k x n m y b after rest tested) l is h = never (tested_kinds (λ z. false ≡ is_program (node z n (node x y b after) rest)) refl k tested ∙ is)
   root_found listed t u (parts r k x m n b v w rest gives unasked) l is h = never (sym (no_program k m (joined v (node x n b w)) rest gives) ∙ is)
   root_found listed t u (rebuilds r k x n m a b rest made) l is h = never (sym (part_no_program k n a rest made.old_unasked) ∙ is)
   root_found listed t u (cut_inside r (kind.Program source) n below now rest called x) l is h =

@@ -9,6 +9,7 @@ use Rattle.js_syntax.proofs.Truth.{not_true, first_of_both, second_of_both}
 use Rattle.js_meaning_near.specs.Near.{is_calm}
 use Rattle.json_shape.specs.Shape.{Values, kind_in, first_of, IsOf, Stand}
 use Rattle.steps.specs.Allowed.Branches.{is_branch}
+use Rattle.steps.specs.Allowed.EmptyIf.{begins_no_statement}
 use Rattle.steps.specs.Allowed.Uses.{Use, stands_bare}
 use Rattle.steps.specs.KeepForm.Part.{is_statement, is_asked_for}
 use Rattle.steps.specs.Owed.TakesPlace.{is_told_by_class}
@@ -115,6 +116,14 @@ module _ (k : Kind) (b : Forest) (of : IsExpression k b) where
 
   named_or_unasked : (may_be_named k || not (is_asked_for k)) ≡ true
   named_or_unasked = first_of_both (may_be_named k || not (is_asked_for k)) (not (is_statement k)) (second_of_both (is_told_by_class k) ((may_be_named k || not (is_asked_for k)) && not (is_statement k)) quiet_kind)
+
+  pub unnamed_unasked : begins_no_statement k ≡ false → is_asked_for k ≡ false
+  unnamed_unasked unnamed = not_true (is_asked_for k) (ap (λ n. n || not (is_asked_for k)) (sym unnamed ∙ same_kinds k) ∙ named_or_unasked)
+    where
+      same_kinds : (k : Kind) → begins_no_statement k ≡ may_be_named k
+      same_kinds (function how pure) = refl
+      same_kinds (class how) = refl
+      same_kinds k = refl
 
   pub bare_unasked : (u : Use) (in_with : Bool) → stands_bare u in_with k b ≡ true → is_asked_for k ≡ false
   bare_unasked u in_with bare = not_true (is_asked_for k) (ap (λ n. n || not (is_asked_for k)) (sym (nameless u in_with k b bare)) ∙ named_or_unasked)

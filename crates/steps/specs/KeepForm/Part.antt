@@ -1,8 +1,8 @@
--- What may stand in a node's place, as far as the rules of form ask: a part of it, or what is built of its parts.
+-- What may stand in a node's place, as far as the rules of form ask: a part of it, what is built of its parts, or a statement of its test.
 use Rattle.std.specs.Prelude.{◌≡◌, ℕ, [], Bool, true, false}
 use Rattle.js_syntax.specs.declared.node_kind.NodeKind.{NodeKind as Kind}
 use Rattle.js_syntax.specs.declared.node_kind.NodeKind.TheVariants.{Program as program, Directive as directive, Statements as statements, FunctionBody as function_body, ExpressionStatement as expression_statement, EmptyStatement as empty_statement, DebuggerStatement as debugger_statement, BlockStatement as block_statement, StaticBlock as static_block, Cases as cases, SwitchCase as switch_case, SwitchStatement as switch_statement, LabeledStatement as labeled_statement, BreakStatement as break_statement, ContinueStatement as continue_statement, ReturnStatement as return_statement, ThrowStatement as throw_statement, TryStatement as try_statement, CatchClause as catch_clause, IfStatement as if_statement, WithStatement as with_statement, WhileStatement as while_statement, DoWhileStatement as do_while_statement, ForStatement as for_statement, ForInStatement as for_in_statement, ForOfStatement as for_of_statement, Function as function, Class as class, ClassBody as class_body, Members as members, MethodDefinition as method_definition, PropertyDefinition as property_definition, BindingName as binding_name, PrivateName as private_name, Super as super, ConditionalExpression as conditional_expression, UnaryExpression as unary_expression, BinaryExpression as binary_expression, LogicalExpression as logical_expression, SequenceExpression as sequence_expression, TemplateLiteral as template_literal, VariableDeclaration as variable_declaration, Declarators as declarators, VariableDeclarator as variable_declarator, Parameters as parameters, Properties as properties, Elements as elements, Specifiers as specifiers, BindingRest as binding_rest, TargetRest as target_rest, BindingObject as binding_object, BindingArray as binding_array, BindingProperty as binding_property, BindingDefault as binding_default, ImportDeclaration as import_declaration, ImportSpecifier as import_specifier, ImportDefaultSpecifier as import_default_specifier, ImportNamespaceSpecifier as import_namespace_specifier, ExportNamedDeclaration as export_named_declaration, ExportSpecifier as export_specifier, ForeignSpecifier as foreign_specifier, ExportDefaultDeclaration as export_default_declaration, ExportAllDeclaration as export_all_declaration}
-use Rattle.js_syntax.specs.Node.{Note, Forest, node, joined, alone}
+use Rattle.js_syntax.specs.Node.{Note, Forest, nothing, node, joined, alone}
 use Rattle.js_rebuilt.specs.Rebuilt.{Rebuilt}
 use Rattle.form_rules.specs.declared.sought.Sought.{Sought}
 use Rattle.form_rules.specs.Scope.{sought_below, declared}
@@ -136,6 +136,14 @@ pub record RebuildsTo (old : Kind) (n : Note) (below : Forest) (new : Kind) (m :
   pub still_none : (s : Sought) (place : ℕ) → declared s place (alone new m inner) ≡ []
   pub laid_out : is_laid_out other inner ≡ true
 
-pub data Replaces (old : Kind) (n : Note) (below : Forest) (new : Kind) (m : Note) (inner : Forest) : Type 0 where
-  by_part : StandsFor old below new inner → Replaces old n below new m inner
-  by_parts : RebuildsTo old n below new m inner → Replaces old n below new m inner
+-- statements whose test is an expression in the context that they are in
+abbrev pub is_tested : Kind → Bool
+is_tested if_statement = true
+is_tested k = false
+
+pub data Replaces : (old : Kind) (n : Note) (below : Forest) (new : Kind) (m : Note) (inner : Forest) → Type 0 where
+  by_part : {old new : Kind} {n m : Note} {below inner : Forest} → StandsFor old below new inner → Replaces old n below new m inner
+  by_parts : {old new : Kind} {n m : Note} {below inner : Forest} → RebuildsTo old n below new m inner → Replaces old n below new m inner
+  -- a statement that declares nothing comes to one of its test
+  by_test : {k l : Kind} {n m i : Note} {b after : Forest} → is_tested k ≡ true → is_asked_for l ≡ false → is_statement l ≡ false → ((s : Sought) (place : ℕ) → declared s place (alone k n (node l i b after)) ≡ [])
+      → Replaces k n (node l i b after) expression_statement m (node l i b nothing)

@@ -1,6 +1,6 @@
 -- What a program may lose so that no rule of form is broken by it: items of lists of statements, declarators of such items, names of
 -- imports, expressions that are statements, statements that do nothing and declare nothing, and what stands around a part of a node,
--- or around those of an expression.
+-- around those of an expression, or behind a statement's test.
 use Rattle.std.specs.Prelude.{◌≡◌, ℕ, List, [], ◌∷◌, Bool, true, false, not, ◌&&◌, ◌||◌, ◌==◌}
 use Rattle.js_syntax.specs.declared.node_kind.NodeKind.{NodeKind as Kind}
 use Rattle.js_syntax.specs.declared.node_kind.NodeKind.TheVariants.{Program as program, ExpressionStatement as expression_statement, EmptyStatement as empty_statement, LabeledStatement as labeled_statement, UnaryExpression as unary_expression, ParenthesizedExpression as parenthesized_expression}
@@ -88,6 +88,6 @@ pub data Sheds : Around → (t u : Forest) → Type 0 where
   -- a statement that declares nothing becomes empty, but for a loop behind its label, which `continue` may ask for (ECMA-262 14.8.1)
   empties_idle : {w : Around} {k : Kind} {n m : Note} {a r s : Forest} → may_be_idle k ≡ true → (w.is_labeled ≡ true → is_loop (node k n a r) ≡ false) → may_empty w.row ≡ true
       → ((place : ℕ) → declared w.sought place (alone k n a) ≡ []) → Sheds w r s → Sheds w (node k n a r) (node empty_statement m nothing s)
-  -- a part of a node stands for it, or an expression is rebuilt of its parts
+  -- a part of a node stands for it, an expression is rebuilt of its parts, or a statement comes to one of its test
   becomes : {w : Around} {k l : Kind} {n m : Note} {a b r s : Forest} → Replaces k n a l m b → may_give_way w.row w.is_asked k ≡ true → may_come_out w.is_deleted (alone l m b) ≡ true → Sheds w r s
       → Sheds w (node k n a r) (node l m b s)

@@ -1,5 +1,5 @@
 // Small programs that the definitions are tried on.
-ghost use Rattle.std.specs.Prelude.{pos, negsuc, List, [], ◌∷◌, true, false, ◌≡◌, codes};
+ghost use Rattle.std.specs.Prelude.{pos, negsuc, List, [], ◌∷◌, true, false, ◌≡◌, codes, Bool};
 ghost use Rattle.js_syntax.specs.declared.kind.VariableKind.{VariableKind};
 ghost use Rattle.js_syntax.specs.declared.kind.VariableKind.TheVariants as variable;
 ghost use Rattle.js_syntax.specs.declared.node_kind.NodeKind.{NodeKind as Kind};
@@ -27,6 +27,8 @@ ghost use Rattle.steps.specs.Allowed.IdleStatement.{IdleStatement};
 ghost use Rattle.steps.specs.Allowed.UnrunValue.{UnrunValue};
 ghost use Rattle.steps.specs.Allowed.IdleTry.{IdleTry};
 ghost use Rattle.steps.specs.Allowed.IdleBody.{IdleBody};
+ghost use Rattle.js_syntax.specs.declared.kind.FunctionKind.TheVariants as function_kind;
+ghost use Rattle.steps.specs.Allowed.EmptyIf.{EmptyIf};
 ghost use Rattle.steps.specs.Allowed.EmptyBlock.{EmptyBlock};
 ghost use Rattle.steps.specs.Allowed.Edits.{Edit};
 ghost use Rattle.steps.specs.Allowed.Rows.{before, breaks_label, labeled, labeled_too, tried, tried_finally, finally_alone, while_, for_, loop, branch_of_if, in_list, past, in_branch, in_function, in_function_by, value_of_a, zero, debugger, throwing_block, throwing_branch, broken_label, throws, behind_throw, call_of_a, null, if_one, if_null, either_way, conditional, logical, may_be_named, o_f, parenthesized, called, called_in_parentheses, called_in_with, argument, operand, applied, equals, difference, sum, text, empty_text, template, tagged, assigned, statement, ComesOut, Stays, StaysUnused, array, spread, hole, sequence, ListStays, ChoiceStays, PartsStay, SidesStay, object, a_is, b_is, getter_of_a, keyed_by, method_by, not_a, ObjectStays, literal, operation, OperationStays, behind_zero, placed, StaysDirect, FollowsNone, with_a, in_with_a, empty, a_is_read, a_is_exported, imports_nothing, behind_import, behind_other};
@@ -185,6 +187,17 @@ pub fn idle_bodies_become_empty()
     ensures variable { (n : Note) (y : Tree) → IdleBody (in_list (under Kind.WhileStatement nowhere (past (reads a) (first nothing)) nothing)) (record { kind = Kind.WhileStatement; note = n; below = joined null (block (var_ a ∷ [])) }) y → ⊥ }
     ensures of_try { (x y : Tree) → IdleBody (in_list (under Kind.TryStatement nowhere (first (absent (block []))) nothing)) x y → ⊥ }
     ensures behind_label { (x y : Tree) → IdleBody (in_list (under (Kind.LabeledStatement (codes "l")) nowhere (first nothing) nothing)) x y → ⊥ }
+{}
+
+/// An `if` whose branches are empty becomes a statement of its test, wherever it stands. It stays where a branch is more, or where the test
+/// is a function.
+pub fn empty_ifs_become_their_tests()
+    ensures one_branch { Edit (a_module (either_way call_of_a empty no ∷ [])) (a_module (does call_of_a ∷ [])) }
+    ensures both_branches { Edit (a_module (either_way (reads a) empty empty ∷ [])) (a_module (does (reads a) ∷ [])) }
+    ensures branch { Edit (a_module (if_one (either_way call_of_a empty no) ∷ [])) (a_module (if_one (does call_of_a) ∷ [])) }
+    ensures full { (y : Tree) → EmptyIf (an_if nowhere (Kind.ReferenceName a) nowhere nothing (joined empty (does call_of_a))) y → ⊥ }
+    ensures only_alternate { (y : Tree) → EmptyIf (an_if nowhere (Kind.ReferenceName a) nowhere nothing (joined (does call_of_a) empty)) y → ⊥ }
+    ensures function { (pure : Bool) (d branches : Forest) (y : Tree) → EmptyIf (an_if nowhere (Kind.Function function_kind.Arrow pure) nowhere d branches) y → ⊥ }
 {}
 
 /// A `try` around nothing becomes its finalizer, wherever it stands, or its block where it has none. It stays where its block holds

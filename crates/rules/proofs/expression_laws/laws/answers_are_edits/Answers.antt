@@ -8,6 +8,7 @@ use Rattle.rules.proofs.Expressions.Sequences.{sequence_edits_there}
 use Rattle.rules.proofs.Expressions.TwoSides.{two_sides_edits_there}
 use Rattle.rules.proofs.Expressions.Objects.{object_edits_there}
 use Rattle.rules.proofs.Expressions.Operations.{known_edits}
+use Rattle.rules.proofs.Expressions.EmptyIfs.{empty_if_edits}
 use Rattle.rules.proofs.Expressions.Ifs.{if_edits}
 use Rattle.rules.proofs.Expressions.Untaken.{left_edits}
 use Rattle.rules.proofs.Expressions.Jumps.{list_edits}
@@ -54,3 +55,6 @@ returns-clause-untaken c = left_edits
 
 pub returns-clause-items : goal.returns-clause-items
 returns-clause-items c = list_edits
+
+pub returns-clause-test : goal.returns-clause-test
+returns-clause-test c = empty_if_edits

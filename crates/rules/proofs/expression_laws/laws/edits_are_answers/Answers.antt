@@ -8,6 +8,7 @@ use Rattle.rules.proofs.Expressions.Sequences.{sequence_answers_there}
 use Rattle.rules.proofs.Expressions.TwoSides.{two_sides_answers_there}
 use Rattle.rules.proofs.Expressions.Objects.{object_answers_there}
 use Rattle.rules.proofs.Expressions.Operations.{known_answers}
+use Rattle.rules.proofs.Expressions.EmptyIfs.{empty_if_answers}
 use Rattle.rules.proofs.Expressions.Ifs.{known_if_answers, dead_if_answers, idle_try_answers}
 use Rattle.rules.proofs.expression_laws.laws.edits_are_answers.Goals as goal
 
@@ -49,3 +50,6 @@ returns-clause-dead_if c = dead_if_answers
 
 pub returns-clause-idle_try : goal.returns-clause-idle_try
 returns-clause-idle_try c = idle_try_answers
+
+pub returns-clause-empty_if : goal.returns-clause-empty_if
+returns-clause-empty_if c = empty_if_answers
