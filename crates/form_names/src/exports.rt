@@ -25,13 +25,26 @@ pub fn first_repeated_export(
     Ok(first)
 }
 
-/// Where a name is exported that isn't declared: a break of rule 7.
+/// Where a name is exported that isn't declared: a break of rule 7. Where none is exported, declared ones aren't looked at.
 pub fn first_undeclared(
     alloc: Global,
     declared: &[Declared],
     exported: &[Exported],
 ) -> Result<Option<Break>, AllocError>
     ensures first { IfOk result (λ b. b ≡ least (each_breaks 7 (undeclared declared.now exported.now))) }
+{
+    match exported {
+        [] => Ok(None),
+        [_, ..] => undeclared_among(alloc, declared, exported),
+    }
+}
+
+fn undeclared_among(
+    alloc: Global,
+    declared: &[Declared],
+    exported: &[Exported],
+) -> Result<Option<Break>, AllocError>
+    ensures { IfOk result (λ b. b ≡ least (each_breaks 7 (undeclared declared.now exported.now))) }
 {
     let names = declared_names(alloc, declared)?;
     let mut first = None;

@@ -5,6 +5,7 @@ ghost use Rattle.form_names.specs.Names.{known_at};
 ghost use Rattle.form_names.specs.Halves.{no_halves, with_half, any_repeated};
 
 use form_rules::Half;
+use name_digest::digest;
 use std::alloc::AllocError;
 use std::collections::BTreeMap;
 
@@ -65,7 +66,7 @@ impl Halves {
 
 /// Declares a private name, and tells as what it was declared before.
 pub(crate) fn declare_half<'a>(
-    known: &mut BTreeMap<&'a str, Halves>,
+    known: &mut BTreeMap<(u64, &'a str), Halves>,
     name: &'a str,
     half: Half,
     is_static: bool,
@@ -75,7 +76,8 @@ pub(crate) fn declare_half<'a>(
         known_at no_halves known.new q
         ≡ if bytes_eq name.now q then with_half half is_static (known_at no_halves known.old q) else known_at no_halves known.old q) }
 {
-    let before = known.get(name).copied().unwrap_or(Halves::none());
-    known.insert(name, before.with(half, is_static))?;
+    let key = (digest(0, name), name);
+    let before = known.get(&key).copied().unwrap_or(Halves::none());
+    known.insert(key, before.with(half, is_static))?;
     Ok(before)
 }

@@ -6,6 +6,7 @@ ghost use Rattle.form_names.specs.Names.{known_at};
 ghost use Rattle.form_names.specs.Sorts.{no_sorts, with_sort, any_clash};
 
 use form_rules::Sort;
+use name_digest::digest;
 use std::alloc::AllocError;
 use std::collections::BTreeMap;
 
@@ -94,7 +95,7 @@ impl Sorts {
 
 /// Declares a name, and tells how it was declared before.
 pub(crate) fn declare<'a>(
-    known: &mut BTreeMap<&'a str, Sorts>,
+    known: &mut BTreeMap<(u64, &'a str), Sorts>,
     name: &'a str,
     sort: Sort,
 ) -> Result<Sorts, AllocError>
@@ -103,7 +104,8 @@ pub(crate) fn declare<'a>(
         known_at no_sorts known.new q
         ≡ if bytes_eq name.now q then with_sort sort (known_at no_sorts known.old q) else known_at no_sorts known.old q) }
 {
-    let before = known.get(name).copied().unwrap_or(Sorts::none());
-    known.insert(name, before.with(sort))?;
+    let key = (digest(0, name), name);
+    let before = known.get(&key).copied().unwrap_or(Sorts::none());
+    known.insert(key, before.with(sort))?;
     Ok(before)
 }

@@ -1,5 +1,5 @@
 -- Bindings that are numbered in the order of their first declarations.
-use Rattle.std.proofs.Common.{◌≡◌, ◌∙◌, ◌<◌, ◌≤◌, ◌+◌, ◌&&◌, ◌||◌, ℕ, suc, List, [], ◌∷◌, ◌++◌, Bool, true, false, Option, Some, None, is_some, if◌then◌else◌, cond, length, get_or, drop, map, drop_of_length-le, append_assoc, append-nil, length-append, arith, refl, sym, ap, subst}
+use Rattle.std.proofs.Common.{◌≡◌, ◌∙◌, ◌<◌, ◌≤◌, ◌+◌, ◌&&◌, ◌||◌, ℕ, suc, List, [], ◌∷◌, ◌++◌, Bool, true, false, Option, Some, None, is_some, if◌then◌else◌, length, get_or, drop, map, drop_of_length-le, append_assoc, append-nil, length-append, arith, refl, sym, ap, subst}
 use Rattle.std.specs.Bool.{nat_eq}
 use Rattle.std.specs.Str.{bytes_eq}
 use Rattle.std.proofs.lemmas.Bool.Decides.{Decides-eqb}
@@ -7,7 +7,7 @@ use Rattle.std.proofs.lemmas.Slice.Eq.{bytes_eq-Decides}
 use Rattle.js_tree.proofs.Rows.{front_of}
 use Rattle.scope_rules.specs.Site.{BindingSite}
 use Rattle.scope_rules.specs.Binding.{Binding, declared_by}
-use Rattle.scope_rules.specs.Table.{same_flag, same_binding, is_among, new_behind, symbols_of, number_from, symbol_of}
+use Rattle.scope_rules.specs.Table.{same_flag, same_binding, is_among, new_behind, symbols_of, number_from}
 use Rattle.js_syntax.proofs.Truth.{first_of_both, second_of_both}
 
 -- ---- one binding or two

@@ -1,10 +1,10 @@
 -- Layers that names are declared in, as a list of declarations grows.
-use Rattle.std.proofs.Common.{◌≡◌, ◌∙◌, ◌<◌, ◌≤◌, ◌+◌, ◌&&◌, ◌||◌, ℕ, List, [], ◌∷◌, Bool, true, false, Option, Some, if◌then◌else◌, length, get_or, drop, drop_of_length-le, refl, sym, ap}
+use Rattle.std.proofs.Common.{◌≡◌, ◌∙◌, ◌<◌, ◌≤◌, ◌+◌, ◌&&◌, ◌||◌, ℕ, List, Bool, true, false, length, get_or, drop, drop_of_length-le, refl, sym, ap}
 use Rattle.std.specs.Str.{bytes_eq}
 use Rattle.js_tree.proofs.Rows.{front_of}
 use Rattle.scope_rules.specs.declared.layer.Layer.{Layer}
 use Rattle.scope_rules.specs.Site.{BindingSite}
-use Rattle.scope_rules.specs.Binding.{same_layer, is_declared, binding_layer}
+use Rattle.scope_rules.specs.Binding.{same_layer, is_declared}
 
 turned : (a b c : Bool) → (a || b) || c ≡ b || (a || c)
 turned true true c = refl

@@ -6,7 +6,7 @@ use Rattle.scope_names.specs.declared.numbers.Numbers.{Numbers}
 use Rattle.scope_names.specs.Keys.{at}
 use denote.Ref.{Bor}
 
-abbrev pub numbers_in : Numbers → (is_own : Bool) → BTreeMap (ℕ × Bor (List ℕ)) ℕ
+abbrev pub numbers_in : Numbers → (is_own : Bool) → BTreeMap (ℕ × ℕ × Bor (List ℕ)) ℕ
 numbers_in n true = n.own_names
 numbers_in n false = n.names
 

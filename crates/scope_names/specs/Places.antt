@@ -8,7 +8,7 @@ use Rattle.scope_names.specs.declared.places.Places.{Places}
 use Rattle.scope_names.specs.Keys.{has}
 use denote.Ref.{Bor}
 
-abbrev pub names_in : Places → Part → BTreeSet (ℕ × Bor (List ℕ))
+abbrev pub names_in : Places → Part → BTreeSet (ℕ × ℕ × Bor (List ℕ))
 names_in p own_name = p.own_names
 names_in p parameters = p.parameters
 names_in p body = p.bodies

@@ -6,6 +6,7 @@ ghost use Rattle.scope_rules.specs.Table.{same_binding, symbol_of, symbols_of};
 ghost use Rattle.scope_names.specs.Keys.{at};
 ghost use Rattle.scope_names.specs.Numbers.{number_at};
 
+use name_digest::digest;
 use scope_context::BindingSite;
 use scope_rules::{Layer, Part};
 use std::alloc::{AllocError, Global};
@@ -70,29 +71,32 @@ impl<'a> First<'a> {
     }
 }
 
+/// By what names are sought: most differ in their digests, and are told apart by these.
+pub(crate) type Key<'a> = (u64, u32, &'a str);
+
 // The numbers of own names, and of all other names.
 #[derive(Drop)]
 pub(crate) struct Numbers<'a> {
-    own_names: BTreeMap<(u32, &'a str), u32>,
-    names: BTreeMap<(u32, &'a str), u32>,
+    own_names: BTreeMap<Key<'a>, u32>,
+    names: BTreeMap<Key<'a>, u32>,
 }
 
 fn put<'a>(
-    numbers: &mut BTreeMap<(u32, &'a str), u32>,
+    numbers: &mut BTreeMap<Key<'a>, u32>,
     scope: u32,
     name: &'a str,
     number: u32,
 ) -> Result<(), AllocError>
     ensures { OnOk result ((s : ℕ) (q : List ℕ) → at numbers.new s q ≡ if nat_eq scope s && bytes_eq name.now q then Some number else at numbers.old s q) }
 {
-    numbers.insert((scope, name), number)?;
+    numbers.insert((digest(scope, name), scope, name), number)?;
     Ok(())
 }
 
-fn get<'a>(numbers: &BTreeMap<(u32, &'a str), u32>, scope: u32, name: &'a str) -> Option<u32>
+fn get<'a>(numbers: &BTreeMap<Key<'a>, u32>, scope: u32, name: &'a str) -> Option<u32>
     ensures { result ≡ at numbers.now scope name.now }
 {
-    numbers.get(&(scope, name)).copied()
+    numbers.get(&(digest(scope, name), scope, name)).copied()
 }
 
 impl<'a> Numbers<'a> {

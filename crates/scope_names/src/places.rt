@@ -6,6 +6,8 @@ ghost use Rattle.scope_rules.specs.Binding.{same_layer, is_declared};
 ghost use Rattle.scope_names.specs.Keys.{has};
 ghost use Rattle.scope_names.specs.Places.{is_placed};
 
+use crate::numbers::Key;
+use name_digest::digest;
 use scope_context::BindingSite;
 use scope_rules::{Layer, Part};
 use std::alloc::{AllocError, Global};
@@ -14,19 +16,15 @@ use std::collections::BTreeSet;
 // Names with the numbers of their scopes, for each part of a scope.
 #[derive(Drop)]
 pub(crate) struct Places<'a> {
-    own_names: BTreeSet<(u32, &'a str)>,
-    parameters: BTreeSet<(u32, &'a str)>,
-    bodies: BTreeSet<(u32, &'a str)>,
+    own_names: BTreeSet<Key<'a>>,
+    parameters: BTreeSet<Key<'a>>,
+    bodies: BTreeSet<Key<'a>>,
 }
 
-fn add<'a>(
-    places: &mut BTreeSet<(u32, &'a str)>,
-    scope: u32,
-    name: &'a str,
-) -> Result<(), AllocError>
+fn add<'a>(places: &mut BTreeSet<Key<'a>>, scope: u32, name: &'a str) -> Result<(), AllocError>
     ensures { OnOk result ((s : ℕ) (q : List ℕ) → has places.new s q ≡ (nat_eq scope s && bytes_eq name.now q) || has places.old s q) }
 {
-    places.insert((scope, name))?;
+    places.insert((digest(scope, name), scope, name))?;
     Ok(())
 }
 
@@ -54,7 +52,7 @@ impl<'a> Places<'a> {
     pub(crate) fn have(&self, layer: Layer, name: &'a str) -> bool
         ensures { result ≡ is_placed self.now layer name.now }
     {
-        let place = (layer.scope, name);
+        let place = (digest(layer.scope, name), layer.scope, name);
         match layer.part {
             Part::OwnName => self.own_names.contains(&place),
             Part::Parameters => self.parameters.contains(&place),

@@ -1,4 +1,4 @@
-use Rattle.std.proofs.Common.{◌≡◌, ◌∙◌, ◌&&◌, ◌||◌, ap}
+use Rattle.std.proofs.Common.{◌∙◌, ◌&&◌, ◌||◌, ap}
 use Rattle.std.specs.Str.{bytes_eq}
 use Rattle.scope_rules.specs.Binding.{same_layer}
 use Rattle.scope_names.specs.Places.{is_placed}

@@ -1,4 +1,4 @@
-use Rattle.std.proofs.Common.{◌≡◌, ◌∙◌, ◌&&◌, false, is_some, sym, ap}
+use Rattle.std.proofs.Common.{◌∙◌, ◌&&◌, false, is_some, sym, ap}
 use Rattle.scope_rules.specs.Binding.{Binding}
 use Rattle.scope_rules.specs.Table.{is_among, symbols_of}
 use Rattle.scope_names.specs.Numbers.{number_at}

@@ -2,7 +2,7 @@ use Rattle.std.proofs.Common.{◌≡◌, ◌∙◌, ap, drop_of_length-le}
 use Rattle.form_rules.specs.Rules.{is_declared, undeclared}
 use Rattle.form_names.proofs.Firsts.{first_of_none}
 use Rattle.form_names.proofs.Repeating.{undeclared_more}
-use Rattle.form_names.proofs.exports.first_undeclared.Goals as goal
+use Rattle.form_names.proofs.exports.undeclared_among.Goals as goal
 
 pub loop-export-preserved : goal.loop-export-preserved
 loop-export-preserved c =
@@ -12,6 +12,4 @@ loop-export-preserved c =
     c.loop-export-test.true c.export-item.is has (cc) c.loop-export.invariant
 
 pub returns : goal.returns
-returns c = record {
-  first = first_of_none 7 c.loop-export.first _ _ (ap (undeclared c.args.declared.now) (drop_of_length-le c.args.exported.now c.loop-export-test.false)) c.loop-export.invariant;
-}
+returns c = first_of_none 7 c.loop-export.first _ _ (ap (undeclared c.args.declared.now) (drop_of_length-le c.args.exported.now c.loop-export-test.false)) c.loop-export.invariant
