@@ -7,6 +7,7 @@ use Rattle.js_syntax.specs.declared.node_kind.NodeKind.{NodeKind as Kind}
 use Rattle.js_syntax.specs.declared.node_kind.NodeKind.TheVariants.{BinaryExpression as binary_expression, TemplateLiteral as template_literal, Quasis as quasis, Expressions as expressions}
 use Rattle.js_syntax.specs.declared.operator.BinaryOperator.TheVariants.{Addition as addition}
 use Rattle.js_syntax.specs.Node.{Forest, Tree, Note, nothing, node, absent, alone, row, forest_of}
+use Rattle.js_syntax.proofs.Truth.{first_of_both}
 use Rattle.js_effects.specs.Silence.{only_combines}
 use Rattle.scope_counts.specs.Counts.{ids}
 use Rattle.min_context.specs.Edited.{evals, Leaves, DropsNode, Edited}

@@ -14,3 +14,4 @@ pub mod Emptied
 pub mod Objects
 pub mod Negative
 pub mod Pairing
+pub mod Passed

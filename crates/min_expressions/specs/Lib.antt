@@ -12,3 +12,4 @@ pub mod Textless
 pub mod Objects
 pub mod MayChange
 pub mod Pair
+pub mod Foldable

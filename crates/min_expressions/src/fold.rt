@@ -13,6 +13,7 @@ ghost use Rattle.rules.specs.Expressions.Operations.{fold_to_literal, fold_to_ne
 ghost use Rattle.rules.specs.Expressions.Uses.{spot_of};
 ghost use Rattle.min_expressions.specs.Kept.{matters_at};
 ghost use Rattle.min_expressions.specs.TwoSides.{sides_go, text_goes};
+ghost use Rattle.min_expressions.specs.Foldable.{may_fold};
 
 use crate::bare::matters_here;
 use crate::behind_test::{branch_leaves, keep_both, keep_branch, right_follows};
@@ -27,6 +28,7 @@ use crate::template::{keep_substitutions, template_goes};
 use crate::texts::{empty_texts, texts_go};
 use crate::two_sides::{empty_text, keep_two_sides, sides_go, text_goes};
 use crate::unused::{keep_needed, unused_keeps};
+use js_syntax::NodeKind;
 use js_tree::Node;
 use min_context::MinifierTraverseCtx;
 use std::alloc::AllocError;
@@ -173,6 +175,24 @@ fn fold_to_negative(node: &mut Node, ctx: &mut MinifierTraverseCtx) -> Result<bo
         }
         None => Ok(false),
     }
+}
+
+// Whether something may become of an expression. Of those of other kinds, as of names, literals, calls and functions, nothing does,
+// whatever stands around them.
+fn may_fold(kind: &NodeKind) -> bool
+    ensures { result ≡ may_fold kind.now }
+{
+    matches!(
+        kind,
+        NodeKind::UnaryExpression(_)
+            | NodeKind::BinaryExpression(_)
+            | NodeKind::LogicalExpression(_)
+            | NodeKind::ConditionalExpression
+            | NodeKind::SequenceExpression
+            | NodeKind::ArrayExpression
+            | NodeKind::ObjectExpression
+            | NodeKind::TemplateLiteral
+    )
 }
 
 /// What a walk does behind a node, to that node alone. Each call answers whether it did anything.
@@ -359,6 +379,9 @@ impl PeepholeOptimizations {
         ensures does { IfOk result (λ b. Does at_expression_end ctx.old node.old b ctx.new node.new) }
         ensures refused { IfErr result (λ e. (node.new ≡ node.old) × (ctx.new ≡ ctx.old)) }
     {
+        if !may_fold(node.kind()) {
+            return Ok(false);
+        }
         if fold_but_operations(node, ctx)? {
             return Ok(true);
         }

@@ -4,7 +4,7 @@ ghost use Rattle.steps.specs.Allowed.Unused.{somebody, is_nobody, nobody_if, in_
 ghost use Rattle.steps.specs.Allowed.Uses.{as_value, operand_of, first_as_callee};
 ghost use Rattle.rules.specs.DeadCode.Rules.{is_field_of_with, has_with};
 ghost use Rattle.rules.specs.Expressions.Uses.{use_under, use_in, use_from, taken_under, taken_in, taken_from};
-ghost use Rattle.min_expressions.specs.Uses.{told, taker};
+ghost use Rattle.min_expressions.specs.Uses.{told, taker, hands_on};
 
 use js_syntax::UnaryOperator;
 use min_context::{Ancestor, Parent};
@@ -163,11 +163,42 @@ fn taken_from(above: &[Ancestor]) -> Taker
     taken
 }
 
-// Whether nobody does.
+// Whether it is for what stands around a node to tell who takes the value of what stands below it.
+fn hands_on(ancestor: Ancestor) -> bool
+    ensures { result ≡ hands_on ancestor }
+{
+    match ancestor {
+        Ancestor::Field(parent, _) => matches!(
+            parent,
+            Parent::ParenthesizedExpression
+                | Parent::SequenceExpression
+                | Parent::Expressions
+                | Parent::LogicalExpression
+                | Parent::ConditionalExpression
+        ),
+        Ancestor::None => false,
+    }
+}
+
+// The nodes above that tell who takes it: the nearest that doesn't hand on the question, and those below that one.
+fn telling(above: &[Ancestor]) -> &[Ancestor]
+    ensures { taken_from somebody result.now ≡ taken_from somebody above.now }
+{
+    let mut at = above.len();
+    while at > 0 {
+        at -= 1;
+        if !hands_on(above[at]) {
+            return &above[at..];
+        }
+    }
+    above
+}
+
+// Whether nobody does. Few nodes hand on the question, so it is asked of the nearest ones alone.
 pub(crate) fn is_unused_from(above: &[Ancestor]) -> bool
     ensures { result ≡ is_nobody (taken_from somebody above.now) }
 {
-    match taken_from(above) {
+    match taken_from(telling(above)) {
         Taker::Nobody => true,
         _ => false,
     }
