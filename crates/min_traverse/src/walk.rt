@@ -39,6 +39,10 @@ fn walk_node<T: Traverse>(
     ensures visited { OnOk result (ctx.new.requested ≡ false → NodeVisit T.visits T.written (Visits T.visits T.written (below ctx.old.place (above_of node.old.kind node.old.note)) node.old.below) (above_place ctx.old.place) traverse.old ctx.old node.old traverse.new ctx.new) }
 {
     enter_node(traverse, node, ctx)?;
+    if node.children().is_empty() {
+        exit_node(traverse, node, ctx)?;
+        return Ok(());
+    }
     let above = Above::of(node);
     let mut children = node.replace_children(Vec::new(ctx.alloc()));
     walk_children(traverse, children.as_mut_slice(), above, ctx)?;

@@ -1,5 +1,6 @@
-use Rattle.std.proofs.Common.{◌≡◌, ◌+◌, ◌<◌, ◌∙◌, ℕ, [], ◌∷◌, false, get_or, length, drop, set, Some, None, refl, sym, ap, subst, arith}
-use Rattle.js_syntax.specs.Node.{nothing, row}
+use Rattle.std.proofs.Common.{◌≡◌, ◌+◌, ◌<◌, ◌∙◌, ◌==◌, ℕ, List, [], ◌∷◌, true, false, Option, get_or, length, drop, set, Some, None, refl, sym, ap, subst, arith}
+use Rattle.std.specs.Cmp.{unsigned_Decides}
+use Rattle.js_syntax.specs.Node.{Forest, Tree, nothing, row}
 use Rattle.js_tree.specs.Weight.{size_of}
 use Rattle.min_context.specs.Place.{Place, Spot, below, inside}
 use Rattle.min_context.specs.Seen.{Seen}
@@ -10,6 +11,26 @@ use Rattle.min_traverse.proofs.Visiting.{one_more, all_visited, child_visit, nod
 use Rattle.min_traverse.proofs.walk.+walk.Goals.{walk_children-in-Some+in_ok-walk_child-in-Some, walk_children-in-None}
 use Rattle.min_traverse.proofs.walk.+walk.Goals as goal
 
+none_below : (xs : List (Option Tree)) (t : Forest) → row xs ≡ t → (length xs == 0) ≡ true → t ≡ nothing
+none_below [] t is h = sym is
+none_below (x ∷ xs) t is h = absurd (omega (arith, (unsigned_Decides (length (x ∷ xs)) 0).0 h))
+
+pub walk_node-exit_node-requires : goal.walk_node-exit_node-requires
+walk_node-exit_node-requires g t c = record { markable = node_markable c.in_ok-enter_node.ensures.moves c.requires.markable }
+
+pub walk_node-returns-then-is_empty : goal.walk_node-returns-then-is_empty
+walk_node-returns-then-is_empty g t c =
+    let node = c.args.node.now in
+    let entered = c.in_ok-enter_node.ensures.moves in
+    let is : node.below ≡ nothing = none_below c.children.result.now node.below c.children.ensures (sym c.is_empty.ensures ∙ c.if-is_empty.true) in
+    let stands = same_tree node node.kind node.note nothing refl refl is in
+    record {
+      moves = whole entered is (row_stays _ _ _ _) stands c.in_ok-exit_node.ensures.moves;
+      visited = λ q.
+          let q1 : c.enter_node.new.ctx.requested ≡ false = (c.in_ok-exit_node.ensures.moves.moves nothing).quiet_before q in
+          node_visit g.T.Traverse.visits g.T.Traverse.written node node nothing _ _ _ _ _ _ _ _ entered.same_place refl is refl (c.in_ok-enter_node.ensures.visited q1) (refl, refl) (c.in_ok-exit_node.ensures.visited q);
+    }
+
 pub walk_node-returns : goal.walk_node-returns
 walk_node-returns g t c =
     let entered = c.in_ok-enter_node.ensures.moves in
@@ -17,13 +38,13 @@ walk_node-returns g t c =
     let rows = subst (λ a. RowMoves _ g.T.Traverse.edit (Holds g.T.Traverse.own) (below c.enter_node.new.ctx.place a) c.enter_node.new.traverse c.enter_node.new.ctx (row c.as_mut_slice.result.now) c.walk_children.new.traverse c.walk_children.new.ctx (row c.walk_children.new.children)) c.of-above.ensures.above c.in_ok-walk_children.ensures.moves in
     let stands = same_tree _ _ _ _ (c.replace_children.ensures.kind ∙ c.replace_children-children.ensures.kind) (c.replace_children.ensures.note ∙ c.replace_children-children.ensures.note) (c.replace_children.ensures.below ∙ ap row (written c.replace_children-children.result.len c.walk_children.new.children (drop (length c.walk_children.new.children) c.replace_children-children.result.items) (omega (arith, c.walk_children.auto.children, c.as_mut_slice.ensures.len)))) in
     record {
-      moves = whole entered is rows stands c.in_ok-exit_node.ensures.moves;
+      moves = whole entered is rows stands c.in_ok-exit_node-2.ensures.moves;
       visited = λ q.
-          let q2 : c.walk_children.new.ctx.requested ≡ false = (c.in_ok-exit_node.ensures.moves.moves nothing).quiet_before q in
+          let q2 : c.walk_children.new.ctx.requested ≡ false = (c.in_ok-exit_node-2.ensures.moves.moves nothing).quiet_before q in
           let q1 : c.enter_node.new.ctx.requested ≡ false = rows.moves.quiet_before q2 in
           let same = stands ∙ ap (λ u. record { kind = c.args.node.now.kind; note = c.args.node.now.note; below = u }) (rows.moves.quiet q2 ∙ sym is) in
           let inside = subst (λ a. Visits g.T.Traverse.visits g.T.Traverse.written (below c.enter_node.new.ctx.place a) (row c.as_mut_slice.result.now) c.enter_node.new.traverse c.enter_node.new.ctx c.walk_children.new.traverse c.walk_children.new.ctx) c.of-above.ensures.above (c.in_ok-walk_children.ensures.visited q2) in
-          node_visit g.T.Traverse.visits g.T.Traverse.written c.args.node.now c.replace_children.new.self _ _ _ _ _ _ _ _ _ entered.same_place rows.same_place is same (c.in_ok-enter_node.ensures.visited q1) inside (c.in_ok-exit_node.ensures.visited q);
+          node_visit g.T.Traverse.visits g.T.Traverse.written c.args.node.now c.replace_children.new.self _ _ _ _ _ _ _ _ _ entered.same_place rows.same_place is same (c.in_ok-enter_node.ensures.visited q1) inside (c.in_ok-exit_node-2.ensures.visited q);
     }
 
 pub walk_node-walk_children-requires : goal.walk_node-walk_children-requires
