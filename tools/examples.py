@@ -192,7 +192,7 @@ S('let a = 1, b = f(), c = 2;',[var('let',(a,L(1)),(b,call(f)),(c,L(2)))],[var('
 S('for (let a = 1;;) b();',[N('ForStatement',init=var('let',(a,L(1))),test=None,update=None,body=do('b'))],None,0,0)
 S('switch (a) { case 1: 1; b(); default: ; }',[N('SwitchStatement',discriminant=a,cases=[N('SwitchCase',test=L(1),consequent=[ES(L(1)),do('b')]),N('SwitchCase',test=None,consequent=[EMPTY])])],[N('SwitchStatement',discriminant=a,cases=[N('SwitchCase',test=L(1),consequent=[do('b')]),N('SwitchCase',test=None,consequent=[])])],1,0)
 S('if (a) 1;',[IF(ES(L(1)))],[ES(a)],1,0)
-S('if (a) b(); else 1;',[IF(do('b'),ES(L(1)))],[IF(do('b'),EMPTY)],1,0)
+S('if (a) b(); else 1;',[IF(do('b'),ES(L(1)))],[IF(do('b'))],1,0)
 S('while (a) 1;',[N('WhileStatement',test=a,body=ES(L(1)))],[N('WhileStatement',test=a,body=EMPTY)],1,0)
 S('do 1; while (a);',[N('DoWhileStatement',body=ES(L(1)),test=a)],[N('DoWhileStatement',body=EMPTY,test=a)],1,0)
 S('for (let a = 1; ; 1) 1;',[N('ForStatement',init=var('let',(a,L(1))),test=None,update=L(1),body=ES(L(1)))],[N('ForStatement',init=var('let',(a,L(1))),test=None,update=L(1),body=EMPTY)],1,0)
@@ -205,7 +205,7 @@ S('if (a) while (b) 1; else if (c) 1; else { 1; }',[IF(N('WhileStatement',test=b
 S('let x; if (a) x; b();',[x_is(None),IF(ES(x)),do('b')],[ES(a),do('b')],2,0)
 S('if (a) (() => { if (b) 1; }); use(() => { if (b) 1; });',[IF(ES(ARROW(N('IfStatement',test=b,consequent=ES(L(1)),alternate=None)))),use(ARROW(N('IfStatement',test=b,consequent=ES(L(1)),alternate=None)))],[ES(a),use(ARROW(ES(b)))],1,0)
 S("'use strict'; if (a) 'use strict';",[STRICT,IF(ES(L('use strict')))],[STRICT,ES(a)],1,0)
-S('if (a) b; else -1; while (a) this;',[IF(ES(b),ES(un('-',L(1)))),N('WhileStatement',test=a,body=ES(N('ThisExpression')))],[IF(ES(b),EMPTY),N('WhileStatement',test=a,body=ES(N('ThisExpression')))],1,0)
+S('if (a) b; else -1; while (a) this;',[IF(ES(b),ES(un('-',L(1)))),N('WhileStatement',test=a,body=ES(N('ThisExpression')))],[IF(ES(b)),N('WhileStatement',test=a,body=ES(N('ThisExpression')))],1,0)
 S('if (a) b; else -c;',[IF(ES(b),ES(un('-',c)))],None,0,0)
 S('undefined; undefine;',[ES(I('undefined')),ES(I('undefine'))],[ES(I('undefine'))],1,0)
 S('function a() { b(); } function b() {}',[F_('a',[],do('b')),F_('b',[])],[],2,0)
@@ -332,7 +332,7 @@ S('if (a) { var x = f(); } if (1) { var y = f(); } else { var z = f(); } use(x, 
 S("export function h() { if (0) { var x = eval('y'); } let y = 1; return x; }",[export(F_('h',[],WHEN(L(0),B(var('var',(x,call(I('eval'),L('y')))))),var('let',(I('y'),L(1))),RETURN(x)))],[export(F_('h',[],WHEN(L(0),B(var('var',(x,L(0))))),RETURN(x)))],2,1)
 S('if (0) { var x = f(); } use(x); in a script',[WHEN(L(0),B(var('var',(x,call(f))))),use(x)],[WHEN(L(0),B(var('var',(x,L(0))))),use(x)],1,1,'script')
 S('if (x && false) { g(); let y = g(); use(y); } if (f() || 1) g(); else { h(); var v = h(); } use(v); whose tests act',[WHEN(AND(x,L(False)),B(do('g'),var('let',(I('y'),call(g))),use(I('y')))),WHEN(OR(call(f),L(1)),do('g'),B(do('h'),var('var',(I('v'),call(I('h')))))),use(I('v'))],[ES(x),WHEN(OR(call(f),L(1)),do('g'),B(var('var',(I('v'),L(0))))),use(I('v'))],3,1)
-S('if ([f()]) g(); else { h(); } if (f(), 0) { g(); } else h(); if (void f()) { g(); } whose tests act',[WHEN(N('ArrayExpression',elements=[call(f)]),do('g'),B(do('h'))),WHEN(N('SequenceExpression',expressions=[call(f),L(0)]),B(do('g')),do('h')),WHEN(un('void',call(f)),B(do('g')))],[WHEN(N('ArrayExpression',elements=[call(f)]),do('g'),EMPTY),WHEN(N('SequenceExpression',expressions=[call(f),L(0)]),EMPTY,do('h')),do('f')],3,0)
+S('if ([f()]) g(); else { h(); } if (f(), 0) { g(); } else h(); if (void f()) { g(); } whose tests act',[WHEN(N('ArrayExpression',elements=[call(f)]),do('g'),B(do('h'))),WHEN(N('SequenceExpression',expressions=[call(f),L(0)]),B(do('g')),do('h')),WHEN(un('void',call(f)),B(do('g')))],[WHEN(N('ArrayExpression',elements=[call(f)]),do('g')),WHEN(N('SequenceExpression',expressions=[call(f),L(0)]),EMPTY,do('h')),do('f')],3,0)
 S('let x = 1; export function h(p) { if (p && false) { use(x); } if (f() && 0) g(); } where a name goes with it',[x_is(L(1)),export(F_('h',['p'],WHEN(AND(I('p'),L(False)),B(use(x))),WHEN(AND(call(f),L(0)),do('g'))))],[export(F_('h',['p'],WHEN(AND(call(f),L(0)),do('g'))))],2,0)
 WHILE=lambda test,*body: N('WhileStatement',test=test,body=B(*body))
 LOOP=lambda init,test,*body: N('ForStatement',init=init,test=test,update=None,body=B(*body))
@@ -347,7 +347,7 @@ S("export function h() { while (0) { eval('x'); } let x = 1; }",[export(F_('h',[
 S('while (0) f(); in a script',[WHILE(L(0),do('f'))],[],1,0,'script')
 HANDLED=lambda block,handler,*body: {**TRY(block,I('e'),*handler),'finalizer':B(*body)}
 S('try {} finally { f(); } try { ; } catch (e) { g(); } finally { f(); } l: try {} finally { f(); }',[FINALLY(B(),do('f')),HANDLED(B(EMPTY),[do('g')],do('f')),LABEL('l',FINALLY(B(),do('f')))],[B(do('f')),B(do('f')),LABEL('l',B(do('f')))],1,0)
-S('if (a) try {} finally { f(); } else try {} catch (e) { g(); } while (a) try {} catch (e) {}',[WHEN(a,FINALLY(B(),do('f')),TRY(B(),I('e'),do('g'))),N('WhileStatement',test=a,body=TRY(B(),I('e')))],[WHEN(a,B(do('f')),EMPTY),N('WhileStatement',test=a,body=EMPTY)],1,0)
+S('if (a) try {} finally { f(); } else try {} catch (e) { g(); } while (a) try {} catch (e) {}',[WHEN(a,FINALLY(B(),do('f')),TRY(B(),I('e'),do('g'))),N('WhileStatement',test=a,body=TRY(B(),I('e')))],[WHEN(a,B(do('f'))),N('WhileStatement',test=a,body=EMPTY)],1,0)
 S('try {} finally { while (a) f(); } try {} finally { l: for (;;) f(); } whose loops labels around would reach',[FINALLY(B(),N('WhileStatement',test=a,body=do('f'))),FINALLY(B(),LABEL('l',N('ForStatement',init=None,test=None,update=None,body=do('f'))))],None,0,0)
 S('try {} catch (e) { var x = f(); } finally { g(); } use(x);',[HANDLED(B(),[var('var',(x,call(f)))],do('g')),use(x)],None,0,1)
 S('export function h() { try {} finally { return 1; } f(); }',[export(F_('h',[],FINALLY(B(),RETURN(L(1))),do('f')))],[export(F_('h',[],B(RETURN(L(1)))))],1,0)
@@ -371,6 +371,9 @@ S('if (a) { f(); } else { let y = f(); } try { f(); } catch {} finally {} whose 
 S('let x = 1; if (a) while (0) { use(x); } where a name goes with it',[x_is(L(1)),WHEN(a,WHILE(L(0),use(x)))],[ES(a)],2,0)
 S("export function h() { let x = 1; if (a) while (0) { eval('x'); } }",[export(F_('h',[],x_is(L(1)),WHEN(a,WHILE(L(0),do('eval',L('x'))))))],[export(F_('h',[],ES(a)))],2,0)
 S('if (a && 0) { f(); } whose branch holds nothing then',[WHEN(AND(a,L(0)),B(do('f')))],[ES(a)],3,0)
+S('if (a) f(); else ; if (a) { f(); } else { ; } if (a) f(); else if (b) g(); else {} whose last branches are empty',[WHEN(a,do('f'),EMPTY),WHEN(a,B(do('f')),B(EMPTY)),WHEN(a,do('f'),WHEN(b,do('g'),B()))],[WHEN(a,do('f')),WHEN(a,B(do('f'))),WHEN(a,do('f'),WHEN(b,do('g')))],1,0)
+S('if (a) f(); else if (b) g(); else if (0) f(); whose alternates come to nothing',[WHEN(a,do('f'),WHEN(b,do('g'),WHEN(L(0),do('f'))))],[WHEN(a,do('f'),WHEN(b,do('g')))],1,0)
+S('if (a) if (b) f(); else ; else g(); while (a) if (b) f(); else ; whose alternates might be taken for those of others',[WHEN(a,WHEN(b,do('f'),EMPTY),do('g')),N('WhileStatement',test=a,body=WHEN(b,do('f'),EMPTY))],None,0,0)
 S('if (f()) ; if (a[b]) {} else ; for (;;) if (f()) { 1; } else { ; } whose branches are empty',[WHEN(call(f),EMPTY),WHEN(mem(a,b),B(),EMPTY),{**EACH(),'body':WHEN(call(f),B(ES(L(1))),B(EMPTY))}],[do('f'),ES(mem(a,b)),{**EACH(),'body':do('f')}],1,0)
 S('let x = 1; if (x) {} if (x === 1) ; else {} whose tests are silent',[x_is(L(1)),WHEN(x,B()),WHEN(bi('===',x,L(1)),EMPTY,B())],[],2,0)
 S('if (() => f()) ; else { g(); } whose test is a function',[WHEN(ARROW(do('f')),EMPTY,B(do('g')))],[],1,0)
@@ -575,7 +578,7 @@ STATEMENTS=[
  ('if (false) f();',[WHEN(L(False),CALL)],[],1,0),
  ('if (0) a(); else f();',[WHEN(L(0),do('a'),CALL)],[CALL],1,0),
  ('if ([]) { f(); } else a();',[WHEN(ARR(),B(CALL),do('a'))],[B(CALL)],1,0),
- ('if (a) f(); else 1;',[WHEN(a,CALL,ES(L(1)))],[WHEN(a,CALL,EMPTY)],1,0),
+ ('if (a) f(); else 1;',[WHEN(a,CALL,ES(L(1)))],[WHEN(a,CALL)],1,0),
  ('if (a) { 1; }',[WHEN(a,B(ES(L(1))))],[ES(a)],1,0),
  ('if (a && 0) { f(); var x; } use(x);',[WHEN(AND(a,L(0)),B(CALL,x_is(None,'var'))),use(x)],[WHEN(AND(a,L(0)),B(x_is(None,'var'))),use(x)],1,1),
  ('if (0) { var x = f(); } use(x);',[WHEN(L(0),B(x_is(call(f),'var'))),use(x)],[WHEN(L(0),B(x_is(L(0),'var'))),use(x)],1,1),

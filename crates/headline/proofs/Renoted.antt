@@ -44,6 +44,7 @@ use Rattle.steps.specs.Allowed.Branches.{declares_none}
 use Rattle.steps.specs.Allowed.KnownIf.{KnownIf}
 use Rattle.steps.specs.Allowed.DeadIf.{DeadIf}
 use Rattle.steps.specs.Allowed.EmptyIf.{EmptyIf}
+use Rattle.steps.specs.Allowed.EmptyAlternate.{is_last_below, is_last_at, EmptyAlternate}
 use Rattle.steps.specs.Allowed.EmptyBlock.{holds_nothing, EmptyBlock, empty_block_leaves}
 use Rattle.steps.specs.Allowed.Unreached.{is_behind_jump, Unreached, never_runs}
 use Rattle.steps.specs.Allowed.RepeatedImport.{asks_for, is_asked_before, import_of, RepeatedImport, repeated_import_leaves}
@@ -55,7 +56,7 @@ use Rattle.steps.specs.Allowed.Untaken.{truth_given, untaken_where, is_known, le
 use Rattle.steps.proofs.Owed.Changing.{cuts_bare}
 use Rattle.steps.proofs.Owed.ExposedBare.{bare_inside, bare_below, bare_exposed}
 use Rattle.steps.proofs.Owed.Focus.{follows_there}
-use Rattle.headline.specs.Clean.{IsDead, an_empty_statement, an_empty_block, a_silent_statement, an_unused_function, an_unused_declarator, an_unused_import, a_known_conditional, a_known_side, an_unused_operation, an_unused_list, an_indirect_choice, a_one_sided_choice, idle_parts, two_sides, an_unused_object, a_known_operation, a_known_if, a_dead_if, an_empty_if, an_unreached_statement, an_untaken_statement, an_unrun_value, an_idle_statement, a_repeated_import, an_idle_try, an_idle_body, CleanBut}
+use Rattle.headline.specs.Clean.{IsDead, an_empty_statement, an_empty_block, a_silent_statement, an_unused_function, an_unused_declarator, an_unused_import, a_known_conditional, a_known_side, an_unused_operation, an_unused_list, an_indirect_choice, a_one_sided_choice, idle_parts, two_sides, an_unused_object, a_known_operation, a_known_if, a_dead_if, an_empty_if, an_empty_alternate, an_unreached_statement, an_untaken_statement, an_unrun_value, an_idle_statement, a_repeated_import, an_idle_try, an_idle_body, CleanBut}
 use Rattle.headline.proofs.RenotedUnused.{stands_as, needed_as, child_as, list_as}
 use Rattle.headline.proofs.RenotedChoice.{counts_as, follows_as}
 use Rattle.headline.proofs.RenotedParts.{side_as, sequence_as}
@@ -64,7 +65,7 @@ use Rattle.headline.proofs.RenotedKnown.{known_as, negative_as, given_bare, trut
 use Rattle.steps.proofs.Owed.EmptyBlock.{holds_bare}
 use Rattle.headline.proofs.RenotedIdle.{idle_bare}
 use Rattle.headline.proofs.RenotedTry.{idle_try_as}
-use Rattle.headline.proofs.RenotedIf.{declares_bare, known_if_as, dead_if_as, empty_if_as}
+use Rattle.headline.proofs.RenotedIf.{declares_bare, known_if_as, dead_if_as, empty_if_as, empty_alternate_as}
 use Rattle.headline.proofs.RenotedSites.{free_as, inside_same, opens_same, same_binding}
 
 -- ---- two trees node by node
@@ -205,6 +206,7 @@ record Twin (t : Forest) (a : Around) (k : Kind) (n : Note) (b : Forest) : Type 
   value_of : (j : Kind) → is_value_of j around ≡ is_value_of j a
   value : is_value around ≡ is_value a
   bodied : (begun : Bool) → stands_as_body begun around ≡ stands_as_body begun a
+  last : (lasts : ℕ → Bool) (at : ℕ) → is_last_at lasts at around ≡ is_last_at lasts at a
   ends : is_end around ≡ is_end a
   further : is_further around ≡ is_further a
   untaken_there : untaken_where around ≡ untaken_where a
@@ -232,6 +234,7 @@ twin (first rest) k n b (node l m c r) e = record {
   value_of = λ j. no_value_first j _ _;
   value = refl;
   bodied = λ begun. refl;
+  last = λ lasts at. refl;
   ends = refl;
   further = refl;
   untaken_there = refl;
@@ -260,6 +263,7 @@ twin (behind j i d a) k n b (node l m c r) e =
       value_of = λ v. value_behind v j m c o.around ∙ ap (λ b. if b then is_value_of v (behind j m c (first nothing)) else false) o.ends ∙ same_behind_value v j m i c d a;
       value = o.value;
       bodied = o.bodied;
+      last = λ lasts at. o.last lasts (suc at);
       ends = refl;
       further = refl;
       untaken_there = where_behind j m c o.around ∙ ap (λ b. if b then Some true else None) o.further ∙ sym (where_behind j i d a);
@@ -288,6 +292,7 @@ twin (behind_none a) k n b (absent r) e =
       value_of = λ v. no_value_behind_none v o.around a;
       value = o.value;
       bodied = o.bodied;
+      last = λ lasts at. o.last lasts (suc at);
       ends = refl;
       further = refl;
       untaken_there = refl;
@@ -319,6 +324,7 @@ twin (under j i a rest) k n b (node l m c r) e =
       value_of = λ v. no_value_under v j m i o.around a _ _;
       value = ap₂ (λ b c. b || c) (o.value_of j) o.value;
       bodied = λ begun. o.bodied (has_body j);
+      last = λ lasts at. o.last (λ i. is_last_below (lasts at) j i) 0;
       ends = refl;
       further = refl;
       untaken_there = refl;
@@ -664,6 +670,13 @@ module _ (unused imports : Bool) (t u : Forest) (e : bare t ≡ bare u) (clean :
       let z = empty_if_as o.note o.below x y o.same empty in
       clean.nothing_is_dead o.around (Some now) o.is (an_empty_if o.around now z.0 z.1)
 
+  no_empty_alternate : (a : Around) (x y : Tree) → u ≡ plug a (Some x) → EmptyAlternate a x y → ⊥
+  no_empty_alternate a x y is empty =
+      let o = other_place a x.kind x.note x.below is in
+      let now : Tree = record { kind = x.kind; note = o.note; below = o.below } in
+      let z = empty_alternate_as o.around a o.note o.below x y (o.last (λ i. false) 0) o.same empty in
+      clean.nothing_is_dead o.around (Some now) o.is (an_empty_alternate o.around now z.0 z.1)
+
   no_block : (a : Around) (x : Tree) → u ≡ plug a (Some x) → EmptyBlock a x → ⊥
   no_block a x is (empty_block_leaves item nothing_held) =
       let o = other_place a x.kind x.note x.below is in
@@ -738,6 +751,7 @@ module _ (unused imports : Bool) (t u : Forest) (e : bare t ≡ bare u) (clean :
   none_dead a x is (an_untaken_statement b y untaken) = no_untaken b y is untaken
   none_dead a x is (an_idle_statement b y idle) = no_idle b y is idle
   none_dead a x is (an_empty_if b y z empty) = no_empty_if b y z is empty
+  none_dead a x is (an_empty_alternate b y z empty) = no_empty_alternate b y z is empty
   none_dead a x is (an_idle_try b y z idle) = no_idle_try b y z is idle
   none_dead a x is (an_idle_body b y z idle) = no_body b y z is idle
   none_dead a x is (an_unrun_value b y z value) = no_value b y z is value

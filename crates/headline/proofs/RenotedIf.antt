@@ -3,10 +3,12 @@ use Rattle.std.proofs.Common.{◌≡◌, ◌↔◌, ◌∙◌, Bool, false, ◌&
 use Rattle.js_syntax.specs.declared.node_kind.NodeKind.{NodeKind as Kind}
 use Rattle.js_syntax.specs.Node.{Forest, Tree, Note, nothing, node, absent, nowhere, bare}
 use Rattle.js_meaning_near.specs.Local.{IsField}
+use Rattle.scope_laws.specs.Place.{Around}
 use Rattle.steps.specs.Allowed.Arranged.{is_nothing}
 use Rattle.steps.specs.Allowed.Branches.{is_handler, lets_only_at, lets_only, inside_or_parameter, inside_from, none_or_parameter, none_from, declares_none}
 use Rattle.steps.specs.Allowed.DeadIf.{DeadIf, nothing_is_run}
 use Rattle.steps.specs.Allowed.EmptyIf.{is_empty, are_empty, statement_of, EmptyIf, test_stays}
+use Rattle.steps.specs.Allowed.EmptyAlternate.{is_last_at, one_branch, EmptyAlternate, alternate_goes}
 use Rattle.steps.specs.Allowed.KnownIf.{KnownIf, consequent_is_run, alternate_is_run}
 use Rattle.headline.proofs.RenotedKnown.{truth_bare}
 
@@ -104,3 +106,25 @@ empty_there n k f z h = elim h [ ]
 pub empty_if_as : (n : Note) (f : Forest) (x y : Tree) → bare f ≡ bare x.below → EmptyIf x y → (z : Tree) × EmptyIf (record { kind = x.kind; note = n; below = f }) z
 empty_if_as n f _ _ e (test_stays _ m o t d branches empty unnamed) =
     empty_there n Kind.IfStatement f _ (subst (λ u. EmptyIf (record { kind = Kind.IfStatement; note = n; below = u }) (statement_of o nowhere t (bare d))) (sym e) (test_stays n nowhere o t (bare d) (bare branches) (empty_bare branches ∙ empty) unnamed))
+
+-- ---- and one with an empty alternate
+
+alternate_there : (a : Around) (n : Note) (k : Kind) (f : Forest) (z : Tree) → EmptyAlternate a (record { kind = k; note = n; below = bare f }) z → (y : Tree) × EmptyAlternate a (record { kind = k; note = n; below = f }) y
+alternate_there a n _ (node t i d (node l j b (node k o nothing nothing))) _ (alternate_goes _ _ _ _ _ _ _ _ last) = (_, alternate_goes n i j o t l d b last)
+alternate_there a n k nothing z h = elim h [ ]
+alternate_there a n k (absent r) z h = elim h [ ]
+alternate_there a n k (node t i d nothing) z h = elim h [ ]
+alternate_there a n k (node t i d (absent r)) z h = elim h [ ]
+alternate_there a n k (node t i d (node l j b nothing)) z h = elim h [ ]
+alternate_there a n k (node t i d (node l j b (absent r))) z h = elim h [ ]
+alternate_there a n k (node t i d (node l j b (node p o (absent c) r))) z h = elim h [ ]
+alternate_there a n k (node t i d (node l j b (node p o (node q m c e) r))) z h = elim h [ ]
+alternate_there a n k (node t i d (node l j b (node p o nothing (absent r)))) z h = elim h [ ]
+alternate_there a n k (node t i d (node l j b (node p o nothing (node q m c r)))) z h = elim h [ ]
+
+pub empty_alternate_as : (here a : Around) (n : Note) (f : Forest) (x y : Tree) → is_last_at (λ i. false) 0 here ≡ is_last_at (λ i. false) 0 a → bare f ≡ bare x.below → EmptyAlternate a x y
+    → (z : Tree) × EmptyAlternate here (record { kind = x.kind; note = n; below = f }) z
+empty_alternate_as here a n f _ _ same e (alternate_goes _ i j o t l d b last) =
+    alternate_there here n Kind.IfStatement f _
+    (subst (λ u. EmptyAlternate here (record { kind = Kind.IfStatement; note = n; below = u }) (one_branch n t l nowhere nowhere (bare d) (bare b))) (sym e)
+    (alternate_goes n nowhere nowhere nowhere t l (bare d) (bare b) (same ∙ last)))

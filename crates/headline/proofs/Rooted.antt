@@ -27,8 +27,9 @@ use Rattle.steps.proofs.KeepForm.ShedNames.{none_declared}
 use Rattle.steps.specs.Allowed.Branches.{declares_none}
 use Rattle.steps.specs.Allowed.DeadIf.{nothing_is_run}
 use Rattle.steps.specs.Allowed.EmptyIf.{test_stays}
+use Rattle.steps.specs.Allowed.EmptyAlternate.{alternate_goes}
 use Rattle.steps.specs.Allowed.IdleBody.{idle_body_empties}
-use Rattle.steps.specs.Allowed.Edits.{Leaves, empty_statement, empty_block, unused_function, unused_declarator, unused_declaration, unused_import, unreached, untaken, idle_statement, repeated_import, Becomes, silent_statement, known_conditional, known_side, known_if, idle_try, idle_body, empty_if, dead_if, unused_operation, unused_list, indirect_choice, one_sided_choice, idle_parts, two_sides, unused_object, known_operation, unrun_value, Edit, leaves, becomes, Edits, no_edit, one_edit}
+use Rattle.steps.specs.Allowed.Edits.{Leaves, empty_statement, empty_block, unused_function, unused_declarator, unused_declaration, unused_import, unreached, untaken, idle_statement, repeated_import, Becomes, silent_statement, known_conditional, known_side, known_if, idle_try, idle_body, empty_if, empty_alternate, dead_if, unused_operation, unused_list, indirect_choice, one_sided_choice, idle_parts, two_sides, unused_object, known_operation, unrun_value, Edit, leaves, becomes, Edits, no_edit, one_edit}
 use Rattle.steps.specs.Allowed.EmptyBlock.{empty_block_leaves}
 use Rattle.steps.specs.Allowed.EmptyStatement.{empty_statement_leaves}
 use Rattle.steps.specs.Allowed.Exposure.{Exposure, shares, exposed_inside, exposed_of, exposed_at, exposure, is_script, evaluates_somewhere, function_is_exposed}
@@ -457,6 +458,11 @@ becomes_named a x y (empty_if (test_stays n m o t d branches empty unnamed)) fit
     let below = node t m d branches in
     let tested = tested_row t m d branches (expression_declares_none (node t m d nothing) ((parts_of_if a n below fits).0, tt)) (empty_declares branches empty) in
     statement_named s o (node t m d nothing) ∙ sym (none_named s (forest_of x) (nothing_declared s 0 (forest_of x) (if_stays_outside s n below) (both (declares_none below) true tested refl)))
+becomes_named a x y (empty_alternate (alternate_goes n i j o t l d b last)) fits = λ s calm.
+    let z = sought_below s Kind.IfStatement in
+    let first = names_in (declared_here z 0 t) ++ names_of (sought_below z t) d in
+    let second = names_in (declared_here z 0 l) ++ names_of (sought_below z l) b in
+    ap (λ ns. (names_in (declared_here s 0 Kind.IfStatement) ++ (first ++ (second ++ ns))) ++ []) (sym (empty_named z o))
 becomes_named a x y (idle_body (idle_body_empties _ m body idle undeclared)) fits = λ s calm. empty_named s m ∙ sym (outside s (forest_of x) calm undeclared)
 becomes_named a x y (unused_operation c) fits = part_named a x y (unused_operation_owes a x y c) fits
 becomes_named a x y (unused_list c) fits = parts_named a x y (unused_list_owes a x y c) fits

@@ -37,6 +37,7 @@ use Rattle.steps.specs.Allowed.KnownOperation.{KnownOperation}
 use Rattle.steps.specs.Allowed.KnownIf.{KnownIf}
 use Rattle.steps.specs.Allowed.DeadIf.{DeadIf}
 use Rattle.steps.specs.Allowed.EmptyIf.{EmptyIf}
+use Rattle.steps.specs.Allowed.EmptyAlternate.{EmptyAlternate}
 -- and a block of nothing
 use Rattle.steps.specs.Allowed.EmptyBlock.{EmptyBlock}
 -- and a loop that never turns, or a `try` around nothing
@@ -116,9 +117,13 @@ pub data IsDead (unused imports : Bool) (t : Forest) : Around → Option Tree �
   -- a loop that never turns or a `try` around nothing in a list of statements, or one behind labels, which declares no name around it: it
   -- does nothing
   an_idle_statement : (a : Around) (x : Tree) → IdleStatement a x → IsDead unused imports t a (Some x)
+  -- an `if` whose branches are empty, and whose test is no function and no class: a statement of the test does what it does
+  an_empty_if : (a : Around) (x y : Tree) → EmptyIf x y → IsDead unused imports t a (Some x)
+  -- an empty alternate of an `if` that is an item of a list of statements, or the alternate of one that may lose its own: without it the
+  -- `if` does what it does with it
+  an_empty_alternate : (a : Around) (x y : Tree) → EmptyAlternate a x y → IsDead unused imports t a (Some x)
   -- a `try` around nothing, if its handler declares no name around it and no loop in its finalizer is reached by labels: its finalizer, or
   -- its block where it has none, does what it does
-  an_empty_if : (a : Around) (x y : Tree) → EmptyIf x y → IsDead unused imports t a (Some x)
   an_idle_try : (a : Around) (x y : Tree) → IdleTry x y → IsDead unused imports t a (Some x)
   -- a block of nothing, a loop that never turns or a `try` around nothing as a branch of an `if` or as the body of a loop or of `with`, or one
   -- behind labels, which declares no name around it: it does nothing

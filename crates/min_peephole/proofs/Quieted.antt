@@ -32,6 +32,7 @@ use Rattle.rules.specs.Expressions.TwoSides.{two_sides_become}
 use Rattle.rules.specs.Expressions.Objects.{object_left}
 use Rattle.rules.specs.Expressions.Operations.{known_becomes}
 use Rattle.rules.specs.Expressions.EmptyIfs.{test_left}
+use Rattle.rules.specs.Expressions.EmptyAlternates.{is_last, alternate_left}
 use Rattle.rules.specs.Expressions.Ifs.{if_becomes}
 use Rattle.rules.specs.Expressions.Jumps.{list_reached}
 use Rattle.rules.specs.Expressions.Untaken.{if_left}
@@ -60,7 +61,7 @@ module _ (f : Facts) (p : Place) (n : Note) (k : Kind) (inner : Forest) (h : sta
   is_emptied = becomes_empty f p k inner
 
   abbrev is_settled : Bool
-  is_settled = decides_none p n k inner && (wastes_none p n k inner && (keeps_parts p n k inner && computes_none n k inner))
+  is_settled = decides_none p n k inner && (wastes_none p n k inner && (keeps_parts p n k inner && computes_none p n k inner))
 
   abbrev uses_all : Bool
   uses_all = uses_names f p n k inner
@@ -75,7 +76,7 @@ module _ (f : Facts) (p : Place) (n : Note) (k : Kind) (inner : Forest) (h : sta
   at_import = and_parts uses_all is_settled at_statement.1
 
   abbrev keeps_all : Bool
-  keeps_all = keeps_parts p n k inner && computes_none n k inner
+  keeps_all = keeps_parts p n k inner && computes_none p n k inner
 
   at_expression : (decides_none p n k inner ≡ true) × (wastes_none p n k inner && keeps_all ≡ true)
   at_expression = and_parts (decides_none p n k inner) (wastes_none p n k inner && keeps_all) at_import.1
@@ -83,8 +84,8 @@ module _ (f : Facts) (p : Place) (n : Note) (k : Kind) (inner : Forest) (h : sta
   at_parts : (wastes_none p n k inner ≡ true) × (keeps_all ≡ true)
   at_parts = and_parts (wastes_none p n k inner) keeps_all at_expression.1
 
-  at_values : (keeps_parts p n k inner ≡ true) × (computes_none n k inner ≡ true)
-  at_values = and_parts (keeps_parts p n k inner) (computes_none n k inner) at_parts.1
+  at_values : (keeps_parts p n k inner ≡ true) × (computes_none p n k inner ≡ true)
+  at_values = and_parts (keeps_parts p n k inner) (computes_none p n k inner) at_parts.1
 
   quiet_here : IsQuietAt f p (record { kind = k; note = n; below = inner })
   quiet_here = record { list = list_stays k (has_dead f (where_of p) inner) at_node.0; statement = none_empty is_emptied _ at_statement.0 }
@@ -110,12 +111,14 @@ module _ (f : Facts) (p : Place) (n : Note) (k : Kind) (inner : Forest) (h : sta
       let keeps = and_parts (not (is_some (sequence_left (spot_of p) n k inner))) (both && values) at_values.0 in
       let parts = and_parts both values keeps.1 in
       let tested = not (is_some (test_left n k inner)) in
+      let alternates = not (is_some (alternate_left (is_last p) n k inner)) in
       let reached = not (is_some (list_reached n k inner)) in
       let taken = not (is_some (if_left n k inner)) in
-      let computes = and_parts (not (is_some (known_becomes n k inner))) (not (is_some (if_becomes n k inner)) && (tested && (reached && taken))) at_values.1 in
-      let statements = and_parts (not (is_some (if_becomes n k inner))) (tested && (reached && taken)) computes.1 in
-      let tests = and_parts tested (reached && taken) statements.1 in
-      let runs = and_parts reached taken tests.1 in
+      let computes = and_parts (not (is_some (known_becomes n k inner))) (not (is_some (if_becomes n k inner)) && (tested && (alternates && (reached && taken)))) at_values.1 in
+      let statements = and_parts (not (is_some (if_becomes n k inner))) (tested && (alternates && (reached && taken))) computes.1 in
+      let tests = and_parts tested (alternates && (reached && taken)) statements.1 in
+      let ends = and_parts alternates (reached && taken) tests.1 in
+      let runs = and_parts reached taken ends.1 in
       record {
         conditional = none_there (conditional_becomes (spot_of p) k inner) decides.0;
         logical = none_there (logical_becomes (spot_of p) k inner) others.0;
@@ -129,6 +132,7 @@ module _ (f : Facts) (p : Place) (n : Note) (k : Kind) (inner : Forest) (h : sta
         known = none_there (known_becomes n k inner) computes.0;
         statement = none_there (if_becomes n k inner) statements.0;
         test = none_there (test_left n k inner) tests.0;
+        alternate = none_there (alternate_left (is_last p) n k inner) ends.0;
         jumps = none_there (list_reached n k inner) runs.0;
         untaken = none_there (if_left n k inner) runs.1;
       }

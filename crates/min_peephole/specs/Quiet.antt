@@ -23,6 +23,7 @@ use Rattle.rules.specs.Expressions.TwoSides.{two_sides_become}
 use Rattle.rules.specs.Expressions.Objects.{object_left}
 use Rattle.rules.specs.Expressions.Operations.{known_becomes}
 use Rattle.rules.specs.Expressions.EmptyIfs.{test_left}
+use Rattle.rules.specs.Expressions.EmptyAlternates.{is_last, alternate_left}
 use Rattle.rules.specs.Expressions.Ifs.{if_becomes}
 use Rattle.rules.specs.Expressions.Jumps.{list_reached}
 use Rattle.rules.specs.Expressions.Untaken.{if_left}
@@ -48,9 +49,12 @@ wastes_none p n k inner = not (is_some (unused_becomes (spot_of p) k inner)) && 
 abbrev pub keeps_parts : Place → Note → Kind → (inner : Forest) → Bool
 keeps_parts p n k inner = not (is_some (sequence_left (spot_of p) n k inner)) && (not (is_some (two_sides_become (spot_of p) n k inner)) && not (is_some (object_left (spot_of p) n k inner)))
 
--- and is no operation that comes to its value, nor an `if` that comes to a branch or becomes empty, and has nothing that never runs
-abbrev pub computes_none : Note → Kind → (inner : Forest) → Bool
-computes_none n k inner = not (is_some (known_becomes n k inner)) && (not (is_some (if_becomes n k inner)) && (not (is_some (test_left n k inner)) && (not (is_some (list_reached n k inner)) && not (is_some (if_left n k inner)))))
+-- and is no operation that comes to its value, nor an `if` that comes to a branch or its test, becomes empty or loses its alternate, and has
+-- nothing that never runs
+abbrev pub computes_none : Place → Note → Kind → (inner : Forest) → Bool
+computes_none p n k inner =
+    not (is_some (known_becomes n k inner))
+    && (not (is_some (if_becomes n k inner)) && (not (is_some (test_left n k inner)) && (not (is_some (alternate_left (is_last p) n k inner)) && (not (is_some (list_reached n k inner)) && not (is_some (if_left n k inner))))))
 
 -- and is no import that a name leaves, nor a list that an import leaves
 abbrev pub uses_names : Facts → Place → Note → Kind → (inner : Forest) → Bool
@@ -60,7 +64,7 @@ uses_names f p n k inner = not (is_some (pruned f (where_of p) (record { kind = 
 abbrev pub stays : Facts → Place → Note → Kind → (inner : Forest) → Bool
 stays f p n k inner =
     not (is_row k && has_dead f (where_of p) inner)
-    && (not (becomes_empty f p k inner) && (uses_names f p n k inner && (decides_none p n k inner && (wastes_none p n k inner && (keeps_parts p n k inner && computes_none n k inner)))))
+    && (not (becomes_empty f p k inner) && (uses_names f p n k inner && (decides_none p n k inner && (wastes_none p n k inner && (keeps_parts p n k inner && computes_none p n k inner)))))
 
 -- each node of a row, by its place
 abbrev pub all_stay : Facts → Spot → Forest → Bool

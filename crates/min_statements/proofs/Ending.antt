@@ -1,5 +1,5 @@
 -- What the hook of statements does: a silent one, or one that does nothing as a branch or a body, becomes empty, or else an `if` what is
--- known of it or loses what never runs, or else names leave an import.
+-- known of it, or its test, or it loses an empty alternate or what never runs, or else names leave an import.
 use Rattle.std.proofs.Common.{◌≡◌, ◌∙◌, Bool, true, false, ◌||◌, Option, Some, None, is_some, if◌then◌else◌, refl, sym, ap, subst, true≢false}
 use Rattle.js_syntax.specs.Node.{Forest, Tree}
 use Rattle.scope_counts.specs.Edits.{Around}
@@ -11,6 +11,7 @@ use Rattle.rules.specs.DeadCode.Before.{before}
 use Rattle.rules.specs.DeadCode.Rules.{where_of, becomes_empty}
 use Rattle.rules.specs.Expressions.Ifs.{if_becomes}
 use Rattle.rules.specs.Expressions.EmptyIfs.{test_left}
+use Rattle.rules.specs.Expressions.EmptyAlternates.{is_last, alternate_left}
 use Rattle.rules.specs.Expressions.Untaken.{if_left, if_ends, at_if_end}
 use Rattle.rules.specs.Imports.Rules.{pruned}
 use Rattle.rules.proofs.Expressions.Folding.{ifs_end}
@@ -20,6 +21,7 @@ use Rattle.min_statements.specs.Walker.{Names, facts_of}
 use Rattle.min_statements.proofs.Acting.{asked_true}
 use Rattle.min_statements.proofs.Calls.{CallsStay}
 use Rattle.min_statements.proofs.Expressions.{rule_moves, rule_visits}
+use Rattle.min_statements.proofs.Alternates.{alternate_calls}
 use Rattle.min_statements.proofs.Tests.{test_calls}
 use Rattle.min_statements.proofs.Branches.{if_calls}
 use Rattle.min_statements.proofs.Thinning.{left_calls}
@@ -56,15 +58,31 @@ none_emptied true y e = absurd (true≢false (sym e))
 none_emptied false y e = refl
 
 if_calls_stay : (c : Seen) (a : Around) (x y : Tree) (r : Forest) → IsHere c a → at_if_end c x ≡ Some y → CallsStay (before a r) x y
-if_calls_stay c a x y r here found = by (if_becomes x.note x.kind x.below) refl
+if_calls_stay c a x y r here found = by one refl
   where
-    by_test : (o : Option Tree) → test_left x.note x.kind x.below ≡ o → or_else (test_left x.note x.kind x.below) (if_left x.note x.kind x.below) ≡ Some y → CallsStay (before a r) x y
-    by_test (Some z) is e = test_calls (before a r) x y (is ∙ sym (ap (λ o. or_else o (if_left x.note x.kind x.below)) is) ∙ e)
-    by_test None is e = left_calls (before a r) x y (sym (ap (λ o. or_else o (if_left x.note x.kind x.below)) is) ∙ e)
+    one : Option Tree
+    one = if_becomes x.note x.kind x.below
 
-    by : (o : Option Tree) → if_becomes x.note x.kind x.below ≡ o → CallsStay (before a r) x y
-    by (Some z) is = if_calls (before a r) x y (is ∙ sym (ap (λ o. or_else (or_else o (test_left x.note x.kind x.below)) (if_left x.note x.kind x.below)) is) ∙ found)
-    by None is = by_test (test_left x.note x.kind x.below) refl (sym (ap (λ o. or_else (or_else o (test_left x.note x.kind x.below)) (if_left x.note x.kind x.below)) is) ∙ found)
+    two : Option Tree
+    two = test_left x.note x.kind x.below
+
+    three : Option Tree
+    three = alternate_left (is_last c.place) x.note x.kind x.below
+
+    four : Option Tree
+    four = if_left x.note x.kind x.below
+
+    by_alternate : (o : Option Tree) → three ≡ o → or_else three four ≡ Some y → CallsStay (before a r) x y
+    by_alternate (Some z) is e = alternate_calls (before a r) (is_last c.place) x y (is ∙ sym (ap (λ o. or_else o four) is) ∙ e)
+    by_alternate None is e = left_calls (before a r) x y (sym (ap (λ o. or_else o four) is) ∙ e)
+
+    by_test : (o : Option Tree) → two ≡ o → or_else (or_else two three) four ≡ Some y → CallsStay (before a r) x y
+    by_test (Some z) is e = test_calls (before a r) x y (is ∙ sym (ap (λ o. or_else (or_else o three) four) is) ∙ e)
+    by_test None is e = by_alternate three refl (sym (ap (λ o. or_else (or_else o three) four) is) ∙ e)
+
+    by : (o : Option Tree) → one ≡ o → CallsStay (before a r) x y
+    by (Some z) is = if_calls (before a r) x y (is ∙ sym (ap (λ o. or_else (or_else (or_else o two) three) four) is) ∙ found)
+    by None is = by_test two refl (sym (ap (λ o. or_else (or_else (or_else o two) three) four) is) ∙ found)
 
 module _ (stays : Stays AnyEdit) (names : Names) where
   pub fold_moves : {c k d : Seen} {x z y : Tree} {answer : Bool} → Does (empty names) c x false k z → Does at_if_end k z answer d y → NodeMoves Names AnyEdit (Holds Own) names c x names d y
@@ -94,5 +112,5 @@ module _ (names : Names) {d : Seen} (quiet : d.requested ≡ false) where
       record {
         names_same = found.names_same;
         context_same = found.context_same;
-        none = ap (λ b. b || is_some (if_ends x.note x.kind x.below) || is_some (pruned f w x)) stays ∙ ap (λ b. b || is_some (pruned f w x)) (sym folds.answers) ∙ found.none;
+        none = ap (λ b. b || is_some (if_ends (is_last c.place) x.note x.kind x.below) || is_some (pruned f w x)) stays ∙ ap (λ b. b || is_some (pruned f w x)) (sym folds.answers) ∙ found.none;
       }

@@ -8,6 +8,7 @@ mod Acting
 mod Expressions
 mod Branches
 mod Tests
+mod Alternates
 mod Pruning
 mod Ending
 mod Repeating

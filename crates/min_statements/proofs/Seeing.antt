@@ -40,6 +40,7 @@ use Rattle.steps.specs.Allowed.KnownOperation.{as_negative, gives_negative, know
 use Rattle.steps.specs.Allowed.UnusedOperation.{acts}
 use Rattle.rules.specs.Expressions.Ifs.{if_becomes}
 use Rattle.rules.specs.Expressions.EmptyIfs.{test_left}
+use Rattle.rules.specs.Expressions.EmptyAlternates.{is_last, alternate_left}
 use Rattle.rules.specs.Expressions.Untaken.{if_left, if_ends}
 use Rattle.rules.specs.Expressions.Settled.{IsSettledAt, IsSettled}
 use Rattle.rules.proofs.Expressions.Walked.{settled_nodes}
@@ -210,13 +211,13 @@ Unchanged f p n k b = is_always_statement k ≡ true → statement_changes f p (
 module _ (f : Facts) (p : Place) (n : Note) where
   -- what a statement that didn't change did neither
   none_goes_empty : (k : Kind) (b : Forest) → statement_changes f p (record { kind = k; note = n; below = b }) ≡ false → becomes_empty f p k b ≡ false
-  none_goes_empty k b e = (neither (becomes_empty f p k b) (is_some (if_ends n k b)) (neither (becomes_empty f p k b || is_some (if_ends n k b)) (is_some (pruned f (where_of p) (record { kind = k; note = n; below = b }))) e).0).0
+  none_goes_empty k b e = (neither (becomes_empty f p k b) (is_some (if_ends (is_last p) n k b)) (neither (becomes_empty f p k b || is_some (if_ends (is_last p) n k b)) (is_some (pruned f (where_of p) (record { kind = k; note = n; below = b }))) e).0).0
 
-  none_ends : (k : Kind) (b : Forest) → statement_changes f p (record { kind = k; note = n; below = b }) ≡ false → is_some (if_ends n k b) ≡ false
-  none_ends k b e = (neither (becomes_empty f p k b) (is_some (if_ends n k b)) (neither (becomes_empty f p k b || is_some (if_ends n k b)) (is_some (pruned f (where_of p) (record { kind = k; note = n; below = b }))) e).0).1
+  none_ends : (k : Kind) (b : Forest) → statement_changes f p (record { kind = k; note = n; below = b }) ≡ false → is_some (if_ends (is_last p) n k b) ≡ false
+  none_ends k b e = (neither (becomes_empty f p k b) (is_some (if_ends (is_last p) n k b)) (neither (becomes_empty f p k b || is_some (if_ends (is_last p) n k b)) (is_some (pruned f (where_of p) (record { kind = k; note = n; below = b }))) e).0).1
 
   none_pruned : (k : Kind) (b : Forest) → statement_changes f p (record { kind = k; note = n; below = b }) ≡ false → is_some (pruned f (where_of p) (record { kind = k; note = n; below = b })) ≡ false
-  none_pruned k b e = (neither (becomes_empty f p k b || is_some (if_ends n k b)) (is_some (pruned f (where_of p) (record { kind = k; note = n; below = b }))) e).1
+  none_pruned k b e = (neither (becomes_empty f p k b || is_some (if_ends (is_last p) n k b)) (is_some (pruned f (where_of p) (record { kind = k; note = n; below = b }))) e).1
 
 -- other kinds never do nothing
 never_idle : (b : Bool) → b && false ≡ false
@@ -248,17 +249,37 @@ second_none (Some y) p e = absurd (true≢false e)
 first_some : (o p : Option Tree) → is_some (or_else o p) ≡ false → is_some o ≡ false
 first_some o p e = ap is_some (first_none o p e)
 
+-- of the rules at the end of an `if`, one after the other, none answers
+record NoneEnds (p : Place) (n : Note) (k : Kind) (b : Forest) : Type 0 where
+  becomes : if_becomes n k b ≡ None
+  tested : test_left n k b ≡ None
+  alternate : alternate_left (is_last p) n k b ≡ None
+  left : if_left n k b ≡ None
+
+each_none : (p : Place) (n : Note) (k : Kind) (b : Forest) → is_some (if_ends (is_last p) n k b) ≡ false → NoneEnds p n k b
+each_none p n k b e =
+    let one = if_becomes n k b in
+    let two = or_else one (test_left n k b) in
+    let three = or_else two (alternate_left (is_last p) n k b) in
+    let firsts = first_some three (if_left n k b) e in
+    let first_two = first_some two (alternate_left (is_last p) n k b) firsts in
+    record { becomes = first_none one (test_left n k b) first_two; tested = second_none one (test_left n k b) first_two; alternate = second_none two (alternate_left (is_last p) n k b) firsts; left = second_none three (if_left n k b) e }
+
 not_tested : (f : Facts) (p : Place) (n : Note) (k : Kind) (b : Forest) → Unchanged f p n k b → test_left n k b ≡ None
-not_tested f p n if_statement b h = second_none (if_becomes n if_statement b) (test_left n if_statement b) (first_some (or_else (if_becomes n if_statement b) (test_left n if_statement b)) (if_left n if_statement b) (none_ends f p n if_statement b (h refl)))
+not_tested f p n if_statement b h = (each_none p n if_statement b (none_ends f p n if_statement b (h refl))).tested
 not_tested f p n k b h = refl
 
+not_alternate : (f : Facts) (p : Place) (n : Note) (k : Kind) (b : Forest) → Unchanged f p n k b → alternate_left (is_last p) n k b ≡ None
+not_alternate f p n if_statement b h = (each_none p n if_statement b (none_ends f p n if_statement b (h refl))).alternate
+not_alternate f p n k b h = refl
+
 not_known : (f : Facts) (p : Place) (n : Note) (k : Kind) (b : Forest) → Unchanged f p n k b → if_becomes n k b ≡ None
-not_known f p n if_statement b h = first_none (if_becomes n if_statement b) (test_left n if_statement b) (first_some (or_else (if_becomes n if_statement b) (test_left n if_statement b)) (if_left n if_statement b) (none_ends f p n if_statement b (h refl)))
-not_known f p n try_statement b h = first_none (if_becomes n try_statement b) (test_left n try_statement b) (first_some (or_else (if_becomes n try_statement b) (test_left n try_statement b)) (if_left n try_statement b) (none_ends f p n try_statement b (h refl)))
+not_known f p n if_statement b h = (each_none p n if_statement b (none_ends f p n if_statement b (h refl))).becomes
+not_known f p n try_statement b h = (each_none p n try_statement b (none_ends f p n try_statement b (h refl))).becomes
 not_known f p n k b h = refl
 
 not_left : (f : Facts) (p : Place) (n : Note) (k : Kind) (b : Forest) → Unchanged f p n k b → if_left n k b ≡ None
-not_left f p n if_statement b h = second_none (or_else (if_becomes n if_statement b) (test_left n if_statement b)) (if_left n if_statement b) (none_ends f p n if_statement b (h refl))
+not_left f p n if_statement b h = (each_none p n if_statement b (none_ends f p n if_statement b (h refl))).left
 not_left f p n k b h = refl
 
 none_unused : (f : Facts) (p : Place) (n : Note) (k : Kind) (b : Forest) → Unchanged f p n k b → (let x : Tree = record { kind = k; note = n; below = b } in pruned f (where_of p) x ≡ None)
@@ -377,7 +398,7 @@ none_behind f w n k b h = refl
 settled_at : (f : Facts) (p : Place) (x : Tree) → IsAlive f p x → HasSlots p x → IsSettledAt p x
 settled_at f p x h slots =
     let e = settled_kind (spot_of p) x.note x.kind x.below (λ e. h.expression (slots.expression e)) in
-    record { conditional = e.0; logical = e.1; unused = e.2; list = e.3; indirect = e.4; one_sided = e.5; sequence = e.6; two_sides = e.7; object = e.8; known = e.9; statement = not_known f p x.note x.kind x.below (λ e. h.statement (slots.statement e)); test = not_tested f p x.note x.kind x.below (λ e. h.statement (slots.statement e)); jumps = none_behind f (where_of p) x.note x.kind x.below (λ e. h.list (slots.list e)); untaken = not_left f p x.note x.kind x.below (λ e. h.statement (slots.statement e)) }
+    record { conditional = e.0; logical = e.1; unused = e.2; list = e.3; indirect = e.4; one_sided = e.5; sequence = e.6; two_sides = e.7; object = e.8; known = e.9; statement = not_known f p x.note x.kind x.below (λ e. h.statement (slots.statement e)); test = not_tested f p x.note x.kind x.below (λ e. h.statement (slots.statement e)); alternate = not_alternate f p x.note x.kind x.below (λ e. h.statement (slots.statement e)); jumps = none_behind f (where_of p) x.note x.kind x.below (λ e. h.list (slots.list e)); untaken = not_left f p x.note x.kind x.below (λ e. h.statement (slots.statement e)) }
 
 -- Nothing of a program goes by what is known that a walk found as it is, and no expression of it comes to its parts or its value.
 pub none_goes : (s s' : Names) (k k' : Seen) (x y : Tree) → k.place ≡ outside → y ≡ x → Fits root (forest_of y) → Visits Visited is_written top (forest_of x) s k s' k' → IsQuiet (facts_of s' k') (forest_of y)

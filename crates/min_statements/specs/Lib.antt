@@ -4,6 +4,7 @@ pub mod Shed
 pub mod Acts
 pub mod Ifs
 pub mod Tests
+pub mod Alternates
 pub mod Own
 pub mod Behind
 pub mod Untaken

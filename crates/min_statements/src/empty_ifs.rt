@@ -25,7 +25,7 @@ fn is_nothing(children: &[Option<Node>]) -> bool
     }
 }
 
-fn is_empty(node: &Node) -> bool
+pub(crate) fn is_empty(node: &Node) -> bool
     ensures { result ≡ is_empty node.now }
 {
     match node.kind() {

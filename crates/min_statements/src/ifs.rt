@@ -9,6 +9,7 @@ ghost use Rattle.min_statements.specs.Ifs.{branches_of, told_branches, index_if,
 
 use crate::blocks::idles;
 use crate::emptied::put_empty;
+use crate::empty_alternates::fold_empty_alternate;
 use crate::empty_ifs::fold_empty_if;
 use crate::inside::declares_no_name;
 use crate::tries::{are_blocks, has_no_loop, is_block};
@@ -174,8 +175,8 @@ fn thin_branch(node: &mut Node, ctx: &mut MinifierTraverseCtx) -> bool
 
 /// An `if` on a test that is known becomes the branch that runs, if that means the same wherever it stands and the other one declares no
 /// name around it; and empty, if there is no branch to run. A `try` around nothing becomes its finalizer, or its block. An `if` whose
-/// branches are empty becomes a statement of its test. Else, what declares no name around it leaves the branch that isn't taken. The
-/// context is told.
+/// branches are empty becomes a statement of its test. One with an empty alternate loses that, where none of an `if` around may follow.
+/// Else, what declares no name around it leaves the branch that isn't taken. The context is told.
 pub fn try_fold_if(node: &mut Node, ctx: &mut MinifierTraverseCtx) -> bool
     ensures does { Does at_if_end ctx.old node.old result ctx.new node.new }
 {
@@ -190,6 +191,8 @@ pub fn try_fold_if(node: &mut Node, ctx: &mut MinifierTraverseCtx) -> bool
         }
         None => {
             if fold_empty_if(node, ctx) {
+                true
+            } else if fold_empty_alternate(node, ctx) {
                 true
             } else {
                 thin_branch(node, ctx)

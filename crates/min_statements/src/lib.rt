@@ -4,8 +4,8 @@
 //! and what rules/DeadCode says goes of it (`trim_statements`), or imports without names behind other requests of their modules
 //! (`remove_repeated_imports`), behind a silent statement elsewhere it leaves an empty one, and so behind a branch or a body that does
 //! nothing (`empty_statement`), behind an `if` on a test that is known the branch that runs, or an empty statement, or the `if` without
-//! what declares no name in the other branch, and without the values there, and behind one whose branches are empty a statement of its test
-//! (`try_fold_if`), behind an import the import without the names that nobody uses (`remove_unused_import_specifiers`), behind an
+//! what declares no name in the other branch, and without the values there, behind one whose branches are empty a statement of its test, and
+//! behind one with an empty alternate the `if` without it (`try_fold_if`), behind an import the import without the names that nobody uses (`remove_unused_import_specifiers`), behind an
 //! expression that a known test decides the part that counts, alone, behind a zero, or behind the test where that acts, behind an operation
 //! of which nobody takes the value the operands that act, behind such an array, object or sequence its parts that act, and behind an
 //! operation that doesn't act its value (min_expressions). Each call does exactly what its rule says, marks what left before it is let go,
@@ -17,6 +17,7 @@
 
 mod blocks;
 mod emptied;
+mod empty_alternates;
 mod empty_ifs;
 mod facts;
 mod goes;

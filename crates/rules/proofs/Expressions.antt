@@ -10,6 +10,7 @@ pub mod Objects
 pub mod Operations
 pub mod Ifs
 pub mod EmptyIfs
+pub mod EmptyAlternates
 pub mod Jumps
 pub mod Thinner
 pub mod Untaken

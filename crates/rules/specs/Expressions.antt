@@ -9,6 +9,7 @@ pub mod Objects
 pub mod Operations
 pub mod Ifs
 pub mod EmptyIfs
+pub mod EmptyAlternates
 pub mod Jumps
 pub mod Untaken
 pub mod Known

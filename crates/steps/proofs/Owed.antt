@@ -72,6 +72,8 @@ pub mod BodyPlace
 pub mod IdleBody
 pub mod TestCounts
 pub mod EmptyIf
+pub mod AlternateCounts
+pub mod EmptyAlternate
 pub mod LeftRuns
 pub mod SilentAnywhere
 pub mod UnusedPlace

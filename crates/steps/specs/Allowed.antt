@@ -35,6 +35,7 @@ pub mod UnrunValue
 pub mod IdleTry
 pub mod IdleBody
 pub mod EmptyIf
+pub mod EmptyAlternate
 pub mod Edits
 pub mod Arranged
 pub mod Rows

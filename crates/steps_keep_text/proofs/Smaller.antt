@@ -22,6 +22,7 @@ module _ (counts : Kind → ℕ) (spares : IsSparing counts) where
   cut_lighter listed t u (cuts.empties l n m below rest) = Prim.omega (arith, spares.empty)
   cut_lighter listed t u (cuts.empties_idle l k n m below rest idle) = Prim.omega (arith, spares.empty_idle k idle)
   cut_lighter listed t u (cuts.tests l k z n m i b after rest tested) = Prim.omega (arith, spares.statement_of_test k tested)
+  cut_lighter listed t u (cuts.alternate y l i j o d b) = Prim.omega arith
   cut_lighter listed t u (cuts.parts i k l n m b v w rest gives unasked) = Prim.omega (arith, total_joined counts v (node l m b w))
   cut_lighter listed t u (cuts.rebuilds i k l n m a b rest made) = Prim.omega (arith, picked_counts counts spares made.picks)
   cut_lighter listed t u (cuts.inside l k n below now rest called c) = Prim.omega (arith, cut_lighter (is_list k) below now c)
@@ -61,6 +62,7 @@ cut_levels more at listed t u (cuts.leaves k n below rest plain) level = Prim.om
 cut_levels more at listed t u (cuts.empties l n m below rest) level = Prim.omega arith
 cut_levels more at listed t u (cuts.empties_idle l k n m below rest idle) level = Prim.omega (arith, one_idle k idle)
 cut_levels more at listed t u (cuts.tests z k l n m i b after rest tested) level = tested_kinds (λ y. levels_at more at (node expression_statement m (node l i b nothing) rest) ≤ levels_at more at (node y n (node l i b after) rest)) (Prim.omega arith) k tested
+cut_levels more at listed t u (cuts.alternate y l i j o d b) level = Prim.omega arith
 cut_levels more at listed t u (cuts.parts i k l n m b v w rest gives unasked) level = Prim.omega (arith, part_levels (lower k) 0 v l m b w)
 cut_levels more at listed t u (cuts.rebuilds i k l n m a b rest made) level = Prim.omega (arith, made.no_deeper)
 cut_levels more at listed t u (cuts.inside l k n below now rest called c) level = Prim.omega (arith, cut_levels (lower k) 0 (is_list k) below now c (list_level k))

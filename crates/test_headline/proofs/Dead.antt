@@ -46,6 +46,7 @@ use Rattle.steps.specs.Allowed.RepeatedImport.{repeated_import_leaves}
 use Rattle.steps.specs.Allowed.IdleStatement.{idle_leaves}
 use Rattle.steps.specs.Allowed.IdleTry.{finalizer_is_run, finalizer_is_run_alone, block_is_run}
 use Rattle.steps.specs.Allowed.EmptyIf.{test_stays}
+use Rattle.steps.specs.Allowed.EmptyAlternate.{alternate_goes}
 use Rattle.steps.specs.Allowed.IdleBody.{is_idle_statement, idle_body_empties}
 use Rattle.steps.specs.Allowed.UnrunValue.{is_value_of, is_value, value_never_given}
 use Rattle.steps.specs.Allowed.Uses.{Use}
@@ -53,7 +54,7 @@ use Rattle.steps.proofs.Owed.IdleStatement.{idle_runs}
 use Rattle.steps.proofs.KeepForm.Asked.{idle_kinds}
 use Rattle.steps.proofs.Owed.IdleBody.{body_kind}
 use Rattle.headline.specs.Headline.{ImportsAreUsed}
-use Rattle.headline.specs.Clean.{IsDead, an_empty_statement, an_empty_block, a_silent_statement, an_unused_function, an_unused_declarator, an_unused_import, a_known_conditional, a_known_side, an_unused_operation, an_unused_list, an_indirect_choice, a_one_sided_choice, idle_parts, two_sides, an_unused_object, a_known_operation, a_known_if, a_dead_if, an_empty_if, an_unreached_statement, an_untaken_statement, an_unrun_value, an_idle_statement, a_repeated_import, an_idle_try, an_idle_body, Clean}
+use Rattle.headline.specs.Clean.{IsDead, an_empty_statement, an_empty_block, a_silent_statement, an_unused_function, an_unused_declarator, an_unused_import, a_known_conditional, a_known_side, an_unused_operation, an_unused_list, an_indirect_choice, a_one_sided_choice, idle_parts, two_sides, an_unused_object, a_known_operation, a_known_if, a_dead_if, an_empty_if, an_empty_alternate, an_unreached_statement, an_untaken_statement, an_unrun_value, an_idle_statement, a_repeated_import, an_idle_try, an_idle_body, Clean}
 use Rattle.min_peephole.specs.Quiet.{is_quiet}
 use Rattle.min_peephole.proofs.Quieted.{quiet_clean}
 use Rattle.test_headline.specs.Rows as row
@@ -201,6 +202,10 @@ try_is_dead c = c.nothing_is_dead (before []) _ refl (an_idle_try (before []) _ 
 -- if (a) ;
 pub test_is_dead : Clean row.tests_for_nothing → ⊥
 test_is_dead c = c.nothing_is_dead (before []) _ refl (an_empty_if (before []) _ _ (test_stays nowhere nowhere nowhere _ _ _ refl refl))
+
+-- if (a) a(); else ;
+pub alternate_is_dead : Clean row.ends_in_nothing → ⊥
+alternate_is_dead c = c.nothing_is_dead (before []) _ refl (an_empty_alternate (before []) _ _ (alternate_goes nowhere nowhere nowhere nowhere _ _ _ _ refl))
 
 -- while (a) {}
 pub body_is_dead : Clean row.turns_around_block → ⊥
@@ -755,6 +760,7 @@ dead_suspect t a x is (an_idle_try b y z (finalizer_is_run n i j c d idle loops)
 dead_suspect t a x is (an_idle_try b y z (finalizer_is_run_alone n i h j k c d e idle none loops)) = ap has_suspect is ∙ suspect_there b _ refl
 dead_suspect t a x is (an_idle_try b y z (block_is_run n i h k c d idle none)) = ap has_suspect is ∙ suspect_there b _ refl
 dead_suspect t a x is (an_empty_if b y z (test_stays n m o v d branches empty unnamed)) = ap has_suspect is ∙ suspect_there b _ refl
+dead_suspect t a x is (an_empty_alternate b y z (alternate_goes n i j o v l d e last)) = ap has_suspect is ∙ suspect_there b _ refl
 dead_suspect t a x is (an_idle_body b _ _ (idle_body_empties y m body idle none)) = ap has_suspect is ∙ suspect_there b y (body_suspect y.kind y.below idle)
 dead_suspect t a x is (an_idle_statement b y (idle_leaves item idle none)) = ap has_suspect is ∙ suspect_there b y (runs_suspect y.kind (idle_runs y.kind y.below idle))
 dead_suspect t a x is (a_repeated_import b _ (repeated_import_leaves source n m item asked)) = ap has_suspect is ∙ suspect_there b _ refl

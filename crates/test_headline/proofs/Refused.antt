@@ -14,7 +14,7 @@ use Rattle.js_meaning.specs.Trace.{Act, ShownExport, Event, Ending, ended, Run}
 use Rattle.js_meaning.specs.Kept.{Kept, KeptBack, Keeps, ComesBack}
 use Rattle.headline.specs.Headline.{Headline}
 use Rattle.test_headline.specs.Rows as row
-use Rattle.test_headline.proofs.Dead.{number_is_dead, conditional_is_dead, tested_is_dead, side_is_dead, operation_is_dead, list_is_dead, choice_is_dead, branch_is_dead, part_is_dead, behind_one_is_dead, sides_are_dead, object_is_dead, known_is_dead, if_holds_is_dead, if_fails_is_dead, unreached_is_dead, untaken_is_dead, acting_is_dead, block_is_dead, loop_is_dead, value_is_dead, label_is_dead, try_is_dead, body_is_dead, test_is_dead}
+use Rattle.test_headline.proofs.Dead.{number_is_dead, conditional_is_dead, tested_is_dead, side_is_dead, operation_is_dead, list_is_dead, choice_is_dead, branch_is_dead, part_is_dead, behind_one_is_dead, sides_are_dead, object_is_dead, known_is_dead, if_holds_is_dead, if_fails_is_dead, unreached_is_dead, untaken_is_dead, acting_is_dead, block_is_dead, loop_is_dead, value_is_dead, label_is_dead, try_is_dead, body_is_dead, test_is_dead, alternate_is_dead}
 use Rattle.test_headline.proofs.Runs.{answers, gives_function, empty_runs, export_runs, call_runs, import_runs, own_call_runs, no_call_runs, chosen_runs, member_runs, loop_runs}
 
 -- what is asked of two runs is asked of what they compute to
@@ -150,6 +150,9 @@ try_goes h = try_is_dead h.clean
 
 pub test_goes : Headline row.tests_for_nothing row.tests_for_nothing → ⊥
 test_goes h = test_is_dead h.clean
+
+pub alternate_goes : Headline row.ends_in_nothing row.ends_in_nothing → ⊥
+alternate_goes h = alternate_is_dead h.clean
 
 pub body_goes : Headline row.turns_around_block row.turns_around_block → ⊥
 body_goes h = body_is_dead h.clean

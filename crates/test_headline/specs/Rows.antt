@@ -238,6 +238,10 @@ leaves_label = form.a_module (labeled (form.block (breaks_label ∷ form.does ca
 abbrev pub runs_finalizer : Forest
 runs_finalizer = form.a_module (finally_alone (form.does call_of_a ∷ []) ∷ [])
 
+-- if (a) a(); else ;
+abbrev pub ends_in_nothing : Forest
+ends_in_nothing = form.a_module (either_way (form.reads form.a) (calls (form.reads form.a) []) (form.leaf Kind.EmptyStatement) ∷ [])
+
 -- if (a) ;
 abbrev pub tests_for_nothing : Forest
 tests_for_nothing = form.a_module (either_way (form.reads form.a) (form.leaf Kind.EmptyStatement) form.no ∷ [])

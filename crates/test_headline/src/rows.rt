@@ -68,7 +68,7 @@ pub fn what_others_may_use_stays()
 /// a));` and of `(1, o.g)();`, the comparison of `a() === b();`, the negation of `use(!0);`, the `if` of `if (1) a(); else b();` and of `if
 /// (null) a();`, the call of `throw 1; a();`, that of `b` in `if (null) { var a = 1; b(); } use(a);` and in `if (a && null) { b(); }`, `l:
 /// { {} }`, `l: while (null) a();`, the call of `if (null) var a = b(); use(a);`, `l: { break l; a(); }`, the `try` of `try {} finally {
-/// a(); }`, the block of `while (a) {}`, or the `if` of `if (a) ;`.
+/// a(); }`, the block of `while (a) {}`, the `if` of `if (a) ;`, or the alternate of `if (a) a(); else ;`.
 pub fn dead_code_goes()
     ensures number { Headline row.dead row.dead → ⊥ }
     ensures conditional { Headline row.takes_branch row.takes_branch → ⊥ }
@@ -95,6 +95,7 @@ pub fn dead_code_goes()
     ensures finalizer { Headline row.runs_finalizer row.runs_finalizer → ⊥ }
     ensures body { Headline row.turns_around_block row.turns_around_block → ⊥ }
     ensures test { Headline row.tests_for_nothing row.tests_for_nothing → ⊥ }
+    ensures alternate { Headline row.ends_in_nothing row.ends_in_nothing → ⊥ }
 {}
 
 /// `1;` is dead code, and so are `{ ; }`'s empty statement, a function that nothing calls, one of two declarators, a name of an import that
@@ -110,7 +111,8 @@ pub fn dead_code_goes()
 /// test: `if (a && null) { b(); }`, a block of nothing, or what labels one: `l: { {} }`, a loop that never turns: `l: while (null) a();`, a
 /// value that is never given: `if (null) var a = b(); use(a);`, an import without names behind one of its module: `import a from 'm';
 /// import 'm';`, what a jump to its label leaves at once: `l: { break l; a(); }`, a `try` around nothing: `try {} finally { a(); }`, a
-/// block of nothing that is a body: `while (a) {}`, and an `if` whose branches are empty: `if (a) ;`.
+/// block of nothing that is a body: `while (a) {}`, an `if` whose branches are empty: `if (a) ;`, and an empty alternate: `if (a) a(); else
+/// ;`.
 pub fn dead_code_is_told()
     ensures number { Clean (a_module (does one ∷ [])) → ⊥ }
     ensures empty { Clean (a_module (block (empty ∷ []) ∷ [])) → ⊥ }
@@ -143,6 +145,7 @@ pub fn dead_code_is_told()
     ensures finalizer { Clean row.runs_finalizer → ⊥ }
     ensures body { Clean row.turns_around_block → ⊥ }
     ensures test { Clean row.tests_for_nothing → ⊥ }
+    ensures alternate { Clean row.ends_in_nothing → ⊥ }
 {}
 
 /// A call is none, nor a function that is exported, a variable beside a direct call of `eval`, a function of a script, a

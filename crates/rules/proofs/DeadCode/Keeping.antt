@@ -2,7 +2,7 @@
 use Rattle.std.proofs.Common.{◌≡◌, ◌∙◌, ℕ, Bool, true, false, true≢false, ◌||◌, refl, sym, subst}
 use Rattle.js_syntax.specs.declared.node_kind.NodeKind.{NodeKind as Kind}
 use Rattle.js_syntax.specs.Class.{root}
-use Rattle.js_syntax.specs.Node.{Forest, Note, node, joined}
+use Rattle.js_syntax.specs.Node.{Forest, Note, node, joined, nothing, absent}
 use Rattle.json_shape.specs.Shape.{Fits}
 use Rattle.js_effects.specs.Silence.{is_marked}
 use Rattle.scope_counts.specs.Losing.{left, MarksWhatLeft}
@@ -13,7 +13,7 @@ use Rattle.steps.specs.Owed.Kept.{is_program}
 use Rattle.steps.proofs.Owed.FitsEdits.{edit_fits, tree_edits_fit}
 use Rattle.steps.specs.Marked.Flags.{first_mark}
 use Rattle.steps.proofs.KeepForm.Asked.{idle_kinds, tested_kinds}
-use Rattle.steps.proofs.Marked.Cuts.{Cuts, leaves, empties, empties_idle, tests, parts, rebuilds, inside, behind, behind_none, edit_cuts}
+use Rattle.steps.proofs.Marked.Cuts.{Cuts, leaves, empties, empties_idle, tests, alternate, parts, rebuilds, inside, behind, behind_none, edit_cuts}
 use Rattle.steps.proofs.Marked.Exposing.{part_no_program}
 use Rattle.steps.proofs.Marked.Telling.{no_program, edits_told}
 use Rattle.steps.proofs.Marked.Tables.{edits_keep_marked}
@@ -39,6 +39,8 @@ root_cut listed t u (leaves k n below rest plain) l e = absurd (true≢false l)
 root_cut listed t u (empties r n m below rest) l e = never e
 root_cut listed t u (empties_idle r k n m below rest idle) l e = never (idle_kinds (λ z. false ≡ is_program (node z n below rest)) refl refl refl refl refl (λ label. refl) k idle ∙ e)
 root_cut listed t u (tests r k x n m i b after rest tested) l e = never (tested_kinds (λ z. false ≡ is_program (node z n (node x i b after) rest)) refl k tested ∙ e)
+root_cut listed t u (alternate y l i j o d b) m e =
+    record { script = script_first y i i d d (node l j b (absent nothing)) (node l j b (node Kind.EmptyStatement o nothing nothing)); mark = refl }
 root_cut listed t u (parts r k x i j b v w rest gives unasked) l e = never (sym (no_program k i (joined v (node x j b w)) rest gives) ∙ e)
 root_cut listed t u (rebuilds r k x n m a b rest made) l e = never (sym (part_no_program k n a rest made.old_unasked) ∙ e)
 root_cut listed t u (inside r k n below now rest called h) l e = record { script = script_first k n n now below rest rest; mark = refl }

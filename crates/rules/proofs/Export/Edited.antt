@@ -37,9 +37,10 @@ use Rattle.steps.specs.Allowed.RepeatedImport.{import_of, repeated_import_leaves
 use Rattle.steps.specs.Allowed.UnrunValue.{value_never_given}
 use Rattle.steps.specs.Allowed.DeadIf.{DeadIf, nothing_is_run}
 use Rattle.steps.specs.Allowed.EmptyIf.{are_empty, test_stays}
+use Rattle.steps.specs.Allowed.EmptyAlternate.{alternate_goes}
 use Rattle.steps.specs.Allowed.KnownIf.{an_if}
 use Rattle.steps.specs.Allowed.IdleBody.{idle_body_empties}
-use Rattle.steps.specs.Allowed.Edits.{Leaves, empty_statement, empty_block, unused_function, unused_declarator, unused_declaration, unused_import, unreached, untaken, idle_statement, repeated_import, Becomes, silent_statement, known_conditional, known_side, known_if, dead_if, unused_operation, unused_list, indirect_choice, one_sided_choice, idle_parts, two_sides, unused_object, known_operation, unrun_value, idle_try, idle_body, empty_if, Edit, leaves, becomes, TreeEdits, no_tree_edit, one_tree_edit}
+use Rattle.steps.specs.Allowed.Edits.{Leaves, empty_statement, empty_block, unused_function, unused_declarator, unused_declaration, unused_import, unreached, untaken, idle_statement, repeated_import, Becomes, silent_statement, known_conditional, known_side, known_if, dead_if, unused_operation, unused_list, indirect_choice, one_sided_choice, idle_parts, two_sides, unused_object, known_operation, unrun_value, idle_try, idle_body, empty_if, empty_alternate, Edit, leaves, becomes, TreeEdits, no_tree_edit, one_tree_edit}
 use Rattle.steps.specs.Owed.Kept.{is_program}
 use Rattle.steps.specs.Owed.Owed.{ByPart, ByParts}
 use Rattle.steps.specs.Owed.Part.{DeclaresNothing}
@@ -75,7 +76,7 @@ use Rattle.steps.proofs.Marked.Telling.{no_program}
 use Rattle.steps.proofs.Marked.Unexporting.{exports_collected, collected_declared, edits_export}
 use Rattle.rules.specs.DeadCode.Quiet.{IsExported}
 use Rattle.rules.proofs.Export.Going.{Gone, empty_gone, import_gone, statement_gone, function_gone, declarator_gone, declaration_gone}
-use Rattle.rules.proofs.Export.Staying.{made, made_without, made_plug, LeavesLists, Stays, whole, part_stays, undeclared_stays}
+use Rattle.rules.proofs.Export.Staying.{made, made_without, made_plug, LeavesLists, Stays, whole, part_stays, undeclared_stays, alternate_stays}
 
 -- ---- at a place
 
@@ -218,6 +219,10 @@ module _ (e : BindingSite) (top : e.layer.scope ≡ 0) where
       subst ExportedBy (made_plug a y)
       (settled a x (Some y) Anything fits (λ rest. refl) (λ f. absurd (true≢false f)) (anywhere (Some x) false (λ at. outermost) 0 0 a)
       (λ w c next some any. undeclared_stays e top x (Some y) (empty_if_declares_nothing a n m tested d branches empty fits) c next some) h)
+  changed a x y (empty_alternate (alternate_goes n i j o tested l d b last)) fits h =
+      subst ExportedBy (made_plug a y)
+      (settled a x (Some y) Anything fits (λ rest. refl) (λ f. absurd (true≢false f)) (anywhere (Some x) false (λ at. outermost) 0 0 a)
+      (λ w c next some any. alternate_stays e top n i j o tested l d b c next some) h)
   changed a x y (idle_body (idle_body_empties _ m body idle none)) fits h =
       subst ExportedBy (made_plug a y)
       (settled a x (Some y) Anything fits (λ rest. idle_kinds (λ z. is_program (node z x.note x.below rest) ≡ false) refl refl refl refl refl (λ label. refl) x.kind (body_kind x.kind x.below idle)) (λ f. absurd (true≢false f))

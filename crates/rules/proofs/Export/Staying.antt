@@ -23,6 +23,7 @@ use Rattle.steps.specs.Naming.Standing.{is_export}
 use Rattle.steps.proofs.Naming.Sites.{InThree, in_first, in_second, in_third, binding_in}
 use Rattle.steps.specs.Allowed.Silent.{HoldsThere}
 use Rattle.steps.specs.Allowed.Places.{At}
+use Rattle.steps.specs.Allowed.KnownIf.{an_if}
 use Rattle.steps.specs.Owed.Kept.{is_program}
 use Rattle.steps.specs.Owed.Part.{DeclaresNothing, IsPart}
 use Rattle.steps.specs.Marked.Exports.{IsMarkedAmong}
@@ -257,3 +258,11 @@ part_stays e top x y gives part c next some all a same h =
 -- what declares nothing may become anything, or go
 pub undeclared_stays : (e : BindingSite) → e.layer.scope ≡ 0 → (x : Tree) (y : Option Tree) → DeclaresNothing (forest_of x) → (c : Context) (next : ℕ) → 0 < next → Stays e x y c next
 undeclared_stays e top x y none c next some all a same h = absurd (declares_none (forest_of x) none all (λ at. c) 0 next e (Prim.omega (arith, some, top)) h)
+
+-- what stands before an alternate that goes declares what it did
+pub alternate_stays : (e : BindingSite) → e.layer.scope ≡ 0 → (n i j o : Note) (t l : Kind) (d b : Forest) (c : Context) (next : ℕ) → 0 < next
+    → Stays e (an_if n t i d (node l j b (node kind.EmptyStatement o nothing nothing))) (Some (an_if n t i d (node l j b (absent nothing)))) c next
+alternate_stays e top n i j o t l d b c next some true a same h =
+    is_gathered e true (λ at. c) (λ at. a) 0 next (one_place (Some (an_if n t i d (node l j b (node kind.EmptyStatement o nothing nothing))))) (Prim.omega (arith, some, top)) (λ i. same) h
+alternate_stays e top n i j o t l d b c next some false a same h =
+    is_gathered e false (λ at. c) (λ at. a) 0 next (one_place (Some (an_if n t i d (node l j b (node kind.EmptyStatement o nothing nothing))))) (Prim.omega (arith, some, top)) (λ i. same) h

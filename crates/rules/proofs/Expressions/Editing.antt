@@ -6,7 +6,8 @@ use Rattle.min_context.specs.Place.{place_at}
 use Rattle.scope_laws.specs.Place as places
 use Rattle.scope_counts.specs.Edits.{Around, plug}
 use Rattle.steps.specs.Allowed.EmptyIf.{EmptyIf}
-use Rattle.steps.specs.Allowed.Edits.{Becomes, Edit, becomes, known_conditional, known_side, known_if, dead_if, empty_if, idle_try, unused_operation, unused_list, indirect_choice, one_sided_choice, idle_parts, two_sides, unused_object, known_operation}
+use Rattle.steps.specs.Allowed.EmptyAlternate.{EmptyAlternate}
+use Rattle.steps.specs.Allowed.Edits.{Becomes, Edit, becomes, known_conditional, known_side, known_if, dead_if, empty_if, empty_alternate, idle_try, unused_operation, unused_list, indirect_choice, one_sided_choice, idle_parts, two_sides, unused_object, known_operation}
 use Rattle.steps.specs.Allowed.KnownConditional.{KnownConditional, a_conditional, consequent_is_taken, alternate_is_taken}
 use Rattle.steps.specs.Allowed.KnownSide.{KnownSide, a_logical, right_side_counts, left_side_decides}
 use Rattle.steps.specs.Allowed.UnusedOperation.{UnusedOperation}
@@ -101,6 +102,9 @@ if_edit a x y rest (inr (inr idle)) = edit_there a x y rest (idle_try idle)
 
 pub empty_if_edit : (a : Around) (x y : Tree) (rest : Forest) → EmptyIf x y → Edit (plug a (node x.kind x.note x.below rest)) (plug a (node y.kind y.note y.below rest))
 empty_if_edit a x y rest o = edit_there a x y rest (empty_if o)
+
+pub empty_alternate_edit : (a : Around) (x y : Tree) (rest : Forest) → EmptyAlternate (before a rest) x y → Edit (plug a (node x.kind x.note x.below rest)) (plug a (node y.kind y.note y.below rest))
+empty_alternate_edit a x y rest o = edit_there a x y rest (empty_alternate o)
 
 pub known_edit : (a : Around) (x y : Tree) (rest : Forest) → KnownOperation (before a rest) x y → Edit (plug a (node x.kind x.note x.below rest)) (plug a (node y.kind y.note y.below rest))
 known_edit a x y rest o = edit_there a x y rest (known_operation o)

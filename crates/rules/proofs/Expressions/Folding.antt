@@ -20,6 +20,7 @@ use Rattle.rules.specs.Expressions.TwoSides.{two_sides_become, fold_two_sides}
 use Rattle.rules.specs.Expressions.Objects.{object_left, fold_object}
 use Rattle.rules.specs.Expressions.Operations.{fold_known}
 use Rattle.rules.specs.Expressions.EmptyIfs.{fold_empty_if}
+use Rattle.rules.specs.Expressions.EmptyAlternates.{is_last, alternate_left, fold_empty_alternate}
 use Rattle.rules.specs.Expressions.Ifs.{fold_if}
 use Rattle.rules.specs.Expressions.Jumps.{cut_list}
 use Rattle.rules.specs.Expressions.Untaken.{rid_if, at_if_end}
@@ -36,8 +37,9 @@ use Rattle.rules.proofs.Expressions.TwoSides.{two_sides_is_less, two_sides_edits
 use Rattle.rules.proofs.Expressions.Objects.{object_is_less, object_edits_there}
 use Rattle.rules.proofs.Expressions.Operations.{known_is_less, known_edits}
 use Rattle.rules.proofs.Expressions.EmptyIfs.{empty_if_is_less, empty_if_edits}
+use Rattle.rules.proofs.Expressions.EmptyAlternates.{empty_alternate_is_less, empty_alternate_edits}
 use Rattle.rules.proofs.Expressions.Ifs.{if_is_less, if_edits}
-use Rattle.rules.proofs.Expressions.Editing.{conditional_edit, logical_edit, unused_edit, list_edit, indirect_edit, one_sided_edit, sequence_edit, two_sides_edit, object_edit, known_edit, if_edit, empty_if_edit}
+use Rattle.rules.proofs.Expressions.Editing.{conditional_edit, logical_edit, unused_edit, list_edit, indirect_edit, one_sided_edit, sequence_edit, two_sides_edit, object_edit, known_edit, if_edit, empty_if_edit, empty_alternate_edit}
 
 module _ (E : CompressOptions → Forest → Forest → Type 0) (makes : (o : CompressOptions) (t u : Forest) → Edit t u → E o t u) where
   pub conditionals_fold : Lawful E fold_conditional
@@ -129,6 +131,13 @@ module _ (E : CompressOptions → Forest → Forest → Type 0) (makes : (o : Co
     lighter = λ c x y e. (empty_if_is_less x y e).lighter;
   }
 
+  pub alternates_fold : Lawful E fold_empty_alternate
+  alternates_fold = record {
+    edits = λ c a x y r h at e. one_edit (makes c.options (plug a (before x r)) (plug a (before y r)) (empty_alternate_edit a x y r (empty_alternate_edits a r x y (ap (λ p. alternate_left (is_last p) x.note x.kind x.below) at ∙ e)))) no_edit;
+    thins = λ c x y e. (empty_alternate_is_less (is_last c.place) x y e).thins;
+    lighter = λ c x y e. (empty_alternate_is_less (is_last c.place) x y e).lighter;
+  }
+
   made_by : (o : CompressOptions) {t u : Forest} → TreeEdits t u → Edits (E o) t u
   made_by o (no_tree_edit t) = no_edit
   made_by o (one_tree_edit t u v e more) = one_edit (makes o t u e) (made_by o more)
@@ -148,7 +157,7 @@ module _ (E : CompressOptions → Forest → Forest → Type 0) (makes : (o : Co
   }
 
   pub ifs_end : Lawful E at_if_end
-  ifs_end = either_lawful (either_lawful ifs_fold tests_fold) ifs_rid
+  ifs_end = either_lawful (either_lawful (either_lawful ifs_fold tests_fold) alternates_fold) ifs_rid
 
   pub expressions_fold : Lawful E at_expression_end
   expressions_fold = either_lawful (either_lawful (either_lawful (either_lawful (either_lawful (either_lawful (either_lawful (either_lawful (either_lawful conditionals_fold logicals_fold) unused_fold) lists_fold) indirect_fold) one_sided_fold) sequences_fold) two_sides_fold) objects_fold) known_fold

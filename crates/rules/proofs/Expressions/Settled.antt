@@ -1,5 +1,5 @@
 -- Where the rules have no answer no edit of theirs applies.
-use Rattle.std.proofs.Common.{◌≡◌, ◌∙◌, inl, inr, Some, refl, sym, ap}
+use Rattle.std.proofs.Common.{◌≡◌, ◌∙◌, inl, inr, Some, refl, sym, ap, subst}
 use Rattle.js_syntax.specs.Node.{Forest, Tree}
 use Rattle.min_context.specs.Place.{place_at}
 use Rattle.scope_laws.specs.Place as places
@@ -17,6 +17,7 @@ use Rattle.steps.specs.Allowed.KnownOperation.{KnownOperation}
 use Rattle.steps.specs.Allowed.KnownIf.{KnownIf}
 use Rattle.steps.specs.Allowed.DeadIf.{DeadIf}
 use Rattle.steps.specs.Allowed.EmptyIf.{EmptyIf}
+use Rattle.steps.specs.Allowed.EmptyAlternate.{EmptyAlternate}
 use Rattle.steps.proofs.Owed.Places.{place_of, rest_of, placed_is}
 use Rattle.rules.specs.DeadCode.Before.{before}
 use Rattle.rules.specs.Expressions.Uses.{spot_of}
@@ -30,6 +31,7 @@ use Rattle.rules.specs.Expressions.TwoSides.{two_sides_become}
 use Rattle.rules.specs.Expressions.Objects.{object_left}
 use Rattle.rules.specs.Expressions.Operations.{known_becomes}
 use Rattle.rules.specs.Expressions.EmptyIfs.{test_left}
+use Rattle.rules.specs.Expressions.EmptyAlternates.{is_last, alternate_left}
 use Rattle.rules.specs.Expressions.Ifs.{if_becomes}
 use Rattle.rules.specs.Expressions.Settled.{IsSettledAt, IsSettled}
 use Rattle.rules.proofs.Expressions.Uses.{spot_at, spot_before, plug_before}
@@ -51,6 +53,7 @@ use Rattle.rules.proofs.Expressions.Jumps.{settled_lists, settled_items, settled
 use Rattle.rules.proofs.Expressions.Untaken as untaken
 use Rattle.rules.proofs.Expressions.Untaken.{settled_ifs, settled_values}
 use Rattle.rules.proofs.Expressions.EmptyIfs.{empty_if_edits, empty_if_answers}
+use Rattle.rules.proofs.Expressions.EmptyAlternates.{empty_alternate_edits, empty_alternate_answers}
 use Rattle.rules.proofs.Expressions.Ifs.{if_edits, known_if_answers, dead_if_answers, idle_try_answers}
 use Rattle.rules.proofs.Expressions.Editing.{conditional_edits_there, logical_edits_there, conditional_answers, logical_answers}
 
@@ -106,6 +109,9 @@ module _ (t : Forest) (settled : IsSettled t) (a : places.Around) (x y : Tree) (
   pub no_empty_if : EmptyIf x y → ⊥
   no_empty_if o = let w = empty_if_answers x y o in no_answer (sym settled_there.test ∙ w.1)
 
+  pub no_empty_alternate : EmptyAlternate a x y → ⊥
+  no_empty_alternate o = no_answer (sym settled_there.alternate ∙ empty_alternate_answers (place_of a) (rest_of a) x y (subst (λ c. EmptyAlternate c x y) (sym (before_place a)) o))
+
   pub no_try : IdleTry x y → ⊥
   no_try o = no_answer (sym settled_there.statement ∙ idle_try_answers x y o)
 
@@ -141,8 +147,9 @@ pub is_settled :
     → ((a : places.Around) (x y : Tree) → t ≡ places.plug a (Some x) → UnrunValue a x y → ⊥)
     → ((a : places.Around) (x y : Tree) → t ≡ places.plug a (Some x) → IdleTry x y → ⊥)
     → ((a : places.Around) (x y : Tree) → t ≡ places.plug a (Some x) → EmptyIf x y → ⊥)
+    → ((a : places.Around) (x y : Tree) → t ≡ places.plug a (Some x) → EmptyAlternate a x y → ⊥)
     → IsSettled t
-is_settled t never_branch never_side never_unused never_list never_indirect never_one_sided never_sequence never_two_sides never_object never_known never_known_if never_dead_if never_unreached never_untaken never_idle never_value never_try never_empty_if = record {
+is_settled t never_branch never_side never_unused never_list never_indirect never_one_sided never_sequence never_two_sides never_object never_known never_known_if never_dead_if never_unreached never_untaken never_idle never_value never_try never_empty_if never_empty_alternate = record {
   each = λ a x rest is. record {
     conditional = none_of (conditional_becomes (spot_of (place_at a)) x.kind x.below) (λ y e. never_branch (before a rest) x y (is ∙ sym (plug_before a x rest)) (conditional_edits_there a x y rest e));
     logical = none_of (logical_becomes (spot_of (place_at a)) x.kind x.below) (λ y e. never_side (before a rest) x y (is ∙ sym (plug_before a x rest)) (logical_edits_there a x y rest e));
@@ -162,6 +169,7 @@ is_settled t never_branch never_side never_unused never_list never_indirect neve
       ]
     ]);
     test = none_of (test_left x.note x.kind x.below) (λ y e. never_empty_if (before a rest) x y (is ∙ sym (plug_before a x rest)) (empty_if_edits x y e));
+    alternate = none_of (alternate_left (is_last (place_at a)) x.note x.kind x.below) (λ y e. never_empty_alternate (before a rest) x y (is ∙ sym (plug_before a x rest)) (empty_alternate_edits a rest x y e));
     jumps = settled_without t never_unreached never_idle a x rest is;
     untaken = untaken.settled_without t never_untaken never_value a x rest is;
   };

@@ -28,7 +28,7 @@ use Rattle.rules.specs.Told.Nesting.{scope_inside, IsScopeIn, NestsAt, own_scope
 use Rattle.rules.proofs.Told.Standing.{strict_code, within_opens, operation_outside}
 use Rattle.rules.proofs.Told.Contexts.{looks, inside_looks}
 use Rattle.rules.proofs.Told.Made.{IsMade, scope_of, EachMade, new_made}
-use Rattle.rules.proofs.Told.Trims.{Trims, leaves, empties, empties_idle, tests, parts, rebuilds, inside as inside_it, behind, behind_none, trims}
+use Rattle.rules.proofs.Told.Trims.{Trims, leaves, empties, empties_idle, tests, alternate, parts, rebuilds, inside as inside_it, behind, behind_none, trims}
 use Rattle.rules.proofs.Told.Walking.{trimmed_stays}
 
 -- ---- counts
@@ -141,6 +141,9 @@ fewer_marks i all listed t u (empties r n m below rest) = Prim.omega (arith, mar
 fewer_marks i all listed t u (empties_idle r k n m below rest idle) = Prim.omega (arith, marks_of_node i k n below rest)
 fewer_marks i all listed t u (tests r k l n m j b after rest tested) =
     Prim.omega (arith, marks_of_node i kind.ExpressionStatement m (node l j b nothing) rest, marks_of_node i k n (node l j b after) rest, marks_of_node i l j b nothing, marks_of_node i l j b after)
+fewer_marks i all listed t u (alternate k l n m o below b) =
+    let last = node kind.EmptyStatement o nothing nothing in
+    Prim.omega (arith, marks_of_node i k n below (node l m b last), marks_of_node i k n below (node l m b (absent nothing)), marks_of_node i l m b last, marks_of_node i l m b (absent nothing))
 fewer_marks i all listed t u (parts r k l m n b v w rest gives) = Prim.omega (arith, marks_of_node i l n b rest, marks_of_node i k m (joined v (node l n b w)) rest, part_marks i v l n b w)
 fewer_marks i all listed t u (rebuilds r k l n m a b rest made unasked) =
     Prim.omega (arith, marks_of_node i k n a rest, marks_of_node i l m b rest, marks_of_node i k n a nothing, marks_of_node i l m b nothing, rebuilt_marks i made)

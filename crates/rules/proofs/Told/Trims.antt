@@ -19,7 +19,7 @@ use Rattle.steps.proofs.KeepForm.Laid.{laid_absent, laid_order, laid_below, laid
 use Rattle.steps.specs.Marked.Flags.{is_within}
 use Rattle.steps.proofs.Marked.Cuts as cuts
 use Rattle.steps.proofs.Marked.Cuts.{Cuts}
-use Rattle.steps.proofs.Marked.Exposing.{Only, only_or, kept, never, whole_no_body, part_no_directive, part_no_list, part_no_body, Thinner, thinner_cuts}
+use Rattle.steps.proofs.Marked.Exposing.{Only, only_or, kept, never, whole_no_body, part_no_directive, part_no_list, part_no_body, first_strict, first_list, first_function, Thinner, thinner_cuts}
 use Rattle.steps.proofs.Marked.Rebuilding.{calls_no_eval}
 use Rattle.min_context.specs.Edited.{evals}
 use Rattle.rules.proofs.Told.Standing.{strict_code}
@@ -36,6 +36,7 @@ directives_back listed m t u (cuts.leaves k n below rest plain) laid e = never (
 directives_back listed m t u (cuts.empties r n i below rest) laid e = never e
 directives_back listed m t u (cuts.empties_idle r k n i below rest idle) laid e = never e
 directives_back listed m t u (cuts.tests r k l n i j b after rest tested) laid e = never e
+directives_back listed m t u (cuts.alternate y l i j o d b) laid e = sym (first_strict y l i j o d b) ∙ e
 directives_back listed m t u (cuts.parts r k l i j b v w rest gives unasked) laid e = never (sym (part_no_directive l j b rest unasked) ∙ e)
 directives_back listed m t u (cuts.rebuilds r k l n i a b rest made) laid e = never (sym (part_no_directive l i b rest made.unasked) ∙ e)
 directives_back listed m t u (cuts.inside r (kind.Directive written) n below now rest called h) laid e = e
@@ -51,6 +52,7 @@ list_back listed m t u (cuts.leaves k n below rest plain) l laid e = absurd (tru
 list_back listed m t u (cuts.empties r n i below rest) l laid e = never e
 list_back listed m t u (cuts.empties_idle r k n i below rest idle) l laid e = never e
 list_back listed m t u (cuts.tests r k x n i j b after rest tested) l laid e = never e
+list_back listed m t u (cuts.alternate y k i j o d b) l laid e = sym (first_list y k i j o d b) ∙ e
 list_back listed m t u (cuts.parts r k x i j b v w rest gives unasked) l laid e = never (sym (part_no_list x j b rest unasked) ∙ e)
 list_back listed m t u (cuts.rebuilds r k x n i a b rest made) l laid e = never (sym (part_no_list x i b rest made.unasked) ∙ e)
 list_back listed m t u (cuts.inside r kind.Statements n below now rest called h) l laid e = directives_back true (row_below m kind.Statements) below now h (laid_below m kind.Statements n below rest laid) e
@@ -64,6 +66,7 @@ function_back listed m t u (cuts.leaves k n below rest plain) l laid e = absurd 
 function_back listed m t u (cuts.empties r n i below rest) l laid e = e
 function_back listed m t u (cuts.empties_idle r k n i below rest idle) l laid e = sym (idle_kinds (λ z. is_strict_function rest ≡ is_strict_function (node z n below rest)) refl refl refl refl refl (λ label. refl) k idle) ∙ e
 function_back listed m t u (cuts.tests r k x n i j b after rest tested) l laid e = sym (tested_kinds (λ z. is_strict_function rest ≡ is_strict_function (node z n (node x j b after) rest)) refl k tested) ∙ e
+function_back listed m t u (cuts.alternate y k i j o d b) l laid e = sym (first_function y k i j o d b) ∙ e
 function_back listed m t u (cuts.parts r k x i j b v w rest gives unasked) l laid e = whole_no_body k i (joined v (node x j b w)) rest gives ∙ sym (part_no_body x j b rest unasked) ∙ e
 function_back listed m t u (cuts.rebuilds r k x n i a b rest made) l laid e = part_no_body k n a rest made.old_unasked ∙ sym (part_no_body x i b rest made.unasked) ∙ e
 function_back listed m t u (cuts.inside r kind.FunctionBody n below now rest called h) l laid e = list_back false (row_below m kind.FunctionBody) below now h refl (laid_below m kind.FunctionBody n below rest laid) e
@@ -122,6 +125,7 @@ fewer listed t u (cuts.leaves k n below rest plain) = Prim.omega arith
 fewer listed t u (cuts.empties r n m below rest) = Prim.omega arith
 fewer listed t u (cuts.empties_idle r k n m below rest idle) = Prim.omega arith
 fewer listed t u (cuts.tests r k l n m i b after rest tested) = Prim.omega arith
+fewer listed t u (cuts.alternate y l i j o d b) = Prim.omega arith
 fewer listed t u (cuts.parts r k l i j b v w rest gives unasked) = Prim.omega (arith, part_fewer v l j b w)
 fewer listed t u (cuts.rebuilds r k l n m a b rest made) = Prim.omega (arith, rebuilt_fewer made.rebuilt)
 fewer listed t u (cuts.inside r k n below now rest called h) = Prim.omega (arith, fewer (is_list k) below now h, fewer_calls k below now called)
@@ -160,6 +164,7 @@ behind_same listed t u (cuts.leaves k n below rest plain) l same = absurd (true�
 behind_same listed t u (cuts.empties r n m below rest) l same = refl
 behind_same listed t u (cuts.empties_idle r k n m below rest idle) l same = refl
 behind_same listed t u (cuts.tests r k x n m i b after rest tested) l same = refl
+behind_same listed t u (cuts.alternate y k i j o d b) l same = refl
 behind_same listed t u (cuts.parts r k x i j b v w rest gives unasked) l same = refl
 behind_same listed t u (cuts.rebuilds r k x n m a b rest made) l same = refl
 behind_same listed t u (cuts.inside r k n below now rest called h) l same = refl
@@ -198,6 +203,7 @@ pub data Trims (all : Bool) : (listed : Bool) → (t u : Forest) → Type 0 wher
   empties : (listed : Bool) (n m : Note) (below rest : Forest) → Trims all listed (node kind.ExpressionStatement n below rest) (node kind.EmptyStatement m nothing rest)
   empties_idle : (listed : Bool) (k : Kind) (n m : Note) (below rest : Forest) → may_be_idle k ≡ true → Trims all listed (node k n below rest) (node kind.EmptyStatement m nothing rest)
   tests : (listed : Bool) (k l : Kind) (n m i : Note) (b after rest : Forest) → is_tested k ≡ true → Trims all listed (node k n (node l i b after) rest) (node kind.ExpressionStatement m (node l i b nothing) rest)
+  alternate : (t l : Kind) (i j o : Note) (d b : Forest) → Trims all false (node t i d (node l j b (node kind.EmptyStatement o nothing nothing))) (node t i d (node l j b (absent nothing)))
   parts : (listed : Bool) (k l : Kind) (i j : Note) (b v w rest : Forest) → gives_way k ≡ true → Trims all listed (node k i (joined v (node l j b w)) rest) (node l j b rest)
   rebuilds : (listed : Bool) (k l : Kind) (n m : Note) (a b rest : Forest) → Rebuilt (alone k n a) (alone l m b) → is_asked_for k ≡ false → Trims all listed (node k n a rest) (node l m b rest)
   inside : (listed : Bool) (k : Kind) (n : Note) (below now rest : Forest) → Alike all k now below → Trims all (is_list k) below now → Trims all listed (node k n below rest) (node k n now rest)
@@ -209,6 +215,7 @@ trims all listed m t u (cuts.leaves k n below rest plain) laid same = leaves k n
 trims all listed m t u (cuts.empties r n i below rest) laid same = empties r n i below rest
 trims all listed m t u (cuts.empties_idle r k n i below rest idle) laid same = empties_idle r k n i below rest idle
 trims all listed m t u (cuts.tests r k l n i j b after rest tested) laid same = tests r k l n i j b after rest tested
+trims all listed m t u (cuts.alternate y l i j o d b) laid same = alternate y l i j o d b
 trims all listed m t u (cuts.parts r k l i j b v w rest gives unasked) laid same = parts r k l i j b v w rest gives
 trims all listed m t u (cuts.rebuilds r k l n i a b rest made) laid same = rebuilds r k l n i a b rest made.rebuilt made.old_unasked
 trims all listed m t u (cuts.inside r k n below now rest called h) laid same =

@@ -11,7 +11,7 @@ use Rattle.steps.specs.Marked.Flags.{is_within}
 use Rattle.rules.specs.Told.Places.{EachPlace}
 use Rattle.steps.proofs.KeepForm.Asked.{tested_gives}
 use Rattle.rules.proofs.Told.Standing.{list_outside, plain_outside}
-use Rattle.rules.proofs.Told.Trims.{Alike, alike_itself, Trims, leaves, empties, empties_idle, tests, parts, rebuilds, inside, behind, behind_none}
+use Rattle.rules.proofs.Told.Trims.{Alike, alike_itself, Trims, leaves, empties, empties_idle, tests, alternate, parts, rebuilds, inside, behind, behind_none}
 
 -- `Follows q p` says what is around a place now, q, of what was around it, p. Where a node stands another may stand that makes no scope,
 -- and around an operation, or a statement of one, is what is around its parts.
@@ -112,6 +112,16 @@ module _ {S : Type 0} (all : Bool) (around : S → Kind → Note → Forest → 
           tt,
         ),
         row_stays r rest qs ps (suc i) (suc j) c (λ e. ap suc (f e)) h.2,
+      )
+  trimmed_stays listed t u (alternate k l n m o below b) qs ps i j c f h =
+      let second = c (suc i) (suc j) (λ e. ap suc (f e)) in (
+        keeps (qs i) (ps j) k n below below (alike_itself all k below) (c i j f) h.0,
+        row_stays (is_list k) below (around (qs i) k n below) (around (ps j) k n below) 0 0 (covers_inside (qs i) (ps j) k n below below (alike_itself all k below) (c i j f)) (λ e. refl) h.1,
+        (
+          keeps (qs (suc i)) (ps (suc j)) l m b b (alike_itself all l b) second h.2.0,
+          row_stays (is_list l) b (around (qs (suc i)) l m b) (around (ps (suc j)) l m b) 0 0 (covers_inside (qs (suc i)) (ps (suc j)) l m b b (alike_itself all l b) second) (λ e. refl) h.2.1,
+          tt,
+        ),
       )
   trimmed_stays listed t u (parts r k l m n b v w rest gives) qs ps i j c f h =
       let whole = joined v (node l n b w) in

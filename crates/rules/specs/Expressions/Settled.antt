@@ -14,6 +14,7 @@ use Rattle.rules.specs.Expressions.TwoSides.{two_sides_become}
 use Rattle.rules.specs.Expressions.Objects.{object_left}
 use Rattle.rules.specs.Expressions.Operations.{known_becomes}
 use Rattle.rules.specs.Expressions.EmptyIfs.{test_left}
+use Rattle.rules.specs.Expressions.EmptyAlternates.{is_last, alternate_left}
 use Rattle.rules.specs.Expressions.Ifs.{if_becomes}
 use Rattle.rules.specs.Expressions.Jumps.{list_reached}
 use Rattle.rules.specs.Expressions.Untaken.{if_left}
@@ -32,6 +33,7 @@ pub record IsSettledAt (p : Place) (x : Tree) : Type 0 where
   pub known : known_becomes x.note x.kind x.below ≡ None
   pub statement : if_becomes x.note x.kind x.below ≡ None
   pub test : test_left x.note x.kind x.below ≡ None
+  pub alternate : alternate_left (is_last p) x.note x.kind x.below ≡ None
   pub jumps : list_reached x.note x.kind x.below ≡ None
   pub untaken : if_left x.note x.kind x.below ≡ None
 

@@ -14,6 +14,7 @@ ghost use Rattle.rules.specs.Expressions.Objects.{fold_object};
 ghost use Rattle.rules.specs.Expressions.Operations.{fold_known};
 ghost use Rattle.rules.specs.Expressions.Ifs.{fold_if};
 ghost use Rattle.rules.specs.Expressions.EmptyIfs.{fold_empty_if};
+ghost use Rattle.rules.specs.Expressions.EmptyAlternates.{fold_empty_alternate};
 ghost use Rattle.rules.specs.Expressions.Jumps.{cut_list};
 ghost use Rattle.rules.specs.Expressions.Untaken.{rid_if};
 
@@ -33,6 +34,7 @@ pub fn rules_are_lawful<T: Traverse>()
     ensures known { ((o : CompressOptions) (t u : Forest) → Edit t u → T.edit o t u) → Lawful T.edit fold_known }
     ensures statement { ((o : CompressOptions) (t u : Forest) → Edit t u → T.edit o t u) → Lawful T.edit fold_if }
     ensures empty_if { ((o : CompressOptions) (t u : Forest) → Edit t u → T.edit o t u) → Lawful T.edit fold_empty_if }
+    ensures empty_alternate { ((o : CompressOptions) (t u : Forest) → Edit t u → T.edit o t u) → Lawful T.edit fold_empty_alternate }
     ensures untaken { ((o : CompressOptions) (t u : Forest) → Edit t u → T.edit o t u) → Lawful T.edit rid_if }
     ensures jumps { ((o : CompressOptions) (t u : Forest) → Edit t u → T.edit o t u) → Lawful T.edit cut_list }
     ensures all { ((o : CompressOptions) (t u : Forest) → Edit t u → T.edit o t u) → Lawful T.edit at_expression_end }

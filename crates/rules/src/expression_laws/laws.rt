@@ -20,6 +20,7 @@ ghost use Rattle.steps.specs.Allowed.KnownOperation.{KnownOperation};
 ghost use Rattle.steps.specs.Allowed.KnownIf.{KnownIf};
 ghost use Rattle.steps.specs.Allowed.DeadIf.{DeadIf};
 ghost use Rattle.steps.specs.Allowed.EmptyIf.{EmptyIf};
+ghost use Rattle.steps.specs.Allowed.EmptyAlternate.{EmptyAlternate};
 ghost use Rattle.steps.specs.Allowed.Unreached.{Unreached};
 ghost use Rattle.steps.specs.Allowed.Untaken.{Untaken};
 ghost use Rattle.steps.specs.Allowed.IdleStatement.{IdleStatement};
@@ -40,6 +41,7 @@ ghost use Rattle.rules.specs.Expressions.Objects.{object_left};
 ghost use Rattle.rules.specs.Expressions.Operations.{known_becomes};
 ghost use Rattle.rules.specs.Expressions.Ifs.{if_becomes, IfEdit};
 ghost use Rattle.rules.specs.Expressions.EmptyIfs.{test_left};
+ghost use Rattle.rules.specs.Expressions.EmptyAlternates.{is_last, alternate_left};
 ghost use Rattle.rules.specs.Expressions.Jumps.{list_reached};
 ghost use Rattle.rules.specs.Expressions.Untaken.{if_left};
 ghost use Rattle.rules.specs.Expressions.Settled.{IsSettled};
@@ -68,6 +70,7 @@ pub fn answers_are_edits()
     ensures known { (a : Around) (x y : Tree) (rest : Forest) → known_becomes x.note x.kind x.below ≡ Some y → KnownOperation (before a rest) x y }
     ensures statement { (x y : Tree) → if_becomes x.note x.kind x.below ≡ Some y → IfEdit x y }
     ensures test { (x y : Tree) → test_left x.note x.kind x.below ≡ Some y → EmptyIf x y }
+    ensures alternate { (a : Around) (x y : Tree) (rest : Forest) → alternate_left (is_last (place_at a)) x.note x.kind x.below ≡ Some y → EmptyAlternate (before a rest) x y }
     ensures untaken { (a : Around) (x y : Tree) (rest : Forest) → if_left x.note x.kind x.below ≡ Some y → TreeEdits (plug a (node x.kind x.note x.below rest)) (plug a (node y.kind y.note y.below rest)) }
     ensures items { (a : Around) (x y : Tree) (rest : Forest) → list_reached x.note x.kind x.below ≡ Some y → TreeEdits (plug a (node x.kind x.note x.below rest)) (plug a (node y.kind y.note y.below rest)) }
 {}
@@ -89,6 +92,7 @@ pub fn edits_are_answers()
     ensures known_if { (x y : Tree) → KnownIf x y → if_becomes x.note x.kind x.below ≡ Some y }
     ensures idle_try { (x y : Tree) → IdleTry x y → if_becomes x.note x.kind x.below ≡ Some y }
     ensures empty_if { (x z : Tree) → EmptyIf x z → (y : Tree) × (test_left x.note x.kind x.below ≡ Some y) × (bare (forest_of y) ≡ bare (forest_of z)) }
+    ensures empty_alternate { (a : Around) (x y : Tree) (rest : Forest) → EmptyAlternate (before a rest) x y → alternate_left (is_last (place_at a)) x.note x.kind x.below ≡ Some y }
     ensures dead_if { (x z : Tree) → DeadIf x z → (y : Tree) × (if_becomes x.note x.kind x.below ≡ Some y) × (bare (forest_of y) ≡ bare (forest_of z)) }
 {}
 
@@ -109,6 +113,7 @@ pub fn what_is_settled_has_no_edits()
     ensures unreached { (t : Forest) → IsSettled t → (a : places.Around) (x : Tree) → t ≡ places.plug a (Some x) → Unreached a x → ⊥ }
     ensures untaken { (t : Forest) → IsSettled t → (a : places.Around) (x : Tree) → t ≡ places.plug a (Some x) → Untaken a x → ⊥ }
     ensures empty_if { (t : Forest) → IsSettled t → (a : places.Around) (x y : Tree) → t ≡ places.plug a (Some x) → EmptyIf x y → ⊥ }
+    ensures empty_alternate { (t : Forest) → IsSettled t → (a : places.Around) (x y : Tree) → t ≡ places.plug a (Some x) → EmptyAlternate a x y → ⊥ }
     ensures idle_try { (t : Forest) → IsSettled t → (a : places.Around) (x y : Tree) → t ≡ places.plug a (Some x) → IdleTry x y → ⊥ }
     ensures idle { (t : Forest) → IsSettled t → (a : places.Around) (x : Tree) → t ≡ places.plug a (Some x) → IdleStatement a x → ⊥ }
     ensures unrun { (t : Forest) → IsSettled t → (a : places.Around) (x y : Tree) → t ≡ places.plug a (Some x) → UnrunValue a x y → ⊥ }
@@ -131,5 +136,6 @@ pub fn what_is_settled_has_no_edits()
         → ((a : places.Around) (x y : Tree) → t ≡ places.plug a (Some x) → UnrunValue a x y → ⊥)
         → ((a : places.Around) (x y : Tree) → t ≡ places.plug a (Some x) → IdleTry x y → ⊥)
         → ((a : places.Around) (x y : Tree) → t ≡ places.plug a (Some x) → EmptyIf x y → ⊥)
+        → ((a : places.Around) (x y : Tree) → t ≡ places.plug a (Some x) → EmptyAlternate a x y → ⊥)
         → IsSettled t }
 {}

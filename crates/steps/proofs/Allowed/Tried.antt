@@ -35,6 +35,7 @@ use Rattle.steps.specs.Allowed.IdleStatement.{IdleStatement, idle_leaves}
 use Rattle.steps.specs.Allowed.IdleBody.{IdleBody, idle_body_empties}
 use Rattle.js_syntax.specs.declared.kind.FunctionKind.TheVariants as function_kind
 use Rattle.steps.specs.Allowed.EmptyIf.{EmptyIf, test_stays}
+use Rattle.steps.specs.Allowed.EmptyAlternate.{EmptyAlternate, alternate_goes}
 use Rattle.steps.specs.Allowed.UnrunValue.{UnrunValue, value_never_given}
 use Rattle.steps.specs.Allowed.EmptyBlock.{EmptyBlock, empty_block_leaves}
 use Rattle.steps.specs.Allowed.DeadIf.{DeadIf, nothing_is_run}
@@ -46,7 +47,7 @@ use Rattle.steps.specs.Allowed.IdleParts.{idle_parts_leave}
 use Rattle.steps.specs.Allowed.TwoSides.{both_sides_act}
 use Rattle.steps.specs.Allowed.UnusedObject.{acting_values_stay}
 use Rattle.steps.specs.Allowed.KnownOperation.{known_literal, value_is_known, negative_is_known}
-use Rattle.steps.specs.Allowed.Edits.{Edit, leaves, becomes, empty_statement, empty_block, silent_statement, unused_function, unused_declaration, unused_import, unreached, untaken, idle_statement, repeated_import, known_conditional, known_side, known_if, dead_if, unused_operation, unused_list, indirect_choice, one_sided_choice, idle_parts, two_sides, unused_object, known_operation, unrun_value, idle_try, idle_body, empty_if}
+use Rattle.steps.specs.Allowed.Edits.{Edit, leaves, becomes, empty_statement, empty_block, silent_statement, unused_function, unused_declaration, unused_import, unreached, untaken, idle_statement, repeated_import, known_conditional, known_side, known_if, dead_if, unused_operation, unused_list, indirect_choice, one_sided_choice, idle_parts, two_sides, unused_object, known_operation, unrun_value, idle_try, idle_body, empty_if, empty_alternate}
 use Rattle.steps.specs.Allowed.Rows.{breaks_label, labeled_too, labeled, branch_of_if, in_branch, in_function, in_function_by, value_of_a, zero, loop, debugger, throwing_block, throwing_branch, broken_label, past, in_list, before, throws, behind_throw, call_of_a, null, if_one, if_null, either_way, conditional, logical, may_be_named, o_f, parenthesized, in_statement, called, called_in_parentheses, called_in_with, argument, operand, applied, equals, difference, sum, text, empty_text, template, tagged, assigned, statement, ComesOut, Stays, StaysUnused, array, spread, hole, sequence, ListStays, ChoiceStays, PartsStay, SidesStay, object, a_is, b_is, getter_of_a, keyed_by, method_by, not_a, ObjectStays, literal, operation, OperationStays, behind_zero, placed, StaysDirect, FollowsNone, with_a, in_with_a, empty, a_is_read, a_is_exported, imports_nothing, behind_import, only_import, tried, tried_finally, finally_alone, while_, for_, loop}
 
 pub empties_in_list : Edit (a_module (does one ∷ [])) (a_module (empty ∷ []))
@@ -791,6 +792,26 @@ full_consequent_stays y (test_stays n m o t d branches empty unnamed) = true≢f
 
 pub if_on_a_function_stays : (pure : Bool) (d branches : Forest) (y : Tree) → EmptyIf (an_if nowhere (Kind.Function function_kind.Arrow pure) nowhere d branches) y → ⊥
 if_on_a_function_stays pure d branches y (test_stays n m o t e b empty unnamed) = true≢false unnamed
+
+-- ---- an `if` with an empty alternate
+
+pub empty_alternate_goes : Edit (a_module (either_way (reads a) (does call_of_a) empty ∷ [])) (a_module (either_way (reads a) (does call_of_a) no ∷ []))
+empty_alternate_goes = becomes (before []) _ _ (empty_alternate (alternate_goes nowhere nowhere nowhere nowhere _ _ _ _ refl))
+
+abbrev alternate_of_an_if : Around
+alternate_of_an_if = in_list (under Kind.IfStatement nowhere (past one (past (does call_of_a) (first nothing))) nothing)
+
+pub chained_alternate_goes : Edit (a_module (either_way one (does call_of_a) (either_way (reads a) (does call_of_a) empty) ∷ [])) (a_module (either_way one (does call_of_a) (either_way (reads a) (does call_of_a) no) ∷ []))
+chained_alternate_goes = becomes alternate_of_an_if _ _ (empty_alternate (alternate_goes nowhere nowhere nowhere nowhere _ _ _ _ refl))
+
+pub alternate_of_branch_stays : (x y : Tree) → EmptyAlternate branch_of_if x y → ⊥
+alternate_of_branch_stays x y (alternate_goes n i j o t l d b last) = true≢false (sym last)
+
+pub alternate_of_body_stays : (x y : Tree) → EmptyAlternate (in_list (under Kind.WhileStatement nowhere (past (reads a) (first nothing)) nothing)) x y → ⊥
+alternate_of_body_stays x y (alternate_goes n i j o t l d b last) = true≢false (sym last)
+
+pub full_alternate_of_if_stays : (place : Around) (y : Tree) → EmptyAlternate place (an_if nowhere (Kind.ReferenceName a) nowhere nothing (joined (does call_of_a) (does call_of_a))) y → ⊥
+full_alternate_of_if_stays place y h = elim h [ ]
 
 -- ---- a `try` around nothing
 

@@ -13,7 +13,7 @@ use Rattle.form_rules.specs.declared.sought.Sought.TheVariants.{Nothing as none_
 use Rattle.form_rules.specs.Context.{has_use_strict, is_strict_list, is_strict_function, private_key_of, privates_of, is_loop}
 use Rattle.form_rules.specs.Scope.{bound_below, variables_below, scope_below, function_below, sought_below, declared_here}
 use Rattle.form_rules.specs.Rules.{are_names, have_plain_parameters, private_of, first_is_super, is_bare_name, is_name_first, is_rest, is_default, is_constructor, named_by, locals_named, locals_by, exported_by}
-use Rattle.steps.specs.KeepForm.Part.{gives_way, is_statement, may_be_idle, is_asked_for, asks_further, is_tested, Replaces, by_part, by_parts, by_test}
+use Rattle.steps.specs.KeepForm.Part.{gives_way, is_statement, may_be_idle, is_asked_for, asks_further, is_tested, Replaces, by_part, by_parts, by_test, without_alternate}
 use Rattle.steps.specs.KeepForm.Sheds.{Row, parts, items, of_item, of_declarators, of_head, of_import, of_specifiers, other, asked_below, may_empty, Around, may_give_way, sought_inside}
 use Rattle.js_syntax.proofs.Truth.{not_true, first_of_both, second_of_both}
 
@@ -50,16 +50,19 @@ pub old_unasked : {k l : Kind} {n m : Note} {a b : Forest} → Replaces k n a l 
 old_unasked {k = k} (by_part part) = given_not k part.gives
 old_unasked (by_parts made) = made.old_unasked
 old_unasked {k = k} (by_test tested unasked is none) = tested_kinds (λ z. is_asked_for z ≡ false) refl k tested
+old_unasked without_alternate = refl
 
 pub new_unasked : {k l : Kind} {n m : Note} {a b : Forest} → Replaces k n a l m b → is_asked_for l ≡ false
 new_unasked (by_part part) = part.unasked
 new_unasked (by_parts made) = made.unasked
 new_unasked (by_test tested unasked is none) = refl
+new_unasked without_alternate = refl
 
 pub alike : {k l : Kind} {n m : Note} {a b : Forest} → Replaces k n a l m b → is_statement l ≡ is_statement k
 alike (by_part part) = part.alike
 alike (by_parts made) = made.expression ∙ sym made.old_expression
 alike {k = k} (by_test tested unasked is none) = tested_kinds (λ z. true ≡ is_statement z) refl k tested
+alike without_alternate = refl
 
 pub not_strict : (k : Kind) (n : Note) (a r : Forest) → is_asked_for k ≡ false → has_use_strict (node k n a r) ≡ false
 not_strict (directive written) n a r h = absurd cc

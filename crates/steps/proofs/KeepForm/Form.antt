@@ -10,7 +10,7 @@ use Rattle.form_rules.specs.Context as context
 use Rattle.form_rules.specs.Context.{Context, below_it, inside}
 use Rattle.form_rules.specs.Rules.{broken_at}
 use Rattle.form_rules.specs.Form.{broken_in, source_of, broken, IsWellFormed}
-use Rattle.steps.specs.KeepForm.Part.{is_asked_for, is_tested, StandsFor, Replaces, by_part, by_parts, by_test}
+use Rattle.steps.specs.KeepForm.Part.{is_asked_for, is_tested, StandsFor, Replaces, by_part, by_parts, by_test, without_alternate}
 use Rattle.steps.specs.KeepForm.Sheds.{may_leave, Around, entered, outermost, Sheds, ends, keeps_absent, keeps, leaves, empties, empties_idle, becomes}
 use Rattle.steps.proofs.KeepForm.Contexts.{inside_same}
 use Rattle.steps.proofs.KeepForm.Asked.{idle_kinds, tested_kinds, old_unasked, new_unasked}
@@ -63,6 +63,21 @@ module _ (c : Context) (l : Kind) (i : Note) (b after : Forest) (p q : ℕ) wher
   test_kept : (k : Kind) → is_tested k ≡ true → broken_in (inside c k (node l i b after)) 0 p (node l i b after) ≡ [] → NoneBroken
   test_kept k tested = tested_kinds (λ z. broken_in (inside c z (node l i b after)) 0 p (node l i b after) ≡ [] → NoneBroken) test_of_if k tested
 
+-- an `if` breaks no rule itself, whatever its branches
+if_keeps : (alone : Bool) (place : ℕ) → (unless (not (alone && false)) place 11 ++ []) ++ [] ≡ []
+if_keeps true place = refl
+if_keeps false place = refl
+
+-- what stands before an alternate breaks none when that goes
+module _ (t l : Kind) (i j o : Note) (d b : Forest) where
+  rest_kept : (f : ℕ → Context) (p : ℕ) → broken_in f 0 p (node t i d (node l j b (node empty_statement o nothing nothing))) ≡ [] → broken_in f 0 p (node t i d (node l j b (absent nothing))) ≡ []
+  rest_kept f p h =
+      let first = broken_at (f 0) t p d ++ broken_in (inside (f 0) t d) 0 (p + one_each t) d in
+      let at = p + node_count (node t i d nothing) in
+      let second = broken_at (f 1) l at b ++ broken_in (inside (f 1) l b) 0 (at + one_each l) b in
+      let last = broken_in f 2 (at + node_count (node l j b nothing)) (node empty_statement o nothing nothing) in
+      both_empty first (second ++ []) (first_empty first (second ++ last) h) (both_empty second [] (first_empty second last (second_empty first (second ++ last) h)) refl)
+
 replaced_kept : (c : Context) (p q : ℕ) {k l : Kind} {n m : Note} {a b : Forest} → Replaces k n a l m b → broken_at c k p a ++ broken_in (inside c k a) 0 (p + one_each k) a ≡ []
     → broken_at c l q b ++ broken_in (inside c l b) 0 (q + one_each l) b ≡ []
 replaced_kept c p q {k = k} {l = l} {a = a} {b = b} (by_part part) h = part_kept c k l a b (p + one_each k) q part (second_empty (broken_at c k p a) (broken_in (inside c k a) 0 (p + one_each k) a) h)
@@ -70,6 +85,12 @@ replaced_kept c p q {k = k} {l = l} {n = n} {m = m} {a = a} {b = b} (by_parts ma
 replaced_kept c p q {k = k} (by_test {l = l} {i = i} {b = b} {after = after} tested unasked is none) h =
     let below = node l i b after in
     test_kept c l i b after (p + one_each k) q k tested (second_empty (broken_at c k p below) (broken_in (inside c k below) 0 (p + one_each k) below) h)
+replaced_kept c p q (without_alternate {t = t} {l = l} {i = i} {j = j} {o = o} {d = d} {b = b}) h =
+    let old = node t i d (node l j b (node empty_statement o nothing nothing)) in
+    let new = node t i d (node l j b (absent nothing)) in
+    both_empty (broken_at c if_statement q new) (broken_in (inside c if_statement new) 0 (q + one_each if_statement) new) (if_keeps c.is_alone q)
+    (moved new (inside c if_statement old) (inside c if_statement new) (λ at. refl) 0 (p + one_each if_statement) (q + one_each if_statement)
+    (rest_kept t l i j o d b (inside c if_statement old) (p + one_each if_statement) (second_empty (broken_at c if_statement p old) (broken_in (inside c if_statement old) 0 (p + one_each if_statement) old) h)))
 
 -- Nodes have the contexts that they had: in a list all have the same one.
 pub form_kept : {w : Around} {t u : Forest} → Sheds w t u → (f g : ℕ → Context) → ((i j : ℕ) → (may_leave w.row ≡ false → i ≡ j) → g j ≡ f i) → (i j p q : ℕ) → (may_leave w.row ≡ false → i ≡ j) → broken_in f i p t ≡ [] → broken_in g j q u ≡ []

@@ -1,12 +1,12 @@
 -- What is left of a tree is laid out as the tree was.
 use Rattle.std.proofs.Common.{◌≡◌, Bool, true, false, not, ◌&&◌, ◌||◌, refl, sym, ap, ◌∙◌}
 use Rattle.js_syntax.specs.declared.node_kind.NodeKind.{NodeKind as Kind}
-use Rattle.js_syntax.specs.declared.node_kind.NodeKind.TheVariants.{Program as program, Directive as directive, Statements as statements, FunctionBody as function_body, ExpressionStatement as expression_statement, BlockStatement as block_statement, StaticBlock as static_block, SwitchCase as switch_case, LabeledStatement as labeled_statement, IfStatement as if_statement, TryStatement as try_statement, WithStatement as with_statement, WhileStatement as while_statement, DoWhileStatement as do_while_statement, ForStatement as for_statement, ForInStatement as for_in_statement, ForOfStatement as for_of_statement, ConditionalExpression as conditional_expression, UnaryExpression as unary_expression, BinaryExpression as binary_expression, LogicalExpression as logical_expression, Function as function, VariableDeclaration as variable_declaration, Declarators as declarators, BindingName as binding_name, Specifiers as specifiers, ImportDeclaration as import_declaration, ExportNamedDeclaration as export_named_declaration}
+use Rattle.js_syntax.specs.declared.node_kind.NodeKind.TheVariants.{Program as program, EmptyStatement as empty_statement, Directive as directive, Statements as statements, FunctionBody as function_body, ExpressionStatement as expression_statement, BlockStatement as block_statement, StaticBlock as static_block, SwitchCase as switch_case, LabeledStatement as labeled_statement, IfStatement as if_statement, TryStatement as try_statement, WithStatement as with_statement, WhileStatement as while_statement, DoWhileStatement as do_while_statement, ForStatement as for_statement, ForInStatement as for_in_statement, ForOfStatement as for_of_statement, ConditionalExpression as conditional_expression, UnaryExpression as unary_expression, BinaryExpression as binary_expression, LogicalExpression as logical_expression, Function as function, VariableDeclaration as variable_declaration, Declarators as declarators, BindingName as binding_name, Specifiers as specifiers, ImportDeclaration as import_declaration, ExportNamedDeclaration as export_named_declaration}
 use Rattle.js_syntax.specs.Node.{Note, Forest, nothing, node, absent, joined}
 use Rattle.form_rules.specs.Context.{has_use_strict}
 use Rattle.json_shape.specs.Shape.{is_directive_kind}
-use Rattle.steps.specs.KeepForm.Part.{gives_way, is_statement, is_asked_for, Replaces, by_part, by_parts, by_test}
-use Rattle.steps.specs.KeepForm.Sheds.{Row, other, parts, items, row_below, may_leave, may_empty, may_give_way, Around, entered, Sheds, ends, keeps_absent, keeps, leaves, empties, empties_idle, becomes}
+use Rattle.steps.specs.KeepForm.Part.{gives_way, is_statement, is_asked_for, Replaces, by_part, by_parts, by_test, without_alternate}
+use Rattle.steps.specs.KeepForm.Sheds.{Row, other, parts, items, of_item, of_head, of_import, row_below, may_leave, may_empty, may_give_way, Around, entered, Sheds, ends, keeps_absent, keeps, leaves, empties, empties_idle, becomes}
 use Rattle.steps.proofs.KeepForm.Rows.{stays_below, behind_left, is_usual, is_other}
 use Rattle.steps.proofs.KeepForm.Asked.{idle_kinds, old_unasked, new_unasked, alike, statement_may}
 use Rattle.steps.proofs.KeepForm.Seen.{strict_same}
@@ -110,6 +110,31 @@ either_true : (b : Bool) → (b || true) ≡ true
 either_true true = refl
 either_true false = refl
 
+-- without an empty alternate
+no_declarators : (row : Row) → is_declarators (row_below row if_statement) ≡ false
+no_declarators of_item = refl
+no_declarators of_head = refl
+no_declarators of_import = refl
+no_declarators row = refl
+
+last_strict : (l : Kind) (j o : Note) (b : Forest) → has_use_strict (node l j b (node empty_statement o nothing nothing)) ≡ has_use_strict (node l j b (absent nothing))
+last_strict (directive written) j o b = refl
+last_strict l j o b = refl
+
+without_last : (row : Row) (t l : Kind) (i j o : Note) (d b : Forest) → is_declarators row ≡ false → is_laid_out row (node t i d (node l j b (node empty_statement o nothing nothing))) ≡ true → is_laid_out row (node t i d (node l j b (absent nothing))) ≡ true
+without_last row t l i j o d b names h =
+    let last = node empty_statement o nothing nothing in
+    let old = node l j b last in
+    let new = node l j b (absent nothing) in
+    let inner = laid_behind row t i d old h in
+    both (is_directive_kind t || not (has_use_strict new)) (stands_right row t d && (is_laid_out (row_below row t) d && is_laid_out row new))
+    (ap (λ s. is_directive_kind t || not s) (sym (last_strict l j o b)) ∙ laid_order row t i d old h)
+    (both (stands_right row t d) (is_laid_out (row_below row t) d && is_laid_out row new) (laid_right row t i d old h)
+    (both (is_laid_out (row_below row t) d) (is_laid_out row new) (laid_below row t i d old h)
+    (both (is_directive_kind l || true) (stands_right row l b && (is_laid_out (row_below row l) b && (not (is_declarators row) && true))) (either_true (is_directive_kind l))
+    (both (stands_right row l b) (is_laid_out (row_below row l) b && (not (is_declarators row) && true)) (laid_right row l j b last inner)
+    (both (is_laid_out (row_below row l) b) (not (is_declarators row) && true) (laid_below row l j b last inner) (ap (λ z. not z && true) names))))))
+
 laid_replaced : (w : Around) {k l : Kind} {n m : Note} {a b : Forest} → Replaces k n a l m b → may_give_way w.row w.is_asked k ≡ true → is_laid_out (row_below w.row k) a ≡ true → is_laid_out (row_below w.row l) b ≡ true
 laid_replaced w {k = k} {l = l} {b = b} (by_part part) may h =
     ap (λ row. is_laid_out row b) (same_row w k l part.gives part.unasked part.alike may)
@@ -122,6 +147,7 @@ laid_replaced w {k = k} (by_test {l = l} {i = i} {b = b} {after = after} tested 
     ∙ both (is_directive_kind l || true) (stands_right other l b && (is_laid_out (row_below other l) b && true)) (either_true (is_directive_kind l))
     (both (stands_right other l b) (is_laid_out (row_below other l) b && true) (right_there other l b unasked (λ statement. absurd (cc (statement, is))))
     (both (is_laid_out (row_below other l) b) true (ap (λ row. is_laid_out row b) (is_other other l usual ∙ sym (is_other inner l usual)) ∙ laid_below inner l i b after h) refl))
+laid_replaced w (without_alternate {t = t} {l = l} {i = i} {j = j} {o = o} {d = d} {b = b}) may h = without_last (row_below w.row if_statement) t l i j o d b (no_declarators w.row) h
 
 -- ---- first nodes, where nothing leaves
 

@@ -4,7 +4,7 @@ use Rattle.std.specs.Str.{bytes_eq}
 use Rattle.std.proofs.lemmas.Slice.Eq.{bytes_eq-Decides}
 use Rattle.js_tree.specs.Count.{one_each, node_count}
 use Rattle.js_syntax.specs.declared.node_kind.NodeKind.{NodeKind as Kind}
-use Rattle.js_syntax.specs.declared.node_kind.NodeKind.TheVariants.{Program as program, BindingName as binding_name, EmptyStatement as empty_statement, ExpressionStatement as expression_statement}
+use Rattle.js_syntax.specs.declared.node_kind.NodeKind.TheVariants.{Program as program, BindingName as binding_name, EmptyStatement as empty_statement, ExpressionStatement as expression_statement, IfStatement as if_statement}
 use Rattle.js_syntax.specs.Node.{Note, Forest, nothing, node, absent, alone, joined}
 use Rattle.form_rules.specs.declared.sought.Sought.{Sought}
 use Rattle.form_rules.specs.declared.sought.Sought.TheVariants.{Nothing as none_sought, Names as names, Bound as bound, Scope as scope, Variables as variables, FunctionScope as function_scope, CatchScope as catch_scope}
@@ -12,7 +12,7 @@ use Rattle.js_syntax.specs.declared.scalar.SourceType.{SourceType}
 use Rattle.form_rules.specs.Scope.{Declared, declared, declared_here, sought_below}
 use Rattle.form_rules.specs.Rules.{Exported, is_exported, is_declared}
 use Rattle.steps.specs.KeepForm.Sheds.{Around, exports_none, sought_inside, exported_below, Sheds, ends, keeps_absent, keeps, leaves, empties, empties_idle, becomes}
-use Rattle.steps.specs.KeepForm.Part.{StandsFor, RebuildsTo, Replaces, by_part, by_parts, by_test}
+use Rattle.steps.specs.KeepForm.Part.{StandsFor, RebuildsTo, Replaces, by_part, by_parts, by_test, without_alternate}
 use Rattle.steps.proofs.KeepForm.Asked.{old_unasked, no_name_here, is_of_catch, sought_alike, no_catch_below, no_catch_inside, not_asked}
 use Rattle.steps.proofs.KeepForm.Fewer.{Fewer, none, both, more, fewest, behind_all, beside, SameName}
 use Rattle.js_syntax.proofs.Truth.{second_of_either}
@@ -85,12 +85,29 @@ part_declared s k l a b p q calm part =
 rebuilt_declared : (s : Sought) (k l : Kind) (n m : Note) (a b : Forest) (p : ℕ) → RebuildsTo k n a l m b → declared_here s p l ++ declared (sought_below s l) (p + one_each l) b ≡ []
 rebuilt_declared s k l n m a b p made = sym (append-nil (declared_here s p l ++ declared (sought_below s l) (p + one_each l) b)) ∙ made.still_none s p
 
+-- an alternate that is empty declares nothing
+module _ (z : Sought) (t l : Kind) (i j o : Note) (d b : Forest) (p q : ℕ) where
+  first_two : {xs ys : List Declared} → Fewer Declared SameName xs ys
+      → Fewer Declared SameName ((declared_here z p t ++ declared (sought_below z t) (p + one_each t) d) ++ ((declared_here z (p + node_count (alone t i d)) l ++ declared (sought_below z l) (p + node_count (alone t i d) + one_each l) b) ++ xs))
+      ((declared_here z q t ++ declared (sought_below z t) (q + one_each t) d) ++ ((declared_here z (q + node_count (alone t i d)) l ++ declared (sought_below z l) (q + node_count (alone t i d) + one_each l) b) ++ ys))
+  first_two f =
+      beside (beside (same_here z p q t) (same_anywhere (sought_below z t) (p + one_each t) (q + one_each t) d))
+      (beside (beside (same_here z (p + node_count (alone t i d)) (q + node_count (alone t i d)) l) (same_anywhere (sought_below z l) (p + node_count (alone t i d) + one_each l) (q + node_count (alone t i d) + one_each l) b)) f)
+
+  alternate_declared : Fewer Declared SameName (declared z p (node t i d (node l j b (absent nothing)))) (declared z q (node t i d (node l j b (node empty_statement o nothing nothing))))
+  alternate_declared = first_two (fewest (declared z (q + node_count (alone t i d) + node_count (alone l j b)) (node empty_statement o nothing nothing)))
+
+  alternate_named : Fewer Declared SameName (declared z p (node t i d (node l j b (node empty_statement o nothing nothing)))) (declared z q (node t i d (node l j b (absent nothing))))
+  alternate_named = first_two (rw (declares_nothing z (p + node_count (alone t i d) + node_count (alone l j b)) o nothing) none)
+
 replaced_declared : (s : Sought) (p q : ℕ) {k l : Kind} {n m : Note} {a b : Forest} → is_of_catch s ≡ false → Replaces k n a l m b
     → Fewer Declared SameName (declared_here s p l ++ declared (sought_below s l) (p + one_each l) b) (declared (sought_below s k) q a)
 replaced_declared s p q {k = k} {l = l} {a = a} {b = b} calm (by_part part) = part_declared s k l a b p q calm part
 replaced_declared s p q {k = k} {l = l} {n = n} {m = m} {a = a} {b = b} calm (by_parts made) = rw (rebuilt_declared s k l n m a b p made) (fewest (declared (sought_below s k) q a))
 replaced_declared s p q {k = k} {m = m} calm (by_test {l = l} {i = i} {b = b} {after = after} tested unasked is silent) =
     rw (of_statement s p m (node l i b nothing)) (fewest (declared (sought_below s k) q (node l i b after)))
+replaced_declared s p q calm (without_alternate {t = t} {l = l} {i = i} {j = j} {o = o} {d = d} {b = b}) =
+    rw (no_name_here s p if_statement refl) (alternate_declared (sought_below s if_statement) t l i j o d b (p + one_each if_statement) q)
 
 pub fewer_declared : {w : Around} {t u : Forest} (s : Sought) (p q : ℕ) → (is_of_catch s ≡ true → w.is_asked ≡ true) → Sheds w t u → Fewer Declared SameName (declared s p u) (declared s q t)
 fewer_declared s p q catch ends = none
@@ -227,6 +244,8 @@ still_replaced x s p q {k = k} {n = n} calm (by_test {l = l} {i = i} {b = b} {af
     let below = node l i b after in
     let there = declared_in_more x (same_anywhere (sought_below s k) q (0 + one_each k) below) h in
     absurd (cc (there, ap (is_declared x) (below_nothing s k n below (silent s 0))))
+still_replaced x s p q calm (without_alternate {t = t} {l = l} {i = i} {j = j} {o = o} {d = d} {b = b}) h =
+    declared_in_more x (alternate_named (sought_below s if_statement) t l i j o d b q p) h
 
 -- what is exported is declared by what is left
 pub still_declared : (x : List ℕ) (p q : ℕ) {w : Around} {t u : Forest} → is_of_catch w.sought ≡ false → Sheds w t u → is_exported x w.exported ≡ true

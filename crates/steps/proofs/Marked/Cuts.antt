@@ -1,7 +1,7 @@
 -- What an edit makes of a tree, row by row.
 use Rattle.std.proofs.Common.{◌≡◌, ◌∙◌, Bool, true, false, is_some, refl, sym, subst, true≢false}
 use Rattle.js_syntax.specs.declared.node_kind.NodeKind.{NodeKind as Kind}
-use Rattle.js_syntax.specs.declared.node_kind.NodeKind.TheVariants.{ExpressionStatement as expression_statement, EmptyStatement as empty_statement}
+use Rattle.js_syntax.specs.declared.node_kind.NodeKind.TheVariants.{ExpressionStatement as expression_statement, EmptyStatement as empty_statement, IfStatement as if_statement}
 use Rattle.js_syntax.specs.Class.{root}
 use Rattle.js_syntax.specs.Node.{Forest, Note, nothing, node, absent, joined}
 use Rattle.js_tree.specs.Names.{eval_of_call}
@@ -21,6 +21,7 @@ pub data Cuts : (listed : Bool) → (t u : Forest) → Type 0 where
   empties : (listed : Bool) (n m : Note) (below rest : Forest) → Cuts listed (node expression_statement n below rest) (node empty_statement m nothing rest)
   empties_idle : (listed : Bool) (k : Kind) (n m : Note) (below rest : Forest) → may_be_idle k ≡ true → Cuts listed (node k n below rest) (node empty_statement m nothing rest)
   tests : (listed : Bool) (k l : Kind) (n m i : Note) (b after rest : Forest) → is_tested k ≡ true → Cuts listed (node k n (node l i b after) rest) (node expression_statement m (node l i b nothing) rest)
+  alternate : (t l : Kind) (i j o : Note) (d b : Forest) → Cuts false (node t i d (node l j b (node empty_statement o nothing nothing))) (node t i d (node l j b (absent nothing)))
   parts : (listed : Bool) (k l : Kind) (i j : Note) (b v w rest : Forest) → gives_way k ≡ true → is_asked_for l ≡ false → Cuts listed (node k i (joined v (node l j b w)) rest) (node l j b rest)
   rebuilds : (listed : Bool) (k l : Kind) (n m : Note) (a b rest : Forest) → IsRebuilt k n a l m b → Cuts listed (node k n a rest) (node l m b rest)
   inside : (listed : Bool) (k : Kind) (n : Note) (below now rest : Forest) → (is_some (eval_of_call k now) ≡ true → is_some (eval_of_call k below) ≡ true) → Cuts (is_list k) below now → Cuts listed (node k n below rest) (node k n now rest)
@@ -32,6 +33,8 @@ cut_here a t u (local.leaves k n b rest is plain weighs) listed e = subst (λ l.
 cut_here a t u (local.empties n m b rest) listed e = empties listed n m b rest
 cut_here a t u (local.empties_idle k n m b rest idle) listed e = empties_idle listed k n m b rest idle
 cut_here a t u (local.tests k l n m i b after rest tested) listed e = tests listed k l n m i b after rest tested
+cut_here a t u (local.alternate y l n i j o d b rest) listed e =
+    inside listed if_statement n (node y i d (node l j b (node empty_statement o nothing nothing))) (node y i d (node l j b (absent nothing))) rest (λ h. h) (alternate y l i j o d b)
 cut_here a t u (local.parts k l i j b v w rest gives unasked uncalled) listed e = parts listed k l i j b v w rest gives unasked
 cut_here a t u (local.rebuilds k l n m b c rest made uncalled) listed e = rebuilds listed k l n m b c rest made
 
@@ -41,6 +44,7 @@ names_stay a t u (local.leaves k n b rest is plain weighs) c e = absurd (true≢
 names_stay a t u (local.empties n m b rest) c e = absurd (true≢false (sym e))
 names_stay a t u (local.empties_idle k n m b rest idle) c e = absurd (true≢false (sym e))
 names_stay a t u (local.tests k l n m i b after rest tested) c e = absurd (true≢false (sym e))
+names_stay a t u (local.alternate y l n i j o d b rest) c e = absurd (true≢false (sym e))
 names_stay a t u (local.parts k l i j b v w rest gives unasked uncalled) c e = absurd (true≢false (sym e ∙ uncalled c))
 names_stay a t u (local.rebuilds k l n m b d rest made uncalled) c e = absurd (true≢false (sym e ∙ uncalled c))
 

@@ -1,5 +1,5 @@
 -- An edit exposes no name: strict code stays strict, and no call of `eval` comes.
-use Rattle.std.proofs.Common.{◌≡◌, ◌∙◌, ℕ, Bool, true, false, not, ◌&&◌, ◌||◌, ◌==◌, true≢false, if◌then◌else◌, is_some, bytes_eq, codes, refl, sym, subst}
+use Rattle.std.proofs.Common.{◌≡◌, ◌∙◌, ℕ, Bool, true, false, not, ◌&&◌, ◌||◌, ◌==◌, true≢false, if◌then◌else◌, is_some, bytes_eq, codes, refl, sym, subst, ap}
 use Rattle.std.proofs.lemmas.Bool.{and_parts, and_from}
 use Rattle.js_syntax.specs.declared.node_kind.NodeKind.{NodeKind as Kind}
 use Rattle.js_syntax.specs.declared.node_kind.NodeKind.TheVariants as kind
@@ -20,7 +20,7 @@ use Rattle.steps.specs.Owed.Kept.{is_program}
 use Rattle.steps.specs.Allowed.Exposure.{Exposure, in_code, in_block, declaring, shares, is_script_source, at_function_name, at_class_name, exposed_inside, beside_program}
 use Rattle.js_syntax.proofs.Truth.{first_of_either, second_of_either}
 use Rattle.steps.proofs.KeepForm.Asked.{idle_kinds, tested_kinds}
-use Rattle.steps.proofs.Marked.Cuts.{Cuts, leaves, empties, empties_idle, tests, parts, rebuilds, inside, behind, behind_none}
+use Rattle.steps.proofs.Marked.Cuts.{Cuts, leaves, empties, empties_idle, tests, alternate, parts, rebuilds, inside, behind, behind_none}
 use Rattle.steps.proofs.Marked.Rebuilding.{one_evals}
 
 -- ---- truth values
@@ -97,6 +97,7 @@ evals_stay listed t u (tests r k l n m i b after rest tested) e =
     let whole = node l i b after in
     only_or (part || false) (has_eval rest) (is_some (eval_of_call k whole) || has_eval whole) (has_eval rest)
     (λ h. second_of_either (is_some (eval_of_call k whole)) (has_eval whole) (first_of_either part (has_eval after) (or_nothing part h))) kept e
+evals_stay listed t u (alternate y l i j o d b) e = e
 evals_stay listed t u (parts r k l i j b v w rest gives unasked) e =
     let whole = joined v (node l j b w) in
     only_or (is_some (eval_of_call l b) || has_eval b) (has_eval rest) (is_some (eval_of_call k whole) || has_eval whole) (has_eval rest)
@@ -115,6 +116,7 @@ evals_behind listed t u (leaves k n below rest plain) l e = absurd (true≢false
 evals_behind listed t u (empties r n m below rest) l e = e
 evals_behind listed t u (empties_idle r k n m below rest idle) l e = e
 evals_behind listed t u (tests r k x n m i b after rest tested) l e = e
+evals_behind listed t u (alternate y l i j o d b) m e = e
 evals_behind listed t u (parts r k x i j b v w rest gives unasked) l e = e
 evals_behind listed t u (rebuilds r k x n m a b rest made) l e = e
 evals_behind listed t u (inside r k n below now rest called h) l e = e
@@ -129,12 +131,41 @@ row_evals k below now h e = evals_stay (is_list k) below now h e
 
 -- ---- strict code
 
+-- what stands before an alternate that goes
+module _ (t l : Kind) (i j o : Note) (d b : Forest) where
+  abbrev with_alternate : Forest
+  with_alternate = node t i d (node l j b (node kind.EmptyStatement o nothing nothing))
+
+  abbrev without_alternate : Forest
+  without_alternate = node t i d (node l j b (absent nothing))
+
+last_strict : (l : Kind) (j o : Note) (b : Forest) → has_use_strict (node l j b (absent nothing)) ≡ has_use_strict (node l j b (node kind.EmptyStatement o nothing nothing))
+last_strict (kind.Directive written) j o b = refl
+last_strict l j o b = refl
+
+pub first_strict : (t l : Kind) (i j o : Note) (d b : Forest) → has_use_strict (without_alternate t l i j o d b) ≡ has_use_strict (with_alternate t l i j o d b)
+first_strict (kind.Directive written) l i j o d b = ap (λ s. bytes_eq written (codes "use strict") || s) (last_strict l j o b)
+first_strict t l i j o d b = refl
+
+pub first_list : (t l : Kind) (i j o : Note) (d b : Forest) → is_strict_list (without_alternate t l i j o d b) ≡ is_strict_list (with_alternate t l i j o d b)
+first_list kind.Statements l i j o d b = refl
+first_list t l i j o d b = refl
+
+last_function : (l : Kind) (j o : Note) (b : Forest) → is_strict_function (node l j b (absent nothing)) ≡ is_strict_function (node l j b (node kind.EmptyStatement o nothing nothing))
+last_function kind.FunctionBody j o b = refl
+last_function l j o b = refl
+
+pub first_function : (t l : Kind) (i j o : Note) (d b : Forest) → is_strict_function (without_alternate t l i j o d b) ≡ is_strict_function (with_alternate t l i j o d b)
+first_function kind.FunctionBody l i j o d b = refl
+first_function t l i j o d b = last_function l j o b
+
 use_strict_stays : (listed : Bool) (t u : Forest) → Cuts listed t u → Only (has_use_strict t) (has_use_strict u)
 use_strict_stays listed t u (leaves (kind.Directive written) n below rest plain) e = absurd (true≢false plain)
 use_strict_stays listed t u (leaves k n below rest plain) e = never e
 use_strict_stays listed t u (empties r n m below rest) e = never e
 use_strict_stays listed t u (empties_idle r k n m below rest idle) e = never (idle_kinds (λ z. false ≡ has_use_strict (node z n below rest)) refl refl refl refl refl (λ label. refl) k idle ∙ e)
 use_strict_stays listed t u (tests r k l n m i b after rest tested) e = never (tested_kinds (λ z. false ≡ has_use_strict (node z n (node l i b after) rest)) refl k tested ∙ e)
+use_strict_stays listed t u (alternate y l i j o d b) e = first_strict y l i j o d b ∙ e
 use_strict_stays listed t u (parts r k l i j b v w rest gives unasked) e = never (sym (no_directive k i (joined v (node l j b w)) rest gives) ∙ e)
 use_strict_stays listed t u (rebuilds r k l n m a b rest made) e = never (sym (part_no_directive k n a rest made.old_unasked) ∙ e)
 use_strict_stays listed t u (inside r (kind.Directive written) n below now rest called h) e = e
@@ -149,6 +180,7 @@ list_stays listed t u (leaves k n below rest plain) l e = absurd (true≢false l
 list_stays listed t u (empties r n m below rest) l e = never e
 list_stays listed t u (empties_idle r k n m below rest idle) l e = never (idle_kinds (λ z. false ≡ is_strict_list (node z n below rest)) refl refl refl refl refl (λ label. refl) k idle ∙ e)
 list_stays listed t u (tests r k x n m i b after rest tested) l e = never (tested_kinds (λ z. false ≡ is_strict_list (node z n (node x i b after) rest)) refl k tested ∙ e)
+list_stays listed t u (alternate y l i j o d b) m e = first_list y l i j o d b ∙ e
 list_stays listed t u (parts r k x i j b v w rest gives unasked) l e = never (sym (no_list k i (joined v (node x j b w)) rest gives) ∙ e)
 list_stays listed t u (rebuilds r k x n m a b rest made) l e = never (sym (part_no_list k n a rest made.old_unasked) ∙ e)
 list_stays listed t u (inside r kind.Statements n below now rest called h) l e = use_strict_stays true below now h e
@@ -162,6 +194,7 @@ function_stays listed t u (leaves k n below rest plain) l e = absurd (true≢fal
 function_stays listed t u (empties r n m below rest) l e = e
 function_stays listed t u (empties_idle r k n m below rest idle) l e = idle_kinds (λ z. is_strict_function rest ≡ is_strict_function (node z n below rest)) refl refl refl refl refl (λ label. refl) k idle ∙ e
 function_stays listed t u (tests r k x n m i b after rest tested) l e = tested_kinds (λ z. is_strict_function rest ≡ is_strict_function (node z n (node x i b after) rest)) refl k tested ∙ e
+function_stays listed t u (alternate y l i j o d b) m e = first_function y l i j o d b ∙ e
 function_stays listed t u (parts r k x i j b v w rest gives unasked) l e = part_no_body x j b rest unasked ∙ sym (whole_no_body k i (joined v (node x j b w)) rest gives) ∙ e
 function_stays listed t u (rebuilds r k x n m a b rest made) l e = part_no_body x m b rest made.unasked ∙ sym (part_no_body k n a rest made.old_unasked) ∙ e
 function_stays listed t u (inside r kind.FunctionBody n below now rest called h) l e = list_stays false below now h refl e
@@ -175,6 +208,7 @@ there_same listed t u (leaves k n below rest plain) l = absurd (true≢false l)
 there_same listed t u (empties r n m below rest) l = refl
 there_same listed t u (empties_idle r k n m below rest idle) l = refl
 there_same listed t u (tests r k x n m i b after rest tested) l = refl
+there_same listed t u (alternate y l i j o d b) m = refl
 there_same listed t u (parts r k x i j b v w rest gives unasked) l = refl
 there_same listed t u (rebuilds r k x n m a b rest made) l = refl
 there_same listed t u (inside r k n below now rest called h) l = refl
@@ -186,6 +220,7 @@ second_same listed t u (leaves k n below rest plain) l = absurd (true≢false l)
 second_same listed t u (empties r n m below rest) l = refl
 second_same listed t u (empties_idle r k n m below rest idle) l = refl
 second_same listed t u (tests r k x n m i b after rest tested) l = refl
+second_same listed t u (alternate y l i j o d b) m = refl
 second_same listed t u (parts r k x i j b v w rest gives unasked) l = refl
 second_same listed t u (rebuilds r k x n m a b rest made) l = refl
 second_same listed t u (inside r k n below now rest called h) l = refl
@@ -280,6 +315,7 @@ below_stays listed t u (leaves k n below rest plain) l is e = absurd (true≢fal
 below_stays listed t u (empties r n m below rest) l is e = never e
 below_stays listed t u (empties_idle r k n m below rest idle) l is e = never e
 below_stays listed t u (tests r k x n m i b after rest tested) l is e = never (tested_kinds (λ z. false ≡ is_program (node z n (node x i b after) rest)) refl k tested ∙ is)
+below_stays listed t u (alternate y l i j o d b) m is e = e
 below_stays listed t u (parts r k x i j b v w rest gives unasked) l is e = evals_part v x j b w (second_of_either (is_some (eval_of_call x b)) (has_eval b) e)
 below_stays listed t u (rebuilds r k x n m a b rest made) l is e = never (sym (part_no_program k n a rest made.old_unasked) ∙ is)
 below_stays listed t u (inside r k n below now rest called h) l is e = evals_stay (is_list k) below now h e

@@ -16,6 +16,7 @@ use Rattle.steps.specs.Allowed.SilentStatement.{silent_statement_empties}
 use Rattle.steps.specs.Allowed.DeadIf.{nothing_is_run}
 use Rattle.steps.specs.Allowed.IdleBody.{idle_body_empties}
 use Rattle.steps.specs.Allowed.EmptyIf.{test_stays}
+use Rattle.steps.specs.Allowed.EmptyAlternate.{alternate_goes}
 use Rattle.steps.specs.Allowed.UnrunValue.{a_zero, value_never_given}
 use Rattle.steps.specs.Allowed.Edits as edits
 use Rattle.steps.specs.Allowed.Edits.{Leaves, Edit}
@@ -55,13 +56,15 @@ pub record IsRebuilt (k : Kind) (n : Note) (a : Forest) (l : Kind) (m : Note) (b
   pub no_deeper : levels (alone l m b) ≤ levels (alone k n a)
   pub picks : Picks k a l b
 
--- A node leaves a list, a statement of an expression or one that does nothing becomes empty, one of its test comes in a statement's place, a
--- part of a node in its, or an expression is rebuilt of its parts; what comes isn't the name `eval` if it is called.
+-- A node leaves a list, a statement of an expression or one that does nothing becomes empty, one of its test comes in a statement's place, an
+-- `if` loses its alternate, a part of a node stands in its place, or an expression is rebuilt of its parts; what comes isn't the name `eval`
+-- if it is called.
 pub data Local (place : Around) : (t u : Forest) → Type 0 where
   leaves : (k : Kind) (n : Note) (b rest : Forest) → in_list false place ≡ true → is_directive_kind k ≡ false → 1 ≤ total weight (alone k n b) → Local place (node k n b rest) rest
   empties : (n m : Note) (b rest : Forest) → Local place (node expression_statement n b rest) (node empty_statement m nothing rest)
   empties_idle : (k : Kind) (n m : Note) (b rest : Forest) → may_be_idle k ≡ true → Local place (node k n b rest) (node empty_statement m nothing rest)
   tests : (k l : Kind) (n m i : Note) (b after rest : Forest) → is_tested k ≡ true → Local place (node k n (node l i b after) rest) (node expression_statement m (node l i b nothing) rest)
+  alternate : (t l : Kind) (n i j o : Note) (d b rest : Forest) → Local place (node if_statement n (node t i d (node l j b (node empty_statement o nothing nothing))) rest) (node if_statement n (node t i d (node l j b (absent nothing))) rest)
   parts : (k l : Kind) (i j : Note) (b v w rest : Forest) → gives_way k ≡ true → is_asked_for l ≡ false → (called_at false place ≡ true → is_some (eval_name (node l j b rest)) ≡ false)
       → Local place (node k i (joined v (node l j b w)) rest) (node l j b rest)
   rebuilds : (k l : Kind) (n m : Note) (a b rest : Forest) → IsRebuilt k n a l m b → (called_at false place ≡ true → is_some (eval_name (node l m b rest)) ≡ false) → Local place (node k n a rest) (node l m b rest)
@@ -174,6 +177,14 @@ is_local t u (edits.becomes a x y (edits.unrun_value (value_never_given n _ give
       (λ c. refl);
   old_is = placed_is a x;
   new_is = placed_is a (a_zero n);
+}
+is_local t u (edits.becomes a x y (edits.empty_alternate (alternate_goes n i j o tested l d b last))) fits = record {
+  place = place_of a;
+  old = node if_statement n (node tested i d (node l j b (node empty_statement o nothing nothing))) (rest_of a);
+  new = node if_statement n (node tested i d (node l j b (absent nothing))) (rest_of a);
+  local = alternate tested l n i j o d b (rest_of a);
+  old_is = placed_is a x;
+  new_is = placed_is a y;
 }
 is_local t u (edits.becomes a x y (edits.empty_if (test_stays n m o tested d branches empty unnamed))) fits = record {
   place = place_of a;

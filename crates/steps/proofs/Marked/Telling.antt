@@ -26,7 +26,7 @@ use Rattle.scope_laws.proofs.Bindings.{same_value}
 use Rattle.js_syntax.proofs.Truth.{neither}
 use Rattle.steps.specs.Marked.Flags.{has_bits, scope_has, is_sloppy_block, Stand, is_within, holds_variables, declares_in, declaring_inside, stand_inside, first_mark, stands_of, stand_at, stand, Tells, Told, FlagsTell}
 use Rattle.steps.proofs.KeepForm.Asked.{idle_kinds, tested_kinds, tested_gives}
-use Rattle.steps.proofs.Marked.Cuts.{Cuts, leaves, empties, empties_idle, tests, parts, rebuilds, inside, behind, behind_none, edit_cuts}
+use Rattle.steps.proofs.Marked.Cuts.{Cuts, leaves, empties, empties_idle, tests, alternate, parts, rebuilds, inside, behind, behind_none, edit_cuts}
 use Rattle.steps.proofs.Marked.Exposing.{never, part_no_program, Thinner, thinner_itself, thinner_cuts, Less, less_inside, below_stays, less_beside}
 
 -- ---- places: q is of the tree that is there now, p of the one before
@@ -203,6 +203,16 @@ module _ (s : Scoping) (script : Bool) where
         ),
         row_stays r rest qs ps (suc i) (suc j) c (λ e. ap suc (f e)) h.2,
       )
+  cuts_told listed t u (alternate y l m n o d b) qs ps i j c f h =
+      let behind_first = c (suc i) (suc j) (λ e. ap suc (f e)) in (
+        tells_less (c i j f) h.0,
+        row_stays (is_list y) d (stand_inside (qs i) y m d) (stand_inside (ps j) y m d) 0 0 (covers_inside y m d d (thinner_itself y d) (c i j f)) (λ e. refl) h.1,
+        (
+          tells_less behind_first h.2.0,
+          row_stays (is_list l) b (stand_inside (qs (suc i)) l n b) (stand_inside (ps (suc j)) l n b) 0 0 (covers_inside l n b b (thinner_itself l b) behind_first) (λ e. refl) h.2.1,
+          tt,
+        ),
+      )
   cuts_told listed t u (parts r k l m n b v w rest gives unasked) qs ps i j c f h =
       let whole = joined v (node l n b w) in
       let same : stand_inside (ps j) k m whole ≡ (λ at. ps j) = λ z. λ at. plain_inside k gives (ps j) m whole at z in
@@ -248,6 +258,8 @@ root_stays listed t u (leaves k n below rest plain) l e = absurd (true≢false l
 root_stays listed t u (empties r n m below rest) l e = never e
 root_stays listed t u (empties_idle r k n m below rest idle) l e = never (idle_kinds (λ z. false ≡ is_program (node z n below rest)) refl refl refl refl refl (λ label. refl) k idle ∙ e)
 root_stays listed t u (tests r k x n m i b after rest tested) l e = never (tested_kinds (λ z. false ≡ is_program (node z n (node x i b after) rest)) refl k tested ∙ e)
+root_stays listed t u (alternate y l i j o d b) m e =
+    record { script = script_first y i i d d (node l j b (absent nothing)) (node l j b (node kind.EmptyStatement o nothing nothing)); mark = refl }
 root_stays listed t u (parts r k x i j b v w rest gives unasked) l e = never (sym (no_program k i (joined v (node x j b w)) rest gives) ∙ e)
 root_stays listed t u (rebuilds r k x n m a b rest made) l e = never (sym (part_no_program k n a rest made.old_unasked) ∙ e)
 root_stays listed t u (inside r k n below now rest called h) l e = record { script = script_first k n n now below rest rest; mark = refl }

@@ -35,7 +35,7 @@ use Rattle.steps.specs.Owed.Part.{DeclaresNothing}
 use Rattle.steps.proofs.Owed.FitsEdits.{edit_fits}
 use Rattle.steps.specs.Marked.Exports.{IsMarkedAmong, WasExported}
 use Rattle.steps.proofs.KeepForm.Asked.{idle_kinds, tested_kinds, tested_gives}
-use Rattle.steps.proofs.Marked.Cuts.{Cuts, leaves, empties, empties_idle, tests, parts, rebuilds, inside as cut_inside, behind, behind_none, edit_cuts}
+use Rattle.steps.proofs.Marked.Cuts.{Cuts, leaves, empties, empties_idle, tests, alternate, parts, rebuilds, inside as cut_inside, behind, behind_none, edit_cuts}
 use Rattle.steps.proofs.Marked.Telling.{no_program}
 use Rattle.steps.proofs.Marked.Exposing.{never, part_no_program, thinner_cuts}
 
@@ -316,6 +316,16 @@ module _ (e : BindingSite) (top : e.layer.scope ≡ 0) where
           (collected all ps (suc j) (other + scope_count (node k n below nothing)) rest)
           (row_found all r rest qs ps (suc i) (suc j) (next + 0) (other + scope_count (node k n below nothing)) (Prim.omega (arith, some)) c (λ l. ap suc (f l)) g)
 
+  -- the last but one, behind which an alternate goes
+  last_found : (all : Bool) (l : Kind) (m o : Note) (b : Forest) (qs ps : ℕ → Context) (i j next other : ℕ) → 0 < next → Covers false qs ps → i ≡ j → Among e (bindings_among (collected all qs i next (node l m b (absent nothing))))
+      → Found (collected all ps j other (node l m b (node kind.EmptyStatement o nothing nothing)))
+  last_found all l m o b qs ps i j next other some c f h =
+      at_node all (qs i) (ps j) (c i j (λ l. f)) m l b b (collected (all || is_export l) (inside (qs i) next l b) 0 (next + opens_one l b) b) [] (collected (all || is_export l) (inside (ps j) other l b) 0 (other + opens_one l b) b)
+      (collected all ps (suc j) (other + scope_count (node l m b nothing)) (node kind.EmptyStatement o nothing nothing))
+      (λ g. row_found (all || is_export l) (is_list l) b (inside (qs i) next l b) (inside (ps j) other l b) 0 0 (next + opens_one l b) (other + opens_one l b) (Prim.omega (arith, some))
+      (covers_by (is_list l) l b b (qs i) (ps j) next other refl some (λ e. refl) (c i j (λ l. f))) (λ e. refl) g)
+      (λ g. absurd g) h
+
   cuts_found : (all listed : Bool) (t u : Forest) → Cuts listed t u → (qs ps : ℕ → Context) (i j next other : ℕ) → 0 < next → Covers listed qs ps → (listed ≡ false → i ≡ j) → Among e (bindings_among (collected all qs i next u)) → Found (collected all ps j other t)
   cuts_found all listed t u (leaves k n below rest plain) qs ps i j next other some c f h =
       found_third (if all then own_sites (ps j) n k below else []) (collected (all || is_export k) (inside (ps j) other k below) 0 (other + opens_one k below) below) (collected all ps (suc j) (other + scope_count (node k n below nothing)) rest)
@@ -350,6 +360,12 @@ module _ (e : BindingSite) (top : e.layer.scope ≡ 0) where
       by (in_third g) =
           found_third (if all then own_sites (ps j) n k (node l y b after) else []) (collected (all || is_export k) (inside (ps j) other k (node l y b after)) 0 (other + opens_one k (node l y b after)) (node l y b after)) (collected all ps (suc j) (other + scope_count (node k n (node l y b after) nothing)) rest)
           (row_found all r rest qs ps (suc i) (suc j) (next + scope_count (node kind.ExpressionStatement m (node l y b nothing) nothing)) (other + scope_count (node k n (node l y b after) nothing)) (Prim.omega (arith, some)) c (λ a. ap suc (f a)) g)
+  cuts_found all listed t u (alternate k l n m o below b) qs ps i j next other some c f h =
+      at_node all (qs i) (ps j) (c i j f) n k below below (collected (all || is_export k) (inside (qs i) next k below) 0 (next + opens_one k below) below) (collected all qs (suc i) (next + scope_count (node k n below nothing)) (node l m b (absent nothing)))
+      (collected (all || is_export k) (inside (ps j) other k below) 0 (other + opens_one k below) below) (collected all ps (suc j) (other + scope_count (node k n below nothing)) (node l m b (node kind.EmptyStatement o nothing nothing)))
+      (λ g. row_found (all || is_export k) (is_list k) below (inside (qs i) next k below) (inside (ps j) other k below) 0 0 (next + opens_one k below) (other + opens_one k below) (Prim.omega (arith, some))
+      (covers_by (is_list k) k below below (qs i) (ps j) next other refl some (λ l. refl) (c i j f)) (λ l. refl) g)
+      (λ g. last_found all l m o b qs ps (suc i) (suc j) (next + scope_count (node k n below nothing)) (other + scope_count (node k n below nothing)) (Prim.omega (arith, some)) c (ap suc (f refl)) g) h
   cuts_found all listed t u (parts r k l m n b v w rest gives unasked) qs ps i j next other some c f h =
       let whole = joined v (node l n b w) in
       by whole refl (binding_in e (if all then own_sites (qs i) n l b else []) (collected (all || is_export l) (inside (qs i) next l b) 0 (next + opens_one l b) b) (collected all qs (suc i) (next + scope_count (node l n b nothing)) rest) h)
@@ -425,6 +441,11 @@ module _ (e : BindingSite) (top : e.layer.scope ≡ 0) where
   root_found listed t u (empties r n m below rest) l is h = never is
   root_found listed t u (empties_idle r k n m below rest idle) l is h = never (idle_kinds (λ z. false ≡ is_program (node z n below rest)) refl refl refl refl refl (λ label. refl) k idle ∙ is)
   root_found listed t u (tests r k x n m y b after rest tested) l is h = never (tested_kinds (λ z. false ≡ is_program (node z n (node x y b after) rest)) refl k tested ∙ is)
+  root_found listed t u (alternate (kind.Program source) l n m o below b) z is h =
+      program_found source n below below (node l m b (node kind.EmptyStatement o nothing nothing)) (node l m b (absent nothing))
+      (λ g. row_found false false below (inside outermost 0 (kind.Program source) below) (inside outermost 0 (kind.Program source) below) 0 0 1 1 (Prim.omega arith) (covers_program source below below) (λ l. refl) g)
+      (λ g. last_found false l m o b (λ at. outermost) (λ at. outermost) 1 1 (0 + scope_count (node (kind.Program source) n below nothing)) (0 + scope_count (node (kind.Program source) n below nothing)) (Prim.omega arith) (λ i j f. ahead_outermost) refl g) h
+  root_found listed t u (alternate k l n m o below b) z is h = never is
   root_found listed t u (parts r k x m n b v w rest gives unasked) l is h = never (sym (no_program k m (joined v (node x n b w)) rest gives) ∙ is)
   root_found listed t u (rebuilds r k x n m a b rest made) l is h = never (sym (part_no_program k n a rest made.old_unasked) ∙ is)
   root_found listed t u (cut_inside r (kind.Program source) n below now rest called x) l is h =

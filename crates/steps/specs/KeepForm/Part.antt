@@ -1,8 +1,9 @@
--- What may stand in a node's place, as far as the rules of form ask: a part of it, what is built of its parts, or a statement of its test.
+-- What may stand in a node's place, as far as the rules of form ask: a part of it, what is built of its parts, a statement of its test, or
+-- an `if` without its alternate.
 use Rattle.std.specs.Prelude.{◌≡◌, ℕ, [], Bool, true, false}
 use Rattle.js_syntax.specs.declared.node_kind.NodeKind.{NodeKind as Kind}
 use Rattle.js_syntax.specs.declared.node_kind.NodeKind.TheVariants.{Program as program, Directive as directive, Statements as statements, FunctionBody as function_body, ExpressionStatement as expression_statement, EmptyStatement as empty_statement, DebuggerStatement as debugger_statement, BlockStatement as block_statement, StaticBlock as static_block, Cases as cases, SwitchCase as switch_case, SwitchStatement as switch_statement, LabeledStatement as labeled_statement, BreakStatement as break_statement, ContinueStatement as continue_statement, ReturnStatement as return_statement, ThrowStatement as throw_statement, TryStatement as try_statement, CatchClause as catch_clause, IfStatement as if_statement, WithStatement as with_statement, WhileStatement as while_statement, DoWhileStatement as do_while_statement, ForStatement as for_statement, ForInStatement as for_in_statement, ForOfStatement as for_of_statement, Function as function, Class as class, ClassBody as class_body, Members as members, MethodDefinition as method_definition, PropertyDefinition as property_definition, BindingName as binding_name, PrivateName as private_name, Super as super, ConditionalExpression as conditional_expression, UnaryExpression as unary_expression, BinaryExpression as binary_expression, LogicalExpression as logical_expression, SequenceExpression as sequence_expression, TemplateLiteral as template_literal, VariableDeclaration as variable_declaration, Declarators as declarators, VariableDeclarator as variable_declarator, Parameters as parameters, Properties as properties, Elements as elements, Specifiers as specifiers, BindingRest as binding_rest, TargetRest as target_rest, BindingObject as binding_object, BindingArray as binding_array, BindingProperty as binding_property, BindingDefault as binding_default, ImportDeclaration as import_declaration, ImportSpecifier as import_specifier, ImportDefaultSpecifier as import_default_specifier, ImportNamespaceSpecifier as import_namespace_specifier, ExportNamedDeclaration as export_named_declaration, ExportSpecifier as export_specifier, ForeignSpecifier as foreign_specifier, ExportDefaultDeclaration as export_default_declaration, ExportAllDeclaration as export_all_declaration}
-use Rattle.js_syntax.specs.Node.{Note, Forest, nothing, node, joined, alone}
+use Rattle.js_syntax.specs.Node.{Note, Forest, nothing, node, absent, joined, alone}
 use Rattle.js_rebuilt.specs.Rebuilt.{Rebuilt}
 use Rattle.form_rules.specs.declared.sought.Sought.{Sought}
 use Rattle.form_rules.specs.Scope.{sought_below, declared}
@@ -147,3 +148,5 @@ pub data Replaces : (old : Kind) (n : Note) (below : Forest) (new : Kind) (m : N
   -- a statement that declares nothing comes to one of its test
   by_test : {k l : Kind} {n m i : Note} {b after : Forest} → is_tested k ≡ true → is_asked_for l ≡ false → is_statement l ≡ false → ((s : Sought) (place : ℕ) → declared s place (alone k n (node l i b after)) ≡ [])
       → Replaces k n (node l i b after) expression_statement m (node l i b nothing)
+  -- an `if` loses an alternate that is empty
+  without_alternate : {t l : Kind} {n m i j o : Note} {d b : Forest} → Replaces if_statement n (node t i d (node l j b (node empty_statement o nothing nothing))) if_statement m (node t i d (node l j b (absent nothing)))

@@ -29,6 +29,7 @@ ghost use Rattle.steps.specs.Allowed.IdleTry.{IdleTry};
 ghost use Rattle.steps.specs.Allowed.IdleBody.{IdleBody};
 ghost use Rattle.js_syntax.specs.declared.kind.FunctionKind.TheVariants as function_kind;
 ghost use Rattle.steps.specs.Allowed.EmptyIf.{EmptyIf};
+ghost use Rattle.steps.specs.Allowed.EmptyAlternate.{EmptyAlternate};
 ghost use Rattle.steps.specs.Allowed.EmptyBlock.{EmptyBlock};
 ghost use Rattle.steps.specs.Allowed.Edits.{Edit};
 ghost use Rattle.steps.specs.Allowed.Rows.{before, breaks_label, labeled, labeled_too, tried, tried_finally, finally_alone, while_, for_, loop, branch_of_if, in_list, past, in_branch, in_function, in_function_by, value_of_a, zero, debugger, throwing_block, throwing_branch, broken_label, throws, behind_throw, call_of_a, null, if_one, if_null, either_way, conditional, logical, may_be_named, o_f, parenthesized, called, called_in_parentheses, called_in_with, argument, operand, applied, equals, difference, sum, text, empty_text, template, tagged, assigned, statement, ComesOut, Stays, StaysUnused, array, spread, hole, sequence, ListStays, ChoiceStays, PartsStay, SidesStay, object, a_is, b_is, getter_of_a, keyed_by, method_by, not_a, ObjectStays, literal, operation, OperationStays, behind_zero, placed, StaysDirect, FollowsNone, with_a, in_with_a, empty, a_is_read, a_is_exported, imports_nothing, behind_import, behind_other};
@@ -198,6 +199,16 @@ pub fn empty_ifs_become_their_tests()
     ensures full { (y : Tree) → EmptyIf (an_if nowhere (Kind.ReferenceName a) nowhere nothing (joined empty (does call_of_a))) y → ⊥ }
     ensures only_alternate { (y : Tree) → EmptyIf (an_if nowhere (Kind.ReferenceName a) nowhere nothing (joined (does call_of_a) empty)) y → ⊥ }
     ensures function { (pure : Bool) (d branches : Forest) (y : Tree) → EmptyIf (an_if nowhere (Kind.Function function_kind.Arrow pure) nowhere d branches) y → ⊥ }
+{}
+
+/// An `if` loses an empty alternate as an item of a list, or as the alternate of an `if` that is one. It stays where the `if` is the branch
+/// or the body of another statement, behind which an alternate may follow, and where the alternate does something.
+pub fn empty_alternates_go()
+    ensures item { Edit (a_module (either_way (reads a) (does call_of_a) empty ∷ [])) (a_module (either_way (reads a) (does call_of_a) no ∷ [])) }
+    ensures alternate { Edit (a_module (either_way one (does call_of_a) (either_way (reads a) (does call_of_a) empty) ∷ [])) (a_module (either_way one (does call_of_a) (either_way (reads a) (does call_of_a) no) ∷ [])) }
+    ensures consequent { (x y : Tree) → EmptyAlternate branch_of_if x y → ⊥ }
+    ensures body { (x y : Tree) → EmptyAlternate (in_list (under Kind.WhileStatement nowhere (past (reads a) (first nothing)) nothing)) x y → ⊥ }
+    ensures full { (place : Around) (y : Tree) → EmptyAlternate place (an_if nowhere (Kind.ReferenceName a) nowhere nothing (joined (does call_of_a) (does call_of_a))) y → ⊥ }
 {}
 
 /// A `try` around nothing becomes its finalizer, wherever it stands, or its block where it has none. It stays where its block holds

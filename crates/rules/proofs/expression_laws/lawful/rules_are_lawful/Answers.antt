@@ -1,4 +1,4 @@
-use Rattle.rules.proofs.Expressions.Folding.{conditionals_fold, logicals_fold, unused_fold, lists_fold, indirect_fold, one_sided_fold, sequences_fold, two_sides_fold, objects_fold, known_fold, ifs_fold, tests_fold, ifs_rid, jumps_cut, expressions_fold}
+use Rattle.rules.proofs.Expressions.Folding.{conditionals_fold, logicals_fold, unused_fold, lists_fold, indirect_fold, one_sided_fold, sequences_fold, two_sides_fold, objects_fold, known_fold, ifs_fold, tests_fold, alternates_fold, ifs_rid, jumps_cut, expressions_fold}
 use Rattle.rules.proofs.expression_laws.lawful.rules_are_lawful.Goals as goal
 
 pub returns-clause-conditional : goal.returns-clause-conditional
@@ -45,3 +45,6 @@ returns-clause-all g c = expressions_fold g.T.Traverse.edit
 
 pub returns-clause-empty_if : goal.returns-clause-empty_if
 returns-clause-empty_if g c = tests_fold g.T.Traverse.edit
+
+pub returns-clause-empty_alternate : goal.returns-clause-empty_alternate
+returns-clause-empty_alternate g c = alternates_fold g.T.Traverse.edit

@@ -9,6 +9,7 @@ use Rattle.rules.proofs.Expressions.TwoSides.{two_sides_edits_there}
 use Rattle.rules.proofs.Expressions.Objects.{object_edits_there}
 use Rattle.rules.proofs.Expressions.Operations.{known_edits}
 use Rattle.rules.proofs.Expressions.EmptyIfs.{empty_if_edits}
+use Rattle.rules.proofs.Expressions.EmptyAlternates.{empty_alternate_edits}
 use Rattle.rules.proofs.Expressions.Ifs.{if_edits}
 use Rattle.rules.proofs.Expressions.Untaken.{left_edits}
 use Rattle.rules.proofs.Expressions.Jumps.{list_edits}
@@ -58,3 +59,6 @@ returns-clause-items c = list_edits
 
 pub returns-clause-test : goal.returns-clause-test
 returns-clause-test c = empty_if_edits
+
+pub returns-clause-alternate : goal.returns-clause-alternate
+returns-clause-alternate c = λ a x y rest e. empty_alternate_edits a rest x y e

@@ -9,6 +9,7 @@ use Rattle.rules.proofs.Expressions.TwoSides.{two_sides_answers_there}
 use Rattle.rules.proofs.Expressions.Objects.{object_answers_there}
 use Rattle.rules.proofs.Expressions.Operations.{known_answers}
 use Rattle.rules.proofs.Expressions.EmptyIfs.{empty_if_answers}
+use Rattle.rules.proofs.Expressions.EmptyAlternates.{empty_alternate_answers}
 use Rattle.rules.proofs.Expressions.Ifs.{known_if_answers, dead_if_answers, idle_try_answers}
 use Rattle.rules.proofs.expression_laws.laws.edits_are_answers.Goals as goal
 
@@ -53,3 +54,6 @@ returns-clause-idle_try c = idle_try_answers
 
 pub returns-clause-empty_if : goal.returns-clause-empty_if
 returns-clause-empty_if c = empty_if_answers
+
+pub returns-clause-empty_alternate : goal.returns-clause-empty_alternate
+returns-clause-empty_alternate c = λ a x y rest o. empty_alternate_answers a rest x y o

@@ -1,4 +1,4 @@
-use Rattle.rules.proofs.Expressions.Settled.{no_conditional, no_side, no_unused, no_list, no_indirect, no_one_sided, no_sequence, no_two_sides, no_object, no_known, no_known_if, no_dead_if, no_empty_if, no_try, no_unreached, no_untaken, no_idle, no_value, is_settled}
+use Rattle.rules.proofs.Expressions.Settled.{no_conditional, no_side, no_unused, no_list, no_indirect, no_one_sided, no_sequence, no_two_sides, no_object, no_known, no_known_if, no_dead_if, no_empty_if, no_empty_alternate, no_try, no_unreached, no_untaken, no_idle, no_value, is_settled}
 use Rattle.rules.proofs.expression_laws.laws.what_is_settled_has_no_edits.Goals as goal
 
 pub returns-clause-conditional : goal.returns-clause-conditional
@@ -57,3 +57,6 @@ returns-clause-idle_try c = no_try
 
 pub returns-clause-empty_if : goal.returns-clause-empty_if
 returns-clause-empty_if c = no_empty_if
+
+pub returns-clause-empty_alternate : goal.returns-clause-empty_alternate
+returns-clause-empty_alternate c = no_empty_alternate
