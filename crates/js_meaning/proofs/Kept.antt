@@ -1,11 +1,11 @@
 -- Keeping runs: it composes, and refinement gives it in both directions.
-use Rattle.std.proofs.Common.{◌≡◌, List, [], ◌++◌, ◌⊎◌, inl, inr, refl, sym, ◌∙◌, ap, subst, append_assoc}
+use Rattle.std.proofs.Common.{◌≡◌, ℕ, List, [], ◌++◌, ◌⊎◌, inl, inr, refl, sym, ◌∙◌, ap, subst, append_assoc}
 use Rattle.std.proofs.lemmas.List.{append-nil}
 use Rattle.js_syntax.specs.Node.{Forest}
 use Rattle.js_meaning.specs.Trace.{Event, Ending, ended, host_stopped, out, uncovered, Run}
 use Rattle.js_meaning.specs.State.{State, Completion, Out, goes, stops, M, more, go_on, bind}
 use Rattle.js_meaning.specs.Run.{run, seen}
-use Rattle.js_meaning.specs.Kept.{Prefix, keeps, Keeps, Kept, comes_back, KeptBack, refines, Refines, Refined}
+use Rattle.js_meaning.specs.Kept.{Prefix, keeps, Keeps, Kept, comes_back, KeptBack, BackWithin, recovers, Recovered, refines, Refines, Refined}
 
 prefix_of_same : (es fs : List Event) → fs ≡ es → Prefix es fs
 prefix_of_same es fs h = ([], h ∙ sym (append-nil es))
@@ -84,6 +84,67 @@ refines_itself a uncovered = prefix_of_same a.trace a.trace refl
 
 pub refined_same : (t : Forest) → Refined t t
 refined_same t script n = refines_itself (run t script n) (run t script n).ending
+
+-- the way back by another bound
+
+-- what is known of two runs of which the second isn't out
+abbrev Recovering : Run → Run → Type 0
+Recovering a b = (a ≡ b) ⊎ ((a.ending ≡ uncovered) × Prefix a.trace b.trace)
+
+recovering : (a b : Run) (e : Ending) → (e ≡ out → ⊥) → recovers e a b → Recovering a b
+recovering a b (ended x) n h = h
+recovering a b host_stopped n h = h
+recovering a b out n h = absurd (n refl)
+recovering a b uncovered n h = h
+
+recovers_so : (a b : Run) (e : Ending) → ((e ≡ out → ⊥) → Recovering a b) → recovers e a b
+recovers_so a b (ended x) h = h (λ x. cc)
+recovers_so a b host_stopped h = h (λ x. cc)
+recovers_so a b out h = tt
+recovers_so a b uncovered h = h (λ x. cc)
+
+uncovered_goes_on : uncovered ≡ out → ⊥
+uncovered_goes_on e = cc
+
+recovering_joined : (a b c : Run) → (c.ending ≡ out → ⊥) → ((b.ending ≡ out → ⊥) → Recovering a b) → Recovering b c → Recovering a c
+recovering_joined a b c n h (inl e) = subst (Recovering a) e (h (λ x. n (ap (λ r. r.ending) (sym e) ∙ x)))
+recovering_joined a b c n h (inr p) = go (h (λ x. uncovered_goes_on (sym p.0 ∙ x)))
+  where
+    go : Recovering a b → Recovering a c
+    go (inl e) = inr (ap (λ r. r.ending) e ∙ p.0, subst (λ r. Prefix r.trace c.trace) (sym e) p.1)
+    go (inr q) = inr (q.0, prefix_joined a.trace b.trace c.trace q.1 p.1)
+
+pub recovered_joined : (f g : ℕ → ℕ) (t u v : Forest) → Recovered f t u → Recovered g u v → Recovered (λ n. f (g n)) t v
+recovered_joined f g t u v h k script n =
+    let a = run t script (f (g n)) in
+    let b = run u script (g n) in
+    let c = run v script n in
+    recovers_so a c c.ending (λ x. recovering_joined a b c x (λ y. recovering a b b.ending y (h script (g n))) (recovering b c c.ending x (k script n)))
+
+refines_recovering : (a b : Run) (e : Ending) → a.ending ≡ e → refines e a b → Recovering a b
+refines_recovering a b (ended x) p h = inl (sym h)
+refines_recovering a b host_stopped p h = inl (sym h)
+refines_recovering a b out p h = inl (sym h)
+refines_recovering a b uncovered p h = inr (p, h)
+
+pub refined_recovers : (t u : Forest) → Refined t u → Recovered (λ n. n) t u
+refined_recovers t u h script n =
+    let a = run t script n in
+    let b = run u script n in
+    recovers_so a b b.ending (λ x. refines_recovering a b a.ending refl (h script n))
+
+recovering_back : (a b : Run) → Recovering a b → (a.ending ≡ uncovered) ⊎ (a ≡ b)
+recovering_back a b (inl e) = inr e
+recovering_back a b (inr p) = inl p.0
+
+recovers_back : (a b : Run) (e : Ending) → recovers e a b → comes_back e a b
+recovers_back a b (ended x) h = recovering_back a b h
+recovers_back a b host_stopped h = recovering_back a b h
+recovers_back a b out h = tt
+recovers_back a b uncovered h = tt
+
+pub recovered_back : (f : ℕ → ℕ) (t u : Forest) → Recovered f t u → BackWithin f t u
+recovered_back f t u h script n = recovers_back (run t script (f n)) (run u script n) (run u script n).ending (h script n)
 
 -- What goes on only adds.
 

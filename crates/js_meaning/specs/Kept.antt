@@ -35,6 +35,21 @@ ComesBack old new = comes_back new.ending old new
 abbrev pub KeptBack : Forest → Forest → Type 0
 KeptBack t u = (script : Script) (n : ℕ) → ComesBack (run t script n) (run u script n)
 
+-- So within another bound, which goes by that of the new run.
+abbrev pub BackWithin : (ℕ → ℕ) → Forest → Forest → Type 0
+BackWithin f t u = (script : Script) (n : ℕ) → ComesBack (run t script (f n)) (run u script n)
+
+-- And where the new run isn't out of its bound, the old one is the same, or uncovered behind the same events: this composes.
+abbrev pub recovers : Ending → Run → Run → Type 0
+recovers out old new = Unit {0}
+recovers e old new = (old ≡ new) ⊎ ((old.ending ≡ uncovered) × Prefix old.trace new.trace)
+
+abbrev pub Recovers : Run → Run → Type 0
+Recovers old new = recovers new.ending old new
+
+abbrev pub Recovered : (ℕ → ℕ) → Forest → Forest → Type 0
+Recovered f t u = (script : Script) (n : ℕ) → Recovers (run t script (f n)) (run u script n)
+
 -- One relation for both: the new run is the old one, but behind an uncovered act of the old one it may go on as it likes.
 abbrev pub refines : Ending → Run → Run → Type 0
 refines (ended exports) old new = new ≡ old

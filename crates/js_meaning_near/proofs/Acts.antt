@@ -8,7 +8,7 @@ use Rattle.js_meaning.specs.Trace.{Ending, Event, Move}
 use Rattle.js_meaning.specs.State.{State, Cell, Export, Place, Completion, Out, goes, stops, M, more, go_on, bind, done, stop, unknown, give, choose, if_normal, seq, if_gives, with_receiver, with_value, if_gives_all, with_all, if_refers, with_place, put, alloc, read, store, identity, raise, get_global, set_global, get_import, set_import, spend_from, spend, with_moves, set_moves, with_exports, set_exports, put_event}
 use Rattle.js_meaning.specs.Kept.{Prefix}
 use Rattle.js_meaning_near.proofs.Worlds.{Rule, any_value, an_object, both, left, right, World, In, here, Sub, same, later, grown, Links, new, old, BothNew, both_split, behind_left, behind_right, links_up, links_up_right, right_links, left_links, both_links, not_eq, ids_same}
-use Rattle.js_meaning_near.proofs.Relations.{HoldsCell, Same, same_plain, same_error, SameOpt, SameAll, SameCell, SamePlace, SameCompletion, same_normal, same_gives, same_gives_all, same_refers, same_breaks, same_continues, same_returns, same_throws, Obeys, Cells, SameExports, States, trace, Follows, both_go, both_stop, old_stops, old_out, Budgets, as_many, no_more, budgets_later, Acts, opt_later, all_later, cell_later, completion_later, exports_later}
+use Rattle.js_meaning_near.proofs.Relations.{HoldsCell, Same, same_plain, same_error, SameOpt, SameAll, SameCell, SamePlace, SameCompletion, same_normal, same_gives, same_gives_all, same_refers, same_breaks, same_continues, same_returns, same_throws, Obeys, Cells, SameExports, States, trace, Follows, both_go, both_stop, old_stops, old_out, new_out, Budgets, as_many, no_more, twice, owed_before, budgets_later, Acts, opt_later, all_later, cell_later, completion_later, exports_later}
 
 pub acts_later : {w w2 : World} {m k : M} → Sub w w2 → Acts w m k → Acts w2 m k
 acts_later g a = record { act = λ w3 h s z r. a.act w3 (later g h) s z r }
@@ -18,6 +18,7 @@ follows_back g (both_go h r c) = both_go (later g h) r c
 follows_back g both_stop = both_stop
 follows_back g (old_stops p) = old_stops p
 follows_back g (old_out i p) = old_out (g.slack_kept i) p
+follows_back g (new_out o) = new_out (owed_before g o)
 
 -- events
 
@@ -33,6 +34,7 @@ more_follows es (both_go h r c) = both_go h r c
 more_follows es both_stop = both_stop
 more_follows es (old_stops {es = fs} {o = p} x) = old_stops (more_prefix es fs p x)
 more_follows es (old_out {es = fs} {o = p} i x) = old_out i (more_prefix es fs p x)
+more_follows es (new_out o) = new_out o
 
 -- no events more
 pub nothing_more : {w : World} {p : Out} (o : Out) → Follows w o p → Follows w (more [] o) p
@@ -43,7 +45,7 @@ on_trace : (o : Out) (k : Completion → M) → Prefix (trace o) (trace (go_on o
 on_trace (goes es s c) k = (trace (k c s), more_trace es (k c s))
 on_trace (stops es e) k = ([], sym (append-nil es))
 
-prefix_on : (es : List Event) (o : Out) (k : Completion → M) → Prefix es (trace o) → Prefix es (trace (go_on o k))
+pub prefix_on : (es : List Event) (o : Out) (k : Completion → M) → Prefix es (trace o) → Prefix es (trace (go_on o k))
 prefix_on es o k x =
     let y = on_trace o k in
     (x.0 ++ y.0, y.1 ∙ ap (λ l. l ++ y.0) x.1 ∙ append_assoc es x.0 y.0)
@@ -54,6 +56,7 @@ on_follows j k (both_go {es = es} {s = s} {z = z} {c = c} {d = d} {w2 = w2} h r 
 on_follows j k both_stop f = both_stop
 on_follows j k (old_stops {es = es} {o = o} x) f = old_stops (prefix_on es o k x)
 on_follows j k (old_out {es = es} {o = o} i x) f = old_out i (prefix_on es o k x)
+on_follows j k (new_out o) f = new_out o
 
 pub bind_acts : {w : World} {m k : M} {f g : Completion → M} → Acts w m k → ((w2 : World) (c d : Completion) → Sub w w2 → SameCompletion w2 c d → Acts w2 (f c) (g d)) → Acts w (bind m f) (bind k g)
 unfolding bind
@@ -394,21 +397,24 @@ set_exports_acts stars e a = record { act = λ w2 h s z r. a.act w2 h _ _ (recor
 -- an entry costs both one
 
 fewer_budgets : {w : World} {m n : ℕ} → Budgets w (suc m) (suc n) → Budgets w m n
-fewer_budgets (as_many e) = as_many (omega arith)
+fewer_budgets (as_many f e) = as_many f (omega arith)
 fewer_budgets (no_more i l) = no_more i (omega arith)
+fewer_budgets (twice o l) = twice o (omega arith)
 
-none_left : {w : World} {o : ℕ} (p : Out) → Budgets w zero (suc o) → Follows w (stops [] Ending.out) p
-none_left p (as_many e) = absurd (omega arith)
+pub none_left : {w : World} {o : ℕ} (p : Out) → Budgets w zero (suc o) → Follows w (stops [] Ending.out) p
+none_left p (as_many f e) = absurd (omega arith)
 none_left p (no_more i l) = old_out i (trace p, refl)
+none_left p (twice o l) = absurd (omega arith)
 
-not_fewer : {w : World} {n : ℕ} → Budgets w (suc n) zero → ⊥
-not_fewer (as_many e) = omega arith
-not_fewer (no_more i l) = omega arith
+pub only_old_left : {w : World} {n : ℕ} (p : Out) → Budgets w (suc n) zero → Follows w p (stops [] Ending.out)
+only_old_left p (as_many f e) = absurd (omega arith)
+only_old_left p (no_more i l) = absurd (omega arith)
+only_old_left p (twice o l) = new_out o
 
 spend_follows : {w : World} {m k : M} {s z : State} (n o : ℕ) → Budgets w n o → States w s z → Acts w m k → Follows w (spend_from n m s) (spend_from o k z)
 spend_follows zero zero e r a = both_stop
 spend_follows {k = k} {z = z} zero (suc o) e r a = none_left (k (record z { budget = o })) e
-spend_follows (suc n) zero e r a = absurd (not_fewer e)
+spend_follows {m = m} {s = s} (suc n) zero e r a = only_old_left (m (record s { budget = n })) e
 spend_follows {w = w} (suc n) (suc o) e r a = a.act w (same w) _ _ (record { budget = fewer_budgets e; links = r.links; cells = r.cells; globals = r.globals; imports = r.imports; shown = r.shown; moves = r.moves; exports = r.exports; stars = r.stars })
 
 pub spend_acts : {w : World} {m k : M} → Acts w m k → Acts w (spend m) (spend k)

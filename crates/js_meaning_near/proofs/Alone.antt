@@ -18,9 +18,9 @@ use Rattle.js_meaning.specs.Meaning.{eval}
 use Rattle.js_meaning_near.specs.Quiet.{OnlyAllocates, LeadsFrom, goes_on_as, stops_before, Leads, EndsQuietly, gives_quietly, stops_quietly, Quiet}
 use Rattle.js_meaning_near.specs.Wasted.{EndsSoon, ends_soon, stops_soon, IsSilent, Meets, Wastes, wastes_nothing, wastes_silent, wastes_known, wastes_call}
 use Rattle.js_meaning_near.specs.Names.{Status, Fact, known, silent_function, Lone, Names}
-use Rattle.js_meaning_near.specs.Near.{meaning, Silent, NoField, Idle, idle_empty, idle_expression, idle_no_expression, idle_waste, idle_statement, idle_function, idle_declarator, idle_bare_declarator, idle_cut_declarator, idle_declaration, AllIdle, all_idle, one_idle}
+use Rattle.js_meaning_near.specs.Near.{meaning, Silent, NoField, Idle, idle_empty, idle_expression, idle_no_expression, idle_waste, idle_statement, idle_function, idle_declarator, idle_bare_declarator, idle_cut_declarator, idle_declaration, AllIdle, all_idle, one_idle, idle_import}
 use Rattle.js_meaning_near.proofs.Worlds.{Rule, only_value, left, both, slack, World, In, Sub, same, later, links_up}
-use Rattle.js_meaning_near.proofs.Relations.{LeftSlot, left_local, left_import, left_arguments, At, at_nowhere, at_loose, Budgets, as_many, no_more, Enters, CallEnds, call_gives, call_uncovered, call_out, at_live, at_known, at_dead, at_unread, Envs, SameOpt, SameAll, SameCell, same_normal, Obeys, SameExports, States, trace, Follows, both_go, old_stops, old_out, Acts}
+use Rattle.js_meaning_near.proofs.Relations.{LeftSlot, left_local, left_import, left_arguments, At, at_nowhere, at_loose, at_owing, Budgets, as_many, no_more, twice, Enters, CallEnds, call_gives, call_uncovered, call_out, at_live, at_known, at_dead, at_unread, Envs, SameOpt, SameAll, SameCell, same_normal, Obeys, SameExports, States, trace, Follows, both_go, old_stops, old_out, Acts}
 use Rattle.js_meaning_near.proofs.Acts.{acts_later, follows_back, nothing_more, stored_left}
 use Rattle.js_meaning_near.proofs.Scopes.{envs_bind}
 
@@ -60,7 +60,7 @@ alone_unknown = record { alone = λ w2 h s z r. stopped }
 
 -- a quiet expression
 
-allocated_states : {w : World} {s t z : State} → OnlyAllocates s t → States w s z → States w t z
+pub allocated_states : {w : World} {s t z : State} → OnlyAllocates s t → States w s z → States w t z
 allocated_states {w = w} {s = s} {t = t} {z = z} o r = record {
   budget = subst (λ b. Budgets w b z.budget) (sym o.budget) r.budget;
   links = links_up t.fresh o.fresh r.links;
@@ -180,6 +180,7 @@ alone_fill v y (at_dead l) = alone_slot v l
 alone_fill v y (at_unread l n) = alone_slot v l
 alone_fill v y at_nowhere = absurd y
 alone_fill v y (at_loose i) = absurd y
+alone_fill v y (at_owing o) = absurd y
 alone_fill v y (at_live l) = absurd y
 alone_fill v y (at_known i l) = absurd y
 
@@ -194,8 +195,9 @@ known_first {w = w} {f = f} {n = n} x k (at_known {c = c} {d = d} i l) a = recor
     go w2 h s z r (cell constant (Some v)) y = nothing_more (k v undef s) ((a v y).act w2 h s z r)
 
 one_less : {w : World} {m n b : ℕ} → In slack w → m ≡ suc b → Budgets w m n → Budgets w b n
-one_less i e (as_many f) = no_more i (omega arith)
+one_less i e (as_many g f) = no_more i (omega arith)
 one_less i e (no_more j l) = no_more i (omega arith)
+one_less i e (twice o l) = absurd (o.no_slack i)
 
 call_still : {w : World} {s z : State} {o : Out} → In slack w → CallEnds s o → States w s z → Still w false z o
 call_still {w = w} i (call_gives e o) r = still (same w) (allocated_states o (record { budget = one_less i e r.budget; links = r.links; cells = r.cells; globals = r.globals; imports = r.imports; shown = r.shown; moves = r.moves; exports = r.exports; stars = r.stars })) ends_gives
@@ -256,6 +258,7 @@ mutual
   idle_alone E n (run ls) (idle_no_expression {a = a} y) r = no_expression E a _ y
   idle_alone {e = e} E n (run ls) (idle_waste x) r = waste_alone E n (x.wastes_all E e (envs_bind r) ls) r
   idle_alone E n q (idle_statement d) r = leads_alone (d.nothing_done E q _)
+  idle_alone E n (run ls) idle_import r = alone_done ends_normal
   idle_alone E n (run ls) (idle_function d) r = alone_done ends_normal
   idle_alone E n (run ls) (idle_declaration {how = how} x) r = all_alone E n (declares how) x r
   idle_alone E n (declares how) (idle_declarator {x = x} d y) r = alone_value (silent_alone E y r) (λ v. alone_fill v d (r.at x))
@@ -266,6 +269,7 @@ mutual
   idle_alone E n _ idle_empty r = alone_unknown
   idle_alone E n _ (idle_waste x) r = alone_unknown
   idle_alone E n _ (idle_expression x) r = alone_unknown
+  idle_alone E n _ idle_import r = alone_unknown
   idle_alone E n _ (idle_function d) r = alone_unknown
   idle_alone E n _ (idle_declaration x) r = alone_unknown
   idle_alone E n _ (idle_declarator d y) r = alone_unknown

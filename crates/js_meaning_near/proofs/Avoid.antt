@@ -12,7 +12,7 @@ use Rattle.js_meaning.specs.Value.{Text, this_name}
 use Rattle.js_meaning.specs.Scope.{Way, waiting, Decl, decl, named_so, first_name, own_name, function_decls, module_decls, default_name}
 use Rattle.js_meaning.specs.Module.{Entry, entry_local, entry_import, entries, stars, requests}
 use Rattle.js_meaning_near.specs.Purpose.{for_values}
-use Rattle.js_meaning_near.specs.Names.{Status, no_names, undeclared, loose, live, dead, unread, known, Names, with_name, Usable, Writable, Fillable, FillableIf, Lone, no_decls, in_both, in_both_unread, in_old_again, in_old, declared, names_below, Plainly, AllPlain, PlainBut}
+use Rattle.js_meaning_near.specs.Names.{Status, no_names, undeclared, loose, owing, live, dead, unread, known, Names, with_name, Usable, Writable, Fillable, FillableIf, Lone, no_decls, in_both, in_both_unread, in_old_again, in_old, declared, names_below, Plainly, AllPlain, PlainBut}
 use Rattle.js_meaning_near.specs.Near.{Row, fields, items, row_below, Okay, ReceiverOk, Near, ExportsOk, NearModule, near_module}
 use Rattle.js_meaning_near.specs.Fit.{names_after, around_code, within_code, FunctionOk, Part, whole, others, NodeFits, IfCore, Fits}
 use Rattle.js_meaning_near.specs.Avoid.{declares, Dropping, Fewer, fewer_end, fewer_same, fewer_gone, Dropped, dropped_here, dropped_later, CellIf, HasCells, ExportsAvoid, CasesOk, NotFunction, NodeInPlace, InPlace, IsOther, IsOtherIf, Binding, NameAvoids, HoistedAvoids, code_declares, Unless, NodeAvoids, Avoids}
@@ -28,6 +28,7 @@ itself x = (bytes_eq-Decides x x).1 refl
 pub usable_plain : (s : Status) → Plainly s → Usable s
 usable_plain undeclared y = tt
 usable_plain loose y = tt
+usable_plain owing y = tt
 usable_plain live y = tt
 usable_plain dead y = y
 usable_plain unread y = y
@@ -36,6 +37,7 @@ usable_plain (known p) y = tt
 pub writable_plain : (s : Status) → Plainly s → Writable s
 writable_plain undeclared y = tt
 writable_plain loose y = tt
+writable_plain owing y = tt
 writable_plain live y = tt
 writable_plain dead y = y
 writable_plain unread y = y
@@ -44,6 +46,7 @@ writable_plain (known p) y = y
 pub fillable_plain : (s : Status) → Plainly s → Fillable s
 fillable_plain undeclared y = tt
 fillable_plain loose y = tt
+fillable_plain owing y = tt
 fillable_plain live y = tt
 fillable_plain dead y = y
 fillable_plain unread y = tt
@@ -173,6 +176,7 @@ lone_is dead y = is_dead
 lone_is unread y = is_unread
 lone_is undeclared y = absurd y
 lone_is loose y = absurd y
+lone_is owing y = absurd y
 lone_is live y = absurd y
 lone_is (known p) y = absurd y
 

@@ -16,9 +16,9 @@ use Rattle.js_syntax.specs.declared.kind.FunctionKind.TheVariants as function_ki
 use Rattle.js_meaning.specs.Meaning.{eval}
 use Rattle.js_meaning_near.specs.Purpose.{Purposes, ForEffect, purpose_here, purposes_behind, for_values}
 use Rattle.js_meaning_near.specs.Wasted.{drops}
-use Rattle.js_meaning_near.specs.Names.{silent_function, known, Names}
-use Rattle.js_meaning_near.specs.Near.{Row, fields, items, module_of, is_row, hoists_nothing, idle_waste, LessWaste, wastes_more, near_nothing}
-use Rattle.js_meaning_near.specs.Fit.{whole, others, within_code}
+use Rattle.js_meaning_near.specs.Names.{Fact, silent_function, known, Names}
+use Rattle.js_meaning_near.specs.Near.{Row, fields, items, module_of, is_row, hoists_nothing, SilentCode, idle_waste, LessWaste, wastes_more, near_nothing}
+use Rattle.js_meaning_near.specs.Fit.{whole, others, within_code, Fits}
 use Rattle.js_meaning_near.specs.Rewritten.{SameNames, DeclaresNone, Rewritten, at_place, item_leaves}
 use Rattle.js_meaning_near.specs.Known.{Knows, Steady, DeclaredOnce, code_of, called}
 use Rattle.js_meaning_near.specs.Unused.{Needed, all_needed, needed, not_needed, kind_of, below_of, expression_kind, expression_below, IsSome}
@@ -71,17 +71,25 @@ literal_place {x = x} {pure = pure} {n = n} {m = m} {i = i} {j = j} es v u y q t
 
 -- what that gives for `function x(y) { return y; }`
 
+pub identity_silent : (n : Note) (x y : Text) (st : Names) → SilentCode st (code_of n n n n x (node (Kind.BindingName y) n nothing nothing) (node Kind.ReturnStatement n (node (Kind.ReferenceName y) n nothing nothing) nothing))
+identity_silent n x y st =
+    let ps : Forest = node (Kind.BindingName y) n nothing nothing in
+    let b : Forest = node Kind.ReturnStatement n (node (Kind.ReferenceName y) n nothing nothing) nothing in
+    quiet_code st n n n n x ps b (tt, return_item (own_silent st (code_of n n n n x ps b) y nothing (second_of_either _ _ (second_of_either _ _ (first_of_either _ _ (itself y))))) no_items_more)
+
+pub identity_fits : (n : Note) (x y : Text) (f : Fact) (st : Names) →
+    let a : Forest = code_of n n n n x (node (Kind.BindingName y) n nothing nothing) (node Kind.ReturnStatement n (node (Kind.ReferenceName y) n nothing nothing) nothing) in
+    declares (code_declares function_kind.Declaration a) x ≡ false → Knows x f st → Fits others fields (within_code st function_kind.Declaration a) a
+identity_fits n x y f st e h =
+    let a : Forest = code_of n n n n x (node (Kind.BindingName y) n nothing nothing) (node Kind.ReturnStatement n (node (Kind.ReferenceName y) n nothing nothing) nothing) in
+    steady_fits x f others fields (within_code st function_kind.Declaration a) a (knows_code x f function_kind.Declaration a e st h)
+    ((tt, tt, ((first_of_neither _ _ (second_of_neither _ _ (second_of_neither _ _ e)), tt, tt), tt)), ((tt, tt, ((tt, tt, ((tt, tt, ((tt, tt, tt), tt)), tt)), tt)), tt))
+
 identity_place : {n : Note} {x y : Text} {r s : Forest} →
     let ps : Forest = node (Kind.BindingName y) n nothing nothing in
     let b : Forest = node Kind.ReturnStatement n (node (Kind.ReferenceName y) n nothing nothing) nothing in
     declares (code_declares function_kind.Declaration (code_of n n n n x ps b)) x ≡ false → Rewritten (Knows x silent_function) whole for_values items r s → Rewritten (Knows x silent_function) whole for_values items (function_of n x ps b r) (function_of n x ps b s)
-identity_place {n = n} {x = x} {y = y} e t =
-    let ps : Forest = node (Kind.BindingName y) n nothing nothing in
-    let b : Forest = node Kind.ReturnStatement n (node (Kind.ReferenceName y) n nothing nothing) nothing in
-    let a : Forest = code_of n n n n x ps b in
-    function_place refl (λ st h. quiet_code st n n n n x ps b (tt, return_item (own_silent st a y nothing (second_of_either _ _ (second_of_either _ _ (first_of_either _ _ (itself y))))) no_items_more))
-    (λ st h. steady_fits x silent_function others fields (within_code st function_kind.Declaration a) a (knows_code x silent_function function_kind.Declaration a e st h)
-    ((tt, tt, ((first_of_neither _ _ (second_of_neither _ _ (second_of_neither _ _ e)), tt, tt), tt)), ((tt, tt, ((tt, tt, ((tt, tt, ((tt, tt, tt), tt)), tt)), tt)), tt))) t
+identity_place {n = n} {x = x} {y = y} e t = function_place refl (λ st h. identity_silent n x y st) (λ st h. identity_fits n x y silent_function st e h) t
 
 -- `x(f(), value);`
 pub identity_calls : (n : Note) (x y f : Text) (v : Literal) (r : Forest) →
@@ -90,7 +98,7 @@ pub identity_calls : (n : Note) (x y f : Text) (v : Literal) (r : Forest) →
     DeclaredOnce x (module_decls (function_of n x ps b (call_statement n f nothing r))) → declares (code_declares function_kind.Declaration (code_of n n n n x ps b)) x ≡ false → Steady x whole items r
     → Kept (module_of n n (function_of n x ps b (call_statement n x (node (Kind.CallExpression false false) n (called n n f nothing) (node (Kind.Literal v) n nothing nothing)) r))) (module_of n n (function_of n x ps b (call_statement n f nothing r)))
 identity_calls n x y f v r d e g =
-    loose_scope n n x silent_function _ _ d (identity_place e
+    loose_scope n n x silent_function _ _ refl d (identity_place e
     (statement_place n (node (Kind.CallExpression false false) n (called n n f nothing) (node (Kind.Literal v) n nothing nothing)) (node (Kind.CallExpression false false) n (called n n f nothing) nothing) (record { name = refl; bound = refl; vars = refl; imports = λ source. refl; items = refl })
     (λ st h. needed (not_needed (literal_silent st v nothing) all_needed)) ((tt, tt, ((tt, tt, tt), ((tt, tt, tt), tt))), tt) (steady_rows x silent_function items r g))) refl refl refl
 
@@ -101,6 +109,6 @@ pub identity_leaves : (n : Note) (x y : Text) (v : Literal) (r : Forest) →
     DeclaredOnce x (module_decls (function_of n x ps b r)) → declares (code_declares function_kind.Declaration (code_of n n n n x ps b)) x ≡ false → first_name r ≡ None → Steady x whole items r
     → Kept (module_of n n (function_of n x ps b (call_statement n x (node (Kind.Literal v) n nothing nothing) r))) (module_of n n (function_of n x ps b r))
 identity_leaves n x y v r d e f g =
-    loose_scope n n x silent_function _ _ d (identity_place e
+    loose_scope n n x silent_function _ _ refl d (identity_place e
     (statement_leaves (node (Kind.Literal v) n nothing nothing) (record { name = sym f; bound = refl; vars = refl; imports = λ source. refl; items = refl })
     (λ st h. not_needed (literal_silent st v nothing) all_needed) (steady_rows x silent_function items r g))) refl refl refl

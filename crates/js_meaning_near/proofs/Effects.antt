@@ -53,11 +53,11 @@ pub effects_act : {w : World} {m k : M} → Acts w m k → ActsForEffect w m k
 effects_act a = record { acts = value_acts a (λ w2 v u h q. normal_acts) }
 
 -- the value that was given, if any
-given_by : Out → Value
+pub given_by : Out → Value
 given_by (goes es s (gives v r)) = v
 given_by _ = undef
 
-goes_from : (f : Value → M) (o : Out) → go_on o (if_gives (λ v r. f v)) ≡ go_on (go_on o (if_gives (λ v r. done normal))) (if_normal (f (given_by o)))
+pub goes_from : (f : Value → M) (o : Out) → go_on o (if_gives (λ v r. f v)) ≡ go_on (go_on o (if_gives (λ v r. done normal))) (if_normal (f (given_by o)))
 unfolding done stop given_by
 goes_from f (goes es s (gives v r)) = ap (λ l. more l (f v s)) (sym (append-nil es))
 goes_from f (goes es s (throws v)) = ap (λ l. more l (goes [] s (throws v))) (sym (append-nil es))

@@ -26,4 +26,4 @@ pub empty_calls : (n m o i j k l : Note) (pure : Bool) (x : Text) (r s : Forest)
     let a : Forest = node (Kind.Function function_kind.Declaration pure) o (empty_code i j k l x) r in
     let b : Forest = node (Kind.Function function_kind.Declaration pure) o (empty_code i j k l x) s in
     DeclaredOnce x (module_decls b) → Rewritten (Knows x silent_function) whole for_values items r s → entries a ≡ entries b → stars a ≡ stars b → requests a ≡ requests b → Kept (module_of n m a) (module_of n m b)
-empty_calls n m o i j k l pure x r s d t e f g = loose_scope n m x silent_function _ _ d (function_place refl (λ st h. empty_is_silent st i j k l x) (λ st h. ((tt, tt), ((tt, ((tt, tt), tt)), tt))) t) e f g
+empty_calls n m o i j k l pure x r s d t e f g = loose_scope n m x silent_function _ _ refl d (function_place refl (λ st h. empty_is_silent st i j k l x) (λ st h. ((tt, tt), ((tt, ((tt, tt), tt)), tt))) t) e f g

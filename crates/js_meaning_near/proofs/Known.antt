@@ -12,7 +12,7 @@ use Rattle.js_meaning.specs.Value.{Text, this_name, Plain, plain, literal_value}
 use Rattle.js_meaning.specs.Scope.{Decl, decl, waiting, ready, all_so, named_so, own_name, first_name, lexical, function_decls, module_decls}
 use Rattle.js_meaning.specs.Module.{Entry, entry_local, entry_import, entries, stars, requests}
 use Rattle.js_meaning.specs.Kept.{Kept, Refined}
-use Rattle.js_meaning_near.specs.Names.{Status, live, loose, Fact, exactly, silent_function, known, Names, no_names, loose_names, with_name, Allowed, Usable, Decls, in_both, in_both_known, Plainly, PlainBut, declared}
+use Rattle.js_meaning_near.specs.Names.{Status, live, loose, owing, Fact, exactly, silent_function, owed_function, known, Names, no_names, loose_names, with_name, Allowed, Usable, Decls, in_both, in_both_known, Plainly, PlainBut, declared}
 use Rattle.js_meaning_near.specs.Near.{Row, items, fields, near_silent, near_known, changed, value_read, SilentCode, near_code, ExportsOk, near_module, loose_module, module_of}
 use Rattle.js_meaning_near.specs.Fit.{whole, others, names_after, within_code, Fits}
 use Rattle.js_meaning_near.specs.Avoid.{declares, code_declares}
@@ -29,19 +29,22 @@ known_false e = cc
 
 -- the scope itself
 
-abbrev Fresh : Fact → Status → Type 0
+abbrev pub Fresh : Fact → Status → Type 0
 Fresh (exactly p) s = Unit {0}
 Fresh silent_function s = s ≡ loose
+Fresh owed_function s = s ≡ owing
 
 still_fresh : (p : Fact) (st : Names) (x y : Text) → bytes_eq y x ≡ false → Fresh p (st x) → Fresh p (with_name st y live x)
 still_fresh (exactly p) st x y e f = tt
 still_fresh silent_function st x y e f = ap (λ b. if b then live else st x) e ∙ f
+still_fresh owed_function st x y e f = ap (λ b. if b then live else st x) e ∙ f
 
 allowed : (p : Fact) (st : Names) (x : Text) → Fresh p (st x) → Allowed p st
 allowed (exactly p) st x e = tt
 allowed silent_function st x e = (x, e)
+allowed owed_function st x e = (x, e)
 
-knows_after : (x : Text) (p : Fact) (ds : List Decl) (st : Names) → declares ds x ≡ false → Knows x p st → Knows x p (names_after st ds)
+pub knows_after : (x : Text) (p : Fact) (ds : List Decl) (st : Names) → declares ds x ≡ false → Knows x p st → Knows x p (names_after st ds)
 knows_after x p ds st e k = record { known_so = after_other ds st x e ∙ k.known_so; plain = λ y f. after_plain ds st y (k.plain y f) }
 
 plain_live : (st : Names) (y z : Text) → Plainly (st z) → Plainly (with_name st y live z)
@@ -78,17 +81,13 @@ known_usable x p st k y = go (bytes_eq y x) refl
     go true e = subst (λ z. Usable (st z)) (sym ((bytes_eq-Decides y x).0 e)) (subst Usable (sym k.known_so) tt)
     go false e = usable_plain (st y) (k.plain y e)
 
-exports_known : (x : Text) (p : Fact) (st : Names) (es : List Entry) → Knows x p st → ExportsOk st es
+pub exports_known : (x : Text) (p : Fact) (st : Names) (es : List Entry) → Knows x p st → ExportsOk st es
 exports_known x p st [] k = tt
 exports_known x p st (entry_local z y ∷ es) k = (known_usable x p st k y, exports_known x p st es k)
 exports_known x p st (entry_import z source name ∷ es) k = exports_known x p st es k
 
-decls_kept : {C : Names → Type 0} {us : Purposes} {a b : Forest} → Rewritten C whole us items a b → module_decls a ≡ module_decls b
+pub decls_kept : {C : Names → Type 0} {us : Purposes} {a b : Forest} → Rewritten C whole us items a b → module_decls a ≡ module_decls b
 decls_kept s = ap₂ (λ (v : List Text) (w : List Decl). decl this_name ready ∷ all_so ready v ++ w) (vars_kept s) (lexical_kept s)
-
-loose_fresh : (p : Fact) → Fresh p loose
-loose_fresh (exactly p) = tt
-loose_fresh silent_function = refl
 
 -- where a name holds a value from its initialisation on, it may be read as the value
 pub exact_scope : (n m : Note) (x : Text) (p : Plain) (a b : Forest) → DeclaredOnce x (module_decls b) → Rewritten (Knows x (exactly p)) whole for_values items a b → entries a ≡ entries b → stars a ≡ stars b → requests a ≡ requests b → Refined (module_of n m a) (module_of n m b)
@@ -97,9 +96,9 @@ exact_scope n m x p a b d s e t r =
     near_refines n m n m (near_module (subst (λ ds. Decls no_names ds (module_decls b) k.within) (sym (decls_kept s)) k.decls) e (exports_known x (exactly p) k.within (entries a) k.knows) t r (rewritten_near k.within k.knows s))
 
 -- where a function of the module does nothing, calls of it may go
-pub loose_scope : (n m : Note) (x : Text) (p : Fact) (a b : Forest) → DeclaredOnce x (module_decls b) → Rewritten (Knows x p) whole for_values items a b → entries a ≡ entries b → stars a ≡ stars b → requests a ≡ requests b → Kept (module_of n m a) (module_of n m b)
-loose_scope n m x p a b d s e t r =
-    let k = knowing x p loose_names (λ y h. tt) (loose_fresh p) d in
+pub loose_scope : (n m : Note) (x : Text) (p : Fact) (a b : Forest) → Fresh p loose → DeclaredOnce x (module_decls b) → Rewritten (Knows x p) whole for_values items a b → entries a ≡ entries b → stars a ≡ stars b → requests a ≡ requests b → Kept (module_of n m a) (module_of n m b)
+loose_scope n m x p a b h d s e t r =
+    let k = knowing x p loose_names (λ y h. tt) h d in
     loose_keeps n m n m (loose_module (subst (λ ds. Decls loose_names ds (module_decls b) k.within) (sym (decls_kept s)) k.decls) e (exports_known x p k.within (entries a) k.knows) t r (rewritten_near k.within k.knows s))
 
 -- places
@@ -119,4 +118,4 @@ value_place v e t = at_place (same_all _ _) (λ st g o. near_known g.known_so e 
 -- the function itself, with its code
 pub function_place : {x : Text} {pure : Bool} {us : Purposes} {p : Row} {n : Note} {a r s : Forest} → first_name a ≡ Some x → ((st : Names) → Knows x silent_function st → SilentCode st a) → ((st : Names) → Knows x silent_function st → Fits others fields (within_code st function_kind.Declaration a) a)
     → Rewritten (Knows x silent_function) whole (purposes_behind us) p r s → Rewritten (Knows x silent_function) whole us p (node (Kind.Function function_kind.Declaration pure) n a r) (node (Kind.Function function_kind.Declaration pure) n a s)
-function_place {a = a} e q f t = at_place (same_all _ _) (λ st g o. near_silent g.known_so e e (q st g) (near_code (same_decls st (function_decls function_kind.Declaration a)) (receiver_ok st function_kind.Declaration a) refl (fit others fields _ a (f st g))) o) t
+function_place {a = a} e q f t = at_place (same_all _ _) (λ st g o. near_silent tt g.known_so e e (q st g) (near_code (same_decls st (function_decls function_kind.Declaration a)) (receiver_ok st function_kind.Declaration a) refl (fit others fields _ a (f st g))) o) t

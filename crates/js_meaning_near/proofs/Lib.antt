@@ -8,10 +8,14 @@ pub mod Operators
 pub mod Rows
 pub mod Hosted
 pub mod Alone
+pub mod Gifts
+pub mod Paid
 pub mod Nodes
+pub mod Passages
 pub mod Jumps
 pub mod Wasting
 pub mod Contexts
+pub mod Reordered
 pub mod Fit
 pub mod Once
 pub mod Avoid
@@ -31,3 +35,4 @@ pub mod Steady
 pub mod Calls
 pub mod Signed
 pub mod Bodies
+pub mod Gone

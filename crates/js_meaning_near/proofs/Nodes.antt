@@ -7,7 +7,7 @@ use Rattle.js_syntax.specs.Node.{Note, Forest, nothing, node, absent, below_of}
 use Rattle.js_syntax.specs.declared.kind.FunctionKind.{FunctionKind}
 use Rattle.js_syntax.specs.declared.kind.FunctionKind.TheVariants as function_kind
 use Rattle.js_syntax.specs.declared.value.LiteralValue.{LiteralValue as Literal}
-use Rattle.js_meaning.specs.Value.{Text, Env, this_name, Value, literal_value, Content, no_content, property}
+use Rattle.js_meaning.specs.Value.{Text, Env, this_name, Value, closure, literal_value, Content, no_content, property}
 use Rattle.js_meaning.specs.State.{M, normal, done, give, with_value}
 use Rattle.js_meaning.specs.Scope.{waiting, first_of, first_name, named_so, name_or_default, default_name, lexical, look, fill, start_function, start_default, start_item, start, own_name}
 use Rattle.js_meaning.specs.Host.{while_loop, do_loop, for_loop, Enter}
@@ -15,8 +15,9 @@ use Rattle.js_meaning.specs.Node.{Wanted, itself, to_call, for_typeof, Ask, now,
 use Rattle.js_meaning.specs.Expression.{receiver_of, fill_own, function_value, with_property, add_property, object_content, array_content}
 use Rattle.js_meaning.specs.Statement.{for_does, catch_does}
 use Rattle.js_meaning.specs.Meaning.{default_does, does}
-use Rattle.js_meaning_near.specs.Names.{known, silent_function, unread, Names, Fillable, FillableIf, Decls, Copied, declared, names_below}
-use Rattle.js_meaning_near.specs.Near.{Idle, idle_empty, idle_expression, idle_no_expression, idle_waste, idle_statement, idle_function, idle_declarator, idle_bare_declarator, idle_cut_declarator, idle_declaration, statement_emptied, no_statement_emptied, value_read, SilentCode, near_silent, Row, fields, switch_fields, items, row_below, HoldsCases, Okay, key_of, keys, Heads, IsClosure, hoists_nothing, Unreached, goes_here, goes_behind, goes_behind_none, Near, behind_jump, wastes_more, one_sided, shorter, comes_to, near_nothing, near_absent, near_node, near_closure, near_hoisted, near_unread, near_known, near_uncovered, near_import, changed, same_effects, leaves, Code, sign_applied}
+use Rattle.js_meaning_near.specs.Names.{known, silent_function, unread, Names, Fillable, FillableIf, Decls, Copied, declared, names_below, Fact, exactly, owed_function, OfCalls}
+use Rattle.js_meaning_near.specs.Near.{Idle, idle_empty, idle_expression, idle_no_expression, idle_waste, idle_statement, idle_function, idle_declarator, idle_bare_declarator, idle_cut_declarator, idle_declaration, statement_emptied, no_statement_emptied, value_read, SilentCode, near_silent, Row, fields, switch_fields, items, row_below, HoldsCases, Okay, key_of, keys, Heads, IsClosure, hoists_nothing, Unreached, goes_here, goes_behind, goes_behind_none, Near, behind_jump, wastes_more, one_sided, shorter, comes_to, near_nothing, near_absent, near_node, near_closure, near_hoisted, near_unread, near_known, near_uncovered, near_import, changed, same_effects, leaves, Code, sign_applied, idle_import, near_while, near_do, near_for}
+use Rattle.js_meaning_near.specs.Wasted.{IsSilent, Meets}
 use Rattle.js_meaning_near.specs.Purpose.{Purpose, for_value, for_effect, ForEffect, Purposes, for_values, loop_purposes, wanted_below}
 use Rattle.js_meaning_near.proofs.Worlds.{World}
 use Rattle.js_meaning_near.proofs.Relations.{At, Envs, Same, same_plain, same_closure, same_object, same_array, SameContent, same_empty, same_element, same_property, SameAll, all_nil, all_cons, same_gives, same_refers, same_at_member, same_breaks, same_continues, same_returns, same_throws, SameAsk, ActsForEffect, same_run, same_value, same_place, same_take, same_take_all, same_declares, same_collect, same_entry, same_matches, Acts, Means, same_turn, Enters, envs_later, same_later, all_later}
@@ -45,8 +46,13 @@ unread_acts : {w : World} {st : Names} {e f : Env} {m k : M} (x : Text) (a b : F
 unread_acts {w = w} {st = st} {e = e} {f = f} {m = m} {k = k} x a b o p y g h r z = rw (g, h) (identity_left (λ i. identity_right (λ j. fill_unread _ _ (subst (λ t. At w t (look e x) (look f x)) y (r.at x)) z)))
 
 -- one whose calls do nothing but give a value, where that is known of its name
-silent_acts : {w : World} {st : Names} {a b : Forest} {e f : Env} {m k : M} (x : Text) (o p : Option Text) → st x ≡ known silent_function → o ≡ Some x → p ≡ Some x → SilentCode st a → Code st function_kind.Declaration a b → Envs w st e f → Acts w m k → Acts w (start_function o a e m) (start_function p b f k)
-silent_acts {st = st} {a = a} {e = e} {f = f} x o p y g h q d r z = rw (g, h) (identity_acts (λ w2 i j n l. fill_meeting (subst (λ t. At w2 t (look e x) (look f x)) y ((envs_later n r).at x)) (λ E this vs. q.silent_code E e (envs_bind r) this vs) (same_closure l d (envs_later n r)) (acts_later n z)))
+meets_calls : (g : Fact) (v : Value) → OfCalls g → IsSilent v → Meets g v
+meets_calls (exactly p) v y q = absurd y
+meets_calls silent_function v y q = q
+meets_calls owed_function v y q = q
+
+silent_acts : {w : World} {st : Names} {a b : Forest} {e f : Env} {m k : M} (g : Fact) (x : Text) (o p : Option Text) → OfCalls g → st x ≡ known g → o ≡ Some x → p ≡ Some x → SilentCode st a → Code st function_kind.Declaration a b → Envs w st e f → Acts w m k → Acts w (start_function o a e m) (start_function p b f k)
+silent_acts {st = st} {a = a} {e = e} {f = f} u x o p c y g h q d r z = rw (g, h) (identity_acts (λ w2 i j n l. fill_meeting (subst (λ t. At w2 t (look e x) (look f x)) y ((envs_later n r).at x)) (meets_calls u (closure i function_kind.Declaration a e) c (λ E this vs. q.silent_code E e (envs_bind r) this vs)) (same_closure l d (envs_later n r)) (acts_later n z)))
 
 fillable_default : (st : Names) (o : Option Text) → FillableIf st o → Fillable (st default_name) → Fillable (st (name_or_default o))
 fillable_default st None x y = y
@@ -56,7 +62,7 @@ named_default : (o : Option Text) (x : Text) → o ≡ Some x → Some (name_or_
 named_default o x e = rw e refl
 
 -- what such nodes neither start nor give by default
-starts_nothing : (k : Kind) (a : Forest) (i : M → M) (e : Env) (m : M) → hoists_nothing k ≡ true → start_item k a i e m ≡ m
+pub starts_nothing : (k : Kind) (a : Forest) (i : M → M) (e : Env) (m : M) → hoists_nothing k ≡ true → start_item k a i e m ≡ m
 starts_nothing (Kind.Function function_kind.Declaration pure) a i e m h = absurd (true_false (sym h))
 starts_nothing (Kind.ExportNamedDeclaration None) a i e m h = absurd (true_false (sym h))
 starts_nothing Kind.ExportDefaultDeclaration a i e m h = absurd (true_false (sym h))
@@ -90,13 +96,16 @@ default_starts i j (near_closure {f = function_kind.Expression} n q d o a c) y r
 default_starts i j (near_closure {f = function_kind.Arrow} n q d o a c) y r x z = x
 default_starts {st = st} i j (near_hoisted {a = a} {b = b} q o d c) y r x z = hoisted_acts (Some (name_or_default (first_name a))) (Some (name_or_default (first_name b))) (ap (λ o. Some (name_or_default o)) q) (fillable_default st (first_name a) o y) d r z
 default_starts i j (near_unread {x = n} {a = a} {b = b} q g h c) y r x z = unread_acts n a b _ _ q (named_default (first_name a) n g) (named_default (first_name b) n h) r z
-default_starts i j (near_silent {x = n} {a = a} {b = b} q g h u d c) y r x z = silent_acts n _ _ q (named_default (first_name a) n g) (named_default (first_name b) n h) u d r z
+default_starts i j (near_silent {x = n} {g = l} {a = a} {b = b} o q g h u d c) y r x z = silent_acts l n _ _ o q (named_default (first_name a) n g) (named_default (first_name b) n h) u d r z
 default_starts i j (near_known q v c) y r x z = x
 default_starts i j (near_uncovered {k = Kind.Function function_kind.Declaration pure} o c) y r x z = absurd (true_false o)
 default_starts i j (near_uncovered {k = Kind.Function function_kind.Expression pure} o c) y r x z = absurd (true_false o)
 default_starts i j (near_uncovered {k = Kind.Function function_kind.Arrow pure} o c) y r x z = absurd (true_false o)
 default_starts i j (near_uncovered o c) y r x z = x
 default_starts i j (near_import c) y r x z = x
+default_starts i j (near_while v q o c) y r x z = x
+default_starts i j (near_do v q o c) y r x z = x
+default_starts i j (near_for v q d h o c) y r x z = x
 default_starts i j (changed (statement_emptied q) c) y r x z = x
 default_starts i j (changed (no_statement_emptied q) c) y r x z = x
 default_starts i j (changed (value_read q v) c) y r x z = x
@@ -112,7 +121,7 @@ abbrev pub Starts : Row → Type 0
 Starts switch_fields = ⊥
 Starts _ = Unit {0}
 
-no_cases : (p : Row) → HoldsCases p → Starts p → ⊥
+pub no_cases : (p : Row) → HoldsCases p → Starts p → ⊥
 no_cases fields h s = h
 no_cases switch_fields h s = s
 no_cases items h s = h
@@ -124,6 +133,7 @@ idle_starts {w = w} {k = k} {a = a} {e = e} {m = m} {n = n} (idle_statement d) r
 idle_starts (idle_function {x = n} d) r x = identity_left (λ i. fill_old _ d (r.at n) x)
 idle_starts (idle_no_expression y) r x = x
 idle_starts (idle_waste y) r x = x
+idle_starts idle_import r x = x
 idle_starts idle_cut_declarator r x = x
 idle_starts (idle_declarator d q) r x = x
 idle_starts (idle_bare_declarator d) r x = x
@@ -152,7 +162,7 @@ start_acts s (near_closure {f = function_kind.Expression} i q d o a c) r x = sta
 start_acts s (near_closure {f = function_kind.Arrow} i q d o a c) r x = start_acts s c r x
 start_acts s (near_hoisted q o d c) r x = hoisted_acts _ _ q o d r (start_acts s c r x)
 start_acts s (near_unread {x = n} {a = a} {b = b} q g h c) r x = unread_acts n a b _ _ q g h r (start_acts s c r x)
-start_acts s (near_silent {x = n} q g h u d c) r x = silent_acts n _ _ q g h u d r (start_acts s c r x)
+start_acts s (near_silent {x = n} {g = l} o q g h u d c) r x = silent_acts l n _ _ o q g h u d r (start_acts s c r x)
 start_acts s (near_known q v c) r x = start_acts s c r x
 start_acts s (near_uncovered {k = Kind.Statements} y c) r x = absurd (true_false y)
 start_acts s (near_uncovered {k = Kind.FunctionBody} y c) r x = absurd (true_false y)
@@ -163,6 +173,9 @@ start_acts s (near_uncovered {k = Kind.Cases} y c) r x = absurd (true_false y)
 start_acts s (near_uncovered {k = Kind.Function function_kind.Declaration pure} y c) r x = absurd (true_false y)
 start_acts s (near_uncovered y c) r x = start_acts s c r x
 start_acts s (near_import c) r x = start_acts s c r x
+start_acts s (near_while v q o c) r x = start_acts s c r x
+start_acts s (near_do v q o c) r x = start_acts s c r x
+start_acts s (near_for v q d h o c) r x = start_acts s c r x
 start_acts s (changed (statement_emptied q) c) r x = start_acts s c r x
 start_acts s (changed (no_statement_emptied q) c) r x = start_acts s c r x
 start_acts s (changed (value_read q v) c) r x = start_acts s c r x
@@ -188,10 +201,13 @@ first_ask_same (near_node {k = k} y d h a c) = ask_by_same (is_statement k)
 first_ask_same (near_closure i q d o a c) = same_now
 first_ask_same (near_hoisted q o d c) = same_now
 first_ask_same (near_unread q g h c) = same_now
-first_ask_same (near_silent q g h u d c) = same_now
+first_ask_same (near_silent y q g h u d c) = same_now
 first_ask_same (near_known q v c) = same_now
 first_ask_same (near_uncovered {k = k} y c) = ask_by_same (is_statement k)
 first_ask_same (near_import c) = same_now
+first_ask_same (near_while v q o c) = same_now
+first_ask_same (near_do v q o c) = same_now
+first_ask_same (near_for v q d h o c) = same_now
 first_ask_same (changed (statement_emptied q) c) = same_now
 first_ask_same (changed (no_statement_emptied q) c) = same_now
 first_ask_same (changed (value_read q v) c) = same_now
@@ -296,13 +312,16 @@ default_acts (near_closure {f = function_kind.Expression} i q d o a c) y x r = d
 default_acts (near_closure {f = function_kind.Arrow} i q d o a c) y x r = default_value y x r
 default_acts (near_hoisted q o d c) y x r = normal_acts
 default_acts (near_unread q g h c) y x r = normal_acts
-default_acts (near_silent q g h u d c) y x r = normal_acts
+default_acts (near_silent o q g h u d c) y x r = normal_acts
 default_acts (near_known q v c) y x r = default_value y x r
 default_acts (near_uncovered {k = Kind.Function function_kind.Declaration pure} o c) y x r = absurd (true_false o)
 default_acts (near_uncovered {k = Kind.Function function_kind.Expression pure} o c) y x r = absurd (true_false o)
 default_acts (near_uncovered {k = Kind.Function function_kind.Arrow pure} o c) y x r = absurd (true_false o)
 default_acts (near_uncovered o c) y x r = default_value y x r
 default_acts (near_import c) y x r = default_value y x r
+default_acts (near_while v q o c) y x r = default_value y x r
+default_acts (near_do v q o c) y x r = default_value y x r
+default_acts (near_for v q d h o c) y x r = default_value y x r
 default_acts (changed (statement_emptied q) c) y x r = default_value y x r
 default_acts (changed (no_statement_emptied q) c) y x r = default_value y x r
 default_acts (changed (value_read q v) c) y x r = default_value y x r

@@ -1,5 +1,5 @@
 -- What is related in two runs side by side: environments, values, completions, states, and what they do.
-use Rattle.std.proofs.Common.{◌≡◌, ◌≤◌, ℕ, suc, List, [], ◌∷◌, Option, Some, None}
+use Rattle.std.proofs.Common.{◌≡◌, ◌+◌, ◌≤◌, ℕ, suc, List, [], ◌∷◌, Option, Some, None}
 use Rattle.std.specs.Prelude.{Bool}
 use Rattle.js_syntax.specs.Node.{Forest}
 use Rattle.js_syntax.specs.declared.kind.FunctionKind.{FunctionKind}
@@ -13,12 +13,12 @@ use Rattle.js_meaning.specs.Node.{Wanted, Ask, run, value, place, take, take_all
 use Rattle.js_meaning.specs.Meaning.{enter_body}
 use Rattle.js_meaning.specs.Run.{seen}
 use Rattle.js_meaning.specs.Kept.{Prefix}
-use Rattle.js_meaning_near.specs.Names.{Status, undeclared, loose, live, dead, unread, Fact, exactly, silent_function, known, Names, Copied}
+use Rattle.js_meaning_near.specs.Names.{Status, undeclared, loose, owing, live, dead, unread, Fact, exactly, silent_function, owed_function, known, Names, Copied}
 use Rattle.js_meaning_near.specs.Quiet.{OnlyAllocates, Quiet}
 use Rattle.js_meaning_near.specs.Wasted.{Meets}
-use Rattle.js_meaning_near.specs.Near.{fields, Near, Code}
+use Rattle.js_meaning_near.specs.Near.{fields, Near, Code, OwesTurn}
 use Rattle.js_meaning_near.specs.Purpose.{Purpose, for_value, ForEffect, loop_purposes}
-use Rattle.js_meaning_near.proofs.Worlds.{Rule, any_value, only_value, an_object, both, left, right, slack, World, In, Sub, Links}
+use Rattle.js_meaning_near.proofs.Worlds.{Rule, any_value, only_value, an_object, both, left, right, slack, debt, World, In, Sub, Links}
 
 abbrev pub HoldsCell : Rule → Type 0
 HoldsCell an_object = ⊥
@@ -39,15 +39,22 @@ pub data LeftSlot (w : World) : Slot → Type 0 where
 pub data RightSlot (w : World) : Slot → Type 0 where
   right_local : {c : ℕ} → In (right c) w → RightSlot w (local c)
 
--- where a fact lets calls go, the new run may have more entries left
+-- the old run has twice as many entries left, and the new one may not have more
+pub record Owed (w : World) : Type 0 where
+  pub owed : In debt w
+  pub no_slack : In slack w → ⊥
+
+-- where a fact lets calls go, the new run may have more entries left, or the old one has twice as many
 abbrev pub Spare : Fact → World → Type 0
 Spare (exactly p) w = Unit {0}
 Spare silent_function w = In slack w
+Spare owed_function w = Owed w
 
 -- what a name of this status is bound to in the one and in the other
 pub data At (w : World) : Status → Option Slot → Option Slot → Type 0 where
   at_nowhere : At w undeclared None None
   at_loose : In slack w → At w loose None None
+  at_owing : Owed w → At w owing None None
   at_live : {s z : Slot} → SameSlot w any_value s z → At w live (Some s) (Some z)
   at_known : {p : Fact} {c d : ℕ} → Spare p w → In (both c d (only_value p)) w → At w (known p) (Some (local c)) (Some (local d))
   at_dead : {s : Slot} {o : Option Slot} → LeftSlot w s → At w dead (Some s) o
@@ -122,10 +129,11 @@ pub data SameAsk (w : World) : Purpose → Ask → Ask → Type 0 where
   same_entry : {u : Purpose} → SameAsk w u entry entry
   same_matches : {o : Purpose} {v u : Value} → Same w v u → SameAsk w o (matches v) (matches u)
 
--- how many entries there may be yet: as many; or the new run has at least as many left
+-- how many entries there may be yet: as many; or the new run has at least as many left; or the old one at least twice as many
 pub data Budgets (w : World) (m n : ℕ) : Type 0 where
-  as_many : m ≡ n → Budgets w m n
+  as_many : (In debt w → ⊥) → m ≡ n → Budgets w m n
   no_more : In slack w → m ≤ n → Budgets w m n
+  twice : Owed w → n + n ≤ m → Budgets w m n
 
 pub record States (w : World) (s z : State) : Type 0 where
   pub budget : Budgets w s.budget z.budget
@@ -142,12 +150,13 @@ abbrev pub trace : Out → List Event
 trace o = (seen o).trace
 
 -- the new run did what the old one did; or the old one was uncovered before, or had no entry left where the new one may
--- have had one
+-- have had one; or the new one had none left where the old one may have had some
 pub data Follows (w : World) : Out → Out → Type 0 where
   both_go : {es : List Event} {s z : State} {c d : Completion} {w2 : World} → Sub w w2 → States w2 s z → SameCompletion w2 c d → Follows w (goes es s c) (goes es z d)
   both_stop : {es : List Event} {e : Ending} → Follows w (stops es e) (stops es e)
   old_stops : {es : List Event} {o : Out} → Prefix es (trace o) → Follows w (stops es Ending.uncovered) o
   old_out : {es : List Event} {o : Out} → In slack w → Prefix es (trace o) → Follows w (stops es Ending.out) o
+  new_out : {es : List Event} {o : Out} → Owed w → Follows w o (stops es Ending.out)
 
 pub record Acts (w : World) (m k : M) : Type 0 where
   pub act : (w2 : World) → Sub w w2 → (s z : State) → States w2 s z → Follows w2 (m s) (k z)
@@ -173,6 +182,7 @@ LoopHead _ st a b = Unit {0}
 pub data Tasks (w : World) : Task → Task → Type 0 where
   same_body : {st : Names} {t : FunctionKind} {a b : Forest} {e f : Env} {v u : Value} {vs us : List Value} → Code st t a b → Envs w st e f → Same w v u → SameAll w vs us → Tasks w (body t a e v vs) (body t b f u us)
   same_turn : {st : Names} {l : Loop} {ls : List Text} {a b : Forest} {e f : Env} → LoopHead l st a b → Near (loop_purposes l) fields st a b → Envs w st e f → Tasks w (turn l a ls e) (turn l b ls f)
+  same_owing_turn : {st : Names} {l : Loop} {ls : List Text} {a b : Forest} {e f : Env} (x : Text) → st x ≡ known owed_function → LoopHead l st a b → OwesTurn l st a b → Envs w st e f → Tasks w (turn l a ls e) (turn l b ls f)
   same_back : {k : Bool} {st : Names} {t : FunctionKind} {a b : Forest} {e f : Env} {v u : Value} {vs us : List Value} → Code st t a b → Envs w st e f → Same w v u → SameAll w vs us → Tasks w (called_back k t a e v vs) (called_back k t b f u us)
 
 -- how a call ends whose code does nothing but give a value
@@ -188,9 +198,16 @@ pub record Enters (E : Enter) : Type 0 where
 
 -- all of it stays where the world grows
 
+pub owed_later : {w w2 : World} → Sub w w2 → Owed w → Owed w2
+owed_later g o = record { owed = g.kept _ o.owed; no_slack = λ i. o.no_slack (g.slack_kept i) }
+
+pub owed_before : {w w2 : World} → Sub w w2 → Owed w2 → Owed w
+owed_before g o = record { owed = g.debt_kept o.owed; no_slack = λ i. o.no_slack (g.kept _ i) }
+
 pub budgets_later : {w w2 : World} {m n : ℕ} → Sub w w2 → Budgets w m n → Budgets w2 m n
-budgets_later h (as_many e) = as_many e
+budgets_later h (as_many f e) = as_many (λ i. f (h.debt_kept i)) e
 budgets_later h (no_more i l) = no_more (h.kept _ i) l
+budgets_later h (twice o l) = twice (owed_later h o) l
 
 pub slot_later : {w w2 : World} {p : Rule} {s z : Slot} → Sub w w2 → SameSlot w p s z → SameSlot w2 p s z
 slot_later g (same_local i) = same_local (g.kept _ i)
@@ -208,10 +225,12 @@ right_later g (right_local i) = right_local (g.kept _ i)
 pub spare_later : (p : Fact) {w w2 : World} → Sub w w2 → Spare p w → Spare p w2
 spare_later (exactly p) g y = y
 spare_later silent_function g y = g.kept _ y
+spare_later owed_function g y = owed_later g y
 
 pub at_later : {w w2 : World} {s : Status} {o p : Option Slot} → Sub w w2 → At w s o p → At w2 s o p
 at_later g at_nowhere = at_nowhere
 at_later g (at_loose i) = at_loose (g.kept _ i)
+at_later g (at_owing o) = at_owing (owed_later g o)
 at_later g (at_live i) = at_live (slot_later g i)
 at_later g (at_known {p = p} y i) = at_known (spare_later p g y) (g.kept _ i)
 at_later g (at_dead i) = at_dead (left_later g i)

@@ -21,7 +21,7 @@ use Rattle.js_meaning_near.proofs.Avoid.{receiver_ok}
 
 -- what is declared
 
-name_kept : {C : Names → Type 0} {q : Part} {us : Purposes} {p : Row} {t u : Forest} → Rewritten C q us p t u → first_name t ≡ first_name u
+pub name_kept : {C : Names → Type 0} {q : Part} {us : Purposes} {p : Row} {t u : Forest} → Rewritten C q us p t u → first_name t ≡ first_name u
 name_kept no_more = refl
 name_kept (behind_absent s) = refl
 name_kept (at_place y f s) = y.name
@@ -32,7 +32,7 @@ name_kept (in_code y b x s) = refl
 name_kept (behind_name s) = refl
 name_kept (behind_no_name s) = refl
 
-bound_kept : {C : Names → Type 0} {q : Part} {us : Purposes} {p : Row} {t u : Forest} → Rewritten C q us p t u → bound_names t ≡ bound_names u
+pub bound_kept : {C : Names → Type 0} {q : Part} {us : Purposes} {p : Row} {t u : Forest} → Rewritten C q us p t u → bound_names t ≡ bound_names u
 bound_kept no_more = refl
 bound_kept (behind_absent s) = bound_kept s
 bound_kept (at_place y f s) = ap₂ (λ (v w : List Text). v ++ w) y.bound (bound_kept s)
@@ -66,7 +66,7 @@ specifier_stays source Kind.ImportDefaultSpecifier a b l e = ap (named_so _) e
 specifier_stays source Kind.ImportNamespaceSpecifier a b l e = ap (named_so _) e
 specifier_stays source k a b l e = refl
 
-imports_kept : {C : Names → Type 0} {q : Part} {us : Purposes} {p : Row} {t u : Forest} (source : Text) → Rewritten C q us p t u → import_decls source t ≡ import_decls source u
+pub imports_kept : {C : Names → Type 0} {q : Part} {us : Purposes} {p : Row} {t u : Forest} (source : Text) → Rewritten C q us p t u → import_decls source t ≡ import_decls source u
 imports_kept source no_more = refl
 imports_kept source (behind_absent s) = imports_kept source s
 imports_kept source (at_place y f s) = ap₂ (λ (v w : List Decl). v ++ w) (y.imports source) (imports_kept source s)
@@ -77,7 +77,7 @@ imports_kept source (in_code y b x s) = ap₂ (λ (v w : List Decl). v ++ w) (im
 imports_kept source (behind_name {k = k} {a = a} s) = ap (λ v. specifier_decls source k a (import_decls source a) ++ v) (imports_kept source s)
 imports_kept source (behind_no_name s) = imports_kept source s
 
-items_stay : (k : Kind) (a b : Forest) (l : List Decl) → bound_names a ≡ bound_names b → first_name a ≡ first_name b → ((source : Text) → import_decls source a ≡ import_decls source b) → item_decls k a l ≡ item_decls k b l
+pub items_stay : (k : Kind) (a b : Forest) (l : List Decl) → bound_names a ≡ bound_names b → first_name a ≡ first_name b → ((source : Text) → import_decls source a ≡ import_decls source b) → item_decls k a l ≡ item_decls k b l
 items_stay (Kind.VariableDeclaration variable.Let) a b l e f g = ap (all_so (waiting false)) e
 items_stay (Kind.VariableDeclaration variable.Const) a b l e f g = ap (all_so (waiting true)) e
 items_stay (Kind.VariableDeclaration variable.Var) a b l e f g = refl
@@ -134,14 +134,14 @@ behind_same f g _ _ (behind_no_name s) = g _ _ _ s
 code_decls : FunctionKind → List Text → List Text → List Decl → List Decl
 code_decls f vs bs ds = receiver_decls f ++ all_so ready vs ++ all_so ready bs ++ ds
 
-decls_stay : {C : Names → Type 0} {q : Part} {us : Purposes} (f : FunctionKind) {t u : Forest} → Rewritten C q us fields t u → function_decls f t ≡ function_decls f u
+pub decls_stay : {C : Names → Type 0} {q : Part} {us : Purposes} (f : FunctionKind) {t u : Forest} → Rewritten C q us fields t u → function_decls f t ≡ function_decls f u
 unfolding code_decls
 decls_stay f {t} {u} s =
     ap (λ vs. code_decls f vs (bound_names (first_of (behind t))) (lexical (behind (behind t)))) (behind_same (λ x. var_names (behind x)) (λ us t u s. behind_same var_names (λ us t u s. vars_kept s) t u s) t u s)
     ∙ ap (λ bs. code_decls f (var_names (behind (behind u))) bs (lexical (behind (behind t)))) (behind_same (λ x. bound_names (first_of x)) (λ us t u s. first_bound s) t u s)
     ∙ ap (λ ds. code_decls f (var_names (behind (behind u))) (bound_names (first_of (behind u))) ds) (behind_same (λ x. lexical (behind x)) (λ us t u s. behind_same lexical (λ us t u s. lexical_kept s) t u s) t u s)
 
-declared_kept : {C : Names → Type 0} {q : Part} {us : Purposes} (k : Kind) {a b : Forest} → Rewritten C q us (row_below k) a b → declared k a ≡ declared k b
+pub declared_kept : {C : Names → Type 0} {q : Part} {us : Purposes} (k : Kind) {a b : Forest} → Rewritten C q us (row_below k) a b → declared k a ≡ declared k b
 declared_kept Kind.BlockStatement s = lexical_kept s
 declared_kept Kind.Cases s = lexical_kept s
 declared_kept Kind.ForStatement s = first_lexical s
@@ -155,7 +155,7 @@ heads_kept Kind.ForStatement t a b q s = subst (Copied t (lexical (first_of a)))
 heads_kept Kind.ObjectExpression t a b q s = q
 heads_kept k t a b q s = tt
 
-decls_from : {ds es : List Decl} (st : Names) → ds ≡ es → Decls st ds es (names_after st es)
+pub decls_from : {ds es : List Decl} (st : Names) → ds ≡ es → Decls st ds es (names_after st es)
 decls_from {ds = ds} {es = es} st e = subst (λ l. Decls st l es (names_after st es)) (sym e) (same_decls st es)
 
 rows_kept : {C : Names → Type 0} {q : Part} {us : Purposes} {t u : Forest} → Rewritten C q us fields t u → is_row t ≡ is_row u
@@ -173,11 +173,14 @@ code_kept st function_kind.Declaration a b s y n = near_code (decls_from _ (decl
 code_kept st function_kind.Expression a b s y n = near_code (decls_from _ (decls_stay function_kind.Expression s)) y.1 (rows_kept s) n
 code_kept st function_kind.Arrow a b s y n = near_code (decls_from _ (decls_stay function_kind.Arrow s)) y.1 (rows_kept s) n
 
+-- a function with such code
+pub function_with : {C : Names → Type 0} {us vs : Purposes} {q : Part} {p : Row} {st : Names} {pure : Bool} {n m : Note} {a b r s : Forest} (f : FunctionKind) → Rewritten C q vs fields a b → FunctionOk st f b → Code (around_code st f b) f a b → Near (purposes_behind us) p st r s → Near us p st (node (Kind.Function f pure) n a r) (node (Kind.Function f pure) m b s)
+function_with {st = st} function_kind.Declaration s y c o = near_hoisted (name_kept s) (subst (FillableIf st) (sym (name_kept s)) y.0) c o
+function_with {st = st} {b = b} function_kind.Expression s y c o = near_closure tt (name_kept s) (decls_from st (ap (named_so (waiting true)) (name_kept s))) (subst (FillableIf (around_code st function_kind.Expression b)) (sym (name_kept s)) y.0) c o
+function_with {st = st} function_kind.Arrow s y c o = near_closure tt refl (same_decls st []) y.0 c o
+
 function_near : {C : Names → Type 0} {us vs : Purposes} {q : Part} {p : Row} {st : Names} {pure : Bool} {n m : Note} {a b r s : Forest} (f : FunctionKind) → Rewritten C q vs fields a b → FunctionOk st f b → Near for_values fields (within_code st f b) (behind a) (behind b) → Near (purposes_behind us) p st r s → Near us p st (node (Kind.Function f pure) n a r) (node (Kind.Function f pure) m b s)
-function_near {st = st} {a = a} {b = b} function_kind.Declaration s y n o = near_hoisted (name_kept s) (subst (FillableIf st) (sym (name_kept s)) y.0) (code_kept st function_kind.Declaration a b s y n) o
-function_near {st = st} {a = a} {b = b} function_kind.Expression s y n o =
-    near_closure tt (name_kept s) (decls_from st (ap (named_so (waiting true)) (name_kept s))) (subst (FillableIf (around_code st function_kind.Expression b)) (sym (name_kept s)) y.0) (code_kept st function_kind.Expression a b s y n) o
-function_near {st = st} {a = a} {b = b} function_kind.Arrow s y n o = near_closure tt refl (same_decls st []) y.0 (code_kept st function_kind.Arrow a b s y n) o
+function_near {st = st} {a = a} {b = b} f s y n o = function_with f s y (code_kept st f a b s y n) o
 
 -- what a function asks of names around it is asked of its name and of what it declares
 pub code_stays : {C : Names → Type 0} {us : Purposes} {a b : Forest} (st : Names) (f : FunctionKind) → Rewritten C others us fields a b → FunctionOk st f a → FunctionOk st f b

@@ -82,7 +82,7 @@ unfolding may
 may_acts fields_end b = unknown_acts
 may_acts (fields_more m c) b = b _ _ _ _ m c
 
-each_acts : {w : World} {u : Purpose} {st : Names} {ms ks : Parts} {e f : Env} {q z : Ask} → Fields (all u) st ms ks → Envs w st e f → SameAsk w u q z → Acts w (each q ms e) (each z ks f)
+pub each_acts : {w : World} {u : Purpose} {st : Names} {ms ks : Parts} {e f : Env} {q z : Ask} → Fields (all u) st ms ks → Envs w st e f → SameAsk w u q z → Acts w (each q ms e) (each z ks f)
 unfolding each
 each_acts fields_end r s = normal_acts
 each_acts (fields_more no_part c) r s = unknown_acts
@@ -194,7 +194,7 @@ after_turn_acts ls (same_gives q o) a = unknown_acts
 after_turn_acts ls (same_gives_all q) a = unknown_acts
 after_turn_acts ls (same_refers q) a = unknown_acts
 
-after_finally_acts : {w : World} {a b c d : Completion} → SameCompletion w a b → SameCompletion w c d → Acts w (after_finally a c) (after_finally b d)
+pub after_finally_acts : {w : World} {a b c d : Completion} → SameCompletion w a b → SameCompletion w c d → Acts w (after_finally a c) (after_finally b d)
 after_finally_acts x same_normal = done_acts x
 after_finally_acts x (same_gives q o) = done_acts (same_gives q o)
 after_finally_acts x (same_gives_all q) = done_acts (same_gives_all q)
@@ -204,7 +204,7 @@ after_finally_acts x same_continues = done_acts same_continues
 after_finally_acts x (same_returns q) = done_acts (same_returns q)
 after_finally_acts x (same_throws q) = done_acts (same_throws q)
 
-after_block_acts : {w : World} {st : Names} {o p : Option Meaning} {e f : Env} {c d : Completion} → SomeMeans (for_value itself) st o p → Envs w st e f → SameCompletion w c d → Acts w (after_block o e c) (after_block p f d)
+pub after_block_acts : {w : World} {st : Names} {o p : Option Meaning} {e f : Env} {c d : Completion} → SomeMeans (for_value itself) st o p → Envs w st e f → SameCompletion w c d → Acts w (after_block o e c) (after_block p f d)
 after_block_acts no_part r q = done_acts q
 after_block_acts (part m) r (same_throws q) = m.mean r (same_take q)
 after_block_acts (part m) r same_normal = normal_acts
@@ -232,7 +232,7 @@ after_call_acts same_continues = unknown_acts
 
 -- cases
 
-case_is_acts : {w : World} {v u : Value} {a b c d e f : M} → Same w v u → Acts w a d → Acts w b e → Acts w c f → Acts w (case_is v a b c) (case_is u d e f)
+pub case_is_acts : {w : World} {v u : Value} {a b c d e f : M} → Same w v u → Acts w a d → Acts w b e → Acts w c f → Acts w (case_is v a b c) (case_is u d e f)
 case_is_acts (same_plain {p = boolean true}) x y z = x
 case_is_acts (same_plain {p = boolean false}) x y z = y
 case_is_acts same_plain x y z = z

@@ -8,10 +8,10 @@ use Rattle.js_meaning.specs.Trace.{Act}
 use Rattle.js_meaning.specs.State.{M, Cell, cell, done, give, refers, at_global}
 use Rattle.js_meaning.specs.Scope.{Way, waiting, ready, linked, left_out, Decl, look, with_slot, declare, initialised, fill, copy_slot, copy}
 use Rattle.js_meaning.specs.Reference.{Global, the_undefined, no_whole_number, usual, global_named, if_set, cell_value, slot_value, if_there, global_value, name_value, or_undefined, typeof_name, assign_cell, assign_import, assign_slot, assign_present, assign_global, name_place}
-use Rattle.js_meaning_near.specs.Names.{Status, undeclared, loose, live, dead, unread, Fact, exactly, silent_function, known, Names, with_name, Usable, Writable, Fillable, HasCell, Lone, Allowed, Declared, IsBound, Binds, Decls, no_decls, in_both, in_both_known, in_both_unread, in_old_again, in_old, Copied, copied_end, copied_both, copied_old}
+use Rattle.js_meaning_near.specs.Names.{Status, undeclared, loose, owing, live, dead, unread, Fact, exactly, silent_function, owed_function, known, Names, with_name, Usable, Writable, Fillable, HasCell, Lone, Allowed, Declared, IsBound, Binds, Decls, no_decls, in_both, in_both_known, in_both_unread, in_old_again, in_old, Copied, copied_end, copied_both, copied_old}
 use Rattle.js_meaning_near.specs.Wasted.{Meets}
 use Rattle.js_meaning_near.proofs.Worlds.{Rule, any_value, only_value, both, slack, World, In, Sub, same, later}
-use Rattle.js_meaning_near.proofs.Relations.{HoldsCell, SameSlot, same_local, same_import, same_arguments, LeftSlot, left_local, left_import, left_arguments, RightSlot, right_local, At, at_nowhere, at_live, at_loose, Spare, spare_later, at_known, at_dead, at_unread, Envs, Same, same_plain, SameOpt, same_none, same_some, SameCell, same_cell, same_refers, same_at_slot, same_at_global, Obeys, Acts, left_later, right_later, envs_later, same_later}
+use Rattle.js_meaning_near.proofs.Relations.{HoldsCell, SameSlot, same_local, same_import, same_arguments, LeftSlot, left_local, left_import, left_arguments, RightSlot, right_local, At, at_nowhere, at_live, at_loose, at_owing, Owed, Spare, spare_later, at_known, at_dead, at_unread, Envs, Same, same_plain, SameOpt, same_none, same_some, SameCell, same_cell, same_refers, same_at_slot, same_at_global, Obeys, Acts, left_later, right_later, envs_later, same_later}
 use Rattle.js_meaning_near.proofs.Acts.{acts_later, done_acts, unknown_acts, choose_acts, give_acts, raise_acts, alloc_rule, alloc_acts, alloc_left, alloc_right, read_rule, read_acts, read_obeyed, read_left, read_right, store_rule, store_acts, store_left, store_right, get_global_acts, set_global_acts, get_import_acts}
 use Rattle.js_meaning_near.proofs.Showing.{show_acts, emit_acts}
 
@@ -43,16 +43,24 @@ no_envs = record { at = λ x. at_nowhere }
 pub loose_envs : {w : World} → In slack w → Envs w (λ x. loose) [] []
 loose_envs i = record { at = λ x. at_loose i }
 
+pub owing_envs : {w : World} → Owed w → Envs w (λ x. owing) [] []
+owing_envs o = record { at = λ x. at_owing o }
+
 loose_slack : {w : World} {o p : Option Slot} → At w loose o p → In slack w
 loose_slack (at_loose i) = i
+
+owing_owed : {w : World} {o p : Option Slot} → At w owing o p → Owed w
+owing_owed (at_owing o) = o
 
 spare_of : {w : World} {st : Names} {e f : Env} (p : Fact) → Allowed p st → Envs w st e f → Spare p w
 spare_of (exactly p) y r = tt
 spare_of {w = w} {e = e} {f = f} silent_function (y, q) r = loose_slack (subst (λ t. At w t (look e y) (look f y)) q (r.at y))
+spare_of {w = w} {e = e} {f = f} owed_function (y, q) r = owing_owed (subst (λ t. At w t (look e y) (look f y)) q (r.at y))
 
 bound_at : {w : World} {s : Status} {o p : Option Slot} → At w s o p → Declared s → IsBound o
 bound_at at_nowhere d = d
 bound_at (at_loose i) d = d
+bound_at (at_owing o) d = d
 bound_at (at_live l) d = tt
 bound_at (at_known i l) d = tt
 bound_at (at_dead l) d = tt
@@ -89,6 +97,7 @@ lone_with h y (at_dead l) k = at_dead k
 lone_with h y (at_unread l n) k = at_unread k (right_later h n)
 lone_with h y at_nowhere k = absurd y
 lone_with h y (at_loose i) k = absurd y
+lone_with h y (at_owing o) k = absurd y
 lone_with h y (at_live l) k = absurd y
 lone_with h y (at_known i l) k = absurd y
 
@@ -145,6 +154,7 @@ fill_old v y (at_dead l) a = fill_slot_old v l a
 fill_old v y (at_unread l i) a = fill_slot_old v l a
 fill_old v y at_nowhere a = absurd y
 fill_old v y (at_loose i) a = absurd y
+fill_old v y (at_owing o) a = absurd y
 fill_old v y (at_live l) a = absurd y
 fill_old v y (at_known i l) a = absurd y
 
@@ -165,6 +175,7 @@ fill_unread v u (at_unread l i) a = fill_slot_old v l (fill_slot_new u i a)
 pub fill_acts : {w : World} {x : Status} {o p : Option Slot} {v u : Value} {m k : M} → At w x o p → Fillable x → Same w v u → Acts w m k → Acts w (fill o v m) (fill p u k)
 fill_acts at_nowhere y q a = unknown_acts
 fill_acts (at_loose i) y q a = unknown_acts
+fill_acts (at_owing o) y q a = unknown_acts
 fill_acts (at_live l) y q a = fill_slot l q a
 fill_acts (at_known i l) y q a = absurd y
 fill_acts (at_dead l) y q a = absurd y
@@ -199,6 +210,7 @@ global_there_acts x = global_value_acts (global_named x) x (λ w2 o p h q. if_th
 pub name_value_acts : {w : World} {s : Status} {o p : Option Slot} (x : Text) → At w s o p → Usable s → Acts w (name_value o x) (name_value p x)
 name_value_acts x at_nowhere y = global_there_acts x
 name_value_acts x (at_loose i) y = global_there_acts x
+name_value_acts x (at_owing o) y = global_there_acts x
 name_value_acts x (at_live l) y = slot_value_acts tt l
 name_value_acts x (at_known {p = p} i l) y = slot_value_acts {p = only_value p} tt (same_local l)
 name_value_acts x (at_dead l) y = absurd y
@@ -211,6 +223,7 @@ or_undefined_acts (same_some q) = give_acts q
 pub typeof_name_acts : {w : World} {s : Status} {o p : Option Slot} (x : Text) → At w s o p → Usable s → Acts w (typeof_name o x) (typeof_name p x)
 typeof_name_acts x at_nowhere y = global_value_acts (global_named x) x (λ w2 o p h q. or_undefined_acts q)
 typeof_name_acts x (at_loose i) y = global_value_acts (global_named x) x (λ w2 o p h q. or_undefined_acts q)
+typeof_name_acts x (at_owing i) y = global_value_acts (global_named x) x (λ w2 o p h q. or_undefined_acts q)
 typeof_name_acts x (at_live l) y = slot_value_acts tt l
 typeof_name_acts x (at_known {p = p} i l) y = slot_value_acts {p = only_value p} tt (same_local l)
 typeof_name_acts x (at_dead l) y = absurd y
@@ -266,6 +279,7 @@ there_same (same_some q) = refl
 pub name_place_acts : {w : World} {s : Status} {o p : Option Slot} (x : Text) → At w s o p → Writable s → Acts w (name_place o x) (name_place p x)
 name_place_acts x at_nowhere y = get_global_acts x (λ w2 o p h q. there_acts x _ _ (there_same q))
 name_place_acts x (at_loose i) y = get_global_acts x (λ w2 o p h q. there_acts x _ _ (there_same q))
+name_place_acts x (at_owing i) y = get_global_acts x (λ w2 o p h q. there_acts x _ _ (there_same q))
 name_place_acts x (at_live l) y = done_acts (same_refers (same_at_slot l))
 name_place_acts x (at_known i l) y = absurd y
 name_place_acts x (at_dead l) y = absurd y
@@ -325,6 +339,7 @@ copy_unread {w = w} {st = st} {e = e} {f = f} {j = j} {k = k} {z = z} x y q l n 
 copy_one : {w : World} {st : Names} {e f : Env} {j k : Env → M} {s : Status} {o p : Option Slot} (x : Text) → st x ≡ s → p ≡ look f x → At w s o p → Envs w st e f → Further w st j k → Acts w (copy_slot o x e j) (copy_slot p x f k)
 copy_one {w = w} x y q at_nowhere r b = b w _ _ (same w) r
 copy_one {w = w} x y q (at_loose i) r b = b w _ _ (same w) r
+copy_one {w = w} x y q (at_owing o) r b = b w _ _ (same w) r
 copy_one x y q (at_live l) r b = copy_both x y l r b
 copy_one x y q (at_known i l) r b = copy_known x y i l r b
 copy_one {w = w} {st = st} {f = f} {k = k} x y q (at_dead {o = p} l) r b =
@@ -337,6 +352,7 @@ copy_one_old {w = w} {st = st} {e = e} {f = f} {j = j} x d y q (at_unread {z = z
     copy_left j x e l (λ w2 t h k. b w2 _ h (env_again_old x (subst (λ s. At w2 s (Some t) (look f x)) (sym y) (subst (λ p. At w2 unread (Some t) p) q (at_unread k (right_later h n)))) (envs_later h r))) (b w e (same w) r)
 copy_one_old x d y q at_nowhere r b = absurd d
 copy_one_old x d y q (at_loose i) r b = absurd d
+copy_one_old x d y q (at_owing o) r b = absurd d
 copy_one_old x d y q (at_live l) r b = absurd d
 copy_one_old x d y q (at_known i l) r b = absurd d
 

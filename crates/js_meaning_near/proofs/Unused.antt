@@ -39,7 +39,7 @@ gives_all_on f g (continues o) = refl
 gives_all_on f g (returns v) = refl
 gives_all_on f g (throws v) = refl
 
-all_on : (m : M) (f : Value → M) (g : List Value → M) → with_all (with_value m f) g ≡ with_value m (λ v. with_all (f v) g)
+pub all_on : (m : M) (f : Value → M) (g : List Value → M) → with_all (with_value m f) g ≡ with_value m (λ v. with_all (f v) g)
 all_on m f g = bind_on m (if_gives (λ v r. f v)) (if_gives_all g) ∙ ap (bind m) (λ i c. gives_all_on f g c i)
 
 all_then : (g : List Value → M) (h : Value → M) (c : Completion) → bind (if_gives_all g c) (if_gives (λ v r. h v)) ≡ if_gives_all (λ vs. with_value (g vs) h) c
@@ -177,7 +177,7 @@ pub over_ends : {E : Enter} {st : Names} {env : Env} (v : Value) → Wastes E st
 unfolding over
 over_ends v = wastes_nothing over_soon
 
-after_arguments : Enter → Value → Value → List Value → M
+unfoldable pub after_arguments : Enter → Value → Value → List Value → M
 after_arguments E v this vs = with_value (call_value E v this vs) over
 
 pub given_all : (vs : List Value) (f : List Value → M) → with_all (done (gives_all vs)) f ≡ f vs
@@ -203,7 +203,7 @@ receivers_on f g (throws v) = refl
 receiver_on : (m : M) (f : Value → Value → M) (g : Value → M) → with_value (with_receiver m f) g ≡ with_receiver m (λ v r. with_value (f v r) g)
 receiver_on m f g = bind_on m (if_gives f) (if_gives (λ v r. g v)) ∙ ap (bind m) (λ i c. receivers_on f g c i)
 
-call_means : (E : Enter) (env : Env) (x : Text) (pure : Bool) (n m i : Note) (es : Forest) (ls : List Text)
+pub call_means : (E : Enter) (env : Env) (x : Text) (pure : Bool) (n m i : Note) (es : Forest) (ls : List Text)
     → with_receiver (name_value (look env x) x) (λ v this. with_all (values now (eval E es) env (λ vs. done (gives_all vs))) (after_arguments E v this))
     ≡ meaning E Kind.ExpressionStatement (node (Kind.CallExpression false pure) n (node (Kind.ReferenceName x) m nothing (node Kind.Arguments i es nothing)) nothing) (run ls) env
 unfolding need eval after_arguments over

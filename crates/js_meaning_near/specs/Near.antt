@@ -11,7 +11,7 @@ use Rattle.js_syntax.specs.declared.value.LiteralValue.{LiteralValue as Literal}
 use Rattle.js_meaning.specs.Value.{Text, Env, this_name, Plain, Value, plain, literal_value}
 use Rattle.js_meaning.specs.Scope.{waiting, named_so, first_of, behind, first_name, lexical, function_decls, own_name, default_name, module_decls}
 use Rattle.js_meaning.specs.State.{normal, done}
-use Rattle.js_meaning.specs.Host.{Enter}
+use Rattle.js_meaning.specs.Host.{Enter, Loop, while_loop, do_loop, for_loop}
 use Rattle.js_meaning.specs.Module.{Entry, entry_local, entry_import, entries, stars, requests}
 use Rattle.js_meaning.specs.Node.{Wanted, Ask, run, value, Meaning, now}
 use Rattle.js_syntax.specs.declared.operator.UnaryOperator.{UnaryOperator}
@@ -22,8 +22,8 @@ use Rattle.js_meaning.specs.Expression.{static_key}
 use Rattle.js_meaning.specs.Meaning.{does, if_core, enter_body, eval}
 use Rattle.js_meaning_near.specs.Purpose.{Purpose, for_effect, ForEffect, asked, Purposes, all, last_for, purpose_here, purposes_behind, for_values, handed_on, wanted_below}
 use Rattle.js_meaning_near.specs.Quiet.{Quiet, Leads}
-use Rattle.js_meaning_near.specs.Wasted.{Wastes, drops}
-use Rattle.js_meaning_near.specs.Names.{Names, no_names, loose_names, unread, known, exactly, silent_function, Lone, Usable, Writable, Fillable, FillableIf, Binds, Decls, Copied, declared, names_below}
+use Rattle.js_meaning_near.specs.Wasted.{Wastes, Owing, drops}
+use Rattle.js_meaning_near.specs.Names.{Names, no_names, loose_names, owing_names, unread, Fact, known, exactly, owed_function, OfCalls, Lone, Usable, Writable, Fillable, FillableIf, Binds, Decls, Copied, declared, names_below}
 
 -- what a node does in a row
 abbrev pub meaning : Enter → Kind → Forest → Meaning
@@ -108,6 +108,8 @@ mutual
     idle_no_expression : {a : Forest} → NoField a → Idle st Kind.ExpressionStatement a
     idle_waste : {a : Forest} → WastesAll st a → Idle st Kind.ExpressionStatement a
     idle_statement : {k : Kind} {a : Forest} → DoesNothing k a → Idle st k a
+    -- what an import does is done where the module is linked
+    idle_import : {source : Text} {a : Forest} → Idle st (Kind.ImportDeclaration source) a
     idle_function : {pure : Bool} {x : Text} {n : Note} {a r : Forest} → Lone (st x) → Idle st (Kind.Function function_kind.Declaration pure) (node (Kind.BindingName x) n a r)
     idle_declarator : {x : Text} {k : Kind} {n m : Note} {a b r : Forest} → Lone (st x) → Silent st k b → Idle st Kind.VariableDeclarator (node (Kind.BindingName x) n a (node k m b r))
     idle_bare_declarator : {x : Text} {n : Note} {a r : Forest} → Lone (st x) → Idle st Kind.VariableDeclarator (node (Kind.BindingName x) n a (absent r))
@@ -146,6 +148,12 @@ pub record SameEffects (st : Names) (a : Forest) (l : Kind) (b ps qs : Forest) :
   pub new_hoists : hoists_nothing l ≡ true
   pub wastes : (E : Enter) (env : Env) → Binds st env → (ls : List Text) → Wastes E st env (meaning E Kind.ExpressionStatement a (run ls) env) (eval E ps)
   pub drops_all : (E : Enter) (env : Env) (ls : List Text) → drops (eval E qs) env ≡ meaning E l b (run ls) env
+
+-- So, where the old statement also makes one call that does nothing, and evaluates these parts but for it.
+pub record OwedEffects (st : Names) (a : Forest) (l : Kind) (b ps : Forest) : Type 0 where
+  pub new_hoists : hoists_nothing l ≡ true
+  pub owes : (E : Enter) (env : Env) → Binds st env → (ls : List Text) → Owing E st env (meaning E Kind.ExpressionStatement a (run ls) env) (eval E ps)
+  pub drops_all : (E : Enter) (env : Env) (ls : List Text) → drops (eval E ps) env ≡ meaning E l b (run ls) env
 
 -- An expression, and one that may stand for it where nobody takes the value: so may a statement of it.
 pub record LessWaste (st : Names) (k : Kind) (a : Forest) (l : Kind) (b ps qs : Forest) : Type 0 where
@@ -275,6 +283,30 @@ abbrev pub is_row : Forest → Bool
 is_row nothing = false
 is_row _ = true
 
+-- Nodes below which each statement runs at most once before anything is entered, and nothing else does that is asked to run.
+abbrev pub is_passage : Kind → Bool
+is_passage Kind.Statements = true
+is_passage Kind.BlockStatement = true
+is_passage Kind.IfStatement = true
+is_passage (Kind.LabeledStatement l) = true
+is_passage Kind.SwitchStatement = true
+is_passage Kind.Cases = true
+is_passage Kind.SwitchCase = true
+is_passage Kind.TryStatement = true
+is_passage Kind.CatchClause = true
+is_passage Kind.FunctionBody = true
+is_passage k = false
+
+-- a node of this row by itself
+abbrev pub alone_in : Row → Row
+alone_in items = fields
+alone_in p = p
+
+-- a row, and what stands behind its first field
+pub data FirstField : Forest → Forest → Type 0 where
+  first_node : {k : Kind} {n : Note} {a r : Forest} → FirstField (node k n a r) r
+  first_absent : {r : Forest} → FirstField (absent r) r
+
 -- By what the expressions of the rows are evaluated for, how their nodes stand, and the names around them.
 mutual
   pub data Near : Purposes → Row → Names → Forest → Forest → Type 0 where
@@ -296,7 +328,7 @@ mutual
     near_known : {us : Purposes} {q : Row} {st : Names} {x : Text} {p : Plain} {v : Literal} {n m i j k l : Note} {a b e f r s c d : Forest} → st x ≡ known (exactly p) → literal_value v ≡ plain p → Near (purposes_behind us) q st c d
         → Near us q st (node Kind.VariableDeclarator n (node (Kind.BindingName x) i a (node (Kind.Literal v) k e r)) c) (node Kind.VariableDeclarator m (node (Kind.BindingName x) j b (node (Kind.Literal v) l f s)) d)
     -- a function whose calls do nothing but give a value, where that is known of its name
-    near_silent : {us : Purposes} {p : Row} {st : Names} {x : Text} {pure : Bool} {n m : Note} {a b c d : Forest} → st x ≡ known silent_function → first_name a ≡ Some x → first_name b ≡ Some x → SilentCode st a
+    near_silent : {us : Purposes} {p : Row} {st : Names} {x : Text} {g : Fact} {pure : Bool} {n m : Note} {a b c d : Forest} → OfCalls g → st x ≡ known g → first_name a ≡ Some x → first_name b ≡ Some x → SilentCode st a
         → Code st function_kind.Declaration a b → Near (purposes_behind us) p st c d → Near us p st (node (Kind.Function function_kind.Declaration pure) n a c) (node (Kind.Function function_kind.Declaration pure) m b d)
     -- nothing is said of what a node does that isn't core
     near_uncovered : {us : Purposes} {p : Row} {st : Names} {k : Kind} {n m : Note} {a b c d : Forest} → is_core k ≡ false → Near (purposes_behind us) p st c d → Near us p st (node k n a c) (node k m b d)
@@ -317,6 +349,11 @@ mutual
     -- a sequence for one with more silent parts
     shorter : {us : Purposes} {p : Row} {st : Names} {n m i j : Note} {a b c d e : Forest} → Shorter st a e → Near (last_for (handed_on (purpose_here us (is_row c)))) fields st e b → Near (purposes_behind us) p st c d
         → Near us p st (node Kind.SequenceExpression n (node Kind.Expressions i a nothing) c) (node Kind.SequenceExpression m (node Kind.Expressions j b nothing) d)
+    -- loops from whose body a call leaves that the old program is owed for
+    near_while : {us : Purposes} {p : Row} {st : Names} {n m : Note} {a b c d : Forest} (x : Text) → st x ≡ known owed_function → Owes fields st a b → Near (purposes_behind us) p st c d → Near us p st (node Kind.WhileStatement n a c) (node Kind.WhileStatement m b d)
+    near_do : {us : Purposes} {p : Row} {st : Names} {n m : Note} {a b c d : Forest} (x : Text) → st x ≡ known owed_function → Owes fields st a b → Near (purposes_behind us) p st c d → Near us p st (node Kind.DoWhileStatement n a c) (node Kind.DoWhileStatement m b d)
+    near_for : {us : Purposes} {p : Row} {st t : Names} {n m : Note} {a b c d : Forest} (x : Text) → t x ≡ known owed_function → Decls st (lexical (first_of a)) (lexical (first_of b)) t → Copied t (lexical (first_of a)) (lexical (first_of b)) → OwesBehind t a b → Near (purposes_behind us) p st c d
+        → Near us p st (node Kind.ForStatement n a c) (node Kind.ForStatement m b d)
     -- an item that the new list doesn't have
     leaves : {us : Purposes} {st : Names} {k : Kind} {n : Note} {a c d : Forest} → Idle st k a → Near us items st c d → Near us items st (node k n a c) d
     -- an item behind a jump, which never runs
@@ -326,6 +363,31 @@ mutual
   pub data Code : Names → FunctionKind → Forest → Forest → Type 0 where
     near_code : {st t : Names} {f : FunctionKind} {a b : Forest} → Decls st (function_decls f a) (function_decls f b) t → ReceiverOk f t → is_row a ≡ is_row b → Near for_values fields t (behind a) (behind b)
         → Code st f a b
+    -- a body in which one call leaves that the old program is owed for
+    owing_code : {st t : Names} {f : FunctionKind} {a b c d ps qs : Forest} {i j k l : Note} (x : Text) → st x ≡ known owed_function → Decls st (function_decls f a) (function_decls f b) t → ReceiverOk f t
+        → FirstField a (node Kind.Parameters i ps (node Kind.FunctionBody j c nothing)) → FirstField b (node Kind.Parameters k qs (node Kind.FunctionBody l d nothing))
+        → Near for_values fields t (node Kind.Parameters i ps nothing) (node Kind.Parameters k qs nothing) → Owes fields t (node Kind.FunctionBody j c nothing) (node Kind.FunctionBody l d nothing)
+        → Code st f a b
+
+  -- Rows of statements with one place where a call leaves that the old program is owed for.
+  pub data Owes : Row → Names → Forest → Forest → Type 0 where
+    owes_here : {p : Row} {st : Names} {l : Kind} {n m : Note} {a b c d ps : Forest} → OwedEffects st a l b ps → Near (all for_effect) fields st ps ps → Near for_values p st c d → Owes p st (node Kind.ExpressionStatement n a c) (node l m b d)
+    owes_item : {st : Names} {n : Note} {a c d : Forest} → OwedEffects st a Kind.EmptyStatement nothing nothing → Near for_values items st c d → Owes items st (node Kind.ExpressionStatement n a c) d
+    owes_behind : {p : Row} {st : Names} {k l : Kind} {n m : Note} {a b c d : Forest} → Near for_values (alone_in p) st (node k n a nothing) (node l m b nothing) → Owes p st c d → Owes p st (node k n a c) (node l m b d)
+    owes_absent : {p : Row} {st : Names} {c d : Forest} → Owes p st c d → Owes p st (absent c) (absent d)
+    owes_below : {p : Row} {st t : Names} {k : Kind} {n m : Note} {a b c d : Forest} → is_passage k ≡ true → Okay p st k → Decls st (declared k a) (declared k b) t → Owes (row_below k) (names_below k st t) a b → Near for_values p st c d
+        → Owes p st (node k n a c) (node k m b d)
+
+  -- of a `for` behind what stands first in its head
+  pub data OwesBehind : Names → Forest → Forest → Type 0 where
+    behind_first : {st : Names} {k l : Kind} {n m : Note} {a b c d : Forest} → Near for_values fields st (node k n a nothing) (node l m b nothing) → Owes fields st c d → OwesBehind st (node k n a c) (node l m b d)
+    behind_no_first : {st : Names} {c d : Forest} → Owes fields st c d → OwesBehind st (absent c) (absent d)
+
+-- a turn of a loop
+pub data OwesTurn : Loop → Names → Forest → Forest → Type 0 where
+  while_turn : {st : Names} {a b : Forest} → Owes fields st a b → OwesTurn while_loop st a b
+  do_turn : {st : Names} {a b : Forest} → Owes fields st a b → OwesTurn do_loop st a b
+  for_turn : {st : Names} {a b : Forest} → OwesBehind st a b → OwesTurn for_loop st a b
 
 -- what the host sees under each exported name has to be there in both
 abbrev pub ExportsOk : Names → List Entry → Type 0
@@ -342,6 +404,13 @@ pub data NearModule : Forest → Forest → Type 0 where
 pub data LooseModule : Forest → Forest → Type 0 where
   loose_module : {t : Names} {a b : Forest} → Decls loose_names (module_decls a) (module_decls b) t
       → entries a ≡ entries b → ExportsOk t (entries a) → stars a ≡ stars b → requests a ≡ requests b → Near for_values items t a b → LooseModule a b
+
+-- The same, where in the module itself, or in functions, one call each leaves that the old one is owed for.
+pub data OwingModule : Forest → Forest → Type 0 where
+  owing_within : {t : Names} {a b : Forest} → Decls owing_names (module_decls a) (module_decls b) t
+      → entries a ≡ entries b → ExportsOk t (entries a) → stars a ≡ stars b → requests a ≡ requests b → Near for_values items t a b → OwingModule a b
+  owing_itself : {t : Names} {a b : Forest} → Decls owing_names (module_decls a) (module_decls b) t
+      → entries a ≡ entries b → ExportsOk t (entries a) → stars a ≡ stars b → requests a ≡ requests b → Owes items t a b → OwingModule a b
 
 -- a module's tree, by its statements
 abbrev pub module_of : Note → Note → Forest → Forest

@@ -10,7 +10,7 @@ use Rattle.js_meaning.specs.Expression.{call_value}
 use Rattle.js_meaning.specs.Meaning.{enter_body}
 use Rattle.js_meaning.specs.Node.{now, Meaning, Parts}
 use Rattle.js_meaning_near.specs.Quiet.{OnlyAllocates, Quiet}
-use Rattle.js_meaning_near.specs.Names.{Fact, exactly, silent_function, known, Names}
+use Rattle.js_meaning_near.specs.Names.{Fact, exactly, silent_function, owed_function, known, Names}
 
 -- the parts one after the other
 unfoldable pub drops : Parts → Env → M
@@ -31,6 +31,7 @@ IsSilent _ = ⊥
 abbrev pub Meets : Fact → Value → Type 0
 Meets (exactly p) v = v ≡ plain p
 Meets silent_function v = IsSilent v
+Meets owed_function v = IsSilent v
 
 -- By the names, the environment, what is done, and the parts: whatever is done with their values and in between is quiet,
 -- or is a call that does nothing.
@@ -40,3 +41,10 @@ pub data Wastes (E : Enter) (st : Names) (env : Env) : M → Parts → Type 0 wh
   wastes_silent : {m : M} {k : Value → M} {ms : Parts} → Quiet m → ((v : Value) → Wastes E st env (k v) ms) → Wastes E st env (with_value m k) ms
   wastes_known : {x : Text} {f : Fact} {ms : Parts} (k : Value → Value → M) → st x ≡ known f → ((v : Value) → Meets f v → Wastes E st env (k v undef) ms) → Wastes E st env (with_receiver (name_value (look env x) x) k) ms
   wastes_call : {x : Text} {k : Value → M} {ms : Parts} (v this : Value) (vs : List Value) → st x ≡ known silent_function → IsSilent v → ((u : Value) → Wastes E st env (k u) ms) → Wastes E st env (with_value (call_value E v this vs) k) ms
+
+-- So, but for one call that is owed for, behind which nothing is done.
+pub data Owing (E : Enter) (st : Names) (env : Env) : M → Parts → Type 0 where
+  owing_part : {p : Meaning} {k : Value → M} {ms : Parts} → ((v : Value) → Owing E st env (k v) ms) → Owing E st env (with_value (p now env) k) (Some p ∷ ms)
+  owing_silent : {m : M} {k : Value → M} {ms : Parts} → Quiet m → ((v : Value) → Owing E st env (k v) ms) → Owing E st env (with_value m k) ms
+  owing_known : {x : Text} {f : Fact} {ms : Parts} (k : Value → Value → M) → st x ≡ known f → ((v : Value) → Meets f v → Owing E st env (k v undef) ms) → Owing E st env (with_receiver (name_value (look env x) x) k) ms
+  owing_call : {k : Value → M} (v this : Value) (vs : List Value) → IsSilent v → ((u : Value) (s : State) → EndsSoon s (k u s)) → Owing E st env (with_value (call_value E v this vs) k) []

@@ -1,5 +1,5 @@
 // What the laws give for some modules. Each is a contract, so that the check proves it.
-ghost use Rattle.std.specs.Prelude.{◌≡◌, Bool, true, false, not, None};
+ghost use Rattle.std.specs.Prelude.{◌≡◌, suc, ◌+◌, Bool, true, false, not, None};
 ghost use Rattle.std.specs.Str.{bytes_eq};
 ghost use Rattle.js_syntax.specs.declared.node_kind.NodeKind.{NodeKind as Kind};
 ghost use Rattle.js_syntax.specs.declared.kind.FunctionKind.TheVariants as function_kind;
@@ -10,7 +10,7 @@ ghost use Rattle.js_syntax.specs.Node.{Note, Forest, nothing, node, absent, belo
 ghost use Rattle.js_meaning.specs.Value.{Text, this_name, Plain, plain, literal_value};
 ghost use Rattle.js_meaning.specs.Scope.{first_name, lexical, function_decls, module_decls};
 ghost use Rattle.js_meaning.specs.Module.{entries};
-ghost use Rattle.js_meaning.specs.Kept.{Kept, Refined};
+ghost use Rattle.js_meaning.specs.Kept.{Kept, Recovered, Refined};
 ghost use Rattle.js_meaning.specs.Node.{itself, to_call};
 ghost use Rattle.js_meaning.specs.Operator.{truthy};
 ghost use Rattle.js_meaning_near.specs.Bare.{stands_bare};
@@ -101,7 +101,7 @@ pub fn an_unused_value_is_not_made()
 {}
 
 /// A call of a function that gives back its first argument leaves its statement, with the argument that is silent, where one
-/// acts, and with the statement where none does.
+/// acts, and with the statement where none does; and so the way back, within twice the bound and one more.
 pub fn a_call_of_a_silent_function_leaves()
     ensures one_acts { (n : Note) (x y f : Text) (v : Literal) (r : Forest) →
         let parameters : Forest = node (Kind.BindingName y) n nothing nothing in
@@ -114,4 +114,10 @@ pub fn a_call_of_a_silent_function_leaves()
         let body : Forest = node Kind.ReturnStatement n (node (Kind.ReferenceName y) n nothing nothing) nothing in
         DeclaredOnce x (module_decls (function_of n x parameters body r)) → declares (code_declares function_kind.Declaration (behind_name n x parameters body)) x ≡ false → first_name r ≡ None → Steady x whole items r →
         Kept (module_of n n (function_of n x parameters body (call_statement n x (node (Kind.Literal v) n nothing nothing) r))) (module_of n n (function_of n x parameters body r)) }
+    ensures comes_back { (n : Note) (x y f : Text) (v : Literal) (r : Forest) →
+        let parameters : Forest = node (Kind.BindingName y) n nothing nothing in
+        let body : Forest = node Kind.ReturnStatement n (node (Kind.ReferenceName y) n nothing nothing) nothing in
+        DeclaredOnce x (module_decls (function_of n x parameters body (call_statement n f nothing r))) → declares (code_declares function_kind.Declaration (behind_name n x parameters body)) x ≡ false → Steady x whole items r →
+        Recovered (λ bound. suc (bound + bound)) (module_of n n (function_of n x parameters body (call_statement n x (node (Kind.CallExpression false false) n (called n n f nothing) (node (Kind.Literal v) n nothing nothing)) r)))
+        (module_of n n (function_of n x parameters body (call_statement n f nothing r))) }
 {}

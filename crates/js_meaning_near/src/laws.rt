@@ -1,5 +1,5 @@
 // The laws of nearness. Each is a contract, so that the check proves it.
-ghost use Rattle.std.specs.Prelude.{◌≡◌, Bool, true, false, List};
+ghost use Rattle.std.specs.Prelude.{◌≡◌, suc, ◌+◌, Bool, true, false, List};
 ghost use Rattle.js_syntax.specs.declared.node_kind.NodeKind.{NodeKind as Kind};
 ghost use Rattle.js_syntax.specs.declared.value.LiteralValue.{LiteralValue as Literal};
 ghost use Rattle.js_syntax.specs.Core.{is_core_unary};
@@ -9,9 +9,9 @@ ghost use Rattle.js_syntax.specs.Node.{Note, Forest, nothing, node};
 ghost use Rattle.js_meaning.specs.Value.{Text, Plain, literal_value};
 ghost use Rattle.js_meaning.specs.Operator.{truthy, goes_right};
 ghost use Rattle.js_meaning.specs.Expression.{wanted_by};
-ghost use Rattle.js_meaning.specs.Scope.{Decl, first_name, function_decls, module_decls};
-ghost use Rattle.js_meaning.specs.Kept.{Kept, KeptBack, Refined};
-ghost use Rattle.js_meaning_near.specs.Names.{Fact, exactly, known, silent_function, Names, declared, Fillable, AllPlain, PlainBut};
+ghost use Rattle.js_meaning.specs.Scope.{Decl, first_of, first_name, lexical, function_decls, module_decls};
+ghost use Rattle.js_meaning.specs.Kept.{Kept, KeptBack, Recovered, Refined};
+ghost use Rattle.js_meaning_near.specs.Names.{Fact, exactly, known, silent_function, owed_function, Names, declared, Fillable, AllPlain, PlainBut};
 ghost use Rattle.js_meaning.specs.Module.{entries, stars, requests};
 ghost use Rattle.js_meaning_near.specs.Local.{KeysStay, Stands, Local, IsField};
 ghost use Rattle.js_meaning_near.specs.Purpose.{Purpose, ForEffect, asked, Purposes, purpose_here, purposes_behind, for_values, wanted_below};
@@ -28,9 +28,11 @@ ghost use Rattle.js_syntax.specs.declared.operator.UnaryOperator.TheVariants as 
 ghost use Rattle.js_meaning_near.specs.Examples.{sum, text_of};
 ghost use Rattle.js_meaning_near.specs.Known.{Knows, Steady, DeclaredOnce, code_of, empty_code, called};
 ghost use Rattle.js_syntax.specs.declared.kind.FunctionKind.TheVariants as function_kind;
-ghost use Rattle.js_meaning_near.specs.Fit.{Part, whole, others, within_code, Fits};
+ghost use Rattle.js_meaning_near.specs.Fit.{Part, whole, others, within_code, FunctionOk, Fits};
 ghost use Rattle.js_meaning_near.specs.Bodies.{QuietBody};
+ghost use Rattle.js_meaning_near.specs.Gone.{Gone, GoneBehind, GoneInCode};
 ghost use Rattle.js_meaning_near.specs.Once.{Once};
+ghost use Rattle.js_meaning_near.specs.Reordered.{ReorderedModule};
 ghost use Rattle.js_meaning_near.specs.Avoid.{declares, code_declares, NotFunction, Dropped, HasCells, Dropping, InPlace, Avoids};
 
 /// The law of contexts: of two near modules the new one refines the old one.
@@ -43,6 +45,12 @@ pub fn near_modules_refine()
 pub fn near_modules_keep_runs()
     ensures kept { (n m i j : Note) (a b : Forest) → NearModule a b → Kept (module_of n m a) (module_of i j b) }
     ensures back { (n m i j : Note) (a b : Forest) → NearModule a b → KeptBack (module_of n m a) (module_of i j b) }
+{}
+
+/// So does a module that declares names of imports elsewhere among its declarations, as where one import
+/// binds what two bound.
+pub fn reordered_modules_refine()
+    ensures { (n m i j : Note) (a b : Forest) → ReorderedModule a b → Refined (module_of n m a) (module_of i j b) }
 {}
 
 /// What looks up nothing that is dead, unread or known is near itself.
@@ -133,6 +141,30 @@ pub fn calls_of_a_silent_function_leave()
     ensures nothing_acts { (us : Purposes) (p : Row) (x : Text) (pure : Bool) (n m i j : Note) (es r s : Forest) (v : Literal) → ForEffect (purpose_here us (is_row r)) → SameNames (Kind.CallExpression false pure) (called i j x es) (Kind.Literal v) nothing →
         ((st : Names) → Knows x silent_function st → Needed st es nothing) → Rewritten (Knows x silent_function) whole (purposes_behind us) p r s →
         Rewritten (Knows x silent_function) whole us p (node (Kind.CallExpression false pure) n (called i j x es) r) (node (Kind.Literal v) m nothing s) }
+{}
+
+/// Where one such statement leaves the module itself, or functions of it one each, the module before comes back: what isn't out
+/// of a bound was the same within twice the bound and one more, unless it was uncovered.
+pub fn a_call_that_leaves_costs_one_entry_at_most()
+    ensures module { (n m : Note) (x : Text) (a b : Forest) → DeclaredOnce x (module_decls b) → Gone x items a b → entries a ≡ entries b → stars a ≡ stars b → requests a ≡ requests b → Recovered (λ bound. suc (bound + bound)) (module_of n m a) (module_of n m b) }
+    ensures functions { (n m : Note) (x : Text) (a b : Forest) → DeclaredOnce x (module_decls b) → Rewritten (Knows x owed_function) whole for_values items a b → entries a ≡ entries b → stars a ≡ stars b → requests a ≡ requests b → Recovered (λ bound. suc (bound + bound)) (module_of n m a) (module_of n m b) }
+    ensures place { (us : Purposes) (p : Row) (x : Text) (f : FunctionKind) (pure : Bool) (n m : Note) (a b r s : Forest) → declares (code_declares f b) x ≡ false → GoneInCode x a b → ((st : Names) → Knows x owed_function st → FunctionOk st f a) → Rewritten (Knows x owed_function) whole (purposes_behind us) p r s →
+        Rewritten (Knows x owed_function) whole us p (node (Kind.Function f pure) n a r) (node (Kind.Function f pure) m b s) }
+    ensures kept { (p : Row) (x : Text) (a b : Forest) → Gone x p a b → Rewritten (Knows x silent_function) whole for_values p a b }
+    ensures kept_place { (us : Purposes) (p : Row) (x : Text) (f : FunctionKind) (pure : Bool) (n m : Note) (a b r s : Forest) → declares (code_declares f b) x ≡ false → GoneInCode x a b → ((st : Names) → Knows x silent_function st → FunctionOk st f a) → Rewritten (Knows x silent_function) whole (purposes_behind us) p r s →
+        Rewritten (Knows x silent_function) whole us p (node (Kind.Function f pure) n a r) (node (Kind.Function f pure) m b s) }
+{}
+
+/// And so where one leaves the body of a loop, each turn of which is an entry.
+pub fn a_call_that_leaves_a_loop_costs_one_entry_at_most()
+    ensures while_loop { (us : Purposes) (p : Row) (x : Text) (n m : Note) (a b r s : Forest) → Gone x fields a b → Rewritten (Knows x owed_function) whole (purposes_behind us) p r s → Rewritten (Knows x owed_function) whole us p (node Kind.WhileStatement n a r) (node Kind.WhileStatement m b s) }
+    ensures do_loop { (us : Purposes) (p : Row) (x : Text) (n m : Note) (a b r s : Forest) → Gone x fields a b → Rewritten (Knows x owed_function) whole (purposes_behind us) p r s → Rewritten (Knows x owed_function) whole us p (node Kind.DoWhileStatement n a r) (node Kind.DoWhileStatement m b s) }
+    ensures for_loop { (us : Purposes) (p : Row) (x : Text) (n m : Note) (a b r s : Forest) → declares (lexical (first_of b)) x ≡ false → GoneBehind x a b → Rewritten (Knows x owed_function) whole (purposes_behind us) p r s →
+        Rewritten (Knows x owed_function) whole us p (node Kind.ForStatement n a r) (node Kind.ForStatement m b s) }
+    ensures kept_while { (us : Purposes) (p : Row) (x : Text) (n m : Note) (a b r s : Forest) → Gone x fields a b → Rewritten (Knows x silent_function) whole (purposes_behind us) p r s → Rewritten (Knows x silent_function) whole us p (node Kind.WhileStatement n a r) (node Kind.WhileStatement m b s) }
+    ensures kept_do { (us : Purposes) (p : Row) (x : Text) (n m : Note) (a b r s : Forest) → Gone x fields a b → Rewritten (Knows x silent_function) whole (purposes_behind us) p r s → Rewritten (Knows x silent_function) whole us p (node Kind.DoWhileStatement n a r) (node Kind.DoWhileStatement m b s) }
+    ensures kept_for { (us : Purposes) (p : Row) (x : Text) (n m : Note) (a b r s : Forest) → declares (lexical (first_of b)) x ≡ false → GoneBehind x a b → Rewritten (Knows x silent_function) whole (purposes_behind us) p r s →
+        Rewritten (Knows x silent_function) whole us p (node Kind.ForStatement n a r) (node Kind.ForStatement m b s) }
 {}
 
 /// Such a function is one whose parameters are names, and whose statements evaluate what is silent, for nothing, for names of

@@ -14,7 +14,9 @@
 //! a jump in its list never runs (`Unreached`): a statement there that declares nothing may leave. Rows may change
 //! at any number of places by what is known of a name (`specs/Rewritten.antt`, `specs/Known.antt`). A name that is `loose` says
 //! that the new module may make fewer entries: calls of a function that does nothing but give a value may leave, and
-//! `specs/Bodies.antt` reads off a function's code that it does no more.
+//! `specs/Bodies.antt` reads off a function's code that it does no more. One that is `owing` says that the old module may make
+//! twice as many: so it comes back, where one such call leaves (`specs/Gone.antt`). And a module may declare its names in another
+//! order (`specs/Reordered.antt`), as where an import takes the names of another.
 //!
 //! `laws` has what is proved: a near module refines the old one (js_meaning's `Refined`), so it keeps its runs,
 //! and the way back. `notes`: runs don't see the notes of nodes, their spans and ids. `signs`: nor whether a negative number

@@ -13,3 +13,5 @@ pub mod Shown
 pub mod Formed
 pub mod Whole
 pub mod Many
+pub mod Steady
+pub mod Ways

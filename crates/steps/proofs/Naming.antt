@@ -9,3 +9,4 @@ pub mod Referring
 pub mod Exporting
 pub mod Standing
 pub mod Unused
+pub mod Assigning

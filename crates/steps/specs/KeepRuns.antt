@@ -3,3 +3,5 @@ pub mod Drop
 pub mod Tidy
 pub mod Once
 pub mod Many
+pub mod Assigned
+pub mod Ways

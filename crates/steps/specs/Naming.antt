@@ -2,3 +2,4 @@ pub mod Placed
 pub mod Agreeing
 pub mod Standing
 pub mod Rows
+pub mod Assigning

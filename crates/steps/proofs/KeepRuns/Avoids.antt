@@ -24,7 +24,7 @@ pub record IsFree (x : Text) : Type 0 where
   pub this : bytes_eq this_name x ≡ false
   pub «default» : bytes_eq default_name x ≡ false
 
-unless_so : {H S : Type 0} (b : Bool) → (b ≡ true → H) → (b ≡ false → S) → Unless b H S
+pub unless_so : {H S : Type 0} (b : Bool) → (b ≡ true → H) → (b ≡ false → S) → Unless b H S
 unless_so true h s = h refl
 unless_so false h s = s refl
 
@@ -34,14 +34,14 @@ names_joined (decl x way ∷ ds) es = ap (λ l. x ∷ l) (names_joined ds es)
 
 -- where the name isn't declared again, what is asked of a node is asked of the row below it
 
-not_among : (ds : List Decl) (xs : List Text) (x : Text) → xs ≡ names_in ds → declares ds x ≡ false → is_among xs x ≡ false
+pub not_among : (ds : List Decl) (xs : List Text) (x : Text) → xs ≡ names_in ds → declares ds x ≡ false → is_among xs x ≡ false
 not_among ds xs x e n = ap (λ l. is_among l x) e ∙ sym (declares_among ds x) ∙ n
 
-shown_in : (b i : Bool) → b ≡ false → (if b then false else i) ≡ false → i ≡ false
+pub shown_in : (b i : Bool) → b ≡ false → (if b then false else i) ≡ false → i ≡ false
 shown_in true i n e = absurd (true≢false n)
 shown_in false i n e = e
 
-abbrev IsInner : Kind → Type 0
+abbrev pub IsInner : Kind → Type 0
 IsInner (Kind.Program source) = ⊥
 IsInner (Kind.Function f pure) = ⊥
 IsInner k = Unit {0}
@@ -59,7 +59,7 @@ refers_below x Kind.ForStatement a i o n e = shown_in _ i (not_among (lexical (f
 refers_below x Kind.CatchClause a i o n e = shown_in _ i (not_among (declared Kind.CatchClause a) (bound_names (first_of a)) x (sym (names_all_so (waiting false) (bound_names (first_of a)))) n) e
 refers_below x k a i o n e = e
 
-binds_below : (x : Text) (k : Kind) (a : Forest) (i : Bool) → IsInner k → declares (declared k a) x ≡ false → binds_at x k a i ≡ false → i ≡ false
+pub binds_below : (x : Text) (k : Kind) (a : Forest) (i : Bool) → IsInner k → declares (declared k a) x ≡ false → binds_at x k a i ≡ false → i ≡ false
 binds_below x (Kind.Program source) a i o n e = absurd o
 binds_below x (Kind.Function f pure) a i o n e = absurd o
 binds_below x (Kind.BindingName y) a i o n e = second_of_neither (bytes_eq y x) i e
@@ -69,7 +69,7 @@ binds_below x Kind.ForStatement a i o n e = shown_in _ i (not_among (lexical (fi
 binds_below x Kind.CatchClause a i o n e = shown_in _ i (not_among (declared Kind.CatchClause a) (bound_names (first_of a)) x (sym (names_all_so (waiting false) (bound_names (first_of a)))) n) e
 binds_below x k a i o n e = e
 
-code_names : (f : FunctionKind) (pure : Bool) (a : Forest) (x : Text) → declares (code_declares f a) x ≡ false → is_among (names_declared (Kind.Function f pure) a) x ≡ false
+pub code_names : (f : FunctionKind) (pure : Bool) (a : Forest) (x : Text) → declares (code_declares f a) x ≡ false → is_among (names_declared (Kind.Function f pure) a) x ≡ false
 code_names f pure a x n = not_among (code_declares f a) _ x (sym (names_joined (named_so (waiting true) (own_name f a)) (function_decls f a))) n
 
 -- what a node looks up itself
@@ -90,12 +90,12 @@ first_other : (x : Text) (o : Option Text) → is_first x o ≡ false → IsOthe
 first_other x None e = tt
 first_other x (Some y) e = e
 
-hoisted_avoids : (c : Bool) (x : Text) (f : FunctionKind) (pure : Bool) (a : Forest) (j : Bool) → (c ≡ true → binds_at x (Kind.Function f pure) a j ≡ false) → HoistedAvoids c x f a
+pub hoisted_avoids : (c : Bool) (x : Text) (f : FunctionKind) (pure : Bool) (a : Forest) (j : Bool) → (c ≡ true → binds_at x (Kind.Function f pure) a j ≡ false) → HoistedAvoids c x f a
 hoisted_avoids c x function_kind.Declaration pure a j b = binding c (λ t. first_other x (first_name a) (first_of_neither (is_first x (first_name a)) _ (b t)))
 hoisted_avoids c x function_kind.Expression pure a j b = tt
 hoisted_avoids c x function_kind.Arrow pure a j b = tt
 
-code_binds : (f : FunctionKind) (pure : Bool) (x : Text) (a : Forest) (j : Bool) → is_among (names_declared (Kind.Function f pure) a) x ≡ false → binds_at x (Kind.Function f pure) a j ≡ false → j ≡ false
+pub code_binds : (f : FunctionKind) (pure : Bool) (x : Text) (a : Forest) (j : Bool) → is_among (names_declared (Kind.Function f pure) a) x ≡ false → binds_at x (Kind.Function f pure) a j ≡ false → j ≡ false
 code_binds function_kind.Declaration pure x a j n e = shown_in _ j n (second_of_neither (is_first x (first_name a)) _ e)
 code_binds function_kind.Expression pure x a j n e = shown_in _ j n e
 code_binds function_kind.Arrow pure x a j n e = shown_in _ j n e
@@ -105,7 +105,7 @@ refers_behind x nothing e = refl
 refers_behind x (absent r) e = e
 refers_behind x (node k n a r) e = second_of_neither (refers_at x k a (refers x a)) (refers x r) e
 
-binds_behind : (x : Text) (a : Forest) → binds x a ≡ false → binds x (behind a) ≡ false
+pub binds_behind : (x : Text) (a : Forest) → binds x a ≡ false → binds x (behind a) ≡ false
 binds_behind x nothing e = refl
 binds_behind x (absent r) e = e
 binds_behind x (node k n a r) e = second_of_neither (binds_at x k a (binds x a)) (binds x r) e

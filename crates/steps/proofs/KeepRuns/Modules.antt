@@ -9,7 +9,7 @@ use Rattle.js_meaning.specs.Value.{Text, this_name}
 use Rattle.js_meaning.specs.Scope.{Decl, decl, ready, all_so, var_names, lexical, module_decls}
 use Rattle.js_meaning.specs.Module.{Entry, entry_local, entry_import, entries, names_in}
 use Rattle.js_meaning.specs.Kept.{Refined}
-use Rattle.js_meaning_near.specs.Names.{Status, undeclared, loose, live, dead, unread, known, Names, no_names, Usable, Plainly, AllPlain, PlainBut}
+use Rattle.js_meaning_near.specs.Names.{Status, undeclared, loose, owing, live, dead, unread, known, Names, no_names, Usable, Plainly, AllPlain, PlainBut}
 use Rattle.js_meaning_near.specs.Near as near
 use Rattle.js_meaning_near.specs.Purpose.{for_values}
 use Rattle.js_meaning_near.specs.Near.{fields, ExportsOk, NearModule, near_module, module_of}
@@ -40,12 +40,13 @@ module_lists (of_function x) xs ys ds es v l = subst (λ m. Dropped x (decl this
 usable : (s : Status) → Plainly s → Usable s
 usable undeclared y = tt
 usable loose y = tt
+usable owing y = tt
 usable live y = tt
 usable dead y = y
 usable unread y = y
 usable (known p) y = tt
 
-exports_plain : (st : Names) (es : List Entry) → AllPlain st → ExportsOk st es
+pub exports_plain : (st : Names) (es : List Entry) → AllPlain st → ExportsOk st es
 exports_plain st [] g = tt
 exports_plain st (entry_local x y ∷ es) g = (usable (st y) (g y), exports_plain st es g)
 exports_plain st (entry_import x source name ∷ es) g = exports_plain st es g

@@ -7,7 +7,7 @@ use Rattle.js_syntax.specs.declared.kind.FunctionKind.{FunctionKind}
 use Rattle.js_syntax.specs.declared.kind.FunctionKind.TheVariants as function_kind
 use Rattle.js_meaning.specs.Value.{Text, this_name}
 use Rattle.js_meaning.specs.Scope.{Decl, ready, all_so, first_of, behind, bound_names, var_names, lexical, receiver_decls, function_decls}
-use Rattle.js_meaning_near.specs.Names.{Status, undeclared, loose, live, dead, unread, known, Names, Fillable, Lone, Plainly, AllPlain, PlainBut, declared}
+use Rattle.js_meaning_near.specs.Names.{Status, undeclared, loose, owing, live, dead, unread, known, Names, Fillable, Lone, Plainly, AllPlain, PlainBut, declared}
 use Rattle.js_meaning_near.specs.Near.{Row, fields, row_below, ReceiverOk, keys, key_of}
 use Rattle.js_meaning_near.specs.Fit.{whole, others, IfCore}
 use Rattle.js_meaning_near.specs.Avoid.{declares, Dropped, NodeInPlace, InPlace, NodeAvoids, Avoids, Unless}
@@ -78,6 +78,7 @@ function_change {a = a} {b = b} f pure s g m h e =
 fillable : (s : Status) → Plainly s → Fillable s
 fillable undeclared y = tt
 fillable loose y = tt
+fillable owing y = tt
 fillable live y = tt
 fillable dead y = y
 fillable unread y = tt

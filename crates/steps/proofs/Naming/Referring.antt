@@ -55,7 +55,7 @@ ready_from all x binding cs at (node k n a r) h = (λ e. h at (Prim.omega arith)
 
 -- ---- below a node that doesn't declare it
 
-cut : (b c : Bool) → (if b then false else c) ≡ true → (b ≡ false) × (c ≡ true)
+pub cut : (b c : Bool) → (if b then false else c) ≡ true → (b ≡ false) × (c ≡ true)
 cut true c e = absurd (true≢false (sym e))
 cut false c e = (refl, e)
 
@@ -117,7 +117,7 @@ in_variables_too all x binding c variable.Var h = h
 in_variables_too all x binding c variable.Let h = h
 in_variables_too all x binding c variable.Const h = h
 
-enter : (all : List BindingSite) (x : Text) (binding : Binding) (p : Place) (c : Context) (next : ℕ) (k : Kind) (a : Forest) → fits p (sort_of k) ≡ true → well_placed (place_below p k) 0 a ≡ true → (opens k a ≡ true → AgreesAt all next k a) → Binds all x binding c
+pub enter : (all : List BindingSite) (x : Text) (binding : Binding) (p : Place) (c : Context) (next : ℕ) (k : Kind) (a : Forest) → fits p (sort_of k) ≡ true → well_placed (place_below p k) 0 a ≡ true → (opens k a ≡ true → AgreesAt all next k a) → Binds all x binding c
     → is_among (names_declared k a) x ≡ false → Ready all x binding (inside c next k a) 0 a
 enter all x binding p c next (Kind.Function how pure) a f w agreed h e = ready_from all x binding (inside c next (Kind.Function how pure) a) 0 a (λ i l. in_code all x binding c next how pure (c.strict || is_strict_function a) a i (agreed refl) e h)
 enter all x binding p c next Kind.BlockStatement a f w agreed h e = ready_from all x binding (inside c next Kind.BlockStatement a) 0 a (λ i l. in_a_block all x binding c next Kind.BlockStatement a (agreed refl) e h)
@@ -152,7 +152,7 @@ abbrev OfBelow : (all : List BindingSite) (x : Text) (binding : Binding) (c : Co
 OfBelow all x binding c next k a =
     Ready all x binding (inside c next k a) 0 a → refers x a ≡ true → (exports x a ≡ true) ⊎ HasReference all binding (references_among (sites (inside c next k a) 0 (next + opens_one k a) a))
 
-named_so : (all : List BindingSite) (x y : Text) (binding : Binding) (c : Context) → Binds all x binding c → bytes_eq y x ≡ true → Binds all y binding c
+pub named_so : (all : List BindingSite) (x y : Text) (binding : Binding) (c : Context) → Binds all x binding c → bytes_eq y x ≡ true → Binds all y binding c
 named_so all x y binding c h e = subst (λ z. option_map (named_in z) (binding_layer all c.layers z) ≡ Some binding) (sym ((bytes_eq-Decides y x).0 e)) h
 
 of_export : (all : List BindingSite) (x : Text) (binding : Binding) (c : Context) (next : ℕ) (k : Kind) (n : Note) (a : Forest) → exports_at x k a (exports x a) ≡ (is_among (names_exported a) x || exports x a) → OfBelow all x binding c next k a

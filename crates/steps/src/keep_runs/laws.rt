@@ -1,14 +1,20 @@
 // That steps refine. Each law is a contract, so that the check proves it.
-ghost use Rattle.std.specs.Prelude.{◌≡◌, true};
+ghost use Rattle.std.specs.Prelude.{◌≡◌, true, false};
+ghost use Rattle.std.specs.Str.{bytes_eq};
+ghost use Rattle.js_syntax.specs.declared.node_kind.NodeKind.{NodeKind as Kind};
 ghost use Rattle.js_syntax.specs.Node.{Note, Forest};
 ghost use Rattle.js_meaning.specs.Kept.{Kept, KeptBack, Refined};
-ghost use Rattle.js_meaning_near.specs.Near.{fields, module_of};
-ghost use Rattle.js_meaning_near.specs.Fit.{whole};
+ghost use Rattle.js_meaning.specs.Value.{Text};
+ghost use Rattle.js_meaning.specs.Scope.{default_name};
+ghost use Rattle.js_meaning_near.specs.Near.{Row, fields, module_of};
+ghost use Rattle.js_meaning_near.specs.Known.{Steady};
+ghost use Rattle.js_meaning_near.specs.Fit.{Part, part_of, whole};
 ghost use Rattle.js_meaning_near.specs.Avoid.{InPlace};
 ghost use Rattle.steps.specs.Steps.{Step, outermost, all_core};
-ghost use Rattle.steps.specs.KeepRuns.Formed.{is_formed};
+ghost use Rattle.steps.specs.KeepRuns.Formed.{holds_well, is_formed};
 ghost use Rattle.steps.specs.KeepRuns.Many.{CoreSteps};
-ghost use Rattle.steps.specs.KeepRuns.Once.{Once};
+ghost use Rattle.steps.specs.KeepRuns.Once.{binds, Once};
+ghost use Rattle.steps.specs.KeepRuns.Assigned.{assigns};
 ghost use Rattle.steps.specs.KeepRuns.Tidy.{Tidy};
 
 /// A module after a step refines the one before it, where the tree is formed, and a name whose
@@ -43,4 +49,9 @@ pub fn steps_of_a_core_module_refine()
 /// A step of a formed tree leaves a formed tree.
 pub fn a_step_keeps_the_form()
     ensures { (t u : Forest) → Step outermost t u → is_formed t ≡ true → is_formed u ≡ true }
+{}
+
+/// Where nothing in a row assigns to a name, and the row binds it no more, it only reads the name.
+pub fn what_nothing_assigns_is_steady()
+    ensures { (x : Text) (q : Part) (p : Row) (t : Forest) (above : Kind) → holds_well above t ≡ true → is_formed t ≡ true → bytes_eq default_name x ≡ false → assigns x (part_of q t) ≡ false → binds x (part_of q t) ≡ false → InPlace q p t → Steady x q p t }
 {}

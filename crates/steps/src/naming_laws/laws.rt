@@ -7,11 +7,14 @@ ghost use Rattle.js_syntax.specs.declared.kind.VariableKind.TheVariants as varia
 ghost use Rattle.js_syntax.specs.declared.kind.FunctionKind.TheVariants as function_kind;
 ghost use Rattle.js_meaning.specs.Value.{Text};
 ghost use Rattle.steps.specs.Steps.{Around, declarators, is_used};
-ghost use Rattle.scope_rules.specs.Binding.{is_declared};
-ghost use Rattle.scope_rules.specs.Context.{Context};
+ghost use Rattle.scope_rules.specs.Binding.{is_declared, named_in};
+ghost use Rattle.scope_rules.specs.Context.{Context, body_of};
 ghost use Rattle.scope_rules.specs.Site.{sites_of, bindings_among};
 ghost use Rattle.steps.specs.Naming.Placed.{is_well_placed};
 ghost use Rattle.steps.specs.Naming.Agreeing.{Agrees};
+ghost use Rattle.steps.specs.Naming.Assigning.{NothingAssigns};
+ghost use Rattle.steps.specs.KeepRuns.Assigned.{assigns};
+ghost use Rattle.js_syntax.specs.declared.scalar.SourceType.{SourceType};
 ghost use Rattle.steps.specs.Naming.Standing.{Stands, IsUnused};
 
 /// The entry of each scope declares every name that a declaration of the tree has in a layer of the scope.
@@ -45,4 +48,10 @@ pub fn imported_names_without_references_are_unused()
     ensures { (t : Forest) (w : Around) (contexts : ℕ → Context) (at next : ℕ) (source x : Text) (n : Note) (a r : Forest) → is_well_placed t ≡ true
         → Stands t w contexts at next (node (Kind.ImportDeclaration source) n a r) → is_declared (bindings_among (sites_of t)) (contexts at).block x ≡ true
         → IsUnused t w (contexts at) variable.Let x → is_used w variable.Let x ≡ false }
+{}
+
+/// Nothing in a program assigns to a name of its own scope where no reference that assigns has the name's binding there.
+pub fn names_without_assignments_are_only_read()
+    ensures { (source : SourceType) (n : Note) (a : Forest) (x : Text) → is_well_placed (node (Kind.Program source) n a nothing) ≡ true → is_declared (bindings_among (sites_of (node (Kind.Program source) n a nothing))) (body_of 0) x ≡ true
+        → NothingAssigns (node (Kind.Program source) n a nothing) (named_in x (body_of 0)) → assigns x a ≡ false }
 {}

@@ -1,10 +1,11 @@
+use Rattle.std.proofs.Common.{refl}
 use Rattle.js_meaning_near.specs.Names.{silent_function}
 use Rattle.js_meaning_near.proofs.Known.{function_place, loose_scope}
 use Rattle.js_meaning_near.proofs.Calls.{statement_place, statement_leaves, expression_place, literal_place}
 use Rattle.js_meaning_near.proofs.laws.calls_of_a_silent_function_leave.Goals as goal
 
 pub returns-clause-module : goal.returns-clause-module
-returns-clause-module c = λ n m x a b d s e t r. loose_scope n m x silent_function a b d s e t r
+returns-clause-module c = λ n m x a b d s e t r. loose_scope n m x silent_function a b refl d s e t r
 
 pub returns-clause-declaration : goal.returns-clause-declaration
 returns-clause-declaration c = λ us p x pure n a r s e q f t. function_place e q f t
