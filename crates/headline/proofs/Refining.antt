@@ -1,7 +1,10 @@
 -- Edits lead from a core module to a program that refines it.
-use Rattle.std.proofs.Common.{◌≡◌, ◌∙◌, true, Some, sym, ap, subst}
+use Rattle.std.proofs.Common.{◌≡◌, ◌∙◌, true, ◌&&◌, Some, refl, sym, ap, subst}
 use Rattle.js_syntax.specs.Class.{root}
-use Rattle.js_syntax.specs.Node.{Forest, Tree, bare}
+use Rattle.js_syntax.specs.declared.node_kind.NodeKind.{NodeKind as Kind}
+use Rattle.js_syntax.specs.declared.scalar.SourceType.TheVariants as source_type
+use Rattle.js_syntax.specs.Node.{Forest, Tree, nothing, node, bare}
+use Rattle.js_syntax.proofs.Truth.{both}
 use Rattle.js_meaning.specs.Kept.{Refined}
 use Rattle.js_meaning_near.specs.Near.{fields, module_of}
 use Rattle.js_meaning_near.specs.Purpose.{for_values}
@@ -9,7 +12,8 @@ use Rattle.js_meaning_near.specs.Local.{Local}
 use Rattle.js_meaning_near.specs.Avoid.{InPlace}
 use Rattle.js_meaning_near.specs.Fit.{whole}
 use Rattle.js_meaning_near.proofs.Near.{refines_with_other_notes}
-use Rattle.steps.specs.Allowed.Edits.{Edit, leaves, becomes, Edits, no_edit, one_edit}
+use Rattle.steps.specs.Allowed.Edits.{Edit, leaves, becomes, merges, Edits, no_edit, one_edit}
+use Rattle.steps.specs.Allowed.MergedImports.{MergedImports, imports_merge}
 use Rattle.steps.specs.Steps.{Step, outermost, all_core}
 use Rattle.steps.specs.Naming.Placed.{is_well_placed}
 use Rattle.json_shape.specs.Shape.{Fits}
@@ -24,6 +28,8 @@ use Rattle.steps.specs.Owed.Owed.{LeavesRuns, by_going, by_change, by_refining, 
 use Rattle.steps.proofs.Owed.Edited.{edit_sensible}
 use Rattle.steps.proofs.Owed.Here.{good_module}
 use Rattle.steps.proofs.Owed.LeftRuns.{core_left, still_module, left_refines}
+use Rattle.steps.proofs.Fit.Held.{core_below}
+use Rattle.steps.proofs.Owed.MergedRuns.{row_core, module_merged}
 use Rattle.steps.proofs.Owed.Owed.{leaving, becoming}
 use Rattle.steps.proofs.Owed.PartRuns.{core_stays, parts_stay_modules, module_refines, comes_refines}
 use Rattle.headline.proofs.Sound.{Refines, step_refines, refines_joined}
@@ -91,9 +97,20 @@ leaves_refines a x (by_refining refines) h g =
       refined = subst (λ t. Refined t (without a)) (sym h.is) made.refined;
     }
 
+-- two imports that become one
+merges_refine : (t u : Forest) → MergedImports t u → IsSensibleModule t → IsSensible u → Refines t u
+merges_refine _ _ (imports_merge n m r s merged none) h g =
+    let list = node Kind.Statements m r nothing in
+    let items = core_below Kind.Statements m r nothing (core_below (Kind.Program source_type.Module) n list nothing h.core) in
+    record {
+      left = of_module (module_of n m s) (record { note = n; list_note = m; items = s; is = refl }) (both (all_core s && true) true (both (all_core s) true (row_core merged items) refl) refl) g;
+      refined = module_merged n m r s merged h;
+    }
+
 edit_refines : (t u : Forest) → Edit t u → IsSensibleModule t → Refines t u
 edit_refines t u (leaves a x c) h = leaves_refines a x (leaving a x c).runs h (edit_sensible t u (leaves a x c) h.sensible)
 edit_refines t u (becomes a x y c) h = becomes_refines a x y (becoming a x y c).runs h (edit_sensible t u (becomes a x y c) h.sensible)
+edit_refines t u (merges v w c) h = merges_refine v w c h (edit_sensible t u (merges v w c) h.sensible)
 
 -- ---- one after the other
 

@@ -5,6 +5,7 @@ pub mod LaidOut
 pub mod Splitting
 pub mod Leaving
 pub mod Repeating
+pub mod Together
 pub mod Pruning
 pub mod Used
 pub mod Walked

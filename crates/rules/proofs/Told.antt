@@ -4,6 +4,8 @@ pub mod Made
 pub mod New
 pub mod Trims
 pub mod Walking
+pub mod Marks
+pub mod Merged
 pub mod Edited
 pub mod Nested
 pub mod Alone

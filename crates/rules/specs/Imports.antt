@@ -1,4 +1,5 @@
 pub mod Rules
 pub mod Repeated
+pub mod Merged
 pub mod Quiet
 pub mod Samples

@@ -1,2 +1,3 @@
 pub mod Composing
 pub mod Tried
+pub mod TriedMerged

@@ -5,6 +5,7 @@ pub mod Local
 pub mod Shedding
 pub mod Tables
 pub mod Cuts
+pub mod Merged
 pub mod Exposing
 pub mod Telling
 pub mod Numbered

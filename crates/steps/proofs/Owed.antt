@@ -22,6 +22,14 @@ pub mod ImportFacts
 pub mod ImportSteps
 pub mod RepeatedRuns
 pub mod RepeatedImport
+pub mod Declaring
+pub mod Shuffled
+pub mod MergedRows
+pub mod MergedRuns
+pub mod MergedTables
+pub mod MergedForm
+pub mod MergedFits
+pub mod MergedLess
 pub mod UnusedImport
 pub mod Owed
 pub mod TableKept

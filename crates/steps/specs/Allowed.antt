@@ -15,6 +15,7 @@ pub mod UnusedDeclaration
 pub mod Imports
 pub mod UnusedImport
 pub mod RepeatedImport
+pub mod MergedImports
 pub mod SilentStatement
 pub mod KnownConditional
 pub mod KnownSide

@@ -1,8 +1,8 @@
 //! What may a dead code remover do to a program, and what stays as it was through each edit?
 //!
-//! `Allowed` has the edits, for programs of any source type: an item leaves its list, or a node becomes another in its place. Each has a
-//! file of its name that says when, read off the tree as it is then. What each of them owes, and what follows for programs that fit the
-//! table of node types, is in `Owed`, by shape. What goes on through any list of them, with a table of scopes that is kept and marked
+//! `Allowed` has the edits, for programs of any source type: an item leaves its list, a node becomes another in its place, or two imports
+//! of a module become one. Each has a file of its name that says when, read off the tree as it is then. What each of them owes, and what
+//! follows for programs that fit the table of node types, is in `Owed`, by shape. What goes on through any list of them, with a table of scopes that is kept and marked
 //! meanwhile, is in `Marked`.
 //!
 //! These stand on the others. Here are the steps of core modules: `Goes` has one constructor for each case of what may leave, and

@@ -1,9 +1,10 @@
 -- What one edit adds nothing to, edits one after the other add nothing to.
-use Rattle.std.proofs.Common.{◌≡◌, ◌≤◌, ℕ, false, arith}
+use Rattle.std.proofs.Common.{◌≡◌, ◌≤◌, inl, inr, ℕ, false, arith}
 use Rattle.js_syntax.specs.Class.{root}
 use Rattle.js_syntax.specs.Node.{Forest, bare}
 use Rattle.json_shape.specs.Shape.{Fits}
-use Rattle.steps.specs.Allowed.Edits.{Edits, no_edit, one_edit}
+use Rattle.steps.specs.Allowed.MergedImports.{MergedImports}
+use Rattle.steps.specs.Allowed.Edits.{Edit, Edits, no_edit, one_edit}
 use Rattle.steps.proofs.Owed.FitsEdits.{edit_fits, renoted_fits}
 use Rattle.steps.proofs.Marked.Cuts.{Cuts, edit_cuts}
 
@@ -11,9 +12,16 @@ use Rattle.steps.proofs.Marked.Cuts.{Cuts, edit_cuts}
 pub record IsShed (measure : Forest → ℕ) : Type 0 where
   pub renoted : (t u : Forest) → bare t ≡ bare u → measure t ≡ measure u
   pub cut : (t u : Forest) → Cuts false t u → measure u ≤ measure t
+  pub merged : (t u : Forest) → MergedImports t u → measure u ≤ measure t
+
+edit_shed : (measure : Forest → ℕ) → IsShed measure → (t u : Forest) → Edit t u → Fits root t → measure u ≤ measure t
+edit_shed measure s t u edit fits = elim (edit_cuts t u edit fits) [
+  | inl c ↦ s.cut t u c
+  | inr m ↦ s.merged t u m
+]
 
 pub edits_shed : (measure : Forest → ℕ) → IsShed measure → (t u : Forest) → Edits t u → Fits root t → measure u ≤ measure t
 edits_shed measure s t u (no_edit v w same) fits = Prim.omega (arith, s.renoted v w same)
 edits_shed measure s t u (one_edit v w x y same edit more) fits =
     let before = renoted_fits v w same fits in
-    Prim.omega (arith, s.renoted v w same, s.cut w x (edit_cuts w x edit before), edits_shed measure s x y more (edit_fits w x edit before))
+    Prim.omega (arith, s.renoted v w same, edit_shed measure s w x edit before, edits_shed measure s x y more (edit_fits w x edit before))

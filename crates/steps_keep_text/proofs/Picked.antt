@@ -1,7 +1,8 @@
 -- What comes of an array, an object literal, a sequence, a choice, an operation on two sides or one of known value counts no more.
-use Rattle.std.proofs.Common.{◌≡◌, ◌≤◌, ◌+◌, ℕ, pos, [], Bool, true, arith, refl}
+use Rattle.std.proofs.Common.{◌≡◌, ◌≤◌, ◌+◌, ℕ, pos, [], Bool, true, arith, refl, codes}
 use Rattle.js_syntax.specs.declared.node_kind.NodeKind.{NodeKind as Kind}
-use Rattle.js_syntax.specs.declared.node_kind.NodeKind.TheVariants.{EmptyStatement as empty_statement, ExpressionStatement as expression_statement, ArrayExpression as array_expression, Elements as elements, ObjectExpression as object_expression, Properties as properties, BinaryExpression as binary_expression, SequenceExpression as sequence_expression, TemplateLiteral as template_literal, Expressions as expressions, ConditionalExpression as conditional_expression, LogicalExpression as logical_expression, UnaryExpression as unary_expression, Literal as literal, TemplateElement as template_element}
+use Rattle.js_syntax.specs.declared.node_kind.NodeKind.TheVariants.{EmptyStatement as empty_statement, ExpressionStatement as expression_statement, ArrayExpression as array_expression, Elements as elements, ObjectExpression as object_expression, Properties as properties, BinaryExpression as binary_expression, SequenceExpression as sequence_expression, TemplateLiteral as template_literal, Expressions as expressions, ConditionalExpression as conditional_expression, LogicalExpression as logical_expression, UnaryExpression as unary_expression, Literal as literal, TemplateElement as template_element, ImportSpecifier as import_specifier, ImportDefaultSpecifier as import_default_specifier}
+use Rattle.js_syntax.specs.declared.value.ModuleName.TheVariants.{Name as plain_name}
 use Rattle.js_syntax.specs.declared.operator.BinaryOperator.{BinaryOperator}
 use Rattle.js_syntax.specs.declared.operator.UnaryOperator.{UnaryOperator}
 use Rattle.js_syntax.specs.declared.operator.UnaryOperator.TheVariants.{UnaryNegation}
@@ -16,6 +17,10 @@ use Rattle.steps.proofs.Owed.KnownSizes.{IsSmall}
 use Rattle.js_tree.specs.Count.{one_each}
 use Rattle.steps.specs.Allowed.TwoSides.{no_text, without_text, without_texts}
 use Rattle.steps.proofs.Marked.Picked.{SomeOf, none, stays, leaves, opens, absent_leaves, absent_stays, Picks, one_part, several, part_behind_zero, last_behind_zero, two_parts, after_test, known, signed, zeroed, one_substitution, substitutions, in_turn, with_less_text, with_no_texts, Emptied, this_one, a_later_one}
+
+-- `default as a`
+abbrev pub default_named : Kind
+default_named = import_specifier (plain_name (codes "default"))
 
 -- counts by which what edits build counts no more than what it is built of
 pub record IsSparing (counts : Kind → ℕ) : Type 0 where
@@ -37,12 +42,13 @@ pub record IsSparing (counts : Kind → ℕ) : Type 0 where
   pub minus_of_one : (o : UnaryOperator) → counts (unary_expression UnaryNegation) ≤ counts (unary_expression o)
   pub minus_of_two : (o : BinaryOperator) → counts (unary_expression UnaryNegation) ≤ counts (binary_expression o)
   pub operand : (t : Kind) (w : LiteralValue) → one_each t ≡ 1 → IsSmall w → counts (literal w) ≤ counts t
+  pub default_named : counts default_named ≤ counts import_default_specifier
   pub of_element : (text : TemplateText) (tail : Bool) → counts (template_element no_text tail) ≤ counts (template_element text tail)
 
 -- as they are where none of that is counted
 pub uncounted : (counts : Kind → ℕ) → counts empty_statement ≡ 0 → counts expression_statement ≡ 0 → counts sequence_expression ≡ 0 → counts expressions ≡ 0 → ((w : LiteralValue) → IsSmall w → counts (literal w) ≡ 0) → ((o : LogicalOperator) → counts (logical_expression o) ≡ 0) → counts (unary_expression UnaryNegation) ≡ 0
-    → ((tail : Bool) → counts (template_element no_text tail) ≡ 0) → IsSparing counts
-uncounted counts empty statement sequence list small logical minus element = record {
+    → ((tail : Bool) → counts (template_element no_text tail) ≡ 0) → counts default_named ≡ 0 → IsSparing counts
+uncounted counts empty statement sequence list small logical minus element default = record {
   empty = Prim.omega (arith, empty);
   empty_idle = λ k idle. Prim.omega (arith, empty);
   statement_of_test = λ k tested. Prim.omega (arith, statement);
@@ -61,6 +67,7 @@ uncounted counts empty statement sequence list small logical minus element = rec
   minus_of_one = λ o. Prim.omega (arith, minus);
   minus_of_two = λ o. Prim.omega (arith, minus);
   operand = λ t w h s. Prim.omega (arith, small w s);
+  default_named = Prim.omega (arith, default);
   of_element = λ text tail. Prim.omega (arith, element tail);
 }
 

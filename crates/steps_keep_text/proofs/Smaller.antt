@@ -1,7 +1,7 @@
 -- What edits leave of a tree is no larger, by any count of its nodes, and no deeper.
-use Rattle.std.proofs.Common.{◌≡◌, ◌≤◌, ◌+◌, ℕ, suc, Bool, true, false, refl, sym, true≢false, arith}
+use Rattle.std.proofs.Common.{◌≡◌, ◌≤◌, ◌+◌, ◌==◌, ℕ, suc, max, List, Bool, true, false, if◌then◌else◌, refl, sym, true≢false, arith}
 use Rattle.js_syntax.specs.declared.node_kind.NodeKind.{NodeKind as Kind}
-use Rattle.js_syntax.specs.declared.node_kind.NodeKind.TheVariants.{EmptyStatement as empty_statement, ExpressionStatement as expression_statement, Class as class}
+use Rattle.js_syntax.specs.declared.node_kind.NodeKind.TheVariants.{EmptyStatement as empty_statement, ExpressionStatement as expression_statement, Class as class, BindingName as binding_name}
 use Rattle.js_syntax.specs.Node.{Forest, Note, nothing, node, absent, joined, bare, total}
 use Rattle.js_tree.specs.Count.{one_each, node_count, lower, levels_at, levels}
 use Rattle.json_kept.proofs.Depths.{total_joined}
@@ -9,6 +9,10 @@ use Rattle.scope_laws.specs.Lists.{is_list}
 use Rattle.scope_laws.proofs.Notes.{total_bare, unseen}
 use Rattle.steps.specs.KeepForm.Part.{may_be_idle}
 use Rattle.steps.proofs.KeepForm.Asked.{idle_kinds, tested_kinds}
+use Rattle.steps.specs.Steps.{binds_import}
+use Rattle.steps.specs.Allowed.MergedImports.{is_default, how_many, as_named, all_named, first_default, but_first_default, names_merged, WithoutImport, import_leaves, leaves_behind, MergesIn, merges_here, merges_behind, MergedImports, imports_merge}
+use Rattle.steps.proofs.Owed.MergedLess.{merged_total}
+use Rattle.steps.proofs.Owed.MergedRows.{AreNames, no_names, a_name, may, merged_are}
 use Rattle.steps.proofs.Marked.Cuts as cuts
 use Rattle.steps.proofs.Marked.Cuts.{Cuts}
 use Rattle.steps_keep_text.proofs.Along.{IsShed}
@@ -29,8 +33,12 @@ module _ (counts : Kind → ℕ) (spares : IsSparing counts) where
   cut_lighter listed t u (cuts.behind l k n below rest now c) = Prim.omega (arith, cut_lighter l rest now c)
   cut_lighter listed t u (cuts.behind_none l rest now c) = cut_lighter l rest now c
 
+  named_counts : (k : Kind) → binds_import k ≡ true → counts (as_named k) ≤ counts k
+  named_counts Kind.ImportDefaultSpecifier h = spares.default_named
+  named_counts k h = Prim.omega arith
+
   pub counts_shed : IsShed (total counts)
-  counts_shed = record { renoted = unseen (total counts) (total_bare counts); cut = cut_lighter false }
+  counts_shed = record { renoted = unseen (total counts) (total_bare counts); cut = cut_lighter false; merged = merged_total counts named_counts }
 
 -- ---- levels: in a list none stands lower than the others by its place
 
@@ -74,8 +82,88 @@ bare_levels more at nothing = refl
 bare_levels more at (absent rest) = bare_levels more (suc at) rest
 bare_levels more at (node k n below rest) = Prim.omega (arith, bare_levels (lower k) 0 below, bare_levels more (suc at) rest)
 
+-- ---- imports that become one
+
+-- two where there is a name
+abbrev deep : Forest → ℕ
+deep nothing = 0
+deep (absent rest) = 0
+deep (node k n below rest) = 2
+
+few_deep : (t : Forest) → deep t ≤ 2
+few_deep nothing = Prim.omega arith
+few_deep (absent rest) = Prim.omega arith
+few_deep (node k n below rest) = Prim.omega arith
+
+names_deep : {t : Forest} → AreNames t → (at : ℕ) → levels_at (λ i. 0) at t ≡ deep t
+names_deep no_names at = refl
+names_deep (a_name Kind.ImportDefaultSpecifier n m x rest h names) at = Prim.omega (arith, names_deep names (suc at), few_deep rest)
+names_deep (a_name Kind.ImportNamespaceSpecifier n m x rest h names) at = Prim.omega (arith, names_deep names (suc at), few_deep rest)
+names_deep (a_name (Kind.ImportSpecifier imported) n m x rest h names) at = Prim.omega (arith, names_deep names (suc at), few_deep rest)
+names_deep (a_name k n m x rest h names) at = absurd (true≢false (sym h))
+
+joined_deep : (t u : Forest) → deep (joined t u) ≤ max (deep t) (deep u)
+joined_deep nothing u = Prim.omega arith
+joined_deep (absent t) u = Prim.omega arith
+joined_deep (node k n b t) u = Prim.omega arith
+
+named_deep : (t : Forest) → deep (all_named t) ≡ deep t
+named_deep nothing = refl
+named_deep (absent t) = refl
+named_deep (node k n b t) = refl
+
+some_deep : (c : Bool) (t u : Forest) (i : ℕ) → deep t ≤ i → deep u ≤ i → deep (if c then t else u) ≤ i
+some_deep true t u i h g = h
+some_deep false t u i h g = g
+
+default_deep : {t : Forest} → AreNames t → deep (first_default t) ≤ deep t
+default_deep no_names = Prim.omega arith
+default_deep (a_name k n m x rest h names) = few_deep (first_default (node k n (node (binding_name x) m nothing nothing) rest))
+
+others_deep : {t : Forest} → AreNames t → deep (but_first_default t) ≤ deep t
+others_deep no_names = Prim.omega arith
+others_deep (a_name k n m x rest h names) = few_deep (but_first_default (node k n (node (binding_name x) m nothing nothing) rest))
+
+merged_deep : {t u : Forest} → AreNames t → AreNames u → deep (names_merged t u) ≤ max (deep t) (deep u)
+merged_deep {t = t} {u = u} a b =
+    some_deep (how_many is_default t == 0) (joined (first_default u) (joined t (all_named (but_first_default u)))) (joined t (all_named u)) (max (deep t) (deep u))
+    (Prim.omega (
+      arith,
+      joined_deep (first_default u) (joined t (all_named (but_first_default u))),
+      joined_deep t (all_named (but_first_default u)),
+      named_deep (but_first_default u),
+      default_deep b,
+      others_deep b,
+    ))
+    (Prim.omega (arith, joined_deep t (all_named u), named_deep u))
+
+abbrev flat : ℕ → Forest → ℕ
+flat at t = levels_at (λ i. 0) at t
+
+flat_anywhere : (i j : ℕ) (t : Forest) → flat i t ≡ flat j t
+flat_anywhere i j t = moved (λ i. 0) (λ at. refl) i j t
+
+left_levels : {source : List ℕ} {names r s : Forest} → AreNames names → WithoutImport source names r s → (at : ℕ) → max (1 + deep names) (flat at s) ≤ flat at r
+left_levels are (import_leaves n m rest) at = Prim.omega (arith, names_deep are 0, flat_anywhere at (suc at) rest)
+left_levels are (leaves_behind k n below r s out) at = Prim.omega (arith, left_levels are out (suc at))
+
+row_levels : {r s : Forest} → MergesIn r s → (at : ℕ) → flat at s ≤ flat at r
+row_levels (merges_here source n m names later r s h out) at =
+    let known = may names later h in
+    Prim.omega (
+      arith,
+      names_deep known.names_are 0,
+      names_deep (merged_are known.names_are known.later_are) 0,
+      merged_deep known.names_are known.later_are,
+      left_levels known.later_are out (suc at),
+    )
+row_levels (merges_behind k n below r s h) at = Prim.omega (arith, row_levels h (suc at))
+
+merged_levels : (t u : Forest) → MergedImports t u → levels u ≤ levels t
+merged_levels _ _ (imports_merge n m r s h none) = Prim.omega (arith, row_levels h 0)
+
 pub levels_shed : IsShed levels
-levels_shed = record { renoted = unseen levels (bare_levels (λ at. 0) 0); cut = λ t u c. cut_levels (λ at. 0) 0 false t u c (λ h. absurd (true≢false (sym h))) }
+levels_shed = record { renoted = unseen levels (bare_levels (λ at. 0) 0); cut = λ t u c. cut_levels (λ at. 0) 0 false t u c (λ h. absurd (true≢false (sym h))); merged = merged_levels }
 
 pub nodes_shed : IsShed node_count
 nodes_shed = counts_shed one_each (record {
@@ -97,5 +185,6 @@ nodes_shed = counts_shed one_each (record {
   minus_of_one = λ o. Prim.omega arith;
   minus_of_two = λ o. Prim.omega arith;
   operand = λ t w h s. Prim.omega (arith, h);
+  default_named = Prim.omega arith;
   of_element = λ text tail. Prim.omega arith;
 })

@@ -7,7 +7,7 @@ use Rattle.js_syntax.specs.declared.node_kind.NodeKind.TheVariants.{Literal as l
 use Rattle.js_syntax.specs.declared.value.LiteralValue.{LiteralValue}
 use Rattle.js_syntax.specs.declared.value.LiteralValue.TheVariants as value
 use Rattle.js_syntax.specs.Node.{Forest, total}
-use Rattle.json_text.specs.Text.{data_of}
+use Rattle.json_text.specs.Text.{data_of, is_identifier_name}
 use Rattle.json_shape.specs.Shape.{Fits}
 use Rattle.json_shape.specs.Exact.{is_exact_number, inexact, IsExact}
 use Rattle.json_shape.specs.Readable.{IsReadable}
@@ -17,7 +17,7 @@ use Rattle.steps.specs.Allowed.Edits.{Edits}
 use Rattle.steps.proofs.Owed.FitsEdits.{edits_fit}
 use Rattle.steps.proofs.Owed.KnownSizes.{IsSmall}
 use Rattle.steps_keep_text.proofs.Along.{edits_shed}
-use Rattle.steps_keep_text.proofs.Picked.{uncounted}
+use Rattle.steps_keep_text.proofs.Picked.{default_named, uncounted}
 use Rattle.steps_keep_text.proofs.Smaller.{counts_shed}
 
 -- no literal is counted that an operation becomes
@@ -46,21 +46,34 @@ small_inexact_size (value.Number (pos n)) small = none_if_not (is_exact_number n
 small_inexact_size (value.Number (negsuc n)) small = absurd small
 small_inexact_size w small = refl
 
+-- `default` is a name
+default_is_spelled : misnamed default_named ≡ 0
+unfolding is_identifier_name
+default_is_spelled = refl
+
+default_is_exact : inexact default_named ≡ 0
+unfolding is_identifier_name
+default_is_exact = refl
+
+default_has_its_size : inexact_size default_named ≡ 0
+unfolding is_identifier_name
+default_has_its_size = refl
+
 module _ (t u : Forest) (edits : Edits t u) (fits : Fits root t) where
   pub fewer_misnamed : total misnamed u ≤ total misnamed t
-  fewer_misnamed = edits_shed (total misnamed) (counts_shed misnamed (uncounted misnamed refl refl refl refl small_misnamed (λ o. refl) refl (λ tail. refl))) t u edits fits
+  fewer_misnamed = edits_shed (total misnamed) (counts_shed misnamed (uncounted misnamed refl refl refl refl small_misnamed (λ o. refl) refl (λ tail. refl) default_is_spelled)) t u edits fits
 
   pub fewer_negative : total negative u ≤ total negative t
-  fewer_negative = edits_shed (total negative) (counts_shed negative (uncounted negative refl refl refl refl small_negative (λ o. refl) refl (λ tail. refl))) t u edits fits
+  fewer_negative = edits_shed (total negative) (counts_shed negative (uncounted negative refl refl refl refl small_negative (λ o. refl) refl (λ tail. refl) refl)) t u edits fits
 
   pub left_as_it_is : IsWrittenAsItIs t → IsWrittenAsItIs u
   left_as_it_is so = record { numbers = Prim.omega (arith, fewer_negative, so.numbers); names = Prim.omega (arith, fewer_misnamed, so.names) }
 
   pub left_exact : IsExact t → IsExact u
-  left_exact exact = Prim.omega (arith, edits_shed (total inexact) (counts_shed inexact (uncounted inexact refl refl refl refl small_inexact (λ o. refl) refl (λ tail. refl))) t u edits fits, exact)
+  left_exact exact = Prim.omega (arith, edits_shed (total inexact) (counts_shed inexact (uncounted inexact refl refl refl refl small_inexact (λ o. refl) refl (λ tail. refl) default_is_exact)) t u edits fits, exact)
 
   pub left_exact_sizes : total inexact_size t ≡ 0 → total inexact_size u ≡ 0
-  left_exact_sizes exact = Prim.omega (arith, edits_shed (total inexact_size) (counts_shed inexact_size (uncounted inexact_size refl refl refl refl small_inexact_size (λ o. refl) refl (λ tail. refl))) t u edits fits, exact)
+  left_exact_sizes exact = Prim.omega (arith, edits_shed (total inexact_size) (counts_shed inexact_size (uncounted inexact_size refl refl refl refl small_inexact_size (λ o. refl) refl (λ tail. refl) default_has_its_size)) t u edits fits, exact)
 
   pub left_readable : IsExact t → depth (data_of u) ≤ max_depth → IsReadable u
   left_readable exact shallow = record { shape = edits_fit t u edits fits; values = left_exact exact; nesting = shallow }

@@ -1,12 +1,13 @@
 -- What is known of a program is known of what edits leave of it.
-use Rattle.std.proofs.Common.{◌≡◌, ◌∙◌, ℕ, Bool, true, false, true≢false, ◌||◌, refl, sym, subst}
+use Rattle.std.proofs.Common.{◌≡◌, ◌∙◌, inl, inr, ℕ, Bool, true, false, true≢false, ◌||◌, refl, sym, subst}
 use Rattle.js_syntax.specs.declared.node_kind.NodeKind.{NodeKind as Kind}
 use Rattle.js_syntax.specs.Class.{root}
 use Rattle.js_syntax.specs.Node.{Forest, Note, node, joined, nothing, absent}
 use Rattle.json_shape.specs.Shape.{Fits}
 use Rattle.js_effects.specs.Silence.{is_marked}
 use Rattle.scope_counts.specs.Losing.{left, MarksWhatLeft}
-use Rattle.steps.specs.Allowed.Edits.{TreeEdits, no_tree_edit, one_tree_edit}
+use Rattle.steps.specs.Allowed.MergedImports.{MergedImports, imports_merge}
+use Rattle.steps.specs.Allowed.Edits.{Edit, TreeEdits, no_tree_edit, one_tree_edit}
 use Rattle.steps.specs.Allowed.Exposure.{is_script}
 use Rattle.steps.proofs.Fit.Modules.{fits_program}
 use Rattle.steps.specs.Owed.Kept.{is_program}
@@ -47,10 +48,19 @@ root_cut listed t u (inside r k n below now rest called h) l e = record { script
 root_cut listed t u (behind r k n below rest now h) l e = record { script = script_first k n n below below now rest; mark = refl }
 root_cut listed t u (behind_none r rest now h) l e = never e
 
+root_merged : (t u : Forest) → MergedImports t u → SameRoot t u
+root_merged _ _ (imports_merge n m r s h none) = record { script = refl; mark = refl }
+
+root_edited : (t u : Forest) → Edit t u → Fits root t → SameRoot t u
+root_edited t u e fits = elim (edit_cuts t u e fits) [
+  | inl c ↦ root_cut false t u c refl (fits_program t fits)
+  | inr m ↦ root_merged t u m
+]
+
 root_stays : (t u : Forest) → TreeEdits t u → Fits root t → SameRoot t u
 root_stays t u (no_tree_edit v) fits = record { script = refl; mark = refl }
 root_stays t u (one_tree_edit v w x e more) fits =
-    let one = root_cut false v w (edit_cuts v w e fits) refl (fits_program v fits) in
+    let one = root_edited v w e fits in
     let then_ = root_stays w x more (edit_fits v w e fits) in
     record { script = then_.script ∙ one.script; mark = then_.mark ∙ one.mark }
 

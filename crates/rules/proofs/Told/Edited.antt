@@ -1,5 +1,5 @@
 -- What flags tell only they tell only of what edits leave, but for calls of `eval` that left.
-use Rattle.std.proofs.Common.{◌≡◌, ◌∙◌, ◌≤◌, ℕ, suc, Bool, true, false, not, ◌&&◌, if◌then◌else◌, Option, refl, sym, ap, ap₂, subst, arith}
+use Rattle.std.proofs.Common.{◌≡◌, ◌∙◌, inl, inr, ◌≤◌, ℕ, suc, Bool, true, false, not, ◌&&◌, if◌then◌else◌, Option, refl, sym, ap, ap₂, subst, arith}
 use Rattle.js_syntax.specs.declared.node_kind.NodeKind.{NodeKind as Kind}
 use Rattle.js_syntax.specs.declared.node_kind.NodeKind.TheVariants as kind
 use Rattle.js_syntax.specs.Class.{root}
@@ -15,7 +15,8 @@ use Rattle.steps.specs.Allowed.Exposure.{Exposure, declaring, is_script_source, 
 use Rattle.steps.specs.Owed.Kept.{is_program}
 use Rattle.steps.proofs.Owed.FitsEdits.{edit_fits}
 use Rattle.steps.specs.Marked.Flags.{is_within, Stand, stand_inside, first_mark, stands_of}
-use Rattle.steps.proofs.Marked.Cuts.{edit_cuts}
+use Rattle.steps.specs.Allowed.MergedImports.{MergedImports, imports_merge}
+use Rattle.steps.proofs.Marked.Cuts.{Cuts, edit_cuts}
 use Rattle.steps.proofs.Marked.Exposing.{Only, never, kept, part_no_program}
 use Rattle.steps.proofs.Marked.Telling.{no_program, operation_inside}
 use Rattle.min_context.specs.Edited.{evals}
@@ -25,6 +26,7 @@ use Rattle.rules.specs.Told.Parts.{FlagsTellOnly, TellsCallsOnly, TellsNamesOnly
 use Rattle.rules.proofs.Told.Standing.{strict_code, is_block, shares_code, exposed_in_scope, inside_reads, scope_evaluates, scope_strict, scope_sloppy, scope_names, scope_variables, scope_outside, variables_within}
 use Rattle.steps.proofs.KeepForm.Asked.{idle_kinds, tested_kinds}
 use Rattle.rules.proofs.Told.Trims.{Alike, Trims, leaves, empties, empties_idle, tests, alternate, parts, rebuilds, inside, behind, behind_none, fewer, trims}
+use Rattle.rules.proofs.Told.Merged.{merged_throughout, merged_evaluates}
 use Rattle.rules.proofs.Told.Walking.{trimmed_stays}
 
 -- ---- the parts, and both
@@ -176,9 +178,9 @@ stays_at_root : (all : Bool) (t u : Forest) → SameRoot all t u → (i j : ℕ)
 stays_at_root all t u same i j f = subst (λ (m : ℕ). Stays all (stands_of u i) (stands_of t m)) f
     (record { outside = refl; strict = refl; names = same.script; variable_names = same.script; sloppy = refl; calls = same.calls; scope = same.mark; variables = same.mark })
 
-module _ (all : Bool) (t u : Forest) (e : Edit t u) (fits : Fits root t) (left : all ≡ true → evals u ≡ evals t) where
+module _ (all : Bool) (t u : Forest) (c : Cuts false t u) (fits : Fits root t) (left : all ≡ true → evals u ≡ evals t) where
   edit_trims : Trims all false t u
-  edit_trims = trims all false other t u (edit_cuts t u e fits) (fits_laid_out t fits) left
+  edit_trims = trims all false other t u c (fits_laid_out t fits) left
 
   edit_root : SameRoot all t u
   edit_root = root_stays all false t u edit_trims refl (fits_program t fits)
@@ -188,26 +190,44 @@ module _ (all : Bool) (t u : Forest) (e : Edit t u) (fits : Fits root t) (left :
       trimmed_stays all stand_inside (λ p k n below. P p) (Stays all) (stays_inside all) (stays_through all) (λ q p k n now below a f x. keeps q p f x) (λ p k l n m below now none x. x) operation_inside (λ p n below at. refl) false t u edit_trims (stands_of u) (stands_of t) 0 0
       (λ i j f. stays_at_root all t u edit_root i j (f refl)) (λ l. refl) h
 
+same_script : (t u : Forest) → MergedImports t u → is_script u ≡ is_script t
+same_script _ _ (imports_merge n m r s h none) = refl
+
 edit_names : (s : Scoping) (t u : Forest) → Edit t u → Fits root t → NamesToldOnly s t → NamesToldOnly s u
-edit_names s t u e fits h =
-    let none : false ≡ true → evals u ≡ evals t = λ g. never g in
-    subst (λ b. Throughout (TellsNamesOnly s b) (stands_of u) 0 u) (sym (edit_root false t u e fits none).script) (throughout_stays false t u e fits none (TellsNamesOnly s (is_script t)) (names_stay s (is_script t) false) h)
+edit_names s t u e fits h = elim (edit_cuts t u e fits) [
+  | inl c ↦
+      let none : false ≡ true → evals u ≡ evals t = λ g. never g in
+      subst (λ b. Throughout (TellsNamesOnly s b) (stands_of u) 0 u) (sym (edit_root false t u c fits none).script) (throughout_stays false t u c fits none (TellsNamesOnly s (is_script t)) (names_stay s (is_script t) false) h)
+  | inr m ↦ subst (λ b. Throughout (TellsNamesOnly s b) (stands_of u) 0 u) (sym (same_script t u m)) (merged_throughout (TellsNamesOnly s (is_script t)) t u m h)
+]
 
 pub edits_names : (s : Scoping) (t u : Forest) → TreeEdits t u → Fits root t → NamesToldOnly s t → NamesToldOnly s u
 edits_names s t u (no_tree_edit v) fits h = h
 edits_names s t u (one_tree_edit v w x e more) fits h = edits_names s w x more (edit_fits v w e fits) (edit_names s v w e fits h)
 
+pub edit_fewer : (t u : Forest) → Edit t u → Fits root t → evals u ≤ evals t
+edit_fewer t u e fits = elim (edit_cuts t u e fits) [
+  | inl c ↦ fewer false t u c
+  | inr m ↦ Prim.omega (arith, merged_evaluates t u m)
+]
+
 edits_fewer : (t u : Forest) → TreeEdits t u → Fits root t → evals u ≤ evals t
 edits_fewer t u (no_tree_edit v) fits = Prim.omega arith
-edits_fewer t u (one_tree_edit v w x e more) fits = Prim.omega (arith, edits_fewer w x more (edit_fits v w e fits), fewer false v w (edit_cuts v w e fits))
+edits_fewer t u (one_tree_edit v w x e more) fits = Prim.omega (arith, edits_fewer w x more (edit_fits v w e fits), edit_fewer v w e fits)
+
+edit_calls : (s : Scoping) (t u : Forest) → Edit t u → Fits root t → evals u ≡ evals t → CallsToldOnly s t → CallsToldOnly s u
+edit_calls s t u e fits same h = elim (edit_cuts t u e fits) [
+  | inl c ↦ throughout_stays true t u c fits (λ g. same) (TellsCallsOnly s) (calls_stay s) h
+  | inr m ↦ merged_throughout (TellsCallsOnly s) t u m h
+]
 
 edits_calls : (s : Scoping) (t u : Forest) → TreeEdits t u → Fits root t → evals u ≡ evals t → CallsToldOnly s t → CallsToldOnly s u
 edits_calls s t u (no_tree_edit v) fits same h = h
 edits_calls s t u (one_tree_edit v w x e more) fits same h =
     let next = edit_fits v w e fits in
     let later = edits_fewer w x more next in
-    let now = fewer false v w (edit_cuts v w e fits) in
-    edits_calls s w x more next (Prim.omega (arith, same, later, now)) (throughout_stays true v w e fits (λ g. Prim.omega (arith, same, later, now)) (TellsCallsOnly s) (calls_stay s) h)
+    let now = edit_fewer v w e fits in
+    edits_calls s w x more next (Prim.omega (arith, same, later, now)) (edit_calls s v w e fits (Prim.omega (arith, same, later, now)) h)
 
 pub edits_told_only : (s : Scoping) (t u : Forest) → TreeEdits t u → Fits root t → evals u ≡ evals t → FlagsTellOnly s t → FlagsTellOnly s u
 edits_told_only s t u edits fits same h = joined_only s u (edits_calls s t u edits fits same (calls_of s t h)) (edits_names s t u edits fits (names_of s t h))

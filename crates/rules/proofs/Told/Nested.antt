@@ -1,5 +1,5 @@
 -- The scopes of a table stand in one another as the nodes of a program do: of a new table, and behind edits.
-use Rattle.std.proofs.Common.{◌≡◌, ◌∙◌, ◌⊎◌, inl, inr, ◌≤◌, ◌<◌, ◌+◌, ℕ, suc, List, [], ◌∷◌, ◌++◌, Bool, true, false, if◌then◌else◌, cond, nat_eq, Option, Some, None, refl, sym, ap, ap₂, subst, arith}
+use Rattle.std.proofs.Common.{◌≡◌, ◌∙◌, ◌⊎◌, inl, inr, ◌≤◌, ◌<◌, ◌+◌, ℕ, suc, [], Bool, true, false, if◌then◌else◌, cond, nat_eq, Option, Some, None, refl, sym, ap, ap₂, subst, arith}
 use Rattle.std.proofs.lemmas.Bool.{eqb-true}
 use Rattle.std.specs.Option.{option_to_list}
 use Rattle.js_syntax.specs.declared.node_kind.NodeKind.{NodeKind as Kind}
@@ -21,7 +21,9 @@ use Rattle.steps.proofs.KeepForm.Fitting.{fits_laid_out}
 use Rattle.steps.specs.Allowed.Edits.{Edit, TreeEdits, no_tree_edit, one_tree_edit}
 use Rattle.steps.proofs.Owed.FitsEdits.{edit_fits}
 use Rattle.steps.specs.Marked.Flags.{is_within}
-use Rattle.steps.proofs.Marked.Cuts.{edit_cuts}
+use Rattle.steps.proofs.Marked.Cuts.{Cuts, edit_cuts}
+use Rattle.rules.proofs.Told.Marks.{marks_of_node}
+use Rattle.rules.proofs.Told.Merged.{merged_nests}
 use Rattle.steps.proofs.Marked.Exposing.{never}
 use Rattle.rules.specs.Told.Places.{EachPlace}
 use Rattle.rules.specs.Told.Nesting.{scope_inside, IsScopeIn, NestsAt, own_scope, scope_marks, ScopesNest}
@@ -30,16 +32,6 @@ use Rattle.rules.proofs.Told.Contexts.{looks, inside_looks}
 use Rattle.rules.proofs.Told.Made.{IsMade, scope_of, EachMade, new_made}
 use Rattle.rules.proofs.Told.Trims.{Trims, leaves, empties, empties_idle, tests, alternate, parts, rebuilds, inside as inside_it, behind, behind_none, trims}
 use Rattle.rules.proofs.Told.Walking.{trimmed_stays}
-
--- ---- counts
-
-pub count_append : (n : ℕ) (xs ys : List ℕ) → count n (xs ++ ys) ≡ count n xs + count n ys
-count_append n [] ys = Prim.omega arith
-count_append n (x ∷ xs) ys = Prim.omega (arith, count_append n xs ys)
-
-pub marks_of_node : (i : ℕ) (k : Kind) (n : Note) (below rest : Forest) → count i (scope_marks (node k n below rest)) ≡ count i (own_scope k n below) + (count i (scope_marks below) + count i (scope_marks rest))
-marks_of_node i k n below rest =
-    Prim.omega (arith, count_append i (own_scope k n below) (scope_marks below ++ scope_marks rest), count_append i (scope_marks below) (scope_marks rest))
 
 -- ---- a new table
 
@@ -153,15 +145,21 @@ fewer_marks i all listed t u (inside_it r k n below now rest a h) =
 fewer_marks i all listed t u (behind r k n below rest now h) = Prim.omega (arith, marks_of_node i k n below rest, marks_of_node i k n below now, fewer_marks i all r rest now h)
 fewer_marks i all listed t u (behind_none r rest now h) = fewer_marks i all r rest now h
 
-edit_nests : (s : Scoping) (t u : Forest) → Edit t u → Fits root t → ScopesNest s t → ScopesNest s u
-edit_nests s t u e fits h =
-    let trimmed = trims false false other t u (edit_cuts t u e fits) (fits_laid_out t fits) (λ g. never g) in
+cut_nests : (s : Scoping) (t u : Forest) → Cuts false t u → Fits root t → ScopesNest s t → ScopesNest s u
+cut_nests s t u c fits h =
+    let trimmed = trims false false other t u c (fits_laid_out t fits) (λ g. never g) in
     record {
       nested = trimmed_stays false scope_inside (NestsAt s) (λ q p. q ≡ p) (λ q p k n now below a f i j w. ap₂ (λ (b : Bool) (o : Option ℕ). if b then n.id else o) w f)
           (λ q p k n below at w f. f ∙ sym (ap (λ (b : Bool). if b then n.id else p) w)) (λ q p k n now below a f x o. subst (λ y. IsScopeIn s y n) (sym f) (x (sym a.opens ∙ o))) (λ p k l n m below now none x o. never (sym none ∙ o)) (λ k is p n below at. ap (λ (b : Bool). if b then n.id else p) (operation_outside k is below at)) (λ p n below at. refl) false t u trimmed (λ at. None)
           (λ at. None) 0 0 (λ i j f. refl) (λ l. refl) h.nested;
       once = λ i. Prim.omega (arith, h.once i, fewer_marks i false false t u trimmed);
     }
+
+edit_nests : (s : Scoping) (t u : Forest) → Edit t u → Fits root t → ScopesNest s t → ScopesNest s u
+edit_nests s t u e fits h = elim (edit_cuts t u e fits) [
+  | inl c ↦ cut_nests s t u c fits h
+  | inr m ↦ merged_nests s t u m h
+]
 
 pub edits_nest : (s : Scoping) (t u : Forest) → TreeEdits t u → Fits root t → ScopesNest s t → ScopesNest s u
 edits_nest s t u (no_tree_edit v) fits h = h

@@ -34,7 +34,8 @@ use Rattle.rules.specs.Told.Parts.{FlagsTellOnly, TellsCallsOnly, TellsNamesOnly
 use Rattle.rules.specs.Told.Nesting.{scope_inside, IsScopeIn, NestsAt, own_scope, scope_marks, ScopesNest}
 use Rattle.rules.proofs.Told.Standing.{exposed_in_scope, inside_reads, scope_evaluates, within_opens}
 use Rattle.rules.proofs.Told.Edited.{Throughout, joined_only, names_of, edits_names}
-use Rattle.rules.proofs.Told.Nested.{count_append, marks_of_node, edits_nest, parents_alone}
+use Rattle.rules.proofs.Told.Marks.{count_append, marks_of_node}
+use Rattle.rules.proofs.Told.Nested.{edits_nest, parents_alone}
 
 -- ---- counts
 

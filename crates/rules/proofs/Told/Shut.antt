@@ -33,13 +33,12 @@ use Rattle.steps.specs.Owed.Kept.{is_program}
 use Rattle.steps.proofs.Owed.IdleRuns.{held}
 use Rattle.steps.proofs.Owed.ImportFacts.{import_facts}
 use Rattle.steps.specs.Marked.Flags.{is_within}
-use Rattle.steps.proofs.Marked.Cuts.{edit_cuts}
 use Rattle.steps.proofs.Marked.Exposing.{Only, never}
 use Rattle.min_context.specs.Edited.{evals}
 use Rattle.rules.proofs.Told.Standing.{exposed_in_scope, inside_reads, scope_evaluates}
 use Rattle.rules.specs.Told.Parts.{FlagsTellOnly}
-use Rattle.rules.proofs.Told.Trims.{calls, only_fewer, fewer, evals_some}
-use Rattle.rules.proofs.Told.Edited.{edits_told_only}
+use Rattle.rules.proofs.Told.Trims.{calls, only_fewer, evals_some}
+use Rattle.rules.proofs.Told.Edited.{edit_fewer, edits_told_only}
 
 -- ---- rows with a call
 
@@ -199,7 +198,7 @@ module _ (x : Tree) (nameless : (rest : Forest) → is_some (eval_name (node x.k
 pub leaving_keeps_calls : (a : Around) (x : Tree) → Leaves a x → is_behind_jump false a ≡ false → is_untaken false a ≡ false → does_nothing x.kind x.below ≡ false → Fits root (places.plug a (Some x)) → evals (without a) ≡ evals (places.plug a (Some x))
 leaving_keeps_calls a x c front taken acts fits =
     let none = no_evals x (no_call a x c front taken acts fits) in
-    Prim.omega (arith, none, evals_stay x (no_name a x c front taken acts) a, fewer false (places.plug a (Some x)) (without a) (edit_cuts (places.plug a (Some x)) (without a) (edits.leaves a x c) fits))
+    Prim.omega (arith, none, evals_stay x (no_name a x c front taken acts) a, edit_fewer (places.plug a (Some x)) (without a) (edits.leaves a x c) fits)
 
 pub leaving_tells_only : (s : Scoping) (a : Around) (x : Tree) → Leaves a x → is_behind_jump false a ≡ false → is_untaken false a ≡ false → does_nothing x.kind x.below ≡ false → Fits root (places.plug a (Some x)) → FlagsTellOnly s (places.plug a (Some x)) → FlagsTellOnly s (without a)
 leaving_tells_only s a x c front taken acts fits h =

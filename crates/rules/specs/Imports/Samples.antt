@@ -2,13 +2,14 @@
 use Rattle.std.specs.Prelude.{List, [], ◌∷◌, Bool, true, Option, Some, None, codes}
 use Rattle.js_syntax.specs.declared.node_kind.NodeKind.{NodeKind as Kind}
 use Rattle.js_syntax.specs.declared.value.ModuleName.TheVariants.{Name as plain_name}
-use Rattle.js_syntax.specs.Node.{Forest, Tree, node, forest_of, bare}
-use Rattle.form_rules.specs.Samples.{over, listed, a, binds}
+use Rattle.js_syntax.specs.Node.{Forest, Tree, nothing, node, forest_of, bare}
+use Rattle.form_rules.specs.Samples.{over, row, listed, a, binds}
 use Rattle.scope_rules.specs.Samples.{b}
 use Rattle.scope_counts.specs.Tried.{with_marks}
 use Rattle.rules.specs.DeadCode.Rules.{Facts}
 use Rattle.rules.specs.DeadCode.Samples.{facts_of, items_of, at_top}
 use Rattle.rules.specs.Imports.Repeated.{each_once}
+use Rattle.rules.specs.Imports.Merged.{together}
 use Rattle.rules.specs.Imports.Rules.{pruned}
 
 -- import a, { b } from 'm';
@@ -39,3 +40,7 @@ left_kept t = first_left (record (facts_of [] t) { keeps_imports = true }) (item
 -- what is left of a program's list by the rule on repeated imports, without notes
 abbrev pub once : Forest → Forest
 once t = bare (each_once [] (items_of t))
+
+-- what is left of a list by the rule on imports of one module, without notes
+abbrev pub come_of : List Forest → Forest
+come_of items = bare (together nothing (row items))

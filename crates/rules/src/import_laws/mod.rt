@@ -9,6 +9,11 @@
 //! `specs/Imports/Repeated.antt` has the rule on imports without names: behind another request of its module in its list such an import
 //! leaves. `laws` states that of it too, and that none leaves a program exactly where none stands there that may.
 //!
+//! `specs/Imports/Merged.antt` has the rule on imports of one module in a program without a direct call of `eval`: each goes into the first
+//! one before it that can take its names. `merged` states that so they come together by edits, that less is left then, with the same
+//! references and calls, and that none goes exactly where no two may become one.
+//!
 //! The code is empty: each function's contract is a law.
 pub mod laws;
+pub mod merged;
 pub mod rows;

@@ -1,10 +1,10 @@
 // Small programs, by computing.
-ghost use Rattle.std.specs.Prelude.{◌≡◌, [], ◌∷◌, true};
+ghost use Rattle.std.specs.Prelude.{◌≡◌, [], ◌∷◌, true, codes};
 ghost use Rattle.js_syntax.specs.Node.{bare, joined};
 ghost use Rattle.form_rules.specs.Samples.{a_module, a, reads, does, exports};
 ghost use Rattle.scope_rules.specs.Samples.{b, imports};
-ghost use Rattle.steps.specs.Allowed.Rows.{call_of_eval};
-ghost use Rattle.rules.specs.Imports.Samples.{once, left, left_kept, imports_both, imports_none};
+ghost use Rattle.steps.specs.Allowed.Rows.{call_of_eval, takes_from, takes_from_other, default_name, namespace_name, name_as};
+ghost use Rattle.rules.specs.Imports.Samples.{once, come_of, left, left_kept, imports_both, imports_none};
 
 /// A name that nothing refers to leaves its import, which stays without any.
 pub fn unused_names()
@@ -27,4 +27,13 @@ pub fn repeated_imports()
     ensures behind_names { once (a_module (imports a ∷ imports_none ∷ [])) ≡ once (a_module (imports a ∷ [])) }
     ensures before { once (a_module (imports_none ∷ imports a ∷ [])) ≡ bare (joined imports_none (imports a)) }
     ensures amid { once (a_module (imports_none ∷ does (reads a) ∷ imports_none ∷ [])) ≡ bare (joined imports_none (does (reads a))) }
+{}
+
+/// Names of an import come into the first import of its module that can take them, whatever stands between, and not into one of another
+/// module. Nothing comes beside a namespace but one default.
+pub fn imports_of_one_module()
+    ensures all { come_of (takes_from (name_as a a ∷ []) ∷ does (reads a) ∷ takes_from (default_name b ∷ []) ∷ imports_none ∷ []) ≡ joined (takes_from (default_name b ∷ name_as a a ∷ [])) (does (reads a)) }
+    ensures first_that_can { come_of (takes_from (name_as a a ∷ []) ∷ imports b ∷ takes_from (namespace_name a ∷ []) ∷ imports b ∷ []) ≡ joined (takes_from (default_name b ∷ name_as a a ∷ name_as (codes "default") b ∷ [])) (takes_from (namespace_name a ∷ [])) }
+    ensures none_that_can { come_of (imports_both ∷ takes_from (namespace_name a ∷ []) ∷ takes_from (namespace_name b ∷ []) ∷ []) ≡ joined imports_both (joined (takes_from (namespace_name a ∷ [])) (takes_from (namespace_name b ∷ []))) }
+    ensures other { come_of (imports a ∷ takes_from_other (default_name b ∷ []) ∷ []) ≡ joined (imports a) (takes_from_other (default_name b ∷ [])) }
 {}

@@ -103,7 +103,7 @@ all_named_same : (p q : ℕ) (exported : Option ModuleName) → FewerExports (al
 all_named_same p q None = none
 all_named_same p q (Some m) = both refl none
 
-exported_by_fewer : (w : Around) (k : Kind) (p q : ℕ) (a b : Forest) → Sheds (entered w k a) a b → FewerExports (exported_by k p b) (exported_by k q a)
+pub exported_by_fewer : (w : Around) (k : Kind) (p q : ℕ) (a b : Forest) → Sheds (entered w k a) a b → FewerExports (exported_by k p b) (exported_by k q a)
 exported_by_fewer w (export_named_declaration source) p q a b below =
     let stays = stays_below w.row (export_named_declaration source) refl in
     beside (exports_fewer p q (fewer_declared (scope lexical) p q (λ e. absurd cc) below)) (named_first p q stays (asked_there w.row (export_named_declaration source) refl) (behind_left stays below))
@@ -111,7 +111,7 @@ exported_by_fewer w export_default_declaration p q a b below = both refl none
 exported_by_fewer w (export_all_declaration exported source) p q a b below = all_named_same p q exported
 exported_by_fewer w k p q a b below = none
 
-exported_fewer : (p q : ℕ) {w : Around} {t u : Forest} → Sheds w t u → FewerExports (exported_among p u) (exported_among q t)
+pub exported_fewer : (p q : ℕ) {w : Around} {t u : Forest} → Sheds w t u → FewerExports (exported_among p u) (exported_among q t)
 exported_fewer p q ends = none
 exported_fewer p q (keeps_absent rest) = exported_fewer p q rest
 exported_fewer p q (keeps {w = w} {k = k} {n = n} {m = m} {a = a} {b = b} one below rest) =
@@ -133,13 +133,13 @@ exported_first p q stays asked (becomes {w = w} {k = k} part may bare rest) = ab
 
 -- ---- the names of the module that are exported
 
-locals_by_fewer : (w : Around) (k : Kind) (p q : ℕ) (a b : Forest) → Sheds (entered w k a) a b → FewerExports (locals_by k p b) (locals_by k q a)
+pub locals_by_fewer : (w : Around) (k : Kind) (p q : ℕ) (a b : Forest) → Sheds (entered w k a) a b → FewerExports (locals_by k p b) (locals_by k q a)
 locals_by_fewer w (export_named_declaration None) p q a b below =
     let stays = stays_below w.row (export_named_declaration None) refl in
     locals_first p q stays (asked_there w.row (export_named_declaration None) refl) (behind_left stays below)
 locals_by_fewer w k p q a b below = none
 
-locals_fewer : (p q : ℕ) {w : Around} {t u : Forest} → Sheds w t u → FewerExports (locals_among p u) (locals_among q t)
+pub locals_fewer : (p q : ℕ) {w : Around} {t u : Forest} → Sheds w t u → FewerExports (locals_among p u) (locals_among q t)
 locals_fewer p q ends = none
 locals_fewer p q (keeps_absent rest) = locals_fewer p q rest
 locals_fewer p q (keeps {w = w} {k = k} {n = n} {m = m} {a = a} {b = b} one below rest) =

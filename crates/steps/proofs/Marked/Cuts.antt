@@ -1,5 +1,5 @@
 -- What an edit makes of a tree, row by row.
-use Rattle.std.proofs.Common.{◌≡◌, ◌∙◌, Bool, true, false, is_some, refl, sym, subst, true≢false}
+use Rattle.std.proofs.Common.{◌≡◌, ◌∙◌, ◌⊎◌, inl, inr, Bool, true, false, is_some, refl, sym, subst, true≢false}
 use Rattle.js_syntax.specs.declared.node_kind.NodeKind.{NodeKind as Kind}
 use Rattle.js_syntax.specs.declared.node_kind.NodeKind.TheVariants.{ExpressionStatement as expression_statement, EmptyStatement as empty_statement, IfStatement as if_statement}
 use Rattle.js_syntax.specs.Class.{root}
@@ -11,9 +11,10 @@ use Rattle.scope_counts.specs.Edits as place
 use Rattle.scope_counts.specs.Edits.{Around, here, under, plug, in_list}
 use Rattle.steps.specs.KeepForm.Part.{gives_way, may_be_idle, is_tested, is_asked_for}
 use Rattle.steps.specs.Allowed.Edits.{Edit}
+use Rattle.steps.specs.Allowed.MergedImports.{MergedImports}
 use Rattle.steps.proofs.Marked.Called.{called_below, called_at, NamesStay, no_list_called, calls_stay}
 use Rattle.steps.proofs.Marked.Local as local
-use Rattle.steps.proofs.Marked.Local.{IsRebuilt, Local, is_local}
+use Rattle.steps.proofs.Marked.Local.{IsRebuilt, Local, IsLocal, is_local}
 
 -- of a row, which is a list or not; no call becomes one of `eval`
 pub data Cuts : (listed : Bool) → (t u : Forest) → Type 0 where
@@ -54,8 +55,14 @@ cut_at listed called (place.behind k n b a) t u f c = behind listed k n b (plug 
 cut_at listed called (place.behind_none a) t u f c = behind_none listed (plug a t) (plug a u) (cut_at listed false a t u f c)
 cut_at listed called (under k n a rest) t u f c = inside listed k n (plug a t) (plug a u) rest (calls_stay called k a t u f) (cut_at (is_list k) (called_below called k) a t u f c)
 
-pub edit_cuts : (t u : Forest) → Edit t u → Fits root t → Cuts false t u
-edit_cuts t u e fits =
-    let l = is_local t u e fits in
+local_cuts : (t u : Forest) → IsLocal t u → Cuts false t u
+local_cuts t u l =
     subst (λ x. Cuts false t x) (sym l.new_is)
     (subst (λ x. Cuts false x (plug l.place l.new)) (sym l.old_is) (cut_at false false l.place l.old l.new (names_stay l.place l.old l.new l.local) (cut_here l.place l.old l.new l.local (in_list false l.place) refl)))
+
+-- an edit that cuts nothing so makes one of two imports
+pub edit_cuts : (t u : Forest) → Edit t u → Fits root t → Cuts false t u ⊎ MergedImports t u
+edit_cuts t u e fits = elim (is_local t u e fits) [
+  | inl l ↦ inl (local_cuts t u l)
+  | inr m ↦ inr m
+]

@@ -1,5 +1,5 @@
 -- What an edit makes of the row in which it is made, whose other nodes keep their marks.
-use Rattle.std.proofs.Common.{◌≡◌, ◌∙◌, ◌≤◌, ◌<◌, true, false, Some, is_some, arith, refl, sym, ap}
+use Rattle.std.proofs.Common.{◌≡◌, ◌∙◌, ◌⊎◌, inl, inr, ◌≤◌, ◌<◌, true, false, Some, is_some, arith, refl, sym, ap}
 use Rattle.js_syntax.specs.declared.node_kind.NodeKind.{NodeKind as Kind}
 use Rattle.js_syntax.specs.declared.node_kind.NodeKind.TheVariants.{ExpressionStatement as expression_statement, IfStatement as if_statement, EmptyStatement as empty_statement}
 use Rattle.js_syntax.specs.Class.{root, expression}
@@ -10,6 +10,7 @@ use Rattle.js_tree.specs.Names.{eval_name}
 use Rattle.js_rebuilt.specs.Rebuilt.{Rebuilt}
 use Rattle.json_shape.specs.Shape.{is_directive_kind, Fits}
 use Rattle.scope_laws.specs.Place as places
+use Rattle.scope_laws.specs.Lists.{without}
 use Rattle.scope_counts.specs.Edits.{Around, plug, in_list}
 use Rattle.steps.specs.KeepForm.Part.{gives_way, may_be_idle, is_tested, is_asked_for}
 use Rattle.steps.specs.Allowed.SilentStatement.{silent_statement_empties}
@@ -19,7 +20,8 @@ use Rattle.steps.specs.Allowed.EmptyIf.{test_stays}
 use Rattle.steps.specs.Allowed.EmptyAlternate.{alternate_goes}
 use Rattle.steps.specs.Allowed.UnrunValue.{a_zero, value_never_given}
 use Rattle.steps.specs.Allowed.Edits as edits
-use Rattle.steps.specs.Allowed.Edits.{Leaves, Edit}
+use Rattle.steps.specs.Allowed.Edits.{Leaves, Becomes, Edit}
+use Rattle.steps.specs.Allowed.MergedImports.{MergedImports}
 use Rattle.steps.specs.Owed.Owed.{ByPart, ByParts}
 use Rattle.steps.specs.Owed.Part.{DeclaresNothing}
 use Rattle.steps.proofs.Owed.KnownConditional.{known_conditional_owes}
@@ -113,8 +115,8 @@ by_parts a x y owed picks fits = record {
   new_is = placed_is a y;
 }
 
-pub is_local : (t u : Forest) → Edit t u → Fits root t → IsLocal t u
-is_local t u (edits.leaves a x c) fits =
+left : (a : places.Around) (x : Tree) → Leaves a x → Fits root (places.plug a (Some x)) → IsLocal (places.plug a (Some x)) (without a)
+left a x c fits =
     let owed = leaving a x c in
     record {
       place = place_of a;
@@ -124,7 +126,9 @@ is_local t u (edits.leaves a x c) fits =
       old_is = placed_is a x;
       new_is = without_is a;
     }
-is_local t u (edits.becomes a x y (edits.silent_statement (silent_statement_empties n m l k inner silent))) fits = record {
+
+changed : (a : places.Around) (x y : Tree) → Becomes a x y → Fits root (places.plug a (Some x)) → IsLocal (places.plug a (Some x)) (places.plug a (Some y))
+changed a x y (edits.silent_statement (silent_statement_empties n m l k inner silent)) fits = record {
   place = place_of a;
   old = node expression_statement n (alone k l inner) (rest_of a);
   new = node empty_statement m nothing (rest_of a);
@@ -132,11 +136,11 @@ is_local t u (edits.becomes a x y (edits.silent_statement (silent_statement_empt
   old_is = placed_is a x;
   new_is = placed_is a y;
 }
-is_local t u (edits.becomes a x y (edits.known_conditional c)) fits = by_part a x y (known_conditional_owes a x y c) fits
-is_local t u (edits.becomes a x y (edits.known_side c)) fits = by_part a x y (known_side_owes a x y c) fits
-is_local t u (edits.becomes a x y (edits.known_if c)) fits = by_part a x y (known_if_owes a x y c) fits
-is_local t u (edits.becomes a x y (edits.idle_try c)) fits = by_part a x y (idle_try_owes a x y c) fits
-is_local t u (edits.becomes a x y (edits.dead_if (nothing_is_run n m i o tested k d b truth none))) fits = record {
+changed a x y (edits.known_conditional c) fits = by_part a x y (known_conditional_owes a x y c) fits
+changed a x y (edits.known_side c) fits = by_part a x y (known_side_owes a x y c) fits
+changed a x y (edits.known_if c) fits = by_part a x y (known_if_owes a x y c) fits
+changed a x y (edits.idle_try c) fits = by_part a x y (idle_try_owes a x y c) fits
+changed a x y (edits.dead_if (nothing_is_run n m i o tested k d b truth none)) fits = record {
   place = place_of a;
   old = node if_statement n (node tested m d (node k i b (absent nothing))) (rest_of a);
   new = node empty_statement o nothing (rest_of a);
@@ -144,7 +148,7 @@ is_local t u (edits.becomes a x y (edits.dead_if (nothing_is_run n m i o tested 
   old_is = placed_is a x;
   new_is = placed_is a y;
 }
-is_local t u (edits.becomes a x y (edits.idle_body (idle_body_empties _ m body idle none))) fits = record {
+changed a x y (edits.idle_body (idle_body_empties _ m body idle none)) fits = record {
   place = place_of a;
   old = node x.kind x.note x.below (rest_of a);
   new = node empty_statement m nothing (rest_of a);
@@ -152,15 +156,15 @@ is_local t u (edits.becomes a x y (edits.idle_body (idle_body_empties _ m body i
   old_is = placed_is a x;
   new_is = placed_is a y;
 }
-is_local t u (edits.becomes a x y (edits.unused_operation c)) fits = by_part a x y (unused_operation_owes a x y c) fits
-is_local t u (edits.becomes a x y (edits.unused_list c)) fits = by_parts a x y (unused_list_owes a x y c) (unused_list_picks a x y c) fits
-is_local t u (edits.becomes a x y (edits.indirect_choice c)) fits = by_parts a x y (indirect_choice_owes a x y c) (indirect_choice_picks a x y c) fits
-is_local t u (edits.becomes a x y (edits.one_sided_choice c)) fits = by_parts a x y (one_sided_choice_owes a x y c) (one_sided_choice_picks a x y c) fits
-is_local t u (edits.becomes a x y (edits.idle_parts c)) fits = by_parts a x y (idle_parts_owes a x y c) (idle_parts_picks a x y c) fits
-is_local t u (edits.becomes a x y (edits.two_sides c)) fits = by_parts a x y (two_sides_owes a x y c) (two_sides_picks a x y c) fits
-is_local t u (edits.becomes a x y (edits.unused_object c)) fits = by_parts a x y (unused_object_owes a x y c) (unused_object_picks a x y c) fits
-is_local t u (edits.becomes a x y (edits.known_operation c)) fits = by_parts a x y (known_operation_owes a x y c) (known_operation_picks a x y c) fits
-is_local t u (edits.becomes a x y (edits.unrun_value (value_never_given n _ given unrun drops))) fits = record {
+changed a x y (edits.unused_operation c) fits = by_part a x y (unused_operation_owes a x y c) fits
+changed a x y (edits.unused_list c) fits = by_parts a x y (unused_list_owes a x y c) (unused_list_picks a x y c) fits
+changed a x y (edits.indirect_choice c) fits = by_parts a x y (indirect_choice_owes a x y c) (indirect_choice_picks a x y c) fits
+changed a x y (edits.one_sided_choice c) fits = by_parts a x y (one_sided_choice_owes a x y c) (one_sided_choice_picks a x y c) fits
+changed a x y (edits.idle_parts c) fits = by_parts a x y (idle_parts_owes a x y c) (idle_parts_picks a x y c) fits
+changed a x y (edits.two_sides c) fits = by_parts a x y (two_sides_owes a x y c) (two_sides_picks a x y c) fits
+changed a x y (edits.unused_object c) fits = by_parts a x y (unused_object_owes a x y c) (unused_object_picks a x y c) fits
+changed a x y (edits.known_operation c) fits = by_parts a x y (known_operation_owes a x y c) (known_operation_picks a x y c) fits
+changed a x y (edits.unrun_value (value_never_given n _ given unrun drops)) fits = record {
   place = place_of a;
   old = node x.kind x.note x.below (rest_of a);
   new = node (a_zero n).kind n nothing (rest_of a);
@@ -178,7 +182,7 @@ is_local t u (edits.becomes a x y (edits.unrun_value (value_never_given n _ give
   old_is = placed_is a x;
   new_is = placed_is a (a_zero n);
 }
-is_local t u (edits.becomes a x y (edits.empty_alternate (alternate_goes n i j o tested l d b last))) fits = record {
+changed a x y (edits.empty_alternate (alternate_goes n i j o tested l d b last)) fits = record {
   place = place_of a;
   old = node if_statement n (node tested i d (node l j b (node empty_statement o nothing nothing))) (rest_of a);
   new = node if_statement n (node tested i d (node l j b (absent nothing))) (rest_of a);
@@ -186,7 +190,7 @@ is_local t u (edits.becomes a x y (edits.empty_alternate (alternate_goes n i j o
   old_is = placed_is a x;
   new_is = placed_is a y;
 }
-is_local t u (edits.becomes a x y (edits.empty_if (test_stays n m o tested d branches empty unnamed))) fits = record {
+changed a x y (edits.empty_if (test_stays n m o tested d branches empty unnamed)) fits = record {
   place = place_of a;
   old = node if_statement n (node tested m d branches) (rest_of a);
   new = node expression_statement o (node tested m d nothing) (rest_of a);
@@ -194,3 +198,9 @@ is_local t u (edits.becomes a x y (edits.empty_if (test_stays n m o tested d bra
   old_is = placed_is a x;
   new_is = placed_is a y;
 }
+
+-- an edit that isn't so makes one of two imports
+pub is_local : (t u : Forest) → Edit t u → Fits root t → IsLocal t u ⊎ MergedImports t u
+is_local t u (edits.leaves a x c) fits = inl (left a x c fits)
+is_local t u (edits.becomes a x y c) fits = inl (changed a x y c fits)
+is_local t u (edits.merges v w c) fits = inr c

@@ -1,15 +1,13 @@
 -- Edits bring in no references and declarations, and leave less.
-use Rattle.std.proofs.Common.{◌≡◌, ◌≤◌, ◌<◌, ◌+◌, ℕ, List, true, false, Option, true≢false, arith, sym, subst, ◌++◌, inl, inr, refl}
+use Rattle.std.proofs.Common.{◌≡◌, ◌≤◌, ◌<◌, ◌+◌, ℕ, List, true, false, Option, true≢false, arith, inl, inr, sym, subst}
 use Rattle.js_syntax.specs.declared.node_kind.NodeKind.{NodeKind as Kind}
-use Rattle.js_syntax.specs.declared.node_kind.NodeKind.TheVariants.{BindingName as binding_name, IfStatement as if_statement, TryStatement as try_statement, ConditionalExpression as conditional_expression, UnaryExpression as unary_expression, BinaryExpression as binary_expression, LogicalExpression as logical_expression}
+use Rattle.js_syntax.specs.declared.node_kind.NodeKind.TheVariants.{IfStatement as if_statement, TryStatement as try_statement, ConditionalExpression as conditional_expression, UnaryExpression as unary_expression, BinaryExpression as binary_expression, LogicalExpression as logical_expression}
 use Rattle.js_syntax.specs.Class.{root}
 use Rattle.js_syntax.specs.Facts as facts
 use Rattle.js_syntax.specs.Node.{Forest, Note, nothing, node, absent, joined, total}
 use Rattle.json_shape.specs.Shape.{Fits}
 use Rattle.scope_laws.specs.Exact.{Among}
-use Rattle.scope_laws.proofs.Among.{among_left, among_right}
-use Rattle.scope_counts.specs.Losing.{referring, own_declaring, declaring}
-use Rattle.scope_counts.proofs.Scopes.{each_joined}
+use Rattle.scope_counts.specs.Losing.{referring, declaring}
 use Rattle.scope_counts.proofs.Rebuilding.{rebuilt_tally, rebuilt_thins}
 use Rattle.scope_counts.proofs.Tables.{referring_each, each_referring}
 use Rattle.scope_counts.specs.Counts.{Decl, Weight, tally, by_id, ids}
@@ -20,7 +18,11 @@ use Rattle.steps.specs.Allowed.Edits.{Edit, TreeEdits, no_tree_edit, one_tree_ed
 use Rattle.steps.proofs.Owed.FitsEdits.{edit_fits}
 use Rattle.steps.proofs.KeepForm.Asked.{tested_kinds}
 use Rattle.steps.proofs.Owed.IdleBody.{idle_weighs}
-use Rattle.steps.proofs.Marked.Local.{Local, leaves, empties, empties_idle, tests, alternate, parts, rebuilds, is_local}
+use Rattle.steps.proofs.Marked.Local.{Local, leaves, empties, empties_idle, tests, alternate, parts, rebuilds, is_local, IsLocal}
+use Rattle.steps.proofs.Owed.Declaring.{declaring_each, each_declaring}
+use Rattle.steps.proofs.Marked.Merged as merged
+use Rattle.steps.proofs.Marked.Merged.{same_tally, same_referring}
+use Rattle.steps.proofs.Owed.MergedLess.{merged_lighter}
 
 -- ---- references
 
@@ -45,11 +47,16 @@ module _ (w : Weight) where
   tally_plug (behind_none a) t u h = tally_plug a t u h
   tally_plug (under k n a rest) t u h = Prim.omega (arith, tally_plug a t u h)
 
-edit_sheds_references : (t u : Forest) → Edit t u → Fits root t → (r : ℕ) → ids r u ≤ ids r t
-edit_sheds_references t u e fits r =
-    let l = is_local t u e fits in
+local_sheds : (t u : Forest) → IsLocal t u → (r : ℕ) → ids r u ≤ ids r t
+local_sheds t u l r =
     subst (λ x. tally (by_id r) x ≤ ids r t) (sym l.new_is)
     (subst (λ x. tally (by_id r) (plug l.place l.new) ≤ tally (by_id r) x) (sym l.old_is) (tally_plug (by_id r) l.place l.old l.new (tally_local (by_id r) l.place l.old l.new l.local)))
+
+edit_sheds_references : (t u : Forest) → Edit t u → Fits root t → (r : ℕ) → ids r u ≤ ids r t
+edit_sheds_references t u e fits r = elim (is_local t u e fits) [
+  | inl l ↦ local_sheds t u l r
+  | inr m ↦ Prim.omega (arith, same_tally (by_id r) t u m)
+]
 
 pub edits_shed : (t u : Forest) → TreeEdits t u → Fits root t → (r : ℕ) → ids r u ≤ ids r t
 edits_shed t u (no_tree_edit v) fits r = Prim.omega arith
@@ -86,42 +93,20 @@ weight_plug (behind k n b a) t u h = Prim.omega (arith, weight_plug a t u h)
 weight_plug (behind_none a) t u h = weight_plug a t u h
 weight_plug (under k n a rest) t u h = Prim.omega (arith, weight_plug a t u h)
 
-pub edit_weighs_less : (t u : Forest) → Edit t u → Fits root t → total facts.weight u < total facts.weight t
-edit_weighs_less t u e fits =
-    let l = is_local t u e fits in
+local_weighs_less : (t u : Forest) → IsLocal t u → total facts.weight u < total facts.weight t
+local_weighs_less t u l =
     subst (λ x. total facts.weight x < total facts.weight t) (sym l.new_is)
     (subst (λ x. total facts.weight (plug l.place l.new) < total facts.weight x) (sym l.old_is) (weight_plug l.place l.old l.new (weight_local l.place l.old l.new l.local)))
+
+pub edit_weighs_less : (t u : Forest) → Edit t u → Fits root t → total facts.weight u < total facts.weight t
+edit_weighs_less t u e fits = elim (is_local t u e fits) [
+  | inl l ↦ local_weighs_less t u l
+  | inr m ↦ merged_lighter t u m
+]
 
 pub edits_weigh_no_more : (t u : Forest) → TreeEdits t u → Fits root t → total facts.weight u ≤ total facts.weight t
 edits_weigh_no_more t u (no_tree_edit v) fits = Prim.omega arith
 edits_weigh_no_more t u (one_tree_edit v w x e more) fits = Prim.omega (arith, edit_weighs_less v w e fits, edits_weigh_no_more w x more (edit_fits v w e fits))
-
--- ---- as lists
-
-if_name : (P : List ℕ → Option ℕ → Type 0) (n : Note) (k : Kind) → EachName P n k → (d : Decl) → Among d (own_declaring n k) → P d.name d.symbol
-if_name P n (binding_name x) e d (inl h) = subst (λ (d : Decl). P d.name d.symbol) h e
-if_name P n (binding_name x) e d (inr h) = absurd h
-if_name P n k e d h = absurd h
-
-name_if : (P : List ℕ → Option ℕ → Type 0) (n : Note) (k : Kind) → ((d : Decl) → Among d (own_declaring n k) → P d.name d.symbol) → EachName P n k
-name_if P n (binding_name x) f = f _ (inl refl)
-name_if P n k f = tt
-
-declaring_each : (P : List ℕ → Option ℕ → Type 0) (t : Forest) → EachDeclaration P t → (d : Decl) → Among d (declaring t) → P d.name d.symbol
-declaring_each P nothing e d h = absurd h
-declaring_each P (absent t) e d h = declaring_each P t e d h
-declaring_each P (node k n b t) e d h =
-    each_joined (λ (d : Decl). P d.name d.symbol) (own_declaring n k ++ declaring b) (declaring t)
-    (each_joined (λ (d : Decl). P d.name d.symbol) (own_declaring n k) (declaring b) (if_name P n k e.0) (declaring_each P b e.1)) (declaring_each P t e.2) d h
-
-each_declaring : (P : List ℕ → Option ℕ → Type 0) (t : Forest) → ((d : Decl) → Among d (declaring t) → P d.name d.symbol) → EachDeclaration P t
-each_declaring P nothing f = tt
-each_declaring P (absent t) f = each_declaring P t f
-each_declaring P (node k n b t) f = (
-  name_if P n k (λ d h. f d (among_left d (own_declaring n k ++ declaring b) (declaring t) (among_left d (own_declaring n k) (declaring b) h))),
-  each_declaring P b (λ d h. f d (among_left d (own_declaring n k ++ declaring b) (declaring t) (among_right d (own_declaring n k) (declaring b) h))),
-  each_declaring P t (λ d h. f d (among_right d (own_declaring n k ++ declaring b) (declaring t) h)),
-)
 
 -- ---- declarations
 
@@ -147,9 +132,10 @@ module _ (P : List ℕ → Option ℕ → Type 0) where
   declared_plug (under k n a rest) t u f e = (e.0, declared_plug a t u f e.1, e.2)
 
   edit_declares : (t u : Forest) → Edit t u → Fits root t → EachDeclaration P t → EachDeclaration P u
-  edit_declares t u e fits declared =
-      let l = is_local t u e fits in
-      subst (EachDeclaration P) (sym l.new_is) (declared_plug l.place l.old l.new (declared_local l.place l.old l.new l.local) (subst (EachDeclaration P) l.old_is declared))
+  edit_declares t u e fits declared = elim (is_local t u e fits) [
+    | inl l ↦ subst (EachDeclaration P) (sym l.new_is) (declared_plug l.place l.old l.new (declared_local l.place l.old l.new l.local) (subst (EachDeclaration P) l.old_is declared))
+    | inr m ↦ each_declaring P u (λ d h. declaring_each P t declared d (merged.declared_before t u m d h))
+  ]
 
   pub edits_declare : (t u : Forest) → TreeEdits t u → Fits root t → EachDeclaration P t → EachDeclaration P u
   edits_declare t u (no_tree_edit v) fits declared = declared
@@ -179,9 +165,10 @@ module _ (P : List ℕ → Option ℕ → Type 0) where
   referring_plug (under k n a rest) t u f e = (e.0, referring_plug a t u f e.1, e.2)
 
   edit_refers : (t u : Forest) → Edit t u → Fits root t → EachReference P t → EachReference P u
-  edit_refers t u e fits referring =
-      let l = is_local t u e fits in
-      subst (EachReference P) (sym l.new_is) (referring_plug l.place l.old l.new (referring_local l.place l.old l.new l.local) (subst (EachReference P) l.old_is referring))
+  edit_refers t u e fits refers = elim (is_local t u e fits) [
+    | inl l ↦ subst (EachReference P) (sym l.new_is) (referring_plug l.place l.old l.new (referring_local l.place l.old l.new l.local) (subst (EachReference P) l.old_is refers))
+    | inr m ↦ each_referring P u (λ d h. referring_each P t refers d (subst (Among d) (same_referring t u m) h))
+  ]
 
   pub edits_refer : (t u : Forest) → TreeEdits t u → Fits root t → EachReference P t → EachReference P u
   edits_refer t u (no_tree_edit v) fits referring = referring

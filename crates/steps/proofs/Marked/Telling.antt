@@ -1,5 +1,5 @@
 -- The flags of the table's scopes go on telling what is exposed.
-use Rattle.std.proofs.Common.{◌≡◌, ◌∙◌, ℕ, suc, Bool, true, false, not, ◌&&◌, ◌||◌, ◌==◌, true≢false, if◌then◌else◌, Option, Some, refl, sym, ap, ap₂, subst}
+use Rattle.std.proofs.Common.{◌≡◌, ◌∙◌, inl, inr, ℕ, suc, Bool, true, false, not, ◌&&◌, ◌||◌, ◌==◌, true≢false, if◌then◌else◌, Option, Some, refl, sym, ap, ap₂, subst}
 use Rattle.js_syntax.specs.declared.node_kind.NodeKind.{NodeKind as Kind}
 use Rattle.js_syntax.specs.declared.node_kind.NodeKind.TheVariants as kind
 use Rattle.js_syntax.specs.declared.kind.FunctionKind.TheVariants as function_kind
@@ -27,6 +27,7 @@ use Rattle.js_syntax.proofs.Truth.{neither}
 use Rattle.steps.specs.Marked.Flags.{has_bits, scope_has, is_sloppy_block, Stand, is_within, holds_variables, declares_in, declaring_inside, stand_inside, first_mark, stands_of, stand_at, stand, Tells, Told, FlagsTell}
 use Rattle.steps.proofs.KeepForm.Asked.{idle_kinds, tested_kinds, tested_gives}
 use Rattle.steps.proofs.Marked.Cuts.{Cuts, leaves, empties, empties_idle, tests, alternate, parts, rebuilds, inside, behind, behind_none, edit_cuts}
+use Rattle.steps.proofs.Marked.Merged.{merged_told}
 use Rattle.steps.proofs.Marked.Exposing.{never, part_no_program, Thinner, thinner_itself, thinner_cuts, Less, less_inside, below_stays, less_beside}
 
 -- ---- places: q is of the tree that is there now, p of the one before
@@ -266,14 +267,19 @@ root_stays listed t u (inside r k n below now rest called h) l e = record { scri
 root_stays listed t u (behind r k n below rest now h) l e = record { script = script_first k n n below below now rest; mark = refl }
 root_stays listed t u (behind_none r rest now h) l e = never e
 
-edit_told : (s : Scoping) (t u : Forest) → Edit t u → Fits root t → FlagsTell s t → FlagsTell s u
-edit_told s t u e fits h =
-    let c = edit_cuts t u e fits in
+cut_told : (s : Scoping) (t u : Forest) → Cuts false t u → Fits root t → FlagsTell s t → FlagsTell s u
+cut_told s t u c fits h =
     let is = fits_program t fits in
     let same = root_stays false t u c refl is in
     let first_same : (i j : ℕ) → i ≡ j → Fewer (stands_of u i) (stands_of t j) = λ i j f. subst (λ (m : ℕ). Fewer (stands_of u i) (stands_of t m)) f
     (record { less = less_beside (is_script u) (is_script t) (below_of u) (below_of t) same.script (below_stays false t u c refl is) i; scope = same.mark; variables = same.mark; declaring = same.mark }) in
     subst (λ b. Told s b (stands_of u) 0 u) (sym same.script) (cuts_told s (is_script t) false t u c (stands_of u) (stands_of t) 0 0 (λ i j f. first_same i j (f refl)) (λ l. refl) h)
+
+edit_told : (s : Scoping) (t u : Forest) → Edit t u → Fits root t → FlagsTell s t → FlagsTell s u
+edit_told s t u e fits h = elim (edit_cuts t u e fits) [
+  | inl c ↦ cut_told s t u c fits h
+  | inr m ↦ merged_told s t u m h
+]
 
 pub edits_told : (s : Scoping) (t u : Forest) → TreeEdits t u → Fits root t → FlagsTell s t → FlagsTell s u
 edits_told s t u (no_tree_edit v) fits h = h

@@ -36,6 +36,7 @@ use Rattle.steps.proofs.Owed.FitsEdits.{edit_fits}
 use Rattle.steps.specs.Marked.Exports.{IsMarkedAmong, WasExported}
 use Rattle.steps.proofs.KeepForm.Asked.{idle_kinds, tested_kinds, tested_gives}
 use Rattle.steps.proofs.Marked.Cuts.{Cuts, leaves, empties, empties_idle, tests, alternate, parts, rebuilds, inside as cut_inside, behind, behind_none, edit_cuts}
+use Rattle.steps.proofs.Marked.Merged.{same_exports}
 use Rattle.steps.proofs.Marked.Telling.{no_program}
 use Rattle.steps.proofs.Marked.Exposing.{never, part_no_program, thinner_cuts}
 
@@ -459,10 +460,16 @@ module _ (e : BindingSite) (top : e.layer.scope ≡ 0) where
   root_found listed t u (behind r k n below rest now x) l is h = never is
   root_found listed t u (behind_none r rest now x) l is h = never is
 
-edit_exports : (t u : Forest) → Edit t u → Fits root t → (e : BindingSite) → Among e (exported_declarations u) → e.layer.scope ≡ 0 → WasExported t e
-edit_exports t u edit fits e h top =
+cut_exports : (t u : Forest) → Cuts false t u → Fits root t → (e : BindingSite) → Among e (exported_declarations u) → e.layer.scope ≡ 0 → WasExported t e
+cut_exports t u c fits e h top =
     subst (λ ss. IsMarkedAmong (bindings_among ss) e) (exports_collected (λ at. outermost) 0 0 t)
-    (root_found e top false t u (edit_cuts t u edit fits) refl (fits_program t fits) (subst (λ ss. Among e (bindings_among ss)) (sym (exports_collected (λ at. outermost) 0 0 u)) h))
+    (root_found e top false t u c refl (fits_program t fits) (subst (λ ss. Among e (bindings_among ss)) (sym (exports_collected (λ at. outermost) 0 0 u)) h))
+
+edit_exports : (t u : Forest) → Edit t u → Fits root t → (e : BindingSite) → Among e (exported_declarations u) → e.layer.scope ≡ 0 → WasExported t e
+edit_exports t u edit fits e h top = elim (edit_cuts t u edit fits) [
+  | inl c ↦ cut_exports t u c fits e h top
+  | inr m ↦ record { declaration = e; stands = subst (Among e) (same_exports t u m) h; is_outermost = top; same_mark = refl; same_name = refl }
+]
 
 pub edits_export : (t u : Forest) → TreeEdits t u → Fits root t → (e : BindingSite) → Among e (exported_declarations u) → e.layer.scope ≡ 0 → WasExported t e
 edits_export t u (no_tree_edit v) fits e h top = record { declaration = e; stands = h; is_outermost = top; same_mark = refl; same_name = refl }

@@ -1,5 +1,5 @@
--- What a dead code remover may do to a program: one edit at one place, allowed on the tree as it is then. Each case has a file
--- of its name, and a line here.
+-- What a dead code remover may do to a program: one edit at one place, or of two imports in its list, allowed on the tree as it is then. Each
+-- case has a file of its name, and a line here.
 use Rattle.std.specs.Prelude.{◌≡◌, Some}
 use Rattle.js_syntax.specs.Node.{Forest, Tree, bare}
 use Rattle.scope_laws.specs.Place.{Around, plug}
@@ -11,6 +11,7 @@ use Rattle.steps.specs.Allowed.UnusedDeclarator.{UnusedDeclarator}
 use Rattle.steps.specs.Allowed.UnusedDeclaration.{UnusedDeclaration}
 use Rattle.steps.specs.Allowed.UnusedImport.{UnusedImport}
 use Rattle.steps.specs.Allowed.RepeatedImport.{RepeatedImport}
+use Rattle.steps.specs.Allowed.MergedImports.{MergedImports}
 use Rattle.steps.specs.Allowed.Unreached.{Unreached}
 use Rattle.steps.specs.Allowed.Untaken.{Untaken}
 use Rattle.steps.specs.Allowed.IdleStatement.{IdleStatement}
@@ -70,6 +71,7 @@ pub data Becomes (a : Around) (x y : Tree) : Type 0 where
 pub data Edit : (t u : Forest) → Type 0 where
   leaves : (a : Around) (x : Tree) → Leaves a x → Edit (plug a (Some x)) (without a)
   becomes : (a : Around) (x y : Tree) → Becomes a x y → Edit (plug a (Some x)) (plug a (Some y))
+  merges : (t u : Forest) → MergedImports t u → Edit t u
 
 -- edits of a tree one after the other
 pub data TreeEdits : (t u : Forest) → Type 0 where

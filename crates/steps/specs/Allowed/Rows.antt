@@ -15,6 +15,7 @@ use Rattle.js_syntax.specs.declared.operator.UnaryOperator.TheVariants as unary
 use Rattle.js_syntax.specs.declared.value.Key.TheVariants as key
 use Rattle.js_syntax.specs.declared.value.LiteralValue.{LiteralValue}
 use Rattle.js_syntax.specs.declared.value.LiteralValue.TheVariants as value
+use Rattle.js_syntax.specs.declared.value.ModuleName.TheVariants as module_name
 use Rattle.js_syntax.specs.Node.{Forest, Tree, nothing, node, nowhere, joined}
 use Rattle.form_rules.specs.Samples.{over, leaf, row, listed, no, a_module, a, binds, reads, one, does, declares, let_, var_, a_script, block, function_of}
 use Rattle.scope_laws.specs.Place.{Around, first, behind, under, plug}
@@ -384,3 +385,23 @@ imports_other = over (Kind.ImportDeclaration (codes "n")) (listed Kind.Specifier
 -- the place behind that
 abbrev pub behind_other : Around
 behind_other = in_list (behind (Kind.ImportDeclaration (codes "n")) nowhere (listed Kind.Specifiers []) (first nothing))
+
+-- ---- imports with names
+
+-- import .. from 'm';
+abbrev pub takes_from : List Forest → Forest
+takes_from names = over (Kind.ImportDeclaration (codes "m")) (listed Kind.Specifiers names)
+
+-- import .. from 'n';
+abbrev pub takes_from_other : List Forest → Forest
+takes_from_other names = over (Kind.ImportDeclaration (codes "n")) (listed Kind.Specifiers names)
+
+abbrev pub default_name : List ℕ → Forest
+default_name x = over Kind.ImportDefaultSpecifier (binds x)
+
+abbrev pub namespace_name : List ℕ → Forest
+namespace_name x = over Kind.ImportNamespaceSpecifier (binds x)
+
+-- { exported as x }
+abbrev pub name_as : (exported x : List ℕ) → Forest
+name_as exported x = over (Kind.ImportSpecifier (module_name.Name exported)) (binds x)

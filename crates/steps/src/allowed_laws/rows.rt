@@ -11,7 +11,7 @@ ghost use Rattle.js_syntax.specs.Node.{Tree, Note, Forest, nothing, absent, nowh
 ghost use Rattle.form_rules.specs.Samples.{a_module, over, a, binds, reads, listed, no, one, does, declares, let_, var_, function_a, block};
 ghost use Rattle.scope_rules.specs.Context.{body_of};
 ghost use Rattle.scope_rules.specs.Binding.{named_in};
-ghost use Rattle.scope_rules.specs.Samples.{imports};
+ghost use Rattle.scope_rules.specs.Samples.{b, imports};
 ghost use Rattle.scope_laws.specs.Place.{Around, first, under};
 ghost use Rattle.steps.specs.Allowed.Places.{a_node, At};
 ghost use Rattle.steps.specs.Allowed.Free.{IsFree};
@@ -21,6 +21,7 @@ ghost use Rattle.steps.specs.Allowed.KnownConditional.{a_conditional, KnownCondi
 ghost use Rattle.steps.specs.Allowed.KnownIf.{an_if, KnownIf};
 ghost use Rattle.steps.specs.Allowed.DeadIf.{DeadIf};
 ghost use Rattle.steps.specs.Allowed.RepeatedImport.{is_asked_before};
+ghost use Rattle.steps.specs.Allowed.MergedImports.{may_merge, MergesIn, MergedImports};
 ghost use Rattle.steps.specs.Allowed.Unreached.{Unreached};
 ghost use Rattle.steps.specs.Allowed.Untaken.{Untaken};
 ghost use Rattle.steps.specs.Allowed.IdleStatement.{IdleStatement};
@@ -32,7 +33,7 @@ ghost use Rattle.steps.specs.Allowed.EmptyIf.{EmptyIf};
 ghost use Rattle.steps.specs.Allowed.EmptyAlternate.{EmptyAlternate};
 ghost use Rattle.steps.specs.Allowed.EmptyBlock.{EmptyBlock};
 ghost use Rattle.steps.specs.Allowed.Edits.{Edit};
-ghost use Rattle.steps.specs.Allowed.Rows.{before, breaks_label, labeled, labeled_too, tried, tried_finally, finally_alone, while_, for_, loop, branch_of_if, in_list, past, in_branch, in_function, in_function_by, value_of_a, zero, debugger, throwing_block, throwing_branch, broken_label, throws, behind_throw, call_of_a, null, if_one, if_null, either_way, conditional, logical, may_be_named, o_f, parenthesized, called, called_in_parentheses, called_in_with, argument, operand, applied, equals, difference, sum, text, empty_text, template, tagged, assigned, statement, ComesOut, Stays, StaysUnused, array, spread, hole, sequence, ListStays, ChoiceStays, PartsStay, SidesStay, object, a_is, b_is, getter_of_a, keyed_by, method_by, not_a, ObjectStays, literal, operation, OperationStays, behind_zero, placed, StaysDirect, FollowsNone, with_a, in_with_a, empty, a_is_read, a_is_exported, imports_nothing, behind_import, behind_other};
+ghost use Rattle.steps.specs.Allowed.Rows.{before, breaks_label, labeled, labeled_too, tried, tried_finally, finally_alone, while_, for_, loop, branch_of_if, in_list, past, in_branch, in_function, in_function_by, value_of_a, zero, debugger, throwing_block, throwing_branch, broken_label, throws, behind_throw, call_of_a, null, if_one, if_null, either_way, conditional, logical, may_be_named, o_f, parenthesized, called, called_in_parentheses, called_in_with, argument, operand, applied, equals, difference, sum, text, empty_text, template, tagged, assigned, statement, ComesOut, Stays, StaysUnused, array, spread, hole, sequence, ListStays, ChoiceStays, PartsStay, SidesStay, object, a_is, b_is, getter_of_a, keyed_by, method_by, not_a, ObjectStays, literal, operation, OperationStays, behind_zero, placed, StaysDirect, FollowsNone, with_a, in_with_a, empty, a_is_read, a_is_exported, imports_nothing, behind_import, behind_other, call_of_eval, takes_from, takes_from_other, default_name, namespace_name, name_as};
 
 /// A statement of a literal becomes empty, in a list and alone, and leaves the list then.
 pub fn silent_statements_go()
@@ -81,6 +82,20 @@ pub fn repeated_imports_go()
     ensures behind { is_asked_before (codes "m") false behind_import ≡ true }
     ensures other { is_asked_before (codes "m") false behind_other ≡ false }
     ensures first { is_asked_before (codes "m") false (before (imports a ∷ [])) ≡ false }
+{}
+
+/// Names of two imports of one module come together: a default stands in front, a further one is the export `default`, and a namespace
+/// stands beside one default at most. No import of another module takes them, nor one in a module with a direct call of `eval`.
+pub fn imports_of_one_module_become_one()
+    ensures named { Edit (a_module (takes_from (name_as a a ∷ []) ∷ takes_from (name_as b b ∷ []) ∷ [])) (a_module (takes_from (name_as a a ∷ name_as b b ∷ []) ∷ [])) }
+    ensures default_in_front { Edit (a_module (takes_from (name_as a a ∷ []) ∷ does call_of_a ∷ takes_from (default_name b ∷ []) ∷ [])) (a_module (takes_from (default_name b ∷ name_as a a ∷ []) ∷ does call_of_a ∷ [])) }
+    ensures further_default { Edit (a_module (imports a ∷ imports b ∷ [])) (a_module (takes_from (default_name a ∷ name_as (codes "default") b ∷ []) ∷ [])) }
+    ensures namespace { Edit (a_module (takes_from (namespace_name a ∷ []) ∷ imports b ∷ [])) (a_module (takes_from (default_name b ∷ namespace_name a ∷ []) ∷ [])) }
+    ensures beside_namespace { may_merge (namespace_name a) (name_as b b) ≡ false }
+    ensures two_namespaces { may_merge (namespace_name a) (namespace_name b) ≡ false }
+    ensures two_defaults { may_merge (joined (default_name a) (namespace_name a)) (default_name b) ≡ false }
+    ensures other { (s : Forest) → MergesIn (joined (imports a) (takes_from_other (default_name b ∷ []))) s → ⊥ }
+    ensures eval { (t : Forest) → MergedImports (a_module (imports a ∷ imports b ∷ does call_of_eval ∷ [])) t → ⊥ }
 {}
 
 /// A conditional and an `if` on a test that is known become the branch that is taken.

@@ -1,5 +1,5 @@
 // What holds behind edits, of every case. Each law is a contract, so that the check proves it.
-ghost use Rattle.std.specs.Prelude.{◌≡◌, ◌≤◌, ◌<◌, true, false};
+ghost use Rattle.std.specs.Prelude.{◌≡◌, ◌⊎◌, ◌≤◌, ◌<◌, true, false};
 ghost use Rattle.js_syntax.specs.Class.{root};
 ghost use Rattle.js_syntax.specs.Facts.{weight};
 ghost use Rattle.js_syntax.specs.Node.{Forest, bare, total};
@@ -8,6 +8,7 @@ ghost use Rattle.scope_rules.specs.Table.{Scoping};
 ghost use Rattle.steps.specs.KeepForm.Sheds.{Sheds, outermost};
 ghost use Rattle.steps.specs.Allowed.Calls.{root_calls};
 ghost use Rattle.steps.specs.Allowed.Changing.{may_change_somewhere};
+ghost use Rattle.steps.specs.Allowed.MergedImports.{MergedImports};
 ghost use Rattle.steps.specs.Allowed.Edits.{Edit, TreeEdits, Edits};
 ghost use Rattle.steps.specs.Fit.Sensible.{IsSensible};
 ghost use Rattle.steps.specs.Owed.Kept.{IsKept};
@@ -18,9 +19,9 @@ pub fn edits_lead_from_sensible_programs_to_sensible_ones()
     ensures many { (t u : Forest) → Edits t u → IsSensible t → IsSensible u }
 {}
 
-/// Law: by an edit a tree of the table sheds what it may shed.
+/// Law: by an edit a tree of the table sheds what it may shed, or two of its imports become one.
 pub fn an_edit_sheds()
-    ensures { (t u : Forest) → Edit t u → Fits root t → Sheds outermost t u }
+    ensures { (t u : Forest) → Edit t u → Fits root t → Sheds outermost t u ⊎ MergedImports t u }
 {}
 
 /// Law: after edits of a tree the table of its scopes, symbols and references, with shorter lists, tells of what is left.
