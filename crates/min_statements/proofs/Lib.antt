@@ -16,3 +16,4 @@ mod Seeing
 mod Emptying
 mod Thinning
 mod Valuing
+mod Spared

@@ -8,3 +8,4 @@ pub mod Alternates
 pub mod Own
 pub mod Behind
 pub mod Untaken
+pub mod Statement

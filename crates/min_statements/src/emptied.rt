@@ -6,8 +6,9 @@ ghost use Rattle.min_context.specs.Edited.{Edited};
 ghost use Rattle.min_pass.specs.Pass.{unmarked};
 ghost use Rattle.min_traverse.specs.Lawful.{Does};
 ghost use Rattle.steps.specs.Allowed.EmptyBlock.{holds_nothing};
-ghost use Rattle.rules.specs.DeadCode.Rules.{is_body_under, is_idle_body, becomes_empty};
+ghost use Rattle.rules.specs.DeadCode.Rules.{where_of, is_silent_statement, is_body_under, is_idle_body, becomes_empty};
 ghost use Rattle.min_statements.specs.Acts as acts;
+ghost use Rattle.min_statements.specs.Statement.{is_expression};
 ghost use Rattle.min_statements.specs.Walker.{facts_of};
 
 use crate::blocks::idles;
@@ -69,12 +70,30 @@ fn is_idle_body(node: &Node, ctx: &MinifierTraverseCtx) -> bool
         && ((holds_nothing(node) || does_nothing(node, ctx.alloc())) && declares_no_name(node))
 }
 
+// ---- silent statements
+
+// Few statements are expressions alone, so the kind is asked before what is known of the place.
+fn is_expression(kind: &NodeKind) -> bool
+    ensures { result ≡ is_expression kind.now }
+{
+    matches!(kind, NodeKind::ExpressionStatement)
+}
+
+fn is_silent_there(names: &Statements, node: &Node, ctx: &MinifierTraverseCtx) -> bool
+    ensures { result ≡ is_silent_statement (facts_of names.now ctx.now) (where_of ctx.now.place) node.now.kind node.now.below }
+{
+    if !is_expression(node.kind()) {
+        return false;
+    }
+    is_silent_statement(&names.facts(ctx), Where::of(ctx), node)
+}
+
 // ---- either
 
 fn becomes_empty(names: &Statements, node: &Node, ctx: &MinifierTraverseCtx) -> bool
     ensures { result ≡ becomes_empty (facts_of names.now ctx.now) ctx.now.place node.now.kind node.now.below }
 {
-    is_silent_statement(&names.facts(ctx), Where::of(ctx), node) || is_idle_body(node, ctx)
+    is_silent_there(names, node, ctx) || is_idle_body(node, ctx)
 }
 
 /// A silent expression statement becomes empty, wherever it stands, and so does a statement that does nothing and declares no name around

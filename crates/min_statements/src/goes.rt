@@ -164,7 +164,7 @@ fn list_has_dead(facts: &Facts, at: Where, how: VariableKind, list: &Node) -> bo
     }
 }
 
-fn declaration_has_dead(
+pub(crate) fn declaration_has_dead(
     facts: &Facts,
     at: Where,
     how: VariableKind,
@@ -179,7 +179,7 @@ fn declaration_has_dead(
     }
 }
 
-fn item_has_dead(facts: &Facts, at: Where, node: &Node) -> bool
+pub(crate) fn item_has_dead(facts: &Facts, at: Where, node: &Node) -> bool
     ensures { result ≡ rules.item_has_dead facts.now at node.now.kind node.now.below }
 {
     match node.kind() {
@@ -193,7 +193,7 @@ fn item_has_dead(facts: &Facts, at: Where, node: &Node) -> bool
     }
 }
 
-fn child_has_dead(facts: &Facts, at: Where, child: &Option<Node>) -> bool
+pub(crate) fn child_has_dead(facts: &Facts, at: Where, child: &Option<Node>) -> bool
     ensures { result ≡ rules.has_dead facts.now at (row (child.now ∷ [])) }
 {
     match child {

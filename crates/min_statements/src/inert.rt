@@ -141,8 +141,8 @@ pub(crate) fn has_inert(children: &[Option<Node>], alloc: Global) -> bool
     false
 }
 
-/// Tells the context of all that never runs or does nothing.
-pub(crate) fn drop_inert(items: &[Option<Node>], ctx: &mut MinifierTraverseCtx)
+// Tells the context of all that never runs or does nothing.
+fn drop_inert(items: &[Option<Node>], ctx: &mut MinifierTraverseCtx)
     requires asked { ctx.old.requested ≡ true }
     ensures left { Leaves ctx.old (λ r. inert_shed (ids r) false (row items.now)) (inert_shed evals false (row items.now)) ctx.new }
 {
@@ -198,11 +198,23 @@ fn empty_each(alloc: Global, items: &mut [Option<Node>])
     }
 }
 
-/// An empty statement comes in the place of each that never runs or does nothing.
-pub(crate) fn empty_inert(alloc: Global, node: &mut Node)
+// An empty statement comes in the place of each that never runs or does nothing.
+fn empty_inert(alloc: Global, node: &mut Node)
     ensures { node.new ≡ record node.old { below = emptied_behind false node.old.below } }
 {
     let mut items = node.replace_children(Vec::new(alloc));
     empty_each(alloc, items.as_mut_slice());
     node.replace_children(items);
+}
+
+/// The same, where there is any; the context is told before.
+pub(crate) fn clear_inert(node: &mut Node, ctx: &mut MinifierTraverseCtx)
+    requires asked { ctx.old.requested ≡ true }
+    ensures left { Leaves ctx.old (λ r. inert_shed (ids r) false node.old.below) (inert_shed evals false node.old.below) ctx.new }
+    ensures emptied { node.new ≡ record node.old { below = emptied_behind false node.old.below } }
+{
+    if has_inert(node.children(), ctx.alloc()) {
+        drop_inert(node.children(), ctx);
+        empty_inert(ctx.alloc(), node);
+    }
 }

@@ -11,8 +11,10 @@ ghost use Rattle.min_statements.specs.Shed.{declarators_shed, declaration_shed, 
 ghost use Rattle.min_statements.specs.Walker.{facts_of};
 
 use crate::facts::{Facts, Where};
-use crate::goes::{declarator_goes, has_dead, item_goes};
-use crate::inert::{drop_inert, empty_inert, has_inert};
+use crate::goes::{
+    child_has_dead, declaration_has_dead, declarator_goes, has_dead, item_goes, item_has_dead,
+};
+use crate::inert::{clear_inert, has_inert};
 use crate::statements::Statements;
 use js_syntax::{NodeKind, VariableKind};
 use js_tree::Node;
@@ -33,11 +35,12 @@ fn is_dead_declarator(
     }
 }
 
+// What goes has something dead, which few items have.
 fn is_dead_item(facts: &Facts, at: Where, item: &Option<Node>) -> bool
     ensures { result ≡ is_dead_item facts.now at item.now }
 {
     match item {
-        Some(node) => item_goes(facts, at, node),
+        Some(node) => item_has_dead(facts, at, node) && item_goes(facts, at, node),
         None => false,
     }
 }
@@ -117,7 +120,7 @@ fn drop_of_item(names: &Statements, at: Where, node: &Node, ctx: &mut MinifierTr
     }
 }
 
-fn drop_item(names: &Statements, at: Where, item: &Option<Node>, ctx: &mut MinifierTraverseCtx)
+fn drop_dead(names: &Statements, at: Where, item: &Option<Node>, ctx: &mut MinifierTraverseCtx)
     requires asked { ctx.old.requested ≡ true }
     ensures left { Leaves ctx.old (λ r. shed (ids r) (facts_of names.now ctx.old) at (row (item.now ∷ []))) (shed evals (facts_of names.now ctx.old) at (row (item.now ∷ []))) ctx.new }
 {
@@ -127,6 +130,16 @@ fn drop_item(names: &Statements, at: Where, item: &Option<Node>, ctx: &mut Minif
         } else {
             drop_of_item(names, at, node, ctx);
         }
+    }
+}
+
+// Most items have nothing dead, which is asked first.
+fn drop_item(names: &Statements, at: Where, item: &Option<Node>, ctx: &mut MinifierTraverseCtx)
+    requires asked { ctx.old.requested ≡ true }
+    ensures left { Leaves ctx.old (λ r. shed (ids r) (facts_of names.now ctx.old) at (row (item.now ∷ []))) (shed evals (facts_of names.now ctx.old) at (row (item.now ∷ []))) ctx.new }
+{
+    if child_has_dead(&names.facts(ctx), at, item) {
+        drop_dead(names, at, item, ctx);
     }
 }
 
@@ -210,7 +223,9 @@ fn trim_item(alloc: Global, facts: &Facts, at: Where, node: &mut Node)
 {
     if let NodeKind::VariableDeclaration(how) = node.kind() {
         let how = *how;
-        trim_declaration(alloc, facts, at, how, node);
+        if declaration_has_dead(facts, at, how, node.children()) {
+            trim_declaration(alloc, facts, at, how, node);
+        }
     }
 }
 
@@ -259,8 +274,7 @@ pub fn trim_statements(names: &Statements, node: &mut Node, ctx: &mut MinifierTr
         return false;
     }
     ctx.notice_change();
-    drop_inert(node.children(), ctx);
-    empty_inert(ctx.alloc(), node);
+    clear_inert(node, ctx);
     drop_items(names, at, node.children(), ctx);
     trim(ctx.alloc(), &names.facts(ctx), at, node);
     true
