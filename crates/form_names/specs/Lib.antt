@@ -1,3 +1,4 @@
 pub mod Names
 pub mod Sorts
 pub mod Halves
+pub mod Words
