@@ -1,15 +1,14 @@
 -- The table stays exact when an `if` loses an alternate that is empty.
-use Rattle.std.proofs.Common.{◌≡◌, ℕ, suc, Bool, true, false, List, refl, sym, ap, subst, inl, true≢false, arith}
+use Rattle.std.proofs.Common.{◌≡◌, ℕ, Bool, true, false, refl, sym, subst, inl, true≢false, arith}
 use Rattle.std.specs.Prelude.{Some}
 use Rattle.js_syntax.specs.declared.node_kind.NodeKind.{NodeKind as Kind}
 use Rattle.js_syntax.specs.declared.node_kind.NodeKind.TheVariants.{IfStatement as if_statement, EmptyStatement as empty_statement}
 use Rattle.js_syntax.specs.Node.{Forest, Tree, Note, nothing, node, absent}
 use Rattle.scope_rules.specs.Table.{Scoping}
-use Rattle.scope_laws.specs.Exact.{Among}
 use Rattle.scope_laws.specs.Place.{Around, plug}
-use Rattle.scope_counts.specs.Counts.{Decl, Aims, Weight, weights_inside, hoisted, bound_to, refs}
+use Rattle.scope_counts.specs.Counts.{Aims, Weight, weights_inside, hoisted, bound_to, refs}
 use Rattle.scope_counts.specs.Edits.{Rooted, program_with, place_in, SameScopes}
-use Rattle.scope_counts.specs.Losing.{Loses, Thins, left, referring, declaring}
+use Rattle.scope_counts.specs.Losing.{Loses, Thins, left}
 use Rattle.scope_counts.specs.Scopes.{unmarked}
 use Rattle.scope_counts.proofs.Losing.{refs_related}
 use Rattle.scope_counts.proofs.Stays.{exact_stays}

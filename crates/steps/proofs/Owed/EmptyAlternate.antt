@@ -1,9 +1,9 @@
 -- What an `if` owes that loses an empty alternate.
-use Rattle.std.proofs.Common.{inl, ◌≡◌, Bool, true, false, Some, arith, refl, sym, subst}
-use Rattle.js_syntax.specs.Class.{Class, root}
+use Rattle.std.proofs.Common.{inl, Some, arith, refl}
+use Rattle.js_syntax.specs.Class.{Class}
 use Rattle.js_syntax.specs.declared.node_kind.NodeKind.{NodeKind as Kind}
 use Rattle.js_syntax.specs.declared.node_kind.NodeKind.TheVariants.{IfStatement as if_statement, EmptyStatement as empty_statement}
-use Rattle.js_syntax.specs.Node.{Note, Forest, Tree, nothing, node, absent, forest_of}
+use Rattle.js_syntax.specs.Node.{Note, Forest, Tree, nothing, node, absent}
 use Rattle.js_syntax.specs.Table.{an_if_statement}
 use Rattle.js_meaning.specs.Host.{Enter}
 use Rattle.js_meaning.specs.Node.{Ask, run, need, may}
@@ -15,10 +15,9 @@ use Rattle.js_meaning_near.specs.Names.{Names}
 use Rattle.js_meaning_near.specs.Near.{meaning, ComesTo}
 use Rattle.js_meaning_near.specs.Purpose.{Purpose}
 use Rattle.js_meaning_near.specs.Quiet.{Leads, goes_on_as}
-use Rattle.json_shape.specs.Shape.{Fits}
 use Rattle.known_tests.proofs.Taken.{unknown_leads}
 use Rattle.scope_laws.specs.Place.{Around, plug}
-use Rattle.steps.specs.Allowed.EmptyAlternate.{one_branch, IsLast, EmptyAlternate, alternate_goes}
+use Rattle.steps.specs.Allowed.EmptyAlternate.{one_branch, EmptyAlternate, alternate_goes}
 use Rattle.steps.specs.Allowed.KnownIf.{an_if}
 use Rattle.steps.specs.Allowed.Wanted.{wanted_at}
 use Rattle.steps.specs.KeepForm.Part.{without_alternate}

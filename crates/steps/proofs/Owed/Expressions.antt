@@ -1,89 +1,27 @@
 -- In trees that fit the table of node types expressions declare no name outside of functions and classes.
 use Rattle.std.proofs.Common.{◌≡◌, ℕ, suc, [], ◌∷◌, Bool, true, false, not, ◌&&◌, ◌||◌, refl, sym, true≢false}
-use Rattle.js_syntax.specs.Class.{Class, root, method_value, private_key, expression, expression_or_private, callee, argument, object_item, chain_part, template, quasi_item, simple_target, target, target_value, target_element, target_item}
+use Rattle.js_syntax.specs.Class.{Class, root, expression}
 use Rattle.js_syntax.specs.declared.node_kind.NodeKind.{NodeKind as Kind}
 use Rattle.js_syntax.specs.declared.node_kind.NodeKind.TheVariants.{Function as function, Class as class, BlockStatement as block_statement, ForOfStatement as for_of_statement, ForInStatement as for_in_statement, ForStatement as for_statement, CatchClause as catch_clause, VariableDeclaration as variable_declaration, BindingName as binding_name}
 use Rattle.js_syntax.specs.declared.kind.FunctionKind.TheVariants as function_kind
 use Rattle.js_syntax.specs.declared.kind.ClassKind.TheVariants as class_kind
 use Rattle.js_syntax.specs.Node.{Forest, nothing, node, absent}
-use Rattle.js_syntax.specs.Table.{Row, a_program, a_function_expression, an_arrow_function, a_class_expression, a_reference_name, a_target_name, a_private_name, a_literal, a_reg_exp, a_this_expression, a_super, an_array_expression, an_object_expression, a_property, a_method_property, a_sequence_expression, a_unary_expression, an_update_expression, a_binary_expression, an_in_expression, a_logical_expression, an_assignment_expression, a_compound_assignment, a_conditional_expression, a_call_expression, a_new_expression, a_member_expression, a_chain_expression, a_parenthesized_expression, a_parenthesized_target, a_template_literal, a_template_element, a_tagged_template_expression, a_spread_element, a_target_rest, a_target_object, a_target_array, a_target_property, a_target_default, a_new_target, an_import_meta, an_import_expression, fields_of}
+use Rattle.js_syntax.specs.Table.{Row, a_program, fields_of}
 use Rattle.js_syntax.proofs.Truth.{first_of_both, second_of_both, both}
 use Rattle.form_rules.specs.declared.sought.Sought.{Sought}
 use Rattle.form_rules.specs.declared.sought.Sought.TheVariants.{CatchScope as catch_scope}
-use Rattle.json_shape.specs.Shape.{Values, kind_in, first_of, one, these, Fits}
+use Rattle.json_shape.specs.Shape.{Values, kind_in, first_of, one, Plan, these, Stand, Fits}
 use Rattle.json_shape.proofs.Choice.{is_list_kind}
 use Rattle.steps.specs.Allowed.Branches.{declares_none, declares_no_name}
 use Rattle.steps.proofs.Fit.CoreCalm.{rows_of}
 use Rattle.steps.proofs.Fit.CoreRows.{takes_such, if_so, fields_pass}
+use Rattle.steps.specs.Fit.Enclosed.{is_enclosed}
 use Rattle.steps.proofs.Fit.Enclosing.{enclosed}
-use Rattle.steps.proofs.Fit.Shut.{shut, takes_marked, shut_as_planned}
+use Rattle.steps.proofs.Fit.Shut.{shut, takes_marked, Passing, shut_as_planned}
 use Rattle.steps.specs.Owed.Part.{DeclaresNothing}
 use Rattle.steps.proofs.Owed.Outward.{declares_nothing}
 use Rattle.steps.proofs.Owed.PartForm.{keeps_outside, stays_outside}
-
--- ---- expressions, and what they are made of down to functions and classes
-
-abbrev of_expression : Class → Bool
-of_expression method_value = true
-of_expression private_key = true
-of_expression expression = true
-of_expression expression_or_private = true
-of_expression callee = true
-of_expression argument = true
-of_expression object_item = true
-of_expression chain_part = true
-of_expression template = true
-of_expression quasi_item = true
-of_expression simple_target = true
-of_expression target = true
-of_expression target_value = true
-of_expression target_element = true
-of_expression target_item = true
-of_expression c = false
-
-abbrev in_expression : Row → Bool
-in_expression a_function_expression = true
-in_expression an_arrow_function = true
-in_expression a_class_expression = true
-in_expression a_reference_name = true
-in_expression a_target_name = true
-in_expression a_private_name = true
-in_expression a_literal = true
-in_expression a_reg_exp = true
-in_expression a_this_expression = true
-in_expression a_super = true
-in_expression an_array_expression = true
-in_expression an_object_expression = true
-in_expression a_property = true
-in_expression a_method_property = true
-in_expression a_sequence_expression = true
-in_expression a_unary_expression = true
-in_expression an_update_expression = true
-in_expression a_binary_expression = true
-in_expression an_in_expression = true
-in_expression a_logical_expression = true
-in_expression an_assignment_expression = true
-in_expression a_compound_assignment = true
-in_expression a_conditional_expression = true
-in_expression a_call_expression = true
-in_expression a_new_expression = true
-in_expression a_member_expression = true
-in_expression a_chain_expression = true
-in_expression a_parenthesized_expression = true
-in_expression a_parenthesized_target = true
-in_expression a_template_literal = true
-in_expression a_template_element = true
-in_expression a_tagged_template_expression = true
-in_expression a_spread_element = true
-in_expression a_target_rest = true
-in_expression a_target_object = true
-in_expression a_target_array = true
-in_expression a_target_property = true
-in_expression a_target_default = true
-in_expression a_new_target = true
-in_expression an_import_meta = true
-in_expression an_import_expression = true
-in_expression r = false
+use Rattle.steps.proofs.VarNames.Sets.{of_expression, in_expression}
 
 -- A block and a handler count too, since they have scopes of their own.
 abbrev declares_itself : Kind → Bool
@@ -134,7 +72,7 @@ lists kind h = refl
 fields : (r : Row) (vs : Values (fields_of r)) → in_expression r ≡ true → keeps_it r (kind_in r vs) ≡ true
 fields r vs h = if_so (in_expression r) (keeps_it r (kind_in r vs)) (keep r vs) h
 
-shut_declares : (at : ℕ) (t : Forest) → shut declares_itself lets (λ i. true) at t ≡ true → declares_none t ≡ true
+pub shut_declares : (at : ℕ) (t : Forest) → shut declares_itself lets (λ i. true) at t ≡ true → declares_none t ≡ true
 shut_declares at nothing h = refl
 shut_declares at (absent rest) h = shut_declares (suc at) rest h
 shut_declares at (node k n below rest) h =
@@ -187,3 +125,8 @@ expression_stays_outside s t fits = shut_outside s 0 t (expression_shut t fits)
 
 pub expression_declares_nothing : (t : Forest) → Fits expression t → DeclaresNothing t
 expression_declares_nothing t fits = declares_nothing t (expression_declares_none t fits) (enclosed t (these (one expression ∷ [])) refl fits)
+
+-- nor do nodes that stand where expressions do, or what they are made of
+pub expressions_declare_nothing : (t : Forest) (plan : Plan) → Passing of_expression (λ i. true) 0 plan → Stand plan t → is_enclosed t ≡ true → DeclaresNothing t
+expressions_declare_nothing t plan h st e =
+    declares_nothing t (shut_declares 0 t (shut_as_planned declares_itself lets of_expression in_expression lists refl (rows_of of_expression in_expression closed others) fields t (λ i. true) 0 plan h st)) e

@@ -141,7 +141,7 @@ named_first vars names aims (node (binding_name x) n (node l m d c) rest) unname
 named_first vars names aims (node (binding_name x) n (absent c) rest) unnamed h b e = absurd (true≢false (sym b))
 named_first vars names aims (node k n below rest) unnamed h b e = absurd cc
 
-not_first : (i : ℕ) → 1 ≤ i → (i == 0) ≡ false
+pub not_first : (i : ℕ) → 1 ≤ i → (i == 0) ≡ false
 not_first i h = false_from_ne_true (nat_eq i 0) (λ e. Prim.omega (arith, h, eqb-true i 0 e))
 
 function_inside : (a : Aims) (how : FunctionKind) (z o : Bool) → z ≡ false
@@ -171,9 +171,9 @@ class_declares a how below unnamed e =
 -- ---- where a name declares what `let` does
 
 -- neither a name nor what declares as `let` does declares in the layer
-record Unaimed (a : Aims) : Type 0 where
-  block : a.block ≡ false
-  naming : a.naming ≡ false
+pub record Unaimed (a : Aims) : Type 0 where
+  pub block : a.block ≡ false
+  pub naming : a.naming ≡ false
 
 module _ (a : Aims) (h : Unaimed a) where
   unaimed_part : (z : Bool) → Unaimed (if z then aims_of_block no_part a else a)
@@ -224,7 +224,7 @@ module _ (a : Aims) (h : Unaimed a) where
   let_declares (class class_kind.Expression) n below l e inner = class_declares a class_kind.Expression below refl e
   let_declares k n below l e inner = inner l (aims_inside no_part a k below) (unaimed_inside k below l)
 
-lets_declare : (t : Forest) → lets_only t ≡ true → is_enclosed t ≡ true → (aims : ℕ → Aims) → ((i : ℕ) → Unaimed (aims i)) → (at : ℕ) → hoisted aims at t ≡ []
+pub lets_declare : (t : Forest) → lets_only t ≡ true → is_enclosed t ≡ true → (aims : ℕ → Aims) → ((i : ℕ) → Unaimed (aims i)) → (at : ℕ) → hoisted aims at t ≡ []
 lets_declare nothing l e aims h at = refl
 lets_declare (absent rest) l e aims h at = lets_declare rest l e aims h (suc at)
 lets_declare (node k n below rest) l e aims h at =
@@ -242,7 +242,7 @@ parameter_unaimed a k below h = never h
 
 -- ---- in a block, which has a layer of its own
 
-abbrev Apart : Aims → Type 0
+abbrev pub Apart : Aims → Type 0
 Apart a = a.block ≡ false
 
 module _ (a : Aims) (h : Apart a) where
@@ -270,7 +270,7 @@ module _ (a : Aims) (h : Apart a) where
   apart_variables variable.Let = h
   apart_variables variable.Const = h
 
-  apart_inside : (k : Kind) (below : Forest) (i : ℕ) → Apart (aims_inside no_part a k below i)
+  pub apart_inside : (k : Kind) (below : Forest) (i : ℕ) → Apart (aims_inside no_part a k below i)
   apart_inside (program source) below i = refl
   apart_inside (function how pure) below i = apart_function how (i == 0) (i == 1)
   apart_inside (class how) below i = apart_class how (i == 0)
@@ -310,7 +310,7 @@ module _ (a : Aims) (h : Apart a) where
   first_declares true k n below u l e lets inner = let_declares a (u refl) k n below l e lets
   first_declares false k n below u l e lets inner = inside_declares k n below l e lets inner
 
-insides_declare : (p : Bool) (t : Forest) → inside_from p t ≡ true → is_enclosed t ≡ true → (aims : ℕ → Aims) → ((i : ℕ) → Apart (aims i)) → (at : ℕ) → (p ≡ true → Unaimed (aims at)) → hoisted aims at t ≡ []
+pub insides_declare : (p : Bool) (t : Forest) → inside_from p t ≡ true → is_enclosed t ≡ true → (aims : ℕ → Aims) → ((i : ℕ) → Apart (aims i)) → (at : ℕ) → (p ≡ true → Unaimed (aims at)) → hoisted aims at t ≡ []
 insides_declare p nothing l e aims h at u = refl
 insides_declare p (absent rest) l e aims h at u = insides_declare false rest l e aims h (suc at) never
 insides_declare p (node k n below rest) l e aims h at u =
@@ -351,7 +351,7 @@ one_declares : (a : Aims) (p : Bool) (k : Kind) (n : Note) (below : Forest) → 
 one_declares a true k n below u h e lets inside inner = let_declares a (u refl) k n below h e lets
 one_declares a false k n below u h e lets inside inner = node_declares a k n below h e inside inner
 
-row_declares : (p : Bool) (t : Forest) → none_from p t ≡ true → is_enclosed t ≡ true → (aims : ℕ → Aims) (at : ℕ) → (p ≡ true → Unaimed (aims at)) → hoisted aims at t ≡ []
+pub row_declares : (p : Bool) (t : Forest) → none_from p t ≡ true → is_enclosed t ≡ true → (aims : ℕ → Aims) (at : ℕ) → (p ≡ true → Unaimed (aims at)) → hoisted aims at t ≡ []
 row_declares p nothing h e aims at u = refl
 row_declares p (absent rest) h e aims at u = row_declares false rest h e aims (suc at) never
 row_declares p (node k n below rest) h e aims at u =
