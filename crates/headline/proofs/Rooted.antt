@@ -22,7 +22,8 @@ use Rattle.steps.specs.Steps.{binds_import}
 use Rattle.steps.proofs.Fit.Modules.{fits_program, ends}
 use Rattle.steps.specs.Fit.Sensible.{is_program}
 use Rattle.steps.specs.KeepForm.Part.{gives_way, is_asked_for, StandsFor}
-use Rattle.steps.proofs.KeepForm.Asked.{is_of_catch, no_name_here, no_catch_below, sought_alike}
+use Rattle.steps.specs.VarNames.Texts.{is_of_catch}
+use Rattle.steps.proofs.KeepForm.Asked.{no_name_here, no_catch_below, sought_alike}
 use Rattle.steps.proofs.KeepForm.ShedNames.{none_declared}
 use Rattle.steps.specs.Allowed.Branches.{declares_none}
 use Rattle.steps.specs.Allowed.DeadIf.{nothing_is_run}

@@ -8,3 +8,4 @@ pub mod Allowed
 pub mod Fit
 pub mod Owed
 pub mod Marked
+pub mod VarNames

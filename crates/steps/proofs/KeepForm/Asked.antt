@@ -1,5 +1,5 @@
 -- What the rules of form see of a node that none of them asks for.
-use Rattle.std.proofs.Common.{◌≡◌, ℕ, List, [], Bool, true, false, not, ◌||◌, refl, sym, ap, ◌∙◌}
+use Rattle.std.proofs.Common.{◌≡◌, ℕ, List, [], true, false, not, ◌||◌, refl, sym, ap, ◌∙◌}
 use Rattle.js_syntax.specs.declared.node_kind.NodeKind.{NodeKind as Kind}
 use Rattle.js_syntax.specs.declared.node_kind.NodeKind.TheVariants.{Program as program, Directive as directive, Statements as statements, FunctionBody as function_body, BlockStatement as block_statement, Cases as cases, SwitchCase as switch_case, SwitchStatement as switch_statement, LabeledStatement as labeled_statement, TryStatement as try_statement, CatchClause as catch_clause, IfStatement as if_statement, WithStatement as with_statement, WhileStatement as while_statement, DoWhileStatement as do_while_statement, ForStatement as for_statement, ForInStatement as for_in_statement, ForOfStatement as for_of_statement, Class as class, ClassBody as class_body, Members as members, MethodDefinition as method_definition, PropertyDefinition as property_definition, BindingName as binding_name, ReferenceName as reference_name, PrivateName as private_name, Super as super, ParenthesizedExpression as parenthesized_expression, ConditionalExpression as conditional_expression, UnaryExpression as unary_expression, BinaryExpression as binary_expression, LogicalExpression as logical_expression, VariableDeclaration as variable_declaration, Declarators as declarators, VariableDeclarator as variable_declarator, Parameters as parameters, Properties as properties, Elements as elements, Specifiers as specifiers, BindingRest as binding_rest, TargetRest as target_rest, BindingObject as binding_object, BindingArray as binding_array, BindingProperty as binding_property, BindingDefault as binding_default, ImportDeclaration as import_declaration, ImportSpecifier as import_specifier, ImportDefaultSpecifier as import_default_specifier, ImportNamespaceSpecifier as import_namespace_specifier, ExportNamedDeclaration as export_named_declaration, ExportSpecifier as export_specifier, ForeignSpecifier as foreign_specifier, ExportDefaultDeclaration as export_default_declaration, ExportAllDeclaration as export_all_declaration, Function as function}
 use Rattle.js_syntax.specs.Node.{Note, Forest, node, alone}
@@ -13,6 +13,7 @@ use Rattle.form_rules.specs.declared.sought.Sought.TheVariants.{Nothing as none_
 use Rattle.form_rules.specs.Context.{has_use_strict, is_strict_list, is_strict_function, private_key_of, privates_of, is_loop}
 use Rattle.form_rules.specs.Scope.{bound_below, variables_below, scope_below, function_below, sought_below, declared_here}
 use Rattle.form_rules.specs.Rules.{are_names, have_plain_parameters, private_of, first_is_super, is_bare_name, is_name_first, is_rest, is_default, is_constructor, named_by, locals_named, locals_by, exported_by}
+use Rattle.steps.specs.VarNames.Texts.{is_of_catch}
 use Rattle.steps.specs.KeepForm.Part.{gives_way, is_statement, may_be_idle, is_asked_for, asks_further, is_tested, Replaces, by_part, by_parts, by_test, without_alternate}
 use Rattle.steps.specs.KeepForm.Sheds.{Row, parts, items, of_item, of_declarators, of_head, of_import, of_specifiers, other, asked_below, may_empty, Around, may_give_way, sought_inside}
 use Rattle.js_syntax.proofs.Truth.{not_true, first_of_both, second_of_both}
@@ -168,10 +169,6 @@ exports_no_local (export_named_declaration source) p a h = absurd cc
 exports_no_local k p a h = refl
 
 -- ---- what is sought below such a node
-
-abbrev pub is_of_catch : Sought → Bool
-is_of_catch (catch_scope f) = true
-is_of_catch s = false
 
 binds_nothing : (f : Sort) (k : Kind) → is_asked_for k ≡ false → bound_below f k ≡ none_sought
 binds_nothing f declarators h = absurd cc

@@ -12,8 +12,9 @@ use Rattle.js_syntax.specs.declared.scalar.SourceType.{SourceType}
 use Rattle.form_rules.specs.Scope.{Declared, declared, declared_here, sought_below}
 use Rattle.form_rules.specs.Rules.{Exported, is_exported, is_declared}
 use Rattle.steps.specs.KeepForm.Sheds.{Around, exports_none, sought_inside, exported_below, Sheds, ends, keeps_absent, keeps, leaves, empties, empties_idle, becomes}
+use Rattle.steps.specs.VarNames.Texts.{is_of_catch}
 use Rattle.steps.specs.KeepForm.Part.{StandsFor, RebuildsTo, Replaces, by_part, by_parts, by_test, without_alternate}
-use Rattle.steps.proofs.KeepForm.Asked.{old_unasked, no_name_here, is_of_catch, sought_alike, no_catch_below, no_catch_inside, not_asked}
+use Rattle.steps.proofs.KeepForm.Asked.{old_unasked, no_name_here, sought_alike, no_catch_below, no_catch_inside, not_asked}
 use Rattle.steps.proofs.KeepForm.Fewer.{Fewer, none, both, more, fewest, behind_all, beside, SameName}
 use Rattle.js_syntax.proofs.Truth.{second_of_either}
 

@@ -1,4 +1,4 @@
-use Rattle.kept_laws.proofs.Again.{declared_again}
+use Rattle.steps.proofs.VarNames.Again.{declared_again}
 use Rattle.kept_laws.proofs.laws.a_declaration_of_them_declares_the_same.Goals as goal
 
 pub returns : goal.returns

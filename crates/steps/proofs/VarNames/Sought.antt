@@ -18,12 +18,12 @@ use Rattle.steps.proofs.Fit.CoreCalm.{rows_of}
 use Rattle.steps.proofs.Fit.CoreRows.{if_so}
 use Rattle.steps.proofs.Fit.Held.{place_held, plan_held, first_held, behind_held}
 use Rattle.kept_names.specs.Kept.{kept_of, kept}
-use Rattle.kept_laws.specs.Texts.{texts, names}
-use Rattle.kept_laws.proofs.Sets.{in_free, of_statement, in_statement}
-use Rattle.kept_laws.proofs.Free.{nothing_kept}
-use Rattle.kept_laws.proofs.Patterns.{texts_joined}
-use Rattle.kept_laws.proofs.Statements.{declaration_law, is_list, closed, others}
-use Rattle.kept_laws.proofs.Bound.{names_joined, none_declared, is_none, when_none, bound_as_planned}
+use Rattle.steps.specs.VarNames.Texts.{texts, names}
+use Rattle.steps.proofs.VarNames.Sets.{in_free, of_statement, in_statement}
+use Rattle.steps.proofs.VarNames.Free.{nothing_kept}
+use Rattle.steps.proofs.VarNames.Patterns.{texts_joined}
+use Rattle.steps.proofs.VarNames.Statements.{declaration_law, is_list, closed, others}
+use Rattle.steps.proofs.VarNames.Bound.{names_joined, none_declared, is_none, when_none, bound_as_planned}
 
 abbrev Same : Kind → Forest → Type 0
 Same k a = (p : ℕ) → names (declared (variables_below k) p a) ≡ texts (kept_of k a (kept a))

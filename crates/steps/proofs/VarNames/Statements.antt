@@ -17,26 +17,26 @@ use Rattle.kept_names.specs.Kept.{declared_of, declared, kept_of, kept}
 use Rattle.steps.proofs.Fit.CoreCalm.{rows_of}
 use Rattle.steps.proofs.Fit.CoreRows.{takes_such}
 use Rattle.steps.proofs.Fit.Held.{place_held, plan_held, first_held, behind_held}
-use Rattle.kept_laws.specs.Texts.{texts}
-use Rattle.kept_laws.proofs.Sets.{in_free, of_statement, in_statement}
-use Rattle.kept_laws.proofs.Free.{node_is_free, row_is_free, nothing_kept, expressions_declare_none}
-use Rattle.kept_laws.proofs.Patterns.{texts_joined, stands_behind, first_alone, pattern_row}
+use Rattle.steps.specs.VarNames.Texts.{texts}
+use Rattle.steps.proofs.VarNames.Sets.{in_free, of_statement, in_statement}
+use Rattle.steps.proofs.VarNames.Free.{node_is_free, row_is_free, nothing_kept, expressions_declare_none}
+use Rattle.steps.proofs.VarNames.Patterns.{texts_joined, stands_behind, first_alone, pattern_row}
 
 -- ---- declarators
 
-abbrev of_declarator : Class → Bool
+abbrev pub of_declarator : Class → Bool
 of_declarator declarator_item = true
 of_declarator c = false
 
-abbrev in_declarator : Row → Bool
+abbrev pub in_declarator : Row → Bool
 in_declarator a_variable_declarator = true
 in_declarator r = false
 
-declarator_closed : (c : Class) → (not (of_declarator c) || takes_such in_declarator c) ≡ true
+pub declarator_closed : (c : Class) → (not (of_declarator c) || takes_such in_declarator c) ≡ true
 declarator_closed root = refl
 declarator_closed c = refl
 
-declarator_others : (r : Row) → (not (in_declarator (first_of r)) || in_declarator r) ≡ true
+pub declarator_others : (r : Row) → (not (in_declarator (first_of r)) || in_declarator r) ≡ true
 declarator_others a_program = refl
 declarator_others r = refl
 

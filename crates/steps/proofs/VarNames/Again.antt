@@ -15,8 +15,8 @@ use Rattle.json_shape.specs.Shape.{Values, kind_in, one, places, these, Stand, F
 use Rattle.json_shape.proofs.Choice.{is_list_kind}
 use Rattle.steps.proofs.Fit.Everywhere.{IsShown, everywhere, any_tree}
 use Rattle.kept_names.specs.Kept.{is_var, holds_statements, declared_of, declared, kept_of, kept, declarator_of, declaration_of}
-use Rattle.kept_laws.specs.Texts.{text_of, texts}
-use Rattle.kept_laws.proofs.Statements.{statement_law}
+use Rattle.steps.specs.VarNames.Texts.{text_of, texts}
+use Rattle.steps.proofs.VarNames.Statements.{statement_law}
 
 -- ---- nothing lies below a name
 
@@ -57,14 +57,14 @@ shown =
 
 -- ---- and so not below those that are kept
 
-abbrev is_name_alone : Kind → Forest → Bool
+abbrev pub is_name_alone : Kind → Forest → Bool
 is_name_alone (binding_name x) nothing = true
 is_name_alone k b = false
 
-abbrev is_bare_name : Tree → Bool
+abbrev pub is_bare_name : Tree → Bool
 is_bare_name t = is_name_alone t.kind t.below
 
-abbrev are_names : List Tree → Bool
+abbrev pub are_names : List Tree → Bool
 are_names [] = true
 are_names (t ∷ ts) = is_bare_name t && are_names ts
 
@@ -128,6 +128,9 @@ kept_names (node k n a r) h =
     (kept_here (is_var k) (holds_statements k) (declared a) (kept a) (declared_names a below) (kept_names a below))
     (kept_names r (second_of_both (bare a) (bare r) inner))
 
+pub kept_are_names : (t : Forest) → Fits statement t → are_names (kept t) ≡ true
+kept_are_names t fits = kept_names t (everywhere any_tree is_bare bare shown t (these (one statement ∷ [])) refl refl fits)
+
 -- ---- a declaration of names
 
 one_name : (t : Tree) → is_bare_name t ≡ true → (scope.names_of t.kind (bound_names t.below) ++ [] ≡ text_of t.kind) × (vars_of t.kind t.below (var_names t.below) ++ [] ≡ [])
@@ -160,5 +163,5 @@ declares_them (t ∷ ts) h =
 
 pub declared_again : (t : Forest) → Fits statement t → var_names (row (declaration_of (map declarator_of (kept t)) ∷ [])) ≡ var_names t
 declared_again t fits =
-    declares_them (kept t) (kept_names t (everywhere any_tree is_bare bare shown t (these (one statement ∷ [])) refl refl fits))
+    declares_them (kept t) (kept_are_names t fits)
     ∙ statement_law t fits

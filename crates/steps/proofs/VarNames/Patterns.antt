@@ -21,9 +21,9 @@ use Rattle.steps.proofs.Fit.CoreCalm.{rows_of}
 use Rattle.steps.proofs.Fit.CoreRows.{takes_such}
 use Rattle.steps.proofs.Fit.Held.{place_held, plan_held, first_held, behind_held}
 use Rattle.steps.proofs.Fit.Shut.{takes_set}
-use Rattle.kept_laws.specs.Texts.{text_of, texts}
-use Rattle.kept_laws.proofs.Sets.{of_expression, of_pattern, in_pattern}
-use Rattle.kept_laws.proofs.Free.{expressions_declare_none}
+use Rattle.steps.specs.VarNames.Texts.{text_of, texts}
+use Rattle.steps.proofs.VarNames.Sets.{of_expression, of_pattern, in_pattern}
+use Rattle.steps.proofs.VarNames.Free.{expressions_declare_none}
 
 pub texts_joined : (xs ys : List Tree) → texts (xs ++ ys) ≡ texts xs ++ texts ys
 texts_joined [] ys = refl
@@ -48,7 +48,7 @@ behind_alone (node k n b r) h = ap (λ z. z ++ bound_names r) (sym h ∙ append-
 
 -- ---- places of patterns
 
-abbrev is_list : Kind → Bool
+abbrev pub is_list : Kind → Bool
 is_list properties = true
 is_list elements = true
 is_list k = false
@@ -62,15 +62,15 @@ pub record Declares (t : Forest) : Type 0 where
 abbrev Same : Kind → Note → Forest → Type 0
 Same k n a = texts (tree.names_of (record { kind = k; note = n; below = a }) (looked a)) ≡ names_of k (bound_names a)
 
-closed : (c : Class) → (not (of_pattern c) || takes_such in_pattern c) ≡ true
+pub closed : (c : Class) → (not (of_pattern c) || takes_such in_pattern c) ≡ true
 closed root = refl
 closed c = refl
 
-others : (r : Row) → (not (in_pattern (shape.first_of r)) || in_pattern r) ≡ true
+pub others : (r : Row) → (not (in_pattern (shape.first_of r)) || in_pattern r) ≡ true
 others a_program = refl
 others r = refl
 
-key_takes : (private : Bool) (x : Key) → (takes_set of_expression (key_place property_key private x) && true) ≡ true
+pub key_takes : (private : Bool) (x : Key) → (takes_set of_expression (key_place property_key private x) && true) ≡ true
 key_takes private key_below = refl
 key_takes private (key_name s) = refl
 key_takes private (key_text s) = refl

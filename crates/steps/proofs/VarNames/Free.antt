@@ -1,22 +1,23 @@
 -- What holds no `var` outside of functions and classes, and what declares no name there.
-use Rattle.std.proofs.Common.{◌≡◌, ℕ, suc, List, [], Bool, true, false, not, ◌&&◌, ◌||◌, if◌then◌else◌, refl}
+use Rattle.std.proofs.Common.{◌≡◌, ℕ, suc, List, [], Bool, true, false, not, ◌&&◌, ◌||◌, if◌then◌else◌, refl, ap, ap₂}
 use Rattle.js_syntax.specs.Class.{Class, root}
 use Rattle.js_syntax.specs.declared.node_kind.NodeKind.{NodeKind as Kind}
 use Rattle.js_syntax.specs.declared.node_kind.NodeKind.TheVariants.{Function as function, Class as class, BindingName as binding_name, VariableDeclaration as variable_declaration}
 use Rattle.js_syntax.specs.declared.kind.VariableKind.TheVariants as variable
 use Rattle.js_syntax.specs.Hint.{has, is_private}
-use Rattle.js_syntax.specs.Node.{Forest, nothing, node, absent, Tree}
+use Rattle.js_syntax.specs.Node.{Forest, Note, nothing, node, absent, Tree}
 use Rattle.js_syntax.specs.Table.{Row, a_program, fields_of}
 use Rattle.js_syntax.proofs.Truth.{first_of_both, second_of_both}
 use Rattle.js_meaning.specs.Scope.{names_of, bound_names, vars_of, var_names}
 use Rattle.json_shape.specs.Shape.{Values, kind_in, first_of, places, Plan, these, Stand}
 use Rattle.json_shape.proofs.Choice.{is_list_kind}
 use Rattle.kept_names.specs.Kept as kept
+use Rattle.steps.specs.VarNames.Declared.{is_code, without_vars}
 use Rattle.steps.proofs.KeepForm.Rules.{both_empty}
 use Rattle.steps.proofs.Fit.CoreCalm.{rows_of}
 use Rattle.steps.proofs.Fit.CoreRows.{takes_such, if_so, fields_pass}
 use Rattle.steps.proofs.Fit.Shut.{shut, takes_marked, Passing, row_passing, shut_as_planned}
-use Rattle.kept_laws.proofs.Sets.{of_expression, in_expression, of_free, in_free}
+use Rattle.steps.proofs.VarNames.Sets.{of_expression, in_expression, of_free, in_free}
 
 -- what lies in a function or class doesn't matter
 abbrev lets : Kind → (at : ℕ) → Bool
@@ -26,11 +27,11 @@ lets k at = true
 
 -- ---- no `var`
 
-free_closed : (c : Class) → (not (of_free c) || takes_such in_free c) ≡ true
+pub free_closed : (c : Class) → (not (of_free c) || takes_such in_free c) ≡ true
 free_closed root = refl
 free_closed c = refl
 
-free_others : (r : Row) → (not (in_free (first_of r)) || in_free r) ≡ true
+pub free_others : (r : Row) → (not (in_free (first_of r)) || in_free r) ≡ true
 free_others a_program = refl
 free_others r = refl
 
@@ -82,6 +83,40 @@ node_is_free r vs a h st =
 -- and where nodes stand that may be such alone
 pub row_is_free : (a : Forest) (plan : Plan) → Passing of_free (λ i. true) 0 plan → Stand plan a → var_names a ≡ []
 row_is_free a plan h st = no_vars 0 a (free_shut a (λ i. true) 0 plan h st)
+
+-- so nothing leaves with the `var` declarations
+same_below : (k : Kind) (a : Forest) → (shut kept.is_var lets (λ i. true) 0 a ≡ true → without_vars a ≡ a) → shut kept.is_var lets (λ i. lets k i) 0 a ≡ true → (if is_code k then a else without_vars a) ≡ a
+same_below (function how pure) a f e = refl
+same_below (class how) a f e = refl
+same_below k a f e = f e
+
+same_here : (v : Bool) (k : Kind) (n : Note) (a b r s : Forest) → not v ≡ true → b ≡ a → s ≡ r → (if v then absent s else node k n b s) ≡ node k n a r
+same_here true k n a b r s h below rest = absurd cc
+same_here false k n a b r s h below rest = ap₂ (λ x y. node k n x y) below rest
+
+same_row : (at : ℕ) (t : Forest) → shut kept.is_var lets (λ i. true) at t ≡ true → without_vars t ≡ t
+same_row at nothing h = refl
+same_row at (absent rest) h = ap absent (same_row (suc at) rest h)
+same_row at (node k n below rest) h =
+    let inner = shut kept.is_var lets (λ i. lets k i) 0 below in
+    let later = shut kept.is_var lets (λ i. true) (suc at) rest in
+    let further = second_of_both (not (kept.is_var k)) (inner && later) h in
+    same_here (kept.is_var k) k n below (if is_code k then below else without_vars below) rest (without_vars rest) (first_of_both (not (kept.is_var k)) (inner && later) h)
+    (same_below k below (same_row 0 below) (first_of_both inner later further)) (same_row (suc at) rest (second_of_both inner later further))
+
+pub node_without_vars : (r : Row) (vs : Values (fields_of r)) (n : Note) (a rest : Forest) → in_free r ≡ true → Stand (these (places (has is_private a) (fields_of r) vs)) a
+    → without_vars (node (kind_in r vs) n a rest) ≡ node (kind_in r vs) n a (without_vars rest)
+node_without_vars r vs n a rest h st =
+    let kind = kind_in r vs in
+    let passed = fields_pass (takes_marked of_free (lets kind)) 0 (fields_of r) in
+    let good = free_fields r vs h in
+    same_here (kept.is_var kind) kind n a (if is_code kind then a else without_vars a) (without_vars rest) (without_vars rest) (first_of_both (not (kept.is_var kind)) passed good)
+    (same_below kind a (same_row 0 a)
+    (free_shut a (lets kind) 0 (these (places (has is_private a) (fields_of r) vs)) (row_passing of_free (lets kind) r vs (has is_private a) (second_of_both (not (kept.is_var kind)) passed good)) st))
+    refl
+
+pub row_without_vars : (a : Forest) (plan : Plan) → Passing of_free (λ i. true) 0 plan → Stand plan a → without_vars a ≡ a
+row_without_vars a plan h st = same_row 0 a (free_shut a (λ i. true) 0 plan h st)
 
 -- of such a node nothing is kept
 keeps_none : (r : Row) (vs : Values (fields_of r)) → (not (in_free r) || (not (kept.is_var (kind_in r vs)) && not (kept.holds_statements (kind_in r vs)))) ≡ true

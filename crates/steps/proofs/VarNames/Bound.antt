@@ -20,9 +20,9 @@ use Rattle.form_rules.specs.declared.sought.Sought.TheVariants.{Nothing as none,
 use Rattle.steps.proofs.Fit.CoreCalm.{rows_of}
 use Rattle.steps.proofs.Fit.CoreRows.{takes_such, if_so}
 use Rattle.steps.proofs.Fit.Held.{place_held, plan_held, first_held, behind_held}
-use Rattle.kept_laws.specs.Texts.{names}
-use Rattle.kept_laws.proofs.Sets.{in_expression, of_free}
-use Rattle.kept_laws.proofs.Free.{is_name, node_declares_none}
+use Rattle.steps.specs.VarNames.Texts.{names}
+use Rattle.steps.proofs.VarNames.Sets.{in_expression, of_free}
+use Rattle.steps.proofs.VarNames.Free.{is_name, node_declares_none}
 
 pub names_joined : (xs ys : List Declared) → names (xs ++ ys) ≡ names xs ++ names ys
 names_joined [] ys = refl

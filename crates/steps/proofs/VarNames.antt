@@ -1,0 +1,14 @@
+pub mod Sets
+pub mod Free
+pub mod Patterns
+pub mod Statements
+pub mod Again
+pub mod Bound
+pub mod Sought
+pub mod Layers
+pub mod Hoisted
+pub mod Anew
+pub mod Weighs
+pub mod Stands
+pub mod Formed
+pub mod Alike
