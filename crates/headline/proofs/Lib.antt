@@ -1,4 +1,3 @@
-pub mod Binding
 pub mod Cells
 pub mod Once
 pub mod Sound

@@ -27,7 +27,7 @@ use Rattle.steps.proofs.Naming.Lists.{in_left, in_right}
 use Rattle.steps.proofs.Naming.Taking.{never_fits}
 use Rattle.steps.proofs.Naming.Values.{values_below, values_behind}
 use Rattle.steps.specs.Fit.Clear.{ClearAt, Clear}
-use Rattle.headline.proofs.Binding.{Lacks, undeclared_left, undeclared_right, undeclared_so, Free, row_free, items_place, code_free, row_binds}
+use Rattle.steps.proofs.KeepRuns.Binding.{Lacks, undeclared_left, undeclared_right, undeclared_so, Free, row_free, items_place, code_free, row_binds}
 use Rattle.headline.proofs.Cells.{dropped_cells, once_cells, row_cells}
 use Rattle.js_syntax.proofs.Truth.{second_of_either}
 

@@ -1,3 +1,4 @@
 pub mod Composing
 pub mod Tried
 pub mod TriedMerged
+pub mod TriedCalls

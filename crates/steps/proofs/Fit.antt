@@ -28,3 +28,4 @@ pub mod Plain
 pub mod Modules
 pub mod Notes
 pub mod Sensible
+pub mod Statements

@@ -14,4 +14,6 @@ pub mod Formed
 pub mod Whole
 pub mod Many
 pub mod Steady
+pub mod Binding
+pub mod SilentFunction
 pub mod Ways

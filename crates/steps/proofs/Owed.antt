@@ -105,3 +105,7 @@ pub mod Refused
 pub mod Outlying
 pub mod UnseenCounts
 pub mod Binders
+pub mod CallWays
+pub mod CallEntries
+pub mod CallBeside
+pub mod SilentCall

@@ -42,3 +42,5 @@ pub mod Arranged
 pub mod Rows
 pub mod Calls
 pub mod Changing
+pub mod SilentCall
+pub mod SilentCallRows

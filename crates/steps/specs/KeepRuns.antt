@@ -4,4 +4,5 @@ pub mod Tidy
 pub mod Once
 pub mod Many
 pub mod Assigned
+pub mod SilentFunction
 pub mod Ways

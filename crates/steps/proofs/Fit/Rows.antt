@@ -16,7 +16,7 @@ use Rattle.form_rules.specs.Rules.{functions_in, broken_at}
 use Rattle.form_rules.specs.Context.{Context, inside, outermost}
 use Rattle.form_rules.specs.Form.{broken_in, broken, IsWellFormed}
 use Rattle.js_meaning.specs.Value.{Text, this_name}
-use Rattle.js_meaning.specs.Scope.{ready, first_of, behind, bound_names, var_names, all_so, lexical, function_decls, module_decls}
+use Rattle.js_meaning.specs.Scope.{ready, default_name, first_of, behind, bound_names, var_names, all_so, lexical, function_decls, module_decls}
 use Rattle.js_meaning.specs.Module.{names_in}
 use Rattle.js_meaning_near.specs.Near.{module_of}
 use Rattle.js_meaning_near.specs.Avoid.{HasCells}
@@ -101,7 +101,7 @@ same_places ps qs low f at (node k n a r) l w =
     (and_from (well_placed (place_below (qs at) k) 0 a) (well_placed qs (suc at) r) (subst (λ p. well_placed (place_below p k) 0 a ≡ true) (f at l) (placed_below ps at k n a r w))
     (same_places ps qs low f (suc at) r (omega (arith, l)) (placed_behind ps at k n a r w)))
 
-placed_next : (ps : ℕ → Place) (at : ℕ) (t : Forest) → well_placed ps at t ≡ true → well_placed ps (suc at) (behind t) ≡ true
+pub placed_next : (ps : ℕ → Place) (at : ℕ) (t : Forest) → well_placed ps at t ≡ true → well_placed ps (suc at) (behind t) ≡ true
 placed_next ps at nothing w = refl
 placed_next ps at (absent r) w = w
 placed_next ps at (node k n a r) w = placed_behind ps at k n a r w
@@ -177,14 +177,13 @@ none_if : (n : ℕ) → (1 ≤ n → ⊥) → n ≡ 0
 none_if zero h = refl
 none_if (suc n) h = absurd (h (omega arith))
 
-program_clear : (q : ℕ) (m : Note) (a : Forest) → well_placed (λ i. program_list) 0 (node Kind.Statements m a nothing) ≡ true → has_plain_values (node Kind.Statements m a nothing) ≡ true → has_variables_in_place (node Kind.Statements m a nothing) ≡ true → AllOk a
-    → later clash (declared (scope_sought lexical_sort) q (node Kind.Statements m a nothing)) ≡ [] → (x : Text) (b : Bool) → lacks x (lexical a) ≡ b → (times x (module_decls a) ≤ 1) ⊎ HasCells x (module_decls a)
-program_clear q m a w v e ok h x true l =
+-- what `let` declares there is declared once
+once_there : (q : ℕ) (m : Note) (a : Forest) → well_placed (λ i. program_list) 0 (node Kind.Statements m a nothing) ≡ true → has_plain_values (node Kind.Statements m a nothing) ≡ true → has_variables_in_place (node Kind.Statements m a nothing) ≡ true
+    → later clash (declared (scope_sought lexical_sort) q (node Kind.Statements m a nothing)) ≡ [] → (x : Text) → bytes_eq this_name x ≡ false → bytes_eq default_name x ≡ false → 1 ≤ times x (lexical a) → times x (module_decls a) ≤ 1
+once_there q m a w v e h x this other some =
     let t = node Kind.Statements m a nothing in
     let ds = declared (scope_sought lexical_sort) q t in
-    let good = lacking_among OkName x (lexical a) (ok_lacking a ok) l in
-    let some = lacks_one x (lexical a) l in
-    let found : times x (lexical a ++ []) ≤ count (named is_let x) ds = scope_found x good.2 t (λ i. program_list) 0 q (λ i. refl) w v in
+    let found : times x (lexical a ++ []) ≤ count (named is_let x) ds = scope_found x other t (λ i. program_list) 0 q (λ i. refl) w v in
     let vars : occurs x (var_names a ++ []) ≤ count (named is_var x) ds = variables_found x t (scope_sought lexical_sort) (λ i. program_list) 0 q refl (λ i. refl) w v e in
     let same = times_joined x (lexical a) [] in
     let same_vars = occurs_joined x (var_names a) [] in
@@ -193,7 +192,13 @@ program_clear q m a w v e ok h x true l =
     let none = none_if (count (named is_var x) ds) (let_apart x [] ds h is_there) in
     let all = times_joined x (all_so ready (var_names a)) (lexical a) in
     let so = times_so x ready (var_names a) in
-    inl (not_counted (bytes_eq this_name x) (times x (all_so ready (var_names a) ++ lexical a)) good.1 (omega (arith, found, vars, same, same_vars, once, none, all, so)))
+    not_counted (bytes_eq this_name x) (times x (all_so ready (var_names a) ++ lexical a)) this (omega (arith, found, vars, same, same_vars, once, none, all, so))
+
+program_clear : (q : ℕ) (m : Note) (a : Forest) → well_placed (λ i. program_list) 0 (node Kind.Statements m a nothing) ≡ true → has_plain_values (node Kind.Statements m a nothing) ≡ true → has_variables_in_place (node Kind.Statements m a nothing) ≡ true → AllOk a
+    → later clash (declared (scope_sought lexical_sort) q (node Kind.Statements m a nothing)) ≡ [] → (x : Text) (b : Bool) → lacks x (lexical a) ≡ b → (times x (module_decls a) ≤ 1) ⊎ HasCells x (module_decls a)
+program_clear q m a w v e ok h x true l =
+    let good = lacking_among OkName x (lexical a) (ok_lacking a ok) l in
+    inl (once_there q m a w v e h x good.1 good.2 (lacks_one x (lexical a) l))
 program_clear q m a w v e ok h x false l =
     inr (cell_if (bytes_eq this_name x) ready tt, cells_joined x (all_so ready (var_names a)) (lexical a) (cells_so x ready (var_names a) tt) (cells_unless x (lexical a) l))
 
@@ -214,3 +219,15 @@ clear_with_blocks n m a w e d h =
       clear_rows (inside (outermost source_type.Module) k t) (λ i. program_list) 0 1 t (λ i. refl) placed_so.0 placed_so.1 inner blocks ok below,
       tt,
     )
+
+-- What `let`, a class or a function declares at the top of one is declared once.
+pub declared_once : (n m : Note) (a : Forest) → is_well_placed (module_of n m a) ≡ true → has_variables_in_place (module_of n m a) ≡ true → IsWellFormed (module_of n m a) → (x : Text) → bytes_eq this_name x ≡ false → bytes_eq default_name x ≡ false
+    → 1 ≤ times x (lexical a) → times x (module_decls a) ≤ 1
+declared_once n m a w e h x this other some =
+    let t = node Kind.Statements m a nothing in
+    let k = Kind.Program source_type.Module in
+    let cs : ℕ → Context = λ i. outermost source_type.Module in
+    let placed_so = and_parts (well_placed (λ i. program_list) 0 t) (has_plain_values t) w in
+    let whole = none_broken (broken (module_of n m a)) h in
+    let first = none_later 1 (later clash (declared (scope_sought lexical_sort) 1 t)) (of_names (outermost source_type.Module) k 0 t (kept_here cs 0 0 k n t nothing whole)).0 in
+    once_there 1 m a placed_so.0 placed_so.1 (variables_inside k n t nothing e) first x this other some

@@ -68,7 +68,7 @@ same_list (alike_same {k = k} {n = n} {a = a} {r = r} {s = s} g) = list_at k n a
 same_list (alike_node {k = k} {n = n} {a = a} {b = b} {r = r} {s = s} i h g) = list_at k n a b r s h (same_list g)
 same_list (alike_function e g) = same_list g
 
-entries_alike : (k : Kind) (a b : Forest) → Alike a b → entries_of k a ≡ entries_of k b
+pub entries_alike : (k : Kind) (a b : Forest) → Alike a b → entries_of k a ≡ entries_of k b
 entries_alike (Kind.ExportNamedDeclaration None) a b h = ap₂ (λ l m. l ++ m) (same_declared h) (same_local (same_list h))
 entries_alike (Kind.ExportNamedDeclaration (Some source)) a b h = same_foreign source (same_list h)
 entries_alike Kind.ExportDefaultDeclaration a b h = ap (λ l. entry_local (codes "default") (default_local l) ∷ []) (same_lexical h)

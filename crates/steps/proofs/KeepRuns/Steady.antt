@@ -35,7 +35,7 @@ name_steady x (Kind.BindingName y) a i j f e b = first_of_neither (bytes_eq y x)
 name_steady x Kind.ExportDefaultDeclaration a i j f e b = f
 name_steady x k a i j f e b = tt
 
-assigns_behind : (x : Text) (a : Forest) → assigns x a ≡ false → assigns x (behind a) ≡ false
+pub assigns_behind : (x : Text) (a : Forest) → assigns x a ≡ false → assigns x (behind a) ≡ false
 assigns_behind x nothing e = refl
 assigns_behind x (absent r) e = e
 assigns_behind x (node k n a r) e = second_of_neither (assigns_at x k a (assigns x a)) (assigns x r) e

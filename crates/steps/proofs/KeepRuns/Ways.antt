@@ -32,7 +32,7 @@ use Rattle.steps.specs.KeepRuns.Ways as way
 use Rattle.js_syntax.proofs.Truth.{first_of_both, second_of_both, first_of_neither, second_of_neither}
 
 -- a node in a row that only reads the name
-bystander_in : (x : Text) (p : Row) (k : Kind) (n : Note) (a r : Forest) → Steady x whole p (node k n a r) → Bystander x p k a
+pub bystander_in : (x : Text) (p : Row) (k : Kind) (n : Note) (a r : Forest) → Steady x whole p (node k n a r) → Bystander x p k a
 bystander_in x p k n a r y = stays (λ f st h. (steady_fits x f whole p st (node k n a nothing) h (y.0, tt)).0)
 
 -- what is known of a node that only reads it, and that makes no function
@@ -67,7 +67,7 @@ core_below k n a r h = first_of_both (all_core a) (all_core r) (second_of_both (
 core_behind : (k : Kind) (n : Note) (a r : Forest) → all_core (node k n a r) ≡ true → all_core r ≡ true
 core_behind k n a r h = second_of_both (all_core a) (all_core r) (second_of_both (is_core k) _ h)
 
-steady_beside : (x : Text) (p : Row) (a : Around) (t : Tree) → Steady x whole p (plug a (Some t)) → Beside x p a (Some t)
+pub steady_beside : (x : Text) (p : Row) (a : Around) (t : Tree) → Steady x whole p (plug a (Some t)) → Beside x p a (Some t)
 steady_beside x p (first rest) t y = steady_bystanders x p rest y.1
 steady_beside x p (behind k n below a) t y = (bystander_in x p k n below (plug a (Some t)) y, steady_beside x p a t y.1)
 steady_beside x p (behind_none a) t y = steady_beside x p a t y

@@ -7,3 +7,4 @@
 //! The code is empty: each function's contract is a law.
 pub mod laws;
 pub mod rows;
+pub mod silent_calls;

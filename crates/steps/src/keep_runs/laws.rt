@@ -1,15 +1,19 @@
 // That steps refine. Each law is a contract, so that the check proves it.
-ghost use Rattle.std.specs.Prelude.{◌≡◌, true, false};
+ghost use Rattle.std.specs.Prelude.{◌≡◌, suc, ◌+◌, true, false, Some};
 ghost use Rattle.std.specs.Str.{bytes_eq};
 ghost use Rattle.js_syntax.specs.declared.node_kind.NodeKind.{NodeKind as Kind};
-ghost use Rattle.js_syntax.specs.Node.{Note, Forest};
-ghost use Rattle.js_meaning.specs.Kept.{Kept, KeptBack, Refined};
+ghost use Rattle.js_syntax.specs.Node.{Note, Forest, Tree};
+ghost use Rattle.js_meaning.specs.Kept.{Kept, KeptBack, Recovered, Refined};
 ghost use Rattle.js_meaning.specs.Value.{Text};
 ghost use Rattle.js_meaning.specs.Scope.{default_name};
 ghost use Rattle.js_meaning_near.specs.Near.{Row, fields, module_of};
 ghost use Rattle.js_meaning_near.specs.Known.{Steady};
 ghost use Rattle.js_meaning_near.specs.Fit.{Part, part_of, whole};
 ghost use Rattle.js_meaning_near.specs.Avoid.{InPlace};
+ghost use Rattle.scope_laws.specs.Place.{Around, plug};
+ghost use Rattle.scope_laws.specs.Lists.{without};
+ghost use Rattle.steps.specs.Allowed.SilentCall.{SilentCall, in_module};
+ghost use Rattle.steps.specs.Fit.Sensible.{IsSensibleModule};
 ghost use Rattle.steps.specs.Steps.{Step, outermost, all_core};
 ghost use Rattle.steps.specs.KeepRuns.Formed.{holds_well, is_formed};
 ghost use Rattle.steps.specs.KeepRuns.Many.{CoreSteps};
@@ -54,4 +58,12 @@ pub fn a_step_keeps_the_form()
 /// Where nothing in a row assigns to a name, and the row binds it no more, it only reads the name.
 pub fn what_nothing_assigns_is_steady()
     ensures { (x : Text) (q : Part) (p : Row) (t : Forest) (above : Kind) → holds_well above t ≡ true → is_formed t ≡ true → bytes_eq default_name x ≡ false → assigns x (part_of q t) ≡ false → binds x (part_of q t) ≡ false → InPlace q p t → Steady x q p t }
+{}
+
+/// A statement of a call leaves a list of a module, whose own list declares the function, of which a call does nothing but give a value:
+/// every run is kept, and what is left of a run comes back within twice its bound and one more.
+pub fn a_silent_call_recovers()
+    ensures kept { (n m : Note) (a : Around) (t : Tree) → SilentCall (in_module n m a) t → IsSensibleModule (module_of n m (plug a (Some t))) → Kept (module_of n m (plug a (Some t))) (module_of n m (without a)) }
+    ensures recovered { (n m : Note) (a : Around) (t : Tree) → SilentCall (in_module n m a) t → IsSensibleModule (module_of n m (plug a (Some t))) →
+        Recovered (λ bound. suc (bound + bound)) (module_of n m (plug a (Some t))) (module_of n m (without a)) }
 {}
