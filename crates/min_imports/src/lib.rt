@@ -6,6 +6,9 @@
 //! up in one go: n log n steps in the number of its items. Where nothing leaves, and where memory is short, nothing is touched.
 #![tactic(auto)]
 
+mod merged;
+mod names;
 mod repeated;
 
+pub use merged::merge_imports;
 pub use repeated::drop_repeated;

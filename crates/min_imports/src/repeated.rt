@@ -28,7 +28,7 @@ fn source_of(kind: &NodeKind) -> Option<&str>
 
 // ---- an import without names
 
-fn is_nothing(children: &[Option<Node>]) -> bool
+pub(crate) fn is_nothing(children: &[Option<Node>]) -> bool
     ensures { result ≡ is_nothing (row children.now) }
 {
     match children {
@@ -124,7 +124,7 @@ fn which_stay(alloc: Global, items: &[Option<Node>]) -> Result<Vec<bool>, AllocE
 
 // ---- and the list
 
-fn keep_staying(items: &mut Vec<Option<Node>>, staying: &[bool])
+pub(crate) fn keep_staying(items: &mut Vec<Option<Node>>, staying: &[bool])
     requires { length staying.now ≡ length items.old.items }
     ensures { items.new.items ≡ items_where_true staying.now items.old.items }
 {
