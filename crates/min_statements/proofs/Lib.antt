@@ -12,6 +12,7 @@ mod Alternates
 mod Pruning
 mod Ending
 mod Repeating
+mod Merging
 mod Seeing
 mod Emptying
 mod Thinning

@@ -1,5 +1,5 @@
 -- A walk that asked for no other pass saw each node, and nothing of it goes or comes to its parts or its value.
-use Rattle.std.proofs.Common.{◌≡◌, ◌∙◌, [], ℕ, Bool, false, true, not, ◌||◌, ◌&&◌, if◌then◌else◌, Option, Some, None, is_some, refl, sym, ap, subst, true≢false}
+use Rattle.std.proofs.Common.{◌≡◌, ◌∙◌, List, [], ◌∷◌, ℕ, Bool, false, true, not, ◌||◌, ◌&&◌, if◌then◌else◌, Option, Some, None, is_some, refl, sym, ap, subst, true≢false}
 use Rattle.js_syntax.specs.Class.{root}
 use Rattle.js_syntax.specs.declared.node_kind.NodeKind.{NodeKind as Kind}
 use Rattle.js_syntax.specs.declared.node_kind.NodeKind.TheVariants.{ExpressionStatement as expression_statement, EmptyStatement as empty_statement, BlockStatement as block_statement, LabeledStatement as labeled_statement, IfStatement as if_statement, TryStatement as try_statement, WhileStatement as while_statement, ForStatement as for_statement, ImportDeclaration as import_declaration, ArrayExpression as array_expression, TemplateLiteral as template_literal, ObjectExpression as object_expression, UnaryExpression as unary_expression, BinaryExpression as binary_expression, SequenceExpression as sequence_expression, ConditionalExpression as conditional_expression, LogicalExpression as logical_expression}
@@ -7,6 +7,8 @@ use Rattle.json_shape.specs.Shape.{Fits}
 use Rattle.min_pass.specs.Pass.{unmarked}
 use Rattle.js_syntax.specs.Node.{Forest, Tree, Note, nothing, node, absent, alone, forest_of}
 use Rattle.min_context.specs.Above.{above_of}
+use Rattle.min_context.specs.Ancestry.{nearest}
+use Rattle.min_context.specs.declared.ancestor.Ancestor.{Ancestor}
 use Rattle.min_context.specs.Place.{Place, Spot, place_of, next_of, below, outside, top}
 use Rattle.min_context.specs.Seen.{Seen}
 use Rattle.min_traverse.specs.Slot.{outer_slot, middle_slot, inner_slot, enter_outer, enter_middle, enter_inner, exit_outer, exit_middle, exit_inner}
@@ -45,11 +47,14 @@ use Rattle.rules.specs.Expressions.Untaken.{if_left, if_ends}
 use Rattle.rules.specs.Expressions.Settled.{IsSettledAt, IsSettled}
 use Rattle.rules.proofs.Expressions.Walked.{settled_nodes}
 use Rattle.rules.specs.Imports.Repeated.{has_repeated, once_if, list_once}
+use Rattle.rules.specs.Imports.Merged.{is_outermost, with_below, below_together, come_together}
 use Rattle.rules.specs.Imports.Rules.{pruned}
 use Rattle.rules.specs.Imports.Quiet.{IsUsedAt, ImportsUsed}
 use Rattle.rules.proofs.Imports.Walked.{imports_used}
 use Rattle.rules.specs.Slots.Had.{is_always_statement, is_always_expression, HasSlots}
 use Rattle.rules.proofs.Slots.Had.{slots_had}
+use Rattle.scope_rules.specs.ScopeFlags as scope_flag
+use Rattle.steps.specs.Marked.Flags.{scope_has}
 use Rattle.min_statements.specs.Walker.{Names, facts_of}
 use Rattle.min_statements.proofs.Acting.{none_left}
 
@@ -65,6 +70,7 @@ becomes p x = becomes_so (spot_of p) x.note x.kind x.below
 record IsAlive (f : Facts) (p : Place) (x : Tree) : Type 0 where
   list : outer_slot (above_place p) x.kind ≡ outer.Statements → list_changes f (where_of p) x.below ≡ false
   statement : outer_slot (above_place p) x.kind ≡ outer.Statement → statement_changes f p x ≡ false
+  whole : outer_slot (above_place p) x.kind ≡ outer.Program → is_some (come_together f p x) ≡ false
   expression : middle_slot (above_place p) x.kind ≡ middle.Expression → is_some (becomes p x) ≡ false
 
 abbrev Same : Names → Seen → Names → Seen → Type 0
@@ -112,19 +118,20 @@ module _ (s : Names) (k : Seen) (x : Tree) (s' : Names) (k' : Seen) where
     same : Same s k s' k'
     list : o ≡ outer.Statements → list_changes (facts_of s k) (where_of k.place) x.below ≡ false
     statement : o ≡ outer.Statement → statement_changes (facts_of s k) k.place x ≡ false
+    whole : o ≡ outer.Program → is_some (come_together (facts_of s k) k.place x) ≡ false
 
   left_outer : (o : Outer) → Called Visited is_written (exit_outer o) s k x s' k' → Left o
-  left_outer outer.Statements h = record { same = (sym h.names_same, sym h.context_same); list = λ e. h.none; statement = λ e. absurd Prim.cc }
-  left_outer outer.Statement h = record { same = (sym h.names_same, sym h.context_same); list = λ e. absurd Prim.cc; statement = λ e. h.none }
-  left_outer outer.Program h = record { same = h; list = λ e. absurd Prim.cc; statement = λ e. absurd Prim.cc }
-  left_outer outer.ClassElement h = record { same = h; list = λ e. absurd Prim.cc; statement = λ e. absurd Prim.cc }
-  left_outer outer.BindingPattern h = record { same = h; list = λ e. absurd Prim.cc; statement = λ e. absurd Prim.cc }
-  left_outer outer.AssignmentTarget h = record { same = h; list = λ e. absurd Prim.cc; statement = λ e. absurd Prim.cc }
-  left_outer outer.PropertyKey h = record { same = h; list = λ e. absurd Prim.cc; statement = λ e. absurd Prim.cc }
-  left_outer outer.SwitchCase h = record { same = h; list = λ e. absurd Prim.cc; statement = λ e. absurd Prim.cc }
-  left_outer outer.CatchClause h = record { same = h; list = λ e. absurd Prim.cc; statement = λ e. absurd Prim.cc }
-  left_outer outer.VariableDeclarator h = record { same = h; list = λ e. absurd Prim.cc; statement = λ e. absurd Prim.cc }
-  left_outer outer.None h = record { same = h; list = λ e. absurd Prim.cc; statement = λ e. absurd Prim.cc }
+  left_outer outer.Statements h = record { same = (sym h.names_same, sym h.context_same); list = λ e. h.none; statement = λ e. absurd Prim.cc; whole = λ e. absurd Prim.cc }
+  left_outer outer.Statement h = record { same = (sym h.names_same, sym h.context_same); list = λ e. absurd Prim.cc; statement = λ e. h.none; whole = λ e. absurd Prim.cc }
+  left_outer outer.Program h = record { same = (sym h.names_same, sym h.context_same); list = λ e. absurd Prim.cc; statement = λ e. absurd Prim.cc; whole = λ e. h.none }
+  left_outer outer.ClassElement h = record { same = h; list = λ e. absurd Prim.cc; statement = λ e. absurd Prim.cc; whole = λ e. absurd Prim.cc }
+  left_outer outer.BindingPattern h = record { same = h; list = λ e. absurd Prim.cc; statement = λ e. absurd Prim.cc; whole = λ e. absurd Prim.cc }
+  left_outer outer.AssignmentTarget h = record { same = h; list = λ e. absurd Prim.cc; statement = λ e. absurd Prim.cc; whole = λ e. absurd Prim.cc }
+  left_outer outer.PropertyKey h = record { same = h; list = λ e. absurd Prim.cc; statement = λ e. absurd Prim.cc; whole = λ e. absurd Prim.cc }
+  left_outer outer.SwitchCase h = record { same = h; list = λ e. absurd Prim.cc; statement = λ e. absurd Prim.cc; whole = λ e. absurd Prim.cc }
+  left_outer outer.CatchClause h = record { same = h; list = λ e. absurd Prim.cc; statement = λ e. absurd Prim.cc; whole = λ e. absurd Prim.cc }
+  left_outer outer.VariableDeclarator h = record { same = h; list = λ e. absurd Prim.cc; statement = λ e. absurd Prim.cc; whole = λ e. absurd Prim.cc }
+  left_outer outer.None h = record { same = h; list = λ e. absurd Prim.cc; statement = λ e. absurd Prim.cc; whole = λ e. absurd Prim.cc }
 
 record Saw (p : Spot) (t : Forest) (s : Names) (k : Seen) (s' : Names) (k' : Seen) : Type 0 where
   names_same : s' ≡ s
@@ -158,6 +165,8 @@ at_node p x s k s' k' at v inside =
         list = λ q. subst (λ g. list_changes g (where_of p) x.below ≡ false) facts_2 (subst (λ z. list_changes (facts_of v.exits.s2 v.exits.k2) (where_of z) x.below ≡ false) place_2 (f.list q));
         statement = λ q.
             subst (λ g. statement_changes g p x ≡ false) facts_2 (subst (λ z. statement_changes (facts_of v.exits.s2 v.exits.k2) z x ≡ false) place_2 (f.statement q));
+        whole = λ q.
+            subst (λ g. is_some (come_together g p x) ≡ false) facts_2 (subst (λ z. is_some (come_together (facts_of v.exits.s2 v.exits.k2) z x) ≡ false) place_2 (f.whole q));
         expression = λ q. subst (λ z. is_some (becomes z x) ≡ false) place_1 (e.expression q);
       },
       subst (λ g. EachNode (IsAlive g) (below p (above_of x.kind x.note)) x.below) facts_1 inside.each,
@@ -291,19 +300,37 @@ none_again : (f : Facts) (w : Where) (n : Note) (k : Kind) (b : Forest) → (k �
 none_again f w n Kind.Statements b h = ap (λ c. once_if c n b) (neither (has_gone f w b) (has_repeated [] b) (h refl)).1
 none_again f w n k b h = refl
 
+-- nodes of other kinds come to nothing
+none_either_way : (b : Bool) → (let none : Option Tree = None in if b then none else none) ≡ None
+none_either_way true = refl
+none_either_way false = refl
+
+-- no import comes to another; where no node is above, a program has its own slot
+program_there : (f : Facts) (p : Place) (k : Kind) (n : Note) (b : Forest) → p.ancestors ≡ [] → (let x : Tree = record { kind = k; note = n; below = b } in (outer_slot (above_place p) k ≡ outer.Program → is_some (come_together f p x) ≡ false) → come_together f p x ≡ None)
+program_there f p (Kind.Program source) n b none h =
+    let x : Tree = record { kind = Kind.Program source; note = n; below = b } in
+    none_is (come_together f p x) (h (ap {A = List Ancestor} (λ above. outer_slot (nearest above 0) (Kind.Program source)) none))
+program_there f p k n b none h = none_either_way (is_outermost p.ancestors && not (scope_has f.scoping 0 scope_flag.direct_eval))
+
+none_above : (above : List Ancestor) → is_outermost above ≡ true → above ≡ []
+none_above [] e = refl
+none_above (a ∷ above) e = absurd (true≢false (sym e))
+
+none_apart : (f : Facts) (p : Place) (x : Tree) → (outer_slot (above_place p) x.kind ≡ outer.Program → is_some (come_together f p x) ≡ false) → come_together f p x ≡ None
+none_apart f p x h = by (is_outermost p.ancestors) refl
+  where
+    by : (b : Bool) → is_outermost p.ancestors ≡ b → come_together f p x ≡ None
+    by true e = program_there f p x.kind x.note x.below (none_above p.ancestors e) h
+    by false e = ap (λ b. if b && not (scope_has f.scoping 0 scope_flag.direct_eval) then with_below x (below_together x.kind x.below) else None) e
+
 used_at : (f : Facts) (p : Place) (x : Tree) → IsAlive f p x → HasSlots p x → IsUsedAt f p x
-used_at f p x h slots = (none_unused f p x.note x.kind x.below (λ e. h.statement (slots.statement e)), none_again f (where_of p) x.note x.kind x.below (λ e. h.list (slots.list e)))
+used_at f p x h slots = (none_unused f p x.note x.kind x.below (λ e. h.statement (slots.statement e)), none_again f (where_of p) x.note x.kind x.below (λ e. h.list (slots.list e)), none_apart f p x h.whole)
 
 quiet_at : (f : Facts) (p : Place) (x : Tree) → IsAlive f p x → HasSlots p x → IsQuietAt f p x
 quiet_at f p x h slots = record {
   list = λ e. (neither (has_inert false x.below) (has_dead f (where_of p) x.below) (neither (has_gone f (where_of p) x.below) (has_repeated [] x.below) (h.list (slots.list e))).0).1;
   statement = none_left (record { kind = empty_statement; note = unmarked x.note; below = nothing }) (not_emptied f p x.note x.kind x.below (λ e. h.statement (slots.statement e)));
 }
-
--- nodes of other kinds come to nothing
-none_either_way : (b : Bool) → (let none : Option Tree = None in if b then none else none) ≡ None
-none_either_way true = refl
-none_either_way false = refl
 
 -- the last two come to nothing, and what is tried before
 last_none : (v o q : Option Tree) → is_some (or_else (or_else v o) q) ≡ false → (is_some v ≡ false) × (o ≡ None) × (q ≡ None)

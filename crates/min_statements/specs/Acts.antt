@@ -1,10 +1,11 @@
--- What the walker does to a list of statements, to a statement and to an import.
+-- What the walker does to a list of statements, to a statement, to an import and to a program.
 use Rattle.std.specs.Prelude.{[], Bool, false, ◌||◌, Option, Some, None, if◌then◌else◌}
 use Rattle.js_syntax.specs.Node.{Forest, Tree}
 use Rattle.min_context.specs.Seen.{Seen}
 use Rattle.min_traverse.specs.Lawful.{Rule}
 use Rattle.rules.specs.DeadCode.Rules.{Facts, Where, where_of, has_dead, trimmed, emptied}
 use Rattle.rules.specs.Expressions.Jumps.{has_inert, emptied_behind}
+use Rattle.rules.specs.Imports.Merged.{come_together}
 use Rattle.rules.specs.Imports.Repeated.{has_repeated, asked_once}
 use Rattle.rules.specs.Imports.Rules.{pruned}
 use Rattle.min_statements.specs.Walker.{Names, facts_of}
@@ -38,3 +39,7 @@ empty names c x = emptied (facts_of names c) c.place x
 -- of an import, the names leave that nobody uses
 abbrev pub prune : Names → Seen → Tree → Option Tree
 prune names c x = pruned (facts_of names c) (where_of c.place) x
+
+-- of a module, imports come together
+abbrev pub merge : Names → Seen → Tree → Option Tree
+merge names c x = come_together (facts_of names c) c.place x

@@ -1,4 +1,5 @@
 pub mod Names
+pub mod Merged
 pub mod Walker
 pub mod Shed
 pub mod Acts

@@ -19,6 +19,7 @@ use Rattle.rules.specs.DeadCode.Rules.{Facts, where_of, becomes_empty}
 use Rattle.rules.specs.Expressions.Known.{at_expression_end}
 use Rattle.rules.specs.Expressions.EmptyAlternates.{is_last}
 use Rattle.rules.specs.Expressions.Untaken.{if_ends}
+use Rattle.rules.specs.Imports.Merged.{come_together}
 use Rattle.rules.specs.Imports.Rules.{pruned}
 use Rattle.min_statements.specs.Acts.{list_changes}
 use Rattle.min_statements.specs.Walker.{Names, facts_of}
@@ -53,6 +54,7 @@ abbrev pub is_written : Hook → Bool
 is_written hook.ExitStatements = true
 is_written hook.ExitStatement = true
 is_written hook.ExitExpression = true
+is_written hook.ExitProgram = true
 is_written h = false
 
 -- a statement becomes empty, or comes to a branch of it or to its test, or loses an alternate or what goes of a branch, or names leave it
@@ -69,4 +71,5 @@ abbrev pub Visited : Hook → Names → Seen → Tree → Names → Seen → Typ
 Visited hook.ExitStatements names c x later d = Found (list_changes (facts_of names c) (where_of c.place) x.below) names c later d
 Visited hook.ExitStatement names c x later d = Found (statement_changes (facts_of names c) c.place x) names c later d
 Visited hook.ExitExpression names c x later d = Found (is_some (at_expression_end c x)) names c later d
+Visited hook.ExitProgram names c x later d = Found (is_some (come_together (facts_of names c) c.place x)) names c later d
 Visited h names c x later d = Unit {0}

@@ -5,8 +5,8 @@
 //! (`remove_repeated_imports`), behind a silent statement elsewhere it leaves an empty one, and so behind a branch or a body that does
 //! nothing (`empty_statement`), behind an `if` on a test that is known the branch that runs, or an empty statement, or the `if` without
 //! what declares no name in the other branch, and without the values there, behind one whose branches are empty a statement of its test, and
-//! behind one with an empty alternate the `if` without it (`try_fold_if`), behind an import the import without the names that nobody uses (`remove_unused_import_specifiers`), behind an
-//! expression that a known test decides the part that counts, alone, behind a zero, or behind the test where that acts, behind an operation
+//! behind one with an empty alternate the `if` without it (`try_fold_if`), behind an import the import without the names that nobody uses (`remove_unused_import_specifiers`), behind a
+//! module that module with its imports together (`merge_module_imports`), behind an expression that a known test decides the part that counts, alone, behind a zero, or behind the test where that acts, behind an operation
 //! of which nobody takes the value the operands that act, behind such an array, object or sequence its parts that act, and behind an
 //! operation that doesn't act its value (min_expressions). Each call does exactly what its rule says, marks what left before it is let go,
 //! and touches nothing where nothing goes. `walk_statements` is one pass over a program: what is left comes by edits that a dead code
@@ -26,6 +26,7 @@ mod ifs;
 mod imports;
 mod inert;
 mod inside;
+mod merged;
 mod names;
 mod statements;
 mod tries;
@@ -37,6 +38,7 @@ mod walk;
 pub use emptied::empty_statement;
 pub use ifs::try_fold_if;
 pub use imports::remove_unused_import_specifiers;
+pub use merged::merge_module_imports;
 pub use statements::Statements;
 pub use trimmed::trim_statements;
 pub use walk::walk_statements;

@@ -7,6 +7,7 @@ use crate::emptied::empty_statement;
 use crate::facts::Facts;
 use crate::ifs::try_fold_if;
 use crate::imports::{remove_repeated_imports, remove_unused_import_specifiers};
+use crate::merged::merge_module_imports;
 use crate::trimmed::trim_statements;
 use exported_names::{bound_references, exported_symbols};
 use js_syntax::SourceType;
@@ -19,8 +20,8 @@ use scope_table::Scoping;
 use std::alloc::{AllocError, Global};
 use std::marker::Model;
 
-/// Takes dead code out of lists of statements and unused names out of imports, empties silent statements elsewhere and branches and bodies
-/// that do nothing, and lets expressions and `if`s that known tests decide come to the part that counts, alone or behind a zero,
+/// Takes dead code out of lists of statements and unused names out of imports, lets imports of one module come together, empties silent
+/// statements elsewhere and branches and bodies that do nothing, and lets expressions and `if`s that known tests decide come to the part that counts, alone or behind a zero,
 /// operations, arrays, objects and sequences of which nobody takes the value to what of them acts, and operations that don't act to their
 /// values.
 pub struct Statements {
@@ -99,7 +100,10 @@ impl Traverse for Statements {
     fn has(hook: Hook) -> bool {
         matches!(
             hook,
-            Hook::ExitStatements | Hook::ExitStatement | Hook::ExitExpression
+            Hook::ExitStatements
+                | Hook::ExitStatement
+                | Hook::ExitExpression
+                | Hook::ExitProgram
         )
     }
 
@@ -136,6 +140,15 @@ impl Traverse for Statements {
         ctx: &mut MinifierTraverseCtx,
     ) -> Result<(), AllocError> {
         PeepholeOptimizations::fold_expression(node, ctx)?;
+        Ok(())
+    }
+
+    fn exit_program(
+        &mut self,
+        node: &mut Node,
+        ctx: &mut MinifierTraverseCtx,
+    ) -> Result<(), AllocError> {
+        merge_module_imports(self, node, ctx)?;
         Ok(())
     }
 }
