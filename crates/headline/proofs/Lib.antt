@@ -14,5 +14,6 @@ mod RenotedKnown
 mod RenotedIf
 mod RenotedIdle
 mod RenotedTry
+mod RenotedImports
 mod RenotedSites
 pub mod Renoted

@@ -51,6 +51,8 @@ use Rattle.steps.specs.Allowed.Unreached.{Unreached}
 use Rattle.steps.specs.Allowed.Untaken.{Untaken}
 -- and an import without names behind another request of its module
 use Rattle.steps.specs.Allowed.RepeatedImport.{RepeatedImport}
+-- and imports of one module
+use Rattle.steps.specs.Allowed.MergedImports.{MergedImports}
 -- and a value that a declaration gives in such a branch
 use Rattle.steps.specs.Allowed.UnrunValue.{UnrunValue}
 -- whose names only the tree's references may use
@@ -135,6 +137,8 @@ pub data IsDead (unused imports : Bool) (t : Forest) : Around → Option Tree �
 -- No part of the program is dead code, but for what is kept.
 pub record CleanBut (unused imports : Bool) (t : Forest) : Type 0 where
   pub nothing_is_dead : (a : Around) (x : Option Tree) → t ≡ plug a x → IsDead unused imports t a x → ⊥
+  -- and no import may take the names of a later one of the same module, whatever is kept, for none of them goes
+  pub imports_are_together : (u : Forest) → MergedImports t u → ⊥
 
 -- where nothing is kept
 abbrev pub Clean : Forest → Type 0

@@ -10,6 +10,7 @@ use Rattle.min_context.specs.Place.{Place, Spot, place_of, next_of, below, top}
 use Rattle.exported_names.specs.Answers.{bound_of}
 use Rattle.exported_names.specs.Exported.{exported_of}
 use Rattle.rules.specs.DeadCode.Rules.{Facts, where_of, has_dead, becomes_empty}
+use Rattle.rules.specs.Imports.Merged.{come_together}
 use Rattle.rules.specs.Imports.Repeated.{list_once}
 use Rattle.rules.specs.Imports.Rules.{pruned}
 use Rattle.rules.specs.Expressions.Uses.{spot_of}
@@ -56,9 +57,9 @@ computes_none p n k inner =
     not (is_some (known_becomes n k inner))
     && (not (is_some (if_becomes n k inner)) && (not (is_some (test_left n k inner)) && (not (is_some (alternate_left (is_last p) n k inner)) && (not (is_some (list_reached n k inner)) && not (is_some (if_left n k inner))))))
 
--- and is no import that a name leaves, nor a list that an import leaves
+-- and is no import that a name leaves, no list that an import leaves, and no program whose imports come together
 abbrev pub uses_names : Facts → Place → Note → Kind → (inner : Forest) → Bool
-uses_names f p n k inner = not (is_some (pruned f (where_of p) (record { kind = k; note = n; below = inner }))) && not (is_some (list_once n k inner))
+uses_names f p n k inner = not (is_some (pruned f (where_of p) (record { kind = k; note = n; below = inner }))) && (not (is_some (list_once n k inner)) && not (is_some (come_together f p (record { kind = k; note = n; below = inner }))))
 
 -- a node at a place: no item of a list goes, no statement becomes empty, no name leaves an import, and no expression comes to its parts or its value
 abbrev pub stays : Facts → Place → Note → Kind → (inner : Forest) → Bool

@@ -43,6 +43,7 @@ use Rattle.steps.specs.Allowed.EmptyBlock.{holds_nothing, empty_block_leaves}
 use Rattle.steps.specs.Allowed.Unreached.{only_runs, never_runs}
 use Rattle.steps.specs.Allowed.Untaken.{never_taken}
 use Rattle.steps.specs.Allowed.RepeatedImport.{repeated_import_leaves}
+use Rattle.steps.specs.Allowed.MergedImports.{MergesIn, merges_here, merges_behind, MergedImports, imports_merge}
 use Rattle.steps.specs.Allowed.IdleStatement.{idle_leaves}
 use Rattle.steps.specs.Allowed.IdleTry.{finalizer_is_run, finalizer_is_run_alone, block_is_run}
 use Rattle.steps.specs.Allowed.EmptyIf.{test_stays}
@@ -765,9 +766,20 @@ dead_suspect t a x is (an_idle_body b _ _ (idle_body_empties y m body idle none)
 dead_suspect t a x is (an_idle_statement b y (idle_leaves item idle none)) = ap has_suspect is ∙ suspect_there b y (runs_suspect y.kind (idle_runs y.kind y.below idle))
 dead_suspect t a x is (a_repeated_import b _ (repeated_import_leaves source n m item asked)) = ap has_suspect is ∙ suspect_there b _ refl
 
+-- and where imports may come together, one is there
+row_suspect : {r s : Forest} → MergesIn r s → has_suspect r ≡ true
+row_suspect (merges_here source n m names later r s may out) = refl
+row_suspect (merges_behind k n b r s h) = or_right (is_suspect k) (has_suspect b || has_suspect r) (or_right (has_suspect b) (has_suspect r) (row_suspect h))
+
+merged_suspect : {t u : Forest} → MergedImports t u → has_suspect t ≡ true
+merged_suspect (imports_merge n m r s h quiet) = or_left (has_suspect r || false) false (or_left (has_suspect r) false (row_suspect h))
+
 -- A declaration goes with the last of its declarators, and stays where it has none.
 pub nothing_declared_is_clean : Clean row.declares_nothing
-nothing_declared_is_clean = record { nothing_is_dead = λ a x is dead. true≢false (sym (dead_suspect row.declares_nothing a x is dead)) }
+nothing_declared_is_clean = record {
+  nothing_is_dead = λ a x is dead. true≢false (sym (dead_suspect row.declares_nothing a x is dead));
+  imports_are_together = λ u merged. true≢false (sym (merged_suspect merged));
+}
 
 pub nothing_declared_stays : is_quiet row.declares_nothing ≡ true
 nothing_declared_stays = refl
