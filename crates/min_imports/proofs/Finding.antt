@@ -1,9 +1,9 @@
 -- The first item that takes names, sought one after the other.
-use Rattle.std.proofs.Common.{◌≡◌, ◌∙◌, ◌<◌, ◌≤◌, ◌+◌, ℕ, suc, List, [], ◌∷◌, Bool, true, false, Option, Some, None, if◌then◌else◌, length, drop, get_or, refl, sym, ap, ap₂, arith}
+use Rattle.std.proofs.Common.{◌≡◌, ◌∙◌, ◌<◌, ◌≤◌, ◌+◌, ℕ, suc, List, ◌∷◌, Bool, true, false, true≢false, Option, Some, None, IfSome, if◌then◌else◌, length, drop, get_or, refl, sym, ap, ap₂, subst, arith}
 use Rattle.std.proofs.lemmas.List.{drop_more, drop_all}
 use Rattle.js_syntax.specs.Node.{Tree, Forest}
 use Rattle.rules.specs.Imports.Merged.{takes}
-use Rattle.min_imports.specs.Merging.{shifted, receiver}
+use Rattle.min_imports.specs.Merging.{shifted, receiver, ends, there}
 
 abbrev pub shifted_by : ℕ → Option ℕ → Option ℕ
 shifted_by at None = None
@@ -11,7 +11,7 @@ shifted_by at (Some j) = Some (at + j)
 
 shifted_none : (r : Option ℕ) → shifted_by 0 r ≡ r
 shifted_none None = refl
-shifted_none (Some j) = refl
+shifted_none (Some j) = let same : 0 + j ≡ j = Prim.omega arith in ap Some same
 
 shifted_more : (at : ℕ) (r : Option ℕ) → shifted_by at (shifted r) ≡ shifted_by (at + 1) r
 shifted_more at None = refl
@@ -48,3 +48,21 @@ module _ (source : List ℕ) (later : Forest) (bs : List Bool) (ys : List (Optio
 
     pub at_end : NoneBefore at → length bs ≤ at → receiver source later bs ys ≡ None
     at_end so h = so ∙ ap (λ l. shifted_by at (receiver source later l (drop at ys))) (drop_all at bs h)
+
+    -- the search ends at an item, or goes on
+    pub ends_here : (b : Bool) (y : Option Tree) → NoneBefore at → at < length bs → at < length ys → get_or bs at false ≡ b → get_or ys at None ≡ y → ends source later b y ≡ true → there at y ≡ receiver source later bs ys
+    ends_here false y so h g is be does = absurd (true≢false (sym does))
+    ends_here true None so h g is be does = sym (missing so h g is be)
+    ends_here true (Some x) so h g is be does = sym (takes_them x so h g is be does)
+
+    pub goes_on : (b : Bool) (y : Option Tree) → NoneBefore at → at < length bs → at < length ys → get_or bs at false ≡ b → get_or ys at None ≡ y → ends source later b y ≡ false → NoneBefore (at + 1)
+    goes_on false y so h g is be does = gone so h g is
+    goes_on true None so h g is be does = absurd (true≢false does)
+    goes_on true (Some x) so h g is be does = takes_none x so h g is be does
+
+pub there_within : (at n : ℕ) (x : Option Tree) (r : Option ℕ) → r ≡ there at x → at < n → IfSome r (λ i. i < n)
+there_within at n x r is h = subst (λ o. IfSome o (λ i. i < n)) (sym is) (by x)
+  where
+    by : (y : Option Tree) → IfSome (there at y) (λ i. i < n)
+    by None = tt
+    by (Some y) = h

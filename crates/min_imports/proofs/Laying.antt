@@ -1,5 +1,5 @@
 -- Items that become others, one after the other.
-use Rattle.std.proofs.Common.{◌≡◌, ◌≢◌, ◌∙◌, ◌<◌, ◌≤◌, ◌+◌, ℕ, zero, suc, List, [], ◌∷◌, Option, Some, None, length, get_or, set, add-one, refl, sym, ap, ap₂, arith}
+use Rattle.std.proofs.Common.{◌≡◌, ◌∙◌, ◌<◌, ◌≤◌, ◌+◌, ℕ, zero, suc, List, [], ◌∷◌, Option, length, get_or, set, add-one, refl, sym, ap, ap₂, arith}
 use Rattle.js_syntax.specs.Node.{Tree}
 use Rattle.min_imports.specs.Merging.{or_changed, overlaid}
 

@@ -1,5 +1,5 @@
 -- A plan for the items of a list: what is taken by which of them, and the list that is left by it.
-use Rattle.std.proofs.Common.{◌≡◌, ◌∙◌, ◌<◌, ◌≤◌, ◌+◌, ℕ, zero, suc, List, [], ◌∷◌, ◌++◌, Bool, true, false, true≢false, not, ◌&&◌, ◌||◌, cond, Option, Some, None, if◌then◌else◌, length, length-append, drop, get_or, set, append-nil, refl, sym, ap, ap₂, subst, arith}
+use Rattle.std.proofs.Common.{◌≡◌, ◌∙◌, ◌<◌, ◌≤◌, ◌+◌, ℕ, zero, suc, List, [], ◌∷◌, ◌++◌, Bool, true, false, true≢false, not, ◌&&◌, ◌||◌, cond, Option, Some, None, if◌then◌else◌, length, length-append, take, drop, get_or, set, append-nil, refl, sym, ap, ap₂, subst, arith}
 use Rattle.std.specs.Bool.{beq}
 use Rattle.std.specs.BTreeSet as sorted
 use Rattle.std.specs.BTreeSet.{BTreeSet, contains_by}
@@ -7,8 +7,7 @@ use Rattle.std.specs.Cmp.Lexicographic.{slice_cmp}
 use Rattle.std.specs.List.{items_where_true, list_any}
 use Rattle.std.specs.Ordering.{nat_cmp}
 use Rattle.std.specs.Str.{bytes_eq}
-use Rattle.std.proofs.lemmas.Bool.{and_parts}
-use Rattle.std.proofs.lemmas.List.{drop_all}
+use Rattle.std.proofs.lemmas.List.{drop_all, take-append-le, take_all}
 use Rattle.std.proofs.lemmas.Map.Text.{is_eq-slice_cmp}
 use Rattle.js_syntax.specs.declared.node_kind.NodeKind.{NodeKind as Kind}
 use Rattle.js_syntax.specs.declared.node_kind.NodeKind.TheVariants.{ImportDeclaration as import_declaration, Specifiers as specifiers}
@@ -16,9 +15,10 @@ use Rattle.js_syntax.specs.Node.{Tree, Forest, Note, nothing, node, absent, join
 use Rattle.js_syntax.proofs.Truth.{first_of_neither, second_of_neither, or_false, or_associates}
 use Rattle.js_tree.proofs.Rows.{front_of, joined_nothing, joined_assoc, row_push}
 use Rattle.js_tree.proofs.Search.{AsksEach}
-use Rattle.steps.specs.Allowed.MergedImports.{may_merge, names_merged}
+use Rattle.steps.specs.Allowed.MergedImports.{may_merge}
 use Rattle.rules.specs.Imports.Merged.{takes, with_names, is_taken, taken, goes, given, one_goes, together}
-use Rattle.min_imports.specs.Merging.{is_import, has_import, imported_from, names_of, list_takes, has_names, asks, one_asks, Known, or_changed, overlaid, planned, shifted, receiver, with_more, go_on, more_go, is_missing, TreeGoes, ItemGoes, Plan}
+use Rattle.rules.proofs.Imports.Together.{none_come}
+use Rattle.min_imports.specs.Merging.{is_import, has_import, imported_from, names_of, list_takes, asks, one_asks, Known, or_changed, overlaid, planned, shifted, receiver, with_more, go_on, more_go, is_missing, TreeGoes, ItemGoes, Plan}
 use denote.Ref.{Bor}
 
 and_false : (c : Bool) → c && false ≡ false
@@ -41,6 +41,14 @@ some_import source later k b other is = by_list b ∙ ap (λ l. takes source lat
     by_list (node k m names r) = and_false (bytes_eq other source)
     by_list (absent r) = and_false (bytes_eq other source)
     by_list nothing = and_false (bytes_eq other source)
+
+pub imports_from : (source : List ℕ) (later : Forest) (k : Kind) (b : Forest) (other : List ℕ) → imported_from k ≡ Some other → bytes_eq other source && list_takes later b ≡ takes source later k b
+imports_from source later (Kind.ImportDeclaration o) b other is = let same : o ≡ other = cc is in some_import source later (import_declaration o) b other (ap import_declaration same)
+imports_from source later k b other is = absurd cc
+
+pub imports_none : (source : List ℕ) (later : Forest) (k : Kind) (b : Forest) → imported_from k ≡ None → false ≡ takes source later k b
+imports_none source later (Kind.ImportDeclaration o) b is = absurd cc
+imports_none source later k b is = refl
 
 pub imports_each : AsksEach has_import
 imports_each None ts = refl
@@ -74,7 +82,7 @@ pub listed : (k : Kind) (n : Note) (t : Forest) → k ≡ specifiers → Some t 
 listed k n t is = ap (λ l. names_of (node l n t nothing)) (sym is)
 
 pub takes_some : (later b : Forest) (names : Forest) → names_of b ≡ Some names → list_takes later b ≡ may_merge names later
-takes_some later (node Kind.Specifiers m t nothing) names h = ap (λ z. may_merge z later) (cc h)
+takes_some later (node Kind.Specifiers m t nothing) names h = let same : t ≡ names = cc h in ap (λ z. may_merge z later) same
 takes_some later (node Kind.Specifiers m t (absent r)) names h = absurd cc
 takes_some later (node Kind.Specifiers m t (node k n c r)) names h = absurd cc
 takes_some later (node k m t r) names h = absurd cc
@@ -96,15 +104,15 @@ others_stay later specifiers n b (Some x) ts = refl
 others_stay later k n b x ts = refl
 
 pub no_list : (later : Forest) (ts : List (Option Tree)) → (length ts ≡ 1 → ⊥) → row ts ≡ with_names later (row ts)
-no_list later [] no = refl
-no_list later (x ∷ []) no = absurd (no (Prim.omega arith))
-no_list later (None ∷ y ∷ ts) no = refl
-no_list later (Some x ∷ y ∷ ts) no = others_stay later x.kind x.note x.below y ts
+no_list later [] other = refl
+no_list later (x ∷ []) other = absurd (other (Prim.omega arith))
+no_list later (None ∷ y ∷ ts) other = refl
+no_list later (Some x ∷ y ∷ ts) other = others_stay later x.kind x.note x.below y ts
 
-pub only_list : (later : Forest) (ts : List (Option Tree)) (x y : Option Tree) → length ts ≡ 1 → x ≡ get_or ts 0 x → row (y ∷ []) ≡ with_names later (row (x ∷ [])) → row (set ts 0 y) ≡ with_names later (row ts)
-only_list later [] x y one is e = absurd (Prim.omega (arith, one))
-only_list later (z ∷ []) x y one is e = e ∙ ap (λ w. with_names later (row (w ∷ []))) is
-only_list later (z ∷ v ∷ ts) x y one is e = absurd (Prim.omega (arith, one))
+pub only_list : (later : Forest) (ts : List (Option Tree)) (x y : Option Tree) → length ts ≡ 1 → row (y ∷ []) ≡ with_names later (row (get_or ts 0 x ∷ [])) → row (set ts 0 y) ≡ with_names later (row ts)
+only_list later [] x y one e = absurd (Prim.omega (arith, one))
+only_list later (z ∷ []) x y one e = e
+only_list later (z ∷ v ∷ ts) x y one e = absurd (Prim.omega (arith, one))
 
 -- what an item does that has a list of names, and one that hasn't
 pub record Gives (before : Forest) (k : Kind) (b : Forest) (source : List ℕ) (names : Forest) : Type 0 where
@@ -114,7 +122,8 @@ pub record Gives (before : Forest) (k : Kind) (b : Forest) (source : List ℕ) (
 
 gives : (before : Forest) (source : List ℕ) (b names : Forest) → names_of b ≡ Some names → Gives before (import_declaration source) b source names
 gives before source (node Kind.Specifiers m t nothing) names h =
-    subst (λ z. Gives before (import_declaration source) (node specifiers m t nothing) source z) (cc h) (record { goes_if = refl; given_is = refl; asks_too = λ other. and_true (bytes_eq source other) })
+    let same : t ≡ names = cc h in
+    subst (λ z. Gives before (import_declaration source) (node specifiers m t nothing) source z) same (record { goes_if = refl; given_is = refl; asks_too = λ other. and_true (bytes_eq source other) })
 gives before source (node Kind.Specifiers m t (absent r)) names h = absurd cc
 gives before source (node Kind.Specifiers m t (node k n c r)) names h = absurd cc
 gives before source (node k m t r) names h = absurd cc
@@ -122,7 +131,7 @@ gives before source (absent r) names h = absurd cc
 gives before source nothing names h = absurd cc
 
 imported : (before : Forest) (k : Kind) (b : Forest) (source : List ℕ) (names : Forest) → imported_from k ≡ Some source → names_of b ≡ Some names → Gives before k b source names
-imported before (Kind.ImportDeclaration other) b source names is h = subst (λ z. Gives before (import_declaration other) b z names) (cc is) (gives before other b names h)
+imported before (Kind.ImportDeclaration other) b source names is h = let same : other ≡ source = cc is in subst (λ z. Gives before (import_declaration other) b z names) same (gives before other b names h)
 imported before k b source names is h = absurd cc
 
 record Keeps (before : Forest) (k : Kind) (b : Forest) : Type 0 where
@@ -154,11 +163,11 @@ module _ (source : List ℕ) (later : Forest) where
   none_receives (b ∷ bs) [] e = refl
   none_receives (false ∷ bs) (y ∷ ys) e = none_receives bs ys (shifted_none (receiver source later bs ys) e)
   none_receives (true ∷ bs) (None ∷ ys) e = refl
-  none_receives (true ∷ bs) (Some x ∷ ys) e = by (takes source later x.kind x.below) e
+  none_receives (true ∷ bs) (Some x ∷ ys) e = by (takes source later x.kind x.below) (λ h. none_receives bs ys (shifted_none (receiver source later bs ys) h)) e
     where
-      by : (c : Bool) → (if c then Some 0 else shifted (receiver source later bs ys)) ≡ None → c || is_taken source later (row (items_where_true bs ys)) ≡ false
-      by true h = absurd cc
-      by false h = none_receives bs ys (shifted_none (receiver source later bs ys) h)
+      by : (c : Bool) → (shifted (receiver source later bs ys) ≡ None → is_taken source later (row (items_where_true bs ys)) ≡ false) → (if c then Some 0 else shifted (receiver source later bs ys)) ≡ None → c || is_taken source later (row (items_where_true bs ys)) ≡ false
+      by true rest h = absurd cc
+      by false rest h = rest h
 
   pub record Receives (bs : List Bool) (ys : List (Option Tree)) (at : ℕ) : Type 0 where
     pub taken_there : is_taken source later (row (items_where_true bs ys)) ≡ true
@@ -166,7 +175,7 @@ module _ (source : List ℕ) (later : Forest) where
 
   shifted_some : (r : Option ℕ) (at : ℕ) → shifted r ≡ Some at → (j : ℕ) × (r ≡ Some j) × (at ≡ suc j)
   shifted_some None at e = absurd cc
-  shifted_some (Some j) at e = (j, refl, sym (cc e))
+  shifted_some (Some j) at e = let same : at ≡ suc j = cc (sym e) in (j, refl, same)
 
   first_takes : (x : Tree) (bs : List Bool) (ys : List (Option Tree)) → takes source later x.kind x.below ≡ true → Receives (true ∷ bs) (Some x ∷ ys) 0
   first_takes x bs ys h =
@@ -195,13 +204,13 @@ module _ (source : List ℕ) (later : Forest) where
       let r = receives bs ys o.0 o.1 in
       subst (λ n. Receives (false ∷ bs) (y ∷ ys) n) (sym o.2) (record { taken_there = r.taken_there; taken_is = λ w z is more. r.taken_is w z is more })
   receives (true ∷ bs) (None ∷ ys) at e = absurd cc
-  receives (true ∷ bs) (Some x ∷ ys) at e = by (takes source later x.kind x.below) refl e
+  receives (true ∷ bs) (Some x ∷ ys) at e = by (takes source later x.kind x.below) refl (λ j is. receives bs ys j is) e
     where
-      by : (c : Bool) → takes source later x.kind x.below ≡ c → (if c then Some 0 else shifted (receiver source later bs ys)) ≡ Some at → Receives (true ∷ bs) (Some x ∷ ys) at
-      by true h is = subst (λ n. Receives (true ∷ bs) (Some x ∷ ys) n) (cc is) (first_takes x bs ys h)
-      by false h is =
+      by : (c : Bool) → takes source later x.kind x.below ≡ c → ((j : ℕ) → receiver source later bs ys ≡ Some j → Receives bs ys j) → (if c then Some 0 else shifted (receiver source later bs ys)) ≡ Some at → Receives (true ∷ bs) (Some x ∷ ys) at
+      by true h rest is = let same : 0 ≡ at = cc is in subst (λ n. Receives (true ∷ bs) (Some x ∷ ys) n) same (first_takes x bs ys h)
+      by false h rest is =
           let o = shifted_some (receiver source later bs ys) at is in
-          subst (λ n. Receives (true ∷ bs) (Some x ∷ ys) n) (sym o.2) (later_takes x bs ys o.0 h (receives bs ys o.0 o.1))
+          subst (λ n. Receives (true ∷ bs) (Some x ∷ ys) n) (sym o.2) (later_takes x bs ys o.0 h (rest o.0 o.1))
 
 -- ---- items, and what they become
 
@@ -223,6 +232,13 @@ over_set [] (e ∷ changed) at x w l h is same = absurd (Prim.omega (arith, h))
 over_set (y ∷ items) (e ∷ changed) zero x w l h is same = ap (λ z. z ∷ overlaid items changed) (ap (λ z. or_changed z w) (sym is) ∙ same)
 over_set (y ∷ items) (e ∷ changed) (suc at) x w l h is same = ap (λ zs. or_changed y e ∷ zs) (over_set items changed at x w (Prim.omega (arith, l)) (Prim.omega (arith, h)) is same)
 
+pub over_there : (items changed : List (Option Tree)) (n at : ℕ) (x c y : Option Tree) → at < n → length changed ≡ n → n ≤ length items → x ≡ get_or items at x → c ≡ get_or changed at c → y ≡ or_changed x c
+    → (at < length (overlaid items changed)) × (get_or (overlaid items changed) at None ≡ y)
+over_there items changed n at x c y h even within is be said = (
+  Prim.omega (arith, h, even, over_long items changed (Prim.omega (arith, even, within))),
+  over_at items changed at x c None (Prim.omega (arith, h, even)) (Prim.omega (arith, even, within)) is be ∙ sym said,
+)
+
 stays_changed : (later : Forest) (x c : Option Tree) → or_changed x (with_more later (or_changed x c)) ≡ with_more later (or_changed x c)
 stays_changed later None None = refl
 stays_changed later (Some x) None = refl
@@ -236,13 +252,13 @@ went_in source later items bs changed at x c w found l h is be more =
     ap (λ ys. row (items_where_true bs ys)) (over_set items changed at x w l h is (ap (or_changed x) more ∙ stays_changed later x c ∙ sym more))
     ∙ (receives source later bs (overlaid items changed) at found).taken_is (or_changed x c) w (over_at items changed at x c (or_changed x c) l h is be) more
 
+none_over : (ys : List (Option Tree)) → overlaid ys [] ≡ []
+none_over [] = refl
+none_over (z ∷ ys) = refl
+
 pub over_push : (items changed : List (Option Tree)) (i : ℕ) (x : Option Tree) → length changed ≡ i → i < length items → x ≡ get_or items i x → overlaid items (changed ++ None ∷ []) ≡ overlaid items changed ++ x ∷ []
 over_push [] changed i x n l is = absurd (Prim.omega (arith, l))
-over_push (y ∷ items) [] zero x n l is = ap (λ z. z ∷ []) (sym is) ∙ ap (λ zs. x ∷ zs) (none_over items)
-  where
-    none_over : (ys : List (Option Tree)) → [] ≡ overlaid ys []
-    none_over [] = refl
-    none_over (z ∷ ys) = refl
+over_push (y ∷ items) [] zero x n l is = ap₂ (λ (z : Option Tree) zs. z ∷ zs) (sym is) (none_over items)
 over_push (y ∷ items) [] (suc i) x n l is = absurd (Prim.omega (arith, n))
 over_push (y ∷ items) (c ∷ changed) zero x n l is = absurd (Prim.omega (arith, n))
 over_push (y ∷ items) (c ∷ changed) (suc i) x n l is = ap (λ zs. or_changed y c ∷ zs) (over_push items changed i x (Prim.omega (arith, n)) (Prim.omega (arith, l)) is)
@@ -311,11 +327,11 @@ asks_with source later k b = refl
 asks_still : (q source : List ℕ) (later t : Forest) → one_asks q (taken source later t) ≡ one_asks q t
 asks_still q source later nothing = refl
 asks_still q source later (absent r) = refl
-asks_still q source later (node k n b r) = by (takes source later k b)
+asks_still q source later (node k n b r) = by (takes source later k b) (asks_still q source later r)
   where
-    by : (c : Bool) → one_asks q (if c then node k n (with_names later b) r else node k n b (taken source later r)) ≡ asks q k b || one_asks q r
-    by true = ap (λ a. a || one_asks q r) (asks_with q later k b)
-    by false = ap (λ a. asks q k b || a) (asks_still q source later r)
+    by : (c : Bool) → one_asks q (taken source later r) ≡ one_asks q r → one_asks q (if c then node k n (with_names later b) r else node k n b (taken source later r)) ≡ asks q k b || one_asks q r
+    by true rest = ap (λ a. a || one_asks q r) (asks_with q later k b)
+    by false rest = ap (λ a. asks q k b || a) rest
 
 module _ (sources : BTreeSet (Bor (List ℕ))) (before : Forest) (x : Tree) where
   quiet : Keeps before x.kind x.below → TreeGoes sources before x false sources before
@@ -345,26 +361,42 @@ module _ (sources : BTreeSet (Bor (List ℕ))) (before : Forest) (x : Tree) wher
         )
 
     -- another one
-    pub goes_in : (goes : Bool) (after : Forest) → imported_from x.kind ≡ Some source.now → names_of x.below ≡ Some names → sorted.Updates (λ y z. slice_cmp nat_cmp y.now z.now) sources behind source true
-        → goes ≡ is_taken source.now names before → after ≡ (if goes then taken source.now names before else before) → TreeGoes sources before x goes behind after
-    goes_in goes after is named updates said left known =
-        let g = imported before x.kind x.below source.now names is named in (
-          said ∙ sym g.goes_if,
-          left ∙ ap (λ t. if goes then t else before) (sym g.given_is),
+    pub goes_in : (g : Bool) (after : Forest) → imported_from x.kind ≡ Some source.now → names_of x.below ≡ Some names → sorted.Updates (λ y z. slice_cmp nat_cmp y.now z.now) sources behind source true
+        → g ≡ is_taken source.now names before → after ≡ (if g then taken source.now names before else before) → TreeGoes sources before x g behind after
+    goes_in g after is named updates said left known =
+        let o = imported before x.kind x.below source.now names is named in (
+          said ∙ sym o.goes_if,
+          left ∙ ap (λ t. if g then t else before) (sym o.given_is),
           λ q none.
-              let o = not_the_same (bytes_eq source.now q) (contains_by (λ k. slice_cmp nat_cmp q k.now) sources) (sym (has_after source sources behind updates q) ∙ none) in
-              ap (λ t. one_asks q (if goes then t else joined before (forest_of x))) left ∙ by goes q (known q o.1) (g.asks_too q ∙ o.0),
+              let same = not_the_same (bytes_eq source.now q) (contains_by (λ k. slice_cmp nat_cmp q k.now) sources) (sym (has_after source sources behind updates q) ∙ none) in
+              ap (λ t. one_asks q (if g then t else joined before (forest_of x))) left ∙ by g q (known q same.1) (o.asks_too q ∙ same.0),
         )
       where
         by : (c : Bool) (q : List ℕ) → one_asks q before ≡ false → asks q x.kind x.below ≡ false → one_asks q (if c then (if c then taken source.now names before else before) else joined before (forest_of x)) ≡ false
-        by true q none no = asks_still q source.now names before ∙ none
-        by false q none no = asks_more q before (forest_of x) ∙ ap₂ (λ a b. a || (b || false)) none no
+        by true q none other = asks_still q source.now names before ∙ none
+        by false q none other = asks_more q before (forest_of x) ∙ ap₂ (λ a b. a || (b || false)) none other
+
+-- where nothing is done, or no more
+pub ended_goes : (ended : Bool) (sources : BTreeSet (Bor (List ℕ))) (before : Forest) (x : Option Tree) → ended ≡ true → ItemGoes ended sources before x false sources before
+ended_goes true sources before x is = (refl, refl)
+ended_goes false sources before x is = absurd (true≢false (sym is))
+
+pub none_goes : (ended : Bool) (sources : BTreeSet (Bor (List ℕ))) (before : Forest) (x : Option Tree) → x ≡ None → ItemGoes ended sources before x false sources before
+none_goes true sources before x is = (refl, refl)
+none_goes false sources before None is = (refl, refl)
+none_goes false sources before (Some x) is = absurd cc
+
+pub some_goes : (ended : Bool) (sources : BTreeSet (Bor (List ℕ))) (before : Forest) (x : Option Tree) (t : Tree) (g : Bool) (behind : BTreeSet (Bor (List ℕ))) (after : Forest) → ended ≡ false → x ≡ Some t → TreeGoes sources before t g behind after → ItemGoes ended sources before x g behind after
+some_goes true sources before x t g behind after isnt is went = absurd (true≢false isnt)
+some_goes false sources before None t g behind after isnt is went = absurd cc
+some_goes false sources before (Some y) t g behind after isnt is went = let same : t ≡ y = cc (sym is) in subst (λ z. TreeGoes sources before z g behind after) same went
 
 -- ---- item by item
 
 pub record So (items : List (Option Tree)) (i : ℕ) (ended : Bool) (sources : BTreeSet (Bor (List ℕ))) (staying : List Bool) (changed : List (Option Tree)) : Type 0 where
   pub even : length changed ≡ i
   pub long : length staying ≡ i
+  pub inside : i ≤ length items
   pub left : go_on ended (planned items staying changed) (row (drop i items)) ≡ together nothing (row items)
   pub goes : list_any (λ b. beq b false) staying || more_go ended (planned items staying changed) (row (drop i items)) ≡ one_goes nothing (row items)
   pub known : ended ≡ false → Known sources (planned items staying changed)
@@ -407,16 +439,16 @@ module _ (sources behind : BTreeSet (Bor (List ℕ))) (before : Forest) (any : B
 
   item_stays : (after next : Forest) (t : Tree) → (if goes before t.kind t.below then given before t.kind t.below else joined before (forest_of t)) ≡ joined before (forest_of t) → goes before t.kind t.below ≡ false → next ≡ joined before (forest_of t)
       → Known behind (joined before (forest_of t)) → Next after next false (Some t) false false
-  item_stays after next t same no is known = record {
+  item_stays after next t same isnt is known = record {
     left = ap (λ u. together u (row ts)) (is ∙ sym same);
-    goes = ap (λ b. b || one_goes next (row ts)) (or_false any) ∙ ap₂ (λ u b. any || (b || one_goes u (row ts))) is (sym no);
+    goes = ap (λ b. b || one_goes next (row ts)) (or_false any) ∙ ap₂ (λ u b. any || (b || one_goes u (row ts))) is (sym isnt);
     known = λ e. subst (λ u. Known behind u) (sym is) known;
   }
 
   item_goes : (after next : Forest) (t : Tree) → goes before t.kind t.below ≡ true → next ≡ given before t.kind t.below → Known behind (given before t.kind t.below) → Next after next true (Some t) false false
-  item_goes after next t yes is known = record {
-    left = ap (λ u. together u (row ts)) is ∙ ap (λ b. together (if b then given before t.kind t.below else joined before (forest_of t)) (row ts)) (sym yes);
-    goes = or_true any (one_goes next (row ts)) ∙ ap (λ b. any || (b || one_goes (joined before (forest_of t)) (row ts))) (sym yes);
+  item_goes after next t does is known = record {
+    left = ap (λ u. together u (row ts)) is ∙ ap (λ b. together (if b then given before t.kind t.below else joined before (forest_of t)) (row ts)) (sym does);
+    goes = or_true any (one_goes next (row ts)) ∙ ap (λ b. any || (b || one_goes (joined before (forest_of t)) (row ts))) (sym does);
     known = λ e. subst (λ u. Known behind u) (sym is) known;
   }
 
@@ -446,6 +478,7 @@ so_more items i was ended sources behind bs more cs mid all x g so h is ends wen
     record {
       even = Prim.omega (arith, ap length put, length-append mid (None ∷ []), even, so.even);
       long = Prim.omega (arith, ap length pushed, length-append bs (not g ∷ []), so.long);
+      inside = Prim.omega (arith, h);
       left = n.left ∙ ap (go_on was (planned items bs cs)) (sym front) ∙ so.left;
       goes =
           ap (λ b. b || more_go ended (planned items more all) (row (drop (i + 1) items))) (ap (list_any (λ b. beq b false)) pushed ∙ some_more bs g)
@@ -455,8 +488,11 @@ so_more items i was ended sources behind bs more cs mid all x g so h is ends wen
       known = n.known;
     }
 
-pub so_begins : (items : List (Option Tree)) (sources : BTreeSet (Bor (List ℕ))) → So items 0 false sources [] []
-so_begins items sources = record { even = refl; long = refl; left = refl; goes = refl; known = λ e. λ q none. refl }
+none_so : (items : List (Option Tree)) (sources : BTreeSet (Bor (List ℕ))) → So items 0 false sources [] []
+none_so items sources = record { even = refl; long = refl; inside = Prim.omega arith; left = refl; goes = refl; known = λ e. λ q none. refl }
+
+pub so_begins : (items : List (Option Tree)) (sources : BTreeSet (Bor (List ℕ))) (bs : List Bool) (cs : List (Option Tree)) → bs ≡ [] → cs ≡ [] → So items 0 false sources bs cs
+so_begins items sources bs cs is be = subst (λ l. So items 0 false sources l cs) (sym is) (subst (λ l. So items 0 false sources [] l) (sym be) (none_so items sources))
 
 all_done : (ended : Bool) (before : Forest) → go_on ended before nothing ≡ before
 all_done true before = joined_nothing before
@@ -466,14 +502,14 @@ none_to_go : (ended : Bool) (before : Forest) → more_go ended before nothing �
 none_to_go true before = refl
 none_to_go false before = refl
 
-pub so_ends : (items : List (Option Tree)) (i : ℕ) (ended : Bool) (sources : BTreeSet (Bor (List ℕ))) (bs : List Bool) (cs : List (Option Tree)) → So items i ended sources bs cs → i ≡ length items → Plan bs cs (row items)
+pub so_ends : (items : List (Option Tree)) (i : ℕ) (ended : Bool) (sources : BTreeSet (Bor (List ℕ))) (bs : List Bool) (cs : List (Option Tree)) → So items i ended sources bs cs → length items ≤ i → Plan bs cs (row items)
 so_ends items i ended sources bs cs so all =
-    let none = ap row (drop_all i items (Prim.omega (arith, all))) in
+    let none = ap row (drop_all i items all) in
     record {
       items = items;
       are = refl;
-      even = so.even ∙ all;
-      long = so.long ∙ all;
+      even = Prim.omega (arith, so.even, so.inside, all);
+      long = Prim.omega (arith, so.long, so.inside, all);
       left = sym (ap (go_on ended (planned items bs cs)) none ∙ all_done ended (planned items bs cs)) ∙ so.left;
       goes = sym (ap (λ t. list_any (λ b. beq b false) bs || more_go ended (planned items bs cs) t) none ∙ ap (λ b. list_any (λ b. beq b false) bs || b) (none_to_go ended (planned items bs cs)) ∙ or_false (list_any (λ b. beq b false) bs)) ∙ so.goes;
     }
@@ -495,5 +531,16 @@ row_same (Some t ∷ ts) (Some u ∷ us) e =
     let belows : t.below ≡ u.below = cc e in
     let rests : row ts ≡ row us = cc e in
     ap₂ (λ (x : Option Tree) l. x ∷ l)
-        (ap (λ z. Some (record { kind = z; note = t.note; below = t.below })) kinds ∙ ap (λ z. Some (record { kind = u.kind; note = z; below = t.below })) notes ∙ ap (λ z. Some (record { kind = u.kind; note = u.note; below = z })) belows)
-        (row_same ts us rests)
+    (ap (λ z. Some (record { kind = z; note = t.note; below = t.below })) kinds ∙ ap (λ z. Some (record { kind = u.kind; note = z; below = t.below })) notes ∙ ap (λ z. Some (record { kind = u.kind; note = u.note; below = z })) belows)
+    (row_same ts us rests)
+
+-- ---- the list
+
+pub plan_moves : (bs bits : List Bool) (cs ds : List (Option Tree)) (t u : Forest) → bits ≡ bs → ds ≡ cs → t ≡ u → Plan bs cs t → Plan bits ds u
+plan_moves bs bits cs ds t u is be are plan = subst (λ l. Plan l ds u) (sym is) (subst (λ l. Plan bs l u) (sym be) (subst (λ v. Plan bs cs v) are plan))
+
+pub tree_stays : (x : Tree) → one_goes nothing x.below ≡ false → x ≡ record x { below = together nothing x.below }
+tree_stays x none = ap (λ t. record { kind = x.kind; note = x.note; below = t }) (sym (none_come nothing x.below none))
+
+pub written : (n : ℕ) (ys zs : List (Option Tree)) → n ≡ length ys → take n (ys ++ zs) ≡ ys
+written n ys zs e = take-append-le n ys zs (Prim.omega (arith, e)) ∙ take_all n ys (Prim.omega (arith, e))

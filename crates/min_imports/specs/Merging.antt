@@ -9,7 +9,7 @@ use Rattle.std.specs.Str.{bytes_eq}
 use Rattle.js_syntax.specs.declared.node_kind.NodeKind.{NodeKind as Kind}
 use Rattle.js_syntax.specs.declared.node_kind.NodeKind.TheVariants.{ImportDeclaration as import_declaration, Specifiers as specifiers}
 use Rattle.js_syntax.specs.Node.{Forest, Tree, nothing, node, absent, joined, forest_of, row}
-use Rattle.steps.specs.Allowed.MergedImports.{are_names, is_default, is_namespace, is_named, how_many, all_named, first_default, but_first_default, as_named, may_merge}
+use Rattle.steps.specs.Allowed.MergedImports.{is_default, is_namespace, is_named, all_named, first_default, but_first_default, as_named, may_merge}
 use Rattle.min_imports.specs.declared.names.Sort.{Sort}
 use Rattle.min_imports.specs.declared.names.Sort.TheVariants as sort
 use Rattle.js_syntax.specs.declared.value.ModuleName.TheVariants.{Name as plain_name}
@@ -109,6 +109,16 @@ receiver source later (b ∷ staying) [] = None
 receiver source later (false ∷ staying) (x ∷ items) = shifted (receiver source later staying items)
 receiver source later (true ∷ staying) (None ∷ items) = None
 receiver source later (true ∷ staying) (Some x ∷ items) = if takes source later x.kind x.below then Some 0 else shifted (receiver source later staying items)
+
+-- the search ends at an item that stays and takes them, or is missing
+abbrev pub ends : (source : List ℕ) (later : Forest) (staying : Bool) → Option Tree → Bool
+ends source later false x = false
+ends source later true None = true
+ends source later true (Some x) = takes source later x.kind x.below
+
+abbrev pub there : (at : ℕ) → Option Tree → Option ℕ
+there at None = None
+there at (Some x) = Some at
 
 abbrev pub with_more : (later : Forest) → Option Tree → Option Tree
 with_more later None = None

@@ -1,10 +1,11 @@
 // Imports of one module come together.
-ghost use Rattle.std.specs.Prelude.{◌≡◌, ◌<◌, ◌≤◌, [], ◌∷◌, false, length, IfOk, IfSome, OnOk, OnErr, IsOk, if◌then◌else◌};
+ghost use Rattle.std.specs.Prelude.{◌≡◌, ◌<◌, ◌≤◌, [], ◌∷◌, Some, false, ◌||◌, length, IfOk, IfSome, OnOk, OnErr, IsOk, if◌then◌else◌};
 ghost use Rattle.std.specs.Bool.{OnFalse};
 ghost use Rattle.std.specs.Option.{option_map};
+ghost use Rattle.std.specs.Str.{bytes_eq};
 ghost use Rattle.js_syntax.specs.Node.{nothing, row, forest_of};
 ghost use Rattle.rules.specs.Imports.Merged as rules;
-ghost use Rattle.min_imports.specs.Merging.{has_import, imported_from, names_of, list_takes, TreeGoes, ItemGoes, is_missing, or_changed, overlaid, planned, receiver, with_more, Plan};
+ghost use Rattle.min_imports.specs.Merging.{has_import, imported_from, names_of, list_takes, TreeGoes, ItemGoes, is_missing, or_changed, overlaid, planned, ends, there, receiver, with_more, Plan};
 
 use crate::names::{may_merge, put_names};
 use crate::repeated::keep_staying;
@@ -76,14 +77,18 @@ fn list_takes(later: &[Option<Node>], children: &[Option<Node>]) -> bool
     }
 }
 
+fn is_same(one: &str, other: &str) -> bool
+    ensures { result ≡ bytes_eq one.now other.now }
+{
+    one == other
+}
+
 fn takes(source: &str, later: &[Option<Node>], node: &Node) -> bool
     ensures { result ≡ rules.takes source.now (row later.now) node.now.kind node.now.below }
 {
-    match node.kind() {
-        NodeKind::ImportDeclaration(other) => {
-            other.as_str() == source && list_takes(later, node.children())
-        }
-        _ => false,
+    match imported_from(node.kind()) {
+        Some(other) => is_same(other, source) && list_takes(later, node.children()),
+        None => false,
     }
 }
 
@@ -94,6 +99,28 @@ fn as_changed<'a>(item: &'a Option<Node>, changed: &'a Option<Node>) -> &'a Opti
     match changed {
         Some(_) => changed,
         None => item,
+    }
+}
+
+// The search ends at an item that stays and takes them, or is missing.
+fn ends(source: &str, later: &[Option<Node>], stays: bool, item: &Option<Node>) -> bool
+    ensures { result ≡ ends source.now (row later.now) stays item.now }
+{
+    if !stays {
+        return false;
+    }
+    match item {
+        Some(node) => takes(source, later, node),
+        None => true,
+    }
+}
+
+fn there(at: usize, item: &Option<Node>) -> Option<usize>
+    ensures { result ≡ there at item.now }
+{
+    match item {
+        Some(_) => Some(at),
+        None => None,
     }
 }
 
@@ -111,15 +138,9 @@ fn receiver(
 {
     let mut at = 0;
     while at < staying.len() {
-        if staying[at] {
-            match as_changed(&items[at], &changed[at]) {
-                Some(node) => {
-                    if takes(source, later, node) {
-                        return Some(at);
-                    }
-                }
-                None => return None,
-            }
+        let item = as_changed(&items[at], &changed[at]);
+        if ends(source, later, staying[at], item) {
+            return there(at, item);
         }
         at += 1;
     }
@@ -128,11 +149,7 @@ fn receiver(
 
 // ---- which then has them
 
-fn take_names_in(
-    alloc: Global,
-    list: &mut Node,
-    later: &[Option<Node>],
-) -> Result<(), AllocError>
+fn take_names_in(alloc: Global, list: &mut Node, later: &[Option<Node>]) -> Result<(), AllocError>
     ensures { OnOk result (forest_of list.new ≡ rules.with_names (row later.now) (forest_of list.old)) }
 {
     if let NodeKind::Specifiers = list.kind() {
@@ -230,11 +247,38 @@ fn go_in(
     let Some(at) = receiver(source, names, items, staying, changed.as_slice()) else {
         return Ok(false);
     };
-    give_names(alloc, &items[at], &mut changed[at], names)?;
+    let slot = &mut changed[at];
+    give_names(alloc, &items[at], slot, names)?;
     Ok(true)
 }
 
 // An import of a module that none before it asks for goes into none.
+fn import_goes<'a>(
+    alloc: Global,
+    sources: &mut BTreeSet<&'a str>,
+    items: &[Option<Node>],
+    staying: &[bool],
+    changed: &mut Vec<Option<Node>>,
+    node: &'a Node,
+    source: &'a str,
+) -> Result<bool, AllocError>
+    requires even { length changed.old.items ≡ length staying.now }
+    requires within { length staying.now ≤ length items.now }
+    requires source { imported_from node.now.kind ≡ Some source.now }
+    ensures goes { IfOk result (λ b. TreeGoes sources.old (planned items.now staying.now changed.old.items) node.now b sources.new (planned items.now staying.now changed.new.items)) }
+    ensures even { OnOk result (length changed.new.items ≡ length changed.old.items) }
+{
+    let Some(names) = names_of(node.children()) else {
+        return Ok(false);
+    };
+    let is_new = sources.insert(source)?;
+    if is_new {
+        return Ok(false);
+    }
+    let is_gone = go_in(alloc, source, names, items, staying, changed)?;
+    Ok(is_gone)
+}
+
 fn goes<'a>(
     alloc: Global,
     sources: &mut BTreeSet<&'a str>,
@@ -251,13 +295,8 @@ fn goes<'a>(
     let Some(source) = imported_from(node.kind()) else {
         return Ok(false);
     };
-    let Some(names) = names_of(node.children()) else {
-        return Ok(false);
-    };
-    if sources.insert(source)? {
-        return Ok(false);
-    }
-    go_in(alloc, source, names, items, staying, changed)
+    let is_gone = import_goes(alloc, sources, items, staying, changed, node, source)?;
+    Ok(is_gone)
 }
 
 // Behind an item that is missing none goes.
@@ -278,10 +317,11 @@ fn item_goes<'a>(
     if ended {
         return Ok(false);
     }
-    match item {
-        Some(node) => goes(alloc, sources, items, staying, changed, node),
-        None => Ok(false),
-    }
+    let Some(node) = item else {
+        return Ok(false);
+    };
+    let is_gone = goes(alloc, sources, items, staying, changed, node)?;
+    Ok(is_gone)
 }
 
 fn is_missing(item: &Option<Node>) -> bool
@@ -293,10 +333,13 @@ fn is_missing(item: &Option<Node>) -> bool
     }
 }
 
-fn plan(
-    alloc: Global,
-    items: &[Option<Node>],
-) -> Result<(Vec<bool>, Vec<Option<Node>>), AllocError>
+fn ends_at(ended: bool, item: &Option<Node>) -> bool
+    ensures { result ≡ (ended || is_missing item.now) }
+{
+    ended || is_missing(item)
+}
+
+fn plan(alloc: Global, items: &[Option<Node>]) -> Result<(Vec<bool>, Vec<Option<Node>>), AllocError>
     ensures { IfOk result (λ p. Plan p.0.items p.1.items (row items.now)) }
 {
     let mut sources = BTreeSet::new(alloc);
@@ -304,8 +347,8 @@ fn plan(
     let mut changed = Vec::new(alloc);
     let mut ended = false;
     for item in items {
-        ended = ended || is_missing(item);
-        let goes = item_goes(
+        ended = ends_at(ended, item);
+        let is_gone = item_goes(
             alloc,
             &mut sources,
             ended,
@@ -314,7 +357,7 @@ fn plan(
             &mut changed,
             item,
         )?;
-        staying.push(!goes)?;
+        staying.push(!is_gone)?;
         changed.push(None)?;
     }
     Ok((staying, changed))

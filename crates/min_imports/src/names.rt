@@ -1,5 +1,5 @@
 // Names of imports: which come together, and the names of two imports in one list.
-ghost use Rattle.std.specs.Prelude.{◌≡◌, [], ◌∷◌, ◌++◌, ◌==◌, true, IfOk, OnOk};
+ghost use Rattle.std.specs.Prelude.{◌≡◌, ◌+◌, [], ◌∷◌, ◌++◌, ◌==◌, true, not, ◌&&◌, nat_le, IfOk, OnOk};
 ghost use Rattle.js_syntax.specs.Node.{Forest, row, forest_of, joined};
 ghost use Rattle.steps.specs.Steps as steps;
 ghost use Rattle.steps.specs.Allowed.MergedImports as merging;
@@ -106,29 +106,65 @@ fn how_many(sort: Sort, names: &[Option<Node>]) -> usize
     count
 }
 
+// Whether two numbers are none together, or one, or at most one.
+fn are_none(here: usize, there: usize) -> bool
+    ensures { result ≡ (here + there == 0) }
+{
+    here == 0 && there == 0
+}
+
+fn are_one(here: usize, there: usize) -> bool
+    ensures { result ≡ (here + there == 1) }
+{
+    if here == 0 {
+        return there == 1;
+    }
+    here == 1 && there == 0
+}
+
+fn are_few(here: usize, there: usize) -> bool
+    ensures { result ≡ nat_le (here + there) 1 }
+{
+    are_none(here, there) || are_one(here, there)
+}
+
 // Of a sort neither list has any.
 fn none_of(sort: Sort, names: &[Option<Node>], later: &[Option<Node>]) -> bool
     ensures { result ≡ (merging.how_many (is_of sort) (joined (row names.now) (row later.now)) == 0) }
 {
-    how_many(sort, names) == 0 && how_many(sort, later) == 0
+    let here = how_many(sort, names);
+    let there = how_many(sort, later);
+    are_none(here, there)
 }
 
-// Of a sort both lists have one.
+// Of a sort both lists together have one.
 fn one_of(sort: Sort, names: &[Option<Node>], later: &[Option<Node>]) -> bool
     ensures { result ≡ (merging.how_many (is_of sort) (joined (row names.now) (row later.now)) == 1) }
 {
     let here = how_many(sort, names);
     let there = how_many(sort, later);
-    (here == 0 && there == 1) || (here == 1 && there == 0)
+    are_one(here, there)
+}
+
+// Of a sort both lists together have at most one.
+fn few_of(sort: Sort, names: &[Option<Node>], later: &[Option<Node>]) -> bool
+    ensures { result ≡ nat_le (merging.how_many (is_of sort) (joined (row names.now) (row later.now))) 1 }
+{
+    let here = how_many(sort, names);
+    let there = how_many(sort, later);
+    are_few(here, there)
 }
 
 fn go_together(names: &[Option<Node>], later: &[Option<Node>]) -> bool
     ensures { result ≡ merging.go_together (joined (row names.now) (row later.now)) }
 {
-    none_of(Sort::Namespace, names, later)
-        || (one_of(Sort::Namespace, names, later)
-            && (none_of(Sort::Named, names, later)
-                && (none_of(Sort::Default, names, later) || one_of(Sort::Default, names, later))))
+    if none_of(Sort::Namespace, names, later) {
+        return true;
+    }
+    let alone = one_of(Sort::Namespace, names, later);
+    let unnamed = none_of(Sort::Named, names, later);
+    let few = few_of(Sort::Default, names, later);
+    alone && (unnamed && few)
 }
 
 /// Whether the names of an import may come to those of an earlier one.
@@ -198,6 +234,13 @@ fn put_named(
     Ok(())
 }
 
+// Whether a name is the first default.
+fn comes_first(has_default: bool, item: &Option<Node>) -> bool
+    ensures { result ≡ (not has_default && item_is_of Sort.Default item.now) }
+{
+    !has_default && item_is_of(Sort::Default, item)
+}
+
 // One more name, behind those of which one may be a default.
 fn put_name(
     alloc: Global,
@@ -207,7 +250,7 @@ fn put_name(
 ) -> Result<bool, AllocError>
     ensures { IfOk result (λ b. (rest : Forest) → joined_by b (row names.new.items) rest ≡ joined_by has_default (row names.old.items) (joined (row (item.now ∷ [])) rest)) }
 {
-    if !has_default && item_is_of(Sort::Default, item) {
+    if comes_first(has_default, item) {
         put_default(alloc, names, item)?;
         return Ok(true);
     }

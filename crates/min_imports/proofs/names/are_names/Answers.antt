@@ -8,10 +8,10 @@ use Rattle.min_imports.proofs.names.are_names.Goals as goal
 
 pub returns-then-not-is_name : goal.returns-then-not-is_name
 returns-then-not-is_name c =
-    sym (not_true (are_names (row c.args.names.now)) (found_at has_other others_each c.args.names.now c.loop-name.name-index c.name-name.result c.loop-name-test.true c.name-name.is (ap not (sym c.is_name.ensures ∙ c.if-not-is_name.true))))
+    sym (not_true (are_names (row c.args.names.now)) (found_at has_other others_each c.args.names.now c.loop-name.name-index c.name-item.result c.loop-name-test.true c.name-item.is (ap not (sym c.is_name.ensures ∙ c.if-not-is_name.true))))
 
 pub loop-name-preserved : goal.loop-name-preserved
-loop-name-preserved c = rest_of has_other others_each c.args.names.now c.loop-name.name-index c.name-name.result c.loop-name-test.true c.name-name.is (ap not (sym c.is_name.ensures ∙ c.if-not-is_name.false)) c.loop-name.invariant
+loop-name-preserved c = rest_of has_other others_each c.args.names.now c.loop-name.name-index c.name-item.result c.loop-name-test.true c.name-item.is (ap not (sym c.is_name.ensures ∙ c.if-not-is_name.false)) c.loop-name.invariant
 
 pub returns : goal.returns
 returns c = sym (not_false (are_names (row c.args.names.now)) (none_found has_other c.args.names.now c.loop-name.name-index refl (omega (arith, c.loop-name-test.false)) c.loop-name.invariant))
