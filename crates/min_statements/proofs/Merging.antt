@@ -1,5 +1,5 @@
 -- What the hook of programs does: imports of one module come together.
-use Rattle.std.proofs.Common.{◌≡◌, ◌∙◌, ◌≤◌, length, List, [], ◌∷◌, Bool, true, false, true≢false, not, ◌&&◌, if◌then◌else◌, Option, Some, None, is_some, refl, sym, ap, subst, get_or, set, arith}
+use Rattle.std.proofs.Common.{◌≡◌, ◌∙◌, ◌≤◌, length, List, [], ◌∷◌, Bool, true, false, true≢false, not, ◌&&◌, if◌then◌else◌, Option, Some, None, is_some, Result, Ok, Err, IfOk, OnErr, refl, sym, ap, subst, get_or, set, arith}
 use Rattle.js_syntax.specs.declared.node_kind.NodeKind.{NodeKind as Kind}
 use Rattle.js_syntax.specs.declared.node_kind.NodeKind.TheVariants.{Program as program, Statements as statements}
 use Rattle.js_syntax.specs.declared.scalar.SourceType.TheVariants as source_type
@@ -20,7 +20,7 @@ use Rattle.rules.specs.DeadCode.Rules.{Facts}
 use Rattle.rules.specs.Imports.Merged.{one_goes, together, list_together, below_together, with_below, is_outermost, come_together}
 use Rattle.rules.proofs.Imports.Together.{none_come, rule_edits, rule_lighter, rule_refers, rule_calls}
 use Rattle.min_statements.specs.Acts.{merge}
-use Rattle.min_statements.specs.Merged.{is_module, or_as_it_was, ListComes}
+use Rattle.min_statements.specs.Merged.{is_module, is_statements, or_as_it_was, ListComes}
 use Rattle.min_statements.specs.Own.{AnyEdit, Own, Found}
 use Rattle.min_statements.specs.Walker.{Names, facts_of}
 use Rattle.min_statements.proofs.Acting.{known, moves, stayed}
@@ -47,9 +47,13 @@ list_comes m t x y b old said new =
 pub a_list_comes : (x y : Tree) (b : Bool) → x.kind ≡ statements → b ≡ one_goes nothing x.below → y ≡ record x { below = together nothing x.below } → ListComes (forest_of x) b (forest_of y)
 a_list_comes x y b list said new = list_comes x.note x.below x y b (ap {A = Kind} {B = Tree} (λ k. record { kind = k; note = x.note; below = x.below }) list) said new
 
-no_list : (k : Kind) (n : Note) (t r : Forest) → (k ≡ statements → ⊥) → list_together (node k n t r) ≡ None
-no_list Kind.Statements n t r no = absurd (no refl)
-no_list k n t r no = refl
+pub statements_are : (k : Kind) → is_statements k ≡ true → k ≡ statements
+statements_are Kind.Statements is = refl
+statements_are k is = absurd (true≢false (sym is))
+
+no_list : (k : Kind) (n : Note) (t r : Forest) → is_statements k ≡ false → list_together (node k n t r) ≡ None
+no_list Kind.Statements n t r other = absurd (true≢false other)
+no_list k n t r other = refl
 
 comes_not : (t u : Forest) → list_together t ≡ None → u ≡ t → ListComes t false u
 comes_not t u none same = (ap is_some (sym none), same ∙ ap (or_as_it_was t) (sym none))
@@ -63,21 +67,33 @@ several k n b None ts = refl
 several k n b (Some y) ts = refl
 
 not_one : (ts : List (Option Tree)) → (length ts ≡ 1 → ⊥) → list_together (row ts) ≡ None
-not_one [] no = refl
-not_one (None ∷ ts) no = refl
-not_one (Some x ∷ []) no = absurd (no (Prim.omega arith))
-not_one (Some x ∷ y ∷ ts) no = several x.kind x.note x.below y ts
+not_one [] other = refl
+not_one (None ∷ ts) other = refl
+not_one (Some x ∷ []) other = absurd (other (Prim.omega arith))
+not_one (Some x ∷ y ∷ ts) other = several x.kind x.note x.below y ts
 
 pub no_only : (ts : List (Option Tree)) → (length ts ≡ 1 → ⊥) → ListComes (row ts) false (row ts)
-no_only ts no = comes_not (row ts) (row ts) (not_one ts no) refl
+no_only ts other = comes_not (row ts) (row ts) (not_one ts other) refl
 
-pub only_comes : (ts : List (Option Tree)) (x y : Option Tree) (b : Bool) → length ts ≡ 1 → x ≡ get_or ts 0 x → ListComes (row (x ∷ [])) b (row (y ∷ [])) → ListComes (row ts) b (row (set ts 0 y))
-only_comes [] x y b one is comes = absurd (Prim.omega (arith, one))
-only_comes (z ∷ []) x y b one is comes = subst (λ w. ListComes (row (w ∷ [])) b (row (y ∷ []))) is comes
-only_comes (z ∷ w ∷ ts) x y b one is comes = absurd (Prim.omega (arith, one))
+pub only_comes : (ts : List (Option Tree)) (x y : Option Tree) (b : Bool) → length ts ≡ 1 → ListComes (row (get_or ts 0 x ∷ [])) b (row (y ∷ [])) → ListComes (row ts) b (row (set ts 0 y))
+only_comes [] x y b one comes = absurd (Prim.omega (arith, one))
+only_comes (z ∷ []) x y b one comes = comes
+only_comes (z ∷ w ∷ ts) x y b one comes = absurd (Prim.omega (arith, one))
 
-pub no_other_list : (x : Tree) → (x.kind ≡ statements → ⊥) → ListComes (forest_of x) false (forest_of x)
-no_other_list x no = comes_not (forest_of x) (forest_of x) (no_list x.kind x.note x.below nothing no) refl
+pub no_other_list : (x : Tree) → is_statements x.kind ≡ false → ListComes (forest_of x) false (forest_of x)
+no_other_list x other = comes_not (forest_of x) (forest_of x) (no_list x.kind x.note x.below nothing other) refl
+
+-- where nothing is done
+pub child_same : (ts : List (Option Tree)) (x y : Option Tree) → y ≡ get_or ts 0 x → set ts 0 y ≡ ts
+child_same [] x y same = refl
+child_same (z ∷ ts) x y same = ap (λ (w : Option Tree). w ∷ ts) same
+
+pub comes_there : {E : Type 0} (r : Result Bool E) (t u v w : Forest) → t ≡ u → v ≡ w → IfOk r (λ b. ListComes t b v) → IfOk r (λ b. ListComes u b w)
+comes_there r t u v w is be comes = subst (λ z. IfOk r (λ b. ListComes u b z)) be (subst (λ z. IfOk r (λ b. ListComes z b v)) is comes)
+
+pub refused_so : {A E : Type 0} (r : Result A E) {P Q : Type 0} → (P → Q) → OnErr r P → OnErr r Q
+refused_so (Ok a) step h = tt
+refused_so (Err e) step h = step h
 
 -- ---- a program
 
@@ -98,11 +114,11 @@ a_module f p (Kind.Program source_type.Module) n b e = refl
 a_module f p k n b e = absurd (true≢false (sym e))
 
 asked : (f : Facts) (p : Place) (x : Tree) (b : Bool) → is_module x.kind ≡ b → b && may f p ≡ false → come_together f p x ≡ None
-asked f p x true is no = a_module f p x.kind x.note x.below is ∙ ap (λ c. if c then with_below x (list_together x.below) else None) no
-asked f p x false is no = no_module f p x.kind x.note x.below is
+asked f p x true is isnt = a_module f p x.kind x.note x.below is ∙ ap (λ c. if c then with_below x (list_together x.below) else None) isnt
+asked f p x false is isnt = no_module f p x.kind x.note x.below is
 
 pub merges_none : (names : Names) (c : Seen) (x : Tree) → false ≡ (is_module x.kind && may (facts_of names c) c.place) → Does (merge names) c x false c x
-merges_none names c x no = does_none (merge names) c x (asked (facts_of names c) c.place x (is_module x.kind) refl (sym no))
+merges_none names c x isnt = does_none (merge names) c x (asked (facts_of names c) c.place x (is_module x.kind) refl (sym isnt))
 
 and_first : (a b : Bool) → true ≡ a && b → a ≡ true
 and_first true b e = refl
@@ -112,11 +128,11 @@ and_second : (a b : Bool) → true ≡ a && b → b ≡ true
 and_second true b e = sym e
 and_second false b e = absurd (true≢false e)
 
-module _ (names : Names) (c : Seen) (x : Tree) (yes : true ≡ (is_module x.kind && may (facts_of names c) c.place)) where
+module _ (names : Names) (c : Seen) (x : Tree) (does : true ≡ (is_module x.kind && may (facts_of names c) c.place)) where
   found : come_together (facts_of names c) c.place x ≡ with_below x (list_together x.below)
   found =
-      a_module (facts_of names c) c.place x.kind x.note x.below (and_first (is_module x.kind) (may (facts_of names c) c.place) yes)
-      ∙ ap (λ b. if b then with_below x (list_together x.below) else None) (and_second (is_module x.kind) (may (facts_of names c) c.place) yes)
+      a_module (facts_of names c) c.place x.kind x.note x.below (and_first (is_module x.kind) (may (facts_of names c) c.place) does)
+      ∙ ap (λ b. if b then with_below x (list_together x.below) else None) (and_second (is_module x.kind) (may (facts_of names c) c.place) does)
 
   same_tree : (y : Tree) (u : Forest) → y.kind ≡ x.kind → y.note ≡ x.note → y.below ≡ u → y ≡ record { kind = x.kind; note = x.note; below = u }
   same_tree y u k n b =

@@ -6,7 +6,7 @@ ghost use Rattle.scope_rules.specs.ScopeFlags as scope_flag;
 ghost use Rattle.steps.specs.Marked.Flags.{scope_has};
 ghost use Rattle.rules.specs.Imports.Merged as rules;
 ghost use Rattle.min_statements.specs.Acts as acts;
-ghost use Rattle.min_statements.specs.Merged.{is_module, ListComes};
+ghost use Rattle.min_statements.specs.Merged.{is_module, is_statements, ListComes};
 ghost use Rattle.min_statements.specs.Walker.{facts_of};
 
 use crate::facts::sees_eval;
@@ -44,14 +44,21 @@ fn may_come_together(names: &Statements, node: &Node, ctx: &MinifierTraverseCtx)
 
 // ---- and the list in which they do
 
+fn is_statements(kind: &NodeKind) -> bool
+    ensures { result ≡ is_statements kind.now }
+{
+    matches!(kind, NodeKind::Statements)
+}
+
 fn merge_list(alloc: Global, list: &mut Node) -> Result<bool, AllocError>
     ensures comes { IfOk result (λ b. ListComes (forest_of list.old) b (forest_of list.new)) }
     ensures refused { OnErr result (list.new ≡ list.old) }
 {
-    match list.kind() {
-        NodeKind::Statements => merge_imports(alloc, list),
-        _ => Ok(false),
+    if !is_statements(list.kind()) {
+        return Ok(false);
     }
+    let merged = merge_imports(alloc, list)?;
+    Ok(merged)
 }
 
 fn merge_child(alloc: Global, child: &mut Option<Node>) -> Result<bool, AllocError>
@@ -68,10 +75,11 @@ fn merge_only(alloc: Global, children: &mut [Option<Node>]) -> Result<bool, Allo
     ensures comes { IfOk result (λ b. ListComes (row children.old) b (row children.new)) }
     ensures refused { OnErr result (children.new ≡ children.old) }
 {
-    if children.len() != 1 {
-        return Ok(false);
+    if children.len() == 1 {
+        let merged = merge_child(alloc, &mut children[0])?;
+        return Ok(merged);
     }
-    merge_child(alloc, &mut children[0])
+    Ok(false)
 }
 
 fn merge_below(alloc: Global, node: &mut Node) -> Result<bool, AllocError>
