@@ -1,9 +1,9 @@
 -- What the hook of programs does: imports of one module come together.
-use Rattle.std.proofs.Common.{◌≡◌, ◌∙◌, ◌≤◌, length, List, [], ◌∷◌, Bool, true, false, true≢false, not, ◌&&◌, if◌then◌else◌, Option, Some, None, is_some, Result, Ok, Err, IfOk, OnErr, refl, sym, ap, subst, get_or, set, arith}
+use Rattle.std.proofs.Common.{◌≡◌, ◌∙◌, length, List, [], ◌∷◌, Bool, true, false, true≢false, not, ◌&&◌, if◌then◌else◌, Option, Some, None, is_some, Result, Ok, Err, IfOk, OnErr, refl, sym, ap, subst, get_or, set, arith}
 use Rattle.js_syntax.specs.declared.node_kind.NodeKind.{NodeKind as Kind}
 use Rattle.js_syntax.specs.declared.node_kind.NodeKind.TheVariants.{Program as program, Statements as statements}
 use Rattle.js_syntax.specs.declared.scalar.SourceType.TheVariants as source_type
-use Rattle.js_syntax.specs.Node.{Forest, Tree, Note, nothing, node, absent, forest_of, row}
+use Rattle.js_syntax.specs.Node.{Forest, Tree, Note, nothing, node, forest_of, row}
 use Rattle.scope_counts.specs.Edits.{plug}
 use Rattle.scope_laws.specs.Place.{Around}
 use Rattle.scope_rules.specs.ScopeFlags as scope_flag
@@ -17,7 +17,7 @@ use Rattle.min_traverse.specs.Lawful.{Stays, Does, or_same}
 use Rattle.min_traverse.specs.Moves.{Holds, NodeMoves, before}
 use Rattle.min_traverse.proofs.Joining.{does_some, does_none}
 use Rattle.rules.specs.DeadCode.Rules.{Facts}
-use Rattle.rules.specs.Imports.Merged.{one_goes, together, list_together, below_together, with_below, is_outermost, come_together}
+use Rattle.rules.specs.Imports.Merged.{one_goes, together, list_together, with_below, is_outermost, come_together}
 use Rattle.rules.proofs.Imports.Together.{none_come, rule_edits, rule_lighter, rule_refers, rule_calls}
 use Rattle.min_statements.specs.Acts.{merge}
 use Rattle.min_statements.specs.Merged.{is_module, is_statements, or_as_it_was, ListComes}
@@ -90,6 +90,10 @@ child_same (z ∷ ts) x y same = ap (λ (w : Option Tree). w ∷ ts) same
 
 pub comes_there : {E : Type 0} (r : Result Bool E) (t u v w : Forest) → t ≡ u → v ≡ w → IfOk r (λ b. ListComes t b v) → IfOk r (λ b. ListComes u b w)
 comes_there r t u v w is be comes = subst (λ z. IfOk r (λ b. ListComes u b z)) be (subst (λ z. IfOk r (λ b. ListComes z b v)) is comes)
+
+pub refused_there : {A E : Type 0} (r : Result A E) {P : Type 0} → P → OnErr r P
+refused_there (Ok a) h = tt
+refused_there (Err e) h = h
 
 pub refused_so : {A E : Type 0} (r : Result A E) {P Q : Type 0} → (P → Q) → OnErr r P → OnErr r Q
 refused_so (Ok a) step h = tt
@@ -171,7 +175,7 @@ kinds_so f p (Kind.Program source_type.Module) n b y e = by (may f p) (list_toge
   where
     by : (c : Bool) (o : Option Forest) → (let x : Tree = record { kind = program source_type.Module; note = n; below = b } in (if c then with_below x o else None) ≡ Some y) → Kinds (program source_type.Module) y.kind
     by true None h = absurd cc
-    by true (Some t) h = record { no_name = refl; module_left = ap {A = Tree} (λ z. z.kind) (sym (cc h)) }
+    by true (Some t) h = let same : y ≡ record { kind = program source_type.Module; note = n; below = t } = cc (sym h) in record { no_name = refl; module_left = ap {A = Tree} (λ z. z.kind) same }
     by false o h = absurd cc
 kinds_so f p k n b y e = none_is (sym (either_way (may f p)) ∙ e)
   where

@@ -1,4 +1,4 @@
-use Rattle.std.proofs.Common.{◌≡◌, ◌∙◌, Bool, sym, subst}
+use Rattle.std.proofs.Common.{◌∙◌, Bool, sym, subst}
 use Rattle.min_statements.specs.Merged.{ListComes}
 use Rattle.min_statements.proofs.Merging.{merges_none, merges_not, merges_so}
 use Rattle.min_statements.proofs.merged.merge_module_imports.Goals as goal
