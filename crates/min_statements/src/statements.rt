@@ -100,10 +100,7 @@ impl Traverse for Statements {
     fn has(hook: Hook) -> bool {
         matches!(
             hook,
-            Hook::ExitStatements
-                | Hook::ExitStatement
-                | Hook::ExitExpression
-                | Hook::ExitProgram
+            Hook::ExitStatements | Hook::ExitStatement | Hook::ExitExpression | Hook::ExitProgram
         )
     }
 
