@@ -8,7 +8,7 @@ use Rattle.scope_laws.proofs.Notes.{unseen}
 use Rattle.js_meaning_near.specs.Near.{module_of}
 use Rattle.steps.specs.Steps.{binds_import}
 use Rattle.steps.specs.Allowed.Exposure.{evaluates_somewhere}
-use Rattle.steps.specs.Allowed.MergedImports.{is_one_name, are_names, is_default, is_namespace, is_named, how_many, go_together, names_merged, may_merge, WithoutImport, import_leaves, leaves_behind, MergesIn, merges_here, merges_behind, MergedImports, imports_merge}
+use Rattle.steps.specs.Allowed.MergedImports.{is_one_name, are_names, is_default, is_namespace, is_named, how_many, go_together, may_merge, WithoutImport, import_leaves, leaves_behind, MergesIn, merges_here, merges_behind, MergedImports, imports_merge}
 use Rattle.steps.proofs.Owed.ExposedBare.{bare_below}
 
 -- ---- names
@@ -137,5 +137,5 @@ merged_as t _ _ e (imports_merge n m r s h quiet) =
     let is : t ≡ module_of o.note l.note l.below =
     o.is ∙ ap₂ (node (program source_type.Module) o.note) (l.is ∙ ap (node statements l.note l.below) (as_nothing l.rest l.same_rest)) (as_nothing o.rest o.same_rest) in
     let g = merges_as h l.below l.same_below in
-    let shut : evaluates_somewhere (module_of o.note l.note l.below) ≡ false = unseen evaluates_somewhere bare_below _ _ (sym (ap bare is) ∙ e) ∙ quiet in
+    let shut : evaluates_somewhere (module_of o.note l.note l.below) ≡ false = unseen evaluates_somewhere bare_below (module_of o.note l.note l.below) (module_of n m r) (sym (ap bare is) ∙ e) ∙ quiet in
     subst (λ z. (w : Forest) × MergedImports z w) (sym is) (module_of o.note l.note g.left, imports_merge o.note l.note l.below g.left g.merges shut)
