@@ -1,5 +1,5 @@
 -- A program without dead code has none with other notes.
-use Rattle.std.proofs.Common.{◌≡◌, ◌∙◌, ◌+◌, ℕ, suc, List, Bool, true, false, ◌&&◌, ◌||◌, Option, Some, None, is_some, if◌then◌else◌, refl, sym, ap, ap₂, subst, inl, inr}
+use Rattle.std.proofs.Common.{◌≡◌, ◌∙◌, ◌+◌, ℕ, suc, List, Bool, true, false, not, ◌&&◌, ◌||◌, Option, Some, None, is_some, if◌then◌else◌, refl, sym, ap, ap₂, subst, inl, inr}
 use mathlib.Core.Path.{fun_ext}
 use Rattle.js_syntax.specs.declared.node_kind.NodeKind.{NodeKind as Kind}
 use Rattle.js_syntax.specs.declared.node_kind.NodeKind.TheVariants.{Function as function, UnaryExpression as unary_expression, BindingName as binding_name, ReferenceName as reference_name, Specifiers as specifiers, EmptyStatement as empty_statement, ExpressionStatement as expression_statement, VariableDeclarator as variable_declarator, ConditionalExpression as conditional_expression, LogicalExpression as logical_expression}
@@ -7,7 +7,7 @@ use Rattle.js_syntax.specs.declared.kind.FunctionKind.TheVariants as function_ki
 use Rattle.js_syntax.specs.declared.kind.VariableKind.TheVariants as variable
 use Rattle.js_syntax.specs.declared.operator.UnaryOperator.TheVariants as unary
 use Rattle.js_syntax.specs.Node.{Forest, Tree, Note, nothing, node, absent, nowhere, bare, forest_of}
-use Rattle.js_effects.specs.Silence.{is_one_name, runs_its_parts}
+use Rattle.js_effects.specs.Silence.{is_nothing, is_one_name, runs_its_parts}
 use Rattle.js_effects.proofs.Bare.{runs_bare, one_name_bare}
 use Rattle.js_meaning_near.specs.Near.{cuts_off}
 use Rattle.min_pass.specs.declared.around.Around.{Around as Asked}
@@ -190,6 +190,14 @@ begins_as : (k : Kind) (a b : Around) → leads_to_untaken a ≡ leads_to_untake
 begins_as Kind.IfStatement a b e = e
 begins_as k a b e = refl
 
+more_bare : (t : Forest) → is_nothing (bare t) ≡ is_nothing t
+more_bare nothing = refl
+more_bare (absent r) = refl
+more_bare (node k n a r) = refl
+
+more_same : (t u : Forest) → bare t ≡ bare u → not (is_nothing t) ≡ not (is_nothing u)
+more_same t u e = ap not (sym (more_bare t) ∙ ap is_nothing e ∙ more_bare u)
+
 -- The place in another tree, with what stands there.
 record Twin (t : Forest) (a : Around) (k : Kind) (n : Note) (b : Forest) : Type 1 where
   around : Around
@@ -199,7 +207,7 @@ record Twin (t : Forest) (a : Around) (k : Kind) (n : Note) (b : Forest) : Type 
   same : bare below ≡ bare b
   asked : (w : Asked) → asked_at w around ≡ asked_at w a
   used : (us : ℕ → Use) (at : ℕ) → use_there us at around ≡ use_there us at a
-  unused : (ts : ℕ → Taker) (at : ℕ) → taken_there ts at around ≡ taken_there ts at a
+  unused : (ts : ℕ → Bool → Taker) (at : ℕ) → taken_there ts at around ≡ taken_there ts at a
   jumped : (j : Bool) → is_behind_jump j around ≡ is_behind_jump j a
   requested : (source : List ℕ) (q : Bool) → is_asked_before source q around ≡ is_asked_before source q a
   untaken : (q : Bool) → is_untaken q around ≡ is_untaken q a
@@ -227,7 +235,7 @@ twin (first rest) k n b (node l m c r) e = record {
   same = same_below e;
   asked = λ w. refl;
   used = λ us at. refl;
-  unused = λ ts at. refl;
+  unused = λ ts at. ap (ts at) (more_same r rest (same_rest e));
   jumped = λ q. refl;
   requested = λ source q. refl;
   untaken = λ q. refl;
@@ -317,7 +325,7 @@ twin (under j i a rest) k n b (node l m c r) e =
       same = o.same;
       asked = λ w. o.asked (asked_below w j);
       used = λ us at. o.used (λ i. use_below (us at) j i) 0;
-      unused = λ ts at. o.unused (λ i. taken_below (ts at) j i) 0;
+      unused = λ ts at. o.unused (taken_below (ts at (not (is_nothing r))) j) 0 ∙ ap (λ more. taken_there (taken_below (ts at more) j) 0 a) (more_same r rest (same_rest e));
       jumped = λ q. o.jumped false;
       requested = λ source q. o.requested source false;
       untaken = λ q. ap (λ f. is_untaken f o.around) (ap (λ b. q && runs_inside j || b) (begins_as j o.around a o.leads)) ∙ o.untaken (q && runs_inside j || begins_untaken j a);
@@ -582,14 +590,14 @@ module _ (unused imports : Bool) (t u : Forest) (e : bare t ≡ bare u) (clean :
       let now : Tree = record { kind = x.kind; note = o.note; below = o.below } in
       let z = child_as i o.below x.below y o.same there in
       clean.nothing_is_dead o.around (Some now) o.is
-      (an_unused_operation o.around now z.0 (one_operand_acts i now z.0 (ap is_nobody (o.unused (λ j. somebody) 0) ∙ unused) (needed_as x.kind o.below x.below o.same ∙ needed) z.1))
+      (an_unused_operation o.around now z.0 (one_operand_acts i now z.0 (ap is_nobody (o.unused (λ j more. somebody) 0) ∙ unused) (needed_as x.kind o.below x.below o.same ∙ needed) z.1))
 
   no_list : (a : Around) (x y : Tree) → u ≡ plug a (Some x) → UnusedList a x y → ⊥
   no_list a _ _ is (acting_parts_stay n m x y unused becomes) =
       let o = other_place a x.kind x.note x.below is in
       let now : Tree = record { kind = x.kind; note = o.note; below = o.below } in
       let z = list_as n m x.kind o.below x.below y o.same becomes in
-      clean.nothing_is_dead o.around (Some now) o.is (an_unused_list o.around now z.0 (acting_parts_stay n m now z.0 (ap is_nobody (o.unused (λ j. somebody) 0) ∙ unused) z.1))
+      clean.nothing_is_dead o.around (Some now) o.is (an_unused_list o.around now z.0 (acting_parts_stay n m now z.0 (ap is_nobody (o.unused (λ j more. somebody) 0) ∙ unused) z.1))
 
   no_choice : (a : Around) (x y : Tree) → u ≡ plug a (Some x) → IndirectChoice a x y → ⊥
   no_choice a _ _ is (value_alone_counts n m i x z counts alone) =
@@ -609,7 +617,7 @@ module _ (unused imports : Bool) (t u : Forest) (e : bare t ≡ bare u) (clean :
       let o = other_place a x.kind x.note x.below is in
       let now : Tree = record { kind = x.kind; note = o.note; below = o.below } in
       let z = side_as n x.kind o.below x.below y o.same acts_alone in
-      clean.nothing_is_dead o.around (Some now) o.is (a_one_sided_choice o.around now z.0 (one_branch_acts n now z.0 (ap is_nobody (o.unused (λ j. somebody) 0) ∙ unused) z.1))
+      clean.nothing_is_dead o.around (Some now) o.is (a_one_sided_choice o.around now z.0 (one_branch_acts n now z.0 (ap is_nobody (o.unused (λ j more. somebody) 0) ∙ unused) z.1))
 
   no_idle_parts : (a : Around) (x y : Tree) → u ≡ plug a (Some x) → IdleParts a x y → ⊥
   no_idle_parts a _ _ is (idle_parts_leave n m x y becomes) =
@@ -624,14 +632,14 @@ module _ (unused imports : Bool) (t u : Forest) (e : bare t ≡ bare u) (clean :
       let o = other_place a x.kind x.note x.below is in
       let now : Tree = record { kind = x.kind; note = o.note; below = o.below } in
       let z = two_sides_as n m x.kind o.below x.below y o.same act in
-      clean.nothing_is_dead o.around (Some now) o.is (two_sides o.around now z.0 (both_sides_act n m now z.0 (ap is_nobody (o.unused (λ j. somebody) 0) ∙ unused) z.1))
+      clean.nothing_is_dead o.around (Some now) o.is (two_sides o.around now z.0 (both_sides_act n m now z.0 (ap is_nobody (o.unused (λ j more. somebody) 0) ∙ unused) z.1))
 
   no_object : (a : Around) (x y : Tree) → u ≡ plug a (Some x) → UnusedObject a x y → ⊥
   no_object a _ _ is (acting_values_stay n m x y unused becomes) =
       let o = other_place a x.kind x.note x.below is in
       let now : Tree = record { kind = x.kind; note = o.note; below = o.below } in
       let z = object_as n m x.kind o.below x.below y o.same becomes in
-      clean.nothing_is_dead o.around (Some now) o.is (an_unused_object o.around now z.0 (acting_values_stay n m now z.0 (ap is_nobody (o.unused (λ j. somebody) 0) ∙ unused) z.1))
+      clean.nothing_is_dead o.around (Some now) o.is (an_unused_object o.around now z.0 (acting_values_stay n m now z.0 (ap is_nobody (o.unused (λ j more. somebody) 0) ∙ unused) z.1))
 
   no_known : (a : Around) (x y : Tree) → u ≡ plug a (Some x) → KnownOperation a x y → ⊥
   no_known a _ _ is (value_is_known i v x known) =

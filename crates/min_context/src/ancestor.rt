@@ -39,8 +39,8 @@ pub enum Parent {
     Property(bool),
     PatternProperty,
     SequenceExpression,
-    /// The list of a sequence's parts, which is its field.
-    Expressions,
+    /// The list of a sequence's parts, which is its field: whether another stands behind the one that leads down.
+    Expressions(bool),
     UnaryExpression(UnaryOperator),
     LogicalExpression,
     ConditionalExpression,
@@ -136,7 +136,7 @@ fn parent_of(kind: &NodeKind) -> Parent
         } => Parent::Property(holds_method(*kind, *is_method)),
         NodeKind::BindingProperty(_) | NodeKind::TargetProperty(_) => Parent::PatternProperty,
         NodeKind::SequenceExpression => Parent::SequenceExpression,
-        NodeKind::Expressions => Parent::Expressions,
+        NodeKind::Expressions => Parent::Expressions(false),
         NodeKind::UnaryExpression(operator) => Parent::UnaryExpression(*operator),
         NodeKind::LogicalExpression(_) => Parent::LogicalExpression,
         NodeKind::ConditionalExpression => Parent::ConditionalExpression,

@@ -93,11 +93,12 @@ fn scope_inside(old: u32, above: Above, at: u32, counts: bool) -> u32
     }
 }
 
-fn told_of(parent: Parent, at: u32, previous: bool) -> Parent
-    ensures { result ≡ told_of parent at previous }
+fn told_of(parent: Parent, at: u32, previous: bool, more: bool) -> Parent
+    ensures { result ≡ told_of parent at previous more }
 {
     match parent {
         Parent::Class(_) => Parent::Class(at == 2 && previous),
+        Parent::Expressions(_) => Parent::Expressions(more),
         _ => parent,
     }
 }
@@ -238,12 +239,18 @@ impl MinifierTraverseCtx {
             .set_current_block_scope_id(ScopeId(scopes.block_scope));
     }
 
-    /// The walk goes to the child at an index below a node; `previous` says whether the one before it is there.
-    pub fn enter(&mut self, above: Above, at: u32, previous: bool) -> Result<(), AllocError>
-        ensures entered { OnOk result (self.new ≡ record self.old { place = inside self.old.place above at previous }) }
+    /// The walk goes to the child at an index below a node; `previous` says whether the one before it is there, and `more` whether there
+    /// are more behind it.
+    pub fn enter(
+        &mut self,
+        above: Above,
+        at: u32,
+        previous: bool,
+        more: bool,
+    ) -> Result<(), AllocError>
+        ensures entered { OnOk result (self.new ≡ record self.old { place = inside self.old.place above at previous more }) }
     {
-        self.ancestors
-            .push(Ancestor::Field(told_of(above.parent, at, previous), at))?;
+        self.ancestors.push(Ancestor::Field(told_of(above.parent, at, previous, more), at))?;
         let scopes = self.current_scopes();
         self.set_current_scopes(CurrentScopes {
             scope: scope_inside(scopes.scope, above, at, true),

@@ -32,7 +32,7 @@ last_taken xs i t h = ap (taken_from t) (drop_all i xs h)
 told_under : (p : Parent) (at : ℕ) (t u : Taker) → hands_on_under p ≡ false → taken_under t p at ≡ taken_under u p at
 told_under parent.ParenthesizedExpression at t u h = absurd (true≢false h)
 told_under parent.SequenceExpression at t u h = absurd (true≢false h)
-told_under parent.Expressions at t u h = absurd (true≢false h)
+told_under (parent.Expressions more) at t u h = absurd (true≢false h)
 told_under parent.LogicalExpression at t u h = absurd (true≢false h)
 told_under parent.ConditionalExpression at t u h = absurd (true≢false h)
 told_under p at t u h = refl

@@ -26,7 +26,7 @@ taker said.LastAlone = unused.last_alone
 abbrev pub hands_on_under : Parent → Bool
 hands_on_under parent.ParenthesizedExpression = true
 hands_on_under parent.SequenceExpression = true
-hands_on_under parent.Expressions = true
+hands_on_under (parent.Expressions more) = true
 hands_on_under parent.LogicalExpression = true
 hands_on_under parent.ConditionalExpression = true
 hands_on_under p = false

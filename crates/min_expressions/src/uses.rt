@@ -109,12 +109,12 @@ fn of_sequence(taken: Taker, at: u32) -> Taker
     }
 }
 
-fn of_part(taken: Taker, at: u32) -> Taker
-    ensures { taker result ≡ of_part (taker taken) at }
+fn of_part(taken: Taker, more: bool) -> Taker
+    ensures { taker result ≡ of_part (taker taken) more }
 {
     match taken {
         Taker::Nobody => Taker::Nobody,
-        Taker::LastAlone => nobody_if(at == 0),
+        Taker::LastAlone => nobody_if(more),
         Taker::Somebody => Taker::Somebody,
     }
 }
@@ -136,7 +136,7 @@ fn taken_under(taken: Taker, parent: Parent, at: u32) -> Taker
         Parent::ForStatement => nobody_if(at == 2),
         Parent::ParenthesizedExpression => in_parentheses(taken),
         Parent::SequenceExpression => of_sequence(taken, at),
-        Parent::Expressions => of_part(taken, at),
+        Parent::Expressions(more) => of_part(taken, more),
         Parent::LogicalExpression => of_branch(taken, at),
         Parent::ConditionalExpression => of_branch(taken, at),
         _ => Taker::Somebody,
@@ -172,7 +172,7 @@ fn hands_on(ancestor: Ancestor) -> bool
             parent,
             Parent::ParenthesizedExpression
                 | Parent::SequenceExpression
-                | Parent::Expressions
+                | Parent::Expressions(_)
                 | Parent::LogicalExpression
                 | Parent::ConditionalExpression
         ),

@@ -9,7 +9,7 @@ use Rattle.js_scoping.specs.Build.{numbered}
 use Rattle.js_scoping.proofs.Again.{numbered_same}
 use Rattle.json_shape.specs.Shape.{Fits}
 use Rattle.min_context.specs.Above.{above_of}
-use Rattle.min_context.specs.Place.{Place, Spot, place_of, next_of, below, top}
+use Rattle.min_context.specs.Place.{Place, Spot, place_of, next_of, below, top, goes_on}
 use Rattle.headline.specs.Clean.{Clean}
 use Rattle.headline.proofs.Renoted.{clean_as}
 use Rattle.rules.proofs.Told.New.{new_told_only}
@@ -145,10 +145,10 @@ each_stays : (Q : Place → Tree → Type 0) (f : Facts) → ((p : Place) (n : N
 each_stays Q f here s nothing h = tt
 each_stays Q f here s (absent rest) h = each_stays Q f here (next_of s false) rest h
 each_stays Q f here s (node k n inner rest) h =
-    let inside = below (place_of s) (above_of k n) in
-    let a = and_parts (stays f (place_of s) n k inner) (all_stay f inside inner && all_stay f (next_of s true) rest) h in
+    let inside = below (place_of s (goes_on rest)) (above_of k n) in
+    let a = and_parts (stays f (place_of s (goes_on rest)) n k inner) (all_stay f inside inner && all_stay f (next_of s true) rest) h in
     let b = and_parts (all_stay f inside inner) (all_stay f (next_of s true) rest) a.1 in
-    (here (place_of s) n k inner a.0, each_stays Q f here inside inner b.0, each_stays Q f here (next_of s true) rest b.1)
+    (here (place_of s (goes_on rest)) n k inner a.0, each_stays Q f here inside inner b.0, each_stays Q f here (next_of s true) rest b.1)
 
 pub quiet_clean : (t : Forest) → Fits root t → is_quiet t ≡ true → Clean t
 quiet_clean t fits quiet =

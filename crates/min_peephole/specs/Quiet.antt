@@ -6,7 +6,7 @@ use Rattle.js_syntax.specs.Node.{Forest, Note, nothing, node, absent}
 use Rattle.js_scoping.specs.Build.{table_of, numbered}
 use Rattle.steps.specs.Allowed.Exposure.{is_script}
 use Rattle.min_context.specs.Above.{above_of}
-use Rattle.min_context.specs.Place.{Place, Spot, place_of, next_of, below, top}
+use Rattle.min_context.specs.Place.{Place, Spot, place_of, next_of, below, top, goes_on}
 use Rattle.exported_names.specs.Answers.{bound_of}
 use Rattle.exported_names.specs.Exported.{exported_of}
 use Rattle.rules.specs.DeadCode.Rules.{Facts, where_of, has_dead, becomes_empty}
@@ -71,7 +71,7 @@ stays f p n k inner =
 abbrev pub all_stay : Facts → Spot → Forest → Bool
 all_stay f s nothing = true
 all_stay f s (absent rest) = all_stay f (next_of s false) rest
-all_stay f s (node k n inner rest) = stays f (place_of s) n k inner && (all_stay f (below (place_of s) (above_of k n)) inner && all_stay f (next_of s true) rest)
+all_stay f s (node k n inner rest) = stays f (place_of s (goes_on rest)) n k inner && (all_stay f (below (place_of s (goes_on rest)) (above_of k n)) inner && all_stay f (next_of s true) rest)
 
 abbrev pub is_quiet : Forest → Bool
 is_quiet t = all_stay (first_facts t) top (numbered t)

@@ -14,7 +14,7 @@ use Rattle.scope_counts.proofs.Scopes.{below_or_above}
 use Rattle.symbol_sets.specs.Numbers.{has}
 use Rattle.steps.specs.Allowed.Edits.{Edit, TreeEdits, no_tree_edit, one_tree_edit}
 use Rattle.min_context.specs.Edited.{evals, Edited, DropsNode, Leaves}
-use Rattle.min_context.specs.Place.{Place, place_at}
+use Rattle.min_context.specs.Place.{Place, place_at, goes_on}
 use Rattle.min_context.specs.Seen.{Seen, still}
 use Rattle.min_pass.specs.Pass.{unmarked}
 use Rattle.min_traverse.specs.Edits.{Edits, no_edit, one_edit}
@@ -200,20 +200,20 @@ trim_calls f w x y list tree =
     Prim.omega (arith, ap (λ q. evals (forest_of q)) tree, list_calls x.kind x.note x.below list, list_calls x.kind x.note (shorter f w x.below) list, evals_split f w x.below)
 
 module _ (stays : Stays AnyEdit) (names : Names) where
-  noted : {c d : Seen} {x y : Tree} → ((a : Around) (r : Forest) → IsHere c a → CallsStay (in_row.before a r) x y) → Edited c x y true d → (a : Around) (r : Forest) → IsHere c a → Noted (still c) (still d) (plug a (before x r)) (plug a (before y r))
+  noted : {c d : Seen} {x y : Tree} → ((a : Around) (r : Forest) → IsHere c a r → CallsStay (in_row.before a r) x y) → Edited c x y true d → (a : Around) (r : Forest) → IsHere c a r → Noted (still c) (still d) (plug a (before x r)) (plug a (before y r))
   noted {c = c} {d = d} {x = x} {y = y} calls e a r p q =
       let h = calls a r p in
       let none = none_dropped d.eval_dropped c.eval_dropped (evals (forest_of y)) (evals (forest_of x)) e.evals h.fewer q in
       (none.0, evals_kept x.kind y.kind x.note y.note x.below y.below r h.old h.in_with none.1 a h.bare)
 
-  pub moves : {c d : Seen} {x y : Tree} → ((a : Around) (r : Forest) → IsHere c a → Holds Own names (still c) (plug a (before x r)) → TreeEdits (plug a (before x r)) (plug a (before y r)))
-      → ((i : ℕ) → ids i (forest_of y) ≤ ids i (forest_of x)) → total weight (forest_of y) + 1 ≤ total weight (forest_of x) → ((a : Around) (r : Forest) → IsHere c a → CallsStay (in_row.before a r) x y)
+  pub moves : {c d : Seen} {x y : Tree} → ((a : Around) (r : Forest) → IsHere c a r → Holds Own names (still c) (plug a (before x r)) → TreeEdits (plug a (before x r)) (plug a (before y r)))
+      → ((i : ℕ) → ids i (forest_of y) ≤ ids i (forest_of x)) → total weight (forest_of y) + 1 ≤ total weight (forest_of x) → ((a : Around) (r : Forest) → IsHere c a r → CallsStay (in_row.before a r) x y)
       → Edited c x y true d → NodeMoves Names AnyEdit (Holds Own) names c x names d y
   moves {c = c} {d = d} {x = x} {y = y} edits fewer lighter calls e =
       held_moves stays (λ a r p h. as_edits (edits a r p h)) fewer lighter (λ q. absurd (true≢false q)) e
       (λ a r p m h. known_still names (still c) (still d) (plug a (before x r)) (plug a (before y r)) (edits a r p h) m (noted calls e a r p) h)
 
-  trim_edits : (f : Facts) (m : ℕ → Bool) (p : Place) (k : Kind) (n : Note) (b : Forest) → k ≡ statements → (a : Around) (r : Forest) → place_at a ≡ p → Knows f m (plug a (node k n b r)) → TreeEdits (plug a (node k n b r)) (plug a (node k n (shorter f (where_of p) b) r))
+  trim_edits : (f : Facts) (m : ℕ → Bool) (p : Place) (k : Kind) (n : Note) (b : Forest) → k ≡ statements → (a : Around) (r : Forest) → place_at a (goes_on r) ≡ p → Knows f m (plug a (node k n b r)) → TreeEdits (plug a (node k n b r)) (plug a (node k n (shorter f (where_of p) b) r))
   trim_edits f m p k n b list a r at =
       subst (λ q. Knows f m (plug a (node q n b r)) → TreeEdits (plug a (node q n b r)) (plug a (node q n (shorter f (where_of p) b) r))) (sym list)
       (λ h. subst (λ q. TreeEdits (plug a (node statements n b r)) (plug a (node statements n (shorter f (where_of q) b) r))) at (list_shortens f m a n b r h))

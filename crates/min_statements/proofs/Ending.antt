@@ -57,7 +57,7 @@ none_emptied : (goes : Bool) (y : Tree) → false ≡ is_some (if goes then Some
 none_emptied true y e = absurd (true≢false (sym e))
 none_emptied false y e = refl
 
-if_calls_stay : (c : Seen) (a : Around) (x y : Tree) (r : Forest) → IsHere c a → at_if_end c x ≡ Some y → CallsStay (before a r) x y
+if_calls_stay : (c : Seen) (a : Around) (x y : Tree) (r : Forest) → IsHere c a r → at_if_end c x ≡ Some y → CallsStay (before a r) x y
 if_calls_stay c a x y r here found = by one refl
   where
     one : Option Tree

@@ -27,7 +27,7 @@ use Rattle.steps.proofs.Owed.TwoSides.{Sides, both_act, first_text, second_text,
 use Rattle.steps.proofs.Owed.UnusedPlace.{unused_as_value}
 use Rattle.steps.proofs.Owed.UnusedOperation.{Needed, the_operand, first_side, second_side, left_side, the_condition, needed_part}
 use Rattle.min_context.specs.Edited.{evals, Edited}
-use Rattle.min_context.specs.Place.{place_at}
+use Rattle.min_context.specs.Place.{place_at, goes_on}
 use Rattle.min_context.specs.Seen.{Seen}
 use Rattle.min_traverse.specs.Lawful.{Stays, Rule, Lawful, Does, or_same, or_else}
 use Rattle.min_traverse.specs.Moves.{Holds, IsHere, NodeMoves}
@@ -322,9 +322,9 @@ one_of (Some x) p y e = inl e
 abbrev answer_at : Spot → Tree → Option Tree
 answer_at s x = or_else (or_else (or_else (or_else (or_else (or_else (or_else (or_else (or_else (conditional_becomes s x.kind x.below) (logical_becomes s x.kind x.below)) (unused_becomes s x.kind x.below)) (unused_list_becomes s x.note x.kind x.below)) (indirect_becomes s x.note x.kind x.below)) (one_sided_becomes s x.note x.kind x.below)) (sequence_left s x.note x.kind x.below)) (two_sides_become s x.note x.kind x.below)) (object_left s x.note x.kind x.below)) (known_becomes x.note x.kind x.below)
 
-calls_stay : (c : Seen) (a : Around) (x y : Tree) (r : Forest) → IsHere c a → at_expression_end c x ≡ Some y → CallsStay (before a r) x y
+calls_stay : (c : Seen) (a : Around) (x y : Tree) (r : Forest) → IsHere c a r → at_expression_end c x ≡ Some y → CallsStay (before a r) x y
 calls_stay c a x y r here found =
-    let s = spot_of (place_at a) in
+    let s = spot_of (place_at a (goes_on r)) in
     let known = or_else (conditional_becomes s x.kind x.below) (logical_becomes s x.kind x.below) in
     let none_taken = or_else known (unused_becomes s x.kind x.below) in
     let itself = or_else none_taken (unused_list_becomes s x.note x.kind x.below) in
@@ -365,7 +365,7 @@ calls_stay c a x y r here found =
 
 module _ (stays : Stays AnyEdit) (names : Names) where
   -- of any lawful rule that makes no call a direct one of `eval`
-  pub rule_moves : (rule : Rule) → Lawful AnyEdit rule → ((c : Seen) (a : Around) (x y : Tree) (r : Forest) → IsHere c a → rule c x ≡ Some y → CallsStay (before a r) x y) → {c d : Seen} {x y : Tree} {answer : Bool} → Does rule c x answer d y
+  pub rule_moves : (rule : Rule) → Lawful AnyEdit rule → ((c : Seen) (a : Around) (x y : Tree) (r : Forest) → IsHere c a r → rule c x ≡ Some y → CallsStay (before a r) x y) → {c d : Seen} {x y : Tree} {answer : Bool} → Does rule c x answer d y
       → NodeMoves Names AnyEdit (Holds Own) names c x names d y
   rule_moves rule lawful calls {c = c} {d = d} {x = x} {y = y} does = go (rule c x) refl
     where

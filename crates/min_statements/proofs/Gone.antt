@@ -6,7 +6,7 @@ use Rattle.js_syntax.specs.Facts.{weight}
 use Rattle.js_syntax.specs.Node.{Forest, Note, nothing, node, absent, alone, total}
 use Rattle.js_meaning_near.specs.Near.{cuts_off}
 use Rattle.min_context.specs.Edited.{evals}
-use Rattle.min_context.specs.Place.{place_at}
+use Rattle.min_context.specs.Place.{place_at, goes_on}
 use Rattle.scope_counts.specs.Counts.{ids}
 use Rattle.scope_counts.specs.Edits.{Around, plug}
 use Rattle.steps.specs.Allowed.Edits.{TreeEdits}
@@ -43,13 +43,13 @@ module _ (f : Facts) (w : Where) where
 -- ---- edits
 
 pub list_shortens : (f : Facts) (marked : ℕ → Bool) (a : Around) (n : Note) (row rest : Forest) → Knows f marked (plug a (node statements n row rest))
-    → TreeEdits (plug a (node statements n row rest)) (plug a (node statements n (shorter f (where_of (place_at a)) row) rest))
+    → TreeEdits (plug a (node statements n row rest)) (plug a (node statements n (shorter f (where_of (place_at a (goes_on rest))) row) rest))
 list_shortens f marked a n row rest h =
     let t = plug a (node statements n row rest) in
     let u = plug a (node statements n (reached false row) rest) in
     let first = reach_edits a n row rest in
     let known : Known f u = still_known f t u first (record { marked = marked; knows = h }) in
-    subst (λ l. TreeEdits t (plug a (node statements n l rest))) (sym (emptied_trims f (where_of (place_at a)) false row))
+    subst (λ l. TreeEdits t (plug a (node statements n l rest))) (sym (emptied_trims f (where_of (place_at a (goes_on rest))) false row))
     (tree_edits_compose first (list_trims f known.marked a n (reached false row) rest known.knows))
 
 -- ---- counted

@@ -9,7 +9,7 @@ use Rattle.js_syntax.specs.Node.{Forest, Tree, Note, nothing, node, absent, alon
 use Rattle.min_context.specs.Above.{above_of}
 use Rattle.min_context.specs.Ancestry.{nearest}
 use Rattle.min_context.specs.declared.ancestor.Ancestor.{Ancestor}
-use Rattle.min_context.specs.Place.{Place, Spot, place_of, next_of, below, outside, top}
+use Rattle.min_context.specs.Place.{Place, Spot, goes_on, place_of, next_of, below, outside, top}
 use Rattle.min_context.specs.Seen.{Seen}
 use Rattle.min_traverse.specs.Slot.{outer_slot, middle_slot, inner_slot, enter_outer, enter_middle, enter_inner, exit_outer, exit_middle, exit_inner}
 use Rattle.min_traverse.specs.Visits.{above_place, Called, NodeVisit, Visits}
@@ -188,9 +188,10 @@ saw p (absent rest) s k s' k' at v =
     record { names_same = later.names_same; context_same = later.context_same; each = later.each }
 saw p (node c n inside rest) s k s' k' at (s1, k1, v, w) =
     let x : Tree = record { kind = c; note = n; below = inside } in
-    let k0 : Seen = record k { place = place_of p } in
-    let below_it = saw (below (place_of p) (above_of c n)) inside v.s1 v.k1 v.s2 v.k2 (inside_place (place_of p) x s k0 s1 k1 refl v) v.inside in
-    let here = at_node (place_of p) x s k0 s1 k1 refl v below_it in
+    let q = place_of p (goes_on rest) in
+    let k0 : Seen = record k { place = q } in
+    let below_it = saw (below q (above_of c n)) inside v.s1 v.k1 v.s2 v.k2 (inside_place q x s k0 s1 k1 refl v) v.inside in
+    let here = at_node q x s k0 s1 k1 refl v below_it in
     let back : record k1 { place = p.outer } ≡ k = ap {A = Seen} {B = Seen} (λ z. record z { place = p.outer }) here.1 ∙ ap (λ q. record k { place = q }) (sym at) in
     let later = saw (next_of p true) rest s1 (record k1 { place = p.outer }) s' k' refl w in
     let facts : facts_of s1 (record k1 { place = p.outer }) ≡ facts_of s k = ap {A = Names} (λ m. facts_of m (record k1 { place = p.outer })) here.0 ∙ ap {A = Seen} (λ z. facts_of s z) back in

@@ -44,12 +44,12 @@ module _ {S : Type 0} {E : CompressOptions → Forest → Forest → Type 0} {Ow
   -- what any hook owes whose call edits as `Edited` says; its edits may go by what the walker asks beside,
   -- and that may be so again by what is marked
   pub held_moves : {s s' : S} {c d : Seen} {x y : Tree} {asks : Bool}
-      → ((a : Around) (r : Forest) → IsHere c a → Holds Own s (still c) (plug a (before x r)) → Edits (E c.options) (plug a (before x r)) (plug a (before y r)))
+      → ((a : Around) (r : Forest) → IsHere c a r → Holds Own s (still c) (plug a (before x r)) → Edits (E c.options) (plug a (before x r)) (plug a (before y r)))
       → ((i : ℕ) → ids i (forest_of y) ≤ ids i (forest_of x))
       → total weight (forest_of y) + cond asks 1 0 ≤ total weight (forest_of x)
       → (asks ≡ false → y ≡ x)
       → Edited c x y asks d
-      → ((a : Around) (r : Forest) → IsHere c a → MarksLeft (still c) (still d) (plug a (before x r)) (plug a (before y r)) → Holds Own s (still c) (plug a (before x r)) → Own s' (still d) (plug a (before y r)))
+      → ((a : Around) (r : Forest) → IsHere c a r → MarksLeft (still c) (still d) (plug a (before x r)) (plug a (before y r)) → Holds Own s (still c) (plug a (before x r)) → Own s' (still d) (plug a (before y r)))
       → NodeMoves S E (Holds Own) s c x s' d y
   held_moves {c = c} {d = d} {x = x} {y = y} {asks = asks} edits fewer lighter quiet e kept =
       let fewer_with : (r : Forest) (i : ℕ) → ids i (before y r) ≤ ids i (before x r) = λ r i. Prim.omega (arith, fewer i, ids_before i x r, ids_before i y r) in
@@ -77,7 +77,7 @@ module _ {S : Type 0} {E : CompressOptions → Forest → Forest → Type 0} {Ow
 
   -- the same where a true context is enough
   pub edit_moves : {s s' : S} {c d : Seen} {x y : Tree} {asks : Bool}
-      → ((a : Around) (r : Forest) → IsHere c a → IsTrue (still c) (plug a (before x r)) → Edits (E c.options) (plug a (before x r)) (plug a (before y r)))
+      → ((a : Around) (r : Forest) → IsHere c a r → IsTrue (still c) (plug a (before x r)) → Edits (E c.options) (plug a (before x r)) (plug a (before y r)))
       → ((i : ℕ) → ids i (forest_of y) ≤ ids i (forest_of x))
       → total weight (forest_of y) + cond asks 1 0 ≤ total weight (forest_of x)
       → (asks ≡ false → y ≡ x)

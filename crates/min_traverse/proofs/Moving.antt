@@ -8,7 +8,7 @@ use Rattle.scope_counts.specs.Counts.{ids}
 use Rattle.scope_counts.specs.Edits.{Around, here, behind, behind_none, under, plug}
 use Rattle.symbol_sets.specs.Numbers.{has}
 use Rattle.min_context.specs.Above.{above_of}
-use Rattle.min_context.specs.Place.{Place, Spot, spot, top, next_of, below, place_of, place_at}
+use Rattle.min_context.specs.Place.{Place, Spot, spot, top, next_of, below, goes_on, place_of, place_at}
 use Rattle.min_context.specs.Seen.{Seen, still}
 use Rattle.min_options.specs.declared.options.CompressOptions.{CompressOptions}
 use Rattle.min_traverse.specs.Edits.{Edits, no_edit, one_edit}
@@ -39,7 +39,7 @@ pub spot_into : (s : Spot) (a b : Around) → spot s (into a b) ≡ spot (spot s
 spot_into s here b = refl
 spot_into s (behind k n inside a) b = spot_into (next_of s true) a b
 spot_into s (behind_none a) b = spot_into (next_of s false) a b
-spot_into s (under k n a rest) b = spot_into (below (place_of s) (above_of k n)) a b
+spot_into s (under k n a rest) b = spot_into (below (place_of s (goes_on rest)) (above_of k n)) a b
 
 pub plug_after : (t u : Forest) → plug (after t) u ≡ joined t u
 plug_after nothing u = refl
@@ -144,7 +144,7 @@ module _ {S : Type 0} {E : CompressOptions → Forest → Forest → Type 0} {H 
       weighs w x y m n i j e f l = Prim.omega (arith, e, f, l)
 
   -- what a row does below its node
-  pub moves_under : {p : Place} {s s' : S} {k k' : Seen} {t u : Forest} (c : Kind) (n : Note) (r : Forest) → Moves S E H (IsAt (below p (above_of c n))) s k t s' k' u → Moves S E H (λ a. place_at a ≡ p) s k (node c n t r) s' k' (node c n u r)
+  pub moves_under : {p : Place} {s s' : S} {k k' : Seen} {t u : Forest} (c : Kind) (n : Note) (r : Forest) → Moves S E H (IsAt (below p (above_of c n))) s k t s' k' u → Moves S E H (λ a. place_at a (goes_on r) ≡ p) s k (node c n t r) s' k' (node c n u r)
   moves_under c n r m = further (under c n here r) (λ a e. spot_into top a (under c n here r) ∙ ap (λ q. below q (above_of c n)) e) m
 
   -- what the rest of a row does behind others

@@ -1,5 +1,6 @@
 -- A row of which one node moved, and a node whose row did.
-use Rattle.std.proofs.Common.{◌≡◌, ◌∙◌, ◌<◌, ◌+◌, ℕ, zero, suc, Bool, true, false, List, [], ◌∷◌, ◌++◌, Option, Some, None, length, take, drop, drop-cons, set, get_or, add-one, refl, sym, ap, ap₂, subst, arith}
+use Rattle.std.proofs.Common.{◌≡◌, ◌∙◌, ◌<◌, ◌+◌, ℕ, zero, suc, Bool, true, false, List, [], ◌∷◌, ◌++◌, Option, Some, None, length, length-drop, take, drop, drop-cons, set, get_or, add-one, refl, sym, ap, ap₂, subst, arith}
+use Rattle.std.specs.Prelude.{nat_lt}
 use Rattle.std.proofs.lemmas.List.{take_more_set, take-append-drop, take-append-le, take_all, drop-set-lt}
 use Rattle.js_syntax.specs.declared.node_kind.NodeKind.{NodeKind as Kind}
 use Rattle.js_syntax.specs.Node.{Forest, Tree, Note, nothing, node, absent, row, joined, forest_of}
@@ -8,13 +9,13 @@ use Rattle.scope_counts.specs.Counts.{ids}
 use Rattle.scope_counts.specs.Edits.{Around}
 use Rattle.min_context.specs.Above.{above_of}
 use Rattle.min_context.specs.Edited.{Markable}
-use Rattle.min_context.specs.Place.{Place, Spot, spot, next_of, below, place_of, place_at, inside, told_of}
+use Rattle.min_context.specs.Place.{Place, Spot, spot, next_of, below, goes_on, place_of, place_at, inside, told_of}
 use Rattle.min_context.specs.declared.ancestor.Above.{Above}
 use Rattle.min_context.specs.declared.ancestor.Ancestor.{Ancestor}
 use Rattle.min_context.specs.declared.ancestor.Ancestor.TheVariants.{Field as field}
 use Rattle.min_context.specs.Seen.{Seen}
 use Rattle.min_options.specs.declared.options.CompressOptions.{CompressOptions}
-use Rattle.min_traverse.specs.Moves.{Moves, NodeMovesAt, NodeMoves, RowMoves, IsHere, IsAt, before}
+use Rattle.min_traverse.specs.Moves.{Moves, NodeMovesAt, NodeMoves, RowMoves, IsHere, IsAt, IsFirst, before}
 use Rattle.min_traverse.proofs.Moving.{after, spot_after, ids_joined, elsewhere, at_some, stay, and_then, moves_under, moves_behind}
 
 row_append : (xs ys : List (Option Tree)) → row (xs ++ ys) ≡ joined (row xs) (row ys)
@@ -44,6 +45,15 @@ pub set_same : (ts : List (Option Tree)) (i : ℕ) (d x : Option Tree) → get_o
 set_same [] i d x is h = refl
 set_same (t ∷ ts) zero d x is h = ap (λ y. y ∷ ts) (sym is)
 set_same (t ∷ ts) (suc i) d x is h = ap (λ ys. t ∷ ys) (set_same ts i d x is (omega arith))
+
+-- whether there are more behind an item
+pub more_behind : (ts : List (Option Tree)) (i : ℕ) → goes_on (row (drop (i + 1) ts)) ≡ nat_lt (i + 1) (length ts)
+more_behind ts i = at (drop (i + 1) ts) refl
+  where
+    at : (us : List (Option Tree)) → drop (i + 1) ts ≡ us → goes_on (row us) ≡ nat_lt (i + 1) (length ts)
+    at [] e = Prim.grind (arith, ap length e, length-drop (i + 1) ts)
+    at (None ∷ us) e = Prim.grind (arith, ap length e, length-drop (i + 1) ts)
+    at (Some t ∷ us) e = Prim.grind (arith, ap length e, length-drop (i + 1) ts)
 
 -- ---- the spot behind the first items
 
@@ -75,10 +85,10 @@ pub first_then : (p : Spot) (ts : List (Option Tree)) (i : ℕ) (o : Place) (a :
 first_then p ts i o a previous x y h is e at = ap (λ us. spot_at p us (i + 1)) (sym (set_same ts i x x is h)) ∙ spot_then p ts i o a previous x h at ∙ ap (λ z. child_spot o a (i + 1) (is_there z)) e
 
 -- The walk is back where it was.
-pub back : (k k0 k1 k2 : Seen) (a : Above) (i : ℕ) (previous : Bool) (scope hoist block : ℕ) → k0 ≡ record k { place = inside k.place a i previous } → k1.place ≡ k0.place
+pub back : (k k0 k1 k2 : Seen) (a : Above) (i : ℕ) (previous more : Bool) (scope hoist block : ℕ) → k0 ≡ record k { place = inside k.place a i previous more } → k1.place ≡ k0.place
     → ((p : Place) (x : Ancestor) → k1.place.ancestors ≡ p.ancestors ++ (x ∷ []) → p.scope ≡ scope → p.hoist_scope ≡ hoist → p.block_scope ≡ block → k2 ≡ record k1 { place = p })
     → scope ≡ k.place.scope → hoist ≡ k.place.hoist_scope → block ≡ k.place.block_scope → k2 ≡ record k1 { place = k.place }
-back k k0 k1 k2 a i previous scope hoist block en same le s h b = le k.place (field (told_of a.parent i previous) i) (ap {A = Place} (λ q. q.ancestors) same ∙ ap {A = Seen} (λ c. c.place.ancestors) en) (sym s) (sym h) (sym b)
+back k k0 k1 k2 a i previous more scope hoist block en same le s h b = le k.place (field (told_of a.parent i previous more) i) (ap {A = Place} (λ q. q.ancestors) same ∙ ap {A = Seen} (λ c. c.place.ancestors) en) (sym s) (sym h) (sym b)
 
 -- ---- marks have room
 
@@ -99,7 +109,7 @@ module _ {S : Type 0} {E : CompressOptions → Forest → Forest → Type 0} {H 
   row_stays p s k t = record { moves = stay (IsAt p) s k t; same_place = refl }
 
   pub node_stays : (s : S) (k : Seen) (x : Tree) → NodeMoves S E H s k x s k x
-  node_stays s k x = record { moves = λ r. stay (IsHere k) s k (before x r); same_place = refl }
+  node_stays s k x = record { moves = λ r. stay (λ a. IsHere k a r) s k (before x r); same_place = refl }
 
   pub node_markable : {s s' : S} {k k' : Seen} {x y : Tree} → NodeMoves S E H s k x s' k' y → Markable k (forest_of x) → Markable k' (forest_of y)
   node_markable m h = markable_later (m.moves nothing) h
@@ -107,24 +117,24 @@ module _ {S : Type 0} {E : CompressOptions → Forest → Forest → Type 0} {H 
   -- one hook after another
   pub node_then : {s s1 s2 : S} {k k1 k2 : Seen} {x y z : Tree} → NodeMoves S E H s k x s1 k1 y → NodeMoves S E H s1 k1 y s2 k2 z → NodeMoves S E H s k x s2 k2 z
   node_then {s1 = s1} {s2 = s2} {k1 = k1} {k2 = k2} {y = y} {z = z} m w = record {
-    moves = λ r. and_then (m.moves r) (subst (λ p. Moves S E H (λ a. place_at a ≡ p) s1 k1 (before y r) s2 k2 (before z r)) m.same_place (w.moves r));
+    moves = λ r. and_then (m.moves r) (subst (λ p. Moves S E H (λ a. place_at a (goes_on r) ≡ p) s1 k1 (before y r) s2 k2 (before z r)) m.same_place (w.moves r));
     same_place = w.same_place ∙ m.same_place;
   }
 
   -- one node of a row
-  pub next : {p q : Spot} {s s1 s2 : S} {k k1 k2 : Seen} {t : Forest} (ts : List (Option Tree)) (i : ℕ) (x y : Tree) → i < length ts → drop i ts ≡ Some x ∷ drop (i + 1) ts → spot_at p ts i ≡ q
-      → RowMoves S E H p s k t s1 k1 (row ts) → NodeMovesAt S E H (IsAt q) s1 k1 x s2 k2 y → RowMoves S E H p s k t s2 k2 (row (set ts i (Some y)))
-  next {p = p} {s1 = s1} {s2 = s2} {k1 = k1} {k2 = k2} ts i x y h front e m w =
-      let one = moves_behind (row (take i ts)) e (w.moves (row (drop (i + 1) ts))) in
+  pub next : {p q : Spot} {s s1 s2 : S} {k k1 k2 : Seen} {t : Forest} (ts : List (Option Tree)) (i : ℕ) (x y : Tree) (more : Bool) → i < length ts → drop i ts ≡ Some x ∷ drop (i + 1) ts → spot_at p ts i ≡ q → goes_on (row (drop (i + 1) ts)) ≡ more
+      → RowMoves S E H p s k t s1 k1 (row ts) → NodeMovesAt S E H (IsFirst q more) s1 k1 x s2 k2 y → RowMoves S E H p s k t s2 k2 (row (set ts i (Some y)))
+  next {p = p} {s1 = s1} {s2 = s2} {k1 = k1} {k2 = k2} ts i x y more h front e on m w =
+      let one = moves_behind (row (take i ts)) e (at_some (λ a at. (at, on)) (w.moves (row (drop (i + 1) ts)))) in
       let here : Moves S E H (IsAt p) s1 k1 (row ts) s2 k2 (row (set ts i (Some y))) = rw (row_at ts i x front, row_set ts i y h) one in
       record { moves = and_then m.moves here; same_place = w.same_place ∙ m.same_place }
 
   -- a child, from what the walk does at its place
-  pub child : {p : Spot} {s s1 : S} {k k0 k1 k2 : Seen} {x y : Tree} → k0 ≡ record k { place = place_of p } → NodeMoves S E H s k0 x s1 k1 y → k2 ≡ record k1 { place = k.place } → NodeMovesAt S E H (IsAt p) s k x s1 k2 y
-  child {p = p} {s = s} {s1 = s1} {k = k} {k1 = k1} {x = x} {y = y} en m le =
-      let m0 : NodeMoves S E H s (record k { place = place_of p }) x s1 k1 y = subst (λ c. NodeMoves S E H s c x s1 k1 y) en m in
+  pub child : {p : Spot} {more : Bool} {s s1 : S} {k k0 k1 k2 : Seen} {x y : Tree} → k0 ≡ record k { place = place_of p more } → NodeMoves S E H s k0 x s1 k1 y → k2 ≡ record k1 { place = k.place } → NodeMovesAt S E H (IsFirst p more) s k x s1 k2 y
+  child {p = p} {more = more} {s = s} {s1 = s1} {k = k} {k1 = k1} {x = x} {y = y} en m le =
+      let m0 : NodeMoves S E H s (record k { place = place_of p more }) x s1 k1 y = subst (λ c. NodeMoves S E H s c x s1 k1 y) en m in
       record {
-        moves = λ r. subst (λ c. Moves S E H (IsAt p) s k (before x r) s1 c (before y r)) (sym le) (elsewhere {k = k} {k' = k1} (place_of p) k.place (at_some (λ a e. ap place_of e) (m0.moves r)));
+        moves = λ r. subst (λ c. Moves S E H (λ a. IsFirst p more a r) s k (before x r) s1 c (before y r)) (sym le) (elsewhere {k = k} {k' = k1} (place_of p more) k.place (at_some (λ a e. ap₂ place_of e.0 e.1) (m0.moves r)));
         same_place = ap (λ c. c.place) le;
       }
 

@@ -3,36 +3,60 @@ use Rattle.std.proofs.Common.{◌≡◌, ◌∙◌, ◌<◌, ◌≤◌, ◌+◌,
 use Rattle.std.proofs.lemmas.List.{take_more, take_all}
 use Rattle.js_syntax.specs.Node.{Forest, Tree, nothing, node, row, forest_of}
 use Rattle.min_context.specs.Above.{above_of}
-use Rattle.min_context.specs.Place.{Spot, spot, place_of, next_of, below, outside, top}
+use Rattle.min_context.specs.Place.{Place, Spot, spot, place_of, goes_on, next_of, below, outside, top}
 use Rattle.min_context.specs.Seen.{Seen}
 use Rattle.scope_counts.specs.Edits.{Around}
 use Rattle.min_options.specs.declared.options.CompressOptions.{CompressOptions}
 use Rattle.min_traverse.specs.Moves.{NodeMovesAt}
 use Rattle.min_traverse.specs.Slot.{outer_slot, middle_slot, inner_slot, enter_outer, enter_middle, enter_inner, exit_outer, exit_middle, exit_inner}
-use Rattle.min_traverse.specs.Visits.{above_place, Called, Enters, Exits, NodeVisit, Visits}
+use Rattle.min_traverse.specs.Visits.{above_place, Called, Enters, Exits, NodeVisit, Visits, VisitsFront}
 use Rattle.min_traverse.specs.declared.slot.Hook.{Hook}
 use Rattle.min_traverse.proofs.Moving.{after}
 
 module _ {S : Type 0} (V : Hook → S → Seen → Tree → S → Seen → Type 0) (has : Hook → Bool) where
-  push : (p : Spot) (ts : List (Option Tree)) (t : Option Tree) (a b c : S) (j k l : Seen) → Visits V has p (row ts) a j b k → Visits V has (spot p (after (row ts))) (row (t ∷ [])) b k c l → Visits V has p (row (ts ++ t ∷ [])) a j c l
-  push p [] t a b c j k l first next = rw (first.0, first.1) next
-  push p (None ∷ ts) t a b c j k l first next = push (next_of p false) ts t a b c j k l first next
-  push p (Some x ∷ ts) t a b c j k l (s1, k1, v, w) next = (s1, k1, v, push (next_of p true) ts t s1 b c (record k1 { place = p.outer }) k l w next)
+  -- a node at a place
+  abbrev At : Place → S → Seen → Tree → S → Seen → Type 0
+  At q s k x s1 k1 = NodeVisit V has (Visits V has (below q (above_of x.kind x.note)) x.below) (above_place q) s (record k { place = q }) x s1 k1
 
-  pub one_more : (p : Spot) (ts : List (Option Tree)) (i : ℕ) (x : Option Tree) (a b c : S) (j k l : Seen) → i < length ts → x ≡ get_or ts i x → Visits V has p (row (take i ts)) a j b k → Visits V has (spot p (after (row (take i ts)))) (row (x ∷ [])) b k c l → Visits V has p (row (take (i + 1) ts)) a j c l
-  one_more p ts i x a b c j k l h is first next = rw (take_more ts i x h, ← is) (push p (take i ts) x a b c j k l first next)
+  goes_on_pushed : (ts : List (Option Tree)) (t : Option Tree) → goes_on (row (ts ++ t ∷ [])) ≡ true
+  goes_on_pushed [] None = refl
+  goes_on_pushed [] (Some t) = refl
+  goes_on_pushed (None ∷ ts) t = refl
+  goes_on_pushed (Some x ∷ ts) t = refl
+
+  either_way : (m b : Bool) → b ≡ true → true ≡ m || b
+  either_way true b e = refl
+  either_way false b e = sym e
+
+  push : (p : Spot) (more : Bool) (ts : List (Option Tree)) (t : Option Tree) (a b c : S) (j k l : Seen) → VisitsFront V has p true (row ts) a j b k → VisitsFront V has (spot p (after (row ts))) more (row (t ∷ [])) b k c l → VisitsFront V has p more (row (ts ++ t ∷ [])) a j c l
+  push p more [] t a b c j k l first next = rw (first.0, first.1) next
+  push p more (None ∷ ts) t a b c j k l first next = push (next_of p false) more ts t a b c j k l first next
+  push p more (Some x ∷ ts) t a b c j k l (s1, k1, v, w) next = (
+    s1,
+    k1,
+    subst (λ m. At (place_of p m) a j x s1 k1) (either_way more (goes_on (row (ts ++ t ∷ []))) (goes_on_pushed ts t)) v,
+    push (next_of p true) more ts t s1 b c (record k1 { place = p.outer }) k l w next,
+  )
+
+  pub one_more : (p : Spot) (more : Bool) (ts : List (Option Tree)) (i : ℕ) (x : Option Tree) (a b c : S) (j k l : Seen) → i < length ts → x ≡ get_or ts i x → VisitsFront V has p true (row (take i ts)) a j b k → VisitsFront V has (spot p (after (row (take i ts)))) more (row (x ∷ [])) b k c l → VisitsFront V has p more (row (take (i + 1) ts)) a j c l
+  one_more p more ts i x a b c j k l h is first next = rw (take_more ts i x h, ← is) (push p more (take i ts) x a b c j k l first next)
 
   pub all_visited : (p : Spot) (ts : List (Option Tree)) (i : ℕ) (a b : S) (j k : Seen) → length ts ≤ i → Visits V has p (row (take i ts)) a j b k → Visits V has p (row ts) a j b k
   all_visited p ts i a b j k h w = rw (take_all i ts h) at w
 
+  alone : (m : Bool) → m ≡ m || false
+  alone true = refl
+  alone false = refl
+
   -- a child alone
-  pub child_visit : (p : Spot) (x : Tree) (s s1 : S) (k k0 k1 k2 : Seen) → k.place ≡ p.outer → k0 ≡ record k { place = place_of p } → k0.place ≡ place_of p → k2 ≡ record k1 { place = k.place }
-      → NodeVisit V has (Visits V has (below k0.place (above_of x.kind x.note)) x.below) (above_place k0.place) s k0 x s1 k1 → Visits V has p (forest_of x) s k s1 k2
-  child_visit p x s s1 k k0 k1 k2 o en at le v = (
+  pub child_visit : (p : Spot) (more : Bool) (x : Tree) (s s1 : S) (k k0 k1 k2 : Seen) → k.place ≡ p.outer → k0 ≡ record k { place = place_of p more } → k0.place ≡ place_of p more → k2 ≡ record k1 { place = k.place }
+      → NodeVisit V has (Visits V has (below k0.place (above_of x.kind x.note)) x.below) (above_place k0.place) s k0 x s1 k1 → VisitsFront V has p more (forest_of x) s k s1 k2
+  child_visit p more x s s1 k k0 k1 k2 o en at le v = (
     s1,
     k1,
-    subst (λ c. NodeVisit V has (Visits V has (below (place_of p) (above_of x.kind x.note)) x.below) (above_place (place_of p)) s c x s1 k1) en
-        (subst (λ q. NodeVisit V has (Visits V has (below q (above_of x.kind x.note)) x.below) (above_place q) s k0 x s1 k1) at v),
+    subst (λ m. At (place_of p m) s k x s1 k1) (alone more)
+        (subst (λ c. NodeVisit V has (Visits V has (below (place_of p more) (above_of x.kind x.note)) x.below) (above_place (place_of p more)) s c x s1 k1) en
+        (subst (λ q. NodeVisit V has (Visits V has (below q (above_of x.kind x.note)) x.below) (above_place q) s k0 x s1 k1) at v)),
     (refl, ap (λ q. record k1 { place = q }) (sym o) ∙ sym le),
   )
 

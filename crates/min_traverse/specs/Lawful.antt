@@ -37,13 +37,13 @@ or_same x (Some y) = y
 
 -- Where the context is true, what a rule does is a list of edits. It brings in no reference, and makes the program lighter.
 pub record Lawful (E : CompressOptions → Forest → Forest → Type 0) (rule : Rule) : Type 0 where
-  pub edits : (c : Seen) (a : Around) (x y : Tree) (r : Forest) → IsTrue (still c) (plug a (before x r)) → IsHere c a → rule c x ≡ Some y → Edits (E c.options) (plug a (before x r)) (plug a (before y r))
+  pub edits : (c : Seen) (a : Around) (x y : Tree) (r : Forest) → IsTrue (still c) (plug a (before x r)) → IsHere c a r → rule c x ≡ Some y → Edits (E c.options) (plug a (before x r)) (plug a (before y r))
   pub thins : (c : Seen) (x y : Tree) → rule c x ≡ Some y → (r : ℕ) → ids r (forest_of y) ≤ ids r (forest_of x)
   pub lighter : (c : Seen) (x y : Tree) → rule c x ≡ Some y → total weight (forest_of y) + 1 ≤ total weight (forest_of x)
 
 -- what a walker asks beside is so again
 abbrev pub Kept : {S : Type 0} → (S → Seen → Forest → Type 0) → S → Seen → Tree → S → Seen → Tree → Type 0
-Kept Own s c x s' d y = (a : Around) (r : Forest) → IsHere c a → IsTrue (still c) (plug a (before x r)) → Own s (still c) (plug a (before x r)) → Own s' (still d) (plug a (before y r))
+Kept Own s c x s' d y = (a : Around) (r : Forest) → IsHere c a r → IsTrue (still c) (plug a (before x r)) → Own s (still c) (plug a (before x r)) → Own s' (still d) (plug a (before y r))
 
 -- the exact clause of a call: it did what the rule says, and answers whether that was anything
 pub record Does (rule : Rule) (c : Seen) (x : Tree) (answer : Bool) (d : Seen) (y : Tree) : Type 0 where

@@ -1,12 +1,12 @@
 -- What a hook and a walk do to a node or a row, in every program around it.
-use Rattle.std.specs.Prelude.{◌≡◌, ℕ, ◌+◌, ◌<◌, ◌≤◌, false, cond, length, nat_lt, ◌||◌}
+use Rattle.std.specs.Prelude.{◌≡◌, ℕ, ◌+◌, ◌<◌, ◌≤◌, Bool, false, cond, length, nat_lt, ◌||◌}
 use Rattle.js_syntax.specs.Facts.{weight}
 use Rattle.js_syntax.specs.Node.{Forest, Tree, node, total}
 use Rattle.scope_counts.specs.Counts.{ids}
 use Rattle.scope_counts.specs.Edits.{Around, plug}
 use Rattle.symbol_sets.specs.Numbers.{has}
 use Rattle.min_context.specs.IsTrue.{IsTrue}
-use Rattle.min_context.specs.Place.{Spot, spot, top, place_at}
+use Rattle.min_context.specs.Place.{Spot, spot, top, place_at, goes_on}
 use Rattle.min_context.specs.Seen.{Seen, still}
 use Rattle.min_options.specs.declared.options.CompressOptions.{CompressOptions}
 use Rattle.min_traverse.specs.Edits.{Edits}
@@ -38,14 +38,14 @@ pub record Moves (S : Type 0) (E : CompressOptions → Forest → Forest → Typ
 abbrev pub before : Tree → Forest → Forest
 before x r = node x.kind x.note x.below r
 
--- of one node, whatever stands behind it; the walk is back at the place where it was
-pub record NodeMovesAt (S : Type 0) (E : CompressOptions → Forest → Forest → Type 0) (H : S → Seen → Forest → Type 0) (At : Around → Type 0) (s : S) (k : Seen) (x : Tree) (s' : S) (k' : Seen) (y : Tree) : Type 0 where
-  pub moves : (r : Forest) → Moves S E H At s k (before x r) s' k' (before y r)
+-- Of one node, whatever stands behind it, by which `At` may go too; the walk is back at the place where it was.
+pub record NodeMovesAt (S : Type 0) (E : CompressOptions → Forest → Forest → Type 0) (H : S → Seen → Forest → Type 0) (At : Around → (rest : Forest) → Type 0) (s : S) (k : Seen) (x : Tree) (s' : S) (k' : Seen) (y : Tree) : Type 0 where
+  pub moves : (r : Forest) → Moves S E H (λ a. At a r) s k (before x r) s' k' (before y r)
   pub same_place : k'.place ≡ k.place
 
--- where the context tells that the walk is
-abbrev pub IsHere : Seen → Around → Type 0
-IsHere k a = place_at a ≡ k.place
+-- where the context tells that the walk is, before the rest of a row
+abbrev pub IsHere : Seen → Around → (rest : Forest) → Type 0
+IsHere k a rest = place_at a (goes_on rest) ≡ k.place
 
 abbrev pub NodeMoves : (S : Type 0) (E : CompressOptions → Forest → Forest → Type 0) (H : S → Seen → Forest → Type 0) (s : S) (k : Seen) (x : Tree) (s' : S) (k' : Seen) (y : Tree) → Type 0
 NodeMoves S E H s k x s' k' y = NodeMovesAt S E H (IsHere k) s k x s' k' y
@@ -53,6 +53,10 @@ NodeMoves S E H s k x s' k' y = NodeMovesAt S E H (IsHere k) s k x s' k' y
 -- the row that begins at a spot
 abbrev pub IsAt : Spot → Around → Type 0
 IsAt p a = spot top a ≡ p
+
+-- the first node of such a row, where there are more behind it or none
+abbrev pub IsFirst : Spot → (more : Bool) → Around → (rest : Forest) → Type 0
+IsFirst p more a rest = IsAt p a × (goes_on rest ≡ more)
 
 -- of the whole row; the walk is at the place of its parent
 pub record RowMoves (S : Type 0) (E : CompressOptions → Forest → Forest → Type 0) (H : S → Seen → Forest → Type 0) (p : Spot) (s : S) (k : Seen) (t : Forest) (s' : S) (k' : Seen) (u : Forest) : Type 0 where

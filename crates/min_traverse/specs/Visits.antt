@@ -1,9 +1,9 @@
 -- What a walk was that changed nothing: a visit of every node, in order of places.
-use Rattle.std.specs.Prelude.{◌≡◌, Bool, true, false, Option, Some, None}
+use Rattle.std.specs.Prelude.{◌≡◌, ◌||◌, Bool, true, false, Option, Some, None}
 use Rattle.js_syntax.specs.Node.{Forest, Tree, nothing, node, absent}
 use Rattle.min_context.specs.Above.{above_of}
 use Rattle.min_context.specs.Ancestry.{nearest}
-use Rattle.min_context.specs.Place.{Place, Spot, place_of, next_of, below}
+use Rattle.min_context.specs.Place.{Place, Spot, place_of, next_of, below, goes_on}
 use Rattle.min_context.specs.Seen.{Seen}
 use Rattle.min_context.specs.declared.ancestor.Ancestor.{Ancestor}
 use Rattle.min_traverse.specs.Slot.{outer_slot, middle_slot, inner_slot, enter_outer, enter_middle, enter_inner, exit_outer, exit_middle, exit_inner}
@@ -49,11 +49,15 @@ module _ {S : Type 0} (V : Hook → S → Seen → Tree → S → Seen → Type 
     pub inside : Inside s1 k1 s2 k2
     pub exits : Exits above s2 k2 x s' k'
 
-  -- A row at a spot. Between its nodes the walk is at the place of their parent.
-  abbrev pub Visits : Spot → Forest → S → Seen → S → Seen → Type 0
-  Visits p nothing s k s' k' = (s ≡ s') × (k ≡ k')
-  Visits p (absent rest) s k s' k' = Visits (next_of p false) rest s k s' k'
-  Visits p (node c n inside rest) s k s' k' =
+  -- A row at a spot, with more behind it or none. Between its nodes the walk is at the place of their parent.
+  abbrev pub VisitsFront : Spot → (more : Bool) → Forest → S → Seen → S → Seen → Type 0
+  VisitsFront p more nothing s k s' k' = (s ≡ s') × (k ≡ k')
+  VisitsFront p more (absent rest) s k s' k' = VisitsFront (next_of p false) more rest s k s' k'
+  VisitsFront p more (node c n inside rest) s k s' k' =
       (s1 : S) × (k1 : Seen)
-      × NodeVisit (Visits (below (place_of p) (above_of c n)) inside) (above_place (place_of p)) s (record k { place = place_of p }) (record { kind = c; note = n; below = inside }) s1 k1
-      × Visits (next_of p true) rest s1 (record k1 { place = p.outer }) s' k'
+      × NodeVisit (VisitsFront (below (place_of p (more || goes_on rest)) (above_of c n)) false inside) (above_place (place_of p (more || goes_on rest))) s (record k { place = place_of p (more || goes_on rest) }) (record { kind = c; note = n; below = inside }) s1 k1
+      × VisitsFront (next_of p true) more rest s1 (record k1 { place = p.outer }) s' k'
+
+  -- all of a row
+  abbrev pub Visits : Spot → Forest → S → Seen → S → Seen → Type 0
+  Visits p t = VisitsFront p false t

@@ -68,7 +68,7 @@ pub fn lawful_rules_move<T: Traverse>()
 /// pass is asked for, and the same if none is.
 pub fn edits_move<T: Traverse>()
     ensures { Stays T.edit → (s s' : T) (c d : Seen) (x y : Tree) (asks : Bool)
-        → ((a : Around) (r : Forest) → IsHere c a → IsTrue (still c) (plug a (before x r)) → Edits (T.edit c.options) (plug a (before x r)) (plug a (before y r)))
+        → ((a : Around) (r : Forest) → IsHere c a r → IsTrue (still c) (plug a (before x r)) → Edits (T.edit c.options) (plug a (before x r)) (plug a (before y r)))
         → ((i : ℕ) → ids i (forest_of y) ≤ ids i (forest_of x))
         → total weight (forest_of y) + cond asks 1 0 ≤ total weight (forest_of x)
         → (asks ≡ false → y ≡ x)

@@ -9,8 +9,8 @@ ghost use Rattle.min_context.specs.Edited.{Markable};
 ghost use Rattle.min_context.specs.Place.{outside, below, top};
 ghost use Rattle.min_context.specs.Seen.{still};
 ghost use Rattle.min_traverse.specs.Edits.{Edits};
-ghost use Rattle.min_traverse.specs.Moves.{Holds, IsAt, NodeMoves, NodeMovesAt, RowMoves, busy};
-ghost use Rattle.min_traverse.specs.Visits.{above_place, NodeVisit, Visits};
+ghost use Rattle.min_traverse.specs.Moves.{Holds, IsFirst, NodeMoves, NodeMovesAt, RowMoves, busy};
+ghost use Rattle.min_traverse.specs.Visits.{above_place, NodeVisit, Visits, VisitsFront};
 
 use crate::dispatch::{enter_node, exit_node};
 use crate::traverse::Traverse;
@@ -59,14 +59,15 @@ fn walk_child<T: Traverse>(
     above: Above,
     at: usize,
     previous: bool,
+    more: bool,
     ctx: &mut MinifierTraverseCtx,
 ) -> Result<(), AllocError>
     requires markable { Markable ctx.old (forest_of node.old) }
-    ensures moves { OnOk result (NodeMovesAt T T.edit (Holds T.own) (IsAt (record { outer = ctx.old.place; above = Some above; at = at; previous = previous })) traverse.old ctx.old node.old traverse.new ctx.new node.new) }
-    ensures visited { OnOk result (ctx.new.requested ≡ false → Visits T.visits T.written (record { outer = ctx.old.place; above = Some above; at = at; previous = previous }) (forest_of node.old) traverse.old ctx.old traverse.new ctx.new) }
+    ensures moves { OnOk result (NodeMovesAt T T.edit (Holds T.own) (IsFirst (record { outer = ctx.old.place; above = Some above; at = at; previous = previous }) more) traverse.old ctx.old node.old traverse.new ctx.new node.new) }
+    ensures visited { OnOk result (ctx.new.requested ≡ false → VisitsFront T.visits T.written (record { outer = ctx.old.place; above = Some above; at = at; previous = previous }) more (forest_of node.old) traverse.old ctx.old traverse.new ctx.new) }
 {
     let scopes = ctx.current_scopes();
-    ctx.enter(above, number(at)?, previous)?;
+    ctx.enter(above, number(at)?, previous, more)?;
     walk_node(traverse, node, ctx)?;
     ctx.leave(scopes);
     Ok(())
@@ -83,11 +84,12 @@ fn walk_children<T: Traverse>(
     ensures moves { OnOk result (RowMoves T T.edit (Holds T.own) (below ctx.old.place above) traverse.old ctx.old (row children.old) traverse.new ctx.new (row children.new)) }
     ensures visited { OnOk result (ctx.new.requested ≡ false → Visits T.visits T.written (below ctx.old.place above) (row children.old) traverse.old ctx.old traverse.new ctx.new) }
 {
+    let count = children.len();
     let mut previous = false;
     for (at, child) in children.iter_mut().enumerate() {
         match child {
             Some(node) => {
-                walk_child(traverse, node, above, at, previous, ctx)?;
+                walk_child(traverse, node, above, at, previous, at + 1 < count, ctx)?;
                 previous = true;
             }
             None => previous = false,

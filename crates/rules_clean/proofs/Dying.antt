@@ -7,7 +7,7 @@ use Rattle.js_syntax.specs.declared.kind.FunctionKind.TheVariants as function_ki
 use Rattle.js_syntax.specs.declared.kind.VariableKind.{VariableKind}
 use Rattle.js_syntax.specs.Node.{Forest, Tree, Note, nothing, node, absent, alone}
 use Rattle.js_effects.specs.Silence.{is_marked, may_have_effects}
-use Rattle.min_context.specs.Place.{Place, place_at}
+use Rattle.min_context.specs.Place.{Place, place_at, goes_on}
 use Rattle.min_pass.specs.declared.around.Around.{Around as Asked}
 use Rattle.min_pass.specs.Around.{outermost as asked_of_program}
 use Rattle.min_pass.specs.Pass.{unmarked as without_mark}
@@ -78,22 +78,22 @@ function_unkept f w o e = unkept_if f o (and_parts (is_unlisted f o) (not (is_gl
 -- ---- what goes is dead
 
 module _ (f : Facts) where
-  silent_dead : (a : counts.Around) (k : Kind) (n : Note) (below rest : Forest) → Known f (plug a (node k n below rest)) → is_laid_at k below ≡ true → is_silent_statement f (where_of (place_at a)) k below ≡ true → HasDead f (plug a (node k n below rest))
+  silent_dead : (a : counts.Around) (k : Kind) (n : Note) (below rest : Forest) → Known f (plug a (node k n below rest)) → is_laid_at k below ≡ true → is_silent_statement f (where_of (place_at a (goes_on rest))) k below ≡ true → HasDead f (plug a (node k n below rest))
   silent_dead a expression_statement n (node k l inner nothing) rest h laid e =
       let y = a_statement n l k inner in
       let b = to a (first rest) in
       dead_there f a y rest
       (a_silent_statement b n (alone k l inner)
       (statement_silent f h.marked b n l k inner (knows_there f h.marked a (first rest) y h.knows)
-      (subst (λ c. may_have_effects f.bound c (alone k l inner) ≡ false) (sym (ap (λ (w : Asked). w.in_with) (asked_to (asked_of_program true) a (first rest)) ∙ with_is a))
-      (not_true (may_have_effects f.bound (has_with (place_at a).ancestors) (alone k l inner)) e))))
+      (subst (λ c. may_have_effects f.bound c (alone k l inner) ≡ false) (sym (ap (λ (w : Asked). w.in_with) (asked_to (asked_of_program true) a (first rest)) ∙ with_is a (goes_on rest)))
+      (not_true (may_have_effects f.bound (has_with (place_at a (goes_on rest)).ancestors) (alone k l inner)) e))))
   silent_dead a expression_statement n below rest h laid e = wrong laid
   silent_dead a k n below rest h laid e = wrong e
 
-  emptied_dead : (a : counts.Around) (x : Tree) (rest : Forest) → Known f (plug a (node x.kind x.note x.below rest)) → is_laid_at x.kind x.below ≡ true → becomes_empty f (place_at a) x.kind x.below ≡ true → HasDead f (plug a (node x.kind x.note x.below rest))
-  emptied_dead a x rest h laid e = by (or_cases (is_silent_statement f (where_of (place_at a)) x.kind x.below) (is_idle_body (place_at a) x.kind x.below) e)
+  emptied_dead : (a : counts.Around) (x : Tree) (rest : Forest) → Known f (plug a (node x.kind x.note x.below rest)) → is_laid_at x.kind x.below ≡ true → becomes_empty f (place_at a (goes_on rest)) x.kind x.below ≡ true → HasDead f (plug a (node x.kind x.note x.below rest))
+  emptied_dead a x rest h laid e = by (or_cases (is_silent_statement f (where_of (place_at a (goes_on rest))) x.kind x.below) (is_idle_body (place_at a (goes_on rest)) x.kind x.below) e)
     where
-      by : (is_silent_statement f (where_of (place_at a)) x.kind x.below ≡ true) ⊎ (is_idle_body (place_at a) x.kind x.below ≡ true) → HasDead f (plug a (node x.kind x.note x.below rest))
+      by : (is_silent_statement f (where_of (place_at a (goes_on rest))) x.kind x.below ≡ true) ⊎ (is_idle_body (place_at a (goes_on rest)) x.kind x.below ≡ true) → HasDead f (plug a (node x.kind x.note x.below rest))
       by (inl silent) = silent_dead a x.kind x.note x.below rest h laid silent
       by (inr idle) = dead_there f a (Some x) rest (an_idle_body (to a (first rest)) x _ (idle_empties a x x.note rest idle))
 
@@ -134,7 +134,7 @@ module _ (f : Facts) where
     item_dead a empty_statement n (absent r) rest items l g h = wrong l
     item_dead a block_statement n below rest items l g h = block_dead a (record { kind = block_statement; note = n; below = below }) rest items g
     item_dead a (labeled_statement label) n below rest items l g h = block_dead a (record { kind = labeled_statement label; note = n; below = below }) rest items g
-    item_dead a expression_statement n below rest items l g h = silent_dead a expression_statement n below rest h l (subst (λ w. is_silent_statement f w expression_statement below ≡ true) (sym (items_where p a items)) g)
+    item_dead a expression_statement n below rest items l g h = silent_dead a expression_statement n below rest h l (subst (λ w. is_silent_statement f w expression_statement below ≡ true) (sym (items_where p a (goes_on rest) items)) g)
     item_dead a (function function_kind.Declaration pure) n (node (binding_name x) m nothing r) rest items l g h = function_dead a pure n m x r rest items g h
     item_dead a (function function_kind.Declaration pure) n (node (binding_name x) m (node k i b c) r) rest items l g h = wrong l
     item_dead a (function function_kind.Declaration pure) n (node (binding_name x) m (absent b) r) rest items l g h = wrong l
@@ -145,16 +145,16 @@ module _ (f : Facts) where
     item_dead a k n below rest items l g h = wrong g
 
   -- of a list at a place
-  list_dead : (a : counts.Around) (n : Note) (row rest : Forest) → Known f (plug a (node statements n row rest)) → has_dead f (where_of (place_at a)) row ≡ true → HasDead f (plug a (node statements n row rest))
+  list_dead : (a : counts.Around) (n : Note) (row rest : Forest) → Known f (plug a (node statements n row rest)) → has_dead f (where_of (place_at a (goes_on rest))) row ≡ true → HasDead f (plug a (node statements n row rest))
   list_dead a n row rest h e =
-      let o = dead_item f (where_of (place_at a)) row e in
+      let o = dead_item f (where_of (place_at a (goes_on rest))) row e in
       let list = under statements n o.before rest in
       let there = join a list in
       let item = node o.kind o.note o.below o.rest in
       let same : plug a (node statements n row rest) ≡ plug there item = ap (λ t. plug a (node statements n t rest)) o.is ∙ sym (plug_join a list item) in
       let known = subst (λ t. Known f t) same h in
       subst (λ t. HasDead f t) (sym same)
-      (item_dead (place_at a) there o.kind o.note o.below o.rest (list_items a n o.before rest o.in_row) (laid_here o.kind o.note o.below o.rest (known_laid f there item known)) o.holds known)
+      (item_dead (place_at a (goes_on rest)) there o.kind o.note o.below o.rest (list_items a n o.before rest o.in_row) (laid_here o.kind o.note o.below o.rest (known_laid f there item known)) o.holds known)
 
 -- ---- without dead code nothing goes
 
@@ -165,12 +165,12 @@ not_so false h = refl
 pub rules_rest : (f : Facts) (marked : ℕ → Bool) (t : Forest) → Knows f marked t → CleanBut f.keeps_unused f.keeps_imports t → IsQuiet f t
 rules_rest f marked t h clean = record {
   lists = λ a n row rest is.
-      not_so (has_dead f (where_of (place_at a)) row) (λ e. clean_has_none f t clean (subst (λ u. HasDead f u) (sym is) (list_dead f a n row rest (known is) e)));
+      not_so (has_dead f (where_of (place_at a (goes_on rest))) row) (λ e. clean_has_none f t clean (subst (λ u. HasDead f u) (sym is) (list_dead f a n row rest (known is) e)));
   statements_stay = λ a x rest is.
       let u = node x.kind x.note x.below rest in
       let laid = laid_here x.kind x.note x.below rest (known_laid f a u (known is)) in
       ap (λ b. if b then Some (record { kind = empty_statement; note = without_mark x.note; below = nothing }) else None)
-      (not_so (becomes_empty f (place_at a) x.kind x.below) (λ e. clean_has_none f t clean (subst (λ v. HasDead f v) (sym is) (emptied_dead f a x rest (known is) laid e))));
+      (not_so (becomes_empty f (place_at a (goes_on rest)) x.kind x.below) (λ e. clean_has_none f t clean (subst (λ v. HasDead f v) (sym is) (emptied_dead f a x rest (known is) laid e))));
 }
   where
     known : {u : Forest} → t ≡ u → Known f u

@@ -17,7 +17,6 @@ pub mod Calm
 pub mod Holding
 pub mod Exception
 pub mod Filled
-pub mod Paired
 pub mod Everywhere
 pub mod Arranged
 pub mod Shut

@@ -11,7 +11,7 @@ use Rattle.scope_counts.specs.Counts.{ids}
 use Rattle.scope_counts.specs.Edits.{Around, here, behind, behind_none, under, plug}
 use Rattle.min_context.specs.Above.{parent_of, above_of}
 use Rattle.min_context.specs.Ancestry.{nearest}
-use Rattle.min_context.specs.Place.{told_of, Spot, place_below, place_of, next_of, below, top, spot}
+use Rattle.min_context.specs.Place.{told_of, Spot, place_below, place_of, next_of, below, top, spot, Place, goes_on}
 use Rattle.min_context.specs.Seen.{Seen}
 use Rattle.min_context.specs.declared.ancestor.Ancestor.{Ancestor}
 use Rattle.min_context.specs.declared.ancestor.Ancestor.TheVariants as ancestor
@@ -36,22 +36,22 @@ list_join body list (under k n a rest) b = list_join (is_body k) (body && is_lis
 nearest_last : (above : List Ancestor) (a : Ancestor) → nearest (above ++ (a ∷ [])) 0 ≡ a
 nearest_last above a = ap (λ (up : List Ancestor). slice_index_or up 0 ancestor.None) (reverse-append above (a ∷ []))
 
-body_field : (k : Kind) (at : ℕ) (previous : Bool) → is_body_above (field (told_of (parent_of k) at previous) at) ≡ is_body k
-body_field function_body at previous = refl
-body_field k at previous = refl
+body_field : (k : Kind) (at : ℕ) (previous more : Bool) → is_body_above (field (told_of (parent_of k) at previous more) at) ≡ is_body k
+body_field function_body at previous more = refl
+body_field k at previous more = refl
 
 -- each place of a row has a function's body above it
 abbrev pub TellsBody : Spot → Bool → Type 0
-TellsBody s body = (at : ℕ) (previous : Bool) → is_body_above (above_place (place_below s.outer s.above at previous)) ≡ body
+TellsBody s body = (at : ℕ) (previous more : Bool) → is_body_above (above_place (place_below s.outer s.above at previous more)) ≡ body
 
-pub body_below : (s : Spot) (k : Kind) (n : Note) → TellsBody (below (place_of s) (above_of k n)) (is_body k)
-body_below s k n at previous = ap is_body_above (nearest_last (place_of s).ancestors (field (told_of (parent_of k) at previous) at)) ∙ body_field k at previous
+pub body_below : (p : Place) (k : Kind) (n : Note) → TellsBody (below p (above_of k n)) (is_body k)
+body_below p k n at previous more = ap is_body_above (nearest_last p.ancestors (field (told_of (parent_of k) at previous more) at)) ∙ body_field k at previous more
 
-body_at : (body : Bool) (s : Spot) (a : Around) → TellsBody s body → is_body_above (above_place (place_of (spot s a))) ≡ row_of_body body a
-body_at body s here h = h s.at s.previous
-body_at body s (behind k n b a) h = body_at body (next_of s true) a h
-body_at body s (behind_none a) h = body_at body (next_of s false) a h
-body_at body s (under k n a rest) h = body_at (is_body k) (below (place_of s) (above_of k n)) a (body_below s k n)
+body_at : (body : Bool) (s : Spot) (a : Around) (more : Bool) → TellsBody s body → is_body_above (above_place (place_of (spot s a) more)) ≡ row_of_body body a
+body_at body s here more h = h s.at s.previous more
+body_at body s (behind k n b a) more h = body_at body (next_of s true) a more h
+body_at body s (behind_none a) more h = body_at body (next_of s false) a more h
+body_at body s (under k n a rest) more h = body_at (is_body k) (below (place_of s (goes_on rest)) (above_of k n)) a more (body_below (place_of s (goes_on rest)) k n)
 
 -- ---- the rule
 
@@ -91,11 +91,11 @@ answers c x y e =
     let q = and_parts (is_list x.kind) (has_empty x.below) p.1 in
     record { body = p.0; list = q.0; some = q.1; is = h.1 }
 
-tree_cleaned : (c : Seen) (a : Around) (x : Tree) (r : Forest) → IsHere c a → is_body_above (above_place c.place) ≡ true → is_list x.kind ≡ true
+tree_cleaned : (c : Seen) (a : Around) (x : Tree) (r : Forest) → IsHere c a r → is_body_above (above_place c.place) ≡ true → is_list x.kind ≡ true
     → Edits BodyEdit (plug a (before x r)) (plug a (before (clean_of x) r))
 tree_cleaned c a x r at body list =
     let in_list = under x.kind x.note here r in
-    let told : row_of_body false a ≡ true = sym (body_at false top a (λ at previous. refl)) ∙ ap (λ p. is_body_above (above_place p)) at ∙ body in
+    let told : row_of_body false a ≡ true = sym (body_at false top a (goes_on r) (λ at previous more. refl)) ∙ ap (λ p. is_body_above (above_place p)) at ∙ body in
     further a in_list x.below (without_empty x.below)
     (list_cleaned (join a in_list) x.below (list_join false false a in_list ∙ ap (λ b. b && is_list x.kind) told ∙ list))
 

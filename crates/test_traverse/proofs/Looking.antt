@@ -5,7 +5,7 @@ use Rattle.js_syntax.specs.declared.node_kind.NodeKind.{NodeKind as Kind}
 use Rattle.js_syntax.specs.declared.node_kind.NodeKind.TheVariants.{Statements as statements}
 use Rattle.js_syntax.specs.Node.{Forest, Tree, nothing, node, absent}
 use Rattle.min_context.specs.Above.{above_of}
-use Rattle.min_context.specs.Place.{Spot, place_of, next_of, below, top}
+use Rattle.min_context.specs.Place.{Place, Spot, goes_on, place_of, next_of, below, top}
 use Rattle.min_context.specs.Seen.{Seen}
 use Rattle.min_context.specs.declared.ancestor.Ancestor.{Ancestor}
 use Rattle.min_context.specs.declared.ancestor.Ancestor.TheVariants.{Field as field}
@@ -56,18 +56,18 @@ module _ {S : Type 0} where
 
   -- ---- what the hook saw
 
-  seen_at : (p : Spot) (x : Tree) (s : S) (k : Seen) (s' : S) (k' : Seen) (body : Bool) → is_body_above (above_place (place_of p)) ≡ body → k.place ≡ place_of p
-      → NodeVisit Alone is_written (Visits Alone is_written (below (place_of p) (above_of x.kind x.note)) x.below) (above_place (place_of p)) s k x s' k'
+  seen_at : (p : Place) (x : Tree) (s : S) (k : Seen) (s' : S) (k' : Seen) (body : Bool) → is_body_above (above_place p) ≡ body → k.place ≡ p
+      → NodeVisit Alone is_written (Visits Alone is_written (below p (above_of x.kind x.note)) x.below) (above_place p) s k x s' k'
       → body && is_list x.kind ≡ true → has_empty x.below ≡ false
   seen_at p x s k s' k' body told at v e =
       let parts = and_parts body (is_list x.kind) e in
-      let above = above_place (place_of p) in
+      let above = above_place p in
       let is_above : is_body_above above ≡ true = told ∙ parts.0 in
       let entered : v.k1 ≡ k =
       called _ v.enters.s2 v.enters.k2 x v.s1 v.k1 v.enters.at_third ∙ called _ v.enters.s1 v.enters.k1 x v.enters.s2 v.enters.k2 v.enters.at_second ∙ called _ s k x v.enters.s1 v.enters.k1 v.enters.at_first in
-      let back : v.k2.place ≡ place_of p = place_stays (below (place_of p) (above_of x.kind x.note)) x.below v.s1 v.k1 v.s2 v.k2 (ap (λ z. z.place) entered ∙ at) v.inside in
+      let back : v.k2.place ≡ p = place_stays (below p (above_of x.kind x.note)) x.below v.s1 v.k1 v.s2 v.k2 (ap (λ z. z.place) entered ∙ at) v.inside in
       let left : v.exits.k2 ≡ v.k2 = called _ v.exits.s1 v.exits.k1 x v.exits.s2 v.exits.k2 v.exits.at_second ∙ called _ v.s2 v.k2 x v.exits.s1 v.exits.k1 v.exits.at_first in
-      let here : v.exits.k2.place ≡ place_of p = ap (λ z. z.place) left ∙ back in
+      let here : v.exits.k2.place ≡ p = ap (λ z. z.place) left ∙ back in
       let alone : LeftAlone v.exits.k2 x k' = subst (λ o. Called Alone is_written (exit_outer o) v.exits.s2 v.exits.k2 x s' k') (slot_at above x.kind is_above parts.1) v.exits.at_third in
       clean (is_body_above (above_place v.exits.k2.place)) (is_list x.kind) (has_empty x.below) (ap (λ q. is_body_above (above_place q)) here ∙ is_above) parts.1 alone.clean
     where
@@ -84,10 +84,11 @@ module _ {S : Type 0} where
   none_in p (node c n inside rest) s k s' k' body list told clean (s1, k1, visit, more) =
       let x : Tree = record { kind = c; note = n; below = inside } in
       let here = first_of list (is_empty c inside) (has_empty rest) clean in
-      let seen = seen_at p x s (record k { place = place_of p }) s1 k1 body (told p.at p.previous) refl visit in
-      let under = none_in (below (place_of p) (above_of c n)) inside visit.s1 visit.k1 visit.s2 visit.k2 (is_body c) (body && is_list c) (body_below p c n) seen visit.inside in
+      let q = place_of p (goes_on rest) in
+      let seen = seen_at q x s (record k { place = q }) s1 k1 body (told p.at p.previous (goes_on rest)) refl visit in
+      let under = none_in (below q (above_of c n)) inside visit.s1 visit.k1 visit.s2 visit.k2 (is_body c) (body && is_list c) (body_below q c n) seen visit.inside in
       let later = none_in (next_of p true) rest s1 (record k1 { place = p.outer }) s' k' body list told (others_of list (is_empty c inside) (has_empty rest) clean) more in
       Prim.omega (arith, here, under, later)
 
   pub none_left : (t : Forest) (s : S) (k : Seen) (s' : S) (k' : Seen) → Visits Alone is_written top t s k s' k' → empty_in_bodies t ≡ 0
-  none_left t s k s' k' v = none_in top t s k s' k' false false (λ at previous. refl) (λ e. absurd (true≢false (sym e))) v
+  none_left t s k s' k' v = none_in top t s k s' k' false false (λ at previous more. refl) (λ e. absurd (true≢false (sym e))) v

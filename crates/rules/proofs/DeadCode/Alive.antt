@@ -8,7 +8,7 @@ use Rattle.js_syntax.specs.declared.kind.VariableKind.{VariableKind}
 use Rattle.js_syntax.specs.declared.kind.VariableKind.TheVariants as variable
 use Rattle.js_syntax.specs.Node.{Forest, Tree, Note, nothing, node, absent}
 use Rattle.js_effects.specs.Silence.{may_have_effects}
-use Rattle.min_context.specs.Place.{Place, place_at}
+use Rattle.min_context.specs.Place.{Place, place_at, goes_on}
 use Rattle.min_pass.specs.declared.around.Around.{Around as Asked}
 use Rattle.min_pass.specs.Around.{outermost as asked_of_program}
 use Rattle.min_pass.specs.Pass.{is_given, unmarked as without_mark}
@@ -101,9 +101,9 @@ module _ (f : Facts) where
       (not_so (is_sloppy_block f.scoping w.scope) e.in_sloppy_block (only.sloppy w.scope is) (second_of_neither (e.names_shared || e.evaluates) e.in_sloppy_block own))
 
   -- an item has nothing dead
-  item_quiet : (o : counts.Around) (m : Note) (c : counts.Around) (beside : Forest) (k : Kind) (n : Note) (b rest : Forest) → is_row c ≡ true → IsQuiet f (plug (join o (under statements m c beside)) (node k n b rest)) → item_has_dead f (where_of (place_at o)) k b ≡ false
+  item_quiet : (o : counts.Around) (m : Note) (c : counts.Around) (beside : Forest) (k : Kind) (n : Note) (b rest : Forest) → is_row c ≡ true → IsQuiet f (plug (join o (under statements m c beside)) (node k n b rest)) → item_has_dead f (where_of (place_at o (goes_on beside))) k b ≡ false
   item_quiet o m c beside k n b rest row q =
-      none_dead f (where_of (place_at o)) c k n b rest row (q.lists o m (plug c (node k n b rest)) beside (plug_join o (under statements m c beside) (node k n b rest)))
+      none_dead f (where_of (place_at o (goes_on beside))) c k n b rest row (q.lists o m (plug c (node k n b rest)) beside (plug_join o (under statements m c beside) (node k n b rest)))
 
   good_row : (a : counts.Around) (x : Tree) (rest : Forest) → Good f (places.plug (to a (first rest)) (Some x)) → Good f (plug a (node x.kind x.note x.below rest))
   good_row a x rest g = subst (λ t. Good f t) (plugged a (first rest) (Some x)) g
@@ -116,7 +116,7 @@ module _ (f : Facts) where
   block_alive : (o : counts.Around) (m : Note) (c : counts.Around) (beside rest : Forest) → is_row c ≡ true → (x : Tree) → holds_nothing x.kind x.below ≡ true → Good f (places.plug (to (join o (under statements m c beside)) (first rest)) (Some x)) → ⊥
   block_alive o m c beside rest row x held g =
       let a = join o (under statements m c beside) in
-      true≢false (sym (held_goes f (where_of (place_at o)) x.kind x.below held) ∙ item_quiet o m c beside x.kind x.note x.below rest row (good_row a x rest g).quiet)
+      true≢false (sym (held_goes f (where_of (place_at o (goes_on beside))) x.kind x.below held) ∙ item_quiet o m c beside x.kind x.note x.below rest row (good_row a x rest g).quiet)
 
   function_alive : f.keeps_unused ≡ false → (o : counts.Around) (m : Note) (c : counts.Around) (beside rest : Forest) → is_row c ≡ true → (pure : Bool) (n j : Note) (x : List ℕ) (parts : Forest)
       → let b = to (join o (under statements m c beside)) (first rest) in
@@ -128,9 +128,9 @@ module _ (f : Facts) where
       let below = node (binding_name x) j nothing parts in
       let y : Tree = record { kind = k; note = n; below = below } in
       let t = places.plug b (Some y) in
-      let w = where_of (place_at o) in
+      let w = where_of (place_at o (goes_on beside)) in
       let here_ = good_row a y rest g in
-      let same = items_same f (place_at o) a k n below rest (list_items o m c beside row) (good_known f (plug a (node k n below rest)) here_) in
+      let same = items_same f (place_at o (goes_on beside)) a k n below rest (list_items o m c beside row) (good_known f (plug a (node k n below rest)) here_) in
       let scope : (stand b (Some y)).scope ≡ Some w.scope = ap (λ (q : Stand). q.scope) (stand_to a (first rest) (Some y)) ∙ same.scope in
       let hidden = function_hidden t (stand b (Some y)) w g.knows.script (only_at b y g.exactly) scope (ap function_is_exposed (stand_exposed b (Some y)) ∙ own) in
       let place = find b (Some y) (Free t variable.Let x) free in
@@ -159,19 +159,19 @@ module _ (f : Facts) where
       let next = place.next + opens_one expression_statement below in
       let in_with = (asked_at (asked_of_program true) b).in_with in
       let idle = idle_row f t g.knows in_with cs 0 next below (of_right (references_among (sites_of t)) own (sites cs 0 next below) (of_left (references_among (sites_of t)) (own ++ sites cs 0 next below) [] place.references)) place.holds_there in
-      let with_there : in_with ≡ has_with (place_at a).ancestors = ap (λ (w : Asked). w.in_with) (asked_to (asked_of_program true) a (first rest)) ∙ with_is a in
+      let with_there : in_with ≡ has_with (place_at a (goes_on rest)).ancestors = ap (λ (w : Asked). w.in_with) (asked_to (asked_of_program true) a (first rest)) ∙ with_is a (goes_on rest) in
       let quiet = (good_row a y rest g).quiet.statements_stay a y rest refl in
-      some_empty (not (may_have_effects f.bound (has_with (place_at a).ancestors) below) || is_idle_body (place_at a) expression_statement below) (record { kind = empty_statement; note = without_mark n; below = nothing })
-      (first_of_either (not (may_have_effects f.bound (has_with (place_at a).ancestors) below)) (is_idle_body (place_at a) expression_statement below) (ap not (subst (λ v. may_have_effects f.bound v below ≡ false) with_there idle)))
+      some_empty (not (may_have_effects f.bound (has_with (place_at a (goes_on rest)).ancestors) below) || is_idle_body (place_at a (goes_on rest)) expression_statement below) (record { kind = empty_statement; note = without_mark n; below = nothing })
+      (first_of_either (not (may_have_effects f.bound (has_with (place_at a (goes_on rest)).ancestors) below)) (is_idle_body (place_at a (goes_on rest)) expression_statement below) (ap not (subst (λ v. may_have_effects f.bound v below ≡ false) with_there idle)))
       quiet
 
   -- one that does nothing, as a branch or a body
   body_alive : (a : counts.Around) (rest : Forest) (x y : Tree) → Good f (places.plug (to a (first rest)) (Some x)) → IdleBody (to a (first rest)) x y → ⊥
   body_alive a rest x y g idle =
       let quiet = (good_row a x rest g).quiet.statements_stay a x rest refl in
-      let silent = is_silent_statement f (where_of (place_at a)) x.kind x.below in
-      some_empty (silent || is_idle_body (place_at a) x.kind x.below) (record { kind = empty_statement; note = without_mark x.note; below = nothing })
-      (second_of_either silent (is_idle_body (place_at a) x.kind x.below) (idle_told a x y rest idle)) quiet
+      let silent = is_silent_statement f (where_of (place_at a (goes_on rest))) x.kind x.below in
+      some_empty (silent || is_idle_body (place_at a (goes_on rest)) x.kind x.below) (record { kind = empty_statement; note = without_mark x.note; below = nothing })
+      (second_of_either silent (is_idle_body (place_at a (goes_on rest)) x.kind x.below) (idle_told a x y rest idle)) quiet
 
   -- ---- declarators
 
@@ -232,7 +232,7 @@ module _ (f : Facts) where
       let below = node (binding_name x) j nothing value in
       let y : Tree = record { kind = variable_declarator; note = i; below = below } in
       let t = places.plug b (Some y) in
-      let p = place_at o in
+      let p = place_at o (goes_on beside) in
       let w = where_of p in
       let items_there = list_items o m c beside row in
       let ds = places.plug (to d (first more)) (Some y) in

@@ -5,7 +5,7 @@ use Rattle.js_syntax.specs.declared.node_kind.NodeKind.{NodeKind as Kind}
 use Rattle.js_syntax.specs.declared.node_kind.NodeKind.TheVariants.{EmptyStatement as empty_statement, ExpressionStatement as expression_statement}
 use Rattle.js_syntax.specs.Node.{Forest, Tree, Note, nothing, node, alone}
 use Rattle.js_effects.specs.Silence.{may_have_effects}
-use Rattle.min_context.specs.Place.{Place, place_at}
+use Rattle.min_context.specs.Place.{Place, place_at, goes_on}
 use Rattle.min_pass.specs.declared.around.Around.{Around as Asked}
 use Rattle.min_pass.specs.Around.{outermost as asked_of_program}
 use Rattle.min_pass.specs.Pass.{unmarked}
@@ -28,22 +28,22 @@ use Rattle.rules.proofs.DeadCode.Items.{laid_there, becomes_there, knows_there}
 wrong : {P : Type 0} → false ≡ true → P
 wrong e = absurd (true≢false (sym e))
 
-silent_empties : (f : Facts) (marked : ℕ → Bool) (a : counts.Around) (k : Kind) (n : Note) (b rest : Forest) → Knows f marked (plug a (node k n b rest)) → is_laid_at k b ≡ true → is_silent_statement f (where_of (place_at a)) k b ≡ true
+silent_empties : (f : Facts) (marked : ℕ → Bool) (a : counts.Around) (k : Kind) (n : Note) (b rest : Forest) → Knows f marked (plug a (node k n b rest)) → is_laid_at k b ≡ true → is_silent_statement f (where_of (place_at a (goes_on rest))) k b ≡ true
     → Edit (plug a (node k n b rest)) (plug a (node empty_statement (unmarked n) nothing rest))
 silent_empties f marked a expression_statement n (node k l inner nothing) rest h laid e =
     let y = a_statement n l k inner in
     becomes_there a y (a_node empty_statement (unmarked n) nothing) rest
     (statement_empties f marked (to a (first rest)) n (unmarked n) l k inner (knows_there f marked a (first rest) y h)
-    (subst (λ b. may_have_effects f.bound b (alone k l inner) ≡ false) (sym (ap (λ (w : Asked). w.in_with) (asked_to (asked_of_program true) a (first rest)) ∙ with_is a))
-    (not_true (may_have_effects f.bound (has_with (place_at a).ancestors) (alone k l inner)) e)))
+    (subst (λ b. may_have_effects f.bound b (alone k l inner) ≡ false) (sym (ap (λ (w : Asked). w.in_with) (asked_to (asked_of_program true) a (first rest)) ∙ with_is a (goes_on rest)))
+    (not_true (may_have_effects f.bound (has_with (place_at a (goes_on rest)).ancestors) (alone k l inner)) e)))
 silent_empties f marked a expression_statement n b rest h laid e = wrong laid
 silent_empties f marked a k n b rest h laid e = wrong e
 
-empties_there : (f : Facts) (marked : ℕ → Bool) (a : counts.Around) (x : Tree) (rest : Forest) → Knows f marked (plug a (node x.kind x.note x.below rest)) → is_laid_at x.kind x.below ≡ true → becomes_empty f (place_at a) x.kind x.below ≡ true
+empties_there : (f : Facts) (marked : ℕ → Bool) (a : counts.Around) (x : Tree) (rest : Forest) → Knows f marked (plug a (node x.kind x.note x.below rest)) → is_laid_at x.kind x.below ≡ true → becomes_empty f (place_at a (goes_on rest)) x.kind x.below ≡ true
     → Edit (plug a (node x.kind x.note x.below rest)) (plug a (node empty_statement (unmarked x.note) nothing rest))
-empties_there f marked a x rest h laid e = by (or_cases (is_silent_statement f (where_of (place_at a)) x.kind x.below) (is_idle_body (place_at a) x.kind x.below) e)
+empties_there f marked a x rest h laid e = by (or_cases (is_silent_statement f (where_of (place_at a (goes_on rest))) x.kind x.below) (is_idle_body (place_at a (goes_on rest)) x.kind x.below) e)
   where
-    by : (is_silent_statement f (where_of (place_at a)) x.kind x.below ≡ true) ⊎ (is_idle_body (place_at a) x.kind x.below ≡ true) → Edit (plug a (node x.kind x.note x.below rest)) (plug a (node empty_statement (unmarked x.note) nothing rest))
+    by : (is_silent_statement f (where_of (place_at a (goes_on rest))) x.kind x.below ≡ true) ⊎ (is_idle_body (place_at a (goes_on rest)) x.kind x.below ≡ true) → Edit (plug a (node x.kind x.note x.below rest)) (plug a (node empty_statement (unmarked x.note) nothing rest))
     by (inl silent) = silent_empties f marked a x.kind x.note x.below rest h laid silent
     by (inr idle) =
         let y : Tree = record { kind = empty_statement; note = unmarked x.note; below = nothing } in
@@ -60,10 +60,10 @@ empties_view f p x y t false e is = absurd cc
 pub empties : (f : Facts) (p : Place) (x y : Tree) → emptied f p x ≡ Some y → Empties f p x y
 empties f p x y is = empties_view f p x y x (becomes_empty f p x.kind x.below) refl is
 
-pub statement_empties_there : (f : Facts) (marked : ℕ → Bool) (a : counts.Around) (x y : Tree) (rest : Forest) → Knows f marked (plug a (node x.kind x.note x.below rest)) → emptied f (place_at a) x ≡ Some y
+pub statement_empties_there : (f : Facts) (marked : ℕ → Bool) (a : counts.Around) (x y : Tree) (rest : Forest) → Knows f marked (plug a (node x.kind x.note x.below rest)) → emptied f (place_at a (goes_on rest)) x ≡ Some y
     → Edit (plug a (node x.kind x.note x.below rest)) (plug a (node y.kind y.note y.below rest))
 statement_empties_there f marked a x y rest h is =
-    let o = empties f (place_at a) x y is in
+    let o = empties f (place_at a (goes_on rest)) x y is in
     let row = node x.kind x.note x.below rest in
     subst (λ (t : Tree). Edit (plug a row) (plug a (node t.kind t.note t.below rest))) o.tree
     (empties_there f marked a x rest h (laid_here x.kind x.note x.below rest (laid_there a row (fits_laid (plug a row) h.fits))) o.goes)

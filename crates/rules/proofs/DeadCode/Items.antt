@@ -5,7 +5,7 @@ use Rattle.js_syntax.specs.declared.node_kind.NodeKind.TheVariants.{Statements a
 use Rattle.js_syntax.specs.declared.kind.VariableKind.{VariableKind}
 use Rattle.js_syntax.specs.Node.{Forest, Tree, Note, nothing, node}
 use Rattle.min_context.specs.Above.{above_of}
-use Rattle.min_context.specs.Place.{Place, told_of, Spot, place_of, next_of, top, spot, place_at}
+use Rattle.min_context.specs.Place.{Place, told_of, Spot, place_of, next_of, top, spot, place_at, goes_on}
 use Rattle.min_context.specs.declared.ancestor.Ancestor.TheVariants.{Field as field}
 use Rattle.min_context.specs.declared.ancestor.Parent.TheVariants as parent
 use Rattle.min_pass.specs.declared.around.Around.{Around as Asked}
@@ -53,7 +53,7 @@ row_of_list of_item = refl
 row_of_list item_declarators = refl
 row_of_list other = refl
 
-pub first_items : (a : counts.Around) (n : Note) (rest : Forest) → IsItems (place_at a) (join a (under statements n here rest))
+pub first_items : (a : counts.Around) (n : Note) (rest : Forest) → IsItems (place_at a (goes_on rest)) (join a (under statements n here rest))
 first_items a n rest = record {
   note = n;
   at = 0;
@@ -84,17 +84,17 @@ absent_items p a h = record {
 where_with : (p : Place) (in_with : Bool) → in_with ≡ has_with p.ancestors → (record { scope = p.scope; hoist_scope = p.hoist_scope; in_with = in_with }) ≡ where_of p
 where_with p in_with e = ap (λ b. let w : Where = record { scope = p.scope; hoist_scope = p.hoist_scope; in_with = b } in w) e
 
-listed_with : (p : Place) (n : Note) (at : ℕ) (previous : Bool) → has_with (place_of (listed p n at previous)).ancestors ≡ has_with p.ancestors
-listed_with p n at previous = with_last p.ancestors (field (told_of parent.Statements at previous) at) ∙ or_false (has_with p.ancestors)
+listed_with : (p : Place) (n : Note) (at : ℕ) (previous more : Bool) → has_with (place_of (listed p n at previous) more).ancestors ≡ has_with p.ancestors
+listed_with p n at previous more = with_last p.ancestors (field (told_of parent.Statements at previous more) at) ∙ or_false (has_with p.ancestors)
 
-listed_where : (p : Place) (n : Note) (at : ℕ) (previous : Bool) → where_of (place_of (listed p n at previous)) ≡ where_of p
-listed_where p n at previous = where_with p (has_with (place_of (listed p n at previous)).ancestors) (listed_with p n at previous)
+listed_where : (p : Place) (n : Note) (at : ℕ) (previous more : Bool) → where_of (place_of (listed p n at previous) more) ≡ where_of p
+listed_where p n at previous more = where_with p (has_with (place_of (listed p n at previous) more).ancestors) (listed_with p n at previous more)
 
-pub items_where : (p : Place) (a : counts.Around) → IsItems p a → where_of (place_at a) ≡ where_of p
-items_where p a h = ap (λ s. where_of (place_of s)) h.spot_is ∙ listed_where p h.note h.at h.previous
+pub items_where : (p : Place) (a : counts.Around) (more : Bool) → IsItems p a → where_of (place_at a more) ≡ where_of p
+items_where p a more h = ap (λ s. where_of (place_of s more)) h.spot_is ∙ listed_where p h.note h.at h.previous more
 
 pub row_with : (p : Place) (a : counts.Around) → IsItems p a → (asked_row (asked_of_program true) a).in_with ≡ has_with p.ancestors
-row_with p a h = with_is a ∙ ap (λ (w : Where). w.in_with) (items_where p a h)
+row_with p a h = with_is a false ∙ ap (λ (w : Where). w.in_with) (items_where p a false h)
 
 -- ---- as edits ask for it
 
@@ -119,7 +119,7 @@ module _ (f : Facts) where
 
   -- the stand of an item
   pub items_same : (p : Place) (a : counts.Around) (k : Kind) (n : Note) (b rest : Forest) → IsItems p a → Known f (plug a (node k n b rest)) → Same (whole_stand a (node k n b rest)) (where_of p)
-  items_same p a k n b rest h g = subst (λ w. Same (whole_stand a (node k n b rest)) w) (items_where p a h) (numbers f.scoping a k n b rest (fits_laid (plug a (node k n b rest)) g.knows.fits) g.knows.flags g.knows.outermost)
+  items_same p a k n b rest h g = subst (λ w. Same (whole_stand a (node k n b rest)) w) (items_where p a (goes_on rest) h) (numbers f.scoping a k n b rest (fits_laid (plug a (node k n b rest)) g.knows.fits) g.knows.flags g.knows.outermost)
 
   pub item_scope : (p : Place) (a : counts.Around) (x : Tree) (rest : Forest) → IsItems p a → Known f (plug a (placed (Some x) rest)) → (stand (to a (first rest)) (Some x)).scope ≡ Some p.scope
   item_scope p a x rest h g = ap (λ (q : Stand). q.scope) (stand_to a (first rest) (Some x)) ∙ (items_same p a x.kind x.note x.below rest h g).scope

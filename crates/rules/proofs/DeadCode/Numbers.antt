@@ -5,7 +5,7 @@ use Rattle.js_syntax.specs.declared.kind.VariableKind.{VariableKind}
 use Rattle.js_syntax.specs.declared.kind.VariableKind.TheVariants as variable
 use Rattle.js_syntax.specs.Node.{Forest, Tree, Note, nothing, node, absent}
 use Rattle.min_context.specs.Above.{within_of, hoists, above_of, is_within as is_within_it}
-use Rattle.min_context.specs.Place.{Place, outside, number_or, inside, Spot, place_of, next_of, below, top, spot, place_at}
+use Rattle.min_context.specs.Place.{Place, outside, number_or, inside, Spot, place_of, next_of, below, top, spot, place_at, goes_on}
 use Rattle.scope_rules.specs.Context.{has_second}
 use Rattle.scope_rules.specs.Table.{Scoping}
 use Rattle.scope_laws.specs.Place as places
@@ -39,9 +39,9 @@ holds_same (Kind.Function how pure) at = refl
 holds_same Kind.StaticBlock at = refl
 holds_same k at = refl
 
-child_same : (s : Scoping) (script : Bool) (p : Stand) (q : Place) (k : Kind) (n : Note) (b : Forest) (at : ℕ) (previous : Bool) → is_within k b at ≡ is_within_it (within_of k) at → Same p (where_of q)
-    → Tells s script (stand_inside p k n b at) → Same (stand_inside p k n b at) (where_of (inside q (above_of k n) at previous))
-child_same s script p q k n b at previous e h t = record {
+child_same : (s : Scoping) (script : Bool) (p : Stand) (q : Place) (k : Kind) (n : Note) (b : Forest) (at : ℕ) (previous more : Bool) → is_within k b at ≡ is_within_it (within_of k) at → Same p (where_of q)
+    → Tells s script (stand_inside p k n b at) → Same (stand_inside p k n b at) (where_of (inside q (above_of k n) at previous more))
+child_same s script p q k n b at previous more e h t = record {
   scope = subst (λ c. (if is_within k b at then n.id else p.scope) ≡ Some (if true && c then number_or q.scope n.id else q.scope)) e (number_there (is_within k b at) n.id p.scope q.scope t.scope t.scope_is h.scope);
   variables = subst (λ c. (if holds_variables k at then n.id else p.variables) ≡ Some (if c then number_or q.hoist_scope n.id else q.hoist_scope)) (holds_same k at)
       (number_there (holds_variables k at) n.id p.variables q.hoist_scope t.variables t.variables_is h.variables);
@@ -53,7 +53,7 @@ child_same s script p q k n b at previous e h t = record {
 pub AllSame : (ps : ℕ → Stand) → (at : ℕ) → Spot → Forest → Type 0
 AllSame ps at s nothing = Unit {0}
 AllSame ps at s (absent rest) = AllSame ps (suc at) (next_of s false) rest
-AllSame ps at s (node k n b rest) = Same (ps at) (where_of (place_of s)) × AllSame ps (suc at) (next_of s true) rest
+AllSame ps at s (node k n b rest) = Same (ps at) (where_of (place_of s (goes_on rest))) × AllSame ps (suc at) (next_of s true) rest
 
 module _ (s : Scoping) (script : Bool) where
   row_same : (p : Stand) (q : Place) (k : Kind) (n : Note) (b : Forest) → ((at : ℕ) → is_within k b at ≡ is_within_it (within_of k) at) → Same p (where_of q) → (at : ℕ) (previous : Bool) (row : Forest)
@@ -61,17 +61,17 @@ module _ (s : Scoping) (script : Bool) where
   unfolding AllSame
   row_same p q k n b e h at previous nothing t = tt
   row_same p q k n b e h at previous (absent rest) t = row_same p q k n b e h (suc at) false rest t
-  row_same p q k n b e h at previous (node j m c rest) t = (child_same s script p q k n b at previous (e at) h t.0, row_same p q k n b e h (suc at) true rest t.2)
+  row_same p q k n b e h at previous (node j m c rest) t = (child_same s script p q k n b at previous (goes_on rest) (e at) h t.0, row_same p q k n b e h (suc at) true rest t.2)
 
   pair_same : (p : Stand) (q : Place) (k : Kind) (n : Note) (b : Forest) → is_pair b ≡ true → is_within k b 0 ≡ is_within_it (within_of k) 0 → (has_second b ≡ true → is_within k b 1 ≡ is_within_it (within_of k) 1) → Same p (where_of q)
       → Told s script (stand_inside p k n b) 0 b → AllSame (stand_inside p k n b) 0 (below q (above_of k n)) b
   unfolding AllSame
   pair_same p q k n (node j i a (node l m c nothing)) two e f h t = (
-    child_same s script p q k n (node j i a (node l m c nothing)) 0 false e h t.0,
-    (child_same s script p q k n (node j i a (node l m c nothing)) 1 true (f refl) h t.2.0, tt),
+    child_same s script p q k n (node j i a (node l m c nothing)) 0 false true e h t.0,
+    (child_same s script p q k n (node j i a (node l m c nothing)) 1 true false (f refl) h t.2.0, tt),
   )
-  pair_same p q k n (node j i a (absent nothing)) two e f h t = (child_same s script p q k n (node j i a (absent nothing)) 0 false e h t.0, tt)
-  pair_same p q k n (absent (node l m c nothing)) two e f h t = (child_same s script p q k n (absent (node l m c nothing)) 1 false (f refl) h t.0, tt)
+  pair_same p q k n (node j i a (absent nothing)) two e f h t = (child_same s script p q k n (node j i a (absent nothing)) 0 false true e h t.0, tt)
+  pair_same p q k n (absent (node l m c nothing)) two e f h t = (child_same s script p q k n (absent (node l m c nothing)) 1 false false (f refl) h t.0, tt)
   pair_same p q k n (absent (absent nothing)) two e f h t = tt
   pair_same p q k n b two e f h t = absurd cc
 
@@ -100,15 +100,15 @@ index at (counts.behind_none a) = index (suc at) a
 index at (counts.under k n a rest) = index 0 a
 
 same_there : (s : Scoping) (script : Bool) (ps : ℕ → Stand) (at : ℕ) (p : Spot) (a : counts.Around) (k : Kind) (n : Note) (b rest : Forest) → is_laid (counts.plug a (node k n b rest)) ≡ true → Told s script ps at (counts.plug a (node k n b rest))
-    → AllSame ps at p (counts.plug a (node k n b rest)) → Same (family ps at a (node k n b rest) (index at a)) (where_of (place_of (spot p a)))
+    → AllSame ps at p (counts.plug a (node k n b rest)) → Same (family ps at a (node k n b rest) (index at a)) (where_of (place_of (spot p a) (goes_on rest)))
 unfolding AllSame
 same_there s script ps at p counts.here k n b rest l t h = h.0
 same_there s script ps at p (counts.behind j m c a) k n b rest l t h = same_there s script ps (suc at) (next_of p true) a k n b rest (laid_rest j m c (counts.plug a (node k n b rest)) l) t.2 h.1
 same_there s script ps at p (counts.behind_none a) k n b rest l t h = same_there s script ps (suc at) (next_of p false) a k n b rest l t h
 same_there s script ps at p (counts.under j m a r) k n b rest l t h =
     let row = counts.plug a (node k n b rest) in
-    same_there s script (stand_inside (ps at) j m row) 0 (below (place_of p) (above_of j m)) a k n b rest (laid_below j m row r l) t.1
-    (below_same s script (ps at) (place_of p) j m row (laid_here j m row r l) h.0 t.1)
+    same_there s script (stand_inside (ps at) j m row) 0 (below (place_of p (goes_on r)) (above_of j m)) a k n b rest (laid_below j m row r l) t.1
+    (below_same s script (ps at) (place_of p (goes_on r)) j m row (laid_here j m row r l) h.0 t.1)
 
 -- ---- in a program
 
@@ -122,7 +122,7 @@ all_outside t e at where_ previous (absent rest) = all_outside t e (suc at) (suc
 all_outside t e at where_ previous (node k n b rest) = (record { scope = e; variables = e }, all_outside t e (suc at) (suc where_) true rest)
 
 pub numbers : (s : Scoping) (a : counts.Around) (k : Kind) (n : Note) (b rest : Forest) → is_laid (counts.plug a (node k n b rest)) ≡ true → FlagsTell s (counts.plug a (node k n b rest)) → first_mark (counts.plug a (node k n b rest)) ≡ Some 0
-    → Same (whole_stand a (node k n b rest)) (where_of (place_at a))
+    → Same (whole_stand a (node k n b rest)) (where_of (place_at a (goes_on rest)))
 numbers s a k n b rest l t e =
     let whole = counts.plug a (node k n b rest) in
     same_there s (is_script whole) (stands_of whole) 0 top a k n b rest l t (all_outside whole e 0 0 false whole)

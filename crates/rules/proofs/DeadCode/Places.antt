@@ -3,7 +3,7 @@ use Rattle.std.proofs.Common.{◌≡◌, ◌∙◌, ℕ, List, [], ◌∷◌, �
 use Rattle.js_syntax.specs.declared.node_kind.NodeKind.{NodeKind as Kind}
 use Rattle.js_syntax.specs.Node.{Forest, Tree, Note, node, absent}
 use Rattle.min_context.specs.Above.{parent_of, above_of}
-use Rattle.min_context.specs.Place.{told_of, Spot, place_below, place_of, next_of, below, top, spot, place_at}
+use Rattle.min_context.specs.Place.{told_of, Spot, place_below, place_of, next_of, below, top, spot, place_at, goes_on}
 use Rattle.min_context.specs.declared.ancestor.Ancestor.{Ancestor}
 use Rattle.min_context.specs.declared.ancestor.Ancestor.TheVariants.{Field as field}
 use Rattle.min_pass.specs.declared.around.Around.{Around as Asked}
@@ -53,7 +53,7 @@ pub spot_join : (s : Spot) (a b : counts.Around) → spot s (join a b) ≡ spot 
 spot_join s counts.here b = refl
 spot_join s (counts.behind k n c a) b = spot_join (next_of s true) a b
 spot_join s (counts.behind_none a) b = spot_join (next_of s false) a b
-spot_join s (counts.under k n a rest) b = spot_join (below (place_of s) (above_of k n)) a b
+spot_join s (counts.under k n a rest) b = spot_join (below (place_of s (goes_on rest)) (above_of k n)) a b
 
 -- what is asked of the row
 abbrev pub asked_row : Asked → counts.Around → Asked
@@ -136,9 +136,9 @@ other_behind before (counts.under k n a r) rest e f = never e
 
 -- ---- whether a `with` statement is around
 
-field_of_with : (k : Kind) (at : ℕ) (previous : Bool) → is_field_of_with (field (told_of (parent_of k) at previous) at) ≡ is_with k
-field_of_with Kind.WithStatement at previous = refl
-field_of_with k at previous = refl
+field_of_with : (k : Kind) (at : ℕ) (previous more : Bool) → is_field_of_with (field (told_of (parent_of k) at previous more) at) ≡ is_with k
+field_of_with Kind.WithStatement at previous more = refl
+field_of_with k at previous more = refl
 
 pub with_last : (above : List Ancestor) (a : Ancestor) → has_with (above ++ (a ∷ [])) ≡ has_with above || is_field_of_with a
 with_last [] a = or_false (is_field_of_with a)
@@ -152,13 +152,14 @@ with_last (b ∷ above) a = ap (λ c. is_field_of_with b || c) (with_last above 
     or_or true c d = refl
     or_or false c d = refl
 
-with_row : (w : Asked) (s : Spot) (a : counts.Around) → ((at : ℕ) (previous : Bool) → w.in_with ≡ has_with (place_below s.outer s.above at previous).ancestors) → (asked_row w a).in_with ≡ has_with (place_of (spot s a)).ancestors
-with_row w s counts.here h = h s.at s.previous
-with_row w s (counts.behind k n c a) h = with_row w (next_of s true) a h
-with_row w s (counts.behind_none a) h = with_row w (next_of s false) a h
-with_row w s (counts.under k n a rest) h =
-    with_row (asked_below w k) (below (place_of s) (above_of k n)) a
-    (λ at previous. ap (λ b. b || is_with k) (h s.at s.previous) ∙ ap (λ b. has_with (place_of s).ancestors || b) (sym (field_of_with k at previous)) ∙ sym (with_last (place_of s).ancestors (field (told_of (parent_of k) at previous) at)))
+with_row : (w : Asked) (s : Spot) (a : counts.Around) (more : Bool) → ((at : ℕ) (previous more : Bool) → w.in_with ≡ has_with (place_below s.outer s.above at previous more).ancestors) → (asked_row w a).in_with ≡ has_with (place_of (spot s a) more).ancestors
+with_row w s counts.here more h = h s.at s.previous more
+with_row w s (counts.behind k n c a) more h = with_row w (next_of s true) a more h
+with_row w s (counts.behind_none a) more h = with_row w (next_of s false) a more h
+with_row w s (counts.under k n a rest) more h =
+    let p = place_of s (goes_on rest) in
+    with_row (asked_below w k) (below p (above_of k n)) a more
+    (λ at previous more. ap (λ b. b || is_with k) (h s.at s.previous (goes_on rest)) ∙ ap (λ b. has_with p.ancestors || b) (sym (field_of_with k at previous more)) ∙ sym (with_last p.ancestors (field (told_of (parent_of k) at previous more) at)))
 
-pub with_is : (a : counts.Around) → (asked_row (asked_of_program true) a).in_with ≡ has_with (place_at a).ancestors
-with_is a = with_row (asked_of_program true) top a (λ at previous. refl)
+pub with_is : (a : counts.Around) (more : Bool) → (asked_row (asked_of_program true) a).in_with ≡ has_with (place_at a more).ancestors
+with_is a more = with_row (asked_of_program true) top a more (λ at previous more. refl)

@@ -5,7 +5,7 @@ use Rattle.js_syntax.specs.declared.node_kind.NodeKind.TheVariants.{Statements a
 use Rattle.js_syntax.specs.declared.kind.VariableKind.{VariableKind}
 use Rattle.js_syntax.specs.Node.{Forest, Note, nothing, node, absent}
 use Rattle.min_context.specs.Above.{above_of}
-use Rattle.min_context.specs.Place.{Place, Spot, top, spot, place_at}
+use Rattle.min_context.specs.Place.{Place, Spot, top, spot, place_at, goes_on}
 use Rattle.min_pass.specs.declared.around.Around.{Around as Asked}
 use Rattle.min_pass.specs.declared.around.Row.{Row}
 use Rattle.min_pass.specs.declared.around.Row.TheVariants.{Items as items, OfItem as of_item, Declarators as item_declarators, Other as other}
@@ -206,10 +206,10 @@ spot_along p n at previous (behind k m b c) e = spot_along p n (suc at) true c e
 spot_along p n at previous (behind_none c) e = spot_along p n (suc at) false c e
 spot_along p n at previous (under k m c rest) e = absurd (true≢false (sym e))
 
-pub list_items : (a : counts.Around) (n : Note) (c : counts.Around) (rest : Forest) → is_row c ≡ true → IsItems (place_at a) (join a (under statements n c rest))
+pub list_items : (a : counts.Around) (n : Note) (c : counts.Around) (rest : Forest) → is_row c ≡ true → IsItems (place_at a (goes_on rest)) (join a (under statements n c rest))
 list_items a n c rest e =
     let w = asked_row (asked_of_program true) a in
-    let there = spot_along (place_at a) n 0 false c e in
+    let there = spot_along (place_at a (goes_on rest)) n 0 false c e in
     record {
       note = n;
       at = there.at;

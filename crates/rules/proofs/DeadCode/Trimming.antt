@@ -7,7 +7,7 @@ use Rattle.js_syntax.specs.declared.kind.FunctionKind.TheVariants as function_ki
 use Rattle.js_syntax.specs.declared.kind.VariableKind.{VariableKind}
 use Rattle.js_syntax.specs.Node.{Forest, Tree, Note, nothing, node, absent, alone}
 use Rattle.js_effects.specs.Silence.{may_have_effects}
-use Rattle.min_context.specs.Place.{Place, place_at}
+use Rattle.min_context.specs.Place.{Place, place_at, goes_on}
 use Rattle.min_pass.specs.Pass.{is_given}
 use Rattle.scope_laws.specs.Place.{first}
 use Rattle.scope_counts.specs.Edits as counts
@@ -245,10 +245,10 @@ module _ (f : Facts) (p : Place) where
 
 -- of a list at a place
 pub list_trims : (f : Facts) (marked : ℕ → Bool) (a : counts.Around) (n : Note) (row rest : Forest) → Knows f marked (plug a (node statements n row rest))
-    → TreeEdits (plug a (node statements n row rest)) (plug a (node statements n (trimmed f (where_of (place_at a)) row) rest))
+    → TreeEdits (plug a (node statements n row rest)) (plug a (node statements n (trimmed f (where_of (place_at a (goes_on rest))) row) rest))
 list_trims f marked a n row rest h =
     let inner = under statements n here rest in
-    let left = trimmed f (where_of (place_at a)) row in
+    let left = trimmed f (where_of (place_at a (goes_on rest))) row in
     subst (λ t. TreeEdits t (plug a (node statements n left rest))) (plug_join a inner row)
     (subst (λ t. TreeEdits (plug (join a inner) row) t) (plug_join a inner left)
-    (list_comes f (place_at a) row (join a inner) (first_items a n rest) (record { marked = marked; knows = subst (λ t. Knows f marked t) (sym (plug_join a inner row)) h })))
+    (list_comes f (place_at a (goes_on rest)) row (join a inner) (first_items a n rest) (record { marked = marked; knows = subst (λ t. Knows f marked t) (sym (plug_join a inner row)) h })))

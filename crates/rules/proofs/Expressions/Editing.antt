@@ -2,7 +2,7 @@
 use Rattle.std.proofs.Common.{◌≡◌, ◌∙◌, inl, inr, Some, refl, sym, ap, subst}
 use Rattle.js_syntax.specs.declared.node_kind.NodeKind.{NodeKind as Kind}
 use Rattle.js_syntax.specs.Node.{Forest, Tree, Note, nothing, node}
-use Rattle.min_context.specs.Place.{place_at}
+use Rattle.min_context.specs.Place.{place_at, goes_on}
 use Rattle.scope_laws.specs.Place as places
 use Rattle.scope_counts.specs.Edits.{Around, plug}
 use Rattle.steps.specs.Allowed.EmptyIf.{EmptyIf}
@@ -51,16 +51,16 @@ logical_answers a _ _ (left_side_decides o n m i t k d b w may) = side_is {s = s
 
 -- ---- at a place of a walk
 
-pub conditional_edits_there : (a : Around) (x y : Tree) (rest : Forest) → conditional_becomes (spot_of (place_at a)) x.kind x.below ≡ Some y → KnownConditional (before a rest) x y
+pub conditional_edits_there : (a : Around) (x y : Tree) (rest : Forest) → conditional_becomes (spot_of (place_at a (goes_on rest))) x.kind x.below ≡ Some y → KnownConditional (before a rest) x y
 conditional_edits_there a x y rest e = conditional_edits (before a rest) x y (ap (λ s. conditional_becomes s x.kind x.below) (sym (spot_before a rest)) ∙ e)
 
-pub logical_edits_there : (a : Around) (x y : Tree) (rest : Forest) → logical_becomes (spot_of (place_at a)) x.kind x.below ≡ Some y → KnownSide (before a rest) x y
+pub logical_edits_there : (a : Around) (x y : Tree) (rest : Forest) → logical_becomes (spot_of (place_at a (goes_on rest))) x.kind x.below ≡ Some y → KnownSide (before a rest) x y
 logical_edits_there a x y rest e = logical_edits (before a rest) x y (ap (λ s. logical_becomes s x.kind x.below) (sym (spot_before a rest)) ∙ e)
 
-pub conditional_answers_there : (a : Around) (x y : Tree) (rest : Forest) → KnownConditional (before a rest) x y → conditional_becomes (spot_of (place_at a)) x.kind x.below ≡ Some y
+pub conditional_answers_there : (a : Around) (x y : Tree) (rest : Forest) → KnownConditional (before a rest) x y → conditional_becomes (spot_of (place_at a (goes_on rest))) x.kind x.below ≡ Some y
 conditional_answers_there a x y rest e = ap (λ s. conditional_becomes s x.kind x.below) (spot_before a rest) ∙ conditional_answers (before a rest) x y e
 
-pub logical_answers_there : (a : Around) (x y : Tree) (rest : Forest) → KnownSide (before a rest) x y → logical_becomes (spot_of (place_at a)) x.kind x.below ≡ Some y
+pub logical_answers_there : (a : Around) (x y : Tree) (rest : Forest) → KnownSide (before a rest) x y → logical_becomes (spot_of (place_at a (goes_on rest))) x.kind x.below ≡ Some y
 logical_answers_there a x y rest e = ap (λ s. logical_becomes s x.kind x.below) (spot_before a rest) ∙ logical_answers (before a rest) x y e
 
 edit_there : (a : Around) (x y : Tree) (rest : Forest) → Becomes (before a rest) x y → Edit (plug a (node x.kind x.note x.below rest)) (plug a (node y.kind y.note y.below rest))
@@ -68,10 +68,10 @@ edit_there a x y rest b =
     subst (λ u. Edit (plug a (node x.kind x.note x.below rest)) u) (plug_before a y rest)
     (subst (λ t. Edit t (places.plug (before a rest) (Some y))) (plug_before a x rest) (becomes (before a rest) x y b))
 
-pub conditional_edit : (a : Around) (x y : Tree) (rest : Forest) → conditional_becomes (spot_of (place_at a)) x.kind x.below ≡ Some y → Edit (plug a (node x.kind x.note x.below rest)) (plug a (node y.kind y.note y.below rest))
+pub conditional_edit : (a : Around) (x y : Tree) (rest : Forest) → conditional_becomes (spot_of (place_at a (goes_on rest))) x.kind x.below ≡ Some y → Edit (plug a (node x.kind x.note x.below rest)) (plug a (node y.kind y.note y.below rest))
 conditional_edit a x y rest e = edit_there a x y rest (known_conditional (conditional_edits_there a x y rest e))
 
-pub logical_edit : (a : Around) (x y : Tree) (rest : Forest) → logical_becomes (spot_of (place_at a)) x.kind x.below ≡ Some y → Edit (plug a (node x.kind x.note x.below rest)) (plug a (node y.kind y.note y.below rest))
+pub logical_edit : (a : Around) (x y : Tree) (rest : Forest) → logical_becomes (spot_of (place_at a (goes_on rest))) x.kind x.below ≡ Some y → Edit (plug a (node x.kind x.note x.below rest)) (plug a (node y.kind y.note y.below rest))
 logical_edit a x y rest e = edit_there a x y rest (known_side (logical_edits_there a x y rest e))
 
 pub unused_edit : (a : Around) (x y : Tree) (rest : Forest) → UnusedOperation (before a rest) x y → Edit (plug a (node x.kind x.note x.below rest)) (plug a (node y.kind y.note y.below rest))

@@ -9,7 +9,7 @@ use Rattle.js_tree.specs.Walk.{is_list}
 use Rattle.js_effects.specs.Answers.{bare_answers}
 use Rattle.js_effects.specs.Values.{truth_of}
 use Rattle.scope_counts.specs.Counts.{ids}
-use Rattle.min_context.specs.Place.{place_at}
+use Rattle.min_context.specs.Place.{place_at, goes_on}
 use Rattle.min_traverse.specs.Lawful.{or_else}
 use Rattle.scope_laws.specs.Place as places
 use Rattle.scope_counts.specs.Edits.{Around}
@@ -97,10 +97,10 @@ indirect_answers a _ _ (value_alone_counts n m i x z counts itself) =
 indirect_answers a x z (part_counts_behind_test n m _ _ e) = follows_answers a n m (part_follows n m x.note x.kind x.below z e)
 
 -- at a place of a walk
-pub indirect_edits_there : (a : Around) (x y : Tree) (rest : Forest) → indirect_becomes (spot_of (place_at a)) x.note x.kind x.below ≡ Some y → IndirectChoice (before a rest) x y
+pub indirect_edits_there : (a : Around) (x y : Tree) (rest : Forest) → indirect_becomes (spot_of (place_at a (goes_on rest))) x.note x.kind x.below ≡ Some y → IndirectChoice (before a rest) x y
 indirect_edits_there a x y rest e = indirect_edits (before a rest) x y (ap (λ s. indirect_becomes s x.note x.kind x.below) (sym (spot_before a rest)) ∙ e)
 
-pub indirect_answers_there : (a : Around) (x z : Tree) (rest : Forest) → IndirectChoice (before a rest) x z → (y : Tree) × (indirect_becomes (spot_of (place_at a)) x.note x.kind x.below ≡ Some y) × (bare (forest_of y) ≡ bare (forest_of z))
+pub indirect_answers_there : (a : Around) (x z : Tree) (rest : Forest) → IndirectChoice (before a rest) x z → (y : Tree) × (indirect_becomes (spot_of (place_at a (goes_on rest))) x.note x.kind x.below ≡ Some y) × (bare (forest_of y) ≡ bare (forest_of z))
 indirect_answers_there a x z rest o = let w = indirect_answers (before a rest) x z o in (w.0, ap (λ s. indirect_becomes s x.note x.kind x.below) (spot_before a rest) ∙ w.1, w.2)
 
 -- ---- the choice weighs more than a sequence and a zero

@@ -7,7 +7,7 @@ use Rattle.js_syntax.specs.Facts.{weight}
 use Rattle.js_syntax.specs.Node.{Forest, Tree, Note, nothing, node, absent, forest_of, total}
 use Rattle.js_syntax.proofs.Truth.{both, first_of_both, second_of_both, first_of_either, second_of_either}
 use Rattle.js_meaning_near.specs.Near.{cuts_off}
-use Rattle.min_context.specs.Place.{Place, place_at}
+use Rattle.min_context.specs.Place.{Place, place_at, goes_on}
 use Rattle.min_pass.specs.declared.around.Around.{Around as Asked}
 use Rattle.min_pass.specs.declared.around.Row.{Row as AskedRow}
 use Rattle.min_pass.specs.declared.around.Row.TheVariants.{Items as row_items, OfItem as row_of_item}
@@ -116,7 +116,7 @@ pub reach_edits : (a : counts.Around) (n : Note) (row rest : Forest) → TreeEdi
 reach_edits a n row rest =
     subst (λ u. TreeEdits u (plug a (node statements n (reached false row) rest))) (plug_join a (under statements n here rest) row)
     (subst (λ u. TreeEdits (plug (join a (under statements n here rest)) row) u) (plug_join a (under statements n here rest) (reached false row))
-    (row_edits (place_at a) (join a (under statements n here rest)) false row (first_items a n rest) (jumped_under false a statements n rest)))
+    (row_edits (place_at a (goes_on rest)) (join a (under statements n here rest)) false row (first_items a n rest) (jumped_under false a statements n rest)))
 
 -- what a list becomes it becomes by edits
 pub list_edits : (a : counts.Around) (x y : Tree) (rest : Forest) → list_reached x.note x.kind x.below ≡ Some y → TreeEdits (plug a (node x.kind x.note x.below rest)) (plug a (node y.kind y.note y.below rest))
@@ -275,7 +275,7 @@ some_inert p a jumped (node k n b rest) items is h =
 none_or : (t : Forest) (a : counts.Around) (n : Note) (below rest : Forest) (b : Bool) → has_inert false below ≡ b → t ≡ plug a (node statements n below rest) → (Stands t → ⊥) → left_if b n below ≡ None
 none_or t a n below rest false has is none = refl
 none_or t a n below rest true has is none =
-    absurd (none (subst Stands (plug_join a (under statements n here rest) below ∙ sym is) (some_inert (place_at a) (join a (under statements n here rest)) false below (first_items a n rest) (jumped_under false a statements n rest) has)))
+    absurd (none (subst Stands (plug_join a (under statements n here rest) below ∙ sym is) (some_inert (place_at a (goes_on rest)) (join a (under statements n here rest)) false below (first_items a n rest) (jumped_under false a statements n rest) has)))
 
 lists_settle : (t : Forest) (a : counts.Around) (k : Kind) (n : Note) (below rest : Forest) → t ≡ plug a (node k n below rest) → (Stands t → ⊥) → list_reached n k below ≡ None
 lists_settle t a Kind.Statements n below rest is none = none_or t a n below rest (has_inert false below) refl is none

@@ -10,7 +10,7 @@ use Rattle.js_syntax.specs.Core.{text_weight}
 use Rattle.js_syntax.specs.Facts.{weight}
 use Rattle.js_syntax.specs.Node.{Forest, Tree, Note, nothing, node, absent, bare, forest_of, total}
 use Rattle.scope_counts.specs.Counts.{ids}
-use Rattle.min_context.specs.Place.{place_at}
+use Rattle.min_context.specs.Place.{place_at, goes_on}
 use Rattle.scope_laws.specs.Lists.{is_list}
 use Rattle.scope_laws.specs.Place as places
 use Rattle.scope_counts.specs.Edits.{Around}
@@ -93,10 +93,10 @@ list_answers a _ _ (acting_parts_stay n m x z unused e) =
     (h.left, ap (λ b. if b then list_becomes (new_note x.note) (new_note (list_note x.below)) x.kind x.below else None) unused ∙ h.answers, h.same)
 
 -- at a place of a walk
-pub list_edits_there : (a : Around) (x y : Tree) (rest : Forest) → unused_list_becomes (spot_of (place_at a)) x.note x.kind x.below ≡ Some y → UnusedList (before a rest) x y
+pub list_edits_there : (a : Around) (x y : Tree) (rest : Forest) → unused_list_becomes (spot_of (place_at a (goes_on rest))) x.note x.kind x.below ≡ Some y → UnusedList (before a rest) x y
 list_edits_there a x y rest e = list_edits (before a rest) x y (ap (λ s. unused_list_becomes s x.note x.kind x.below) (sym (spot_before a rest)) ∙ e)
 
-pub list_answers_there : (a : Around) (x z : Tree) (rest : Forest) → UnusedList (before a rest) x z → (y : Tree) × (unused_list_becomes (spot_of (place_at a)) x.note x.kind x.below ≡ Some y) × (bare (forest_of y) ≡ bare (forest_of z))
+pub list_answers_there : (a : Around) (x z : Tree) (rest : Forest) → UnusedList (before a rest) x z → (y : Tree) × (unused_list_becomes (spot_of (place_at a (goes_on rest))) x.note x.kind x.below ≡ Some y) × (bare (forest_of y) ≡ bare (forest_of z))
 list_answers_there a x z rest o = let w = list_answers (before a rest) x z o in (w.0, ap (λ s. unused_list_becomes s x.note x.kind x.below) (spot_before a rest) ∙ w.1, w.2)
 
 -- ---- what acts is among the parts

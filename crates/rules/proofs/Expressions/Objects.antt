@@ -5,7 +5,7 @@ use Rattle.js_syntax.specs.declared.node_kind.NodeKind.TheVariants.{ObjectExpres
 use Rattle.js_syntax.specs.Facts.{weight}
 use Rattle.js_syntax.specs.Node.{Forest, Tree, Note, nothing, node, absent, joined, bare, forest_of, total}
 use Rattle.scope_counts.specs.Counts.{ids}
-use Rattle.min_context.specs.Place.{place_at}
+use Rattle.min_context.specs.Place.{place_at, goes_on}
 use Rattle.scope_laws.specs.Place as places
 use Rattle.scope_counts.specs.Edits.{Around}
 use Rattle.steps.specs.Allowed.UnusedList.{acting, as_one}
@@ -42,10 +42,10 @@ object_answers a _ _ (acting_values_stay n m x z unused e) =
     (h.left, ap (λ b. if b then object_becomes (new_note x.note) (new_note (list_note x.below)) x.kind x.below else None) unused ∙ h.answers, h.same)
 
 -- at a place of a walk
-pub object_edits_there : (a : Around) (x y : Tree) (rest : Forest) → object_left (spot_of (place_at a)) x.note x.kind x.below ≡ Some y → UnusedObject (before a rest) x y
+pub object_edits_there : (a : Around) (x y : Tree) (rest : Forest) → object_left (spot_of (place_at a (goes_on rest))) x.note x.kind x.below ≡ Some y → UnusedObject (before a rest) x y
 object_edits_there a x y rest e = object_edits (before a rest) x y (ap (λ s. object_left s x.note x.kind x.below) (sym (spot_before a rest)) ∙ e)
 
-pub object_answers_there : (a : Around) (x z : Tree) (rest : Forest) → UnusedObject (before a rest) x z → (y : Tree) × (object_left (spot_of (place_at a)) x.note x.kind x.below ≡ Some y) × (bare (forest_of y) ≡ bare (forest_of z))
+pub object_answers_there : (a : Around) (x z : Tree) (rest : Forest) → UnusedObject (before a rest) x z → (y : Tree) × (object_left (spot_of (place_at a (goes_on rest))) x.note x.kind x.below ≡ Some y) × (bare (forest_of y) ≡ bare (forest_of z))
 object_answers_there a x z rest o = let w = object_answers (before a rest) x z o in (w.0, ap (λ s. object_left s x.note x.kind x.below) (spot_before a rest) ∙ w.1, w.2)
 
 -- ---- keys and values are among the properties

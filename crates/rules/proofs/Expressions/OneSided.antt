@@ -4,7 +4,7 @@ use Rattle.js_syntax.specs.declared.node_kind.NodeKind.{NodeKind as Kind}
 use Rattle.js_syntax.specs.declared.node_kind.NodeKind.TheVariants.{ConditionalExpression as conditional_expression}
 use Rattle.js_syntax.specs.declared.operator.LogicalOperator.TheVariants as logical
 use Rattle.js_syntax.specs.Node.{Forest, Tree, Note, nothing, node, bare, forest_of}
-use Rattle.min_context.specs.Place.{place_at}
+use Rattle.min_context.specs.Place.{place_at, goes_on}
 use Rattle.scope_laws.specs.Place as places
 use Rattle.scope_counts.specs.Edits.{Around}
 use Rattle.steps.specs.Allowed.UnusedOperation.{acts}
@@ -56,10 +56,10 @@ one_sided_answers a _ _ (one_branch_acts n x z unused e) =
     (h.left, ap (λ b. if b then one_sided (new_note x.note) x.kind x.below else None) unused ∙ h.answers, h.same)
 
 -- at a place of a walk
-pub one_sided_edits_there : (a : Around) (x y : Tree) (rest : Forest) → one_sided_becomes (spot_of (place_at a)) x.note x.kind x.below ≡ Some y → OneSidedChoice (before a rest) x y
+pub one_sided_edits_there : (a : Around) (x y : Tree) (rest : Forest) → one_sided_becomes (spot_of (place_at a (goes_on rest))) x.note x.kind x.below ≡ Some y → OneSidedChoice (before a rest) x y
 one_sided_edits_there a x y rest e = one_sided_edits (before a rest) x y (ap (λ s. one_sided_becomes s x.note x.kind x.below) (sym (spot_before a rest)) ∙ e)
 
-pub one_sided_answers_there : (a : Around) (x z : Tree) (rest : Forest) → OneSidedChoice (before a rest) x z → (y : Tree) × (one_sided_becomes (spot_of (place_at a)) x.note x.kind x.below ≡ Some y) × (bare (forest_of y) ≡ bare (forest_of z))
+pub one_sided_answers_there : (a : Around) (x z : Tree) (rest : Forest) → OneSidedChoice (before a rest) x z → (y : Tree) × (one_sided_becomes (spot_of (place_at a (goes_on rest))) x.note x.kind x.below ≡ Some y) × (bare (forest_of y) ≡ bare (forest_of z))
 one_sided_answers_there a x z rest o = let w = one_sided_answers (before a rest) x z o in (w.0, ap (λ s. one_sided_becomes s x.note x.kind x.below) (spot_before a rest) ∙ w.1, w.2)
 
 -- ---- the conditional weighs more than `&&` and `||`

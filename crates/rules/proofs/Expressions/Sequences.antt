@@ -6,7 +6,7 @@ use Rattle.js_syntax.specs.Facts.{weight}
 use Rattle.js_syntax.specs.Node.{Forest, Tree, Note, nothing, node, absent, bare, forest_of, total}
 use Rattle.js_tree.specs.Walk.{is_list as is_row}
 use Rattle.scope_counts.specs.Counts.{ids}
-use Rattle.min_context.specs.Place.{place_at}
+use Rattle.min_context.specs.Place.{place_at, goes_on}
 use Rattle.scope_laws.specs.Lists.{is_list}
 use Rattle.scope_laws.specs.Place as places
 use Rattle.scope_counts.specs.Edits.{Around}
@@ -54,10 +54,10 @@ sequence_answers a _ _ (idle_parts_leave n m x z e) =
     (h.left, h.answers, h.same)
 
 -- at a place of a walk
-pub sequence_edits_there : (a : Around) (x y : Tree) (rest : Forest) → sequence_left (spot_of (place_at a)) x.note x.kind x.below ≡ Some y → IdleParts (before a rest) x y
+pub sequence_edits_there : (a : Around) (x y : Tree) (rest : Forest) → sequence_left (spot_of (place_at a (goes_on rest))) x.note x.kind x.below ≡ Some y → IdleParts (before a rest) x y
 sequence_edits_there a x y rest e = sequence_edits (before a rest) x y (ap (λ s. sequence_left s x.note x.kind x.below) (sym (spot_before a rest)) ∙ e)
 
-pub sequence_answers_there : (a : Around) (x z : Tree) (rest : Forest) → IdleParts (before a rest) x z → (y : Tree) × (sequence_left (spot_of (place_at a)) x.note x.kind x.below ≡ Some y) × (bare (forest_of y) ≡ bare (forest_of z))
+pub sequence_answers_there : (a : Around) (x z : Tree) (rest : Forest) → IdleParts (before a rest) x z → (y : Tree) × (sequence_left (spot_of (place_at a (goes_on rest))) x.note x.kind x.below ≡ Some y) × (bare (forest_of y) ≡ bare (forest_of z))
 sequence_answers_there a x z rest o = let w = sequence_answers (before a rest) x z o in (w.0, ap (λ s. sequence_left s x.note x.kind x.below) (spot_before a rest) ∙ w.1, w.2)
 
 -- ---- what counts is among the parts

@@ -1,7 +1,7 @@
 -- Where the rules have no answer no edit of theirs applies.
 use Rattle.std.proofs.Common.{◌≡◌, ◌∙◌, inl, inr, Some, refl, sym, ap, subst}
 use Rattle.js_syntax.specs.Node.{Forest, Tree}
-use Rattle.min_context.specs.Place.{place_at}
+use Rattle.min_context.specs.Place.{place_at, goes_on}
 use Rattle.scope_laws.specs.Place as places
 use Rattle.scope_laws.specs.Place.{first, behind, behind_none, under}
 use Rattle.steps.specs.Allowed.KnownConditional.{KnownConditional}
@@ -63,11 +63,11 @@ before_place (behind k n b a) = ap (λ c. behind k n b c) (before_place a)
 before_place (behind_none a) = ap (λ c. behind_none c) (before_place a)
 before_place (under k n a rest) = ap (λ c. under k n c rest) (before_place a)
 
-spot_there : (a : places.Around) → spot_of (place_at (place_of a)) ≡ spot_at a
+spot_there : (a : places.Around) → spot_of (place_at (place_of a) (goes_on (rest_of a))) ≡ spot_at a
 spot_there a = spot_before (place_of a) (rest_of a) ∙ ap spot_at (before_place a)
 
 module _ (t : Forest) (settled : IsSettled t) (a : places.Around) (x y : Tree) (is : t ≡ places.plug a (Some x)) where
-  settled_there : IsSettledAt (place_at (place_of a)) x
+  settled_there : IsSettledAt (place_at (place_of a) (goes_on (rest_of a))) x
   settled_there = settled.each (place_of a) x (rest_of a) (is ∙ placed_is a x)
 
   pub no_conditional : KnownConditional a x y → ⊥
@@ -151,15 +151,15 @@ pub is_settled :
     → IsSettled t
 is_settled t never_branch never_side never_unused never_list never_indirect never_one_sided never_sequence never_two_sides never_object never_known never_known_if never_dead_if never_unreached never_untaken never_idle never_value never_try never_empty_if never_empty_alternate = record {
   each = λ a x rest is. record {
-    conditional = none_of (conditional_becomes (spot_of (place_at a)) x.kind x.below) (λ y e. never_branch (before a rest) x y (is ∙ sym (plug_before a x rest)) (conditional_edits_there a x y rest e));
-    logical = none_of (logical_becomes (spot_of (place_at a)) x.kind x.below) (λ y e. never_side (before a rest) x y (is ∙ sym (plug_before a x rest)) (logical_edits_there a x y rest e));
-    unused = none_of (unused_becomes (spot_of (place_at a)) x.kind x.below) (λ y e. let o = first_of (unused_edits_there a x y rest e) in never_unused (before a rest) x o.0 (is ∙ sym (plug_before a x rest)) o.1);
-    list = none_of (unused_list_becomes (spot_of (place_at a)) x.note x.kind x.below) (λ y e. never_list (before a rest) x y (is ∙ sym (plug_before a x rest)) (list_edits_there a x y rest e));
-    indirect = none_of (indirect_becomes (spot_of (place_at a)) x.note x.kind x.below) (λ y e. never_indirect (before a rest) x y (is ∙ sym (plug_before a x rest)) (indirect_edits_there a x y rest e));
-    one_sided = none_of (one_sided_becomes (spot_of (place_at a)) x.note x.kind x.below) (λ y e. never_one_sided (before a rest) x y (is ∙ sym (plug_before a x rest)) (one_sided_edits_there a x y rest e));
-    sequence = none_of (sequence_left (spot_of (place_at a)) x.note x.kind x.below) (λ y e. never_sequence (before a rest) x y (is ∙ sym (plug_before a x rest)) (sequence_edits_there a x y rest e));
-    two_sides = none_of (two_sides_become (spot_of (place_at a)) x.note x.kind x.below) (λ y e. never_two_sides (before a rest) x y (is ∙ sym (plug_before a x rest)) (two_sides_edits_there a x y rest e));
-    object = none_of (object_left (spot_of (place_at a)) x.note x.kind x.below) (λ y e. never_object (before a rest) x y (is ∙ sym (plug_before a x rest)) (object_edits_there a x y rest e));
+    conditional = none_of (conditional_becomes (spot_of (place_at a (goes_on rest))) x.kind x.below) (λ y e. never_branch (before a rest) x y (is ∙ sym (plug_before a x rest)) (conditional_edits_there a x y rest e));
+    logical = none_of (logical_becomes (spot_of (place_at a (goes_on rest))) x.kind x.below) (λ y e. never_side (before a rest) x y (is ∙ sym (plug_before a x rest)) (logical_edits_there a x y rest e));
+    unused = none_of (unused_becomes (spot_of (place_at a (goes_on rest))) x.kind x.below) (λ y e. let o = first_of (unused_edits_there a x y rest e) in never_unused (before a rest) x o.0 (is ∙ sym (plug_before a x rest)) o.1);
+    list = none_of (unused_list_becomes (spot_of (place_at a (goes_on rest))) x.note x.kind x.below) (λ y e. never_list (before a rest) x y (is ∙ sym (plug_before a x rest)) (list_edits_there a x y rest e));
+    indirect = none_of (indirect_becomes (spot_of (place_at a (goes_on rest))) x.note x.kind x.below) (λ y e. never_indirect (before a rest) x y (is ∙ sym (plug_before a x rest)) (indirect_edits_there a x y rest e));
+    one_sided = none_of (one_sided_becomes (spot_of (place_at a (goes_on rest))) x.note x.kind x.below) (λ y e. never_one_sided (before a rest) x y (is ∙ sym (plug_before a x rest)) (one_sided_edits_there a x y rest e));
+    sequence = none_of (sequence_left (spot_of (place_at a (goes_on rest))) x.note x.kind x.below) (λ y e. never_sequence (before a rest) x y (is ∙ sym (plug_before a x rest)) (sequence_edits_there a x y rest e));
+    two_sides = none_of (two_sides_become (spot_of (place_at a (goes_on rest))) x.note x.kind x.below) (λ y e. never_two_sides (before a rest) x y (is ∙ sym (plug_before a x rest)) (two_sides_edits_there a x y rest e));
+    object = none_of (object_left (spot_of (place_at a (goes_on rest))) x.note x.kind x.below) (λ y e. never_object (before a rest) x y (is ∙ sym (plug_before a x rest)) (object_edits_there a x y rest e));
     known = none_of (known_becomes x.note x.kind x.below) (λ y e. never_known (before a rest) x y (is ∙ sym (plug_before a x rest)) (known_edits (before a rest) x y e));
     statement = none_of (if_becomes x.note x.kind x.below) (λ y e. elim (if_edits x y e) [
       | inl known ↦ never_known_if (before a rest) x y (is ∙ sym (plug_before a x rest)) known
@@ -169,7 +169,7 @@ is_settled t never_branch never_side never_unused never_list never_indirect neve
       ]
     ]);
     test = none_of (test_left x.note x.kind x.below) (λ y e. never_empty_if (before a rest) x y (is ∙ sym (plug_before a x rest)) (empty_if_edits x y e));
-    alternate = none_of (alternate_left (is_last (place_at a)) x.note x.kind x.below) (λ y e. never_empty_alternate (before a rest) x y (is ∙ sym (plug_before a x rest)) (empty_alternate_edits a rest x y e));
+    alternate = none_of (alternate_left (is_last (place_at a (goes_on rest))) x.note x.kind x.below) (λ y e. never_empty_alternate (before a rest) x y (is ∙ sym (plug_before a x rest)) (empty_alternate_edits a rest x y e));
     jumps = settled_without t never_unreached never_idle a x rest is;
     untaken = untaken.settled_without t never_untaken never_value a x rest is;
   };

@@ -7,7 +7,7 @@ use Rattle.js_syntax.specs.declared.operator.BinaryOperator.TheVariants.{Additio
 use Rattle.js_syntax.specs.Node.{Forest, Tree, Note, nothing, node, absent, bare, forest_of}
 use Rattle.scope_counts.specs.Counts.{ids}
 use Rattle.min_context.specs.Edited.{evals}
-use Rattle.min_context.specs.Place.{place_at}
+use Rattle.min_context.specs.Place.{place_at, goes_on}
 use Rattle.scope_laws.specs.Place as places
 use Rattle.scope_counts.specs.Edits.{Around}
 use Rattle.js_syntax.proofs.Truth.{first_of_both}
@@ -75,10 +75,10 @@ two_sides_answers a _ _ (both_sides_act n m x z unused e) =
     (h.left, ap (λ b. if b then two_sides (new_note x.note) (new_note x.note) x.kind x.below else None) unused ∙ h.answers, h.same)
 
 -- at a place of a walk
-pub two_sides_edits_there : (a : Around) (x y : Tree) (rest : Forest) → two_sides_become (spot_of (place_at a)) x.note x.kind x.below ≡ Some y → TwoSides (before a rest) x y
+pub two_sides_edits_there : (a : Around) (x y : Tree) (rest : Forest) → two_sides_become (spot_of (place_at a (goes_on rest))) x.note x.kind x.below ≡ Some y → TwoSides (before a rest) x y
 two_sides_edits_there a x y rest e = two_sides_edits (before a rest) x y (ap (λ s. two_sides_become s x.note x.kind x.below) (sym (spot_before a rest)) ∙ e)
 
-pub two_sides_answers_there : (a : Around) (x z : Tree) (rest : Forest) → TwoSides (before a rest) x z → (y : Tree) × (two_sides_become (spot_of (place_at a)) x.note x.kind x.below ≡ Some y) × (bare (forest_of y) ≡ bare (forest_of z))
+pub two_sides_answers_there : (a : Around) (x z : Tree) (rest : Forest) → TwoSides (before a rest) x z → (y : Tree) × (two_sides_become (spot_of (place_at a (goes_on rest))) x.note x.kind x.below ≡ Some y) × (bare (forest_of y) ≡ bare (forest_of z))
 two_sides_answers_there a x z rest o = let w = two_sides_answers (before a rest) x z o in (w.0, ap (λ s. two_sides_become s x.note x.kind x.below) (spot_before a rest) ∙ w.1, w.2)
 
 -- ---- the operation weighs more than a sequence, and a text more than the empty one

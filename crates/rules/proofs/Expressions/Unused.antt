@@ -6,7 +6,7 @@ use Rattle.js_syntax.specs.Facts.{weight}
 use Rattle.js_syntax.specs.Node.{Forest, Tree, Note, nothing, node, absent, forest_of, total}
 use Rattle.min_traverse.specs.Lawful.{or_same}
 use Rattle.scope_counts.specs.Counts.{ids}
-use Rattle.min_context.specs.Place.{place_at}
+use Rattle.min_context.specs.Place.{place_at, goes_on}
 use Rattle.scope_laws.specs.Place as places
 use Rattle.scope_counts.specs.Edits.{Around}
 use Rattle.steps.specs.Allowed.Child.{child_at}
@@ -217,11 +217,11 @@ unused_answers a x z o = let w = left_answers a x z o in (w.0, left_part_is (spo
 
 -- ---- at a place of a walk
 
-pub unused_edits_there : (a : Around) (x y : Tree) (rest : Forest) → unused_becomes (spot_of (place_at a)) x.kind x.below ≡ Some y → UnusedOperations (before a rest) x y
+pub unused_edits_there : (a : Around) (x y : Tree) (rest : Forest) → unused_becomes (spot_of (place_at a (goes_on rest))) x.kind x.below ≡ Some y → UnusedOperations (before a rest) x y
 unused_edits_there a x y rest e = unused_edits (before a rest) x y (ap (λ s. unused_becomes s x.kind x.below) (sym (spot_before a rest)) ∙ e)
 
-pub none_left_there : (a : Around) (x y z : Tree) (rest : Forest) → unused_becomes (spot_of (place_at a)) x.kind x.below ≡ Some y → UnusedOperation (before a rest) y z → ⊥
-none_left_there a x y z rest e o = left_none (before a rest) y z (left_part (spot_of (place_at a)) x.kind x.below y e) o
+pub none_left_there : (a : Around) (x y z : Tree) (rest : Forest) → unused_becomes (spot_of (place_at a (goes_on rest))) x.kind x.below ≡ Some y → UnusedOperation (before a rest) y z → ⊥
+none_left_there a x y z rest e o = left_none (before a rest) y z (left_part (spot_of (place_at a (goes_on rest))) x.kind x.below y e) o
 
-pub unused_answers_there : (a : Around) (x z : Tree) (rest : Forest) → UnusedOperation (before a rest) x z → (y : Tree) × (unused_becomes (spot_of (place_at a)) x.kind x.below ≡ Some y) × ((y ≡ z) ⊎ UnusedOperations (before a rest) z y)
+pub unused_answers_there : (a : Around) (x z : Tree) (rest : Forest) → UnusedOperation (before a rest) x z → (y : Tree) × (unused_becomes (spot_of (place_at a (goes_on rest))) x.kind x.below ≡ Some y) × ((y ≡ z) ⊎ UnusedOperations (before a rest) z y)
 unused_answers_there a x z rest o = let w = unused_answers (before a rest) x z o in (w.0, ap (λ s. unused_becomes s x.kind x.below) (spot_before a rest) ∙ w.1, w.2)

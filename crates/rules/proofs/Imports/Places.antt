@@ -2,7 +2,7 @@
 use Rattle.std.proofs.Common.{◌≡◌, ◌∙◌, ℕ, List, Bool, true, Option, Some, refl, sym, ap, subst}
 use Rattle.js_syntax.specs.declared.node_kind.NodeKind.TheVariants.{ImportDeclaration as import_declaration, Specifiers as specifiers}
 use Rattle.js_syntax.specs.Node.{Forest, Tree, Note, nothing, node}
-use Rattle.min_context.specs.Place.{place_at}
+use Rattle.min_context.specs.Place.{place_at, goes_on}
 use Rattle.scope_laws.specs.Place as places
 use Rattle.scope_laws.specs.Place.{Around, first, placed}
 use Rattle.scope_laws.specs.Lists.{without}
@@ -71,7 +71,7 @@ module _ (a d : counts.Around) (source : List ℕ) (n m : Note) (more rest : For
   name_there e = row_to elsewhere a (in_import source n m d more rest) ∙ row_to in_names d (first more) ∙ row_along in_names d e
 
   -- the scope that they are declared in is the one around the import
-  pub import_same : (f : Facts) (marked : ℕ → Bool) (names : Forest) → Knows f marked (plug a (an_import source n m names rest)) → Same (whole_stand a (an_import source n m names rest)) (where_of (place_at a))
+  pub import_same : (f : Facts) (marked : ℕ → Bool) (names : Forest) → Knows f marked (plug a (an_import source n m names rest)) → Same (whole_stand a (an_import source n m names rest)) (where_of (place_at a (goes_on rest)))
   import_same f marked names h =
       let whole = an_import source n m names rest in
       numbers f.scoping a (import_declaration source) n (node specifiers m names nothing) rest (fits_laid (plug a whole) h.fits) h.flags h.outermost
@@ -85,7 +85,7 @@ module _ (a d : counts.Around) (source : List ℕ) (n m : Note) (more rest : For
       stand_to a (in_import source n m d more rest) x ∙ stand_along q 0 d more x e
 
   pub name_declares : (f : Facts) (marked : ℕ → Bool) (x : Tree) → is_row d ≡ true → Knows f marked (plug a (an_import source n m (plug d (placed (Some x) more)) rest))
-      → (stand (to a (in_import source n m d more rest)) (Some x)).declaring ≡ Some (where_of (place_at a)).scope
+      → (stand (to a (in_import source n m d more rest)) (Some x)).declaring ≡ Some (where_of (place_at a (goes_on rest))).scope
   name_declares f marked x e h =
       let names = places.plug (to d (first more)) (Some x) in
       let known : Knows f marked (plug a (an_import source n m names rest)) = subst (λ t. Knows f marked (plug a (an_import source n m t rest))) (sym (plugged d (first more) (Some x))) h in

@@ -3,7 +3,7 @@ use Rattle.std.proofs.Common.{◌≡◌, ℕ, List, Bool, true, false, if◌then
 use Rattle.js_syntax.specs.declared.node_kind.NodeKind.{NodeKind as Kind}
 use Rattle.js_syntax.specs.declared.node_kind.NodeKind.TheVariants.{BindingName as binding_name}
 use Rattle.js_syntax.specs.Node.{Forest, Tree, Note, nothing, node, absent}
-use Rattle.min_context.specs.Place.{place_at}
+use Rattle.min_context.specs.Place.{place_at, goes_on}
 use Rattle.scope_counts.specs.Edits as counts
 use Rattle.scope_counts.specs.Edits.{here, behind, behind_none, plug}
 use Rattle.steps.specs.Allowed.Edits.{Edit, TreeEdits, no_tree_edit, one_tree_edit}
@@ -26,7 +26,7 @@ then_many f t u v some more h = tree_edits_compose some (more (still_known f t u
 
 module _ (f : Facts) (a : counts.Around) (source : List ℕ) (n m : Note) (rest : Forest) where
   abbrev w : Where
-  w = where_of (place_at a)
+  w = where_of (place_at a (goes_on rest))
 
   -- the program with these names
   abbrev whole : (names : Forest) → Forest
@@ -67,10 +67,10 @@ module _ (f : Facts) (a : counts.Around) (source : List ℕ) (n m : Note) (rest 
   names_come (node k l below more) d row h = by_name (specifier_goes f w k below) k l below more refl (names_come more) d row h
 
 -- of an import at a place
-pub import_prunes : (f : Facts) (marked : ℕ → Bool) (a : counts.Around) (x y : Tree) (rest : Forest) → Knows f marked (plug a (node x.kind x.note x.below rest)) → pruned f (where_of (place_at a)) x ≡ Some y
+pub import_prunes : (f : Facts) (marked : ℕ → Bool) (a : counts.Around) (x y : Tree) (rest : Forest) → Knows f marked (plug a (node x.kind x.note x.below rest)) → pruned f (where_of (place_at a (goes_on rest))) x ≡ Some y
     → TreeEdits (plug a (node x.kind x.note x.below rest)) (plug a (node y.kind y.note y.below rest))
 import_prunes f marked a x y rest h is =
-    let o = prunes f (where_of (place_at a)) x y is in
+    let o = prunes f (where_of (place_at a (goes_on rest))) x y is in
     let old = an_import_of o.source o.note o.list_note o.names in
     let known : Knows f marked (plug a (node old.kind old.note old.below rest)) = subst (λ (t : Tree). Knows f marked (plug a (node t.kind t.note t.below rest))) (sym o.old) h in
     subst (λ (t : Tree). TreeEdits (plug a (node t.kind t.note t.below rest)) (plug a (node y.kind y.note y.below rest))) o.old

@@ -7,7 +7,7 @@ use Rattle.js_syntax.specs.Node.{Forest, Tree, Note, nothing, node, absent, fore
 use Rattle.js_syntax.proofs.Truth.{first_of_either, second_of_either}
 use Rattle.js_meaning.specs.Module.{requests_of}
 use Rattle.min_context.specs.Edited.{evals}
-use Rattle.min_context.specs.Place.{Place, place_at}
+use Rattle.min_context.specs.Place.{Place, place_at, goes_on}
 use Rattle.min_pass.specs.declared.around.Around.{Around as Asked}
 use Rattle.min_pass.specs.declared.around.Row.{Row as AskedRow}
 use Rattle.min_pass.specs.declared.around.Row.TheVariants.{Items as row_items, OfItem as row_of_item}
@@ -126,7 +126,7 @@ once_edits : (a : counts.Around) (n : Note) (row rest : Forest) → TreeEdits (p
 once_edits a n row rest =
     subst (λ u. TreeEdits u (plug a (node statements n (each_once [] row) rest))) (plug_join a (under statements n here rest) row)
     (subst (λ u. TreeEdits (plug (join a (under statements n here rest)) row) u) (plug_join a (under statements n here rest) (each_once [] row))
-    (row_edits (place_at a) (join a (under statements n here rest)) [] row (first_items a n rest) (told_first a n rest)))
+    (row_edits (place_at a (goes_on rest)) (join a (under statements n here rest)) [] row (first_items a n rest) (told_first a n rest)))
 
 -- ---- a list, and what is left
 
@@ -309,7 +309,7 @@ some_repeated p a asked (node k n b rest) items is h =
 none_or : (t : Forest) (a : counts.Around) (n : Note) (below rest : Forest) (b : Bool) → has_repeated [] below ≡ b → t ≡ plug a (node statements n below rest) → (Stands t → ⊥) → once_if b n below ≡ None
 none_or t a n below rest false has is none = refl
 none_or t a n below rest true has is none =
-    absurd (none (subst Stands (plug_join a (under statements n here rest) below ∙ sym is) (some_repeated (place_at a) (join a (under statements n here rest)) [] below (first_items a n rest) (told_first a n rest) has)))
+    absurd (none (subst Stands (plug_join a (under statements n here rest) below ∙ sym is) (some_repeated (place_at a (goes_on rest)) (join a (under statements n here rest)) [] below (first_items a n rest) (told_first a n rest) has)))
 
 lists_once : (t : Forest) (a : counts.Around) (k : Kind) (n : Note) (below rest : Forest) → t ≡ plug a (node k n below rest) → (Stands t → ⊥) → list_once n k below ≡ None
 lists_once t a Kind.Statements n below rest is none = none_or t a n below rest (has_repeated [] below) refl is none

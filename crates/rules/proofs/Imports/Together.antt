@@ -13,7 +13,7 @@ use Rattle.js_tree.proofs.Rows.{joined_nothing, joined_assoc}
 use Rattle.js_meaning_near.specs.Near.{module_of}
 use Rattle.min_context.specs.Edited.{evals}
 use Rattle.min_context.specs.Above.{above_of}
-use Rattle.min_context.specs.Place.{Place, outside, told_of, place_of, spot, place_at}
+use Rattle.min_context.specs.Place.{Place, outside, told_of, place_of, spot, place_at, goes_on}
 use Rattle.min_context.specs.declared.ancestor.Above.{Above}
 use Rattle.min_context.specs.declared.ancestor.Ancestor.{Ancestor}
 use Rattle.min_context.specs.declared.ancestor.Ancestor.TheVariants.{Field as field}
@@ -318,17 +318,17 @@ one_above : (above : List Ancestor) (a : Ancestor) → is_outermost (above ++ (a
 one_above [] a = refl
 one_above (b ∷ above) a = refl
 
-inside_something : (p : Place) (above : Above) (at : ℕ) (previous : Bool) (a : Around) → is_outermost (place_of (spot (record { outer = p; above = Some above; at = at; previous = previous }) a)).ancestors ≡ false
-inside_something p above at previous here = one_above p.ancestors (field (told_of above.parent at previous) at)
-inside_something p above at previous (behind k n b a) = inside_something p above (suc at) true a
-inside_something p above at previous (behind_none a) = inside_something p above (suc at) false a
-inside_something p above at previous (under k n a rest) = inside_something (place_of (record { outer = p; above = Some above; at = at; previous = previous })) (above_of k n) 0 false a
+inside_something : (p : Place) (above : Above) (at : ℕ) (previous more : Bool) (a : Around) → is_outermost (place_of (spot (record { outer = p; above = Some above; at = at; previous = previous }) a) more).ancestors ≡ false
+inside_something p above at previous more here = one_above p.ancestors (field (told_of above.parent at previous more) at)
+inside_something p above at previous more (behind k n b a) = inside_something p above (suc at) true more a
+inside_something p above at previous more (behind_none a) = inside_something p above (suc at) false more a
+inside_something p above at previous more (under k n a rest) = inside_something (place_of (record { outer = p; above = Some above; at = at; previous = previous }) (goes_on rest)) (above_of k n) 0 false more a
 
-flat : (a : Around) → is_outermost (place_at a).ancestors ≡ true → Flat a
-flat here h = flat_here
-flat (behind k n b a) h = flat_behind k n b a
-flat (behind_none a) h = flat_none a
-flat (under k n a rest) h = absurd (true≢false (sym h ∙ inside_something outside (above_of k n) 0 false a))
+flat : (a : Around) (more : Bool) → is_outermost (place_at a more).ancestors ≡ true → Flat a
+flat here more h = flat_here
+flat (behind k n b a) more h = flat_behind k n b a
+flat (behind_none a) more h = flat_none a
+flat (under k n a rest) more h = absurd (true≢false (sym h ∙ inside_something outside (above_of k n) 0 false more a))
 
 data Alone : Around → Forest → Type 0 where
   all_alone : Alone here nothing
@@ -353,16 +353,16 @@ shut_there f marked t k shut = no_eval t k.fits f.scoping k.flags 0 k.outermost 
 edits_by : {k : Kind} {b c : Forest} → Together k b c → (n : Note) → evaluates_somewhere (node k n b nothing) ≡ false → TreeEdits (node k n b nothing) (node k n c nothing)
 edits_by (list_comes m items h) n quiet = come_by_edits n m items quiet
 
-edits_there : (f : Facts) (marked : ℕ → Bool) {a : Around} {rest : Forest} → Alone a rest → (x y : Tree) → Knows f marked (plug a (node x.kind x.note x.below rest)) → Came f (place_at a) x y
+edits_there : (f : Facts) (marked : ℕ → Bool) {a : Around} {rest : Forest} → Alone a rest → (x y : Tree) → Knows f marked (plug a (node x.kind x.note x.below rest)) → Came f (place_at a (goes_on rest)) x y
     → TreeEdits (plug a (node x.kind x.note x.below rest)) (plug a (node y.kind y.note y.below rest))
 edits_there f marked all_alone x y k o =
     subst (λ (z : Tree). TreeEdits (forest_of x) (forest_of z)) o.is (edits_by o.comes x.note (shut_there f marked (forest_of x) k o.shut))
 
-pub rule_edits : (f : Facts) (marked : ℕ → Bool) (a : Around) (x y : Tree) (rest : Forest) → Knows f marked (plug a (node x.kind x.note x.below rest)) → come_together f (place_at a) x ≡ Some y
+pub rule_edits : (f : Facts) (marked : ℕ → Bool) (a : Around) (x y : Tree) (rest : Forest) → Knows f marked (plug a (node x.kind x.note x.below rest)) → come_together f (place_at a (goes_on rest)) x ≡ Some y
     → TreeEdits (plug a (node x.kind x.note x.below rest)) (plug a (node y.kind y.note y.below rest))
 rule_edits f marked a x y rest k e =
-    let o = came f (place_at a) x y e in
-    edits_there f marked (alone a x.kind x.note x.below rest k.fits (flat a o.outermost)) x y k o
+    let o = came f (place_at a (goes_on rest)) x y e in
+    edits_there f marked (alone a x.kind x.note x.below rest k.fits (flat a (goes_on rest) o.outermost)) x y k o
 
 lighter_by : {k : Kind} {b c : Forest} → Together k b c → (n : Note) → total weight (node k n c nothing) + 1 ≤ total weight (node k n b nothing)
 lighter_by (list_comes m items h) n = less_is_left n m items h
@@ -387,18 +387,18 @@ rule_calls f p x y e = let o = came f p x y e in subst (λ (z : Tree). evals (fo
 merges_by : {k : Kind} {b c : Forest} → Together k b c → (n : Note) → evaluates_somewhere (node k n b nothing) ≡ false → ((u : Forest) → MergedImports (node k n b nothing) u → ⊥) → ⊥
 merges_by (list_comes m items h) n quiet none = let o = some_come items no_items h in none (module_of n m o.next) (merged n m quiet o.first)
 
-stays_there : (f : Facts) (marked : ℕ → Bool) {a : Around} {rest : Forest} → Alone a rest → (x y : Tree) → Knows f marked (plug a (node x.kind x.note x.below rest)) → ((u : Forest) → MergedImports (plug a (node x.kind x.note x.below rest)) u → ⊥) → Came f (place_at a) x y → ⊥
+stays_there : (f : Facts) (marked : ℕ → Bool) {a : Around} {rest : Forest} → Alone a rest → (x y : Tree) → Knows f marked (plug a (node x.kind x.note x.below rest)) → ((u : Forest) → MergedImports (plug a (node x.kind x.note x.below rest)) u → ⊥) → Came f (place_at a (goes_on rest)) x y → ⊥
 stays_there f marked all_alone x y k none o = merges_by o.comes x.note (shut_there f marked (forest_of x) k o.shut) none
 
-pub rule_stays : (f : Facts) (marked : ℕ → Bool) (t : Forest) → Knows f marked t → ((u : Forest) → MergedImports t u → ⊥) → (a : Around) (x : Tree) (rest : Forest) → t ≡ plug a (node x.kind x.note x.below rest) → come_together f (place_at a) x ≡ None
+pub rule_stays : (f : Facts) (marked : ℕ → Bool) (t : Forest) → Knows f marked t → ((u : Forest) → MergedImports t u → ⊥) → (a : Around) (x : Tree) (rest : Forest) → t ≡ plug a (node x.kind x.note x.below rest) → come_together f (place_at a (goes_on rest)) x ≡ None
 rule_stays f marked t knows nobody a x rest is =
-    by (subst (λ u. Knows f marked u) is knows) (subst (λ v. (u : Forest) → MergedImports v u → ⊥) is nobody) (come_together f (place_at a) x) refl
+    by (subst (λ u. Knows f marked u) is knows) (subst (λ v. (u : Forest) → MergedImports v u → ⊥) is nobody) (come_together f (place_at a (goes_on rest)) x) refl
   where
-    by : Knows f marked (plug a (node x.kind x.note x.below rest)) → ((u : Forest) → MergedImports (plug a (node x.kind x.note x.below rest)) u → ⊥) → (o : Option Tree) → come_together f (place_at a) x ≡ o → o ≡ None
+    by : Knows f marked (plug a (node x.kind x.note x.below rest)) → ((u : Forest) → MergedImports (plug a (node x.kind x.note x.below rest)) u → ⊥) → (o : Option Tree) → come_together f (place_at a (goes_on rest)) x ≡ o → o ≡ None
     by k none None e = refl
     by k none (Some y) e =
-        let o = came f (place_at a) x y e in
-        absurd (stays_there f marked (alone a x.kind x.note x.below rest k.fits (flat a o.outermost)) x y k none o)
+        let o = came f (place_at a (goes_on rest)) x y e in
+        absurd (stays_there f marked (alone a x.kind x.note x.below rest k.fits (flat a (goes_on rest) o.outermost)) x y k none o)
 
 comes_then : (x : Tree) (c : Forest) (a b : Bool) → a ≡ false → b ≡ true → (if not a then with_below x (if b then Some c else None) else None) ≡ None → ⊥
 comes_then x c false true h g e = cc
@@ -409,7 +409,7 @@ not_flagged : (b c : Bool) → (b ≡ true → c ≡ true) → c ≡ false → b
 not_flagged true c h g = absurd (true≢false (sym (h refl) ∙ g))
 not_flagged false c h g = refl
 
-pub rule_goes : (f : Facts) (t : Forest) → Knows f unmarked t → Exactly f t → ((a : Around) (x : Tree) (rest : Forest) → t ≡ plug a (node x.kind x.note x.below rest) → come_together f (place_at a) x ≡ None) → (u : Forest) → MergedImports t u → ⊥
+pub rule_goes : (f : Facts) (t : Forest) → Knows f unmarked t → Exactly f t → ((a : Around) (x : Tree) (rest : Forest) → t ≡ plug a (node x.kind x.note x.below rest) → come_together f (place_at a (goes_on rest)) x ≡ None) → (u : Forest) → MergedImports t u → ⊥
 rule_goes f _ k exactly none _ (imports_merge n m r s h quiet) =
     let t = module_of n m r in
     let x : Tree = record { kind = program source_type.Module; note = n; below = node statements m r nothing } in

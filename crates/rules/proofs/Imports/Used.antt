@@ -6,7 +6,7 @@ use Rattle.js_syntax.specs.declared.node_kind.NodeKind.TheVariants.{ImportDeclar
 use Rattle.js_syntax.specs.declared.kind.VariableKind.TheVariants as variable
 use Rattle.js_syntax.specs.Node.{Forest, Tree, Note, nothing, node}
 use Rattle.js_syntax.proofs.Truth.{first_of_neither, second_of_neither, first_of_either, second_of_either}
-use Rattle.min_context.specs.Place.{place_at}
+use Rattle.min_context.specs.Place.{place_at, goes_on}
 use Rattle.scope_rules.specs.Context.{inside}
 use Rattle.scope_rules.specs.ScopeFlags as scope_flag
 use Rattle.scope_rules.specs.Site.{own_sites, opens_one, sites}
@@ -68,7 +68,7 @@ module _ (f : Facts) where
       let below = node (binding_name x) j nothing nothing in
       let y : Tree = record { kind = k; note = i; below = below } in
       let t = places.plug b (Some y) in
-      let w = where_of (place_at a) in
+      let w = where_of (place_at a (goes_on rest)) in
       let names = places.plug (to d (first more)) (Some y) in
       let list = node specifiers l names nothing in
       let whole = an_import source n l names rest in

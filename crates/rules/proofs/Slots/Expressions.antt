@@ -32,9 +32,10 @@ expression_slot false is_one may e h = absurd (true≢false e)
 pub slot_of_expression : (a : Ancestor) (k : Kind) → is_missed a ≡ false → is_always_expression k ≡ true → middle_slot a k ≡ middle.Expression
 slot_of_expression a k e h = expression_slot (is_expression_place a) (is_expression k) (may_be_no_expression k) e h
 
-told_same : (p : Parent) (at : ℕ) (previous : Bool) → is_missed (field (told_of p at previous) at) ≡ is_missed (field p at)
-told_same (parent.Class derived) at previous = refl
-told_same p at previous = refl
+told_same : (p : Parent) (at : ℕ) (previous more : Bool) → is_missed (field (told_of p at previous more) at) ≡ is_missed (field p at)
+told_same (parent.Class derived) at previous more = refl
+told_same (parent.Expressions followed) at previous more = refl
+told_same p at previous more = refl
 
 -- ---- where the table lets them stand: anywhere else
 

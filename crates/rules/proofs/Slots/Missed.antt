@@ -9,7 +9,7 @@ use Rattle.js_syntax.proofs.Truth.{first_of_both, second_of_both, both}
 use Rattle.json_shape.specs.Shape.{Values, kind_in, IsChosen, Place as Planned, places, Plan, these, IsAt, Stand, Fits}
 use Rattle.json_shape.proofs.Choice.{is_list_kind}
 use Rattle.min_context.specs.Above.{parent_of, above_of}
-use Rattle.min_context.specs.Place.{Place, told_of, inside, outside, top}
+use Rattle.min_context.specs.Place.{Place, told_of, inside, outside, top, goes_on}
 use Rattle.min_context.specs.declared.ancestor.Above.{Above}
 use Rattle.min_context.specs.declared.ancestor.Ancestor.{Ancestor}
 use Rattle.min_context.specs.declared.ancestor.Ancestor.TheVariants.{Field as field, None as past_program}
@@ -91,10 +91,10 @@ module _ (is_missed : Ancestor → Bool) (is_watched : Kind → Bool) where
   abbrev pub IsSeen : Place → Tree → Type 0
   IsSeen p x = not (is_missed (above_place p) && is_watched x.kind) ≡ true
 
-  -- behind the heritage of a class it is told whether there is one, which doesn't matter
-  module _ (told_same : (p : Parent) (at : ℕ) (previous : Bool) → is_missed (field (told_of p at previous) at) ≡ is_missed (field p at)) (outermost : is_missed past_program ≡ false) where
-    missed_below : (p : Place) (a : Above) (at : ℕ) (previous : Bool) → is_missed (above_place (inside p a at previous)) ≡ is_missed (field a.parent at)
-    missed_below p a at previous = ap is_missed (last_is p.ancestors (field (told_of a.parent at previous) at)) ∙ told_same a.parent at previous
+  -- behind the heritage of a class it is told whether there is one, and of a sequence's parts whether it goes on, which doesn't matter
+  module _ (told_same : (p : Parent) (at : ℕ) (previous more : Bool) → is_missed (field (told_of p at previous more) at) ≡ is_missed (field p at)) (outermost : is_missed past_program ≡ false) where
+    missed_below : (p : Place) (a : Above) (at : ℕ) (previous more : Bool) → is_missed (above_place (inside p a at previous more)) ≡ is_missed (field a.parent at)
+    missed_below p a at previous more = ap is_missed (last_is p.ancestors (field (told_of a.parent at previous more) at)) ∙ told_same a.parent at previous more
 
     seen_row : (p : Place) (a : Above) (at : ℕ) (previous : Bool) (t : Forest) → none_missed a.parent at t ≡ true → all_seen t ≡ true → EachNode IsSeen (record { outer = p; above = Some a; at = at; previous = previous }) t
     seen_row p a at previous nothing m s = tt
@@ -104,8 +104,8 @@ module _ (is_missed : Ancestor → Bool) (is_watched : Kind → Bool) where
         let later = none_missed a.parent (suc at) r in
         let inner = none_missed (parent_of k) 0 b in
         let deeper = second_of_both inner (all_seen b && all_seen r) s in (
-          ap (λ q. not (q && is_watched k)) (missed_below p a at previous) ∙ first_of_both here later m,
-          seen_row (inside p a at previous) (above_of k n) 0 false b (first_of_both inner (all_seen b && all_seen r) s) (first_of_both (all_seen b) (all_seen r) deeper),
+          ap (λ q. not (q && is_watched k)) (missed_below p a at previous (goes_on r)) ∙ first_of_both here later m,
+          seen_row (inside p a at previous (goes_on r)) (above_of k n) 0 false b (first_of_both inner (all_seen b && all_seen r) s) (first_of_both (all_seen b) (all_seen r) deeper),
           seen_row p a (suc at) true r (second_of_both here later m) (second_of_both (all_seen b) (all_seen r) deeper),
         )
 

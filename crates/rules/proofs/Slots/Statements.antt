@@ -74,9 +74,10 @@ watched for_statement is = refl
 watched (import_declaration source) is = refl
 watched k is = absurd (true≢false (sym is))
 
-told_same : (p : Parent) (at : ℕ) (previous : Bool) → is_missed (field (told_of p at previous) at) ≡ is_missed (field p at)
-told_same (parent.Class derived) at previous = refl
-told_same p at previous = refl
+told_same : (p : Parent) (at : ℕ) (previous more : Bool) → is_missed (field (told_of p at previous more) at) ≡ is_missed (field p at)
+told_same (parent.Class derived) at previous more = refl
+told_same (parent.Expressions followed) at previous more = refl
+told_same p at previous more = refl
 
 -- ---- where the table lets them stand
 

@@ -4,7 +4,7 @@ use Rattle.js_syntax.specs.declared.node_kind.NodeKind.TheVariants.{Statements a
 use Rattle.js_syntax.specs.Node.{Forest, Note, Tree, nothing, node, absent}
 use Rattle.js_effects.specs.Silence.{is_marked}
 use Rattle.min_context.specs.Above.{above_of}
-use Rattle.min_context.specs.Place.{Place, Spot, place_of, next_of, below, place_at}
+use Rattle.min_context.specs.Place.{Place, Spot, place_of, next_of, below, place_at, goes_on}
 use Rattle.scope_rules.specs.ScopeFlags as scope_flag
 use Rattle.scope_rules.specs.Site.{BindingSite}
 use Rattle.scope_rules.specs.Table.{Scoping}
@@ -44,8 +44,8 @@ pub record Exactly (f : Facts) (t : Forest) : Type 0 where
 -- ---- the rules take nothing out
 
 pub record IsQuiet (f : Facts) (t : Forest) : Type 0 where
-  pub lists : (a : Around) (n : Note) (row rest : Forest) → t ≡ plug a (node statements n row rest) → has_dead f (where_of (place_at a)) row ≡ false
-  pub statements_stay : (a : Around) (x : Tree) (rest : Forest) → t ≡ plug a (node x.kind x.note x.below rest) → emptied f (place_at a) x ≡ None
+  pub lists : (a : Around) (n : Note) (row rest : Forest) → t ≡ plug a (node statements n row rest) → has_dead f (where_of (place_at a (goes_on rest))) row ≡ false
+  pub statements_stay : (a : Around) (x : Tree) (rest : Forest) → t ≡ plug a (node x.kind x.note x.below rest) → emptied f (place_at a (goes_on rest)) x ≡ None
 
 -- ---- node by node, as a walk goes
 
@@ -53,7 +53,7 @@ pub record IsQuiet (f : Facts) (t : Forest) : Type 0 where
 abbrev pub EachNode : (Place → Tree → Type 0) → Spot → Forest → Type 0
 EachNode Q s nothing = Unit {0}
 EachNode Q s (absent rest) = EachNode Q (next_of s false) rest
-EachNode Q s (node k n inner rest) = Q (place_of s) (record { kind = k; note = n; below = inner }) × EachNode Q (below (place_of s) (above_of k n)) inner × EachNode Q (next_of s true) rest
+EachNode Q s (node k n inner rest) = Q (place_of s (goes_on rest)) (record { kind = k; note = n; below = inner }) × EachNode Q (below (place_of s (goes_on rest)) (above_of k n)) inner × EachNode Q (next_of s true) rest
 
 pub record IsQuietAt (f : Facts) (p : Place) (x : Tree) : Type 0 where
   pub list : x.kind ≡ statements → has_dead f (where_of p) x.below ≡ false

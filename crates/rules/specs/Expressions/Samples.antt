@@ -11,7 +11,7 @@ use Rattle.js_syntax.specs.declared.kind.PropertyKind.TheVariants as property_ki
 use Rattle.js_syntax.specs.Node.{Forest, Tree, nothing, node, absent, joined}
 use Rattle.form_rules.specs.Samples.{over, leaf, listed, no, a_module, a, reads, does, function_of}
 use Rattle.min_context.specs.Above.{above_of}
-use Rattle.min_context.specs.Place.{Place, Spot as RowSpot, place_of, next_of, below, top}
+use Rattle.min_context.specs.Place.{Place, Spot as RowSpot, place_of, next_of, below, top, goes_on}
 use Rattle.min_traverse.specs.Lawful.{or_same, or_else}
 use Rattle.min_traverse.specs.Moves.{before}
 use Rattle.rules.specs.Expressions.Uses.{spot_of}
@@ -40,7 +40,7 @@ folded_at p x = or_same x (becomes_at p x)
 abbrev pub folded : RowSpot → Forest → Forest
 folded s nothing = nothing
 folded s (absent rest) = absent (folded (next_of s false) rest)
-folded s (node k n inside rest) = before (folded_at (place_of s) (record { kind = k; note = n; below = folded (below (place_of s) (above_of k n)) inside })) (folded (next_of s true) rest)
+folded s (node k n inside rest) = before (folded_at (place_of s (goes_on rest)) (record { kind = k; note = n; below = folded (below (place_of s (goes_on rest)) (above_of k n)) inside })) (folded (next_of s true) rest)
 
 abbrev pub left : Forest → Forest
 left t = folded top t

@@ -1,7 +1,7 @@
 -- Where no rule on expressions, none on statements `if` and none on what never runs changes anything of a program.
 use Rattle.std.specs.Prelude.{◌≡◌, None}
 use Rattle.js_syntax.specs.Node.{Forest, Tree, node}
-use Rattle.min_context.specs.Place.{Place, place_at}
+use Rattle.min_context.specs.Place.{Place, place_at, goes_on}
 use Rattle.scope_counts.specs.Edits.{Around, plug}
 use Rattle.rules.specs.Expressions.Uses.{spot_of}
 use Rattle.rules.specs.Expressions.Known.{conditional_becomes, logical_becomes}
@@ -38,4 +38,4 @@ pub record IsSettledAt (p : Place) (x : Tree) : Type 0 where
   pub untaken : if_left x.note x.kind x.below ≡ None
 
 pub record IsSettled (t : Forest) : Type 0 where
-  pub each : (a : Around) (x : Tree) (rest : Forest) → t ≡ plug a (node x.kind x.note x.below rest) → IsSettledAt (place_at a) x
+  pub each : (a : Around) (x : Tree) (rest : Forest) → t ≡ plug a (node x.kind x.note x.below rest) → IsSettledAt (place_at a (goes_on rest)) x

@@ -34,7 +34,7 @@ taken_under t parent.ExpressionStatement at = nobody
 taken_under t parent.ForStatement at = nobody_if (at == 2)
 taken_under t parent.ParenthesizedExpression at = in_parentheses t
 taken_under t parent.SequenceExpression at = of_sequence t at
-taken_under t parent.Expressions at = of_part t at
+taken_under t (parent.Expressions more) at = of_part t more
 taken_under t parent.LogicalExpression at = of_branch t at
 taken_under t parent.ConditionalExpression at = of_branch t at
 taken_under t p at = somebody

@@ -12,7 +12,7 @@ ghost use Rattle.js_syntax.specs.Facts.{weight};
 ghost use Rattle.js_syntax.specs.Node.{Forest, Tree, node, forest_of, total};
 ghost use Rattle.js_syntax.specs.declared.node_kind.NodeKind.TheVariants.{Statements as statements};
 ghost use Rattle.js_syntax.specs.Node.{Note};
-ghost use Rattle.min_context.specs.Place.{Place, place_at};
+ghost use Rattle.min_context.specs.Place.{Place, place_at, goes_on};
 ghost use Rattle.scope_counts.specs.Counts.{ids};
 ghost use Rattle.scope_counts.specs.Edits.{Around, plug};
 ghost use Rattle.scope_counts.specs.Losing.{MarksWhatLeft, Prunes};
@@ -51,15 +51,15 @@ pub fn what_is_known_stays()
 
 /// Law: the scopes that the context of a walk numbers at a place are those whose flags tell what is exposed there.
 pub fn places_have_the_scopes_that_flags_tell_of()
-    ensures scope { (f : Facts) (marked : ℕ → Bool) (a : Around) (x : Tree) (rest : Forest) → Knows f marked (plug a (node x.kind x.note x.below rest)) → (stand (before a rest) (Some x)).scope ≡ Some (place_at a).scope }
-    ensures variables { (f : Facts) (marked : ℕ → Bool) (a : Around) (x : Tree) (rest : Forest) → Knows f marked (plug a (node x.kind x.note x.below rest)) → (stand (before a rest) (Some x)).variables ≡ Some (place_at a).hoist_scope }
-    ensures in_with { (a : Around) (rest : Forest) → (asked_at (outermost true) (before a rest)).in_with ≡ (where_of (place_at a)).in_with }
+    ensures scope { (f : Facts) (marked : ℕ → Bool) (a : Around) (x : Tree) (rest : Forest) → Knows f marked (plug a (node x.kind x.note x.below rest)) → (stand (before a rest) (Some x)).scope ≡ Some (place_at a (goes_on rest)).scope }
+    ensures variables { (f : Facts) (marked : ℕ → Bool) (a : Around) (x : Tree) (rest : Forest) → Knows f marked (plug a (node x.kind x.note x.below rest)) → (stand (before a rest) (Some x)).variables ≡ Some (place_at a (goes_on rest)).hoist_scope }
+    ensures in_with { (a : Around) (rest : Forest) → (asked_at (outermost true) (before a rest)).in_with ≡ (where_of (place_at a (goes_on rest))).in_with }
 {}
 
 /// Law: by what is known a statement that becomes empty is silent where it stands, or does nothing as a branch or a body, so that this is
 /// an edit.
 pub fn silent_statements_may_become_empty()
-    ensures { (f : Facts) (marked : ℕ → Bool) (a : Around) (x y : Tree) (rest : Forest) → Knows f marked (plug a (node x.kind x.note x.below rest)) → emptied f (place_at a) x ≡ Some y
+    ensures { (f : Facts) (marked : ℕ → Bool) (a : Around) (x y : Tree) (rest : Forest) → Knows f marked (plug a (node x.kind x.note x.below rest)) → emptied f (place_at a (goes_on rest)) x ≡ Some y
         → Edit (plug a (node x.kind x.note x.below rest)) (plug a (node y.kind y.note y.below rest)) }
 {}
 
@@ -67,7 +67,7 @@ pub fn silent_statements_may_become_empty()
 /// that nothing uses, and declarations of which none of those stays.
 pub fn what_goes_may_go()
     ensures { (f : Facts) (marked : ℕ → Bool) (a : Around) (n : Note) (row rest : Forest) → Knows f marked (plug a (node statements n row rest))
-        → TreeEdits (plug a (node statements n row rest)) (plug a (node statements n (trimmed f (where_of (place_at a)) row) rest)) }
+        → TreeEdits (plug a (node statements n row rest)) (plug a (node statements n (trimmed f (where_of (place_at a (goes_on rest))) row) rest)) }
 {}
 
 /// Law: a list is lighter where anything goes, and the same where nothing does; no reference comes in, and by the same facts

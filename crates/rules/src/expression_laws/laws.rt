@@ -1,7 +1,7 @@
 // Why the rules may do what they do. Each law is a contract, so that the check proves it.
 ghost use Rattle.std.specs.Prelude.{◌≡◌, ◌⊎◌, Some, true};
 ghost use Rattle.js_syntax.specs.Node.{Forest, Tree, node, bare, forest_of};
-ghost use Rattle.min_context.specs.Place.{place_at};
+ghost use Rattle.min_context.specs.Place.{place_at, goes_on};
 ghost use Rattle.min_pass.specs.Around.{outermost};
 ghost use Rattle.scope_laws.specs.Place as places;
 ghost use Rattle.scope_counts.specs.Edits.{Around, plug};
@@ -49,28 +49,28 @@ ghost use Rattle.rules.specs.Expressions.Settled.{IsSettled};
 /// Law: the context of a walk tells what an expression is used for, whether a `with` statement is around, and whether nobody takes
 /// the value.
 pub fn places_tell_the_use()
-    ensures used_as { (a : Around) (rest : Forest) → (spot_of (place_at a)).used_as ≡ use_at (before a rest) }
-    ensures in_with { (a : Around) (rest : Forest) → (spot_of (place_at a)).in_with ≡ (asked_at (outermost true) (before a rest)).in_with }
-    ensures is_unused { (a : Around) (rest : Forest) → (spot_of (place_at a)).is_unused ≡ is_unused_at (before a rest) }
+    ensures used_as { (a : Around) (rest : Forest) → (spot_of (place_at a (goes_on rest))).used_as ≡ use_at (before a rest) }
+    ensures in_with { (a : Around) (rest : Forest) → (spot_of (place_at a (goes_on rest))).in_with ≡ (asked_at (outermost true) (before a rest)).in_with }
+    ensures is_unused { (a : Around) (rest : Forest) → (spot_of (place_at a (goes_on rest))).is_unused ≡ is_unused_at (before a rest) }
 {}
 
 /// Law: what a rule answers at a place of a walk a node may become there by an edit, or by several one after the other, which leave
 /// nothing more to do there.
 pub fn answers_are_edits()
-    ensures conditional { (a : Around) (x y : Tree) (rest : Forest) → conditional_becomes (spot_of (place_at a)) x.kind x.below ≡ Some y → KnownConditional (before a rest) x y }
-    ensures logical { (a : Around) (x y : Tree) (rest : Forest) → logical_becomes (spot_of (place_at a)) x.kind x.below ≡ Some y → KnownSide (before a rest) x y }
-    ensures unused { (a : Around) (x y : Tree) (rest : Forest) → unused_becomes (spot_of (place_at a)) x.kind x.below ≡ Some y → UnusedOperations (before a rest) x y }
-    ensures none_left { (a : Around) (x y z : Tree) (rest : Forest) → unused_becomes (spot_of (place_at a)) x.kind x.below ≡ Some y → UnusedOperation (before a rest) y z → ⊥ }
-    ensures list { (a : Around) (x y : Tree) (rest : Forest) → unused_list_becomes (spot_of (place_at a)) x.note x.kind x.below ≡ Some y → UnusedList (before a rest) x y }
-    ensures indirect { (a : Around) (x y : Tree) (rest : Forest) → indirect_becomes (spot_of (place_at a)) x.note x.kind x.below ≡ Some y → IndirectChoice (before a rest) x y }
-    ensures one_sided { (a : Around) (x y : Tree) (rest : Forest) → one_sided_becomes (spot_of (place_at a)) x.note x.kind x.below ≡ Some y → OneSidedChoice (before a rest) x y }
-    ensures sequence { (a : Around) (x y : Tree) (rest : Forest) → sequence_left (spot_of (place_at a)) x.note x.kind x.below ≡ Some y → IdleParts (before a rest) x y }
-    ensures two_sides { (a : Around) (x y : Tree) (rest : Forest) → two_sides_become (spot_of (place_at a)) x.note x.kind x.below ≡ Some y → TwoSides (before a rest) x y }
-    ensures object { (a : Around) (x y : Tree) (rest : Forest) → object_left (spot_of (place_at a)) x.note x.kind x.below ≡ Some y → UnusedObject (before a rest) x y }
+    ensures conditional { (a : Around) (x y : Tree) (rest : Forest) → conditional_becomes (spot_of (place_at a (goes_on rest))) x.kind x.below ≡ Some y → KnownConditional (before a rest) x y }
+    ensures logical { (a : Around) (x y : Tree) (rest : Forest) → logical_becomes (spot_of (place_at a (goes_on rest))) x.kind x.below ≡ Some y → KnownSide (before a rest) x y }
+    ensures unused { (a : Around) (x y : Tree) (rest : Forest) → unused_becomes (spot_of (place_at a (goes_on rest))) x.kind x.below ≡ Some y → UnusedOperations (before a rest) x y }
+    ensures none_left { (a : Around) (x y z : Tree) (rest : Forest) → unused_becomes (spot_of (place_at a (goes_on rest))) x.kind x.below ≡ Some y → UnusedOperation (before a rest) y z → ⊥ }
+    ensures list { (a : Around) (x y : Tree) (rest : Forest) → unused_list_becomes (spot_of (place_at a (goes_on rest))) x.note x.kind x.below ≡ Some y → UnusedList (before a rest) x y }
+    ensures indirect { (a : Around) (x y : Tree) (rest : Forest) → indirect_becomes (spot_of (place_at a (goes_on rest))) x.note x.kind x.below ≡ Some y → IndirectChoice (before a rest) x y }
+    ensures one_sided { (a : Around) (x y : Tree) (rest : Forest) → one_sided_becomes (spot_of (place_at a (goes_on rest))) x.note x.kind x.below ≡ Some y → OneSidedChoice (before a rest) x y }
+    ensures sequence { (a : Around) (x y : Tree) (rest : Forest) → sequence_left (spot_of (place_at a (goes_on rest))) x.note x.kind x.below ≡ Some y → IdleParts (before a rest) x y }
+    ensures two_sides { (a : Around) (x y : Tree) (rest : Forest) → two_sides_become (spot_of (place_at a (goes_on rest))) x.note x.kind x.below ≡ Some y → TwoSides (before a rest) x y }
+    ensures object { (a : Around) (x y : Tree) (rest : Forest) → object_left (spot_of (place_at a (goes_on rest))) x.note x.kind x.below ≡ Some y → UnusedObject (before a rest) x y }
     ensures known { (a : Around) (x y : Tree) (rest : Forest) → known_becomes x.note x.kind x.below ≡ Some y → KnownOperation (before a rest) x y }
     ensures statement { (x y : Tree) → if_becomes x.note x.kind x.below ≡ Some y → IfEdit x y }
     ensures test { (x y : Tree) → test_left x.note x.kind x.below ≡ Some y → EmptyIf x y }
-    ensures alternate { (a : Around) (x y : Tree) (rest : Forest) → alternate_left (is_last (place_at a)) x.note x.kind x.below ≡ Some y → EmptyAlternate (before a rest) x y }
+    ensures alternate { (a : Around) (x y : Tree) (rest : Forest) → alternate_left (is_last (place_at a (goes_on rest))) x.note x.kind x.below ≡ Some y → EmptyAlternate (before a rest) x y }
     ensures untaken { (a : Around) (x y : Tree) (rest : Forest) → if_left x.note x.kind x.below ≡ Some y → TreeEdits (plug a (node x.kind x.note x.below rest)) (plug a (node y.kind y.note y.below rest)) }
     ensures items { (a : Around) (x y : Tree) (rest : Forest) → list_reached x.note x.kind x.below ≡ Some y → TreeEdits (plug a (node x.kind x.note x.below rest)) (plug a (node y.kind y.note y.below rest)) }
 {}
@@ -79,20 +79,20 @@ pub fn answers_are_edits()
 /// behind a zero, of a conditional one branch of which acts, of a sequence, of an operation both sides of which act, of an object, and
 /// of an operation of known value it answers what the edit leaves but for the notes of the new nodes.
 pub fn edits_are_answers()
-    ensures conditional { (a : Around) (x y : Tree) (rest : Forest) → KnownConditional (before a rest) x y → conditional_becomes (spot_of (place_at a)) x.kind x.below ≡ Some y }
-    ensures logical { (a : Around) (x y : Tree) (rest : Forest) → KnownSide (before a rest) x y → logical_becomes (spot_of (place_at a)) x.kind x.below ≡ Some y }
-    ensures unused { (a : Around) (x z : Tree) (rest : Forest) → UnusedOperation (before a rest) x z → (y : Tree) × (unused_becomes (spot_of (place_at a)) x.kind x.below ≡ Some y) × ((y ≡ z) ⊎ UnusedOperations (before a rest) z y) }
-    ensures list { (a : Around) (x z : Tree) (rest : Forest) → UnusedList (before a rest) x z → (y : Tree) × (unused_list_becomes (spot_of (place_at a)) x.note x.kind x.below ≡ Some y) × (bare (forest_of y) ≡ bare (forest_of z)) }
-    ensures indirect { (a : Around) (x z : Tree) (rest : Forest) → IndirectChoice (before a rest) x z → (y : Tree) × (indirect_becomes (spot_of (place_at a)) x.note x.kind x.below ≡ Some y) × (bare (forest_of y) ≡ bare (forest_of z)) }
-    ensures one_sided { (a : Around) (x z : Tree) (rest : Forest) → OneSidedChoice (before a rest) x z → (y : Tree) × (one_sided_becomes (spot_of (place_at a)) x.note x.kind x.below ≡ Some y) × (bare (forest_of y) ≡ bare (forest_of z)) }
-    ensures sequence { (a : Around) (x z : Tree) (rest : Forest) → IdleParts (before a rest) x z → (y : Tree) × (sequence_left (spot_of (place_at a)) x.note x.kind x.below ≡ Some y) × (bare (forest_of y) ≡ bare (forest_of z)) }
-    ensures two_sides { (a : Around) (x z : Tree) (rest : Forest) → TwoSides (before a rest) x z → (y : Tree) × (two_sides_become (spot_of (place_at a)) x.note x.kind x.below ≡ Some y) × (bare (forest_of y) ≡ bare (forest_of z)) }
-    ensures object { (a : Around) (x z : Tree) (rest : Forest) → UnusedObject (before a rest) x z → (y : Tree) × (object_left (spot_of (place_at a)) x.note x.kind x.below ≡ Some y) × (bare (forest_of y) ≡ bare (forest_of z)) }
+    ensures conditional { (a : Around) (x y : Tree) (rest : Forest) → KnownConditional (before a rest) x y → conditional_becomes (spot_of (place_at a (goes_on rest))) x.kind x.below ≡ Some y }
+    ensures logical { (a : Around) (x y : Tree) (rest : Forest) → KnownSide (before a rest) x y → logical_becomes (spot_of (place_at a (goes_on rest))) x.kind x.below ≡ Some y }
+    ensures unused { (a : Around) (x z : Tree) (rest : Forest) → UnusedOperation (before a rest) x z → (y : Tree) × (unused_becomes (spot_of (place_at a (goes_on rest))) x.kind x.below ≡ Some y) × ((y ≡ z) ⊎ UnusedOperations (before a rest) z y) }
+    ensures list { (a : Around) (x z : Tree) (rest : Forest) → UnusedList (before a rest) x z → (y : Tree) × (unused_list_becomes (spot_of (place_at a (goes_on rest))) x.note x.kind x.below ≡ Some y) × (bare (forest_of y) ≡ bare (forest_of z)) }
+    ensures indirect { (a : Around) (x z : Tree) (rest : Forest) → IndirectChoice (before a rest) x z → (y : Tree) × (indirect_becomes (spot_of (place_at a (goes_on rest))) x.note x.kind x.below ≡ Some y) × (bare (forest_of y) ≡ bare (forest_of z)) }
+    ensures one_sided { (a : Around) (x z : Tree) (rest : Forest) → OneSidedChoice (before a rest) x z → (y : Tree) × (one_sided_becomes (spot_of (place_at a (goes_on rest))) x.note x.kind x.below ≡ Some y) × (bare (forest_of y) ≡ bare (forest_of z)) }
+    ensures sequence { (a : Around) (x z : Tree) (rest : Forest) → IdleParts (before a rest) x z → (y : Tree) × (sequence_left (spot_of (place_at a (goes_on rest))) x.note x.kind x.below ≡ Some y) × (bare (forest_of y) ≡ bare (forest_of z)) }
+    ensures two_sides { (a : Around) (x z : Tree) (rest : Forest) → TwoSides (before a rest) x z → (y : Tree) × (two_sides_become (spot_of (place_at a (goes_on rest))) x.note x.kind x.below ≡ Some y) × (bare (forest_of y) ≡ bare (forest_of z)) }
+    ensures object { (a : Around) (x z : Tree) (rest : Forest) → UnusedObject (before a rest) x z → (y : Tree) × (object_left (spot_of (place_at a (goes_on rest))) x.note x.kind x.below ≡ Some y) × (bare (forest_of y) ≡ bare (forest_of z)) }
     ensures known { (a : Around) (x z : Tree) (rest : Forest) → KnownOperation (before a rest) x z → (y : Tree) × (known_becomes x.note x.kind x.below ≡ Some y) × (bare (forest_of y) ≡ bare (forest_of z)) }
     ensures known_if { (x y : Tree) → KnownIf x y → if_becomes x.note x.kind x.below ≡ Some y }
     ensures idle_try { (x y : Tree) → IdleTry x y → if_becomes x.note x.kind x.below ≡ Some y }
     ensures empty_if { (x z : Tree) → EmptyIf x z → (y : Tree) × (test_left x.note x.kind x.below ≡ Some y) × (bare (forest_of y) ≡ bare (forest_of z)) }
-    ensures empty_alternate { (a : Around) (x y : Tree) (rest : Forest) → EmptyAlternate (before a rest) x y → alternate_left (is_last (place_at a)) x.note x.kind x.below ≡ Some y }
+    ensures empty_alternate { (a : Around) (x y : Tree) (rest : Forest) → EmptyAlternate (before a rest) x y → alternate_left (is_last (place_at a (goes_on rest))) x.note x.kind x.below ≡ Some y }
     ensures dead_if { (x z : Tree) → DeadIf x z → (y : Tree) × (if_becomes x.note x.kind x.below ≡ Some y) × (bare (forest_of y) ≡ bare (forest_of z)) }
 {}
 

@@ -92,6 +92,8 @@ pub fn operations_left()
     ensures in_branch { left_of (logical logical_operator.And (reads a) (unary unary_operator.LogicalNot (calls (reads b)))) ≡ doing (logical logical_operator.And (reads a) (calls (reads b))) }
     ensures first_part { left_of (uses (sequence (unary unary_operator.LogicalNot (calls (reads a)) ∷ reads b ∷ []))) ≡ doing (uses (sequence (calls (reads a) ∷ reads b ∷ []))) }
     ensures first_list { left_of (uses (sequence (array (calls (reads a) ∷ one ∷ []) ∷ reads b ∷ []))) ≡ doing (uses (sequence (calls (reads a) ∷ reads b ∷ []))) }
+    ensures middle_part { left_of (uses (sequence (calls (reads a) ∷ unary unary_operator.LogicalNot (calls (reads b)) ∷ reads a ∷ []))) ≡ doing (uses (sequence (calls (reads a) ∷ calls (reads b) ∷ reads a ∷ []))) }
+    ensures in_middle_part { left_of (uses (sequence (calls (reads a) ∷ logical logical_operator.And (reads a) (array (calls (reads b) ∷ one ∷ [])) ∷ reads a ∷ []))) ≡ doing (uses (sequence (calls (reads a) ∷ logical logical_operator.And (reads a) (calls (reads b)) ∷ reads a ∷ []))) }
     ensures last_part { left_of (uses (sequence (calls (reads a) ∷ unary unary_operator.LogicalNot (reads b) ∷ []))) ≡ doing (uses (sequence (calls (reads a) ∷ unary unary_operator.LogicalNot (reads b) ∷ []))) }
     ensures substitution { left_of (uses (template (unary unary_operator.LogicalNot (calls (reads a))))) ≡ doing (uses (template (unary unary_operator.LogicalNot (calls (reads a))))) }
 {}

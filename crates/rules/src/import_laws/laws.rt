@@ -5,7 +5,7 @@ ghost use Rattle.js_syntax.specs.declared.node_kind.NodeKind.{NodeKind as Kind};
 ghost use Rattle.js_syntax.specs.Facts.{weight};
 ghost use Rattle.js_syntax.specs.Node.{Forest, Tree, Note, node, forest_of, total};
 ghost use Rattle.min_context.specs.Edited.{evals};
-ghost use Rattle.min_context.specs.Place.{place_at, top};
+ghost use Rattle.min_context.specs.Place.{place_at, goes_on, top};
 ghost use Rattle.scope_laws.specs.Place as places;
 ghost use Rattle.scope_counts.specs.Counts.{ids};
 ghost use Rattle.scope_counts.specs.Edits.{Around, plug};
@@ -27,7 +27,7 @@ ghost use Rattle.rules.specs.Imports.Quiet.{ImportsUsed, IsUsedAt};
 
 /// Law: by what is known the names that go of an import may go, one after the other, and the import stays.
 pub fn unused_names_may_go()
-    ensures { (f : Facts) (marked : ℕ → Bool) (a : Around) (x y : Tree) (rest : Forest) → Knows f marked (plug a (node x.kind x.note x.below rest)) → pruned f (where_of (place_at a)) x ≡ Some y
+    ensures { (f : Facts) (marked : ℕ → Bool) (a : Around) (x y : Tree) (rest : Forest) → Knows f marked (plug a (node x.kind x.note x.below rest)) → pruned f (where_of (place_at a (goes_on rest))) x ≡ Some y
         → TreeEdits (plug a (node x.kind x.note x.below rest)) (plug a (node y.kind y.note y.below rest)) }
 {}
 

@@ -3,7 +3,7 @@ ghost use Rattle.std.specs.Prelude.{◌≡◌, ◌≤◌, ◌+◌, ℕ, Bool, tr
 ghost use Rattle.js_syntax.specs.Facts.{weight};
 ghost use Rattle.js_syntax.specs.Node.{Forest, Tree, node, forest_of, nothing, total};
 ghost use Rattle.min_context.specs.Edited.{evals};
-ghost use Rattle.min_context.specs.Place.{Place, place_at};
+ghost use Rattle.min_context.specs.Place.{Place, place_at, goes_on};
 ghost use Rattle.scope_counts.specs.Counts.{ids};
 ghost use Rattle.scope_counts.specs.Edits.{Around, plug};
 ghost use Rattle.scope_counts.specs.Scopes.{unmarked};
@@ -16,7 +16,7 @@ ghost use Rattle.rules.specs.Imports.Merged.{one_goes, together, come_together};
 
 /// Law: by what is known of a module its imports may come together by the rule, one after the other.
 pub fn imports_may_come_together()
-    ensures { (f : Facts) (marked : ℕ → Bool) (a : Around) (x y : Tree) (rest : Forest) → Knows f marked (plug a (node x.kind x.note x.below rest)) → come_together f (place_at a) x ≡ Some y
+    ensures { (f : Facts) (marked : ℕ → Bool) (a : Around) (x y : Tree) (rest : Forest) → Knows f marked (plug a (node x.kind x.note x.below rest)) → come_together f (place_at a (goes_on rest)) x ≡ Some y
         → TreeEdits (plug a (node x.kind x.note x.below rest)) (plug a (node y.kind y.note y.below rest)) }
 {}
 
@@ -37,6 +37,6 @@ pub fn imports_of_a_list_that_may_come_together_are_found()
 /// Law: where no two imports of a program may become one, none goes, by whatever is known of it; and where none goes, by what is known
 /// exactly, no two may.
 pub fn imports_that_may_come_together_are_found()
-    ensures goes { (f : Facts) (t : Forest) → Knows f unmarked t → Exactly f t → ((a : Around) (x : Tree) (rest : Forest) → t ≡ plug a (node x.kind x.note x.below rest) → come_together f (place_at a) x ≡ None) → (u : Forest) → MergedImports t u → ⊥ }
-    ensures stays { (f : Facts) (marked : ℕ → Bool) (t : Forest) → Knows f marked t → ((u : Forest) → MergedImports t u → ⊥) → (a : Around) (x : Tree) (rest : Forest) → t ≡ plug a (node x.kind x.note x.below rest) → come_together f (place_at a) x ≡ None }
+    ensures goes { (f : Facts) (t : Forest) → Knows f unmarked t → Exactly f t → ((a : Around) (x : Tree) (rest : Forest) → t ≡ plug a (node x.kind x.note x.below rest) → come_together f (place_at a (goes_on rest)) x ≡ None) → (u : Forest) → MergedImports t u → ⊥ }
+    ensures stays { (f : Facts) (marked : ℕ → Bool) (t : Forest) → Knows f marked t → ((u : Forest) → MergedImports t u → ⊥) → (a : Around) (x : Tree) (rest : Forest) → t ≡ plug a (node x.kind x.note x.below rest) → come_together f (place_at a (goes_on rest)) x ≡ None }
 {}

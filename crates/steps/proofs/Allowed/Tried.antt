@@ -48,7 +48,7 @@ use Rattle.steps.specs.Allowed.TwoSides.{both_sides_act}
 use Rattle.steps.specs.Allowed.UnusedObject.{acting_values_stay}
 use Rattle.steps.specs.Allowed.KnownOperation.{known_literal, value_is_known, negative_is_known}
 use Rattle.steps.specs.Allowed.Edits.{Edit, leaves, becomes, empty_statement, empty_block, silent_statement, unused_function, unused_declaration, unused_import, unreached, untaken, idle_statement, repeated_import, known_conditional, known_side, known_if, dead_if, unused_operation, unused_list, indirect_choice, one_sided_choice, idle_parts, two_sides, unused_object, known_operation, unrun_value, idle_try, idle_body, empty_if, empty_alternate}
-use Rattle.steps.specs.Allowed.Rows.{breaks_label, labeled_too, labeled, branch_of_if, in_branch, in_function, in_function_by, value_of_a, zero, loop, debugger, throwing_block, throwing_branch, broken_label, past, in_list, before, throws, behind_throw, call_of_a, null, if_one, if_null, either_way, conditional, logical, may_be_named, o_f, parenthesized, in_statement, called, called_in_parentheses, called_in_with, argument, operand, applied, equals, difference, sum, text, empty_text, template, tagged, assigned, statement, ComesOut, Stays, StaysUnused, array, spread, hole, sequence, ListStays, ChoiceStays, PartsStay, SidesStay, object, a_is, b_is, getter_of_a, keyed_by, method_by, not_a, ObjectStays, literal, operation, OperationStays, behind_zero, placed, StaysDirect, FollowsNone, with_a, in_with_a, empty, a_is_read, a_is_exported, imports_nothing, behind_import, only_import, tried, tried_finally, finally_alone, while_, for_, loop}
+use Rattle.steps.specs.Allowed.Rows.{breaks_label, labeled_too, labeled, branch_of_if, in_branch, in_function, in_function_by, value_of_a, zero, loop, debugger, throwing_block, throwing_branch, broken_label, past, in_list, before, throws, behind_throw, call_of_a, null, if_one, if_null, either_way, conditional, logical, may_be_named, o_f, parenthesized, in_statement, called, called_in_parentheses, called_in_with, argument, second_part, operand, applied, equals, difference, sum, text, empty_text, template, tagged, assigned, statement, ComesOut, Stays, StaysUnused, array, spread, hole, sequence, ListStays, ChoiceStays, PartsStay, SidesStay, object, a_is, b_is, getter_of_a, keyed_by, method_by, not_a, ObjectStays, literal, operation, OperationStays, behind_zero, placed, StaysDirect, FollowsNone, with_a, in_with_a, empty, a_is_read, a_is_exported, imports_nothing, behind_import, only_import, tried, tried_finally, finally_alone, while_, for_, loop}
 
 pub empties_in_list : Edit (a_module (does one ∷ [])) (a_module (empty ∷ []))
 empties_in_list = becomes (before []) _ _ (silent_statement (silent_statement_empties nowhere nowhere nowhere _ nothing (inl refl, tt)))
@@ -340,6 +340,10 @@ elements_stay = becomes_list Kind.ArrayExpression Kind.SequenceExpression _ _ re
 pub acting_parts_of_sequence_stay : Edit (a_module (does (sequence (one ∷ call_of_a ∷ o_f ∷ [])) ∷ [])) (a_module (does (sequence (call_of_a ∷ o_f ∷ [])) ∷ []))
 acting_parts_of_sequence_stay = becomes_list Kind.SequenceExpression Kind.SequenceExpression _ _ refl
 
+-- a part of a sequence, behind which more stand
+pub array_part_becomes : Edit (placed (second_part (one ∷ [])) (array (call_of_a ∷ null ∷ []))) (placed (second_part (one ∷ [])) call_of_a)
+array_part_becomes = becomes (second_part (one ∷ [])) _ _ (unused_list (acting_parts_stay nowhere nowhere _ _ refl refl))
+
 no_list : {y : Tree} → None ≡ Some y → ⊥
 no_list e = cc
 
@@ -348,6 +352,9 @@ spread_stays y (acting_parts_stay n m _ _ unused is) = no_list is
 
 pub used_array_stays : ListStays argument (array (call_of_a ∷ []))
 used_array_stays y (acting_parts_stay n m _ _ unused is) = true≢false (sym unused)
+
+pub last_array_stays : ListStays (second_part []) (array (call_of_a ∷ []))
+last_array_stays y (acting_parts_stay n m _ _ unused is) = true≢false (sym unused)
 
 pub acting_sequence_stays : ListStays statement (sequence (call_of_a ∷ o_f ∷ []))
 acting_sequence_stays y (acting_parts_stay n m _ _ unused is) = no_list is

@@ -38,7 +38,7 @@ use Rattle.steps.proofs.Owed.FitsTaking.{as_conditional, conditional_stood}
 use Rattle.steps.proofs.Owed.SilentAnywhere.{silent_anywhere}
 use Rattle.steps.proofs.Owed.Undeclared.{DeclaresNothing, both_plainly}
 use Rattle.steps.proofs.Owed.UnusedOperation.{comes_out}
-use Rattle.steps.proofs.Owed.UnusedPlace.{unused_in_module}
+use Rattle.steps.proofs.Owed.UnusedPlace.{unused_for_effect}
 
 abbrev tree : Kind → Note → (below : Forest) → Tree
 tree k n below = record { kind = k; note = n; below = below }
@@ -152,7 +152,7 @@ module _ (a : Around) (unused : is_unused_at a ≡ true) (p n : Note) (below : F
       record {
         inner = y.below;
         same = refl;
-        stands = side_stands (wanted_at a) (unused_in_module a conditional is form unused) side;
+        stands = side_stands (wanted_at a) (unused_for_effect a unused) side;
         old_calm = refl;
         declares = both_plainly conditional_expression below y.kind y.note y.below nothing refl old new;
         core = λ c. side_core side (core_below conditional_expression p below nothing c);

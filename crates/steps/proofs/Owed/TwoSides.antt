@@ -49,7 +49,7 @@ use Rattle.steps.proofs.Owed.SilentTexts.{its_text, first_silent_wasted, second_
 use Rattle.steps.proofs.Owed.UntaggedPlace.{unused_is_untagged}
 use Rattle.steps.proofs.Owed.UnusedList.{Left, several_left, Parts, left_rebuilt, left_fits, left_core, left_declares}
 use Rattle.steps.proofs.Owed.UnusedOperation.{comes_out, combines_not_in, combines_answers}
-use Rattle.steps.proofs.Owed.UnusedPlace.{unused_in_module}
+use Rattle.steps.proofs.Owed.UnusedPlace.{unused_for_effect}
 
 abbrev tree : Kind → Note → (below : Forest) → Tree
 tree k n below = record { kind = k; note = n; below = below }
@@ -131,7 +131,7 @@ module _ (a : Around) (unused : is_unused_at a ≡ true) (p n m : Note) (o : Bin
       record {
         inner = several.below;
         same = refl;
-        stands = spared (wanted_at a) (binary_expression o) p m sides sides (unused_in_module a operation is form unused) tt refl refl (λ st. binary_wasted st o k l p i j m b c sides (combines_answers o sides combines operator_core) (needed (needed all_needed)));
+        stands = spared (wanted_at a) (binary_expression o) p m sides sides (unused_for_effect a unused) tt refl refl (λ st. binary_wasted st o k l p i j m b c sides (combines_answers o sides combines operator_core) (needed (needed all_needed)));
         old_calm = refl;
         declares = both_plainly (binary_expression o) sides sequence_expression n several.below nothing refl none (left_declares left (sides_stay there) within imports);
         core = λ d. left_core left (core_below (binary_expression o) p sides nothing d);
@@ -196,7 +196,7 @@ module _ (a : Around) (unused : is_unused_at a ≡ true) (p n : Note) (old new :
       record {
         inner = new;
         same = refl;
-        stands = spared (wanted_at a) (binary_expression addition) p n old (forest_of emptied) (unused_in_module a full is form unused) tt refl refl wasted_so;
+        stands = spared (wanted_at a) (binary_expression addition) p n old (forest_of emptied) (unused_for_effect a unused) tt refl refl wasted_so;
         old_calm = refl;
         declares = both_plainly (binary_expression addition) old (binary_expression addition) n new nothing refl none (sum_declares n new still);
         core = λ d. both (all_core new) true (core_new (core_below (binary_expression addition) p old nothing d)) refl;

@@ -1,6 +1,7 @@
 -- Where no tag stands before a place, no row that is planned there has one for the template behind a tag; and none stands where nobody
 -- takes the value.
 use Rattle.std.proofs.Common.{◌≡◌, ◌∙◌, ℕ, suc, ◌||◌, List, [], ◌∷◌, Bool, true, false, not, ◌&&◌, refl, sym, ap, true≢false}
+use Rattle.js_effects.specs.Silence.{is_nothing}
 use Rattle.js_syntax.specs.Class.{Class}
 use Rattle.js_syntax.specs.declared.node_kind.NodeKind.{NodeKind as Kind}
 use Rattle.js_syntax.specs.declared.value.Key.{Key}
@@ -101,33 +102,33 @@ row_plans_none private r vs h = fields_none private (fields_of r) vs (asked_in r
 
 -- ---- where nobody takes the value
 
-taken_list : (t : Taker) → t ≡ somebody → (at : ℕ) → of_part t at ≡ somebody
-taken_list t e at = ap (λ s. of_part s at) e
+taken_list : (t : Taker) → t ≡ somebody → (more : Bool) → of_part t more ≡ somebody
+taken_list t e more = ap (λ s. of_part s more) e
 
-taken_tagged : (k : Kind) (t : Taker) (tagged : Bool) → (tagged ≡ true → t ≡ somebody) → (is_tag k || (is_list k && tagged)) ≡ true → (at : ℕ) → taken_below t k at ≡ somebody
-taken_tagged Kind.TaggedTemplateExpression t tagged h e at = refl
-taken_tagged Kind.Expressions t tagged h e at = taken_list t (h e) at
-taken_tagged Kind.Statements t tagged h e at = refl
-taken_tagged Kind.Cases t tagged h e at = refl
-taken_tagged Kind.Declarators t tagged h e at = refl
-taken_tagged Kind.Parameters t tagged h e at = refl
-taken_tagged Kind.Members t tagged h e at = refl
-taken_tagged Kind.Elements t tagged h e at = refl
-taken_tagged Kind.Properties t tagged h e at = refl
-taken_tagged Kind.Arguments t tagged h e at = refl
-taken_tagged Kind.Quasis t tagged h e at = refl
-taken_tagged Kind.Specifiers t tagged h e at = refl
-taken_tagged k t tagged h e at = absurd (true≢false (sym e))
+taken_tagged : (k : Kind) (t : Taker) (tagged : Bool) → (tagged ≡ true → t ≡ somebody) → (is_tag k || (is_list k && tagged)) ≡ true → (at : ℕ) (more : Bool) → taken_below t k at more ≡ somebody
+taken_tagged Kind.TaggedTemplateExpression t tagged h e at more = refl
+taken_tagged Kind.Expressions t tagged h e at more = taken_list t (h e) more
+taken_tagged Kind.Statements t tagged h e at more = refl
+taken_tagged Kind.Cases t tagged h e at more = refl
+taken_tagged Kind.Declarators t tagged h e at more = refl
+taken_tagged Kind.Parameters t tagged h e at more = refl
+taken_tagged Kind.Members t tagged h e at more = refl
+taken_tagged Kind.Elements t tagged h e at more = refl
+taken_tagged Kind.Properties t tagged h e at more = refl
+taken_tagged Kind.Arguments t tagged h e at more = refl
+taken_tagged Kind.Quasis t tagged h e at more = refl
+taken_tagged Kind.Specifiers t tagged h e at more = refl
+taken_tagged k t tagged h e at more = absurd (true≢false (sym e))
 
 at_first : (t : Taker) (tagged : Bool) → (tagged ≡ true → t ≡ somebody) → is_nobody t ≡ true → tagged ≡ false
 at_first t true h nobody = absurd (true≢false (sym nobody ∙ ap is_nobody (h refl)))
 at_first t false h nobody = refl
 
-untagged_from : (ts : ℕ → Taker) (at : ℕ) (tagged : Bool) (a : Around) → (tagged ≡ true → (i : ℕ) → ts i ≡ somebody) → is_nobody (taken_there ts at a) ≡ true → stands_tagged tagged a ≡ false
-untagged_from ts at tagged (first rest) h nobody = at_first (ts at) tagged (λ e. h e at) nobody
+untagged_from : (ts : ℕ → Bool → Taker) (at : ℕ) (tagged : Bool) (a : Around) → (tagged ≡ true → (i : ℕ) (more : Bool) → ts i more ≡ somebody) → is_nobody (taken_there ts at a) ≡ true → stands_tagged tagged a ≡ false
+untagged_from ts at tagged (first rest) h nobody = at_first (ts at (not (is_nothing rest))) tagged (λ e. h e at (not (is_nothing rest))) nobody
 untagged_from ts at tagged (around_behind k n below a) h nobody = untagged_from ts (suc at) tagged a h nobody
 untagged_from ts at tagged (behind_none a) h nobody = untagged_from ts (suc at) tagged a h nobody
-untagged_from ts at tagged (under k n a rest) h nobody = untagged_from (λ i. taken_below (ts at) k i) 0 (is_tag k || (is_list k && tagged)) a (taken_tagged k (ts at) tagged (λ e. h e at)) nobody
+untagged_from ts at tagged (under k n a rest) h nobody = untagged_from (taken_below (ts at (not (is_nothing rest))) k) 0 (is_tag k || (is_list k && tagged)) a (taken_tagged k (ts at (not (is_nothing rest))) tagged (λ e. h e at (not (is_nothing rest)))) nobody
 
 pub unused_is_untagged : (a : Around) → is_unused_at a ≡ true → stands_tagged false a ≡ false
-unused_is_untagged a unused = untagged_from (λ i. somebody) 0 false a (λ e. absurd (true≢false (sym e))) unused
+unused_is_untagged a unused = untagged_from (λ i more. somebody) 0 false a (λ e. absurd (true≢false (sym e))) unused

@@ -54,7 +54,7 @@ use Rattle.steps.proofs.Owed.SilentAnywhere.{silent_anywhere}
 use Rattle.steps.proofs.Owed.Undeclared.{DeclaresNothing, both_plainly}
 use Rattle.steps.proofs.Owed.UntaggedPlace.{unused_is_untagged}
 use Rattle.steps.proofs.Owed.UnusedOperation.{bare_hoists, comes_out}
-use Rattle.steps.proofs.Owed.UnusedPlace.{unused_in_module}
+use Rattle.steps.proofs.Owed.UnusedPlace.{unused_for_effect}
 
 abbrev tree : Kind → Note → (below : Forest) → Tree
 tree k n below = record { kind = k; note = n; below = below }
@@ -309,7 +309,7 @@ module _ (a : Around) (unused : is_unused_at a ≡ true) (p n m i : Note) (parts
           inner = y.below;
           same = refl;
           stands = left_stands (wanted_at a) array_expression array.below left
-              (spared (wanted_at a) array_expression p m array.below (acting parts) (unused_in_module a array is form unused) (left_some left) refl (left_hoists left (elements_stay there) (acting_core parts within))
+              (spared (wanted_at a) array_expression p m array.below (acting parts) (unused_for_effect a unused) (left_some left) refl (left_hoists left (elements_stay there) (acting_core parts within))
               (λ st. array_wasted st p i m parts (acting parts) (acting_needed st parts (elements_are_nodes parts (elements_there there)))));
           old_calm = refl;
           declares = both_plainly array_expression array.below y.kind y.note y.below nothing refl none
@@ -361,7 +361,7 @@ module _ (a : Around) (unused : is_unused_at a ≡ true) (p n m i : Note) (parts
           inner = y.below;
           same = refl;
           stands = left_stands (wanted_at a) sequence_expression sequence.below left
-              (spared (wanted_at a) sequence_expression p m sequence.below (acting parts) (unused_in_module a sequence is form unused) (left_some left) refl (left_hoists left (parts_stay there) (acting_core parts within))
+              (spared (wanted_at a) sequence_expression p m sequence.below (acting parts) (unused_for_effect a unused) (left_some left) refl (left_hoists left (parts_stay there) (acting_core parts within))
               (λ st. sequence_wasted st p i m parts (acting parts) (some_parts parts nodes (left_some left)) (acting_needed st parts nodes)));
           old_calm = refl;
           declares = both_plainly sequence_expression sequence.below y.kind y.note y.below nothing refl none

@@ -45,7 +45,7 @@ use Rattle.steps.proofs.Owed.SilentAnywhere.{silent_anywhere}
 use Rattle.steps.proofs.Owed.Undeclared.{DeclaresNothing, both_plainly}
 use Rattle.steps.proofs.Owed.UnusedList.{Left, is_left, acting_nodes, acting_less, acting_lower, left_rebuilt, left_weighs, left_lower, Parts, left_fits, left_unasked, left_some, left_stands, left_hoists, left_core, ImportsNone, left_declares}
 use Rattle.steps.proofs.Owed.UnusedOperation.{comes_out}
-use Rattle.steps.proofs.Owed.UnusedPlace.{unused_in_module}
+use Rattle.steps.proofs.Owed.UnusedPlace.{unused_for_effect}
 
 abbrev tree : Kind → Note → (below : Forest) → Tree
 tree k n below = record { kind = k; note = n; below = below }
@@ -299,7 +299,7 @@ module _ (a : Around) (unused : is_unused_at a ≡ true) (p n m i : Note) (es : 
         inner = y.below;
         same = refl;
         stands = left_stands (wanted_at a) object_expression object.below stays_left
-            (spared (wanted_at a) object_expression p m object.below left (unused_in_module a object is form unused) (left_some stays_left) refl (left_hoists stays_left (left_there there) within)
+            (spared (wanted_at a) object_expression p m object.below left (unused_for_effect a unused) (left_some stays_left) refl (left_hoists stays_left (left_there there) within)
             (λ st. object_wasted st p i m es left (plain_needed st plain)));
         old_calm = refl;
         declares = both_plainly object_expression object.below y.kind y.note y.below nothing refl none

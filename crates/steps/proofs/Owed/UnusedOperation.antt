@@ -49,7 +49,7 @@ use Rattle.steps.proofs.Owed.FitsTaking.{as_unary, unary_stood, as_binary, binar
 use Rattle.steps.proofs.Owed.PartForm.{none_of_binary, none_of_logical, none_of_conditional}
 use Rattle.steps.proofs.Owed.SilentAnywhere.{silent_anywhere}
 use Rattle.steps.proofs.Owed.Undeclared.{DeclaresNothing, nothing_behind, both_plainly}
-use Rattle.steps.proofs.Owed.UnusedPlace.{unused_in_module, unused_as_value}
+use Rattle.steps.proofs.Owed.UnusedPlace.{unused_for_effect, unused_as_value}
 use Rattle.steps.proofs.Owed.Wanting.{operand_wanted}
 
 -- ---- which operand, by the operation
@@ -199,7 +199,7 @@ module _ (a : Around) (unused : is_unused_at a ≡ true) (n : Note) where
         record {
           inner = b;
           same = refl;
-          stands = wasted a (unused_in_module a unary is form unused) (unary_expression o) n operand k m b (operand_of o) refl one.0 below bare
+          stands = wasted a (unused_for_effect a unused) (unary_expression o) n operand k m b (operand_of o) refl one.0 below bare
               (λ st. unary_wasted st o k n m n b operand (operator_core a unary (is, (fits, (form, core)))) (subst (λ w. runs.stands_bare w k b ≡ true) (sym (operand_wanted o)) (bare_for_runs (operand_of o) false k m b one.0 below bare)) (needed all_needed));
           old_calm = refl;
           declares = both_plainly (unary_expression o) operand k m b nothing refl none none;
@@ -255,7 +255,7 @@ module _ (a : Around) (unused : is_unused_at a ≡ true) (n : Note) where
             record {
               inner = b;
               same = refl;
-              stands = wasted a (unused_in_module a comparison whole.0 whole.1.1.0 unused) (binary_expression o) n sides k m b as_value refl two.0 (core_alone k m b right (sides_core p q r whole)) bare
+              stands = wasted a (unused_for_effect a unused) (binary_expression o) n sides k m b as_value refl two.0 (core_alone k m b right (sides_core p q r whole)) bare
                   (λ st. binary_wasted st o k l n m i n b c left (combines_answers o sides comparing (operator_core a comparison whole)) (needed (not_needed (silent_anywhere st l i c idle) all_needed)));
               old_calm = refl;
               declares = both_plainly (binary_expression o) sides k m b right refl none none;
@@ -285,7 +285,7 @@ module _ (a : Around) (unused : is_unused_at a ≡ true) (n : Note) where
             record {
               inner = c;
               same = refl;
-              stands = wasted a (unused_in_module a comparison whole.0 whole.1.1.0 unused) (binary_expression o) n sides l i c as_value refl two.1.0 (core_behind k m b right (sides_core p q r whole)) bare
+              stands = wasted a (unused_for_effect a unused) (binary_expression o) n sides l i c as_value refl two.1.0 (core_behind k m b right (sides_core p q r whole)) bare
                   (λ st. binary_wasted st o k l n m i n b c right (combines_answers o sides comparing (operator_core a comparison whole)) (not_needed (silent_anywhere st k m b idle) (needed all_needed)));
               old_calm = refl;
               declares = both_plainly (binary_expression o) sides l i c nothing refl none (nothing_behind k m b right none);
@@ -319,7 +319,7 @@ module _ (a : Around) (unused : is_unused_at a ≡ true) (n : Note) where
           record {
             inner = b;
             same = refl;
-            stands = wasted a (unused_in_module a logical is form unused) (logical_expression o) n sides k m b as_value refl two.0 (core_alone k m b right below) bare
+            stands = wasted a (unused_for_effect a unused) (logical_expression o) n sides k m b as_value refl two.0 (core_alone k m b right below) bare
                 (λ st. logical_wasted st o k l n m i n b c left (silent_anywhere st l i c idle) (needed all_needed));
             old_calm = refl;
             declares = both_plainly (logical_expression o) sides k m b right refl none none;
@@ -359,7 +359,7 @@ module _ (a : Around) (unused : is_unused_at a ≡ true) (n : Note) where
           record {
             inner = b;
             same = refl;
-            stands = wasted a (unused_in_module a conditional is form unused) conditional_expression n choice k m b as_value refl three.0 (core_alone k m b branches below) bare
+            stands = wasted a (unused_for_effect a unused) conditional_expression n choice k m b as_value refl three.0 (core_alone k m b branches below) bare
                 (λ st. conditional_wasted st k l z n m i j n b c d left (silent_anywhere st l i c idle) (silent_anywhere st z j d idle_too) (needed all_needed));
             old_calm = refl;
             declares = both_plainly conditional_expression choice k m b branches refl none none;

@@ -264,6 +264,12 @@ called_in_parentheses =
 abbrev pub argument : Around
 argument = in_statement (under (Kind.CallExpression false false) nowhere (past (reads a) (under Kind.Arguments nowhere (first nothing) nothing)) nothing)
 
+-- the place of the second part of a(a(), e, more)
+abbrev pub second_part : (more : List Forest) → Around
+second_part more =
+    in_statement (under (Kind.CallExpression false false) nowhere
+    (past (reads a) (under Kind.Arguments nowhere (under Kind.SequenceExpression nowhere (under Kind.Expressions nowhere (past call_of_a (first (row more))) nothing) nothing) nothing)) nothing)
+
 abbrev pub operand : UnaryOperator → Around
 operand o = in_statement (under (Kind.UnaryExpression o) nowhere (under Kind.ParenthesizedExpression nowhere (first nothing) nothing) nothing)
 

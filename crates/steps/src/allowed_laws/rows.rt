@@ -33,7 +33,7 @@ ghost use Rattle.steps.specs.Allowed.EmptyIf.{EmptyIf};
 ghost use Rattle.steps.specs.Allowed.EmptyAlternate.{EmptyAlternate};
 ghost use Rattle.steps.specs.Allowed.EmptyBlock.{EmptyBlock};
 ghost use Rattle.steps.specs.Allowed.Edits.{Edit};
-ghost use Rattle.steps.specs.Allowed.Rows.{before, breaks_label, labeled, labeled_too, tried, tried_finally, finally_alone, while_, for_, loop, branch_of_if, in_list, past, in_branch, in_function, in_function_by, value_of_a, zero, debugger, throwing_block, throwing_branch, broken_label, throws, behind_throw, call_of_a, null, if_one, if_null, either_way, conditional, logical, may_be_named, o_f, parenthesized, called, called_in_parentheses, called_in_with, argument, operand, applied, equals, difference, sum, text, empty_text, template, tagged, assigned, statement, ComesOut, Stays, StaysUnused, array, spread, hole, sequence, ListStays, ChoiceStays, PartsStay, SidesStay, object, a_is, b_is, getter_of_a, keyed_by, method_by, not_a, ObjectStays, literal, operation, OperationStays, behind_zero, placed, StaysDirect, FollowsNone, with_a, in_with_a, empty, a_is_read, a_is_exported, imports_nothing, behind_import, behind_other, call_of_eval, takes_from, takes_from_other, default_name, namespace_name, name_as};
+ghost use Rattle.steps.specs.Allowed.Rows.{before, breaks_label, labeled, labeled_too, tried, tried_finally, finally_alone, while_, for_, loop, branch_of_if, in_list, past, in_branch, in_function, in_function_by, value_of_a, zero, debugger, throwing_block, throwing_branch, broken_label, throws, behind_throw, call_of_a, null, if_one, if_null, either_way, conditional, logical, may_be_named, o_f, parenthesized, called, called_in_parentheses, called_in_with, argument, second_part, operand, applied, equals, difference, sum, text, empty_text, template, tagged, assigned, statement, ComesOut, Stays, StaysUnused, array, spread, hole, sequence, ListStays, ChoiceStays, PartsStay, SidesStay, object, a_is, b_is, getter_of_a, keyed_by, method_by, not_a, ObjectStays, literal, operation, OperationStays, behind_zero, placed, StaysDirect, FollowsNone, with_a, in_with_a, empty, a_is_read, a_is_exported, imports_nothing, behind_import, behind_other, call_of_eval, takes_from, takes_from_other, default_name, namespace_name, name_as};
 
 /// A statement of a literal becomes empty, in a list and alone, and leaves the list then.
 pub fn silent_statements_go()
@@ -358,12 +358,15 @@ pub fn unused_lists_become_parts()
     ensures beside_a_hole { Edit (a_module (does (array (hole ∷ call_of_a ∷ [])) ∷ [])) (a_module (does call_of_a ∷ [])) }
     ensures all_parts { Edit (a_module (does (array (call_of_a ∷ o_f ∷ [])) ∷ [])) (a_module (does (sequence (call_of_a ∷ o_f ∷ [])) ∷ [])) }
     ensures sequence { Edit (a_module (does (sequence (one ∷ call_of_a ∷ o_f ∷ [])) ∷ [])) (a_module (does (sequence (call_of_a ∷ o_f ∷ [])) ∷ [])) }
+    ensures part { Edit (placed (second_part (one ∷ [])) (array (call_of_a ∷ null ∷ []))) (placed (second_part (one ∷ [])) call_of_a) }
 {}
 
-/// An array stays where something is spread in it, and where its value is taken; and a sequence where each part acts.
+/// An array stays where something is spread in it, and where its value is taken, as that of the last part of such a sequence is; and a
+/// sequence where each part acts.
 pub fn needed_lists_stay()
     ensures spread { ListStays statement (array (spread (reads a) ∷ [])) }
     ensures used { ListStays argument (array (call_of_a ∷ [])) }
+    ensures last_part { ListStays (second_part []) (array (call_of_a ∷ [])) }
     ensures all_parts { ListStays statement (sequence (call_of_a ∷ o_f ∷ [])) }
 {}
 

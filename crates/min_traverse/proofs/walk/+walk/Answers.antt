@@ -1,15 +1,22 @@
-use Rattle.std.proofs.Common.{◌≡◌, ◌+◌, ◌<◌, ◌∙◌, ◌==◌, ℕ, List, [], ◌∷◌, true, false, Option, get_or, length, drop, set, Some, None, refl, sym, ap, subst, arith}
+use Rattle.std.proofs.Common.{◌≡◌, ◌+◌, ◌<◌, ◌≤◌, ◌∙◌, ◌==◌, ℕ, List, [], ◌∷◌, true, false, Option, get_or, length, take, drop, set, Some, None, refl, sym, ap, subst, arith}
+use Rattle.std.specs.Prelude.{nat_lt}
 use Rattle.std.specs.Cmp.{unsigned_Decides}
 use Rattle.js_syntax.specs.Node.{Forest, Tree, nothing, row}
 use Rattle.js_tree.specs.Weight.{size_of}
-use Rattle.min_context.specs.Place.{Place, Spot, below, inside}
+use Rattle.min_context.specs.Place.{Place, Spot, below, goes_on, inside}
 use Rattle.min_context.specs.Seen.{Seen}
 use Rattle.min_traverse.specs.Moves.{Holds, RowMoves}
-use Rattle.min_traverse.specs.Visits.{Visits}
-use Rattle.min_traverse.proofs.Rows.{spot_at, child_spot, spot_then, first_then, back, markable_below, front_of, left, set_same, markable_at, row_markable, row_stays, node_markable, next, child, whole, same_tree, written}
+use Rattle.min_traverse.specs.Visits.{Visits, VisitsFront}
+use Rattle.min_traverse.proofs.Rows.{spot_at, child_spot, more_behind, spot_then, first_then, back, markable_below, front_of, left, set_same, markable_at, row_markable, row_stays, node_markable, next, child, whole, same_tree, written}
 use Rattle.min_traverse.proofs.Visiting.{one_more, all_visited, child_visit, node_visit, later_unvisited}
 use Rattle.min_traverse.proofs.walk.+walk.Goals.{walk_children-in-Some+in_ok-walk_child-in-Some, walk_children-in-None}
 use Rattle.min_traverse.proofs.walk.+walk.Goals as goal
+
+before_end : (i n : ℕ) → i < n → nat_lt i n ≡ true
+before_end i n h = Prim.grind arith
+
+at_end : (i n : ℕ) → n ≤ i → nat_lt i n ≡ false
+at_end i n h = Prim.grind arith
 
 none_below : (xs : List (Option Tree)) (t : Forest) → row xs ≡ t → (length xs == 0) ≡ true → t ≡ nothing
 none_below [] t is h = sym is
@@ -54,11 +61,11 @@ walk_node-walk_children-requires g t c κs within =
 
 pub walk_child-returns : goal.walk_child-returns
 walk_child-returns g t c =
-    let entered : c.enter.new.self ≡ record c.args.ctx.now { place = inside c.args.ctx.now.place c.args.above c.args.at c.args.previous } = c.in_ok-enter.ensures.entered ∙ ap {A = ℕ} {B = Seen} (λ n. record c.args.ctx.now { place = inside c.args.ctx.now.place c.args.above n c.args.previous }) c.in_ok-number.ensures in
-    let left : c.leave.new.self ≡ record c.walk_node.new.ctx { place = c.args.ctx.now.place } = back c.args.ctx.now c.enter.new.self c.walk_node.new.ctx c.leave.new.self c.args.above c.args.at c.args.previous _ _ _ entered c.in_ok-walk_node.ensures.moves.same_place c.leave.ensures.left c.current_scopes-scopes.ensures.scope c.current_scopes-scopes.ensures.hoist_scope c.current_scopes-scopes.ensures.block_scope in
+    let entered : c.enter.new.self ≡ record c.args.ctx.now { place = inside c.args.ctx.now.place c.args.above c.args.at c.args.previous c.args.more } = c.in_ok-enter.ensures.entered ∙ ap {A = ℕ} {B = Seen} (λ n. record c.args.ctx.now { place = inside c.args.ctx.now.place c.args.above n c.args.previous c.args.more }) c.in_ok-number.ensures in
+    let left : c.leave.new.self ≡ record c.walk_node.new.ctx { place = c.args.ctx.now.place } = back c.args.ctx.now c.enter.new.self c.walk_node.new.ctx c.leave.new.self c.args.above c.args.at c.args.previous c.args.more _ _ _ entered c.in_ok-walk_node.ensures.moves.same_place c.leave.ensures.left c.current_scopes-scopes.ensures.scope c.current_scopes-scopes.ensures.hoist_scope c.current_scopes-scopes.ensures.block_scope in
     record {
       moves = child entered c.in_ok-walk_node.ensures.moves left;
-      visited = λ q. child_visit g.T.Traverse.visits g.T.Traverse.written (child_spot c.args.ctx.now.place c.args.above c.args.at c.args.previous) c.args.node.now c.args.traverse.now c.walk_node.new.traverse c.args.ctx.now c.enter.new.self c.walk_node.new.ctx c.leave.new.self refl entered (ap {A = Seen} (λ k. k.place) entered) left (c.in_ok-walk_node.ensures.visited (ap {A = Seen} (λ k. k.requested) (sym left) ∙ q));
+      visited = λ q. child_visit g.T.Traverse.visits g.T.Traverse.written (child_spot c.args.ctx.now.place c.args.above c.args.at c.args.previous) c.args.more c.args.node.now c.args.traverse.now c.walk_node.new.traverse c.args.ctx.now c.enter.new.self c.walk_node.new.ctx c.leave.new.self refl entered (ap {A = Seen} (λ k. k.place) entered) left (c.in_ok-walk_node.ensures.visited (ap {A = Seen} (λ k. k.requested) (sym left) ∙ q));
     }
 
 pub walk_children-loop-at-init : goal.walk_children-loop-at-init
@@ -76,6 +83,9 @@ walk_children-loop-at-preserved g t c =
     let first : Spot = below c.args.ctx.now.place c.args.above in
     let in_row : i < length c.loop-at.children = omega (arith, c.loop-at-test.true, c.loop-at.auto.children) in
     let stood : c.index-children-at.result ≡ get_or c.args.children.now i c.index-children-at.result = c.index-children-at.is ∙ c.loop-at.invariant.unvisited i c.index-children-at.result (omega arith) in
+    let more = nat_lt (i + 1) (length c.args.children.now) in
+    let on : goes_on (row (drop (i + 1) c.loop-at.children)) ≡ more = more_behind c.loop-at.children i ∙ ap (nat_lt (i + 1)) c.loop-at.auto.children in
+    let first_part : c.loop-at.ctx.requested ≡ false → VisitsFront g.T.Traverse.visits g.T.Traverse.written first true (row (take i c.args.children.now)) c.args.traverse.now c.args.ctx.now c.loop-at.traverse c.loop-at.ctx = λ q. subst (λ m. VisitsFront g.T.Traverse.visits g.T.Traverse.written first m (row (take i c.args.children.now)) c.args.traverse.now c.args.ctx.now c.loop-at.traverse c.loop-at.ctx) (before_end i (length c.args.children.now) c.loop-at-test.true) (c.loop-at.invariant.visited q) in
     elim c.match-child.branch [
       | walk_children-in-Some+in_ok-walk_child-in-Some w ↦
           let front = front_of c.loop-at.children i c.index-children-at.result (Some w.in-Some.node) in_row w.in-Some.is in
@@ -83,14 +93,14 @@ walk_children-loop-at-preserved g t c =
           let spot : spot_at first c.loop-at.children i ≡ child_spot c.loop-at.ctx.place c.args.above i c.loop-at.previous = c.loop-at.invariant.spot ∙ ap {A = Place} {B = Spot} (λ o. child_spot o c.args.above i c.loop-at.previous) (sym same) in
           let is : c.index-children-at.result ≡ Some w.in-Some.node = c.index-children-at.is ∙ w.in-Some.is in
           record {
-            moves = rw (w.traverse-is, w.ctx-is, w.children-is) (next c.loop-at.children i w.in-Some.node w.walk_child.new.node in_row front spot c.loop-at.invariant.moves w.in_ok-walk_child-in-Some.ensures.moves);
+            moves = rw (w.traverse-is, w.ctx-is, w.children-is) (next c.loop-at.children i w.in-Some.node w.walk_child.new.node _ in_row front spot on c.loop-at.invariant.moves w.in_ok-walk_child-in-Some.ensures.moves);
             visited = λ q.
                 let q1 : w.walk_child.new.ctx.requested ≡ false = ap {A = Seen} (λ k. k.requested) (sym w.ctx-is) ∙ q in
-                let before = c.loop-at.invariant.visited ((w.in_ok-walk_child-in-Some.ensures.moves.moves nothing).quiet_before q1) in
+                let before = first_part ((w.in_ok-walk_child-in-Some.ensures.moves.moves nothing).quiet_before q1) in
                 let at_child : spot_at first c.args.children.now i ≡ child_spot c.loop-at.ctx.place c.args.above i c.loop-at.previous = c.loop-at.invariant.first_spot ∙ ap {A = Place} {B = Spot} (λ o. child_spot o c.args.above i c.loop-at.previous) (sym same) in
-                let alone = subst (λ x. Visits g.T.Traverse.visits g.T.Traverse.written (child_spot c.loop-at.ctx.place c.args.above i c.loop-at.previous) (row (x ∷ [])) c.loop-at.traverse c.loop-at.ctx w.walk_child.new.traverse w.walk_child.new.ctx) (sym is) (w.in_ok-walk_child-in-Some.ensures.visited q1) in
-                let here = subst (λ p. Visits g.T.Traverse.visits g.T.Traverse.written p (row (c.index-children-at.result ∷ [])) c.loop-at.traverse c.loop-at.ctx w.walk_child.new.traverse w.walk_child.new.ctx) (sym at_child) alone in
-                rw (w.traverse-is, w.ctx-is) (one_more g.T.Traverse.visits g.T.Traverse.written first c.args.children.now i c.index-children-at.result _ _ _ _ _ _ c.loop-at-test.true stood before here);
+                let alone = subst (λ x. VisitsFront g.T.Traverse.visits g.T.Traverse.written (child_spot c.loop-at.ctx.place c.args.above i c.loop-at.previous) more (row (x ∷ [])) c.loop-at.traverse c.loop-at.ctx w.walk_child.new.traverse w.walk_child.new.ctx) (sym is) (w.in_ok-walk_child-in-Some.ensures.visited q1) in
+                let here = subst (λ p. VisitsFront g.T.Traverse.visits g.T.Traverse.written p more (row (c.index-children-at.result ∷ [])) c.loop-at.traverse c.loop-at.ctx w.walk_child.new.traverse w.walk_child.new.ctx) (sym at_child) alone in
+                rw (w.traverse-is, w.ctx-is) (one_more g.T.Traverse.visits g.T.Traverse.written first more c.args.children.now i c.index-children-at.result _ _ _ _ _ _ c.loop-at-test.true stood before here);
             spot = rw (w.children-is, w.previous-is) (spot_then first c.loop-at.children i c.args.ctx.now.place c.args.above c.loop-at.previous (Some w.walk_child.new.node) in_row c.loop-at.invariant.spot);
             first_spot = rw w.previous-is (first_then first c.args.children.now i c.args.ctx.now.place c.args.above c.loop-at.previous c.index-children-at.result (Some w.in-Some.node) c.loop-at-test.true (sym stood) is c.loop-at.invariant.first_spot);
             unvisited = rw w.children-is (later_unvisited c.args.children.now c.loop-at.children i (Some w.walk_child.new.node) c.loop-at.invariant.unvisited);
@@ -104,8 +114,8 @@ walk_children-loop-at-preserved g t c =
             moves = rw (w.traverse-is, w.ctx-is, now) c.loop-at.invariant.moves;
             visited = λ q.
                 let q1 : c.loop-at.ctx.requested ≡ false = ap {A = Seen} (λ k. k.requested) (sym w.ctx-is) ∙ q in
-                let here : Visits g.T.Traverse.visits g.T.Traverse.written (spot_at first c.args.children.now i) (row (c.index-children-at.result ∷ [])) c.loop-at.traverse c.loop-at.ctx c.loop-at.traverse c.loop-at.ctx = rw is (refl, refl) in
-                rw (w.traverse-is, w.ctx-is) (one_more g.T.Traverse.visits g.T.Traverse.written first c.args.children.now i c.index-children-at.result _ _ _ _ _ _ c.loop-at-test.true stood (c.loop-at.invariant.visited q1) here);
+                let here : VisitsFront g.T.Traverse.visits g.T.Traverse.written (spot_at first c.args.children.now i) more (row (c.index-children-at.result ∷ [])) c.loop-at.traverse c.loop-at.ctx c.loop-at.traverse c.loop-at.ctx = rw is (refl, refl) in
+                rw (w.traverse-is, w.ctx-is) (one_more g.T.Traverse.visits g.T.Traverse.written first more c.args.children.now i c.index-children-at.result _ _ _ _ _ _ c.loop-at-test.true stood (first_part q1) here);
             spot = rw (now, w.previous-is) (first_then first c.loop-at.children i c.args.ctx.now.place c.args.above c.loop-at.previous c.index-children-at.result None in_row (sym c.index-children-at.is) is c.loop-at.invariant.spot);
             first_spot = rw w.previous-is (first_then first c.args.children.now i c.args.ctx.now.place c.args.above c.loop-at.previous c.index-children-at.result None c.loop-at-test.true (sym stood) is c.loop-at.invariant.first_spot);
             unvisited = λ j d h. ap (λ ts. get_or ts j d) now ∙ c.loop-at.invariant.unvisited j d (omega arith);
@@ -116,5 +126,5 @@ walk_children-loop-at-preserved g t c =
 pub walk_children-returns : goal.walk_children-returns
 walk_children-returns g t c = record {
   moves = c.loop-at.invariant.moves;
-  visited = λ q. all_visited g.T.Traverse.visits g.T.Traverse.written (below c.args.ctx.now.place c.args.above) c.args.children.now c.loop-at.at _ _ _ _ (omega (arith, c.loop-at-test.false)) (c.loop-at.invariant.visited q);
+  visited = λ q. all_visited g.T.Traverse.visits g.T.Traverse.written (below c.args.ctx.now.place c.args.above) c.args.children.now c.loop-at.at _ _ _ _ (omega (arith, c.loop-at-test.false)) (subst (λ m. VisitsFront g.T.Traverse.visits g.T.Traverse.written (below c.args.ctx.now.place c.args.above) m (row (take c.loop-at.at c.args.children.now)) c.args.traverse.now c.args.ctx.now c.loop-at.traverse c.loop-at.ctx) (at_end c.loop-at.at (length c.args.children.now) (omega (arith, c.loop-at-test.false))) (c.loop-at.invariant.visited q));
 }

@@ -1,5 +1,5 @@
-use Rattle.steps.proofs.Allowed.Tried.{acting_elements_stay, acting_element_stays, hole_goes, elements_stay, acting_parts_of_sequence_stay}
+use Rattle.steps.proofs.Allowed.Tried.{acting_elements_stay, acting_element_stays, hole_goes, elements_stay, acting_parts_of_sequence_stay, array_part_becomes}
 use Rattle.steps.proofs.allowed_laws.rows.unused_lists_become_parts.Goals as goal
 
 pub returns : goal.returns
-returns c = record { several = acting_elements_stay; one_part = acting_element_stays; beside_a_hole = hole_goes; all_parts = elements_stay; sequence = acting_parts_of_sequence_stay }
+returns c = record { several = acting_elements_stay; one_part = acting_element_stays; beside_a_hole = hole_goes; all_parts = elements_stay; sequence = acting_parts_of_sequence_stay; part = array_part_becomes }
