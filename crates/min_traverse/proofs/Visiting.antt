@@ -115,7 +115,7 @@ abbrev head : Tree → Forest → Tree
 head x (node k n inside rest) = record { kind = k; note = n; below = inside }
 head x t = x
 
-pub quiet_node : {S : Type 0} {E : CompressOptions → Forest → Forest → Type 0} {H : S → Seen → Forest → Type 0} {At : Around → Type 0} {s s' : S} {k k' : Seen} {x y : Tree} → NodeMovesAt S E H At s k x s' k' y → k'.requested ≡ false → y ≡ x
+pub quiet_node : {S : Type 0} {E : CompressOptions → Forest → Forest → Type 0} {H : S → Seen → Forest → Type 0} {At : Around → (rest : Forest) → Type 0} {s s' : S} {k k' : Seen} {x y : Tree} → NodeMovesAt S E H At s k x s' k' y → k'.requested ≡ false → y ≡ x
 quiet_node {x = x} m q = ap (head x) ((m.moves nothing).quiet q)
 
 pub later_unvisited : (old ts : List (Option Tree)) (i : ℕ) (y : Option Tree) → ((j : ℕ) (d : Option Tree) → i ≤ j → get_or ts j d ≡ get_or old j d) → (j : ℕ) (d : Option Tree) → i + 1 ≤ j → get_or (set ts i y) j d ≡ get_or old j d
