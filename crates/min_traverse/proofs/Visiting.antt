@@ -1,5 +1,5 @@
 -- Visits of one node more.
-use Rattle.std.proofs.Common.{◌≡◌, ◌∙◌, ◌<◌, ◌≤◌, ◌+◌, ◌++◌, ℕ, Bool, true, false, ◌≢◌, set, List, [], ◌∷◌, Option, Some, None, length, take, get_or, get_or-set_other, refl, sym, ap, subst, arith}
+use Rattle.std.proofs.Common.{◌||◌, ◌≡◌, ◌∙◌, ◌<◌, ◌≤◌, ◌+◌, ◌++◌, ℕ, Bool, true, false, ◌≢◌, set, List, [], ◌∷◌, Option, Some, None, length, take, get_or, get_or-set_other, refl, sym, ap, subst, arith}
 use Rattle.std.proofs.lemmas.List.{take_more, take_all}
 use Rattle.js_syntax.specs.Node.{Forest, Tree, nothing, node, row, forest_of}
 use Rattle.min_context.specs.Above.{above_of}
