@@ -18,7 +18,7 @@ use Rattle.js_meaning.specs.Meaning.{eval}
 use Rattle.js_meaning_near.specs.Quiet.{OnlyAllocates, LeadsFrom, goes_on_as, stops_before, Leads, EndsQuietly, gives_quietly, stops_quietly, Quiet}
 use Rattle.js_meaning_near.specs.Wasted.{EndsSoon, ends_soon, stops_soon, IsSilent, Meets, Wastes, wastes_nothing, wastes_silent, wastes_known, wastes_call}
 use Rattle.js_meaning_near.specs.Names.{Status, Fact, known, silent_function, Lone, Names}
-use Rattle.js_meaning_near.specs.Near.{meaning, Silent, NoField, Idle, idle_empty, idle_expression, idle_no_expression, idle_waste, idle_statement, idle_function, idle_declarator, idle_bare_declarator, idle_cut_declarator, idle_declaration, AllIdle, all_idle, one_idle, idle_import}
+use Rattle.js_meaning_near.specs.Near.{meaning, Silent, NoField, Idle, idle_empty, idle_expression, idle_no_expression, idle_waste, idle_statement, idle_function, idle_declarator, idle_bare_declarator, idle_cut_declarator, idle_declaration, AllIdle, all_idle, one_idle, idle_import, idle_export}
 use Rattle.js_meaning_near.proofs.Worlds.{Rule, only_value, left, both, slack, World, In, Sub, same, later, links_up}
 use Rattle.js_meaning_near.proofs.Relations.{LeftSlot, left_local, left_import, left_arguments, At, at_nowhere, at_loose, at_owing, Budgets, as_many, no_more, twice, Enters, CallEnds, call_gives, call_uncovered, call_out, at_live, at_known, at_dead, at_unread, Envs, SameOpt, SameAll, SameCell, same_normal, Obeys, SameExports, States, trace, Follows, both_go, old_stops, old_out, Acts}
 use Rattle.js_meaning_near.proofs.Acts.{acts_later, follows_back, nothing_more, stored_left}
@@ -259,6 +259,7 @@ mutual
   idle_alone {e = e} E n (run ls) (idle_waste x) r = waste_alone E n (x.wastes_all E e (envs_bind r) ls) r
   idle_alone E n q (idle_statement d) r = leads_alone (d.nothing_done E q _)
   idle_alone E n (run ls) idle_import r = alone_done ends_normal
+  idle_alone E n (run ls) idle_export r = alone_done ends_normal
   idle_alone E n (run ls) (idle_function d) r = alone_done ends_normal
   idle_alone E n (run ls) (idle_declaration {how = how} x) r = all_alone E n (declares how) x r
   idle_alone E n (declares how) (idle_declarator {x = x} d y) r = alone_value (silent_alone E y r) (λ v. alone_fill v d (r.at x))
@@ -270,6 +271,7 @@ mutual
   idle_alone E n _ (idle_waste x) r = alone_unknown
   idle_alone E n _ (idle_expression x) r = alone_unknown
   idle_alone E n _ idle_import r = alone_unknown
+  idle_alone E n _ idle_export r = alone_unknown
   idle_alone E n _ (idle_function d) r = alone_unknown
   idle_alone E n _ (idle_declaration x) r = alone_unknown
   idle_alone E n _ (idle_declarator d y) r = alone_unknown

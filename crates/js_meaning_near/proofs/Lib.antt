@@ -16,6 +16,8 @@ pub mod Jumps
 pub mod Wasting
 pub mod Contexts
 pub mod Reordered
+pub mod ExportOrder
+pub mod Reexported
 pub mod Fit
 pub mod Once
 pub mod Avoid

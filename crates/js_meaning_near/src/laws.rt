@@ -33,6 +33,7 @@ ghost use Rattle.js_meaning_near.specs.Bodies.{QuietBody};
 ghost use Rattle.js_meaning_near.specs.Gone.{Gone, GoneBehind, GoneInCode};
 ghost use Rattle.js_meaning_near.specs.Once.{Once};
 ghost use Rattle.js_meaning_near.specs.Reordered.{ReorderedModule};
+ghost use Rattle.js_meaning_near.specs.Reexported.{ReexportedModule};
 ghost use Rattle.js_meaning_near.specs.Avoid.{declares, code_declares, NotFunction, Dropped, HasCells, Dropping, InPlace, Avoids};
 
 /// The law of contexts: of two near modules the new one refines the old one.
@@ -51,6 +52,12 @@ pub fn near_modules_keep_runs()
 /// binds what two bound.
 pub fn reordered_modules_refine()
     ensures { (n m i j : Note) (a b : Forest) → ReorderedModule a b → Refined (module_of n m a) (module_of i j b) }
+{}
+
+/// So does a module that passes on what it imports and exports, where the old one has an import and an export
+/// of names: an export of an imported name is what the other module exports (ECMA-262 16.2.3.7).
+pub fn reexported_modules_refine()
+    ensures { (n m i j : Note) (a b : Forest) → ReexportedModule a b → Refined (module_of n m a) (module_of i j b) }
 {}
 
 /// What looks up nothing that is dead, unread or known is near itself.
