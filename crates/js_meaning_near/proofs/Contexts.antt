@@ -5,7 +5,6 @@ use Rattle.js_syntax.specs.declared.node_kind.NodeKind.{NodeKind as Kind}
 use Rattle.js_syntax.specs.declared.kind.FunctionKind.{FunctionKind}
 use Rattle.js_syntax.specs.declared.kind.FunctionKind.TheVariants as function_kind
 use Rattle.js_syntax.specs.declared.value.LiteralValue.{LiteralValue as Literal}
-use Rattle.js_syntax.specs.declared.value.ModuleName.{ModuleName}
 use Rattle.js_syntax.specs.declared.operator.UnaryOperator.{UnaryOperator}
 use Rattle.js_syntax.specs.Facts.{is_core}
 use Rattle.js_syntax.specs.Node.{Note, Forest, nothing, node, absent}
@@ -18,11 +17,11 @@ use Rattle.js_meaning.specs.Host.{Loop, for_loop, Task, body, Enter}
 use Rattle.js_meaning.specs.Operator.{largest, unary_of}
 use Rattle.js_meaning.specs.Module.{Entry, entry_local, entry_import, entries, stars, requests, distinct, load_all, before, insert, sorted, if_bound, resolve_entries, exporting}
 use Rattle.js_meaning.specs.Node.{itself, to_call, for_typeof, Ask, now, take_all, Meaning, Parts, need, may, each, first_ask, run as run_under, value, matches}
-use Rattle.js_meaning.specs.Meaning.{does, if_core, eval, take_this, run_code, enter_body, task_does, enter}
-use Rattle.js_meaning.specs.Run.{finish, finally, module_does, as_value, first_state, seen, run_within, run}
+use Rattle.js_meaning.specs.Meaning.{does, if_core, eval, take_this, run_code, enter_body, task_does}
+use Rattle.js_meaning.specs.Run.{finish, finally, module_does, as_value, first_state, seen}
 use Rattle.js_meaning.specs.Kept.{keeps, Keeps, Kept, refines, Refines, Refined, Prefix, recovers, Recovers, Recovered}
 use Rattle.js_meaning_near.specs.Names.{Status, known, exactly, Names, Usable, owed_function, Decls, declared, names_below}
-use Rattle.js_meaning_near.specs.Near.{Permits, ComesTo, comes_to, behind_jump, meaning, Silent, NoField, Change, statement_emptied, no_statement_emptied, near_silent, same_effects, wastes_more, one_sided, shorter, LooseModule, loose_module, value_read, Row, fields, items, ReceiverOk, is_row, Near, near_nothing, near_absent, near_node, near_closure, near_hoisted, near_unread, near_known, near_uncovered, near_import, changed, leaves, Code, near_code, ExportsOk, NearModule, near_module, module_of, sign_applied, import_passes_on, import_passes_all, near_while, near_do, near_for, OwesBehind, behind_first, behind_no_first, OwesTurn, while_turn, do_turn, for_turn, owing_code, FirstField, first_node, first_absent, Owes, owes_here, owes_item, owes_behind, owes_absent, owes_below, is_passage, row_below, OwedEffects, Okay, OwingModule, owing_within, owing_itself}
+use Rattle.js_meaning_near.specs.Near.{Permits, ComesTo, comes_to, behind_jump, meaning, Silent, NoField, Change, statement_emptied, no_statement_emptied, near_silent, same_effects, wastes_more, one_sided, shorter, LooseModule, loose_module, value_read, Row, fields, items, ReceiverOk, is_row, Near, near_nothing, near_absent, near_node, near_closure, near_hoisted, near_unread, near_known, near_uncovered, near_import, changed, leaves, near_code, ExportsOk, NearModule, near_module, module_of, sign_applied, near_while, near_do, near_for, OwesBehind, behind_first, behind_no_first, OwesTurn, while_turn, do_turn, for_turn, owing_code, FirstField, first_node, first_absent, Owes, owes_here, owes_item, owes_behind, owes_absent, owes_below, is_passage, row_below, OwedEffects, Okay, OwingModule, owing_within, owing_itself}
 use Rattle.js_meaning_near.proofs.Worlds.{any_value, only_value, both, slack, In, here, Links, Rule, World, Sub, same, no_links, slack_links, no_both, not_in, debt, debt_links, debt_alone, no_both_owed, slack_alone}
 use Rattle.js_meaning_near.proofs.Relations.{HoldsCell, SameSlot, same_local, same_import, as_many, CallEnds, call_gives, call_uncovered, call_out, At, at_nowhere, at_loose, at_live, at_known, at_dead, at_unread, Envs, Same, same_plain, SameOpt, same_none, same_some, SameAll, all_nil, SameCompletion, same_normal, same_gives, same_gives_all, same_refers, same_breaks, same_continues, same_returns, same_throws, SameExports, no_exports, an_export, SameAsk, same_run, same_value, same_place, same_take, same_take_all, same_declares, same_collect, same_entry, same_matches, States, Follows, both_go, both_stop, old_stops, old_out, Acts, Means, Tasks, same_body, same_turn, same_back, Enters, same_later, all_later, twice, Budgets, Owed, owed_later, at_owing, new_out, same_owing_turn}
 use Rattle.js_meaning_near.proofs.Acts.{bind_acts, give_both, stop_acts, unknown_acts, normal_acts, value_acts, seq_acts, set_exports_acts, spend_acts, give_acts, give_right}
@@ -94,21 +93,9 @@ import_acts : {w : World} {u : Purpose} {q z : Ask} (E : Enter) (source : Text) 
 import_acts E source e f a b same_run = normal_acts
 import_acts E source e f a b _ = unknown_acts
 
--- so does what passes on what it asks for
-passes_on_acts : {w : World} {u : Purpose} {q z : Ask} (E : Enter) (source : Text) (e f : Env) (a b : Forest) → SameAsk w u q z → Acts w (meaning E (Kind.ImportDeclaration source) a q e) (meaning E (Kind.ExportNamedDeclaration (Some source)) (absent b) z f)
-unfolding may eval
-passes_on_acts E source e f a b same_run = normal_acts
-passes_on_acts E source e f a b _ = unknown_acts
-
-passes_all_acts : {w : World} {u : Purpose} {q z : Ask} (E : Enter) (source : Text) (name : ModuleName) (e f : Env) (a b : Forest) → SameAsk w u q z → Acts w (meaning E (Kind.ImportDeclaration source) a q e) (meaning E (Kind.ExportAllDeclaration (Some name) source) b z f)
-passes_all_acts E source name e f a b same_run = normal_acts
-passes_all_acts E source name e f a b _ = unknown_acts
-
 change_means : {u : Purpose} {st : Names} {k l : Kind} {a b : Forest} (E : Enter) → Change st k a l b → Means u st (meaning E k a) (meaning E l b)
 change_means E (value_read {x = x} {v = v} {a = a} {b = b} y g) = any_means (λ w e f q z o r s. read_acts x v e f E a b (subst (λ t. At w t (look e x) (look f x)) y (r.at x)) g s)
 change_means E (sign_applied {i = i} {m = m} {a = a} {b = b} {r = c} y) = any_means (λ w e f q z o r s. sign_acts i E e f m a b c y s)
-change_means E (import_passes_on {source = source} {a = a} {b = b}) = any_means (λ w e f q z o r s. passes_on_acts E source e f a b s)
-change_means E (import_passes_all {source = source} {name = name} {a = a} {b = b}) = any_means (λ w e f q z o r s. passes_all_acts E source name e f a b s)
 change_means E (no_statement_emptied {a = a} {b = b} x) = any_means (λ w e f q z o r s. no_statement_acts E e f a b x s)
 change_means E (statement_emptied {n = n} {r = c} {b = b} x) = any_means (λ w e f q z o r s. emptied_acts E n c b x r s)
 
@@ -440,30 +427,30 @@ finally_acts (same_returns q) = unknown_acts
 pub record DeclaresAlike (w : World) (t : Names) (ds es : List Decl) : Type 0 where
   pub declared : {j k : Env → M} → ((w2 : World) (e f : Env) → Sub w w2 → Envs w2 t e f → Acts w2 (j e) (k f)) → Acts w (declare ds [] j) (declare es [] k)
 
--- what a module does, with other entries for what it exports
-abbrev pub module_with : Enter → Forest → List Entry → M
-module_with E a es =
+-- what a module does by what it declares, exports and requests
+abbrev pub module_by : Enter → List Decl → List Entry → (stars requests : List Text) → Forest → M
+module_by E ds es ss rs a =
     bind (bind
-    (declare (module_decls a) [] (λ env. resolve_entries es env (λ exports. set_exports (sorted exports) (stars a) (start a env (seq (load_all E (distinct (requests a))) (each (run_under []) (eval E a) env))))))
+    (declare ds [] (λ env. resolve_entries es env (λ exports. set_exports (sorted exports) ss (start a env (seq (load_all E rs) (each (run_under []) (eval E a) env))))))
     (finish E)) finally
 
-exports_act : {w : World} {st : Names} {e f : Env} {m k : M} (es : List Entry) (ss ts : List Text) → ss ≡ ts → ExportsOk st es → Envs w st e f → Acts w m k
-    → Acts w (resolve_entries es e (λ exports. set_exports (sorted exports) ss m)) (resolve_entries es f (λ exports. set_exports (sorted exports) ts k))
-exports_act {w = w} {e = e} {f = f} {m = m} {k = k} es ss ts s y r z =
-    subst (λ l. Acts w (resolve_entries es e (λ exports. set_exports (sorted exports) ss m)) (resolve_entries es f (λ exports. set_exports (sorted exports) l k))) s (entries_acts es y r (λ es fs q. set_exports_acts ss (sorted_same q) z))
+exports_act : {w : World} {st : Names} {e f : Env} {m k : M} (es : List Entry) (ss : List Text) → ExportsOk st es → Envs w st e f → Acts w m k
+    → Acts w (resolve_entries es e (λ exports. set_exports (sorted exports) ss m)) (resolve_entries es f (λ exports. set_exports (sorted exports) ss k))
+exports_act es ss y r z = entries_acts es y r (λ es fs q. set_exports_acts ss (sorted_same q) z)
 
-pub modules_export : {w : World} {t : Names} {a b : Forest} (E : Enter) → Enters E → Lends E → DeclaresAlike w t (module_decls a) (module_decls b) → ExportsOk t (entries b) → stars a ≡ stars b → distinct (requests a) ≡ distinct (requests b) → Near for_values items t a b
-    → Acts w (module_with E a (entries b)) (module_does E b)
-unfolding module_does
-modules_export {a = a} {b = b} E n l d y s q c =
-    let load : (w : World) → Acts w (load_all E (distinct (requests a))) (load_all E (distinct (requests b))) = λ w. subst (λ xs. Acts w (load_all E (distinct (requests a))) (load_all E xs)) q (load_acts E n (distinct (requests a))) in
+pub modules_by : {w : World} {t : Names} {ds cs : List Decl} {a b : Forest} (es : List Entry) (ss rs : List Text) (E : Enter) → Enters E → Lends E → DeclaresAlike w t ds cs → ExportsOk t es → Near for_values items t a b
+    → Acts w (module_by E ds es ss rs a) (module_by E cs es ss rs b)
+modules_by es ss rs E n l d y c =
     bind_acts (bind_acts
-    (d.declared (λ w e f h r. exports_act (entries b) (stars a) (stars b) s y r (start_acts tt c r (seq_acts (load w) ((near_rows E n l c).listed r (λ u. same_run))))))
+    (d.declared (λ w e f h r. exports_act es ss y r (start_acts tt c r (seq_acts (load_acts E n rs) ((near_rows E n l c).listed r (λ u. same_run))))))
     (λ w c d h z. finish_acts E n z)) (λ w c d h z. finally_acts z)
 
 pub modules_act : {w : World} {t : Names} {a b : Forest} (E : Enter) → Enters E → Lends E → DeclaresAlike w t (module_decls a) (module_decls b) → entries a ≡ entries b → ExportsOk t (entries a) → stars a ≡ stars b → distinct (requests a) ≡ distinct (requests b) → Near for_values items t a b → Acts w (module_does E a) (module_does E b)
 unfolding module_does
-modules_act {w = w} {t = t} {a = a} {b = b} E n l d x y s q c = subst (λ es. Acts w (module_with E a es) (module_does E b)) (sym x) (modules_export E n l d (subst (λ es. ExportsOk t es) x y) s q c)
+modules_act {w = w} {t = t} {a = a} {b = b} E n l d x y s q c =
+    subst (λ es. Acts w (module_does E a) (module_by E (module_decls b) es (stars b) (distinct (requests b)) b)) x
+    (subst (λ ss. Acts w (module_does E a) (module_by E (module_decls b) (entries a) ss (distinct (requests b)) b)) s
+    (subst (λ rs. Acts w (module_does E a) (module_by E (module_decls b) (entries a) (stars a) rs b)) q (modules_by (entries a) (stars a) (distinct (requests a)) E n l d y c)))
 
 pub module_acts : {a b : Forest} (E : Enter) → Enters E → Lends E → NearModule a b → Acts [] (module_does E a) (module_does E b)
 module_acts E n l (near_module d x y s q c) = modules_act E n l (record { declared = declare_acts d no_envs }) x y s (ap distinct q) c

@@ -1,11 +1,11 @@
 -- What a module exports is listed by names, so it is one list in whatever order its entries stand.
-use Rattle.std.proofs.Common.{◌≡◌, ◌∙◌, ℕ, suc, List, [], ◌∷◌, refl, sym, ap, ap₂, true≢false, arith}
+use Rattle.std.proofs.Common.{◌≡◌, ◌∙◌, ℕ, List, [], ◌∷◌, refl, sym, ap, ap₂, true≢false, arith}
 use Rattle.std.specs.Prelude.{Bool, true, false, nat_eq, nat_lt, if◌then◌else◌}
 use Rattle.std.specs.Str.{bytes_eq}
 use Rattle.std.proofs.lemmas.Slice.Eq.{bytes_eq-Decides}
-use Rattle.js_meaning.specs.Value.{Text, Slot}
+use Rattle.js_meaning.specs.Value.{Text}
 use Rattle.js_meaning.specs.State.{Export, export}
-use Rattle.js_meaning.specs.Module.{before, exported_name, insert, sorted}
+use Rattle.js_meaning.specs.Module.{before, exported_name, insert}
 
 -- ---- numbers
 

@@ -113,7 +113,7 @@ seq_first a b = pays_first a (if_normal_acts b)
 
 -- where the new run has nothing in its place
 
-nothing_seq : (k : M) → seq (done normal) k ≡ k
+pub nothing_seq : (k : M) → seq (done normal) k ≡ k
 unfolding bind done
 nothing_seq k = λ i s. more_nothing (k s) i
 

@@ -16,7 +16,7 @@ use Rattle.js_meaning.specs.Expression.{receiver_of, fill_own, function_value, w
 use Rattle.js_meaning.specs.Statement.{for_does, catch_does}
 use Rattle.js_meaning.specs.Meaning.{default_does, does}
 use Rattle.js_meaning_near.specs.Names.{known, silent_function, unread, Names, Fillable, FillableIf, Decls, Copied, declared, names_below, Fact, exactly, owed_function, OfCalls}
-use Rattle.js_meaning_near.specs.Near.{Idle, idle_empty, idle_expression, idle_no_expression, idle_waste, idle_statement, idle_function, idle_declarator, idle_bare_declarator, idle_cut_declarator, idle_declaration, statement_emptied, no_statement_emptied, value_read, SilentCode, near_silent, Row, fields, switch_fields, items, row_below, HoldsCases, Okay, key_of, keys, Heads, IsClosure, hoists_nothing, Unreached, goes_here, goes_behind, goes_behind_none, Near, behind_jump, wastes_more, one_sided, shorter, comes_to, near_nothing, near_absent, near_node, near_closure, near_hoisted, near_unread, near_known, near_uncovered, near_import, changed, same_effects, leaves, Code, sign_applied, import_passes_on, import_passes_all, idle_import, idle_export, near_while, near_do, near_for}
+use Rattle.js_meaning_near.specs.Near.{Idle, idle_empty, idle_expression, idle_no_expression, idle_waste, idle_statement, idle_function, idle_declarator, idle_bare_declarator, idle_cut_declarator, idle_declaration, statement_emptied, no_statement_emptied, value_read, SilentCode, near_silent, Row, fields, switch_fields, items, row_below, HoldsCases, Okay, key_of, keys, Heads, IsClosure, hoists_nothing, Unreached, goes_here, goes_behind, goes_behind_none, Near, behind_jump, wastes_more, one_sided, shorter, comes_to, near_nothing, near_absent, near_node, near_closure, near_hoisted, near_unread, near_known, near_uncovered, near_import, changed, same_effects, leaves, Code, sign_applied, idle_import, idle_export, near_while, near_do, near_for}
 use Rattle.js_meaning_near.specs.Wasted.{IsSilent, Meets}
 use Rattle.js_meaning_near.specs.Purpose.{Purpose, for_value, for_effect, ForEffect, Purposes, for_values, loop_purposes, wanted_below}
 use Rattle.js_meaning_near.proofs.Worlds.{World}
@@ -112,8 +112,6 @@ default_starts i j (changed (value_read q v) c) y r x z = x
 default_starts {f = f} {k = k} i j (same_effects {l = l} {m = o} {b = b} {d = d} q t u) y r x z = rw (starts_no_default l o b d j f k q.new_hoists) x
 default_starts {e = e} {f = f} {m = m} {k = k} i j (comes_to {k = g} {l = l} {n = n} {m = o} {a = a} {b = b} {c = c} {d = d} q t u) y r x z = rw (starts_no_default g n a c i e m q.old_hoists, starts_no_default l o b d j f k q.new_hoists) x
 default_starts i j (changed (sign_applied q) c) y r x z = x
-default_starts i j (changed import_passes_on c) y r x z = x
-default_starts i j (changed import_passes_all c) y r x z = x
 default_starts {e = e} {f = f} {m = m} {k = k} i j (wastes_more {k = g} {l = l} {n = n} {m = o} {a = a} {b = b} {c = c} {d = d} h q t u) y r x z = rw (starts_no_default g n a c i e m (blunt_hoists g q.old_blunt), starts_no_default l o b d j f k q.new_hoists) x
 default_starts i j (one_sided h q t u) y r x z = x
 default_starts i j (shorter q t u) y r x z = x
@@ -186,8 +184,6 @@ start_acts s (changed (value_read q v) c) r x = start_acts s c r x
 start_acts {e = e} {f = f} {m = m} {k = k} s (same_effects {l = l} {b = b} {d = d} q t u) r x = rw (starts_nothing l b (start b f) f (start d f k) q.new_hoists) (start_acts s u r x)
 start_acts {e = e} {f = f} {m = m} {k = k} s (comes_to {k = g} {l = l} {a = a} {b = b} {c = c} {d = d} q t u) r x = rw (starts_nothing g a (start a e) e (start c e m) q.old_hoists, starts_nothing l b (start b f) f (start d f k) q.new_hoists) (start_acts s u r x)
 start_acts s (changed (sign_applied q) c) r x = start_acts s c r x
-start_acts s (changed import_passes_on c) r x = start_acts s c r x
-start_acts s (changed import_passes_all c) r x = start_acts s c r x
 start_acts {e = e} {f = f} {m = m} {k = k} s (wastes_more {k = g} {l = l} {a = a} {b = b} {c = c} {d = d} h q t u) r x = rw (starts_nothing g a (start a e) e (start c e m) (blunt_hoists g q.old_blunt), starts_nothing l b (start b f) f (start d f k) q.new_hoists) (start_acts s u r x)
 start_acts s (one_sided h q t u) r x = start_acts s u r x
 start_acts s (shorter q t u) r x = start_acts s u r x
@@ -220,8 +216,6 @@ first_ask_same (changed (value_read q v) c) = same_now
 first_ask_same (same_effects {l = l} q t u) = rw (no_statement l q.new_hoists) same_now
 first_ask_same (comes_to {k = k} {l = l} q t u) = rw (no_statement k q.old_hoists, no_statement l q.new_hoists) same_now
 first_ask_same (changed (sign_applied q) c) = same_now
-first_ask_same (changed import_passes_on c) = same_now
-first_ask_same (changed import_passes_all c) = same_now
 first_ask_same (wastes_more {k = k} {l = l} h q t u) = rw (no_statement k (blunt_hoists k q.old_blunt), no_statement l q.new_hoists) same_now
 first_ask_same (one_sided h q t u) = same_now
 first_ask_same (shorter q t u) = same_now
@@ -336,8 +330,6 @@ default_acts (changed (value_read q v) c) y x r = default_value y x r
 default_acts {m = m} {k = k} {e = e} {f = f} (same_effects {l = l} {m = o} {b = b} {d = d} q t u) y x r = rw (gives_default l o b d k f q.new_hoists) (default_value y x r)
 default_acts {m = m} {k = k} {e = e} {f = f} (comes_to {k = g} {l = l} {n = n} {m = o} {a = a} {b = b} {c = c} {d = d} q t u) y x r = rw (gives_default g n a c m e q.old_hoists, gives_default l o b d k f q.new_hoists) (default_value y x r)
 default_acts (changed (sign_applied q) c) y x r = default_value y x r
-default_acts (changed import_passes_on c) y x r = default_value y x r
-default_acts (changed import_passes_all c) y x r = default_value y x r
 default_acts {m = m} {k = k} {e = e} {f = f} (wastes_more {k = g} {l = l} {n = n} {m = o} {a = a} {b = b} {c = c} {d = d} h q t u) y x r = rw (gives_default g n a c m e (blunt_hoists g q.old_blunt), gives_default l o b d k f q.new_hoists) (default_value y x r)
 default_acts (one_sided h q t u) y x r = default_value y x r
 default_acts (shorter q t u) y x r = default_value y x r

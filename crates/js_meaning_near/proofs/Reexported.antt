@@ -1,24 +1,26 @@
 -- A module that passes on what it imports does the same as with the import and the export.
-use Rattle.std.proofs.Common.{◌≡◌, ◌∙◌, List, [], ◌∷◌, Option, Some, None, refl, sym, ap, ap₂, subst, true≢false}
+use Rattle.std.proofs.Common.{◌≡◌, ◌∙◌, List, [], ◌∷◌, ◌++◌, Option, Some, None, refl, sym, ap, ap₂, subst, true≢false}
 use mathlib.Core.Path.{fun_ext}
 use Rattle.std.specs.Prelude.{Bool, true, false, ◌||◌, if◌then◌else◌}
 use Rattle.std.specs.Str.{bytes_eq}
 use Rattle.js_syntax.specs.Node.{Note, Forest}
-use Rattle.js_meaning.specs.Value.{Text, Slot, imported, bound, Env}
+use Rattle.js_meaning.specs.Value.{Text, Slot, imported, bound, Env, this_name}
 use Rattle.js_meaning.specs.State.{M, Export, export, bind, seq, set_exports}
-use Rattle.js_meaning.specs.Scope.{Way, waiting, ready, linked, left_out, Decl, decl, look, with_slot, declare, start, module_decls}
+use Rattle.js_meaning.specs.Scope.{Way, waiting, ready, linked, left_out, Decl, decl, all_so, look, with_slot, declare, start, start_item, item_decls, lexical, vars_of, var_names, module_decls}
 use Rattle.js_meaning.specs.Host.{Enter}
-use Rattle.js_meaning.specs.Module.{Entry, entry_local, entry_import, entries, stars, requests, distinct, load_all, exported_name, sorted, insert, if_bound, resolve_entries}
-use Rattle.js_meaning.specs.Node.{run as run_under, each}
+use Rattle.js_meaning.specs.Module.{Entry, entry_local, entry_import, entries, star_of, stars, requests, distinct, load_all, exported_name, sorted, insert, if_bound, resolve_entries}
+use Rattle.js_meaning.specs.Node.{run as run_under, may, each}
 use Rattle.js_meaning.specs.Meaning.{eval}
 use Rattle.js_meaning.specs.Run.{finish, finally, module_does}
 use Rattle.js_meaning.specs.Kept.{Refined}
-use Rattle.js_meaning_near.specs.Near.{module_of}
+use Rattle.js_meaning_near.specs.Near.{meaning, module_of}
 use Rattle.js_meaning_near.specs.Avoid.{declares}
-use Rattle.js_meaning_near.specs.Reexported.{Imports, imports_here, imports_further_on, entry_name, PassedOn, as_before, further_on, passed_on, two_change, one_by_one, ReexportedModule, reexported_module}
-use Rattle.js_meaning_near.proofs.Relations.{Acts}
+use Rattle.js_meaning_near.specs.Reexported.{Imports, imports_here, imports_further_on, entry_name, PassedOn, as_before, further_on, passed_on, two_change, one_by_one, ReexportedModule, reexported_module, PutIn, names_put_in, namespace_put_in, put_in_behind}
+use Rattle.js_meaning_near.proofs.Relations.{Enters, Acts}
+use Rattle.js_meaning_near.proofs.Paid.{Lends}
+use Rattle.js_meaning_near.proofs.Gifts.{nothing_seq}
 use Rattle.js_meaning_near.proofs.Scopes.{no_envs, declare_acts}
-use Rattle.js_meaning_near.proofs.Contexts.{module_with, modules_export, acts_refine}
+use Rattle.js_meaning_near.proofs.Contexts.{module_by, modules_by, acts_refine}
 use Rattle.js_meaning_near.proofs.Avoid.{itself}
 use Rattle.js_meaning_near.proofs.ExportOrder.{either_order}
 
@@ -128,14 +130,59 @@ resolved_alike env {k = k} f h (two_change {d = d} {e = e} {es = es} apart) =
     ∙ sym (entry_first e (d ∷ es) env k ∙ with_entry_same e env (λ v. entry_first d es env (λ fs. k (v ∷ fs))))
 resolved_alike env f h (one_by_one p q) = resolved_alike env f h p ∙ resolved_alike env f h q
 
+-- ---- an export of what another module exports does nothing where it stands
+
+same_start : {r s : Forest} (env : Env) (m : M) → PutIn r s → start r env m ≡ start s env m
+unfolding start
+same_start env m (names_put_in none) = refl
+same_start env m namespace_put_in = refl
+same_start env m (put_in_behind {k = k} {a = a} p) = ap (λ i. start_item k a (start a env) env i) (same_start env m p)
+
+same_each : {r s : Forest} (E : Enter) (env : Env) → PutIn r s → each (run_under []) (eval E r) env ≡ each (run_under []) (eval E s) env
+unfolding eval each may
+same_each {r = r} E env (names_put_in none) = sym (nothing_seq (each (run_under []) (eval E r) env))
+same_each {r = r} E env namespace_put_in = sym (nothing_seq (each (run_under []) (eval E r) env))
+same_each E env (put_in_behind {k = k} {a = a} p) = ap (λ i. seq (meaning E k a (run_under []) env) i) (same_each E env p)
+
+same_stars : {r s : Forest} → PutIn r s → stars r ≡ stars s
+same_stars (names_put_in none) = refl
+same_stars namespace_put_in = refl
+same_stars (put_in_behind {k = k} p) = ap (λ l. star_of k ++ l) (same_stars p)
+
+same_lexical : {r s : Forest} → PutIn r s → lexical r ≡ lexical s
+same_lexical (names_put_in none) = refl
+same_lexical namespace_put_in = refl
+same_lexical (put_in_behind {k = k} {a = a} p) = ap (λ l. item_decls k a (lexical a) ++ l) (same_lexical p)
+
+same_vars : {r s : Forest} → PutIn r s → var_names r ≡ var_names s
+same_vars {r = r} (names_put_in none) = ap (λ l. (l ++ []) ++ var_names r) (sym none)
+same_vars namespace_put_in = refl
+same_vars (put_in_behind {k = k} {a = a} p) = ap (λ l. vars_of k a (var_names a) ++ l) (same_vars p)
+
 -- ---- modules
 
-with_entries : {es : List Entry} (E : Enter) (a : Forest) → PassedOn (module_decls a) (entries a) es → module_does E a ≡ module_with E a es
+module_put_in : {r s : Forest} (E : Enter) → PutIn r s → module_by E (module_decls r) (entries s) (stars r) (distinct (requests s)) r ≡ module_does E s
+unfolding module_does
+module_put_in {r = r} {s = s} E p =
+    ap (λ ds. module_by E ds (entries s) (stars r) (distinct (requests s)) r) (ap₂ (λ vs ls. decl this_name ready ∷ (all_so ready vs ++ ls)) (same_vars p) (same_lexical p))
+    ∙ ap (λ ss. module_by E (module_decls s) (entries s) ss (distinct (requests s)) r) (same_stars p)
+    ∙ ap (λ k. bind (bind (declare (module_decls s) [] k) (finish E)) finally)
+    (fun_ext (λ env. ap (λ m. resolve_entries (entries s) env (λ exports. set_exports (sorted exports) (stars s) m))
+    (same_start env _ p ∙ ap (λ m. start s env (seq (load_all E (distinct (requests s))) m)) (same_each E env p))))
+
+with_entries : {es : List Entry} (E : Enter) (a : Forest) → PassedOn (module_decls a) (entries a) es → module_does E a ≡ module_by E (module_decls a) es (stars a) (distinct (requests a)) a
 unfolding module_does
 with_entries E a p =
     ap (λ m. bind (bind m (finish E)) finally)
     (declare_finds (module_decls a) [] (λ env f g. resolved_alike env f (λ es fs same. ap (λ l. set_exports l (stars a) (start a env (seq (load_all E (distinct (requests a))) (each (run_under []) (eval E a) env)))) same) p))
 
+passing_acts : {a c : Forest} (E : Enter) → Enters E → Lends E → ReexportedModule a c → Acts [] (module_does E a) (module_does E c)
+passing_acts {a = a} {c = c} E h l (reexported_module {b = b} d s near put p y q) =
+    subst (λ m. Acts [] m (module_does E c)) (sym (with_entries E a p))
+    (subst (λ m. Acts [] (module_by E (module_decls a) (entries c) (stars a) (distinct (requests a)) a) m) (module_put_in E put)
+    (subst (λ ss. Acts [] (module_by E (module_decls a) (entries c) (stars a) (distinct (requests a)) a) (module_by E (module_decls b) (entries c) ss (distinct (requests c)) b)) s
+    (subst (λ rs. Acts [] (module_by E (module_decls a) (entries c) (stars a) (distinct (requests a)) a) (module_by E (module_decls b) (entries c) (stars a) rs b)) q
+    (modules_by (entries c) (stars a) (distinct (requests a)) E h l (record { declared = declare_acts d no_envs }) y near))))
+
 pub reexported_refines : {a b : Forest} (n m i j : Note) → ReexportedModule a b → Refined (module_of n m a) (module_of i j b)
-reexported_refines {a = a} {b = b} n m i j (reexported_module d p y s q c) =
-    acts_refine a b n m i j (λ E h l. subst (λ r. Acts [] r (module_does E b)) (sym (with_entries E a p)) (modules_export E h l (record { declared = declare_acts d no_envs }) y s q c))
+reexported_refines {a = a} {b = b} n m i j c = acts_refine a b n m i j (λ E h l. passing_acts E h l c)

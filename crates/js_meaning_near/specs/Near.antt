@@ -8,7 +8,6 @@ use Rattle.js_syntax.specs.declared.scalar.SourceType.TheVariants as source_type
 use Rattle.js_syntax.specs.Node.{Note, Forest, nothing, node, absent, below_of}
 use Rattle.js_syntax.specs.Facts.{is_core}
 use Rattle.js_syntax.specs.declared.value.LiteralValue.{LiteralValue as Literal}
-use Rattle.js_syntax.specs.declared.value.ModuleName.{ModuleName}
 use Rattle.js_meaning.specs.Value.{Text, Env, this_name, Plain, Value, plain, literal_value}
 use Rattle.js_meaning.specs.Scope.{waiting, named_so, first_of, behind, first_name, lexical, function_decls, own_name, default_name, module_decls}
 use Rattle.js_meaning.specs.State.{normal, done}
@@ -128,9 +127,6 @@ pub data Change (st : Names) : Kind → Forest → Kind → Forest → Type 0 wh
   -- a statement that nobody can tell becomes empty
   statement_emptied : {k : Kind} {n : Note} {a r b : Forest} → Silent st k a → Change st Kind.ExpressionStatement (node k n a r) Kind.EmptyStatement b
   no_statement_emptied : {a b : Forest} → NoField a → Change st Kind.ExpressionStatement a Kind.EmptyStatement b
-  -- an import passes on what it asks for: neither does anything where it stands
-  import_passes_on : {source : Text} {a b : Forest} → Change st (Kind.ImportDeclaration source) a (Kind.ExportNamedDeclaration (Some source)) (absent b)
-  import_passes_all : {source : Text} {name : ModuleName} {a b : Forest} → Change st (Kind.ImportDeclaration source) a (Kind.ExportAllDeclaration (Some name) source) b
   -- a read of a name that holds a known value
   value_read : {x : Text} {p : Plain} {v : Literal} {a b : Forest} → st x ≡ known (exactly p) → literal_value v ≡ plain p → Change st (Kind.ReferenceName x) a (Kind.Literal v) b
   -- a negative number as unary minus on its magnitude (13.5.5), where arithmetic covers it
