@@ -1,4 +1,5 @@
 pub mod Composing
 pub mod Tried
 pub mod TriedMerged
+pub mod TriedPassed
 pub mod TriedCalls

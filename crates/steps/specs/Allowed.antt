@@ -16,6 +16,7 @@ pub mod Imports
 pub mod UnusedImport
 pub mod RepeatedImport
 pub mod MergedImports
+pub mod PassedExports
 pub mod SilentStatement
 pub mod KnownConditional
 pub mod KnownSide

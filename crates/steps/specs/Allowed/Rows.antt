@@ -15,6 +15,7 @@ use Rattle.js_syntax.specs.declared.operator.UnaryOperator.TheVariants as unary
 use Rattle.js_syntax.specs.declared.value.Key.TheVariants as key
 use Rattle.js_syntax.specs.declared.value.LiteralValue.{LiteralValue}
 use Rattle.js_syntax.specs.declared.value.LiteralValue.TheVariants as value
+use Rattle.js_syntax.specs.declared.value.ModuleName.{ModuleName}
 use Rattle.js_syntax.specs.declared.value.ModuleName.TheVariants as module_name
 use Rattle.js_syntax.specs.Node.{Forest, Tree, nothing, node, nowhere, joined}
 use Rattle.form_rules.specs.Samples.{over, leaf, row, listed, no, a_module, a, binds, reads, one, does, declares, let_, var_, a_script, block, function_of}
@@ -411,3 +412,29 @@ namespace_name x = over Kind.ImportNamespaceSpecifier (binds x)
 -- { exported as x }
 abbrev pub name_as : (exported x : List ℕ) → Forest
 name_as exported x = over (Kind.ImportSpecifier (module_name.Name exported)) (binds x)
+
+-- { "exported" as x }
+abbrev pub text_as : (exported x : List ℕ) → Forest
+text_as exported x = over (Kind.ImportSpecifier (module_name.Text exported)) (binds x)
+
+-- ---- exports of names
+
+-- export ..;
+abbrev pub shows : List Forest → Forest
+shows names = over (Kind.ExportNamedDeclaration None) (joined no (listed Kind.Specifiers names))
+
+-- { x as exported }
+abbrev pub shown_as : (x exported : List ℕ) → Forest
+shown_as x exported = over (Kind.ExportSpecifier (module_name.Name exported)) (reads x)
+
+-- export .. from 'm';
+abbrev pub passes_from : List Forest → Forest
+passes_from names = over (Kind.ExportNamedDeclaration (Some (codes "m"))) (joined no (listed Kind.Specifiers names))
+
+-- { imported as exported }
+abbrev pub passed_as : (imported : ModuleName) → (exported : List ℕ) → Forest
+passed_as imported exported = leaf (Kind.ForeignSpecifier imported (module_name.Name exported))
+
+-- export * as exported from 'm';
+abbrev pub passes_namespace : (exported : List ℕ) → Forest
+passes_namespace exported = leaf (Kind.ExportAllDeclaration (Some (module_name.Name exported)) (codes "m"))

@@ -7,6 +7,7 @@ ghost use Rattle.js_syntax.specs.declared.operator.BinaryOperator.TheVariants as
 ghost use Rattle.js_syntax.specs.declared.operator.LogicalOperator.TheVariants as operator;
 ghost use Rattle.js_syntax.specs.declared.operator.UnaryOperator.TheVariants as unary;
 ghost use Rattle.js_syntax.specs.declared.value.LiteralValue.TheVariants as value;
+ghost use Rattle.js_syntax.specs.declared.value.ModuleName.TheVariants as module_name;
 ghost use Rattle.js_syntax.specs.Node.{Tree, Note, Forest, nothing, absent, nowhere, joined};
 ghost use Rattle.form_rules.specs.Samples.{a_module, over, a, binds, reads, listed, no, one, does, declares, let_, var_, function_a, block};
 ghost use Rattle.scope_rules.specs.Context.{body_of};
@@ -22,6 +23,7 @@ ghost use Rattle.steps.specs.Allowed.KnownIf.{an_if, KnownIf};
 ghost use Rattle.steps.specs.Allowed.DeadIf.{DeadIf};
 ghost use Rattle.steps.specs.Allowed.RepeatedImport.{is_asked_before};
 ghost use Rattle.steps.specs.Allowed.MergedImports.{may_merge, MergesIn, MergedImports};
+ghost use Rattle.steps.specs.Allowed.PassedExports.{PassedExports};
 ghost use Rattle.steps.specs.Allowed.Unreached.{Unreached};
 ghost use Rattle.steps.specs.Allowed.Untaken.{Untaken};
 ghost use Rattle.steps.specs.Allowed.IdleStatement.{IdleStatement};
@@ -33,7 +35,7 @@ ghost use Rattle.steps.specs.Allowed.EmptyIf.{EmptyIf};
 ghost use Rattle.steps.specs.Allowed.EmptyAlternate.{EmptyAlternate};
 ghost use Rattle.steps.specs.Allowed.EmptyBlock.{EmptyBlock};
 ghost use Rattle.steps.specs.Allowed.Edits.{Edit};
-ghost use Rattle.steps.specs.Allowed.Rows.{before, breaks_label, labeled, labeled_too, tried, tried_finally, finally_alone, while_, for_, loop, branch_of_if, in_list, past, in_branch, in_function, in_function_by, value_of_a, zero, debugger, throwing_block, throwing_branch, broken_label, throws, behind_throw, call_of_a, null, if_one, if_null, either_way, conditional, logical, may_be_named, o_f, parenthesized, called, called_in_parentheses, called_in_with, argument, second_part, operand, applied, equals, difference, sum, text, empty_text, template, tagged, assigned, statement, ComesOut, Stays, StaysUnused, array, spread, hole, sequence, ListStays, ChoiceStays, PartsStay, SidesStay, object, a_is, b_is, getter_of_a, keyed_by, method_by, not_a, ObjectStays, literal, operation, OperationStays, behind_zero, placed, StaysDirect, FollowsNone, with_a, in_with_a, empty, a_is_read, a_is_exported, imports_nothing, behind_import, behind_other, call_of_eval, takes_from, takes_from_other, default_name, namespace_name, name_as};
+ghost use Rattle.steps.specs.Allowed.Rows.{before, breaks_label, labeled, labeled_too, tried, tried_finally, finally_alone, while_, for_, loop, branch_of_if, in_list, past, in_branch, in_function, in_function_by, value_of_a, zero, debugger, throwing_block, throwing_branch, broken_label, throws, behind_throw, call_of_a, null, if_one, if_null, either_way, conditional, logical, may_be_named, o_f, parenthesized, called, called_in_parentheses, called_in_with, argument, second_part, operand, applied, equals, difference, sum, text, empty_text, template, tagged, assigned, statement, ComesOut, Stays, StaysUnused, array, spread, hole, sequence, ListStays, ChoiceStays, PartsStay, SidesStay, object, a_is, b_is, getter_of_a, keyed_by, method_by, not_a, ObjectStays, literal, operation, OperationStays, behind_zero, placed, StaysDirect, FollowsNone, with_a, in_with_a, empty, a_is_read, a_is_exported, imports_nothing, behind_import, behind_other, call_of_eval, takes_from, takes_from_other, default_name, namespace_name, name_as, text_as, imports_other, shows, shown_as, passes_from, passed_as, passes_namespace};
 
 /// A statement of a literal becomes empty, in a list and alone, and leaves the list then.
 pub fn silent_statements_go()
@@ -96,6 +98,25 @@ pub fn imports_of_one_module_become_one()
     ensures two_defaults { may_merge (joined (default_name a) (namespace_name a)) (default_name b) ≡ false }
     ensures other { (s : Forest) → MergesIn (joined (imports a) (takes_from_other (default_name b ∷ []))) s → ⊥ }
     ensures eval { (t : Forest) → MergedImports (a_module (imports a ∷ imports b ∷ does call_of_eval ∷ [])) t → ⊥ }
+{}
+
+/// An import and an export of the very names that it binds become an export from the other module, in the place of the import, in the order
+/// of the export: a default as `default`, a namespace that is alone as a whole, a name in quotes as one. None does where an export lists a
+/// further name, or lacks one, or stands in front of the import; where a namespace stands beside a default; where something else refers to a
+/// name; and in a module with a direct call of `eval`.
+pub fn imports_that_are_exported_pass()
+    ensures one { PassedExports (a_module (takes_from (name_as a b ∷ []) ∷ shows (shown_as b (codes "c") ∷ []) ∷ [])) (a_module (passes_from (passed_as (module_name.Name a) (codes "c") ∷ []) ∷ [])) }
+    ensures several { PassedExports (a_module (takes_from (name_as a a ∷ name_as b b ∷ []) ∷ imports_other ∷ shows (shown_as b b ∷ shown_as a a ∷ shown_as b (codes "c") ∷ []) ∷ []))
+        (a_module (passes_from (passed_as (module_name.Name b) b ∷ passed_as (module_name.Name a) a ∷ passed_as (module_name.Name b) (codes "c") ∷ []) ∷ imports_other ∷ [])) }
+    ensures default_name { PassedExports (a_module (imports a ∷ shows (shown_as a a ∷ []) ∷ [])) (a_module (passes_from (passed_as (module_name.Name (codes "default")) a ∷ []) ∷ [])) }
+    ensures namespace { PassedExports (a_module (takes_from (namespace_name a ∷ []) ∷ shows (shown_as a b ∷ []) ∷ [])) (a_module (passes_namespace b ∷ [])) }
+    ensures quoted { PassedExports (a_module (takes_from (text_as (codes "a b") a ∷ []) ∷ shows (shown_as a b ∷ []) ∷ [])) (a_module (passes_from (passed_as (module_name.Text (codes "a b")) b ∷ []) ∷ [])) }
+    ensures further { (t : Forest) → PassedExports (a_module (takes_from (name_as a a ∷ []) ∷ shows (joined (shown_as a a) (shown_as b b) ∷ []) ∷ [])) t → ⊥ }
+    ensures unlisted { (t : Forest) → PassedExports (a_module (takes_from (joined (name_as a a) (name_as b b) ∷ []) ∷ shows (shown_as a a ∷ []) ∷ [])) t → ⊥ }
+    ensures beside_default { (t : Forest) → PassedExports (a_module (takes_from (joined (default_name a) (namespace_name b) ∷ []) ∷ shows (joined (shown_as a a) (shown_as b b) ∷ []) ∷ [])) t → ⊥ }
+    ensures in_front { (t : Forest) → PassedExports (a_module (shows (shown_as a a ∷ []) ∷ imports a ∷ [])) t → ⊥ }
+    ensures used { (t : Forest) → PassedExports (a_module (imports a ∷ shows (shown_as a a ∷ []) ∷ does (reads a) ∷ [])) t → ⊥ }
+    ensures eval { (t : Forest) → PassedExports (a_module (imports a ∷ shows (shown_as a a ∷ []) ∷ does call_of_eval ∷ [])) t → ⊥ }
 {}
 
 /// A conditional and an `if` on a test that is known become the branch that is taken.
