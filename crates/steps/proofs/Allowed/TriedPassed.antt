@@ -44,7 +44,7 @@ several_pass =
     (passes_one (named b) (named b) nowhere nowhere nowhere b _ _ binds_b
     (passes_one (named a) (named a) nowhere nowhere nowhere a _ _ binds_a (passes_one (named (codes "c")) (named b) nowhere nowhere nowhere b _ _ binds_b passes_none))))
     (leaves_behind _ nowhere _ _ _ (export_leaves nowhere nowhere _)))
-    (record { unreferred = λ r h e. h; unexported = λ e h s d. h }, record { unreferred = λ r h e. h; unexported = λ e h s d. h }, tt) refl
+    (record { unreferred = λ r h e. h; unexported = λ e h s d. h }, (record { unreferred = λ r h e. h; unexported = λ e h s d. h }, tt)) refl
 
 pub default_passes : PassedExports (a_module (imports a ∷ shows (shown_as a a ∷ []) ∷ [])) (a_module (passes_from (passed_as (named (codes "default")) a ∷ []) ∷ []))
 default_passes =
