@@ -30,6 +30,9 @@ pub mod MergedTables
 pub mod MergedForm
 pub mod MergedFits
 pub mod MergedLess
+pub mod PassedRows
+pub mod PassedLess
+pub mod PassedFits
 pub mod UnusedImport
 pub mod Owed
 pub mod TableKept

@@ -12,6 +12,7 @@
 pub mod edits;
 pub mod fits;
 pub mod merged;
+pub mod passed;
 pub mod parts;
 pub mod refusals;
 pub mod runs;

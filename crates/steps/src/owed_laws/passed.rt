@@ -1,0 +1,21 @@
+// What holds behind an import and an export that become an export from the other module. Each law is a contract, so that the check proves it.
+ghost use Rattle.std.specs.Prelude.{◌≡◌, ◌<◌, true};
+ghost use Rattle.js_syntax.specs.Class.{root};
+ghost use Rattle.js_syntax.specs.Facts.{weight};
+ghost use Rattle.js_syntax.specs.Node.{Forest, total};
+ghost use Rattle.json_shape.specs.Shape.{Fits};
+ghost use Rattle.steps.specs.Allowed.Calls.{root_calls};
+ghost use Rattle.steps.specs.Allowed.Changing.{may_change_somewhere};
+ghost use Rattle.steps.specs.Allowed.PassedExports.{PassedExports};
+
+/// Law: the program behind fits the table of node types if the one before does.
+pub fn passed_exports_keep_fitting()
+    ensures { (t u : Forest) → PassedExports t u → Fits root t → Fits root u }
+{}
+
+/// Law: it is lighter, and its own list has the same calls; and the edit is one of which it is told that something may change.
+pub fn passed_exports_leave_less()
+    ensures lighter { (t u : Forest) → PassedExports t u → total weight u < total weight t }
+    ensures calls { (t u : Forest) → PassedExports t u → root_calls t ≡ root_calls u }
+    ensures may_change { (t u : Forest) → PassedExports t u → may_change_somewhere t ≡ true }
+{}
