@@ -25,6 +25,7 @@ pub mod RepeatedImport
 pub mod Declaring
 pub mod Shuffled
 pub mod MergedRows
+pub mod AlikeTables
 pub mod MergedRuns
 pub mod MergedTables
 pub mod MergedForm
@@ -33,6 +34,11 @@ pub mod MergedLess
 pub mod PassedRows
 pub mod PassedLess
 pub mod PassedFits
+pub mod PassedPlaces
+pub mod PassedTables
+pub mod Exported
+pub mod PassedSheds
+pub mod PassedForm
 pub mod UnusedImport
 pub mod Owed
 pub mod TableKept

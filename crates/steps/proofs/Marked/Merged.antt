@@ -18,7 +18,8 @@ use Rattle.steps.specs.Naming.Standing.{is_export, exported_sites, exported_decl
 use Rattle.steps.proofs.Owed.Shuffled.{before_all}
 use Rattle.steps.proofs.Owed.MergedRows.{AreNames, no_names, a_name, may, merged_are, reordered}
 use Rattle.steps.proofs.Owed.MergedRuns.{same_order}
-use Rattle.steps.proofs.Owed.MergedTables.{Any, merged_tally, among_shuffled, reads_references, reads_declaring}
+use Rattle.steps.proofs.Owed.AlikeTables.{Any, among_shuffled}
+use Rattle.steps.proofs.Owed.MergedTables.{merged_tally, reads_references, reads_declaring}
 
 -- ---- references and declarations
 

@@ -35,11 +35,11 @@ use Rattle.steps.proofs.Owed.MergedRows.{AreNames, no_names as no_name, a_name, 
 
 -- ---- what is declared, wherever it stands
 
-abbrev unplaced : List Declared → List Declared
+abbrev pub unplaced : List Declared → List Declared
 unplaced [] = []
 unplaced (d ∷ ds) = record { name = d.name; place = 0; sort = d.sort } ∷ unplaced ds
 
-unplaced_joined : (ds es : List Declared) → unplaced (ds ++ es) ≡ unplaced ds ++ unplaced es
+pub unplaced_joined : (ds es : List Declared) → unplaced (ds ++ es) ≡ unplaced ds ++ unplaced es
 unplaced_joined [] es = refl
 unplaced_joined (d ∷ ds) es = ap (λ l. record { name = d.name; place = 0; sort = d.sort } ∷ l) (unplaced_joined ds es)
 
@@ -49,7 +49,7 @@ here_anywhere (bound f) p q (binding_name x) = refl
 here_anywhere (catch_scope f) p q (binding_name x) = refl
 here_anywhere s p q k = refl
 
-anywhere : (s : Sought) (p q : ℕ) (t : Forest) → unplaced (declared s p t) ≡ unplaced (declared s q t)
+pub anywhere : (s : Sought) (p q : ℕ) (t : Forest) → unplaced (declared s p t) ≡ unplaced (declared s q t)
 anywhere s p q nothing = refl
 anywhere s p q (absent t) = anywhere s p q t
 anywhere s p q (node k n b t) =
@@ -64,7 +64,7 @@ anywhere s p q (node k n b t) =
     (anywhere s (p + node_count (alone k n b)) (q + node_count (alone k n b)) t)
     ∙ sym (unplaced_joined now (declared s (q + node_count (alone k n b)) t))
 
-one_first : (s : Sought) (k : Kind) (n : Note) (b t : Forest) → unplaced (declared s 0 (node k n b t)) ≡ unplaced (declared s 0 (node k n b nothing)) ++ unplaced (declared s 0 t)
+pub one_first : (s : Sought) (k : Kind) (n : Note) (b t : Forest) → unplaced (declared s 0 (node k n b t)) ≡ unplaced (declared s 0 (node k n b nothing)) ++ unplaced (declared s 0 t)
 one_first s k n b t =
     let own = declared_here s 0 k ++ declared (sought_below s k) (0 + one_each k) b in
     unplaced_joined own (declared s (0 + node_count (alone k n b)) t) ∙ ap₂ (λ xs ys. xs ++ ys) (sym (ap unplaced (append-nil own))) (anywhere s (0 + node_count (alone k n b)) 0 t)
@@ -98,7 +98,7 @@ reads_declared f = record {
 
 -- ---- names that clash
 
-name_twice : (x y : List ℕ) → bytes_eq x y ≡ bytes_eq y x
+pub name_twice : (x y : List ℕ) → bytes_eq x y ≡ bytes_eq y x
 name_twice x y = by (bytes_eq x y) (bytes_eq y x) refl refl
   where
     by : (b c : Bool) → bytes_eq x y ≡ b → bytes_eq y x ≡ c → bytes_eq x y ≡ bytes_eq y x
@@ -142,11 +142,11 @@ module _ (test : Sort → Sort → Bool) (either : (s : Sort) → test s lexical
           neither (bytes_eq x.name d.name && test x.sort d.sort) (clashes_with_any test d (y ∷ seen)) two.0 (neither (bytes_eq y.name d.name && test y.sort d.sort) (clashes_with_any test d seen) one.0 two.1)
   none_clash (one_by_one s q) seen h = none_clash q seen (none_clash s seen h)
 
-unplaced_fewer : (ds : List Declared) → Fewer Declared SameName (unplaced ds) ds
+pub unplaced_fewer : (ds : List Declared) → Fewer Declared SameName (unplaced ds) ds
 unplaced_fewer [] = none
 unplaced_fewer (d ∷ ds) = both (refl, refl) (unplaced_fewer ds)
 
-placed_fewer : (ds : List Declared) → Fewer Declared SameName ds (unplaced ds)
+pub placed_fewer : (ds : List Declared) → Fewer Declared SameName ds (unplaced ds)
 placed_fewer [] = none
 placed_fewer (d ∷ ds) = both (refl, refl) (placed_fewer ds)
 
@@ -176,7 +176,7 @@ catch_either sort.CatchParameter = refl
 
 -- ---- whether a name is declared
 
-declared_unplaced : (x : List ℕ) (ds : List Declared) → is_declared x (unplaced ds) ≡ is_declared x ds
+pub declared_unplaced : (x : List ℕ) (ds : List Declared) → is_declared x (unplaced ds) ≡ is_declared x ds
 declared_unplaced x [] = refl
 declared_unplaced x (d ∷ ds) = ap (λ b. bytes_eq d.name x || b) (declared_unplaced x ds)
 
@@ -340,16 +340,16 @@ abbrev in_items : Around
 in_items = record { row = items; is_asked = false; is_deleted = false; is_labeled = false; exported = []; sought = none_sought }
 
 module _ (d : Context) where
-  abbrev here : Context
+  abbrev pub here : Context
   here = below_it d
 
-  abbrev broken_row : (at p : ℕ) → Forest → List Break
+  abbrev pub broken_row : (at p : ℕ) → Forest → List Break
   broken_row at p t = broken_in (λ i. here) at p t
 
-  moved : (i j p q : ℕ) (t : Forest) → broken_row i p t ≡ [] → broken_row j q t ≡ []
+  pub moved : (i j p q : ℕ) (t : Forest) → broken_row i p t ≡ [] → broken_row j q t ≡ []
   moved i j p q t h = form_kept (itself in_items t) (λ i. here) (λ i. here) (λ i j e. refl) i j p q (λ e. absurd cc) h
 
-  one_moved : (i j p q : ℕ) (k : Kind) (n : Note) (b : Forest) → broken_at here k p b ++ broken_in (inside here k b) 0 (p + one_each k) b ≡ [] → broken_at here k q b ++ broken_in (inside here k b) 0 (q + one_each k) b ≡ []
+  pub one_moved : (i j p q : ℕ) (k : Kind) (n : Note) (b : Forest) → broken_at here k p b ++ broken_in (inside here k b) 0 (p + one_each k) b ≡ [] → broken_at here k q b ++ broken_in (inside here k b) 0 (q + one_each k) b ≡ []
   one_moved i j p q k n b h =
       first_empty (broken_at here k q b ++ broken_in (inside here k b) 0 (q + one_each k) b) [] (moved i j p q (node k n b nothing) (both_empty (broken_at here k p b ++ broken_in (inside here k b) 0 (p + one_each k) b) [] h refl))
 

@@ -4,10 +4,10 @@ use Rattle.js_syntax.specs.Class.{Class, root, module_item, a_prologue, private_
 use Rattle.js_syntax.specs.declared.node_kind.NodeKind.{NodeKind as Kind}
 use Rattle.js_syntax.specs.declared.node_kind.NodeKind.TheVariants.{ImportDeclaration as import_declaration, Specifiers as specifiers, ExportNamedDeclaration as export_named_declaration}
 use Rattle.js_syntax.specs.declared.node_type.NodeType.TheVariants as type
-use Rattle.js_syntax.specs.declared.scalar.SourceType.{SourceType}
 use Rattle.js_syntax.specs.declared.scalar.SourceType.TheVariants as source_type
 use Rattle.js_syntax.specs.Node.{Forest, Note, nothing, node, absent}
 use Rattle.js_syntax.specs.Table.{Row, an_import_declaration, an_export_from, an_export_all_declaration, a_foreign_specifier, fields_of, type_of, stands}
+use Rattle.js_meaning_near.specs.Near.{module_of}
 use Rattle.json_shape.specs.Shape.{Values, kind_in, first_of, Place, one, maybe_one, beyond, key_node, key_apart, list, list_with_holes, body, item_or_hole, item_of_body, Plan, these, all, all_or_holes, all_of_body, after_body_item, first_place, is_directive_kind, IsOf, IsAt, Stand, Fits}
 use Rattle.json_shape.specs.Shape as shape
 use Rattle.json_shape.proofs.Choice.{is_list_kind}
@@ -95,15 +95,21 @@ row_stands plan ok listed (passes_behind k n below r s z passes) h = (h.0, row_s
 
 -- ---- a program
 
-module _ (source : SourceType) (n m : Note) {names r s z : Forest} (passes : PassesIn names r s z) where
+module _ (n m : Note) (r z : Forest) (moves : (plan : Plan) → plan_ok plan ≡ true → of_list plan ≡ true → Stand plan r → Stand plan z) where
   abbrev row_of : Forest → Forest
   row_of t = node Kind.Statements m t nothing
 
-  list_stands : Moves (Kind.Program source) (row_of r) (row_of z)
-  list_stands plan ok below h = (at_inside Kind.Statements r z (λ none. absurd cc) (λ p fine listed. row_stands p fine (listed refl) passes) (first_place plan) (first_ok plan ok) h.0, h.1)
+  abbrev top : Kind
+  top = Kind.Program source_type.Module
 
-  program_fits : Fits root (node (Kind.Program source) n (row_of r) nothing) → Fits root (node (Kind.Program source) n (row_of z) nothing)
-  program_fits h = (at_inside (Kind.Program source) (row_of r) (row_of z) (λ none. refl) list_stands (one root) refl h.0, h.1)
+  list_stands : Moves top (row_of r) (row_of z)
+  list_stands plan ok below h = (at_inside Kind.Statements r z (λ none. absurd cc) (λ p fine listed. moves p fine (listed refl)) (first_place plan) (first_ok plan ok) h.0, h.1)
+
+  module_fits : Fits root (module_of n m r) → Fits root (module_of n m z)
+  module_fits h = (at_inside top (row_of r) (row_of z) (λ none. refl) list_stands (one root) refl h.0, h.1)
+
+pub left_fits : (n m : Note) {listed r s : Forest} → WithoutExport listed r s → Fits root (module_of n m r) → Fits root (module_of n m s)
+left_fits n m {r = r} {s = s} out = module_fits n m r s (λ plan ok listed h. left_stands plan ok listed out h)
 
 pub passed_fits : (t u : Forest) → PassedExports t u → Fits root t → Fits root u
-passed_fits _ _ (exports_pass n m names r s z passes free none) fits = program_fits source_type.Module n m passes fits
+passed_fits _ _ (exports_pass n m names r s z passes free none) = module_fits n m r z (λ plan ok listed h. row_stands plan ok listed passes h)

@@ -18,8 +18,8 @@ use Rattle.scope_laws.specs.Place.{Around as Place, first, behind, behind_none, 
 use Rattle.scope_laws.specs.Lists.{without}
 use Rattle.steps.specs.Allowed.Silent.{HoldsThere}
 use Rattle.steps.specs.Allowed.Imports.{ImportRow, below_import, in_names, elsewhere, names_below, import_row_below, import_row}
-use Rattle.steps.specs.Allowed.Places.{a_node, asked_at, has_node, has_other}
-use Rattle.steps.specs.Owed.Owed.{IsUnexported, Leaving}
+use Rattle.steps.specs.Allowed.Places.{a_node, asked_at, has_node, has_other, At}
+use Rattle.steps.specs.Owed.Owed.{IsListed, IsUnexported, Leaving}
 use Rattle.steps.specs.KeepForm.Sheds.{Row, parts, of_declarators, of_import, of_specifiers, row_below, may_leave, Around, entered, outermost, exports_none, keeps_one, Sheds, keeps_absent, keeps, leaves, empties, sought_inside, exported_below}
 use Rattle.steps.specs.KeepForm.Sheds as shed
 use Rattle.steps.specs.KeepForm.Layout.{is_parts, stands_right, is_laid_out, IsLaidOut}
@@ -170,9 +170,12 @@ module _ (n m : Note) (expression : Forest) where
 all_within : (t : Forest) → Within t (sites (λ at. outermost_context) 0 0 t)
 all_within t = record { binding = λ b h. h; reference = λ r h. h }
 
+pub item_sheds : (a : Place) (x : Tree) → is_directive_kind x.kind ≡ false → IsListed a → At a (Some x) (IsUnexported (plug a (Some x)) x) → IsLaidOut (plug a (Some x)) → Sheds outermost (plug a (Some x)) (without a)
+item_sheds a x no_directive listed unexported laid =
+    node_leaves (plug a (Some x)) x no_directive a false outermost (asked_of_program true) elsewhere false (λ i. outermost_context) 0 0 tt tt (λ i. tt) (all_within (plug a (Some x))) laid listed unexported
+
 pub leaving_sheds : (a : Place) (x : Tree) → Leaving a x → IsLaidOut (plug a (Some x)) → Sheds outermost (plug a (Some x)) (without a)
-leaving_sheds a x owed laid =
-    node_leaves (plug a (Some x)) x owed.no_directive a false outermost (asked_of_program true) elsewhere false (λ i. outermost_context) 0 0 tt tt (λ i. tt) (all_within (plug a (Some x))) laid owed.listed owed.unexported
+leaving_sheds a x owed = item_sheds a x owed.no_directive owed.listed owed.unexported
 
 pub emptied_sheds : (a : Place) (n m : Note) (expression : Forest) → IsLaidOut (plug a (a_node expression_statement n expression)) → Sheds outermost (plug a (a_node expression_statement n expression)) (plug a (a_node empty_statement m nothing))
 emptied_sheds a n m expression laid = statement_empties n m expression a outermost laid

@@ -53,7 +53,7 @@ both_at x p q in_with cs at next (behind_none a) h g = both_at x p q in_with cs 
 both_at x p q in_with cs at next (under k n a rest) h g = both_at x p q (in_with || is_with k) (inside (cs at) next k (plug a x)) 0 (next + opens_one k (plug a x)) a h g
 
 -- in the scopes that stand there, or unreferred
-abbrev Fine : Forest → ℕ → ℕ → BindingSite → Type 0
+abbrev pub Fine : Forest → ℕ → ℕ → BindingSite → Type 0
 Fine v count next b = In next (next + count) b.layer ⊎ IsUnreferred v b
 
 pub unseen_there : (a : Around) (x : Option Tree) (holds : Bool → Context → ℕ → Type 0) → At a x holds

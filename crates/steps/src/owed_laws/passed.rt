@@ -3,10 +3,23 @@ ghost use Rattle.std.specs.Prelude.{◌≡◌, ◌<◌, true};
 ghost use Rattle.js_syntax.specs.Class.{root};
 ghost use Rattle.js_syntax.specs.Facts.{weight};
 ghost use Rattle.js_syntax.specs.Node.{Forest, total};
+ghost use Rattle.form_rules.specs.Form.{IsWellFormed};
 ghost use Rattle.json_shape.specs.Shape.{Fits};
+ghost use Rattle.scope_rules.specs.Table.{Scoping};
 ghost use Rattle.steps.specs.Allowed.Calls.{root_calls};
 ghost use Rattle.steps.specs.Allowed.Changing.{may_change_somewhere};
 ghost use Rattle.steps.specs.Allowed.PassedExports.{PassedExports};
+ghost use Rattle.steps.specs.Owed.Kept.{IsKept};
+
+/// Law: the table of scopes before is exact for the program behind, with shorter lists.
+pub fn passed_exports_keep_tables()
+    ensures { (t u : Forest) → PassedExports t u → (table : Scoping) → IsKept table t → IsKept table u }
+{}
+
+/// Law: the program behind breaks no rule of form if the one before breaks none and fits the table of node types.
+pub fn passed_exports_keep_form()
+    ensures { (t u : Forest) → PassedExports t u → Fits root t → IsWellFormed t → IsWellFormed u }
+{}
 
 /// Law: the program behind fits the table of node types if the one before does.
 pub fn passed_exports_keep_fitting()
