@@ -39,6 +39,8 @@ pub mod PassedTables
 pub mod Exported
 pub mod PassedSheds
 pub mod PassedForm
+pub mod EntryNames
+pub mod PassedRuns
 pub mod UnusedImport
 pub mod Owed
 pub mod TableKept

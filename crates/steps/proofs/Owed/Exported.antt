@@ -7,7 +7,7 @@ use Rattle.js_syntax.specs.Node.{Forest, nothing, node, absent}
 use Rattle.form_rules.specs.declared.sought.Sort.TheVariants.{Lexical as lexical}
 use Rattle.form_rules.specs.declared.sought.Sought.TheVariants.{Scope as scope}
 use Rattle.form_rules.specs.Scope.{Declared, declared}
-use Rattle.form_rules.specs.Rules.{Exported, exports_of, named_by, first_below, behind, exported_by, exported_among, is_exported, repeated_exports}
+use Rattle.form_rules.specs.Rules.{Exported, exports_of, text_of, named_by, first_below, behind, exported_by, exported_among, is_exported, repeated_exports}
 use Rattle.js_syntax.proofs.Truth.{neither}
 use Rattle.steps.proofs.KeepForm.Fewer.{or_none, left_out, leave_out}
 use Rattle.steps.proofs.Owed.MergedForm.{unplaced, anywhere, name_twice}
@@ -98,8 +98,8 @@ of_declared p (d ∷ ds) = ap (λ l. d.name ∷ l) (of_declared p ds)
 pub named_anywhere : (p q : ℕ) (t : Forest) → names_of (named_by p t) ≡ names_of (named_by q t)
 named_anywhere p q nothing = refl
 named_anywhere p q (absent rest) = named_anywhere p q rest
-named_anywhere p q (node (export_specifier exported) n below rest) = ap (λ l. _ ∷ l) (named_anywhere p q rest)
-named_anywhere p q (node (foreign_specifier local exported) n below rest) = ap (λ l. _ ∷ l) (named_anywhere p q rest)
+named_anywhere p q (node (export_specifier exported) n below rest) = ap (λ l. text_of exported ∷ l) (named_anywhere p q rest)
+named_anywhere p q (node (foreign_specifier local exported) n below rest) = ap (λ l. text_of exported ∷ l) (named_anywhere p q rest)
 named_anywhere p q (node k n below rest) = named_anywhere p q rest
 
 by_anywhere : (k : Kind) (p q : ℕ) (below : Forest) → names_of (exported_by k p below) ≡ names_of (exported_by k q below)

@@ -183,7 +183,7 @@ declared_shuffled {r = r} {s = s} h =
 
 -- ---- what they ask for
 
-distinct_behind : (zs xs ys : List Text) → distinct xs ≡ distinct ys → distinct (zs ++ xs) ≡ distinct (zs ++ ys)
+pub distinct_behind : (zs xs ys : List Text) → distinct xs ≡ distinct ys → distinct (zs ++ xs) ≡ distinct (zs ++ ys)
 distinct_behind [] xs ys h = h
 distinct_behind (z ∷ zs) xs ys h = ap (λ l. z ∷ others z l) (distinct_behind zs xs ys h)
 

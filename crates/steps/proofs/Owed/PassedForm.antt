@@ -14,11 +14,11 @@ use Rattle.form_rules.specs.declared.sought.Sort.{Sort}
 use Rattle.form_rules.specs.declared.sought.Sort.TheVariants.{Lexical as lexical}
 use Rattle.form_rules.specs.declared.sought.Sought.{Sought}
 use Rattle.form_rules.specs.declared.sought.Sought.TheVariants.{Nothing as none_sought, Names as names_sought, Bound as bound, Scope as scope, Variables as variables, FunctionScope as function_scope, CatchScope as catch_scope}
-use Rattle.form_rules.specs.Break.{least}
+use Rattle.form_rules.specs.Break.{least, unless}
 use Rattle.form_rules.specs.Context as context
-use Rattle.form_rules.specs.Context.{Context, below_it, inside}
+use Rattle.form_rules.specs.Context.{Context, is_module, below_it, inside}
 use Rattle.form_rules.specs.Scope.{Declared, declared, later, clash, both_parameters, variable_of_catch}
-use Rattle.form_rules.specs.Rules.{each_breaks, declared_places, named_by, exported_among, repeated_exports, locals_among, is_declared, undeclared, broken_at}
+use Rattle.form_rules.specs.Rules.{each_breaks, declared_places, exports_of, text_of, named_by, exported_among, repeated_exports, locals_among, is_declared, undeclared, broken_at}
 use Rattle.form_rules.specs.Form.{broken_in, broken, IsWellFormed}
 use Rattle.json_shape.specs.Shape.{Fits}
 use Rattle.scope_laws.specs.Place.{Around, first, behind, behind_none, under, plug}
@@ -36,7 +36,7 @@ use Rattle.steps.proofs.Owed.Exported.{Distinct, distinct_shuffled, names_of, sh
 use Rattle.steps.proofs.Owed.MergedForm.{unplaced, anywhere, one_first, unplaced_fewer, placed_fewer, declared_unplaced, moved, one_moved}
 use Rattle.steps.proofs.Owed.PassedFits.{left_fits}
 use Rattle.steps.proofs.Owed.PassedPlaces.{a_tree, export_in, export_out, import_in}
-use Rattle.steps.proofs.Owed.PassedRows.{AreListed, ArePassed, none_passed, one_passed, IsNew, new_names, new_namespace, parts}
+use Rattle.steps.proofs.Owed.PassedRows.{AreListed, ArePassed, none_passed, one_passed, IsNew, new_names, new_namespace, passed_ones, parts}
 use Rattle.steps.proofs.Owed.PassedSheds.{listed_declares, export_sheds, import_sheds}
 use Rattle.steps.proofs.Owed.RepeatedRuns.{is_flat}
 use Rattle.steps.proofs.Owed.Shuffled.{Shuffled, one_by_one, by_equal, behind_all, all_over}
@@ -49,14 +49,15 @@ passed_declares (one_passed imported exported n rest are) p = passed_declares ar
 
 passed_named : {names listed passed : Forest} → Passes names listed passed → (p q : ℕ) → names_of (named_by p listed) ≡ names_of (named_by q passed)
 passed_named passes_none p q = refl
-passed_named (passes_one exported imported n m i x rest passed binds more) p q = ap (λ l. _ ∷ l) (passed_named more p q)
+passed_named (passes_one exported imported n m i x rest passed binds more) p q = ap (λ l. text_of exported ∷ l) (passed_named more p q)
 
 -- by the names that the export lists
 listed_shown : {listed : Forest} → AreListed listed → (m : Note) → shown_by (export_named_declaration None) (absent (node specifiers m listed nothing)) ≡ names_of (named_by 0 listed)
-listed_shown {listed = listed} are m = ap (λ ds. names_of (_ ++ named_by 0 listed)) (listed_declares are none_sought 0)
+listed_shown {listed = listed} are m = ap (λ ds. names_of (exports_of 0 (ds ++ []) ++ named_by 0 listed)) (listed_declares are none_sought (0 + one_each specifiers))
 
 new_shown : {source : List ℕ} {names listed : Forest} {k : Kind} {below : Forest} → PassedOn source names listed k below → shown_by k below ≡ names_of (named_by 0 listed)
-new_shown (names_passed_on names listed passed j may passes) = sym (passed_named passes 0 0)
+new_shown (names_passed_on names listed passed j may passes) =
+    ap (λ ds. names_of (exports_of 0 (ds ++ []) ++ named_by 0 passed)) (passed_declares (passed_ones passes) (0 + one_each specifiers)) ∙ sym (passed_named passes 0 0)
 new_shown (namespace_passed_on exported n m i j x) = refl
 
 left_shown : {listed r s : Forest} → AreListed listed → WithoutExport listed r s → Shuffled Any (shown r) (names_of (named_by 0 listed) ++ shown s)
@@ -81,9 +82,14 @@ module _ (d : Context) where
   passed_unbroken none_passed at p = refl
   passed_unbroken (one_passed imported exported n rest are) at p = passed_unbroken are (suc at) _
 
+  in_module : d.source ≡ source_type.Module → (p : ℕ) → unless (is_module d.source) p 7 ≡ []
+  in_module is p = ap (λ t. unless (is_module t) p 7) is
+
   new_unbroken : {source : List ℕ} {k : Kind} {below : Forest} → IsNew source k below → d.source ≡ source_type.Module → (p : ℕ) → broken_at (below_it d) k p below ++ broken_in (inside (below_it d) k below) 0 (p + one_each k) below ≡ []
-  new_unbroken (new_names passed j are) is p = rw is (ap (λ l. (l ++ []) ++ []) (passed_unbroken are 0 _))
-  new_unbroken (new_namespace exported) is p = rw is refl
+  new_unbroken {source = source} (new_names passed j are) is p =
+      both_empty _ _ (both_empty _ _ (both_empty _ _ (both_empty _ _ (both_empty _ _ (both_empty _ _ (in_module is p) refl) refl) refl) refl) refl)
+      (both_empty _ _ (passed_unbroken are 0 (p + one_each (export_named_declaration (Some source)) + one_each specifiers)) refl)
+  new_unbroken (new_namespace exported) is p = both_empty _ _ (both_empty _ _ (both_empty _ _ (both_empty _ _ (both_empty _ _ (both_empty _ _ (in_module is p) refl) refl) refl) refl) refl) refl
 
 module _ {source : List ℕ} {k : Kind} {below : Forest} (new : IsNew source k below) (n : Note) where
   abbrev with_new : Around → Forest
@@ -176,7 +182,7 @@ module _ (n m : Note) (w z : Forest) (same : unplaced (declared (scope lexical) 
       refl)
 
 -- the old module exports no name twice
-exports_apart : (n m : Note) (r : Forest) → IsWellFormed (module_of n m r) → Distinct (shown r)
+pub exports_apart : (n m : Note) (r : Forest) → IsWellFormed (module_of n m r) → Distinct (shown r)
 exports_apart n m r whole =
     let t = module_of n m r in
     let list = node statements m r nothing in

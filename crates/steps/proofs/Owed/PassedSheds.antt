@@ -1,6 +1,6 @@
 -- The export leaves a program's own list, and then the import, whose names nothing exports: the program sheds both.
 use Rattle.std.proofs.Common.{◌≡◌, ◌∙◌, ℕ, suc, ◌+◌, List, [], ◌++◌, Bool, true, false, true≢false, not, ◌&&◌, append-nil, Some, refl, sym, ap, subst}
-use Rattle.js_syntax.specs.Class.{root}
+use Rattle.js_tree.specs.Count.{one_each}
 use Rattle.js_syntax.specs.declared.node_kind.NodeKind.{NodeKind as Kind}
 use Rattle.js_syntax.specs.declared.node_kind.NodeKind.TheVariants.{Program as program, Statements as statements, ImportDeclaration as import_declaration, Specifiers as specifiers, BindingName as binding_name}
 use Rattle.js_syntax.specs.declared.scalar.SourceType.TheVariants as source_type
@@ -95,15 +95,15 @@ module _ (t : Forest) (source : List ℕ) (i j : Note) {names : Forest} (are : A
   outer = inside c next (import_declaration source) list 0
 
   import_out : (s : Sought) (es : List Exported) → Within t (sites (inside c next (import_declaration source) list) 0 (next + 0) list) → Seeks t s es c → exports_none es (declared s 0 (alone (import_declaration source) i list)) ≡ true
-  import_out none es within seeks = ap (exports_none es) (ap (λ l. l ++ []) (none_declared _ list))
-  import_out (names_sought f) es within seeks = ap (exports_none es) (ap (λ l. l ++ []) (none_declared _ list))
-  import_out (bound f) es within seeks = ap (exports_none es) (ap (λ l. l ++ []) (none_declared _ list))
+  import_out none es within seeks = ap (exports_none es) (ap (λ l. l ++ []) (none_declared (0 + one_each (import_declaration source)) list))
+  import_out (names_sought f) es within seeks = ap (exports_none es) (ap (λ l. l ++ []) (none_declared (0 + one_each (import_declaration source)) list))
+  import_out (bound f) es within seeks = ap (exports_none es) (ap (λ l. l ++ []) (none_declared (0 + one_each (import_declaration source)) list))
   import_out (scope f) es within seeks =
       let ds = λ (p : ℕ). declared (bound lexical) p names in
       subst (λ (l : List Declared). exports_none es l ≡ true) (sym (append-nil (ds _ ++ []) ∙ append-nil (ds _)))
       (names_out t es (subst (AllRead t es) here seeks.0) lexical (inside outer (next + 0) specifiers names 0) here are free 0 (next + 0 + 0) _
       (within_below t (inside c next (import_declaration source) list) 0 (next + 0) specifiers j names nothing within))
-  import_out variables es within seeks = ap (exports_none es) (ap (λ l. l ++ []) (none_declared _ list))
+  import_out variables es within seeks = ap (exports_none es) (ap (λ l. l ++ []) (none_declared (0 + one_each (import_declaration source)) list))
   import_out function_scope es within seeks = absurd seeks
   import_out (catch_scope f) es within seeks = absurd seeks
 
