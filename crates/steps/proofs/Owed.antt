@@ -41,6 +41,7 @@ pub mod PassedSheds
 pub mod PassedForm
 pub mod EntryNames
 pub mod PassedRuns
+pub mod PassedSteps
 pub mod UnusedImport
 pub mod Owed
 pub mod TableKept

@@ -89,7 +89,7 @@ module _ (x : Text) where
   local_names : (t : Forest) → occurs x (entry_names (local_entries t)) ≤ occurs x (names_of (named_by 0 t))
   local_names nothing = Prim.omega arith
   local_names (absent r) = local_names r
-  local_names (node (Kind.ExportSpecifier exported) n (node (Kind.ReferenceName y) m b c) r) = Prim.omega (arith, local_names r, ap (λ y. if bytes_eq y x then 1 else 0) (same_text exported))
+  local_names (node (Kind.ExportSpecifier exported) n (node (Kind.ReferenceName y) m b c) r) = Prim.omega (arith, local_names r, ap {B = ℕ} (λ y. if bytes_eq y x then 1 else 0) (same_text exported))
   local_names (node (Kind.ExportSpecifier exported) n a r) = Prim.omega (arith, local_names r)
   local_names (node (Kind.ForeignSpecifier name exported) n a r) = Prim.omega (arith, local_names r)
   local_names (node k n a r) = local_names r
@@ -97,7 +97,7 @@ module _ (x : Text) where
   foreign_names : (source : Text) (t : Forest) → occurs x (entry_names (foreign_entries source t)) ≤ occurs x (names_of (named_by 0 t))
   foreign_names source nothing = Prim.omega arith
   foreign_names source (absent r) = foreign_names source r
-  foreign_names source (node (Kind.ForeignSpecifier name exported) n a r) = Prim.omega (arith, foreign_names source r, ap (λ y. if bytes_eq y x then 1 else 0) (same_text exported))
+  foreign_names source (node (Kind.ForeignSpecifier name exported) n a r) = Prim.omega (arith, foreign_names source r, ap {B = ℕ} (λ y. if bytes_eq y x then 1 else 0) (same_text exported))
   foreign_names source (node (Kind.ExportSpecifier exported) n a r) = Prim.omega (arith, foreign_names source r)
   foreign_names source (node k n a r) = foreign_names source r
 
@@ -179,7 +179,7 @@ module _ (x : Text) where
       let list = first_below (behind a) in
       Prim.omega (arith, ap (λ t. occurs x (entry_names (foreign_entries source t))) (list_second a (first refl) right), foreign_names source list, occurs_names ds (named_by 0 list))
   node_names Kind.ExportDefaultDeclaration row a w v right first = Prim.omega arith
-  node_names (Kind.ExportAllDeclaration (Some exported) source) row a w v right first = Prim.omega (arith, ap (λ y. if bytes_eq y x then 1 else 0) (same_text exported))
+  node_names (Kind.ExportAllDeclaration (Some exported) source) row a w v right first = Prim.omega (arith, ap {B = ℕ} (λ y. if bytes_eq y x then 1 else 0) (same_text exported))
   node_names (Kind.ExportAllDeclaration None source) row a w v right first = Prim.omega arith
   node_names k row a w v right first = no_less _
 

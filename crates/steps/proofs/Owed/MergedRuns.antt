@@ -46,7 +46,7 @@ same_order (two_change (inl h)) = absurd h
 same_order (two_change (inr h)) = absurd h
 same_order (one_by_one h g) = same_order h ∙ same_order g
 
-no_variables : {t : Forest} → AreNames t → var_names t ≡ []
+pub no_variables : {t : Forest} → AreNames t → var_names t ≡ []
 no_variables no_names = refl
 no_variables (a_name (Kind.ImportSpecifier imported) n m x rest h names) = no_variables names
 no_variables (a_name Kind.ImportDefaultSpecifier n m x rest h names) = no_variables names

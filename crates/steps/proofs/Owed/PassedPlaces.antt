@@ -70,7 +70,7 @@ pub record ImportIn (names left now : Forest) : Type 0 where
   pub there : plug around (Some (an_import source names note list_note)) ≡ left
   pub comes : plug around (Some (a_tree kind new_note below)) ≡ now
 
-pub import_in : {names r s z : Forest} → PassesIn names r s z → ImportIn names s z
+unfoldable pub import_in : {names r s z : Forest} → PassesIn names r s z → ImportIn names s z
 import_in (passes_here source n m i listed k below r s on out) = record {
   source = source;
   note = n;
@@ -128,3 +128,22 @@ flat_asked w (under k n a rest) flat = absurd (true≢false (sym flat))
 
 pub flat_item : (n m : Note) (a : Around) → is_flat a ≡ true → IsListed (in_module n m a)
 flat_item n m a flat = inl (ap (λ (w : Asked). w.row) (flat_asked (asked_at (asked_of_program true) (in_module n m (first nothing))) a flat))
+
+-- the same place, behind a further node
+abbrev pub put_before : Kind → Note → Forest → Around → Around
+put_before k n b (first rest) = behind k n b (first rest)
+put_before k n b (behind j i c a) = behind j i c (put_before k n b a)
+put_before k n b (behind_none a) = behind_none (put_before k n b a)
+put_before k n b (under j i a rest) = under j i (put_before k n b a) rest
+
+pub before_flat : (k : Kind) (n : Note) (b : Forest) (a : Around) → is_flat a ≡ true → is_flat (put_before k n b a) ≡ true
+before_flat k n b (first rest) flat = refl
+before_flat k n b (behind j i c a) flat = before_flat k n b a flat
+before_flat k n b (behind_none a) flat = before_flat k n b a flat
+before_flat k n b (under j i a rest) flat = absurd (true≢false (sym flat))
+
+pub before_alone : (k : Kind) (n : Note) (b : Forest) (a : Around) → without (put_before k n b a) ≡ plug a (Some (a_tree k n b))
+before_alone k n b (first rest) = refl
+before_alone k n b (behind j i c a) = ap (λ t. node j i c t) (before_alone k n b a)
+before_alone k n b (behind_none a) = ap (λ t. absent t) (before_alone k n b a)
+before_alone k n b (under j i a rest) = ap (λ t. node j i t rest) (before_alone k n b a)

@@ -117,6 +117,7 @@ module _ (ds : List Decl) (source : Text) where
   both_pass bound (namespace_passed_on exported n m i j x) es = passed_on (bound x (codes "*") (named_here Kind.ImportNamespaceSpecifier n m x nothing refl))
 
 row_passes : {names r s z : Forest} (h : PassesIn names r s z) (ds : List Decl) → Bound ds (import_in h).source names → Distinct (entry_names (entries r)) → near.PassedOn ds (entries r) (entries z)
+unfolding import_in
 row_passes (passes_here source n m i listed k below r s on out) ds bound apart = one_by_one (listed_first ds out apart) (both_pass ds source bound on (entries s))
 row_passes (passes_behind k n below r s z h) ds bound apart = behind_all ds (entries_of k below) (row_passes h ds bound (apart_behind (entries_of k below) (entries r) apart))
 
@@ -251,7 +252,7 @@ module _ (st : Names) (plain : AllPlain st) where
 
 -- ---- what comes in front of the import
 
-pub between : {names r s z : Forest} → PassesIn names r s z → Forest
+unfoldable pub between : {names r s z : Forest} → PassesIn names r s z → Forest
 between {names = names} (passes_here source n m i listed k below r s on out) = node k i below (node (Kind.ImportDeclaration source) n (node Kind.Specifiers m names nothing) s)
 between (passes_behind k n below r s z h) = node k n below (between h)
 

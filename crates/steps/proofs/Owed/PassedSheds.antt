@@ -19,7 +19,11 @@ use Rattle.scope_rules.specs.Context.{Context, inside, outermost as outermost_co
 use Rattle.scope_rules.specs.Site.{opens_one, scope_count, sites}
 use Rattle.scope_laws.specs.Place.{Around, plug}
 use Rattle.scope_laws.specs.Lists.{without}
-use Rattle.steps.specs.Steps.{binds_import}
+use Rattle.steps.specs.Steps.{binds_import, all_core}
+use Rattle.steps.specs.Fit.Sensible.{IsSensibleModule}
+use Rattle.steps.proofs.Fit.Sensible.{sensible, of_module}
+use Rattle.steps.proofs.Owed.LeftRuns.{core_left}
+use Rattle.steps.proofs.Owed.PassedFits.{left_fits}
 use Rattle.steps.specs.Allowed.PassedExports.{AreFree, WithoutExport, PassesIn}
 use Rattle.steps.specs.KeepForm.Layout.{IsLaidOut}
 use Rattle.steps.specs.KeepForm.Sheds.{exports_none, Sheds, outermost}
@@ -130,3 +134,13 @@ import_sheds n m {names = names} {s = s} i free laid =
     (flat_holds (inside (inside outermost_context 0 (program source_type.Module) (node statements m (plug i.around (Some x)) nothing) 0) 1 statements (plug i.around (Some x)) 0) x (IsUnexported (plug a (Some x)) x)
     (λ next z within right seeks. import_out (plug a (Some x)) i.source i.note i.list_note i.names_are there _ next refl z.sought z.exported within seeks) 0 1 i.around i.flat)
     (subst (λ t. IsLaidOut (module_of n m t)) (sym i.there) laid))
+
+-- ---- a module without the export is sensible
+
+pub left_sensible : (n m : Note) {listed r s : Forest} → AreListed listed → WithoutExport listed r s → IsSensibleModule (module_of n m r) → IsSensibleModule (module_of n m s)
+left_sensible n m {listed = listed} {r = r} {s = s} are out h =
+    let e = export_in out in
+    let x = an_export listed e.note e.list_note in
+    let form = stays_well_formed (module_of n m r) (module_of n m s) (export_sheds n m e are h.sensible.laid_out) h.sensible.well_formed in
+    let core = subst (λ t. all_core (module_of n m t) ≡ true) e.gone (core_left x (in_module n m e.around) (subst (λ t. all_core (module_of n m t) ≡ true) (sym e.there) h.core)) in
+    of_module (module_of n m s) (record { note = n; list_note = m; items = s; is = refl }) core (sensible (module_of n m s) (left_fits n m out h.sensible.fits) form)

@@ -220,6 +220,9 @@ same_refines : (i j : Note) (a b : Forest) → ((E : Enter) → module_does E a 
 unfolding run run_within
 same_refines i j a b h script n = refines_same (run (module_of i j a) script n) (run (module_of i j b) script n) (ap (λ z. seen (z (first_state script n))) (sym (h (enter n)))) (run (module_of i j a) script n).ending
 
+pub flat_refines : (source : Text) (n m i j : Note) (a : Around) → is_flat a ≡ true → is_asked_before source false a ≡ true → Refined (module_of i j (plug a (Some (import_of source n m)))) (module_of i j (without a))
+flat_refines source n m i j a flat asked = same_refines i j (plug a (Some (import_of source n m))) (without a) (λ E. same_module source n m a flat asked E)
+
 -- ---- where an import stands
 
 -- a program's own list, and its items

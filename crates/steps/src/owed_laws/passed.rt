@@ -2,14 +2,22 @@
 ghost use Rattle.std.specs.Prelude.{◌≡◌, ◌<◌, true};
 ghost use Rattle.js_syntax.specs.Class.{root};
 ghost use Rattle.js_syntax.specs.Facts.{weight};
-ghost use Rattle.js_syntax.specs.Node.{Forest, total};
+ghost use Rattle.js_syntax.specs.Node.{Note, Forest, total};
+ghost use Rattle.js_meaning.specs.Kept.{Refined};
+ghost use Rattle.js_meaning_near.specs.Near.{module_of};
 ghost use Rattle.form_rules.specs.Form.{IsWellFormed};
 ghost use Rattle.json_shape.specs.Shape.{Fits};
 ghost use Rattle.scope_rules.specs.Table.{Scoping};
 ghost use Rattle.steps.specs.Allowed.Calls.{root_calls};
 ghost use Rattle.steps.specs.Allowed.Changing.{may_change_somewhere};
-ghost use Rattle.steps.specs.Allowed.PassedExports.{PassedExports};
+ghost use Rattle.steps.specs.Allowed.PassedExports.{AreFree, PassesIn, PassedExports};
+ghost use Rattle.steps.specs.Fit.Sensible.{IsSensibleModule};
 ghost use Rattle.steps.specs.Owed.Kept.{IsKept};
+
+/// Law: where an import and an export of a core module become an export from the other module, the new module refines the old one.
+pub fn passed_exports_keep_runs()
+    ensures { (n m : Note) (names r s z : Forest) → PassesIn names r s z → AreFree (module_of n m s) names → IsSensibleModule (module_of n m r) → Refined (module_of n m r) (module_of n m z) }
+{}
 
 /// Law: the table of scopes before is exact for the program behind, with shorter lists.
 pub fn passed_exports_keep_tables()
