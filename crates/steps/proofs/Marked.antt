@@ -6,6 +6,7 @@ pub mod Shedding
 pub mod Tables
 pub mod Cuts
 pub mod Merged
+pub mod Passed
 pub mod Exposing
 pub mod Telling
 pub mod Numbered

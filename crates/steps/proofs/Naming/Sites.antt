@@ -24,7 +24,7 @@ use Rattle.steps.proofs.Naming.Seeing.{Seen, in_scope, around, seen}
 
 -- ---- lists of sites, of which a node has three
 
-bindings_append : (xs ys : List Site) → bindings_among (xs ++ ys) ≡ bindings_among xs ++ bindings_among ys
+pub bindings_append : (xs ys : List Site) → bindings_among (xs ++ ys) ≡ bindings_among xs ++ bindings_among ys
 bindings_append [] ys = refl
 bindings_append (scope_site s ∷ xs) ys = bindings_append xs ys
 bindings_append (binding_site s ∷ xs) ys = ap (λ zs. s ∷ zs) (bindings_append xs ys)

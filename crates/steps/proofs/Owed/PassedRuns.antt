@@ -138,7 +138,7 @@ further : (ds : List Decl) {es : List Decl} {x source name : Text} → Imports e
 further [] h = h
 further (d ∷ ds) h = imports_further_on (further ds h)
 
-cells_behind : (x : Text) (ds es : List Decl) → HasCells x (ds ++ es) → HasCells x es
+pub cells_behind : (x : Text) (ds es : List Decl) → HasCells x (ds ++ es) → HasCells x es
 cells_behind x [] es h = h
 cells_behind x (decl y way ∷ ds) es h = cells_behind x ds es h.1
 
@@ -146,7 +146,7 @@ cells_behind x (decl y way ∷ ds) es h = cells_behind x ds es h.1
 import_behind : (source : Text) (k : Kind) (n : Note) (below rest : Forest) (ds : List Decl) → import_decls source (node k n below rest) ++ ds ≡ specifier_decls source k below (import_decls source below) ++ (import_decls source rest ++ ds)
 import_behind source k n below rest ds = append_assoc (specifier_decls source k below (import_decls source below)) (import_decls source rest) ds
 
-import_here : (source : Text) (k : Kind) (n m : Note) (x : Text) (rest : Forest) (ds : List Decl) → binds_import k ≡ true
+pub import_here : (source : Text) (k : Kind) (n m : Note) (x : Text) (rest : Forest) (ds : List Decl) → binds_import k ≡ true
     → import_decls source (node k n (node (Kind.BindingName x) m nothing nothing) rest) ++ ds ≡ decl x (linked source (text_of_kind k)) ∷ (import_decls source rest ++ ds)
 import_here source (Kind.ImportSpecifier imported) n m x rest ds h = refl
 import_here source Kind.ImportDefaultSpecifier n m x rest ds h = refl
@@ -222,7 +222,7 @@ listed_vars : {listed : Forest} → AreListed listed → var_names listed ≡ []
 listed_vars none_listed = refl
 listed_vars (one_listed exported n m x rest are) = listed_vars are
 
-passed_vars : {passed : Forest} → ArePassed passed → var_names passed ≡ []
+pub passed_vars : {passed : Forest} → ArePassed passed → var_names passed ≡ []
 passed_vars none_passed = refl
 passed_vars (one_passed imported exported n rest are) = passed_vars are
 
@@ -270,7 +270,7 @@ unfolding between
 between_entries (passes_here source n m i listed k below r s on out) = refl
 between_entries (passes_behind k n below r s z h) = ap (λ l. entries_of k below ++ l) (between_entries h)
 
-new_requests : {source : Text} {k : Kind} {below : Forest} → IsNew source k below → requests_of k ≡ source ∷ []
+pub new_requests : {source : Text} {k : Kind} {below : Forest} → IsNew source k below → requests_of k ≡ source ∷ []
 new_requests (new_names passed j are) = refl
 new_requests (new_namespace exported) = refl
 

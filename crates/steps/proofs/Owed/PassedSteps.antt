@@ -116,36 +116,36 @@ passed_place : (p : near.Row) {t : Forest} → ArePassed t → InPlace whole p t
 passed_place p none_passed = tt
 passed_place p (one_passed imported exported n rest are) = ((tt, tt), passed_place p are)
 
-module _ {source : Text} {k : Kind} {below : Forest} (i : Note) (rest : Forest) where
-  new_refer : (x : Text) → IsNew source k below → refers_at x k below (refers x below) ≡ false
+module _ (i : Note) (rest : Forest) where
+  new_refer : {source : Text} {k : Kind} {below : Forest} (x : Text) → IsNew source k below → refers_at x k below (refers x below) ≡ false
   new_refer x (new_names passed j are) = ap₂ (λ vs b. is_among ((vs ++ []) ++ []) x || (b || false)) (passed_vars are) (passed_refer x are)
   new_refer x (new_namespace exported) = refl
 
-  new_placed : IsNew source k below → (at : ℕ) → well_placed (λ i. module_items) (suc at) rest ≡ true → well_placed (λ i. module_items) at (node k i below rest) ≡ true
+  new_placed : {source : Text} {k : Kind} {below : Forest} → IsNew source k below → (at : ℕ) → well_placed (λ i. module_items) (suc at) rest ≡ true → well_placed (λ i. module_items) at (node k i below rest) ≡ true
   new_placed (new_names passed j are) at h = both (well_placed (λ i. others) 0 passed && true) (well_placed (λ i. module_items) (suc at) rest) (both (well_placed (λ i. others) 0 passed) true (passed_placed are 0) refl) h
   new_placed (new_namespace exported) at h = h
 
-  new_plain : IsNew source k below → has_plain_values rest ≡ true → has_plain_values (node k i below rest) ≡ true
+  new_plain : {source : Text} {k : Kind} {below : Forest} → IsNew source k below → has_plain_values rest ≡ true → has_plain_values (node k i below rest) ≡ true
   new_plain (new_names passed j are) h = both (has_plain_values passed && true) (has_plain_values rest) (both (has_plain_values passed) true (passed_plain are) refl) h
   new_plain (new_namespace exported) h = h
 
-  new_held : IsNew source k below → holds_well Kind.Statements rest ≡ true → holds_well Kind.Statements (node k i below rest) ≡ true
+  new_held : {source : Text} {k : Kind} {below : Forest} → IsNew source k below → holds_well Kind.Statements rest ≡ true → holds_well Kind.Statements (node k i below rest) ≡ true
   new_held (new_names passed j are) h = h
   new_held (new_namespace exported) h = h
 
-  new_formed : IsNew source k below → is_formed rest ≡ true → is_formed (node k i below rest) ≡ true
+  new_formed : {source : Text} {k : Kind} {below : Forest} → IsNew source k below → is_formed rest ≡ true → is_formed (node k i below rest) ≡ true
   new_formed (new_names passed j are) h =
       both (calm passed && true) ((holds_well Kind.Specifiers passed && true) && (is_formed passed && true) && is_formed rest) (both (calm passed) true (passed_calm are) refl)
       (both ((holds_well Kind.Specifiers passed && true) && (is_formed passed && true)) (is_formed rest)
       (both (holds_well Kind.Specifiers passed && true) (is_formed passed && true) (both (holds_well Kind.Specifiers passed) true (passed_held are) refl) (both (is_formed passed) true (passed_formed are) refl)) h)
   new_formed (new_namespace exported) h = h
 
-  new_core : IsNew source k below → all_core rest ≡ true → all_core (node k i below rest) ≡ true
+  new_core : {source : Text} {k : Kind} {below : Forest} → IsNew source k below → all_core rest ≡ true → all_core (node k i below rest) ≡ true
   new_core (new_names passed j are) h = both (all_core passed && true) (all_core rest) (both (all_core passed) true (passed_core are) refl) h
   new_core (new_namespace exported) h = h
 
-  new_place : IsNew source k below → InPlace whole near.items rest → InPlace whole near.items (node k i below rest)
-  new_place (new_names passed j are) h = ((tt, (tt, passed_place _ are), tt), h)
+  new_place : {source : Text} {k : Kind} {below : Forest} → IsNew source k below → InPlace whole near.items rest → InPlace whole near.items (node k i below rest)
+  new_place (new_names passed j are) h = ((tt, ((tt, passed_place _ are), tt)), h)
   new_place (new_namespace exported) h = ((tt, tt), h)
 
 -- a list is well placed wherever it begins
@@ -167,10 +167,10 @@ module _ {source : Text} {k : Kind} {below : Forest} (new : IsNew source k below
 
   row_refers : (x : Text) (names : Forest) {now : Forest} → AreNames now → (a : Around) → is_flat a ≡ true → refers x (with_names a names) ≡ false → refers x (row a now) ≡ false
   row_refers x names {now = now} are (first rest) flat h =
-      neither (refers_at x k below (refers x below)) (((refers x now || false) || false) || refers x rest) (new_refer i rest x new)
-      (neither ((refers x now || false) || false) (refers x rest) (ap (λ b. (b || false) || false) (names_refer x are)) (second_of_neither ((refers x names || false) || false) (refers x rest) h))
-  row_refers x names are (behind j q b a) flat h =
-      neither (refers_at x j b (refers x b)) (refers x (row a _)) (first_of_neither (refers_at x j b (refers x b)) (refers x (with_names a names)) h)
+      neither (refers_at x k below (refers x below)) ((refers x now || false) || refers x rest) (new_refer i rest x new)
+      (neither (refers x now || false) (refers x rest) (ap (λ b. b || false) (names_refer x are)) (second_of_neither (refers x names || false) (refers x rest) h))
+  row_refers x names {now = now} are (behind j q b a) flat h =
+      neither (refers_at x j b (refers x b)) (refers x (row a now)) (first_of_neither (refers_at x j b (refers x b)) (refers x (with_names a names)) h)
       (row_refers x names are a flat (second_of_neither (refers_at x j b (refers x b)) (refers x (with_names a names)) h))
   row_refers x names are (behind_none a) flat h = row_refers x names are a flat h
   row_refers x names are (under j q a rest) flat h = absurd (true≢false (sym flat))
@@ -180,12 +180,12 @@ module _ {source : Text} {k : Kind} {below : Forest} (new : IsNew source k below
       both (well_placed (λ e. imports) 0 now && true) (well_placed (λ e. module_items) (suc at) rest) (both (well_placed (λ e. imports) 0 now) true (names_placed are 0) refl) h
 
   row_placed : (names : Forest) {now : Forest} → AreNames now → (a : Around) → is_flat a ≡ true → (at later : ℕ) → well_placed (λ e. module_items) at (with_names a names) ≡ true → well_placed (λ e. module_items) later (row a now) ≡ true
-  row_placed names are (first rest) flat at later h =
-      new_placed i (with_names (first rest) _) new later
+  row_placed names {now = now} are (first rest) flat at later h =
+      new_placed i (with_names (first rest) now) new later
       (import_placed are rest (suc later) (placed_anywhere module_items (suc at) (suc (suc later)) rest (placed_behind (λ e. module_items) at (Kind.ImportDeclaration source) n (node Kind.Specifiers m names nothing) rest h)))
-  row_placed names are (behind j q b a) flat at later h =
-      both (fits module_items (sort_of j)) (well_placed (place_below module_items j) 0 b && well_placed (λ e. module_items) (suc later) (row a _)) (placed_here (λ e. module_items) at j q b (with_names a names) h)
-      (both (well_placed (place_below module_items j) 0 b) (well_placed (λ e. module_items) (suc later) (row a _)) (placed_below (λ e. module_items) at j q b (with_names a names) h)
+  row_placed names {now = now} are (behind j q b a) flat at later h =
+      both (fits module_items (sort_of j)) (well_placed (place_below module_items j) 0 b && well_placed (λ e. module_items) (suc later) (row a now)) (placed_here (λ e. module_items) at j q b (with_names a names) h)
+      (both (well_placed (place_below module_items j) 0 b) (well_placed (λ e. module_items) (suc later) (row a now)) (placed_below (λ e. module_items) at j q b (with_names a names) h)
       (row_placed names are a flat (suc at) (suc later) (placed_behind (λ e. module_items) at j q b (with_names a names) h)))
   row_placed names are (behind_none a) flat at later h = row_placed names are a flat (suc at) (suc later) h
   row_placed names are (under j q a rest) flat at later h = absurd (true≢false (sym flat))
@@ -194,9 +194,9 @@ module _ {source : Text} {k : Kind} {below : Forest} (new : IsNew source k below
   row_plain names {now = now} are (first rest) flat h =
       new_plain i (with_names (first rest) now) new
       (both (has_plain_values now && true) (has_plain_values rest) (both (has_plain_values now) true (names_plain are) refl) (plain_behind (Kind.ImportDeclaration source) n (node Kind.Specifiers m names nothing) rest h))
-  row_plain names are (behind j q b a) flat h =
-      both (has_plain_value j b) (has_plain_values b && has_plain_values (row a _)) (plain_here j q b (with_names a names) h)
-      (both (has_plain_values b) (has_plain_values (row a _)) (plain_below j q b (with_names a names) h) (row_plain names are a flat (plain_behind j q b (with_names a names) h)))
+  row_plain names {now = now} are (behind j q b a) flat h =
+      both (has_plain_value j b) (has_plain_values b && has_plain_values (row a now)) (plain_here j q b (with_names a names) h)
+      (both (has_plain_values b) (has_plain_values (row a now)) (plain_below j q b (with_names a names) h) (row_plain names are a flat (plain_behind j q b (with_names a names) h)))
   row_plain names are (behind_none a) flat h = row_plain names are a flat h
   row_plain names are (under j q a rest) flat h = absurd (true≢false (sym flat))
 
@@ -327,12 +327,12 @@ module _ {source : Text} {k : Kind} {below : Forest} (new : IsNew source k below
       let w = top l (at_names list) in
       let free = row_refers new i n m x full (a_name j q p x rest binds are) a flat (unused x (text_of_kind j) (named_here j q p x rest binds)) in
       let no_use = ap (λ b. (b || false) || false) free in
-      let gone = unbinds_below (unbinds_here {x = x} {k = j} {n = q} {m = p} {r = rest} binds) in
+      let gone : Unbinds x (node Kind.Specifiers m list nothing) (node Kind.Specifiers m rest nothing) = unbinds_below (unbinds_here binds) in
       let step = name_steps new i n m w x refl no_use gone there still_flat in
       let said = name_drops new i n m w x refl no_use gone there still_flat in
       let row_now = at_names rest in
       let none = none_left x source (text_of_kind j) front later was in
-      let at = (
+      let at : OnceAt x (module_decls row_now) row_now = (
         subst (HasCells x) (sym after) (cells_nowhere x (front ++ later) none),
         λ e. row_binds x (λ e. module_items) 0 row_now (row_placed new i n m full are a flat 0 0 placed) (row_plain new i n m full are a flat plain) (items_free x row_now e),
       )
@@ -445,7 +445,7 @@ names_unused n m source names i j a flat are free placed x text h =
     let it = is_declared_there (names_declared t d refl are 0 (o.next + 0 + 0) (within_below t (inside c o.next k names_list) 0 (o.next + 0) Kind.Specifiers j names nothing below) h) in
     let no_reference = free_named are free h in
     let unused = import_unused t w (λ e. c) o.at o.next source x i names_list o.rest placed o.stands it (record { nothing_refers = no_reference.unreferred; is_not_exported = no_reference.unexported; is_seen = refl }) in
-    first_of_neither (refers x row) false (first_of_neither (refers x row || false) false (first_of_neither ((refers x row || false) || false) false unused))
+    first_of_neither (refers x row) false (first_of_neither (refers x row || false) false unused)
 
 -- ---- the module
 

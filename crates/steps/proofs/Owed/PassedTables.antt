@@ -94,7 +94,7 @@ module _ (w : Weight) where
   passed_tally none_passed = refl
   passed_tally (one_passed imported exported n rest are) = Prim.omega (arith, passed_tally are)
 
-  new_tally : {source : List ℕ} {k : Kind} {below : Forest} → IsNew source k below → (n : Note) (rest : Forest) → tally w (node k n below rest) ≡ tally w rest
+  pub new_tally : {source : List ℕ} {k : Kind} {below : Forest} → IsNew source k below → (n : Note) (rest : Forest) → tally w (node k n below rest) ≡ tally w rest
   new_tally (new_names passed j are) n rest = Prim.omega (arith, passed_tally are)
   new_tally (new_namespace exported) n rest = Prim.omega arith
 
@@ -137,11 +137,11 @@ passed_hoists : {passed : Forest} → ArePassed passed → (aims : ℕ → Aims)
 passed_hoists none_passed aims at = refl
 passed_hoists (one_passed imported exported n rest are) aims at = passed_hoists are aims (suc at)
 
-new_refers : {source : List ℕ} {k : Kind} {below : Forest} → IsNew source k below → (n : Note) (rest : Forest) → referring (node k n below rest) ≡ referring rest
+pub new_refers : {source : List ℕ} {k : Kind} {below : Forest} → IsNew source k below → (n : Note) (rest : Forest) → referring (node k n below rest) ≡ referring rest
 new_refers (new_names passed j are) n rest = ap (λ l. (l ++ []) ++ referring rest) (passed_refers are)
 new_refers (new_namespace exported) n rest = refl
 
-new_declares : {source : List ℕ} {k : Kind} {below : Forest} → IsNew source k below → (n : Note) (rest : Forest) → declaring (node k n below rest) ≡ declaring rest
+pub new_declares : {source : List ℕ} {k : Kind} {below : Forest} → IsNew source k below → (n : Note) (rest : Forest) → declaring (node k n below rest) ≡ declaring rest
 new_declares (new_names passed j are) n rest = ap (λ l. (l ++ []) ++ declaring rest) (passed_declares are)
 new_declares (new_namespace exported) n rest = refl
 
