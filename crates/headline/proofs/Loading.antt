@@ -15,12 +15,13 @@ use Rattle.steps.specs.Allowed.DeadIf.{nothing_is_run}
 use Rattle.steps.specs.Allowed.EmptyIf.{test_stays}
 use Rattle.steps.specs.Allowed.EmptyAlternate.{alternate_goes}
 use Rattle.steps.specs.Allowed.IdleBody.{idle_body_empties}
-use Rattle.steps.specs.Allowed.Edits.{Leaves, empty_statement, empty_block, unused_function, unused_declarator, unused_declaration, unused_import, unreached, untaken, idle_statement, repeated_import, Becomes, silent_statement, known_conditional, known_side, known_if, idle_try, idle_body, empty_if, empty_alternate, dead_if, unused_operation, unused_list, indirect_choice, one_sided_choice, idle_parts, two_sides, unused_object, known_operation, unrun_value, Edit, leaves, becomes, Edits, no_edit, one_edit, merges}
+use Rattle.steps.specs.Allowed.Edits.{Leaves, empty_statement, empty_block, unused_function, unused_declarator, unused_declaration, unused_import, unreached, untaken, idle_statement, repeated_import, Becomes, silent_statement, known_conditional, known_side, known_if, idle_try, idle_body, empty_if, empty_alternate, dead_if, unused_operation, unused_list, indirect_choice, one_sided_choice, idle_parts, two_sides, unused_object, known_operation, unrun_value, Edit, leaves, becomes, Edits, no_edit, one_edit, merges, passes}
 use Rattle.steps.specs.Allowed.EmptyBlock.{holds_nothing, empty_block_leaves}
 use Rattle.steps.specs.Allowed.EmptyStatement.{empty_statement_leaves}
 use Rattle.steps.specs.Allowed.IdleStatement.{idle_leaves}
 use Rattle.steps.specs.Allowed.Imports.{in_names, elsewhere, import_row_below}
 use Rattle.steps.specs.Allowed.MergedImports.{MergedImports, imports_merge}
+use Rattle.steps.specs.Allowed.PassedExports.{PassedExports, exports_pass}
 use Rattle.steps.specs.Allowed.RepeatedImport.{is_asked_before, import_of, RepeatedImport, repeated_import_leaves}
 use Rattle.steps.specs.Allowed.SilentStatement.{silent_statement_empties}
 use Rattle.steps.specs.Allowed.Unreached.{only_runs, never_runs}
@@ -45,6 +46,7 @@ use Rattle.steps.proofs.Owed.KnownOperation.{known_operation_owes}
 use Rattle.steps.proofs.Owed.KnownSide.{known_side_owes}
 use Rattle.steps.proofs.Owed.OneSidedChoice.{one_sided_choice_owes}
 use Rattle.steps.proofs.Owed.MergedRuns.{same_requests}
+use Rattle.steps.proofs.Owed.PassedRuns.{passed_requests}
 use Rattle.steps.proofs.Owed.Owed.{leaving}
 use Rattle.steps.proofs.Owed.RepeatedRuns.{is_flat, loads_same}
 use Rattle.steps.proofs.Owed.TwoSides.{two_sides_owes}
@@ -294,10 +296,14 @@ left_loads a x row (inr (repeated_import_leaves source n m item asked)) = sym (r
 merged_loads : (t u : Forest) → MergedImports t u → loaded u ≡ loaded t
 merged_loads _ _ (imports_merge n m r s h none) = sym (same_requests h)
 
+passed_loads : (t u : Forest) → PassedExports t u → loaded u ≡ loaded t
+passed_loads _ _ (exports_pass n m names r s z h free none) = ap distinct (sym (passed_requests h))
+
 edit_loads : (t u : Forest) → Edit t u → Fits root t → loaded u ≡ loaded t
 edit_loads t u (leaves a x c) fits = left_loads a x (taken a x (leaving a x c)) (leaves_asks a x c)
 edit_loads t u (becomes a x y c) fits = let asks = becomes_asks a x y c fits in ap distinct (sym (replaced_own x y asks.0 asks.1 a))
 edit_loads t u (merges v w c) fits = merged_loads v w c
+edit_loads t u (passes v w c) fits = passed_loads v w c
 
 bare_requests : (t : Forest) → requests (bare t) ≡ requests t
 bare_requests nothing = refl

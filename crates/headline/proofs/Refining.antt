@@ -12,8 +12,9 @@ use Rattle.js_meaning_near.specs.Local.{Local}
 use Rattle.js_meaning_near.specs.Avoid.{InPlace}
 use Rattle.js_meaning_near.specs.Fit.{whole}
 use Rattle.js_meaning_near.proofs.Near.{refines_with_other_notes}
-use Rattle.steps.specs.Allowed.Edits.{Edit, leaves, becomes, merges, Edits, no_edit, one_edit}
+use Rattle.steps.specs.Allowed.Edits.{Edit, leaves, becomes, merges, passes, Edits, no_edit, one_edit}
 use Rattle.steps.specs.Allowed.MergedImports.{MergedImports, imports_merge}
+use Rattle.steps.specs.Allowed.PassedExports.{PassedExports, exports_pass}
 use Rattle.steps.specs.Steps.{Step, outermost, all_core}
 use Rattle.steps.specs.Naming.Placed.{is_well_placed}
 use Rattle.json_shape.specs.Shape.{Fits}
@@ -30,6 +31,7 @@ use Rattle.steps.proofs.Owed.Here.{good_module}
 use Rattle.steps.proofs.Owed.LeftRuns.{core_left, still_module, left_refines}
 use Rattle.steps.proofs.Fit.Held.{core_below}
 use Rattle.steps.proofs.Owed.MergedRuns.{row_core, module_merged}
+use Rattle.steps.proofs.Owed.PassedSteps.{module_core, passed_refines}
 use Rattle.steps.proofs.Owed.Owed.{leaving, becoming}
 use Rattle.steps.proofs.Owed.PartRuns.{core_stays, parts_stay_modules, module_refines, comes_refines}
 use Rattle.headline.proofs.Sound.{Refines, step_refines, refines_joined}
@@ -107,10 +109,21 @@ merges_refine _ _ (imports_merge n m r s merged none) h g =
       refined = module_merged n m r s merged h;
     }
 
+-- an import and an export that become one
+passes_refine : (t u : Forest) → PassedExports t u → IsSensibleModule t → IsSensible u → Refines t u
+passes_refine _ _ (exports_pass n m names r s z passes free none) h g =
+    let list = node Kind.Statements m r nothing in
+    let items = core_below Kind.Statements m r nothing (core_below (Kind.Program source_type.Module) n list nothing h.core) in
+    record {
+      left = of_module (module_of n m z) (record { note = n; list_note = m; items = z; is = refl }) (both (all_core z && true) true (both (all_core z) true (module_core passes items) refl) refl) g;
+      refined = passed_refines n m names r s z passes free h;
+    }
+
 edit_refines : (t u : Forest) → Edit t u → IsSensibleModule t → Refines t u
 edit_refines t u (leaves a x c) h = leaves_refines a x (leaving a x c).runs h (edit_sensible t u (leaves a x c) h.sensible)
 edit_refines t u (becomes a x y c) h = becomes_refines a x y (becoming a x y c).runs h (edit_sensible t u (becomes a x y c) h.sensible)
 edit_refines t u (merges v w c) h = merges_refine v w c h (edit_sensible t u (merges v w c) h.sensible)
+edit_refines t u (passes v w c) h = passes_refine v w c h (edit_sensible t u (passes v w c) h.sensible)
 
 -- ---- one after the other
 

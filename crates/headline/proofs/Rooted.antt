@@ -30,7 +30,7 @@ use Rattle.steps.specs.Allowed.DeadIf.{nothing_is_run}
 use Rattle.steps.specs.Allowed.EmptyIf.{test_stays}
 use Rattle.steps.specs.Allowed.EmptyAlternate.{alternate_goes}
 use Rattle.steps.specs.Allowed.IdleBody.{idle_body_empties}
-use Rattle.steps.specs.Allowed.Edits.{Leaves, empty_statement, empty_block, unused_function, unused_declarator, unused_declaration, unused_import, unreached, untaken, idle_statement, repeated_import, Becomes, silent_statement, known_conditional, known_side, known_if, idle_try, idle_body, empty_if, empty_alternate, dead_if, unused_operation, unused_list, indirect_choice, one_sided_choice, idle_parts, two_sides, unused_object, known_operation, unrun_value, Edit, leaves, becomes, Edits, no_edit, one_edit, merges}
+use Rattle.steps.specs.Allowed.Edits.{Leaves, empty_statement, empty_block, unused_function, unused_declarator, unused_declaration, unused_import, unreached, untaken, idle_statement, repeated_import, Becomes, silent_statement, known_conditional, known_side, known_if, idle_try, idle_body, empty_if, empty_alternate, dead_if, unused_operation, unused_list, indirect_choice, one_sided_choice, idle_parts, two_sides, unused_object, known_operation, unrun_value, Edit, leaves, becomes, Edits, no_edit, one_edit, merges, passes}
 use Rattle.steps.specs.Allowed.EmptyBlock.{empty_block_leaves}
 use Rattle.steps.specs.Allowed.EmptyStatement.{empty_statement_leaves}
 use Rattle.steps.specs.Allowed.Exposure.{Exposure, shares, exposed_inside, exposed_of, exposed_at, exposure, is_script, evaluates_somewhere, function_is_exposed}
@@ -68,8 +68,10 @@ use Rattle.steps.proofs.Owed.UnusedList.{unused_list_owes}
 use Rattle.steps.proofs.Owed.UnusedObject.{unused_object_owes}
 use Rattle.steps.proofs.Owed.UnusedOperation.{unused_operation_owes}
 use Rattle.steps.specs.Allowed.MergedImports.{MergedImports, imports_merge}
+use Rattle.steps.specs.Allowed.PassedExports.{PassedExports, exports_pass}
 use Rattle.steps.proofs.Marked.Cuts.{edit_cuts}
 use Rattle.steps.proofs.Marked.Merged.{same_evaluates}
+use Rattle.steps.proofs.Marked.Passed as passed
 use Rattle.steps.proofs.Marked.Exposing.{below_stays}
 use Rattle.headline.specs.Lasting.{names_in, declared_at_root, root_names, HasSharedNames}
 use Rattle.headline.proofs.Loading.{asks_nothing, leaves_asks, becomes_asks}
@@ -541,10 +543,16 @@ merged_names : (t u : Forest) → MergedImports t u → (is_script t ≡ true) �
 merged_names _ _ (imports_merge n m r s h no_calls) (inl script) = absurd (true≢false (sym script))
 merged_names _ _ (imports_merge n m r s h no_calls) (inr calls) = absurd (true≢false (sym calls ∙ no_calls))
 
+-- nor those of one of which an import and an export do
+passed_names : (t u : Forest) → PassedExports t u → (is_script t ≡ true) ⊎ (evaluates_somewhere t ≡ true) → root_names u ≡ root_names t
+passed_names _ _ (exports_pass n m names r s z h free no_calls) (inl script) = absurd (true≢false (sym script))
+passed_names _ _ (exports_pass n m names r s z h free no_calls) (inr calls) = absurd (true≢false (sym calls ∙ no_calls))
+
 edit_names : (t u : Forest) → Edit t u → Fits root t → (is_script t ≡ true) ⊎ (evaluates_somewhere t ≡ true) → root_names u ≡ root_names t
 edit_names t u (leaves a x c) fits h = left_there a x (in_its_program a x (leaves_inner a x (leaves_asks a x c)) fits) c h
 edit_names t u (becomes a x y c) fits h = replaced_there a x y (in_its_program a x (asking_inner x.kind (becomes_asks a x y c fits).0) fits) (becomes_named a x y c fits)
 edit_names t u (merges v w c) fits h = merged_names v w c h
+edit_names t u (passes v w c) fits h = passed_names v w c h
 
 -- a script stays one, and no edit brings in a call of `eval`
 
@@ -558,11 +566,13 @@ edit_script : (t u : Forest) → Edit t u → Fits root t → is_script t ≡ is
 edit_script t u (leaves a x c) fits = script_left a (in_its_program a x (leaves_inner a x (leaves_asks a x c)) fits) (Some x)
 edit_script t u (becomes a x y c) fits = script_replaced a (in_its_program a x (asking_inner x.kind (becomes_asks a x y c fits).0) fits) (Some x) (Some y)
 edit_script _ _ (merges _ _ (imports_merge n m r s h no_calls)) fits = refl
+edit_script _ _ (passes _ _ (exports_pass n m names r s z h free no_calls)) fits = refl
 
 edit_evaluates : (t u : Forest) → Edit t u → Fits root t → evaluates_somewhere u ≡ true → evaluates_somewhere t ≡ true
 edit_evaluates t u e fits h = elim (edit_cuts t u e fits) [
   | inl c ↦ below_stays false t u c refl (fits_program t fits) h
-  | inr m ↦ sym (same_evaluates t u m) ∙ h
+  | inr (inl m) ↦ sym (same_evaluates t u m) ∙ h
+  | inr (inr p) ↦ sym (passed.same_evaluates t u p) ∙ h
 ]
 
 -- ---- edits

@@ -6,6 +6,7 @@ pub mod Trims
 pub mod Walking
 pub mod Marks
 pub mod Merged
+pub mod Passed
 pub mod Edited
 pub mod Nested
 pub mod Alone

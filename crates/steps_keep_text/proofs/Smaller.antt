@@ -11,7 +11,9 @@ use Rattle.steps.specs.KeepForm.Part.{may_be_idle}
 use Rattle.steps.proofs.KeepForm.Asked.{idle_kinds, tested_kinds}
 use Rattle.steps.specs.Steps.{binds_import}
 use Rattle.steps.specs.Allowed.MergedImports.{is_default, how_many, as_named, all_named, first_default, but_first_default, names_merged, WithoutImport, import_leaves, leaves_behind, MergesIn, merges_here, merges_behind, MergedImports, imports_merge}
+use Rattle.steps.specs.Allowed.PassedExports.{Passes, passes_none, passes_one, PassedOn, names_passed_on, namespace_passed_on, WithoutExport, export_leaves, leaves_behind as export_behind, PassesIn, passes_here, passes_behind, PassedExports, exports_pass}
 use Rattle.steps.proofs.Owed.MergedLess.{merged_total}
+use Rattle.steps.proofs.Owed.PassedLess.{IsPassing, passed_total}
 use Rattle.steps.proofs.Owed.MergedRows.{AreNames, no_names, a_name, may, merged_are}
 use Rattle.steps.proofs.Marked.Cuts as cuts
 use Rattle.steps.proofs.Marked.Cuts.{Cuts}
@@ -37,8 +39,8 @@ module _ (counts : Kind → ℕ) (spares : IsSparing counts) where
   named_counts Kind.ImportDefaultSpecifier h = spares.default_named
   named_counts k h = Prim.omega arith
 
-  pub counts_shed : IsShed (total counts)
-  counts_shed = record { renoted = unseen (total counts) (total_bare counts); cut = cut_lighter false; merged = merged_total counts named_counts }
+  pub counts_shed : IsPassing counts → IsShed (total counts)
+  counts_shed passing = record { renoted = unseen (total counts) (total_bare counts); cut = cut_lighter false; merged = merged_total counts named_counts; passed = passed_total counts passing }
 
 -- ---- levels: in a list none stands lower than the others by its place
 
@@ -162,8 +164,26 @@ row_levels (merges_behind k n below r s h) at = Prim.omega (arith, row_levels h 
 merged_levels : (t u : Forest) → MergedImports t u → levels u ≤ levels t
 merged_levels _ _ (imports_merge n m r s h none) = Prim.omega (arith, row_levels h 0)
 
+-- ---- an import and an export that become one
+
+passed_levels : {names listed passed : Forest} (at later : ℕ) → Passes names listed passed → flat at passed ≤ flat later listed
+passed_levels at later passes_none = Prim.omega arith
+passed_levels at later (passes_one exported imported n m i x rest passed binds more) = Prim.omega (arith, passed_levels (suc at) (suc later) more)
+
+listed_levels : {listed r s : Forest} (at : ℕ) → WithoutExport listed r s → max (1 + flat 0 listed) (flat at s) ≤ flat at r
+listed_levels at (export_leaves n m rest) = Prim.omega (arith, flat_anywhere at (suc at) rest)
+listed_levels at (export_behind k n below r s out) = Prim.omega (arith, listed_levels (suc at) out)
+
+passing_levels : {names : Forest} (at : ℕ) {r s z : Forest} → PassesIn names r s z → flat at z ≤ flat at r
+passing_levels at (passes_here source n m i _ _ _ r s (names_passed_on names listed passed j may passes) out) = Prim.omega (arith, passed_levels 0 0 passes, listed_levels (suc at) out)
+passing_levels at (passes_here source n m i _ _ _ r s (namespace_passed_on exported j l o q x) out) = Prim.omega (arith, listed_levels (suc at) out)
+passing_levels at (passes_behind k n below r s z h) = Prim.omega (arith, passing_levels (suc at) h)
+
+exports_levels : (t u : Forest) → PassedExports t u → levels u ≤ levels t
+exports_levels _ _ (exports_pass n m names r s z h free none) = Prim.omega (arith, passing_levels 0 h)
+
 pub levels_shed : IsShed levels
-levels_shed = record { renoted = unseen levels (bare_levels (λ at. 0) 0); cut = λ t u c. cut_levels (λ at. 0) 0 false t u c (λ h. absurd (true≢false (sym h))); merged = merged_levels }
+levels_shed = record { renoted = unseen levels (bare_levels (λ at. 0) 0); cut = λ t u c. cut_levels (λ at. 0) 0 false t u c (λ h. absurd (true≢false (sym h))); merged = merged_levels; passed = exports_levels }
 
 pub nodes_shed : IsShed node_count
 nodes_shed = counts_shed one_each (record {
@@ -188,3 +208,4 @@ nodes_shed = counts_shed one_each (record {
   default_named = Prim.omega arith;
   of_element = λ text tail. Prim.omega arith;
 })
+(record { named = λ source. Prim.omega arith; each = λ imported exported exact. Prim.omega arith; whole = λ source exported. Prim.omega arith })

@@ -7,6 +7,7 @@ use Rattle.json_shape.specs.Shape.{Fits}
 use Rattle.js_effects.specs.Silence.{is_marked}
 use Rattle.scope_counts.specs.Losing.{left, MarksWhatLeft}
 use Rattle.steps.specs.Allowed.MergedImports.{MergedImports, imports_merge}
+use Rattle.steps.specs.Allowed.PassedExports.{PassedExports, exports_pass}
 use Rattle.steps.specs.Allowed.Edits.{Edit, TreeEdits, no_tree_edit, one_tree_edit}
 use Rattle.steps.specs.Allowed.Exposure.{is_script}
 use Rattle.steps.proofs.Fit.Modules.{fits_program}
@@ -51,10 +52,14 @@ root_cut listed t u (behind_none r rest now h) l e = never e
 root_merged : (t u : Forest) → MergedImports t u → SameRoot t u
 root_merged _ _ (imports_merge n m r s h none) = record { script = refl; mark = refl }
 
+root_passed : (t u : Forest) → PassedExports t u → SameRoot t u
+root_passed _ _ (exports_pass n m names r s z h free none) = record { script = refl; mark = refl }
+
 root_edited : (t u : Forest) → Edit t u → Fits root t → SameRoot t u
 root_edited t u e fits = elim (edit_cuts t u e fits) [
   | inl c ↦ root_cut false t u c refl (fits_program t fits)
-  | inr m ↦ root_merged t u m
+  | inr (inl m) ↦ root_merged t u m
+  | inr (inr p) ↦ root_passed t u p
 ]
 
 root_stays : (t u : Forest) → TreeEdits t u → Fits root t → SameRoot t u

@@ -40,7 +40,7 @@ use Rattle.steps.specs.Allowed.EmptyIf.{are_empty, test_stays}
 use Rattle.steps.specs.Allowed.EmptyAlternate.{alternate_goes}
 use Rattle.steps.specs.Allowed.KnownIf.{an_if}
 use Rattle.steps.specs.Allowed.IdleBody.{idle_body_empties}
-use Rattle.steps.specs.Allowed.Edits.{Leaves, empty_statement, empty_block, unused_function, unused_declarator, unused_declaration, unused_import, unreached, untaken, idle_statement, repeated_import, Becomes, silent_statement, known_conditional, known_side, known_if, dead_if, unused_operation, unused_list, indirect_choice, one_sided_choice, idle_parts, two_sides, unused_object, known_operation, unrun_value, idle_try, idle_body, empty_if, empty_alternate, Edit, leaves, becomes, TreeEdits, no_tree_edit, one_tree_edit, merges}
+use Rattle.steps.specs.Allowed.Edits.{Leaves, empty_statement, empty_block, unused_function, unused_declarator, unused_declaration, unused_import, unreached, untaken, idle_statement, repeated_import, Becomes, silent_statement, known_conditional, known_side, known_if, dead_if, unused_operation, unused_list, indirect_choice, one_sided_choice, idle_parts, two_sides, unused_object, known_operation, unrun_value, idle_try, idle_body, empty_if, empty_alternate, Edit, leaves, becomes, TreeEdits, no_tree_edit, one_tree_edit, merges, passes}
 use Rattle.steps.specs.Owed.Kept.{is_program}
 use Rattle.steps.specs.Owed.Owed.{ByPart, ByParts}
 use Rattle.steps.specs.Owed.Part.{DeclaresNothing}
@@ -49,6 +49,7 @@ use Rattle.steps.proofs.Owed.Expressions.{expression_declares_none, expression_d
 use Rattle.steps.proofs.Owed.EmptyBlock.{holding_declares_none}
 use Rattle.steps.proofs.Owed.IdleStatement.{idle_runs}
 use Rattle.steps.proofs.Marked.Merged.{same_exports}
+use Rattle.steps.proofs.Marked.Passed as passed
 use Rattle.steps.proofs.Owed.FitsEdits.{edit_fits}
 use Rattle.steps.proofs.Owed.ImportFacts.{import_facts}
 use Rattle.steps.proofs.Owed.Inside.{enclosed_below, enclosed_rest}
@@ -245,6 +246,7 @@ module _ (e : BindingSite) (top : e.layer.scope ≡ 0) where
   edited _ _ (leaves a x c) fits h = subst ExportedBy (made_without a) (left a x c (λ f. tables.in_list a (leaving a x c).listed) fits h)
   edited _ _ (becomes a x y c) fits h = changed a x y c fits h
   edited _ _ (merges t u c) fits h = record { declaration = e; stands = subst (Among e) (sym (same_exports t u c)) h; is_outermost = top; same_mark = refl; same_name = refl }
+  edited _ _ (passes t u c) fits h = record { declaration = e; stands = subst (Among e) (sym (passed.same_exports t u c)) h; is_outermost = top; same_mark = refl; same_name = refl }
 
 -- ---- edits one after the other
 

@@ -16,6 +16,7 @@ use Rattle.steps.specs.Owed.Kept.{is_program}
 use Rattle.steps.proofs.Owed.FitsEdits.{edit_fits}
 use Rattle.steps.specs.Marked.Flags.{is_within, Stand, stand_inside, first_mark, stands_of}
 use Rattle.steps.specs.Allowed.MergedImports.{MergedImports, imports_merge}
+use Rattle.steps.specs.Allowed.PassedExports.{PassedExports, exports_pass}
 use Rattle.steps.proofs.Marked.Cuts.{Cuts, edit_cuts}
 use Rattle.steps.proofs.Marked.Exposing.{Only, never, kept, part_no_program}
 use Rattle.steps.proofs.Marked.Telling.{no_program, operation_inside}
@@ -27,6 +28,7 @@ use Rattle.rules.proofs.Told.Standing.{strict_code, is_block, shares_code, expos
 use Rattle.steps.proofs.KeepForm.Asked.{idle_kinds, tested_kinds}
 use Rattle.rules.proofs.Told.Trims.{Alike, Trims, leaves, empties, empties_idle, tests, alternate, parts, rebuilds, inside, behind, behind_none, fewer, trims}
 use Rattle.rules.proofs.Told.Merged.{merged_throughout, merged_evaluates}
+use Rattle.rules.proofs.Told.Passed.{passed_throughout, passed_evaluates}
 use Rattle.rules.proofs.Told.Walking.{trimmed_stays}
 
 -- ---- the parts, and both
@@ -193,12 +195,16 @@ module _ (all : Bool) (t u : Forest) (c : Cuts false t u) (fits : Fits root t) (
 same_script : (t u : Forest) → MergedImports t u → is_script u ≡ is_script t
 same_script _ _ (imports_merge n m r s h none) = refl
 
+passed_script : (t u : Forest) → PassedExports t u → is_script u ≡ is_script t
+passed_script _ _ (exports_pass n m names r s z h free none) = refl
+
 edit_names : (s : Scoping) (t u : Forest) → Edit t u → Fits root t → NamesToldOnly s t → NamesToldOnly s u
 edit_names s t u e fits h = elim (edit_cuts t u e fits) [
   | inl c ↦
       let none : false ≡ true → evals u ≡ evals t = λ g. never g in
       subst (λ b. Throughout (TellsNamesOnly s b) (stands_of u) 0 u) (sym (edit_root false t u c fits none).script) (throughout_stays false t u c fits none (TellsNamesOnly s (is_script t)) (names_stay s (is_script t) false) h)
-  | inr m ↦ subst (λ b. Throughout (TellsNamesOnly s b) (stands_of u) 0 u) (sym (same_script t u m)) (merged_throughout (TellsNamesOnly s (is_script t)) t u m h)
+  | inr (inl m) ↦ subst (λ b. Throughout (TellsNamesOnly s b) (stands_of u) 0 u) (sym (same_script t u m)) (merged_throughout (TellsNamesOnly s (is_script t)) t u m h)
+  | inr (inr p) ↦ subst (λ b. Throughout (TellsNamesOnly s b) (stands_of u) 0 u) (sym (passed_script t u p)) (passed_throughout (TellsNamesOnly s (is_script t)) t u p h)
 ]
 
 pub edits_names : (s : Scoping) (t u : Forest) → TreeEdits t u → Fits root t → NamesToldOnly s t → NamesToldOnly s u
@@ -208,7 +214,8 @@ edits_names s t u (one_tree_edit v w x e more) fits h = edits_names s w x more (
 pub edit_fewer : (t u : Forest) → Edit t u → Fits root t → evals u ≤ evals t
 edit_fewer t u e fits = elim (edit_cuts t u e fits) [
   | inl c ↦ fewer false t u c
-  | inr m ↦ Prim.omega (arith, merged_evaluates t u m)
+  | inr (inl m) ↦ Prim.omega (arith, merged_evaluates t u m)
+  | inr (inr p) ↦ Prim.omega (arith, passed_evaluates t u p)
 ]
 
 edits_fewer : (t u : Forest) → TreeEdits t u → Fits root t → evals u ≤ evals t
@@ -218,7 +225,8 @@ edits_fewer t u (one_tree_edit v w x e more) fits = Prim.omega (arith, edits_few
 edit_calls : (s : Scoping) (t u : Forest) → Edit t u → Fits root t → evals u ≡ evals t → CallsToldOnly s t → CallsToldOnly s u
 edit_calls s t u e fits same h = elim (edit_cuts t u e fits) [
   | inl c ↦ throughout_stays true t u c fits (λ g. same) (TellsCallsOnly s) (calls_stay s) h
-  | inr m ↦ merged_throughout (TellsCallsOnly s) t u m h
+  | inr (inl m) ↦ merged_throughout (TellsCallsOnly s) t u m h
+  | inr (inr p) ↦ passed_throughout (TellsCallsOnly s) t u p h
 ]
 
 edits_calls : (s : Scoping) (t u : Forest) → TreeEdits t u → Fits root t → evals u ≡ evals t → CallsToldOnly s t → CallsToldOnly s u

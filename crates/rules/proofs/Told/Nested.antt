@@ -24,6 +24,7 @@ use Rattle.steps.specs.Marked.Flags.{is_within}
 use Rattle.steps.proofs.Marked.Cuts.{Cuts, edit_cuts}
 use Rattle.rules.proofs.Told.Marks.{marks_of_node}
 use Rattle.rules.proofs.Told.Merged.{merged_nests}
+use Rattle.rules.proofs.Told.Passed.{passed_nests}
 use Rattle.steps.proofs.Marked.Exposing.{never}
 use Rattle.rules.specs.Told.Places.{EachPlace}
 use Rattle.rules.specs.Told.Nesting.{scope_inside, IsScopeIn, NestsAt, own_scope, scope_marks, ScopesNest}
@@ -158,7 +159,8 @@ cut_nests s t u c fits h =
 edit_nests : (s : Scoping) (t u : Forest) → Edit t u → Fits root t → ScopesNest s t → ScopesNest s u
 edit_nests s t u e fits h = elim (edit_cuts t u e fits) [
   | inl c ↦ cut_nests s t u c fits h
-  | inr m ↦ merged_nests s t u m h
+  | inr (inl m) ↦ merged_nests s t u m h
+  | inr (inr p) ↦ passed_nests s t u p h
 ]
 
 pub edits_nest : (s : Scoping) (t u : Forest) → TreeEdits t u → Fits root t → ScopesNest s t → ScopesNest s u

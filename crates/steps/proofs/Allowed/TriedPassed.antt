@@ -1,5 +1,5 @@
 -- An import and an export that become an export from the other module, tried on small programs.
-use Rattle.std.proofs.Common.{◌≡◌, ◌∙◌, ℕ, List, Bool, [], ◌∷◌, true, false, true≢false, not, ◌&&◌, ◌||◌, codes, bytes_eq, inl, ap, refl, sym}
+use Rattle.std.proofs.Common.{◌≡◌, ℕ, List, Bool, [], ◌∷◌, true, false, true≢false, not, ◌&&◌, ◌||◌, codes, bytes_eq, inl, ap, refl, sym}
 use Rattle.std.proofs.lemmas.Slice.Eq.{bytes_eq-Decides}
 use Rattle.js_syntax.specs.declared.node_kind.NodeKind.{NodeKind as Kind}
 use Rattle.js_syntax.specs.declared.node_kind.NodeKind.TheVariants.{BindingName as binding_name}
@@ -11,7 +11,7 @@ use Rattle.json_text.specs.Text.{is_identifier_name}
 use Rattle.form_rules.specs.Samples.{a_module, a, reads, does}
 use Rattle.scope_rules.specs.Samples.{b, imports}
 use Rattle.steps.specs.Allowed.MergedImports.{is_namespace}
-use Rattle.steps.specs.Allowed.PassedExports.{Binds, binds_export, binds_default, binds_behind, Passes, passes_none, passes_one, PassedOn, names_passed_on, namespace_passed_on, WithoutExport, export_leaves, leaves_behind, PassesIn, passes_here, passes_behind, PassedExports, exports_pass}
+use Rattle.steps.specs.Allowed.PassedExports.{Binds, binds_export, binds_default, binds_behind, passes_none, passes_one, PassedOn, names_passed_on, namespace_passed_on, export_leaves, leaves_behind, PassesIn, passes_here, passes_behind, PassedExports, exports_pass}
 use Rattle.steps.specs.Allowed.Rows.{call_of_eval, imports_other, takes_from, default_name, namespace_name, name_as, text_as, shows, shown_as, passes_from, passed_as, passes_namespace}
 
 pub one_passes : PassedExports (a_module (takes_from (name_as a b ∷ []) ∷ shows (shown_as b (codes "c") ∷ []) ∷ [])) (a_module (passes_from (passed_as (named a) (codes "c") ∷ []) ∷ []))

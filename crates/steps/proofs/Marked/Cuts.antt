@@ -12,6 +12,7 @@ use Rattle.scope_counts.specs.Edits.{Around, here, under, plug, in_list}
 use Rattle.steps.specs.KeepForm.Part.{gives_way, may_be_idle, is_tested, is_asked_for}
 use Rattle.steps.specs.Allowed.Edits.{Edit}
 use Rattle.steps.specs.Allowed.MergedImports.{MergedImports}
+use Rattle.steps.specs.Allowed.PassedExports.{PassedExports}
 use Rattle.steps.proofs.Marked.Called.{called_below, called_at, NamesStay, no_list_called, calls_stay}
 use Rattle.steps.proofs.Marked.Local as local
 use Rattle.steps.proofs.Marked.Local.{IsRebuilt, Local, IsLocal, is_local}
@@ -60,8 +61,8 @@ local_cuts t u l =
     subst (λ x. Cuts false t x) (sym l.new_is)
     (subst (λ x. Cuts false x (plug l.place l.new)) (sym l.old_is) (cut_at false false l.place l.old l.new (names_stay l.place l.old l.new l.local) (cut_here l.place l.old l.new l.local (in_list false l.place) refl)))
 
--- an edit that cuts nothing so makes one of two imports
-pub edit_cuts : (t u : Forest) → Edit t u → Fits root t → Cuts false t u ⊎ MergedImports t u
+-- an edit that cuts nothing so makes one of two imports, or of an import and an export
+pub edit_cuts : (t u : Forest) → Edit t u → Fits root t → Cuts false t u ⊎ (MergedImports t u ⊎ PassedExports t u)
 edit_cuts t u e fits = elim (is_local t u e fits) [
   | inl l ↦ inl (local_cuts t u l)
   | inr m ↦ inr m

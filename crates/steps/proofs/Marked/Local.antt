@@ -22,6 +22,7 @@ use Rattle.steps.specs.Allowed.UnrunValue.{a_zero, value_never_given}
 use Rattle.steps.specs.Allowed.Edits as edits
 use Rattle.steps.specs.Allowed.Edits.{Leaves, Becomes, Edit}
 use Rattle.steps.specs.Allowed.MergedImports.{MergedImports}
+use Rattle.steps.specs.Allowed.PassedExports.{PassedExports}
 use Rattle.steps.specs.Owed.Owed.{ByPart, ByParts}
 use Rattle.steps.specs.Owed.Part.{DeclaresNothing}
 use Rattle.steps.proofs.Owed.KnownConditional.{known_conditional_owes}
@@ -199,8 +200,9 @@ changed a x y (edits.empty_if (test_stays n m o tested d branches empty unnamed)
   new_is = placed_is a y;
 }
 
--- an edit that isn't so makes one of two imports
-pub is_local : (t u : Forest) → Edit t u → Fits root t → IsLocal t u ⊎ MergedImports t u
+-- an edit that isn't so makes one of two imports, or of an import and an export
+pub is_local : (t u : Forest) → Edit t u → Fits root t → IsLocal t u ⊎ (MergedImports t u ⊎ PassedExports t u)
 is_local t u (edits.leaves a x c) fits = inl (left a x c fits)
 is_local t u (edits.becomes a x y c) fits = inl (changed a x y c fits)
-is_local t u (edits.merges v w c) fits = inr c
+is_local t u (edits.merges v w c) fits = inr (inl c)
+is_local t u (edits.passes v w c) fits = inr (inr c)

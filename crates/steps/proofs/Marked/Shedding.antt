@@ -22,7 +22,10 @@ use Rattle.steps.proofs.Marked.Local.{Local, leaves, empties, empties_idle, test
 use Rattle.steps.proofs.Owed.Declaring.{declaring_each, each_declaring}
 use Rattle.steps.proofs.Marked.Merged as merged
 use Rattle.steps.proofs.Marked.Merged.{same_tally, same_referring}
+use Rattle.steps.proofs.Marked.Passed as passed
+use Rattle.steps.proofs.Marked.Passed.{fewer_tally}
 use Rattle.steps.proofs.Owed.MergedLess.{merged_lighter}
+use Rattle.steps.proofs.Owed.PassedLess.{passed_lighter}
 
 -- ---- references
 
@@ -55,7 +58,8 @@ local_sheds t u l r =
 edit_sheds_references : (t u : Forest) → Edit t u → Fits root t → (r : ℕ) → ids r u ≤ ids r t
 edit_sheds_references t u e fits r = elim (is_local t u e fits) [
   | inl l ↦ local_sheds t u l r
-  | inr m ↦ Prim.omega (arith, same_tally (by_id r) t u m)
+  | inr (inl m) ↦ Prim.omega (arith, same_tally (by_id r) t u m)
+  | inr (inr p) ↦ fewer_tally (by_id r) t u p
 ]
 
 pub edits_shed : (t u : Forest) → TreeEdits t u → Fits root t → (r : ℕ) → ids r u ≤ ids r t
@@ -101,7 +105,8 @@ local_weighs_less t u l =
 pub edit_weighs_less : (t u : Forest) → Edit t u → Fits root t → total facts.weight u < total facts.weight t
 edit_weighs_less t u e fits = elim (is_local t u e fits) [
   | inl l ↦ local_weighs_less t u l
-  | inr m ↦ merged_lighter t u m
+  | inr (inl m) ↦ merged_lighter t u m
+  | inr (inr p) ↦ passed_lighter t u p
 ]
 
 pub edits_weigh_no_more : (t u : Forest) → TreeEdits t u → Fits root t → total facts.weight u ≤ total facts.weight t
@@ -134,7 +139,8 @@ module _ (P : List ℕ → Option ℕ → Type 0) where
   edit_declares : (t u : Forest) → Edit t u → Fits root t → EachDeclaration P t → EachDeclaration P u
   edit_declares t u e fits declared = elim (is_local t u e fits) [
     | inl l ↦ subst (EachDeclaration P) (sym l.new_is) (declared_plug l.place l.old l.new (declared_local l.place l.old l.new l.local) (subst (EachDeclaration P) l.old_is declared))
-    | inr m ↦ each_declaring P u (λ d h. declaring_each P t declared d (merged.declared_before t u m d h))
+    | inr (inl m) ↦ each_declaring P u (λ d h. declaring_each P t declared d (merged.declared_before t u m d h))
+    | inr (inr p) ↦ each_declaring P u (λ d h. declaring_each P t declared d (passed.declared_before t u p d h))
   ]
 
   pub edits_declare : (t u : Forest) → TreeEdits t u → Fits root t → EachDeclaration P t → EachDeclaration P u
@@ -167,7 +173,8 @@ module _ (P : List ℕ → Option ℕ → Type 0) where
   edit_refers : (t u : Forest) → Edit t u → Fits root t → EachReference P t → EachReference P u
   edit_refers t u e fits refers = elim (is_local t u e fits) [
     | inl l ↦ subst (EachReference P) (sym l.new_is) (referring_plug l.place l.old l.new (referring_local l.place l.old l.new l.local) (subst (EachReference P) l.old_is refers))
-    | inr m ↦ each_referring P u (λ d h. referring_each P t refers d (subst (Among d) (same_referring t u m) h))
+    | inr (inl m) ↦ each_referring P u (λ d h. referring_each P t refers d (subst (Among d) (same_referring t u m) h))
+    | inr (inr p) ↦ each_referring P u (λ d h. referring_each P t refers d (passed.referred_before t u p d h))
   ]
 
   pub edits_refer : (t u : Forest) → TreeEdits t u → Fits root t → EachReference P t → EachReference P u

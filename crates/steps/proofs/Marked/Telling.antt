@@ -28,6 +28,7 @@ use Rattle.steps.specs.Marked.Flags.{has_bits, scope_has, is_sloppy_block, Stand
 use Rattle.steps.proofs.KeepForm.Asked.{idle_kinds, tested_kinds, tested_gives}
 use Rattle.steps.proofs.Marked.Cuts.{Cuts, leaves, empties, empties_idle, tests, alternate, parts, rebuilds, inside, behind, behind_none, edit_cuts}
 use Rattle.steps.proofs.Marked.Merged.{merged_told}
+use Rattle.steps.proofs.Marked.Passed.{passes_told}
 use Rattle.steps.proofs.Marked.Exposing.{never, part_no_program, Thinner, thinner_itself, thinner_cuts, Less, less_inside, below_stays, less_beside}
 
 -- ---- places: q is of the tree that is there now, p of the one before
@@ -278,7 +279,8 @@ cut_told s t u c fits h =
 edit_told : (s : Scoping) (t u : Forest) → Edit t u → Fits root t → FlagsTell s t → FlagsTell s u
 edit_told s t u e fits h = elim (edit_cuts t u e fits) [
   | inl c ↦ cut_told s t u c fits h
-  | inr m ↦ merged_told s t u m h
+  | inr (inl m) ↦ merged_told s t u m h
+  | inr (inr p) ↦ passes_told s t u p h
 ]
 
 pub edits_told : (s : Scoping) (t u : Forest) → TreeEdits t u → Fits root t → FlagsTell s t → FlagsTell s u

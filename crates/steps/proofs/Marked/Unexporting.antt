@@ -37,6 +37,7 @@ use Rattle.steps.specs.Marked.Exports.{IsMarkedAmong, WasExported}
 use Rattle.steps.proofs.KeepForm.Asked.{idle_kinds, tested_kinds, tested_gives}
 use Rattle.steps.proofs.Marked.Cuts.{Cuts, leaves, empties, empties_idle, tests, alternate, parts, rebuilds, inside as cut_inside, behind, behind_none, edit_cuts}
 use Rattle.steps.proofs.Marked.Merged.{same_exports}
+use Rattle.steps.proofs.Marked.Passed as passed
 use Rattle.steps.proofs.Marked.Telling.{no_program}
 use Rattle.steps.proofs.Marked.Exposing.{never, part_no_program, thinner_cuts}
 
@@ -468,7 +469,8 @@ cut_exports t u c fits e h top =
 edit_exports : (t u : Forest) → Edit t u → Fits root t → (e : BindingSite) → Among e (exported_declarations u) → e.layer.scope ≡ 0 → WasExported t e
 edit_exports t u edit fits e h top = elim (edit_cuts t u edit fits) [
   | inl c ↦ cut_exports t u c fits e h top
-  | inr m ↦ record { declaration = e; stands = subst (Among e) (same_exports t u m) h; is_outermost = top; same_mark = refl; same_name = refl }
+  | inr (inl m) ↦ record { declaration = e; stands = subst (Among e) (same_exports t u m) h; is_outermost = top; same_mark = refl; same_name = refl }
+  | inr (inr p) ↦ record { declaration = e; stands = subst (Among e) (passed.same_exports t u p) h; is_outermost = top; same_mark = refl; same_name = refl }
 ]
 
 pub edits_export : (t u : Forest) → TreeEdits t u → Fits root t → (e : BindingSite) → Among e (exported_declarations u) → e.layer.scope ≡ 0 → WasExported t e

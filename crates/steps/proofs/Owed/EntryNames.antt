@@ -1,5 +1,5 @@
 -- A module's export entries have different names where no rule of form is broken: each is under a name that the rules find exported.
-use Rattle.std.proofs.Common.{◌≡◌, ◌∙◌, ◌≤◌, ◌+◌, ◌⊎◌, inl, inr, ℕ, suc, List, [], ◌∷◌, ◌++◌, Bool, true, false, true≢false, bytes_eq, Some, None, codes, ◌&&◌, append-nil, if◌then◌else◌, arith, refl, sym, ap, ap₂, subst}
+use Rattle.std.proofs.Common.{◌≡◌, ◌∙◌, ◌≤◌, ◌+◌, inl, inr, ℕ, suc, List, [], ◌∷◌, ◌++◌, Bool, true, false, true≢false, bytes_eq, Some, None, ◌&&◌, append-nil, if◌then◌else◌, arith, refl, sym, ap}
 use Rattle.std.proofs.lemmas.Bool.{and_parts}
 use Rattle.std.proofs.lemmas.Slice.Eq.{bytes_eq-Decides}
 use Rattle.js_tree.specs.Count.{one_each, node_count}
@@ -13,10 +13,10 @@ use Rattle.js_syntax.specs.declared.kind.VariableKind.TheVariants as variable
 use Rattle.js_syntax.specs.declared.kind.FunctionKind.TheVariants as function_kind
 use Rattle.js_syntax.specs.declared.value.ModuleName.{ModuleName}
 use Rattle.js_syntax.specs.declared.value.ModuleName.TheVariants.{Name as plain_name, Text as quoted_name}
-use Rattle.js_syntax.specs.Node.{Forest, Note, nothing, node, absent, alone, nowhere}
+use Rattle.js_syntax.specs.Node.{Forest, Note, nothing, node, absent, alone}
 use Rattle.js_meaning.specs.Value.{Text}
-use Rattle.js_meaning.specs.Scope.{Decl, decl, waiting, bound_names, first_name, named_so, module_text, item_decls, lexical}
-use Rattle.js_meaning.specs.Module.{Entry, entry_local, entry_import, specifier_of, local_entries, foreign_of, foreign_entries, same_names, names_in, declared_in, declared_entries, list_below, entries_of, entries}
+use Rattle.js_meaning.specs.Scope.{Decl, decl, waiting, first_name, named_so, module_text}
+use Rattle.js_meaning.specs.Module.{Entry, local_entries, foreign_entries, same_names, names_in, declared_in, declared_entries, list_below, entries_of, entries}
 use Rattle.js_meaning_near.specs.Near.{module_of}
 use Rattle.js_meaning_near.specs.Reexported.{entry_name}
 use Rattle.form_rules.specs.declared.sought.Sort.{Sort}
@@ -38,7 +38,7 @@ use Rattle.steps.specs.Fit.Clear.{times}
 use Rattle.steps.specs.Fit.Sensible.{IsSensibleModule}
 use Rattle.steps.proofs.Fit.Bound.{plain_below, plain_behind, first_among_names, declaration_row}
 use Rattle.steps.proofs.Fit.Clashes.{is_let, is_var}
-use Rattle.steps.proofs.Fit.Lists.{no_less, occurs, occurs_joined, named, count, count_joined}
+use Rattle.steps.proofs.Fit.Lists.{no_less, occurs, occurs_joined, named, count}
 use Rattle.steps.proofs.Owed.Exported.{Lacks, Distinct, names_of, shown_by, shown}
 
 abbrev pub entry_names : List Entry → List Text

@@ -2,10 +2,11 @@
 use Rattle.std.proofs.Common.{◌≡◌, [], ◌∷◌, subst}
 use Rattle.js_syntax.specs.Class.{root}
 use Rattle.js_syntax.specs.Node.{Forest, bare}
-use Rattle.steps.specs.Allowed.Edits.{Edit, leaves, becomes, merges, TreeEdits, no_tree_edit, one_tree_edit, Edits, no_edit, one_edit}
+use Rattle.steps.specs.Allowed.Edits.{Edit, leaves, becomes, merges, passes, TreeEdits, no_tree_edit, one_tree_edit, Edits, no_edit, one_edit}
 use Rattle.json_shape.specs.Shape.{one, these, Stand, Fits}
 use Rattle.json_shape.proofs.Standing.{bare_stands, stands_bare}
 use Rattle.steps.proofs.Owed.MergedFits.{merged_fits}
+use Rattle.steps.proofs.Owed.PassedFits.{passed_fits}
 use Rattle.steps.proofs.Owed.Owed.{leaving, becoming}
 use Rattle.steps.proofs.Owed.FitsLeaving.{leaving_fits}
 
@@ -13,6 +14,7 @@ pub edit_fits : (t u : Forest) → Edit t u → Fits root t → Fits root u
 edit_fits t u (leaves a x out) fits = leaving_fits a x (leaving a x out).listed fits
 edit_fits t u (becomes a x y into) fits = (becoming a x y into).fits fits
 edit_fits t u (merges v w into) fits = merged_fits v w into fits
+edit_fits t u (passes v w on) fits = passed_fits v w on fits
 
 pub tree_edits_fit : (t u : Forest) → TreeEdits t u → Fits root t → Fits root u
 tree_edits_fit t u (no_tree_edit v) fits = fits

@@ -1,20 +1,20 @@
 -- A core module does the same where it passes on, in front of an import, what it exported of that: the export leaves, and what comes in is
 -- resolved to what the import binds.
-use Rattle.std.proofs.Common.{◌≡◌, ◌∙◌, ◌⊎◌, inl, inr, ◌≤◌, ◌+◌, ℕ, List, [], ◌∷◌, ◌++◌, Bool, true, false, true≢false, ◌||◌, if◌then◌else◌, bytes_eq, codes, append-nil, Some, None, arith, refl, sym, ap, ap₂, subst}
+use Rattle.std.proofs.Common.{◌≡◌, ◌∙◌, ◌⊎◌, inl, inr, ◌≤◌, ◌+◌, List, [], ◌∷◌, ◌++◌, Bool, true, false, true≢false, ◌||◌, if◌then◌else◌, bytes_eq, codes, append-nil, Some, arith, refl, sym, ap, ap₂, subst}
 use Rattle.std.proofs.lemmas.List.{append_assoc}
 use Rattle.std.proofs.lemmas.Slice.Eq.{bytes_eq-Decides}
 use Rattle.js_syntax.specs.declared.node_kind.NodeKind.{NodeKind as Kind}
 use Rattle.js_syntax.specs.declared.value.ModuleName.{ModuleName}
-use Rattle.js_syntax.specs.Node.{Forest, Tree, Note, nothing, node, absent}
+use Rattle.js_syntax.specs.Node.{Forest, Tree, Note, nothing, node}
 use Rattle.js_meaning.specs.Value.{Text, this_name}
 use Rattle.js_meaning.specs.Scope.{Way, ready, linked, Decl, decl, all_so, module_text, specifier_decls, import_decls, item_decls, lexical, vars_of, var_names, module_decls}
-use Rattle.js_meaning.specs.Module.{Entry, entry_local, entry_import, local_entries, foreign_entries, entries_of, entries, requests_of, requests, distinct, star_of, stars}
+use Rattle.js_meaning.specs.Module.{Entry, local_entries, foreign_entries, entries_of, entries, requests_of, requests, distinct, star_of, stars}
 use Rattle.js_meaning.specs.Kept.{Refined}
 use Rattle.js_meaning_near.specs.Avoid.{CellIf, HasCells, declares, InPlace}
 use Rattle.js_meaning_near.specs.Fit.{names_after, whole}
 use Rattle.js_meaning_near.specs.Names.{Names, no_names as no_names_yet, Decls, AllPlain}
 use Rattle.js_meaning_near.specs.Near.{items, Near, leaves, idle_export, module_of}
-use Rattle.js_meaning_near.specs.Purpose.{Purposes, purposes_behind}
+use Rattle.js_meaning_near.specs.Purpose.{Purposes}
 use Rattle.js_meaning_near.specs.Reexported as near
 use Rattle.js_meaning_near.specs.Reexported.{Imports, imports_here, imports_further_on, entry_name, as_before, further_on, passed_on, two_change, one_by_one, PutIn, names_put_in, namespace_put_in, put_in_behind, reexported_module}
 use Rattle.js_meaning_near.proofs.Avoid.{after_plain, fits_clear}
@@ -22,8 +22,6 @@ use Rattle.js_meaning_near.proofs.Fit.{same_decls, fit}
 use Rattle.js_meaning_near.proofs.Once.{node_stays}
 use Rattle.js_meaning_near.proofs.Reexported.{reexported_refines}
 use Rattle.scope_laws.specs.Place.{Around, first, behind, behind_none, under, plug}
-use Rattle.scope_laws.specs.Lists.{without}
-use Rattle.steps.specs.Names.{is_among}
 use Rattle.steps.specs.Steps.{binds_import}
 use Rattle.steps.specs.Allowed.PassedExports.{Binds, binds_export, binds_default, binds_behind, Passes, passes_none, passes_one, PassedOn, names_passed_on, namespace_passed_on, WithoutExport, export_leaves, leaves_behind, PassesIn, passes_here, passes_behind}
 use Rattle.steps.specs.Fit.Clear.{times}
@@ -31,7 +29,7 @@ use Rattle.steps.specs.Fit.Sensible.{IsSensibleModule}
 use Rattle.steps.proofs.Fit.Lists.{times_joined}
 use Rattle.steps.proofs.KeepRuns.Modules.{exports_plain}
 use Rattle.steps.proofs.Owed.EntryNames.{entry_names, entries_joined, entries_apart}
-use Rattle.steps.proofs.Owed.Exported.{Lacks, Distinct, shown}
+use Rattle.steps.proofs.Owed.Exported.{Lacks, Distinct}
 use Rattle.steps.proofs.Owed.MergedForm.{name_twice}
 use Rattle.steps.proofs.Owed.MergedRuns.{distinct_behind}
 use Rattle.steps.proofs.Owed.PassedForm.{exports_apart}
@@ -273,6 +271,10 @@ between_entries (passes_behind k n below r s z h) = ap (λ l. entries_of k below
 pub new_requests : {source : Text} {k : Kind} {below : Forest} → IsNew source k below → requests_of k ≡ source ∷ []
 new_requests (new_names passed j are) = refl
 new_requests (new_namespace exported) = refl
+
+pub passed_requests : {names r s z : Forest} → PassesIn names r s z → requests r ≡ requests z
+passed_requests (passes_here source n m i listed k below r s on out) = ap (λ l. source ∷ l) (left_requests out) ∙ sym (ap (λ l. l ++ requests s) (new_requests (parts on).new))
+passed_requests (passes_behind k n below r s z h) = ap (λ l. requests_of k ++ l) (passed_requests h)
 
 itself : (x : Text) → bytes_eq x x ≡ true
 itself x = (bytes_eq-Decides x x).1 refl

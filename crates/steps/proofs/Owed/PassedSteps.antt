@@ -1,6 +1,6 @@
 -- Where a core module passes on what it imports in front of an import that nothing refers to, the import's names leave one by one, and then
 -- the import, whose module is asked for in front of it: the module does the same.
-use Rattle.std.proofs.Common.{◌≡◌, ◌∙◌, ◌⊎◌, inl, inr, ◌≤◌, ◌+◌, ℕ, suc, List, [], ◌∷◌, ◌++◌, Bool, true, false, true≢false, ◌&&◌, ◌||◌, if◌then◌else◌, bytes_eq, append-nil, Some, None, arith, refl, sym, ap, ap₂, subst}
+use Rattle.std.proofs.Common.{◌≡◌, ◌∙◌, ◌⊎◌, inl, inr, ◌≤◌, ◌+◌, ℕ, suc, List, [], ◌∷◌, ◌++◌, Bool, true, false, true≢false, ◌&&◌, ◌||◌, if◌then◌else◌, bytes_eq, Some, None, arith, refl, sym, ap, ap₂, subst}
 use Rattle.std.proofs.lemmas.Bool.{and_parts}
 use Rattle.std.proofs.lemmas.List.{append_assoc}
 use Rattle.std.proofs.lemmas.Slice.Eq.{bytes_eq-Decides}
@@ -12,23 +12,22 @@ use Rattle.js_syntax.specs.Node.{Forest, Tree, Note, nothing, node, absent, alon
 use Rattle.js_syntax.proofs.Truth.{both, neither, first_of_neither, second_of_neither}
 use Rattle.js_meaning.specs.Value.{Text, this_name}
 use Rattle.js_meaning.specs.Scope.{ready, linked, Decl, decl, all_so, import_decls, item_decls, lexical, vars_of, var_names, module_decls}
-use Rattle.js_meaning.specs.Module.{names_in, requests_of}
 use Rattle.js_meaning.specs.Kept.{Refined}
 use Rattle.js_meaning.proofs.Kept.{refined_joined}
 use Rattle.js_meaning_near.specs.Avoid.{CellIf, HasCells, declares, InPlace}
 use Rattle.js_meaning_near.specs.Fit.{whole}
 use Rattle.js_meaning_near.specs.Near as near
-use Rattle.js_meaning_near.specs.Near.{fields, module_of}
+use Rattle.js_meaning_near.specs.Near.{module_of}
 use Rattle.scope_rules.specs.Context.{Context, inside, outermost as outermost_context, body_of}
-use Rattle.scope_rules.specs.Site.{opens_one, scope_count, sites, sites_of, bindings_among}
+use Rattle.scope_rules.specs.Site.{scope_count, sites, sites_of, bindings_among}
 use Rattle.scope_rules.specs.Binding.{is_declared, named_in}
 use Rattle.scope_laws.specs.Place.{Around, first, behind, behind_none, under, plug}
 use Rattle.scope_laws.specs.Lists.{without}
-use Rattle.steps.specs.Names.{is_among, names_exported, refers_at, refers}
+use Rattle.steps.specs.Names.{is_among, refers_at, refers}
 use Rattle.steps.specs.Steps as steps
-use Rattle.steps.specs.Steps.{items, binds_import, Unbinds, unbinds_here, unbinds_below, Step, unbinds, behind_node, behind_absent, is_used, all_core}
+use Rattle.steps.specs.Steps.{items, Unbinds, unbinds_here, unbinds_below, Step, unbinds, behind_node, behind_absent, is_used, all_core}
 use Rattle.steps.specs.Allowed.Free.{IsFree}
-use Rattle.steps.specs.Allowed.PassedExports.{AreFree, PassesIn, passes_here, passes_behind}
+use Rattle.steps.specs.Allowed.PassedExports.{AreFree, WithoutExport, export_leaves, leaves_behind, PassesIn, passes_here, passes_behind}
 use Rattle.steps.specs.Allowed.RepeatedImport.{asks_for, is_asked_before}
 use Rattle.steps.specs.Fit.Clear.{times}
 use Rattle.steps.specs.Fit.Sensible.{IsSensibleModule}
@@ -43,7 +42,7 @@ use Rattle.steps.proofs.Fit.Held.{core_here, core_below, core_behind}
 use Rattle.steps.proofs.Fit.Bound.{plain_here, plain_below, plain_behind}
 use Rattle.steps.proofs.Fit.Lists.{times_joined}
 use Rattle.steps.proofs.KeepRuns.Binding.{undeclared_left, undeclared_right, undeclared_so, Free, row_free, items_place, row_binds}
-use Rattle.steps.proofs.KeepRuns.Calm.{form_holds, form_heads, form_below, form_behind}
+use Rattle.steps.proofs.KeepRuns.Calm.{form_holds, form_below, form_behind}
 use Rattle.steps.proofs.KeepRuns.Many.{module_many}
 use Rattle.steps.proofs.KeepRuns.Modules.{top}
 use Rattle.steps.proofs.KeepRuns.Names.{declares_among}
@@ -52,7 +51,7 @@ use Rattle.steps.proofs.Naming.Unused.{declared, import_unused}
 use Rattle.steps.proofs.Owed.MergedRows.{AreNames, no_names, a_name}
 use Rattle.steps.proofs.Owed.MergedRuns.{no_variables}
 use Rattle.steps.proofs.Owed.PassedPlaces.{an_import, put_before, before_flat, before_alone, export_in, export_out, import_in}
-use Rattle.steps.proofs.Owed.PassedRows.{ArePassed, none_passed, one_passed, IsNew, new_names, new_namespace}
+use Rattle.steps.proofs.Owed.PassedRows.{ArePassed, none_passed, one_passed, IsNew, new_names, new_namespace, parts}
 use Rattle.steps.proofs.Owed.PassedRuns.{Named, named_here, named_behind, text_of_kind, import_here, cells_behind, lexical_before, lexical_after, lexical_around, passed_vars, new_requests, between, between_refines}
 use Rattle.steps.proofs.Owed.PassedSheds.{left_sensible}
 use Rattle.steps.proofs.Owed.RepeatedRuns.{is_flat, flat_refines}
@@ -484,3 +483,16 @@ passed_refines n m names r s z h free sensible =
     let third = flat_refines i.source i.note i.list_note n m there (before_flat i.kind i.new_note i.below i.around i.flat) (asked_first i.new i.new_note y false i.around i.flat) in
     subst (λ t. Refined (module_of n m r) (module_of n m t)) (before_alone i.kind i.new_note i.below i.around ∙ i.comes)
     (refined_joined (module_of n m r) (module_of n m old) (module_of n m (without there)) first (refined_joined (module_of n m old) (module_of n m none) (module_of n m (without there)) second third))
+
+-- ---- it stays core
+
+left_core : {listed r s : Forest} → WithoutExport listed r s → all_core r ≡ true → all_core s ≡ true
+left_core {listed = listed} (export_leaves n m rest) core = core_behind (Kind.ExportNamedDeclaration None) n (absent (node Kind.Specifiers m listed nothing)) rest core
+left_core (leaves_behind k n below r s out) core =
+    both (is_core k) (all_core below && all_core s) (core_here k n below r core) (both (all_core below) (all_core s) (core_below k n below r core) (left_core out (core_behind k n below r core)))
+
+pub module_core : {names r s z : Forest} → PassesIn names r s z → all_core r ≡ true → all_core z ≡ true
+module_core {names = names} (passes_here source n m i listed k below r s on out) core =
+    new_core i s (parts on).new (left_core out (core_behind (Kind.ImportDeclaration source) n (node Kind.Specifiers m names nothing) r core))
+module_core (passes_behind k n below r s z h) core =
+    both (is_core k) (all_core below && all_core z) (core_here k n below r core) (both (all_core below) (all_core z) (core_below k n below r core) (module_core h (core_behind k n below r core)))

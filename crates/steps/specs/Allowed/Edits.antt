@@ -1,4 +1,4 @@
--- What a dead code remover may do to a program: one edit at one place, or of two imports in its list, allowed on the tree as it is then. Each
+-- What a dead code remover may do to a program: one edit at one place, or of two items of its list, allowed on the tree as it is then. Each
 -- case has a file of its name, and a line here.
 use Rattle.std.specs.Prelude.{◌≡◌, Some}
 use Rattle.js_syntax.specs.Node.{Forest, Tree, bare}
@@ -12,6 +12,7 @@ use Rattle.steps.specs.Allowed.UnusedDeclaration.{UnusedDeclaration}
 use Rattle.steps.specs.Allowed.UnusedImport.{UnusedImport}
 use Rattle.steps.specs.Allowed.RepeatedImport.{RepeatedImport}
 use Rattle.steps.specs.Allowed.MergedImports.{MergedImports}
+use Rattle.steps.specs.Allowed.PassedExports.{PassedExports}
 use Rattle.steps.specs.Allowed.Unreached.{Unreached}
 use Rattle.steps.specs.Allowed.Untaken.{Untaken}
 use Rattle.steps.specs.Allowed.IdleStatement.{IdleStatement}
@@ -72,6 +73,7 @@ pub data Edit : (t u : Forest) → Type 0 where
   leaves : (a : Around) (x : Tree) → Leaves a x → Edit (plug a (Some x)) (without a)
   becomes : (a : Around) (x y : Tree) → Becomes a x y → Edit (plug a (Some x)) (plug a (Some y))
   merges : (t u : Forest) → MergedImports t u → Edit t u
+  passes : (t u : Forest) → PassedExports t u → Edit t u
 
 -- edits of a tree one after the other
 pub data TreeEdits : (t u : Forest) → Type 0 where

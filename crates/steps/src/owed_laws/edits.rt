@@ -9,6 +9,7 @@ ghost use Rattle.steps.specs.KeepForm.Sheds.{Sheds, outermost};
 ghost use Rattle.steps.specs.Allowed.Calls.{root_calls};
 ghost use Rattle.steps.specs.Allowed.Changing.{may_change_somewhere};
 ghost use Rattle.steps.specs.Allowed.MergedImports.{MergedImports};
+ghost use Rattle.steps.specs.Allowed.PassedExports.{PassedExports};
 ghost use Rattle.steps.specs.Allowed.Edits.{Edit, TreeEdits, Edits};
 ghost use Rattle.steps.specs.Fit.Sensible.{IsSensible};
 ghost use Rattle.steps.specs.Owed.Kept.{IsKept};
@@ -19,9 +20,9 @@ pub fn edits_lead_from_sensible_programs_to_sensible_ones()
     ensures many { (t u : Forest) → Edits t u → IsSensible t → IsSensible u }
 {}
 
-/// Law: by an edit a tree of the table sheds what it may shed, or two of its imports become one.
+/// Law: by an edit a tree of the table sheds what it may shed, or two of its imports become one, or an import and an export do.
 pub fn an_edit_sheds()
-    ensures { (t u : Forest) → Edit t u → Fits root t → Sheds outermost t u ⊎ MergedImports t u }
+    ensures { (t u : Forest) → Edit t u → Fits root t → Sheds outermost t u ⊎ (MergedImports t u ⊎ PassedExports t u) }
 {}
 
 /// Law: after edits of a tree the table of its scopes, symbols and references, with shorter lists, tells of what is left.

@@ -6,7 +6,7 @@
 //! of scopes stays exact, with shorter lists, and that the tree is lighter; `fits`, that the table of node types holds;
 //! `runs`, that a core module does what it did where a node comes to a part of it; `tables` and `parts`, what tables ask of
 //! places, and that an expression which is rebuilt owes enough. `merged`, the same of two imports that become one, which changes two
-//! items of a list at once and so is of no such shape. `refusals` are small programs from which no edits lead where they may not.
+//! items of a list at once and so is of no such shape; `passed`, of an import and an export that become one. `refusals` are small programs from which no edits lead where they may not.
 //!
 //! The code is empty: each function's contract is a law.
 pub mod edits;
