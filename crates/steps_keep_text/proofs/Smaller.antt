@@ -11,7 +11,7 @@ use Rattle.steps.specs.KeepForm.Part.{may_be_idle}
 use Rattle.steps.proofs.KeepForm.Asked.{idle_kinds, tested_kinds}
 use Rattle.steps.specs.Steps.{binds_import}
 use Rattle.steps.specs.Allowed.MergedImports.{is_default, how_many, as_named, all_named, first_default, but_first_default, names_merged, WithoutImport, import_leaves, leaves_behind, MergesIn, merges_here, merges_behind, MergedImports, imports_merge}
-use Rattle.steps.specs.Allowed.PassedExports.{Passes, passes_none, passes_one, PassedOn, names_passed_on, namespace_passed_on, WithoutExport, export_leaves, leaves_behind as export_behind, PassesIn, passes_here, passes_behind, PassedExports, exports_pass}
+use Rattle.steps.specs.Allowed.PassedExports.{Passes, passes_none, passes_one, names_passed_on, namespace_passed_on, WithoutExport, export_leaves, leaves_behind as export_behind, PassesIn, passes_here, passes_behind, PassedExports, exports_pass}
 use Rattle.steps.proofs.Owed.MergedLess.{merged_total}
 use Rattle.steps.proofs.Owed.PassedLess.{IsPassing, passed_total}
 use Rattle.steps.proofs.Owed.MergedRows.{AreNames, no_names, a_name, may, merged_are}

@@ -65,14 +65,14 @@ default_has_its_size = refl
 
 -- what is named as it may be isn't counted
 none_misnamed : (imported : ModuleName) → is_exact_module_name imported ≡ true → count_among is_misnamed (the_module_name imported ∷ []) ≡ 0
-none_misnamed (plain_name s) h = ap (λ b. (if not b then 1 else 0) + 0) h
+none_misnamed (plain_name s) h = ap {B = ℕ} (λ b. (if not b then 1 else 0) + 0) h
 none_misnamed (quoted_name s) h = refl
 
 none_inexact : (imported : ModuleName) → is_exact_module_name imported ≡ true → inexact_among (the_module_name imported ∷ []) ≡ 0
-none_inexact imported h = ap (λ b. (if b then 0 else 1) + 0) h
+none_inexact imported h = ap {B = ℕ} (λ b. (if b then 0 else 1) + 0) h
 
 none_inexact_size : (imported : ModuleName) → is_exact_module_name imported ≡ true → count_among (λ s. not (is_exact (magnitude s))) (the_module_name imported ∷ []) ≡ 0
-none_inexact_size imported h = ap (λ b. (if not b then 1 else 0) + 0) h
+none_inexact_size imported h = ap {B = ℕ} (λ b. (if not b then 1 else 0) + 0) h
 
 whole_misnamed : (source : List ℕ) (exported : ModuleName) → misnamed (export_all_declaration (Some exported) source) ≤ misnamed (export_specifier exported)
 whole_misnamed source (plain_name s) = Prim.omega arith
