@@ -113,7 +113,7 @@ names_open_none (a_name Kind.ImportDefaultSpecifier n m x rest h names) = Prim.o
 names_open_none (a_name Kind.ImportNamespaceSpecifier n m x rest h names) = Prim.omega (arith, names_open_none names)
 names_open_none (a_name k n m x rest h names) = absurd (true≢false (sym h))
 
-names_export_none : {t : Forest} → AreNames t → (cs : ℕ → Context) (at next : ℕ) → exported_sites cs at next t ≡ []
+pub names_export_none : {t : Forest} → AreNames t → (cs : ℕ → Context) (at next : ℕ) → exported_sites cs at next t ≡ []
 names_export_none no_names cs at next = refl
 names_export_none (a_name (Kind.ImportSpecifier imported) n m x rest h names) cs at next = names_export_none names cs (suc at) _
 names_export_none (a_name Kind.ImportDefaultSpecifier n m x rest h names) cs at next = names_export_none names cs (suc at) _

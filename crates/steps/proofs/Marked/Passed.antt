@@ -1,6 +1,6 @@
 -- Where an import and an export are an export from the other module, no reference or declaration comes in, no call of `eval` comes in or leaves,
 -- no flag that tells of a place does, and no declaration below an export.
-use Rattle.std.proofs.Common.{◌≡◌, ◌∙◌, ◌≤◌, inl, inr, ℕ, suc, ◌+◌, List, [], ◌++◌, Bool, true, false, true≢false, ◌||◌, if◌then◌else◌, is_some, append-nil, Some, None, arith, refl, sym, ap, ap₂, subst}
+use Rattle.std.proofs.Common.{◌≡◌, ◌∙◌, ◌≤◌, inl, inr, ℕ, suc, ◌+◌, List, [], ◌++◌, false, ◌||◌, if◌then◌else◌, is_some, append-nil, Some, None, arith, refl, sym, ap, subst}
 use Rattle.js_syntax.specs.declared.node_kind.NodeKind.{NodeKind as Kind}
 use Rattle.js_syntax.specs.declared.node_kind.NodeKind.TheVariants.{Program as program, Statements as statements, ImportDeclaration as import_declaration, Specifiers as specifiers, ExportNamedDeclaration as export_named_declaration}
 use Rattle.js_syntax.specs.declared.scalar.SourceType.TheVariants as source_type
@@ -15,7 +15,7 @@ use Rattle.scope_counts.specs.Counts.{Decl, Weight, tally}
 use Rattle.scope_counts.specs.Losing.{own_referring, referring, own_declaring, declaring}
 use Rattle.steps.specs.Allowed.Exposure.{evaluates_somewhere}
 use Rattle.steps.specs.Allowed.PassedExports.{WithoutExport, export_leaves, leaves_behind, PassesIn, passes_here, passes_behind, PassedExports, exports_pass}
-use Rattle.steps.specs.Marked.Flags.{Stand, stand_inside, Tells, Told, FlagsTell}
+use Rattle.steps.specs.Marked.Flags.{Stand, Tells, Told, FlagsTell}
 use Rattle.steps.specs.Naming.Standing.{is_export, exported_sites, exported_declarations}
 use Rattle.steps.proofs.Marked.Merged.{names_call_none, beside_names, at_top, at_items, calls_of, names_open_none, names_export_none}
 use Rattle.steps.proofs.Naming.Sites.{bindings_append}
@@ -46,12 +46,12 @@ module _ {X : Type 0} (x : X) (own : List X) where
   ]
 
 left_referred : (d : Decl) {listed r s : Forest} → WithoutExport listed r s → Among d (referring s) → Among d (referring r)
-left_referred d {listed = listed} (export_leaves n m rest) h = among_right d ((referring listed ++ []) ++ []) (referring rest) h
+left_referred d {listed = listed} (export_leaves n m rest) h = among_right d (referring listed ++ []) (referring rest) h
 left_referred d (leaves_behind k n below r s out) h = more_behind d (own_referring n k ++ referring below) (left_referred d out) h
 
 row_referred : (d : Decl) {names r s z : Forest} → PassesIn names r s z → Among d (referring z) → Among d (referring r)
 row_referred d {names = names} (passes_here source n m i listed k below r s on out) h =
-    among_right d ((referring names ++ []) ++ []) (referring r) (left_referred d out (subst (Among d) (new_refers (parts on).new i s) h))
+    among_right d (referring names ++ []) (referring r) (left_referred d out (subst (Among d) (new_refers (parts on).new i s) h))
 row_referred d (passes_behind k n below r s z p) h = more_behind d (own_referring n k ++ referring below) (row_referred d p) h
 
 in_module : {X : Type 0} (x : X) (xs ys : List X) → (Among x xs → Among x ys) → Among x ((xs ++ []) ++ []) → Among x ((ys ++ []) ++ [])
@@ -67,12 +67,12 @@ pub referred_before : (t u : Forest) → PassedExports t u → (d : Decl) → Am
 referred_before _ _ (exports_pass n m names r s z h free none) d = in_module d (referring z) (referring r) (row_referred d h)
 
 left_declared : (d : Decl) {listed r s : Forest} → WithoutExport listed r s → Among d (declaring s) → Among d (declaring r)
-left_declared d {listed = listed} (export_leaves n m rest) h = among_right d ((declaring listed ++ []) ++ []) (declaring rest) h
+left_declared d {listed = listed} (export_leaves n m rest) h = among_right d (declaring listed ++ []) (declaring rest) h
 left_declared d (leaves_behind k n below r s out) h = more_behind d (own_declaring n k ++ declaring below) (left_declared d out) h
 
 row_declared : (d : Decl) {names r s z : Forest} → PassesIn names r s z → Among d (declaring z) → Among d (declaring r)
 row_declared d {names = names} (passes_here source n m i listed k below r s on out) h =
-    among_right d ((declaring names ++ []) ++ []) (declaring r) (left_declared d out (subst (Among d) (new_declares (parts on).new i s) h))
+    among_right d (declaring names ++ []) (declaring r) (left_declared d out (subst (Among d) (new_declares (parts on).new i s) h))
 row_declared d (passes_behind k n below r s z p) h = more_behind d (own_declaring n k ++ declaring below) (row_declared d p) h
 
 pub declared_before : (t u : Forest) → PassedExports t u → (d : Decl) → Among d (declaring u) → Among d (declaring t)
@@ -96,7 +96,7 @@ new_evals : {source : List ℕ} {k : Kind} {below : Forest} → IsNew source k b
 new_evals (new_names passed j are) i s = ap (λ b. beside_names b (has_eval s)) (passed_call_none are)
 new_evals (new_namespace exported) i s = refl
 
-passed_evals : {names r s z : Forest} → PassesIn names r s z → has_eval z ≡ has_eval r
+pub passed_evals : {names r s z : Forest} → PassesIn names r s z → has_eval z ≡ has_eval r
 passed_evals (passes_here source n m i listed k below r s on out) =
     let known = parts on in
     new_evals known.new i s ∙ left_evals known.listed_are out ∙ sym (ap (λ b. beside_names b (has_eval r)) (names_call_none known.names_are))
@@ -190,7 +190,7 @@ module _ (c : Context) where
 
 import_passed : (source : List ℕ) (m : Note) {names : Forest} → AreNames names → Passed (import_declaration source) (node specifiers m names nothing)
 import_passed source m {names = names} are = record {
-  binds_none = λ c next. ap (λ l. bindings_among ((l ++ []) ++ [])) (names_export_none are (inside (inside c next (import_declaration source) (node specifiers m names nothing) 0) (next + 0) specifiers names) 0 (next + 0 + 0));
+  binds_none = λ c next. ap (λ l. bindings_among (l ++ [])) (names_export_none are (inside (inside c next (import_declaration source) (node specifiers m names nothing) 0) (next + 0) specifiers names) 0 (next + 0 + 0));
   opens_none = λ n. Prim.omega (arith, names_open_none are);
 }
 

@@ -1,24 +1,21 @@
 -- No rule of form is broken where an import and an export are an export from the other module: the program sheds both, and what comes in breaks
 -- none, as it exports what the export did.
-use Rattle.std.proofs.Common.{◌≡◌, ◌∙◌, ℕ, suc, ◌+◌, List, [], ◌∷◌, ◌++◌, Bool, true, false, true≢false, ◌||◌, bytes_eq, codes, append-nil, Some, None, refl, sym, ap, ap₂, subst}
-use Rattle.std.proofs.lemmas.List.{append_assoc}
+use Rattle.std.proofs.Common.{◌≡◌, ◌∙◌, ℕ, suc, ◌+◌, List, [], ◌∷◌, ◌++◌, Bool, true, false, true≢false, ◌||◌, bytes_eq, append-nil, Some, None, refl, sym, ap, subst}
 use Rattle.js_tree.specs.Count.{one_each, node_count}
 use Rattle.js_syntax.specs.Class.{root}
 use Rattle.js_syntax.specs.declared.node_kind.NodeKind.{NodeKind as Kind}
-use Rattle.js_syntax.specs.declared.node_kind.NodeKind.TheVariants.{Program as program, Directive as directive, Statements as statements, ImportDeclaration as import_declaration, Specifiers as specifiers, ExportNamedDeclaration as export_named_declaration}
+use Rattle.js_syntax.specs.declared.node_kind.NodeKind.TheVariants.{Program as program, Statements as statements, Specifiers as specifiers, ExportNamedDeclaration as export_named_declaration}
 use Rattle.js_syntax.specs.declared.scalar.SourceType.TheVariants as source_type
 use Rattle.js_syntax.specs.Node.{Forest, Note, nothing, node, absent}
 use Rattle.js_meaning_near.specs.Near.{module_of}
-use Rattle.form_rules.specs.declared.rule.Break.{Break}
 use Rattle.form_rules.specs.declared.sought.Sort.{Sort}
 use Rattle.form_rules.specs.declared.sought.Sort.TheVariants.{Lexical as lexical}
-use Rattle.form_rules.specs.declared.sought.Sought.{Sought}
-use Rattle.form_rules.specs.declared.sought.Sought.TheVariants.{Nothing as none_sought, Names as names_sought, Bound as bound, Scope as scope, Variables as variables, FunctionScope as function_scope, CatchScope as catch_scope}
+use Rattle.form_rules.specs.declared.sought.Sought.TheVariants.{Nothing as none_sought, Scope as scope}
 use Rattle.form_rules.specs.Break.{least, unless}
 use Rattle.form_rules.specs.Context as context
 use Rattle.form_rules.specs.Context.{Context, is_module, below_it, inside}
 use Rattle.form_rules.specs.Scope.{Declared, declared, later, clash, both_parameters, variable_of_catch}
-use Rattle.form_rules.specs.Rules.{each_breaks, declared_places, exports_of, text_of, named_by, exported_among, repeated_exports, locals_among, is_declared, undeclared, broken_at}
+use Rattle.form_rules.specs.Rules.{Exported, is_exported, each_breaks, declared_places, exports_of, text_of, named_by, exported_among, repeated_exports, locals_among, is_declared, undeclared, broken_at}
 use Rattle.form_rules.specs.Form.{broken_in, broken, IsWellFormed}
 use Rattle.json_shape.specs.Shape.{Fits}
 use Rattle.scope_laws.specs.Place.{Around, first, behind, behind_none, under, plug}
@@ -32,14 +29,14 @@ use Rattle.steps.proofs.KeepForm.Form.{none_broken, stays_well_formed}
 use Rattle.steps.proofs.KeepForm.Rows.{itself}
 use Rattle.steps.proofs.KeepForm.Rules.{first_empty, second_empty, both_empty, each_kept, no_places, no_names}
 use Rattle.steps.proofs.Owed.AlikeTables.{Any, all_any}
-use Rattle.steps.proofs.Owed.Exported.{Distinct, distinct_shuffled, names_of, shown_by, shown, shown_apart, none_shown_twice}
+use Rattle.steps.proofs.Owed.Exported.{Distinct, distinct_shuffled, names_of, shown_by, shown, among_shown, shown_apart, none_shown_twice}
 use Rattle.steps.proofs.Owed.MergedForm.{unplaced, anywhere, one_first, unplaced_fewer, placed_fewer, declared_unplaced, moved, one_moved}
 use Rattle.steps.proofs.Owed.PassedFits.{left_fits}
 use Rattle.steps.proofs.Owed.PassedPlaces.{a_tree, export_in, export_out, import_in}
 use Rattle.steps.proofs.Owed.PassedRows.{AreListed, ArePassed, none_passed, one_passed, IsNew, new_names, new_namespace, passed_ones, parts}
 use Rattle.steps.proofs.Owed.PassedSheds.{listed_declares, export_sheds, import_sheds}
 use Rattle.steps.proofs.Owed.RepeatedRuns.{is_flat}
-use Rattle.steps.proofs.Owed.Shuffled.{Shuffled, one_by_one, by_equal, behind_all, all_over}
+use Rattle.steps.proofs.Owed.Shuffled.{Shuffled, as_before, further_on, two_change, one_by_one, by_equal, behind_all, all_over}
 
 -- ---- what is exported
 
@@ -70,6 +67,30 @@ row_shown : {names r s z : Forest} → PassesIn names r s z → Shuffled Any (sh
 row_shown (passes_here source n m i listed k below r s on out) =
     one_by_one (left_shown (parts on).listed_are out) (by_equal Any (names_of (named_by 0 listed) ++ shown s) (shown (node k i below s)) (ap (λ l. l ++ shown s) (sym (new_shown on))))
 row_shown (passes_behind k n below r s z h) = behind_all Any (shown_by k below) (row_shown h)
+
+-- so the same names are
+is_shown : List ℕ → List (List ℕ) → Bool
+is_shown x [] = false
+is_shown x (y ∷ ys) = bytes_eq y x || is_shown x ys
+
+shown_so : (x : List ℕ) (es : List Exported) → is_exported x es ≡ is_shown x (names_of es)
+shown_so x [] = refl
+shown_so x (e ∷ es) = ap (λ b. bytes_eq e.name x || b) (shown_so x es)
+
+either_first : (a b c : Bool) → (a || (b || c)) ≡ (b || (a || c))
+either_first true true c = refl
+either_first true false c = refl
+either_first false b c = refl
+
+shown_shuffled : (x : List ℕ) {xs ys : List (List ℕ)} → Shuffled Any xs ys → is_shown x xs ≡ is_shown x ys
+shown_shuffled x as_before = refl
+shown_shuffled x (further_on {x = y} h) = ap (λ b. bytes_eq y x || b) (shown_shuffled x h)
+shown_shuffled x (two_change {x = y} {y = z} {xs = xs} h) = either_first (bytes_eq y x) (bytes_eq z x) (is_shown x xs)
+shown_shuffled x (one_by_one h g) = shown_shuffled x h ∙ shown_shuffled x g
+
+pub same_names_exported : {names r s z : Forest} → PassesIn names r s z → (x : List ℕ) (p q : ℕ) → is_exported x (exported_among p r) ≡ is_exported x (exported_among q z)
+same_names_exported {r = r} {z = z} h x p q =
+    shown_so x (exported_among p r) ∙ ap (is_shown x) (among_shown p r) ∙ shown_shuffled x (row_shown h) ∙ ap (is_shown x) (sym (among_shown q z)) ∙ sym (shown_so x (exported_among q z))
 
 -- ---- what comes in declares no name, exports none of the module, and breaks no rule
 

@@ -12,8 +12,8 @@
 pub mod edits;
 pub mod fits;
 pub mod merged;
-pub mod passed;
 pub mod parts;
+pub mod passed;
 pub mod refusals;
 pub mod runs;
 pub mod tables;

@@ -1,0 +1,5 @@
+use Rattle.steps.proofs.Owed.PassedForm.{same_names_exported}
+use Rattle.steps.proofs.owed_laws.passed.passed_exports_keep_names.Goals as goal
+
+pub returns : goal.returns
+returns c = same_names_exported
