@@ -39,20 +39,20 @@ fewer_tally w _ _ (exports_pass n m names r s z h free none) = Prim.omega (arith
 
 -- a list that is read node by node
 module _ {X : Type 0} (x : X) (own : List X) where
-  more_behind : {xs ys : List X} → (Among x xs → Among x ys) → Among x (own ++ xs) → Among x (own ++ ys)
-  more_behind {xs = xs} {ys = ys} f h = elim (among_cases x own xs h) [
+  more_behind : (xs ys : List X) → (Among x xs → Among x ys) → Among x (own ++ xs) → Among x (own ++ ys)
+  more_behind xs ys f h = elim (among_cases x own xs h) [
     | inl e ↦ among_left x own ys e
     | inr e ↦ among_right x own ys (f e)
   ]
 
 left_referred : (d : Decl) {listed r s : Forest} → WithoutExport listed r s → Among d (referring s) → Among d (referring r)
 left_referred d {listed = listed} (export_leaves n m rest) h = among_right d (referring listed ++ []) (referring rest) h
-left_referred d (leaves_behind k n below r s out) h = more_behind d (own_referring n k ++ referring below) (left_referred d out) h
+left_referred d (leaves_behind k n below r s out) h = more_behind d (own_referring n k ++ referring below) (referring s) (referring r) (left_referred d out) h
 
 row_referred : (d : Decl) {names r s z : Forest} → PassesIn names r s z → Among d (referring z) → Among d (referring r)
 row_referred d {names = names} (passes_here source n m i listed k below r s on out) h =
     among_right d (referring names ++ []) (referring r) (left_referred d out (subst (Among d) (new_refers (parts on).new i s) h))
-row_referred d (passes_behind k n below r s z p) h = more_behind d (own_referring n k ++ referring below) (row_referred d p) h
+row_referred d (passes_behind k n below r s z p) h = more_behind d (own_referring n k ++ referring below) (referring z) (referring r) (row_referred d p) h
 
 in_module : {X : Type 0} (x : X) (xs ys : List X) → (Among x xs → Among x ys) → Among x ((xs ++ []) ++ []) → Among x ((ys ++ []) ++ [])
 in_module x xs ys f h = among_left x (ys ++ []) [] (among_left x ys [] (f (alone xs (alone (xs ++ []) h))))
@@ -68,12 +68,12 @@ referred_before _ _ (exports_pass n m names r s z h free none) d = in_module d (
 
 left_declared : (d : Decl) {listed r s : Forest} → WithoutExport listed r s → Among d (declaring s) → Among d (declaring r)
 left_declared d {listed = listed} (export_leaves n m rest) h = among_right d (declaring listed ++ []) (declaring rest) h
-left_declared d (leaves_behind k n below r s out) h = more_behind d (own_declaring n k ++ declaring below) (left_declared d out) h
+left_declared d (leaves_behind k n below r s out) h = more_behind d (own_declaring n k ++ declaring below) (declaring s) (declaring r) (left_declared d out) h
 
 row_declared : (d : Decl) {names r s z : Forest} → PassesIn names r s z → Among d (declaring z) → Among d (declaring r)
 row_declared d {names = names} (passes_here source n m i listed k below r s on out) h =
     among_right d (declaring names ++ []) (declaring r) (left_declared d out (subst (Among d) (new_declares (parts on).new i s) h))
-row_declared d (passes_behind k n below r s z p) h = more_behind d (own_declaring n k ++ declaring below) (row_declared d p) h
+row_declared d (passes_behind k n below r s z p) h = more_behind d (own_declaring n k ++ declaring below) (declaring z) (declaring r) (row_declared d p) h
 
 pub declared_before : (t u : Forest) → PassedExports t u → (d : Decl) → Among d (declaring u) → Among d (declaring t)
 declared_before _ _ (exports_pass n m names r s z h free none) d = in_module d (declaring z) (declaring r) (row_declared d h)

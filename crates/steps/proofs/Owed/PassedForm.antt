@@ -69,7 +69,7 @@ row_shown (passes_here source n m i listed k below r s on out) =
 row_shown (passes_behind k n below r s z h) = behind_all Any (shown_by k below) (row_shown h)
 
 -- so the same names are
-is_shown : List ℕ → List (List ℕ) → Bool
+abbrev is_shown : List ℕ → List (List ℕ) → Bool
 is_shown x [] = false
 is_shown x (y ∷ ys) = bytes_eq y x || is_shown x ys
 
