@@ -207,5 +207,4 @@ nodes_shed = counts_shed one_each (record {
   operand = λ t w h s. Prim.omega (arith, h);
   default_named = Prim.omega arith;
   of_element = λ text tail. Prim.omega arith;
-})
-(record { named = λ source. Prim.omega arith; each = λ imported exported exact. Prim.omega arith; whole = λ source exported. Prim.omega arith })
+}) (record { named = λ source. Prim.omega arith; each = λ imported exported exact. Prim.omega arith; whole = λ source exported. Prim.omega arith })
