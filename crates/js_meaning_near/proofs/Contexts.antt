@@ -21,7 +21,7 @@ use Rattle.js_meaning.specs.Meaning.{does, if_core, eval, take_this, run_code, e
 use Rattle.js_meaning.specs.Run.{finish, finally, module_does, as_value, first_state, seen}
 use Rattle.js_meaning.specs.Kept.{keeps, Keeps, Kept, refines, Refines, Refined, Prefix, recovers, Recovers, Recovered}
 use Rattle.js_meaning_near.specs.Names.{Status, known, exactly, Names, Usable, owed_function, Decls, declared, names_below}
-use Rattle.js_meaning_near.specs.Near.{Permits, ComesTo, comes_to, behind_jump, meaning, Silent, NoField, Change, statement_emptied, no_statement_emptied, near_silent, same_effects, wastes_more, one_sided, shorter, LooseModule, loose_module, value_read, Row, fields, items, ReceiverOk, is_row, Near, near_nothing, near_absent, near_node, near_closure, near_hoisted, near_unread, near_known, near_uncovered, near_import, changed, leaves, near_code, ExportsOk, NearModule, near_module, module_of, sign_applied, near_while, near_do, near_for, OwesBehind, behind_first, behind_no_first, OwesTurn, while_turn, do_turn, for_turn, owing_code, FirstField, first_node, first_absent, Owes, owes_here, owes_item, owes_behind, owes_absent, owes_below, is_passage, row_below, OwedEffects, Okay, OwingModule, owing_within, owing_itself}
+use Rattle.js_meaning_near.specs.Near.{Permits, ComesTo, comes_to, value_stays, behind_jump, meaning, Silent, NoField, Change, statement_emptied, no_statement_emptied, near_silent, same_effects, wastes_more, one_sided, shorter, LooseModule, loose_module, value_read, Row, fields, items, ReceiverOk, is_row, Near, near_nothing, near_absent, near_node, near_closure, near_hoisted, near_unread, near_known, near_uncovered, near_import, changed, leaves, near_code, ExportsOk, NearModule, near_module, module_of, sign_applied, near_while, near_do, near_for, OwesBehind, behind_first, behind_no_first, OwesTurn, while_turn, do_turn, for_turn, owing_code, FirstField, first_node, first_absent, Owes, owes_here, owes_item, owes_behind, owes_absent, owes_below, is_passage, row_below, OwedEffects, Okay, OwingModule, owing_within, owing_itself}
 use Rattle.js_meaning_near.proofs.Worlds.{any_value, only_value, both, slack, In, here, Links, Rule, World, Sub, same, no_links, slack_links, no_both, not_in, debt, debt_links, debt_alone, no_both_owed, slack_alone}
 use Rattle.js_meaning_near.proofs.Relations.{HoldsCell, SameSlot, same_local, same_import, as_many, CallEnds, call_gives, call_uncovered, call_out, At, at_nowhere, at_loose, at_live, at_known, at_dead, at_unread, Envs, Same, same_plain, SameOpt, same_none, same_some, SameAll, all_nil, SameCompletion, same_normal, same_gives, same_gives_all, same_refers, same_breaks, same_continues, same_returns, same_throws, SameExports, no_exports, an_export, SameAsk, same_run, same_value, same_place, same_take, same_take_all, same_declares, same_collect, same_entry, same_matches, States, Follows, both_go, both_stop, old_stops, old_out, Acts, Means, Tasks, same_body, same_turn, same_back, Enters, same_later, all_later, twice, Budgets, Owed, owed_later, at_owing, new_out, same_owing_turn}
 use Rattle.js_meaning_near.proofs.Acts.{bind_acts, give_both, stop_acts, unknown_acts, normal_acts, value_acts, seq_acts, set_exports_acts, spend_acts, give_acts, give_right}
@@ -34,6 +34,7 @@ use Rattle.js_meaning_near.proofs.Alone.{leads_acts, no_expression, silent_state
 use Rattle.js_meaning_near.proofs.Effects.{effects_act, leads_effects}
 use Rattle.js_meaning_near.proofs.Wasting.{statement_acts, wasted_means, sided_means, shorter_means}
 use Rattle.js_meaning_near.proofs.Jumps.{list_behind}
+use Rattle.js_meaning_near.proofs.ValueStays.{value_left}
 use Rattle.js_meaning_near.proofs.Nodes.{true_false, start_acts, first_ask_same, closure_acts, hoisted_does, does_acts, does_effect}
 use Rattle.js_meaning.proofs.Same.{Compared}
 use Rattle.js_meaning.proofs.Depth.{SameMeaning, both as alike_part, SameMaybe, neither as alike_none, SameParts, no_more, one_more, same_eval, same_load, cut, cut_runs, cut_more}
@@ -201,6 +202,8 @@ mutual
   near_rows E n lends (one_sided {us = us} {p = p} {b = b} {c = c} {d = d} g q o t) = rows_with E p us c d (part (sided_means E b g q (near_rows E n lends o))) (near_rows E n lends t)
   near_rows E n lends (shorter {us = us} {p = p} {i = i} {j = j} {b = b} {c = c} {d = d} q o t) = rows_with E p us c d (part (shorter_means E i j b q (near_rows E n lends o))) (near_rows E n lends t)
   near_rows E n lends (leaves i c) = record { listed = λ {w} {e} {f} {q} r s. seq_alone (idle_alone E n q i r) ((near_rows E n lends c).listed r s) }
+  near_rows E n lends (value_stays {us = us} {how = how} {x = x} {m = m} {i = i} {o = o} {j = j} {l = l} {k = k} {z = z} {a = a} {b = b} {c = c} {d = d} {e = g} lone v t) =
+      let value = near_rows E n lends v in rows_with E items us c d (part (any_means (λ w e f ask fellow u r s. value_left E how x m i o j l k z a b g lone value r s))) (near_rows E n lends t)
   near_rows E n lends (behind_jump {k = k} {n = m} {a = a} {c = c} {e = e} j u t) = list_behind E k m a c e j (near_rows E n lends t)
   near_rows E n lends (near_while {us = us} {p = p} {c = c} {d = d} x k o t) = let below = one_rows E n lends o in rows_with E p us c d (part (any_means (λ w e f q z u r s. while_acts E n x k o below r s))) (near_rows E n lends t)
   near_rows E n lends (near_do {us = us} {p = p} {a = a} {b = b} {c = c} {d = d} x k o t) = rows_with E p us c d (part (any_means (λ w e f q z u r s. do_acts E n (eval E a) (eval E b) x k o r s))) (near_rows E n lends t)

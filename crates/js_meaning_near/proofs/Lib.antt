@@ -14,6 +14,7 @@ pub mod Nodes
 pub mod Passages
 pub mod Jumps
 pub mod Wasting
+pub mod ValueStays
 pub mod Contexts
 pub mod Reordered
 pub mod ExportOrder

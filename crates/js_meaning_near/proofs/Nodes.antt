@@ -16,7 +16,7 @@ use Rattle.js_meaning.specs.Expression.{receiver_of, fill_own, function_value, w
 use Rattle.js_meaning.specs.Statement.{for_does, catch_does}
 use Rattle.js_meaning.specs.Meaning.{default_does, does}
 use Rattle.js_meaning_near.specs.Names.{known, silent_function, unread, Names, Fillable, FillableIf, Decls, Copied, declared, names_below, Fact, exactly, owed_function, OfCalls}
-use Rattle.js_meaning_near.specs.Near.{Idle, idle_empty, idle_expression, idle_no_expression, idle_waste, idle_statement, idle_function, idle_declarator, idle_bare_declarator, idle_cut_declarator, idle_declaration, statement_emptied, no_statement_emptied, value_read, SilentCode, near_silent, Row, fields, switch_fields, items, row_below, HoldsCases, Okay, key_of, keys, Heads, IsClosure, hoists_nothing, Unreached, goes_here, goes_behind, goes_behind_none, Near, behind_jump, wastes_more, one_sided, shorter, comes_to, near_nothing, near_absent, near_node, near_closure, near_hoisted, near_unread, near_known, near_uncovered, near_import, changed, same_effects, leaves, Code, sign_applied, idle_import, idle_export, near_while, near_do, near_for}
+use Rattle.js_meaning_near.specs.Near.{Idle, idle_empty, idle_expression, idle_no_expression, idle_waste, idle_statement, idle_function, idle_declarator, idle_bare_declarator, idle_cut_declarator, idle_declaration, statement_emptied, no_statement_emptied, value_read, SilentCode, near_silent, Row, fields, switch_fields, items, row_below, HoldsCases, Okay, key_of, keys, Heads, IsClosure, hoists_nothing, Unreached, goes_here, goes_behind, goes_behind_none, Near, value_stays, behind_jump, wastes_more, one_sided, shorter, comes_to, near_nothing, near_absent, near_node, near_closure, near_hoisted, near_unread, near_known, near_uncovered, near_import, changed, same_effects, leaves, Code, sign_applied, idle_import, idle_export, near_while, near_do, near_for}
 use Rattle.js_meaning_near.specs.Wasted.{IsSilent, Meets}
 use Rattle.js_meaning_near.specs.Purpose.{Purpose, for_value, for_effect, ForEffect, Purposes, for_values, loop_purposes, wanted_below}
 use Rattle.js_meaning_near.proofs.Worlds.{World}
@@ -188,6 +188,7 @@ start_acts {e = e} {f = f} {m = m} {k = k} s (wastes_more {k = g} {l = l} {a = a
 start_acts s (one_sided h q t u) r x = start_acts s u r x
 start_acts s (shorter q t u) r x = start_acts s u r x
 start_acts s (leaves i c) r x = idle_starts i r (start_acts s c r x)
+start_acts s (value_stays o v c) r x = start_acts s c r x
 start_acts {b = b} {w = w} {e = e} {f = f} {m = m} {k = k} s (behind_jump {k = g} {n = i} {a = o} j u t) r x = subst (λ z. Acts w z (start b f k)) (sym (unreached_starts e m (goes_behind {k = g} {n = i} {a = o} u))) (start_acts s t r x)
 
 -- what a node is asked that may be a statement or an expression

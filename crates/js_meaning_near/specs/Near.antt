@@ -358,6 +358,9 @@ mutual
         → Near us p st (node Kind.ForStatement n a c) (node Kind.ForStatement m b d)
     -- an item that the new list doesn't have
     leaves : {us : Purposes} {st : Names} {k : Kind} {n : Note} {a c d : Forest} → Idle st k a → Near us items st c d → Near us items st (node k n a c) d
+    -- an item that declares one name which nothing looks up, for a statement of its value
+    value_stays : {us : Purposes} {st : Names} {how : VariableKind} {x : Text} {n m i o j l q : Note} {k z : Kind} {a b c d e : Forest} → Lone (st x) → Near for_values fields st (node k j b nothing) (node z l e nothing) → Near us items st c d
+        → Near us items st (node (Kind.VariableDeclaration how) n (node Kind.Declarators m (node Kind.VariableDeclarator i (node (Kind.BindingName x) o a (node k j b nothing)) nothing) nothing) c) (node Kind.ExpressionStatement q (node z l e nothing) d)
     -- an item behind a jump, which never runs
     behind_jump : {us : Purposes} {st : Names} {k : Kind} {n : Note} {a c d e : Forest} → cuts_off k a ≡ true → Unreached c e → Near us items st (node k n a e) d → Near us items st (node k n a c) d
 
