@@ -12,7 +12,7 @@ use Rattle.js_meaning_near.specs.Near.{module_of}
 use Rattle.js_meaning_near.specs.Avoid.{declares, Dropped, HasCells}
 use Rattle.js_meaning_near.proofs.Avoid.{itself}
 use Rattle.steps.specs.Names.{is_among}
-use Rattle.steps.specs.Steps.{Around, entered, outermost, Step, leaves, empties, unbinds, inside, behind_node, behind_absent}
+use Rattle.steps.specs.Steps.{Around, entered, outermost, Step, leaves, empties, unbinds, states, inside, behind_node, behind_absent}
 use Rattle.steps.specs.KeepRuns.Formed.{holds_well, heads, is_formed}
 use Rattle.steps.specs.KeepRuns.Drop.{Drop, no_drop, of_block, of_function, dropped}
 use Rattle.steps.specs.KeepRuns.Once.{OnceAt, OnceIn, Once}
@@ -89,6 +89,7 @@ once_step : {w : Around} {t u : Forest} (s : Step w t u) (places : ℕ → Place
 once_step (leaves g) places at f o v c = tt
 once_step (empties h) places at f o v c = tt
 once_step (unbinds i u h) places at f o v c = tt
+once_step (states i u h) places at f o v c = tt
 once_step (inside {w = w} {k = k} {n = n} {a = a} {b = b} {r = r} s) places at f o v c =
     let i = and_parts (fits (places at) (sort_of k)) _ o in
     let j = and_parts (well_placed (place_below (places at) k) 0 b) _ i.1 in

@@ -4,7 +4,7 @@ use Rattle.js_syntax.specs.declared.node_kind.NodeKind.{NodeKind as Kind}
 use Rattle.js_syntax.specs.Node.{Forest, nothing, node, alone}
 use Rattle.js_syntax.specs.Facts.{is_core}
 use Rattle.js_meaning.specs.Value.{Text}
-use Rattle.steps.specs.Steps.{Around, Unbinds, unbinds_here, unbinds_below, unbinds_behind, unbinds_behind_absent, Step, leaves, empties, unbinds, inside, behind_node, behind_absent, all_core}
+use Rattle.steps.specs.Steps.{Around, Unbinds, unbinds_here, unbinds_below, unbinds_behind, unbinds_behind_absent, Step, leaves, empties, unbinds, states, inside, behind_node, behind_absent, all_core}
 use Rattle.js_syntax.proofs.Truth.{first_of_both, second_of_both, both}
 
 -- of a node: its kind, what lies below it, and what stands behind it
@@ -28,6 +28,12 @@ step_core (leaves {k = k} {a = a} {r = r} g) e = core_behind k a r e
 step_core (empties {k = k} {l = l} {a = a} {r = r} h) e = core_behind Kind.ExpressionStatement (alone k l a) r e
 step_core (unbinds {source = source} {a = a} {b = b} {r = r} i o h) e =
     both true _ refl (both (all_core b) _ (unbound_core h (core_below (Kind.ImportDeclaration source) a r e)) (core_behind (Kind.ImportDeclaration source) a r e))
+step_core (states {how = how} {x = x} {k = k} {m = m} {l = l} {j = j} {i = i} {a = a} {r = r} g u h) e =
+    let value = alone k i a in
+    let name = node (Kind.BindingName x) j nothing value in
+    let declarator = alone Kind.VariableDeclarator l name in
+    let all = core_below (Kind.VariableDeclaration how) (alone Kind.Declarators m declarator) r e in
+    both true _ refl (both (all_core value) _ (core_behind (Kind.BindingName x) nothing value (core_below Kind.VariableDeclarator name nothing (core_below Kind.Declarators declarator nothing all))) (core_behind (Kind.VariableDeclaration how) (alone Kind.Declarators m declarator) r e))
 step_core (inside {k = k} {a = a} {b = b} {r = r} s) e = both (is_core k) _ (core_kind k a r e) (both (all_core b) _ (step_core s (core_below k a r e)) (core_behind k a r e))
 step_core (behind_node {k = k} {a = a} {r = r} s) e = both (is_core k) _ (core_kind k a r e) (both (all_core a) _ (core_below k a r e) (step_core s (core_behind k a r e)))
 step_core (behind_absent s) e = step_core s e

@@ -113,6 +113,9 @@ pub data Step : Around → (t u : Forest) → Type 0 where
   empties : {w : Around} {k : Kind} {n m l : Note} {a r : Forest} → Idle w.names k l a → Step w (node Kind.ExpressionStatement n (alone k l a) r) (node Kind.EmptyStatement m nothing r)
   -- a name that nothing refers to leaves an import, which stays
   unbinds : {w : Around} {source x : Text} {n : Note} {a b r : Forest} → w.row ≡ items → is_used w variable.Let x ≡ false → Unbinds x a b → Step w (node (Kind.ImportDeclaration source) n a r) (node (Kind.ImportDeclaration source) n b r)
+  -- an item that declares one name, to which nothing refers, becomes a statement of its value
+  states : {w : Around} {how : VariableKind} {x : Text} {k : Kind} {n m l j i o : Note} {a r : Forest} → w.row ≡ items → is_used w how x ≡ false → bound_names (alone k i a) ≡ []
+      → Step w (node (Kind.VariableDeclaration how) n (alone Kind.Declarators m (alone Kind.VariableDeclarator l (node (Kind.BindingName x) j nothing (alone k i a)))) r) (node Kind.ExpressionStatement o (alone k i a) r)
   -- a step further in, or further on
   inside : {w : Around} {k : Kind} {n : Note} {a b r : Forest} → Step (entered w k a) a b → Step w (node k n a r) (node k n b r)
   behind_node : {w : Around} {k : Kind} {n : Note} {a r s : Forest} → Step w r s → Step w (node k n a r) (node k n a s)

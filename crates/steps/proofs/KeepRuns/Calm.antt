@@ -1,14 +1,15 @@
 -- Steps where no statement stands: none, or inside of functions.
-use Rattle.std.proofs.Common.{◌≡◌, ◌∙◌, ◌⊎◌, inl, inr, ◌++◌, Bool, true, false, true≢false, ◌&&◌, None, refl, sym, ap, ap₂}
+use Rattle.std.proofs.Common.{◌≡◌, ◌∙◌, ◌⊎◌, inl, inr, ◌++◌, Bool, true, false, true≢false, ◌&&◌, if◌then◌else◌, None, refl, sym, ap, ap₂}
 use Rattle.js_syntax.specs.declared.node_kind.NodeKind.{NodeKind as Kind}
 use Rattle.js_syntax.specs.Node.{Forest, nothing, node, absent, Note, nowhere}
 use Rattle.js_syntax.specs.declared.kind.FunctionKind.{FunctionKind}
 use Rattle.js_syntax.specs.declared.kind.FunctionKind.TheVariants as function_kind
+use Rattle.js_syntax.specs.declared.kind.VariableKind.{VariableKind}
 use Rattle.js_syntax.specs.declared.kind.VariableKind.TheVariants as variable
 use Rattle.js_syntax.specs.declared.kind.ClassKind.TheVariants as class_kind
 use Rattle.js_meaning.specs.Scope.{first_of, behind, first_name, names_of, bound_names, vars_of, var_names, item_decls, lexical, waiting, all_so, named_so, or_default}
 use Rattle.js_meaning_near.specs.Near.{is_row}
-use Rattle.steps.specs.Steps.{Row, items, declarators, other, row_below, Around, entered, Goes, empty_statement, unused_function, unused_declarator, unused_declaration, Step, leaves, empties, unbinds, inside, behind_node, behind_absent}
+use Rattle.steps.specs.Steps.{Row, items, of_item, declarators, other, is_single, row_below, Around, entered, Goes, empty_statement, unused_function, unused_declarator, unused_declaration, Step, leaves, empties, unbinds, states, inside, behind_node, behind_absent}
 use Rattle.steps.specs.KeepRuns.Formed.{is_plain, still, calm_at, calm, heads, holds_well, is_formed}
 use Rattle.steps.specs.KeepRuns.Drop.{no_drop, outside, dropped}
 use Rattle.js_syntax.proofs.Truth.{first_of_both, second_of_both}
@@ -50,12 +51,30 @@ other_below w k a h e = entered_row w k a ∙ ap (λ r. row_below r k a) h ∙ p
 pub items_other : {r : Row} → r ≡ items → r ≡ other → ⊥
 items_other i g = cc
 
+-- below a node that is no list of statements there are no items
+one_or_more : (how : VariableKind) (single : Bool) → (if single then other else declarators how) ≡ items → ⊥
+one_or_more how true e = cc
+one_or_more how false e = cc
+
+pub no_items_below : (r : Row) (k : Kind) (a : Forest) → is_plain k ≡ true → row_below r k a ≡ items → ⊥
+no_items_below r Kind.Statements a e f = true≢false (sym e)
+no_items_below (of_item how) Kind.Declarators a e f = one_or_more how (is_single a) f
+no_items_below items Kind.Declarators a e f = cc
+no_items_below (declarators how) Kind.Declarators a e f = cc
+no_items_below other Kind.Declarators a e f = cc
+no_items_below items (Kind.VariableDeclaration how) a e f = cc
+no_items_below (of_item h) (Kind.VariableDeclaration how) a e f = cc
+no_items_below (declarators h) (Kind.VariableDeclaration how) a e f = cc
+no_items_below other (Kind.VariableDeclaration how) a e f = cc
+no_items_below r k a e f = cc
+
 -- no step
 
 pub still_stays : {w : Around} {t u : Forest} → Step w t u → w.row ≡ other → still t ≡ true → ⊥
 still_stays (leaves h) g e = leaves_no_other h g
 still_stays (empties h) g e = true≢false (sym e)
 still_stays (unbinds i u h) g e = items_other i g
+still_stays (states i u h) g e = items_other i g
 still_stays (inside {w = w} {k = k} {a = a} {r = r} s) g e =
     let f = first_of_both (is_plain k && still a) (still r) e in
     still_stays s (other_below w k a g (first_of_both (is_plain k) (still a) f)) (second_of_both (is_plain k) (still a) f)
@@ -74,6 +93,7 @@ pub first_stays : {w : Around} {a b : Forest} (s : Step w a b) → w.row ≡ oth
 first_stays (leaves h) g e = absurd (leaves_no_other h g)
 first_stays (empties h) g e = absurd (true≢false (sym e))
 first_stays (unbinds i u h) g e = absurd (items_other i g)
+first_stays (states i u h) g e = absurd (items_other i g)
 first_stays (inside {n = n} s) g e = absurd (still_stays (inside {n = n} {r = nothing} s) g e)
 first_stays (behind_node s) g e = record { first = refl; name = refl; rows = refl; step = s; drops = refl }
 first_stays (behind_absent s) g e = record { first = refl; name = refl; rows = refl; step = s; drops = refl }
@@ -142,6 +162,7 @@ pub calm_step : {w : Around} {t u : Forest} (s : Step w t u) → w.row ≡ other
 calm_step (leaves h) g e f = absurd (leaves_no_other h g)
 calm_step (empties h) g e f = absurd (true≢false (sym e))
 calm_step (unbinds i u h) g e f = absurd (items_other i g)
+calm_step (states i u h) g e f = absurd (items_other i g)
 calm_step (inside {w = w} {k = k} {n = n} {a = a} {b = b} {r = r} s) g e f =
     calm_node_step k s (other_below w k a g) (calm_node k (calm a) (first_of_both (calm_at k (calm a)) (calm r) e)) f (λ i j. calm_step s i j (form_below k a r f))
 calm_step (behind_node {k = k} {a = a} {r = r} s) g e f =

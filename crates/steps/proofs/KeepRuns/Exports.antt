@@ -8,7 +8,7 @@ use Rattle.js_syntax.specs.declared.kind.FunctionKind.TheVariants as function_ki
 use Rattle.js_meaning.specs.Value.{Text}
 use Rattle.js_meaning.specs.Scope.{first_name, waiting, named_so}
 use Rattle.js_meaning.specs.Module.{requests_of, requests, entry_local, specifier_of, local_entries, foreign_of, foreign_entries, same_names, names_in, declared_in, declared_entries, default_local, list_below, entries_of, entries, star_of, stars}
-use Rattle.steps.specs.Steps.{items, Around, entered, Goes, empty_statement, unused_function, unused_declarator, unused_declaration, Step, leaves, empties, unbinds, inside, behind_node, behind_absent}
+use Rattle.steps.specs.Steps.{items, Around, entered, Goes, empty_statement, unused_function, unused_declarator, unused_declaration, Step, leaves, empties, unbinds, states, inside, behind_node, behind_absent}
 use Rattle.steps.specs.KeepRuns.Formed.{heads, is_formed}
 use Rattle.steps.proofs.KeepRuns.Calm.{form_heads, form_below, form_behind, Alike, alike_nothing, alike_absent, alike_same, alike_node, alike_function, alike_itself, IsImport, calm_step, same_first_name, same_bounds, same_lexical, lexical_at}
 
@@ -99,6 +99,7 @@ pub step_entries : {w : Around} {t u : Forest} → Step w t u → w.row ≡ item
 step_entries (leaves {r = r} g) i f = ap (λ l. l ++ entries r) (leaves_private g).entries
 step_entries (empties h) i f = refl
 step_entries (unbinds g u h) i f = refl
+step_entries (states g u h) i f = refl
 step_entries (inside {w = w} {k = k} {a = a} {r = r} s) i f = ap (λ l. l ++ entries r) (entries_inside w k s (form_heads k a r f) (form_below k a r f))
 step_entries (behind_node {k = k} {a = a} {r = r} s) i f = ap (λ l. entries_of k a ++ l) (step_entries s i (form_behind k a r f))
 step_entries (behind_absent s) i f = step_entries s i f
@@ -107,6 +108,7 @@ pub step_stars : {w : Around} {t u : Forest} → Step w t u → stars t ≡ star
 step_stars (leaves {r = r} g) = ap (λ l. l ++ stars r) (leaves_private g).stars
 step_stars (empties h) = refl
 step_stars (unbinds i u h) = refl
+step_stars (states i u h) = refl
 step_stars (inside s) = refl
 step_stars (behind_node {k = k} s) = ap (λ l. star_of k ++ l) (step_stars s)
 step_stars (behind_absent s) = step_stars s
@@ -115,6 +117,7 @@ pub step_requests : {w : Around} {t u : Forest} → Step w t u → requests t �
 step_requests (leaves {r = r} g) = ap (λ l. l ++ requests r) (leaves_private g).requests
 step_requests (empties h) = refl
 step_requests (unbinds i u h) = refl
+step_requests (states i u h) = refl
 step_requests (inside s) = refl
 step_requests (behind_node {k = k} s) = ap (λ l. requests_of k ++ l) (step_requests s)
 step_requests (behind_absent s) = step_requests s

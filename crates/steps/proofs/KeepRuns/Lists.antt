@@ -9,7 +9,7 @@ use Rattle.js_meaning.specs.Value.{Text}
 use Rattle.js_meaning.specs.Scope.{Way, Decl, first_of, names_of, bound_names, vars_of, var_names, item_decls, lexical, waiting, all_so, named_so, or_default}
 use Rattle.js_meaning_near.specs.Avoid.{Dropped, dropped_here, dropped_later}
 use Rattle.js_meaning_near.proofs.Avoid.{fewer_itself, dropped_first, dropped_second}
-use Rattle.steps.specs.Steps.{Row, items, of_item, declarators, other, is_single, row_below, Around, entered, Initialiser, no_initialiser, silent_initialiser, Goes, empty_statement, unused_function, unused_declarator, unused_declaration, Step, leaves, empties, unbinds, inside, behind_node, behind_absent}
+use Rattle.steps.specs.Steps.{Row, items, of_item, declarators, other, is_single, row_below, Around, entered, Initialiser, no_initialiser, silent_initialiser, Goes, empty_statement, unused_function, unused_declarator, unused_declaration, Step, leaves, empties, unbinds, states, inside, behind_node, behind_absent}
 use Rattle.steps.specs.KeepRuns.Formed.{holds_statements, is_function, is_cases, is_switch, may_hold, holds_well, is_plain, still, calm_at, calm, heads, is_formed}
 use Rattle.steps.specs.KeepRuns.Drop.{Drop, no_drop, of_block, of_function, declared_so, out_of_block, outside, drop_of, dropped}
 use Rattle.steps.proofs.KeepRuns.Unbound.{unbound_decls, unbound_vars}
@@ -175,6 +175,7 @@ decl_step how (leaves {n = n} {r = r} (unused_declarator {x = x} {m = m} {v = v}
 decl_step how (leaves (unused_declaration h u z)) i e f = absurd (item_items i h)
 decl_step how (empties h) i e f = absurd (true≢false (sym e))
 decl_step how (unbinds g u h) i e f = absurd (item_items i g)
+decl_step how (states g u h) i e f = absurd (item_items i g)
 decl_step how (inside {k = k} {a = a} {r = r} s) i e f = decl_inside how k s i (first_of_both (calm_at k (calm a)) (calm r) e) f (λ g c. decl_step how s (inr g) c (form_below k a r f))
 decl_step how (behind_node {k = k} {a = a} {r = r} s) i e f = gone_behind s (decl_step how s i (second_of_both (calm_at k (calm a)) (calm r) e) (form_behind k a r f))
 decl_step how (behind_absent s) i e f = gone_absent s (decl_step how s i e f)
@@ -277,6 +278,11 @@ pub vars_step : {w : Around} {t u : Forest} (s : Step w t u) (above : Kind) → 
 vars_step (leaves {r = r} g) above m i f = vars_back _ [] (drop_of g) (var_names r) (list_loses g i).vars
 vars_step (empties {k = k} {l = n} {a = a} {r = r} h) above m i f = ap (λ l. l ++ var_names r) (no_vars (alone k n a) h.declares)
 vars_step (unbinds {r = r} g u h) above m i f = ap (λ l. l ++ var_names r) (unbound_vars h)
+vars_step (states {how = how} {x = x} {k = k} {m = m} {l = l} {j = j} {i = y} {a = a} {r = r} g u h) above b i f =
+    let value = alone k y a in
+    let all = alone Kind.Declarators m (alone Kind.VariableDeclarator l (node (Kind.BindingName x) j nothing value)) in
+    subst (λ ns. VarsChange (declared_so how x) (vars_of (Kind.VariableDeclaration how) all (var_names all) ++ var_names r) (ns ++ var_names r)) (sym (no_vars value h))
+    (vars_back _ [] (declared_so how x) (var_names r) (declaration_vars how x m l j value h))
 vars_step (inside {k = k} {a = a} {b = b} {r = r} s) above m i f =
     vars_back _ _ (outside k (dropped s)) (var_names r) (vars_inside _ k s above (first_of_both (may_hold above k) (holds_well above r) m) i (form_heads k a r f) (form_below k a r f) (λ j. vars_step s k (form_holds k a r f) j (form_below k a r f)))
 vars_step (behind_node {k = k} {a = a} {r = r} {s = z} s) above m i f =
@@ -328,6 +334,7 @@ pub not_block : {w : Around} {t u : Forest} (s : Step w t u) (above : Kind) → 
 not_block (leaves h) above m g i f = absurd (leaves_no_other h i)
 not_block (empties h) above m g i f = tt
 not_block (unbinds j u h) above m g i f = absurd (items_other j i)
+not_block (states j u h) above m g i f = absurd (items_other j i)
 not_block (inside {k = k} {a = a} {r = r} s) above m g i f =
     not_block_inside _ k s above (first_of_both (may_hold above k) (holds_well above r) m) g i (form_heads k a r f) (form_below k a r f) (λ j l. not_block s k (form_holds k a r f) l j (form_below k a r f))
 not_block (behind_node {k = k} {a = a} {r = r} s) above m g i f = not_block s above (second_of_both (may_hold above k) (holds_well above r) m) g i (form_behind k a r f)
@@ -379,6 +386,7 @@ pub lexical_step : {w : Around} {t u : Forest} (s : Step w t u) (above : Kind) �
 lexical_step (leaves {r = r} g) above m n i f = lexical_back _ [] (drop_of g) (lexical r) (list_loses g i).lexical
 lexical_step (empties h) above m n i f = refl
 lexical_step (unbinds {source = source} {x = x} {r = r} g u h) above m n i f = dropped_first (unbound_decls source h) (fewer_itself x (lexical r))
+lexical_step (states {how = how} {x = x} {k = k} {m = m} {l = l} {j = j} {i = y} {a = a} {r = r} g u h) above b n i f = lexical_back _ [] (declared_so how x) (lexical r) (declaration_lexical how x m l j (alone k y a) h)
 lexical_step (inside {k = k} {a = a} {b = b} {r = r} s) above m n i f =
     lexical_back _ _ (outside k (dropped s)) (lexical r) (lexical_inside _ k s above (first_of_both (may_hold above k) (holds_well above r) m) n i (form_holds k a r f) (form_heads k a r f) (form_below k a r f) (λ q j. lexical_step s k (form_holds k a r f) q j (form_below k a r f)))
 lexical_step (behind_node {k = k} {a = a} {r = r} {s = z} s) above m n i f =

@@ -17,7 +17,7 @@ use Rattle.js_meaning_near.specs.Fit.{Part, whole, others, IfCore}
 use Rattle.js_meaning_near.specs.Avoid.{Dropped, dropped_later, InPlace, NodeInPlace, ExportsAvoid}
 use Rattle.js_meaning_near.proofs.Avoid.{fewer_itself, dropped_first, dropped_second}
 use Rattle.js_meaning_near.proofs.Contexts.{near_refines}
-use Rattle.steps.specs.Steps.{Around, entered, outermost, Step, leaves, empties, unbinds, inside, behind_node, behind_absent}
+use Rattle.steps.specs.Steps.{Around, entered, outermost, Step, leaves, empties, unbinds, states, inside, behind_node, behind_absent}
 use Rattle.steps.specs.KeepRuns.Formed.{holds_well, is_formed}
 use Rattle.steps.specs.KeepRuns.Drop.{Drop, no_drop, of_block, of_function, dropped}
 use Rattle.steps.specs.KeepRuns.Tidy.{ClearModule, TidyAt, Tidy}
@@ -110,12 +110,14 @@ pub place_step : {w : Around} {t u : Forest} (q : Part) (p : near.Row) → Step 
 place_step whole p (leaves g) i = i.1
 place_step whole p (empties h) i = ((tt, tt), i.1)
 place_step whole p (unbinds g u h) i = ((i.0.0, unbound_place _ h i.0.1), i.1)
+place_step whole p (states g u h) i = ((tt, i.0.1.0.1.0.1.1), i.1)
 place_step whole p (inside {k = k} s) i = (place_map p k (is_core k) (λ q r j. place_step q r s j) i.0, i.1)
 place_step whole p (behind_node s) i = (i.0, place_step whole p s i.1)
 place_step whole p (behind_absent s) i = place_step whole p s i
 place_step others p (leaves {r = r} g) i = others_of_whole p r i
 place_step others p (empties h) i = i
 place_step others p (unbinds g u h) i = i
+place_step others p (states g u h) i = i
 place_step others p (inside s) i = i
 place_step others p (behind_node s) i = place_step whole p s i
 place_step others p (behind_absent s) i = place_step whole p s i

@@ -15,7 +15,7 @@ use Rattle.js_meaning_near.specs.Avoid.{declares, Dropped, Dropping, InPlace, Av
 use Rattle.js_meaning_near.proofs.Avoid.{after_plain, dropped_decls, fits_clear, fits_avoiding}
 use Rattle.js_meaning_near.proofs.Fit.{decls_to}
 use Rattle.steps.specs.Names.{is_among, names_declared, refers}
-use Rattle.steps.specs.Steps.{Around, in_block, entered, is_used, Goes, empty_statement, unused_function, unused_declarator, unused_declaration, Step, leaves, empties, unbinds, inside, behind_node, behind_absent}
+use Rattle.steps.specs.Steps.{Around, in_block, entered, is_used, Goes, empty_statement, unused_function, unused_declarator, unused_declaration, Step, leaves, empties, unbinds, states, inside, behind_node, behind_absent}
 use Rattle.steps.proofs.Among.{among_joined}
 use Rattle.steps.specs.KeepRuns.Drop.{Drop, no_drop, of_block, of_function, declared_so, out_of_block, outside, drop_of, dropped}
 use Rattle.steps.specs.KeepRuns.Tidy.{Clear}
@@ -229,6 +229,7 @@ step_unused : {w : Around} {t u : Forest} (s : Step w t u) → Unused w (dropped
 step_unused (leaves g) = leaves_unused g
 step_unused (empties h) = tt
 step_unused (unbinds i u h) = u
+step_unused {w} (states {how = how} {x = x} i u h) = unused_so w how x u
 step_unused (inside {w = w} {k = k} {a = a} s) = unused_outside w k a (dropped s) (step_unused s)
 step_unused (behind_node s) = step_unused s
 step_unused (behind_absent s) = step_unused s

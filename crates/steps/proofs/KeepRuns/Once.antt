@@ -13,7 +13,7 @@ use Rattle.js_meaning_near.specs.Near.{fields}
 use Rattle.js_meaning_near.specs.Fit.{Part, whole, others, part_of}
 use Rattle.js_meaning_near.specs.Avoid.{declares, HasCells, InPlace, NodeInPlace}
 use Rattle.steps.specs.Names.{is_among, refers_at, refers}
-use Rattle.steps.specs.Steps.{Around, entered, Goes, empty_statement, unused_function, unused_declarator, unused_declaration, Unbinds, unbinds_here, unbinds_below, unbinds_behind, unbinds_behind_absent, Step, leaves, empties, unbinds, inside, behind_node, behind_absent, all_core}
+use Rattle.steps.specs.Steps.{Around, entered, Goes, empty_statement, unused_function, unused_declarator, unused_declaration, Unbinds, unbinds_here, unbinds_below, unbinds_behind, unbinds_behind_absent, Step, leaves, empties, unbinds, states, inside, behind_node, behind_absent, all_core}
 use Rattle.steps.specs.KeepRuns.Formed.{may_hold, holds_well, heads, is_free_name, is_formed, still}
 use Rattle.steps.specs.KeepRuns.Drop.{Drop, no_drop, of_block, of_function, declared_so, out_of_block, outside, drop_of, dropped}
 use Rattle.steps.specs.KeepRuns.Tidy.{Clear, TidyAt, Tidy}
@@ -72,13 +72,16 @@ free_name x e = record { this = not_true _ (first_of_both (not (bytes_eq this_na
 named_free : (x : Text) (m : Note) (v : Forest) → is_formed (node (Kind.BindingName x) m nothing v) ≡ true → IsFree x
 named_free x m v f = free_name x (form_heads (Kind.BindingName x) nothing v f)
 
+declared_free : (x : Text) (m l j : Note) (v : Forest) → is_formed (alone Kind.Declarators m (alone Kind.VariableDeclarator l (node (Kind.BindingName x) j nothing v))) ≡ true → IsFree x
+declared_free x m l j v f =
+    let n : Forest = node (Kind.BindingName x) j nothing v in
+    named_free x j v (form_below Kind.VariableDeclarator n nothing (form_below Kind.Declarators (alone Kind.VariableDeclarator l n) nothing f))
+
 leaves_free : {w : Around} {k : Kind} {b : Forest} (g : Goes w k b) (x : Text) → Drops x (drop_of g) → is_formed b ≡ true → IsFree x
 leaves_free (empty_statement h) x e f = absurd (drops_none x e)
 leaves_free (unused_function {x = y} {m = m} {a = a} h u) x e f = subst IsFree (same_name variable.Let y x e) (named_free y m a f)
 leaves_free (unused_declarator {how = how} {x = y} {m = m} {v = v} h u i) x e f = subst IsFree (same_name how y x e) (named_free y m v f)
-leaves_free (unused_declaration {how = how} {x = y} {l = l} {j = j} {v = v} h u i) x e f =
-    let n : Forest = node (Kind.BindingName y) j nothing v in
-    subst IsFree (same_name how y x e) (named_free y j v (form_below Kind.VariableDeclarator n nothing (form_below Kind.Declarators (alone Kind.VariableDeclarator l n) nothing f)))
+leaves_free (unused_declaration {how = how} {x = y} {m = m} {l = l} {j = j} {v = v} h u i) x e f = subst IsFree (same_name how y x e) (declared_free y m l j v f)
 
 unbound_free : {x : Text} {t u : Forest} → Unbinds x t u → is_formed t ≡ true → IsFree x
 unbound_free {x} (unbinds_here {k = k} {m = m} {r = r} b) f = named_free x m nothing (form_below k (node (Kind.BindingName x) m nothing nothing) r f)
@@ -90,6 +93,9 @@ pub name_free : {w : Around} {t u : Forest} (s : Step w t u) (x : Text) → Drop
 name_free (leaves {k = k} {a = a} {r = r} g) x e f = leaves_free g x e (form_below k a r f)
 name_free (empties h) x e f = absurd (drops_none x e)
 name_free (unbinds {source = source} {x = y} {a = a} {r = r} i u h) x e f = subst IsFree (same_name variable.Let y x e) (unbound_free h (form_below (Kind.ImportDeclaration source) a r f))
+name_free (states {how = how} {x = y} {k = k} {m = m} {l = l} {j = j} {i = i} {a = a} {r = r} g u h) x e f =
+    let all = alone Kind.Declarators m (alone Kind.VariableDeclarator l (node (Kind.BindingName y) j nothing (alone k i a))) in
+    subst IsFree (same_name how y x e) (declared_free y m l j (alone k i a) (form_below (Kind.VariableDeclaration how) all r f))
 name_free (inside {k = k} {a = a} {r = r} s) x e f = name_free s x (drops_inside x k (dropped s) e) (form_below k a r f)
 name_free (behind_node {k = k} {a = a} {r = r} s) x e f = name_free s x e (form_behind k a r f)
 name_free (behind_absent s) x e f = name_free s x e f
@@ -133,6 +139,10 @@ pub refers_step : {w : Around} {t u : Forest} (s : Step w t u) (x : Text) → Dr
 refers_step (leaves {k = k} {n = n} {a = a} {r = r} h) x g f e = refers_rest x k n a r e
 refers_step (empties h) x g f e = absurd (drops_none x g)
 refers_step (unbinds {a = a} {b = b} {r = r} i u h) x g f e = neither (refers x b) (refers x r) (unbound_refers x h (first_of_neither (refers x a) (refers x r) e)) (second_of_neither (refers x a) (refers x r) e)
+refers_step (states {k = k} {i = i} {a = a} {r = r} z u h) x g f e =
+    let v = refers x (alone k i a) in
+    let all = first_of_neither ((v || false) || false) (refers x r) e in
+    neither v (refers x r) (first_of_neither v false (first_of_neither (v || false) false all)) (second_of_neither ((v || false) || false) (refers x r) e)
 refers_step (inside {w = w} {k = k} {a = a} {b = b} {r = r} s) x g f e =
     let i = refers_inside w k s x g (form_holds k a r f) (form_heads k a r f) (form_below k a r f) (first_of_neither (refers_at x k a (refers x a)) (refers x r) e) (λ j. refers_step s x (drops_inside x k (dropped s) g) (form_below k a r f) j) in
     ap₂ (λ (p q : Bool). p || q) i (second_of_neither (refers_at x k a (refers x a)) (refers x r) e)
@@ -175,6 +185,7 @@ pub once_tidy : {w : Around} {t u : Forest} (q : Part) (p : near.Row) (s : Step 
 once_tidy q p (leaves h) above m f g c i j o = tt
 once_tidy q p (empties h) above m f g c i j o = tt
 once_tidy q p (unbinds i u h) above m f g c l j o = tt
+once_tidy q p (states i u h) above m f g c l j o = tt
 once_tidy others p (inside {n = n} s) above m f g c i j o = absurd (still_stays (inside {n = n} {r = nothing} s) i.0 i.1)
 once_tidy whole p (inside {w = w} {k = k} {n = n} {a = a} {b = b} {r = r} s) above m f g c i j o =
     let place : NodeInPlace p k (λ q r. InPlace q r b) = if_core (is_core k) (core_kind k n b r c) j.0 in (

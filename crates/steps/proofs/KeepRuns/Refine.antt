@@ -1,7 +1,7 @@
 -- A step leaves a row that is near.
 use Rattle.std.proofs.Common.{◌≡◌, ◌∙◌, inr, List, [], ◌++◌, Bool, true, false, true≢false, refl, sym, ap, subst}
 use Rattle.js_syntax.specs.declared.node_kind.NodeKind.{NodeKind as Kind}
-use Rattle.js_syntax.specs.Node.{Forest, nothing, node, Note}
+use Rattle.js_syntax.specs.Node.{Forest, nothing, node, Note, alone}
 use Rattle.js_syntax.specs.Facts.{is_core}
 use Rattle.js_syntax.specs.declared.kind.FunctionKind.TheVariants as function_kind
 use Rattle.js_meaning.specs.Value.{Text}
@@ -18,9 +18,9 @@ use Rattle.js_meaning_near.proofs.Fit.{decls_to, same_copied, fit}
 use Rattle.js_meaning_near.proofs.Once.{node_stays}
 use Rattle.steps.specs.Names.{is_among, names_declared}
 use Rattle.steps.specs.Steps as steps
-use Rattle.steps.specs.Steps.{items, of_item, declarators, other, row_below, Around, entered, Initialiser, no_initialiser, silent_initialiser, Goes, empty_statement, unused_function, unused_declarator, unused_declaration, Step, leaves, empties, unbinds, inside, behind_node, behind_absent}
+use Rattle.steps.specs.Steps.{items, of_item, declarators, other, row_below, Around, entered, Initialiser, no_initialiser, silent_initialiser, Goes, empty_statement, unused_function, unused_declarator, unused_declaration, Step, leaves, empties, unbinds, states, inside, behind_node, behind_absent}
 use Rattle.steps.specs.KeepRuns.Formed.{may_hold, holds_well, still, is_formed}
-use Rattle.steps.specs.KeepRuns.Drop.{Drop, no_drop, of_block, of_function, out_of_block, outside, drop_of, dropped}
+use Rattle.steps.specs.KeepRuns.Drop.{Drop, no_drop, of_block, of_function, declared_so, out_of_block, outside, drop_of, dropped}
 use Rattle.steps.specs.KeepRuns.Tidy.{TidyAt, Tidy}
 use Rattle.steps.proofs.KeepRuns.Silent.{Declare, silent}
 use Rattle.steps.proofs.KeepRuns.Calm.{items_other, is_list, leaves_list, leaves_no_other, entered_row, still_stays, first_stays, form_holds, form_heads, form_below, form_behind}
@@ -177,6 +177,11 @@ near_step whole (leaves {r = r} h) us above p st m f i o d g t = leave h i d g (
 near_step whole (empties {w = w} {k = k} {m = n} {l = l} {a = a} {r = r} h) us above p st m f i o d g t =
     changed (statement_emptied (silent w.names k l a d h.silent)) (fit whole p st r (stays_fits no_drop whole st p (node Kind.EmptyStatement n nothing r) g).1)
 near_step whole (unbinds {source = source} {x = x} {n = n} {b = b} {r = r} j u h) us above p st m f i o d g t = near_import (fit whole p st r (stays_fits (of_block x) whole st p (node (Kind.ImportDeclaration source) n b r) g).1)
+near_step whole (states {how = how} {x = x} {k = k} {n = n} {m = m} {l = l} {j = j} {i = y} {o = z} {a = b} {r = r} h u v) us above p st e f i o d g t =
+    let fits = stays_fits (declared_so how x) whole st p (node Kind.ExpressionStatement z (alone k y b) r) g in
+    let lone = stays_lone how x whole st p (node Kind.ExpressionStatement z (alone k y b) r) g in
+    let old = node (Kind.VariableDeclaration how) n (alone Kind.Declarators m (alone Kind.VariableDeclarator l (node (Kind.BindingName x) j nothing (alone k y b)))) r in
+    subst (λ p. Fits whole p st r → Near us p st old (node Kind.ExpressionStatement z (alone k y b) r)) (sym (i (ap is_list h))) (λ rest. near.value_stays lone (fit whole fields st (alone k y b) fits.0.1) (fit whole near.items st r rest)) fits.1
 near_step whole (inside {w = w} {k = k} {a = a} {r = r} s) us above p st m f i o d g t =
     inside_core w k s above p st (is_core k) refl (first_of_both (may_hold above k) (holds_well above r) m) f d g t.0 (λ q p st i o d g. near_step q s (wanted_below (purpose_here us (near.is_row r)) k) k p st (form_holds k a r f) (form_below k a r f) i o d g t.1)
 near_step whole (behind_node {k = k} {n = n} {a = a} {r = r} {s = z} s) us above p st m f i o d g t =
@@ -185,6 +190,7 @@ near_step whole (behind_absent {s = z} s) us above p st m f i o d g t = near_abs
 near_step others (leaves h) us above p st m f i o d g t = absurd (leaves_no_other h o.0)
 near_step others (empties h) us above p st m f i o d g t = absurd (true≢false (sym o.1))
 near_step others (unbinds j u h) us above p st m f i o d g t = absurd (items_other j o.0)
+near_step others (states j u h) us above p st m f i o d g t = absurd (items_other j o.0)
 near_step others (inside {n = n} s) us above p st m f i o d g t = absurd (still_stays (inside {n = n} {r = nothing} s) o.0 o.1)
 near_step others (behind_node {k = k} {n = n} {a = a} {r = r} {s = z} s) us above p st m f i o d g t =
     near_step whole s (purposes_behind us) above p st (second_of_both (may_hold above k) (holds_well above r) m) (form_behind k a r f) i tt d (stays_others (dropped s) st p k n a z g) t

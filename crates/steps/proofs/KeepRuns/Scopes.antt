@@ -12,7 +12,7 @@ use Rattle.js_meaning_near.specs.Near.{Row, fields, row_below, ReceiverOk, keys,
 use Rattle.js_meaning_near.specs.Fit.{whole, others, IfCore}
 use Rattle.js_meaning_near.specs.Avoid.{declares, Dropped, NodeInPlace, InPlace, NodeAvoids, Avoids, Unless}
 use Rattle.js_meaning_near.proofs.Avoid.{fewer_itself, dropped_first, dropped_second}
-use Rattle.steps.specs.Steps.{other, Around, Step, leaves, empties, unbinds, inside, behind_node, behind_absent}
+use Rattle.steps.specs.Steps.{other, Around, Step, leaves, empties, unbinds, states, inside, behind_node, behind_absent}
 use Rattle.steps.specs.KeepRuns.Formed.{may_hold, holds_well, still, calm, heads, is_formed}
 use Rattle.steps.specs.KeepRuns.Drop.{Drop, no_drop, of_block, of_function, out_of_block, dropped}
 use Rattle.steps.specs.KeepRuns.Tidy.{Clear, TidyAt}
@@ -194,6 +194,7 @@ pub for_first : {w : Around} {a b : Forest} → Step w a b → w.row ≡ other �
 for_first (leaves h) g c e = absurd (leaves_no_other h g)
 for_first (empties h) g c e = refl
 for_first (unbinds i u h) g c e = absurd (items_other i g)
+for_first (states i u h) g c e = absurd (items_other i g)
 for_first (inside {k = k} {n = n} {a = a} {r = r} s) g c e = same_lexical (calm_step (inside {n = n} {r = nothing} s) g c (formed_alone k a r e)).alike
 for_first (behind_node s) g c e = refl
 for_first (behind_absent s) g c e = refl

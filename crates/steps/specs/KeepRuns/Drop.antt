@@ -4,7 +4,7 @@ use Rattle.js_syntax.specs.Node.{Forest}
 use Rattle.js_syntax.specs.declared.kind.VariableKind.{VariableKind}
 use Rattle.js_syntax.specs.declared.kind.VariableKind.TheVariants as variable
 use Rattle.js_meaning.specs.Value.{Text}
-use Rattle.steps.specs.Steps.{Around, Goes, empty_statement, unused_function, unused_declarator, unused_declaration, Step, leaves, empties, unbinds, inside, behind_node, behind_absent}
+use Rattle.steps.specs.Steps.{Around, Goes, empty_statement, unused_function, unused_declarator, unused_declaration, Step, leaves, empties, unbinds, states, inside, behind_node, behind_absent}
 
 -- none; one of the innermost scope; one of the innermost function, or of the module
 pub data Drop : Type 0 where
@@ -40,6 +40,7 @@ abbrev pub dropped : {w : Around} {t u : Forest} → Step w t u → Drop
 dropped (leaves g) = drop_of g
 dropped (empties h) = no_drop
 dropped (unbinds {x = x} i u h) = of_block x
+dropped (states {how = how} {x = x} i u h) = declared_so how x
 dropped (inside {k = k} s) = outside k (dropped s)
 dropped (behind_node s) = dropped s
 dropped (behind_absent s) = dropped s

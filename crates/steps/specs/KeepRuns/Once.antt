@@ -8,7 +8,7 @@ use Rattle.js_meaning.specs.Value.{Text}
 use Rattle.js_meaning.specs.Scope.{Decl, behind, first_name, lexical, function_decls, module_decls}
 use Rattle.js_meaning_near.specs.Avoid.{declares, HasCells}
 use Rattle.steps.specs.Names.{is_among, names_declared}
-use Rattle.steps.specs.Steps.{Around, Step, leaves, empties, unbinds, inside, behind_node, behind_absent}
+use Rattle.steps.specs.Steps.{Around, Step, leaves, empties, unbinds, states, inside, behind_node, behind_absent}
 use Rattle.steps.specs.KeepRuns.Drop.{Drop, of_block, of_function, dropped}
 
 abbrev pub is_first : Text → Option Text → Bool
@@ -44,6 +44,7 @@ abbrev pub Once : {w : Around} {t u : Forest} → Step w t u → Type 0
 Once (leaves g) = Unit {0}
 Once (empties h) = Unit {0}
 Once (unbinds i u h) = Unit {0}
+Once (states i u h) = Unit {0}
 Once (inside {k = k} {b = b} s) = OnceIn k b (dropped s) × Once s
 Once (behind_node s) = Once s
 Once (behind_absent s) = Once s

@@ -10,7 +10,7 @@ use Rattle.js_meaning.specs.Module.{entries}
 use Rattle.js_meaning_near.specs.Near.{Row, fields, items}
 use Rattle.js_meaning_near.specs.Fit.{Part, whole, others}
 use Rattle.js_meaning_near.specs.Avoid.{declares, HasCells, Avoids, ExportsAvoid}
-use Rattle.steps.specs.Steps.{Around, Step, leaves, empties, unbinds, inside, behind_node, behind_absent}
+use Rattle.steps.specs.Steps.{Around, Step, leaves, empties, unbinds, states, inside, behind_node, behind_absent}
 use Rattle.steps.specs.KeepRuns.Drop.{Drop, of_block, of_function, dropped}
 
 -- by what the scope still declares, and its row
@@ -35,6 +35,7 @@ abbrev pub Tidy : {w : Around} {t u : Forest} → Step w t u → Type 0
 Tidy (leaves g) = Unit {0}
 Tidy (empties h) = Unit {0}
 Tidy (unbinds i u h) = Unit {0}
+Tidy (states i u h) = Unit {0}
 Tidy (inside {k = k} {b = b} s) = TidyAt k b (dropped s) × Tidy s
 Tidy (behind_node s) = Tidy s
 Tidy (behind_absent s) = Tidy s
