@@ -2,4 +2,5 @@ pub mod Composing
 pub mod Tried
 pub mod TriedMerged
 pub mod TriedPassed
+pub mod TriedValues
 pub mod TriedCalls

@@ -8,6 +8,7 @@ pub mod Cuts
 pub mod Merged
 pub mod Passed
 pub mod Exposing
+pub mod Redeclaring
 pub mod Telling
 pub mod Numbered
 pub mod Deciding

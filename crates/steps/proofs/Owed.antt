@@ -94,6 +94,9 @@ pub mod TestCounts
 pub mod EmptyIf
 pub mod AlternateCounts
 pub mod EmptyAlternate
+pub mod FitsItem
+pub mod ValueCounts
+pub mod ValueStays
 pub mod LeftRuns
 pub mod SilentAnywhere
 pub mod UnusedPlace

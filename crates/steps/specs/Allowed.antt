@@ -38,10 +38,12 @@ pub mod IdleTry
 pub mod IdleBody
 pub mod EmptyIf
 pub mod EmptyAlternate
+pub mod ValueStays
 pub mod Edits
 pub mod Arranged
 pub mod Rows
 pub mod Calls
 pub mod Changing
 pub mod SilentCall
+pub mod ValueRows
 pub mod SilentCallRows

@@ -2,16 +2,17 @@
 use Rattle.std.proofs.Common.{◌≡◌, ℕ, ◌+◌, suc, List, [], ◌∷◌, ◌++◌, ◌&&◌, Bool, true, false, not, None, refl, sym, ap, ◌∙◌}
 use Rattle.js_tree.specs.Count.{one_each, node_count}
 use Rattle.js_syntax.specs.declared.node_kind.NodeKind.{NodeKind as Kind}
-use Rattle.js_syntax.specs.declared.node_kind.NodeKind.TheVariants.{Program as program, EmptyStatement as empty_statement, ExpressionStatement as expression_statement, IfStatement as if_statement}
-use Rattle.js_syntax.specs.Node.{Note, Forest, nothing, node, absent, joined}
+use Rattle.js_syntax.specs.declared.node_kind.NodeKind.TheVariants.{Program as program, EmptyStatement as empty_statement, ExpressionStatement as expression_statement, IfStatement as if_statement, VariableDeclaration as variable_declaration, Declarators as declarators, VariableDeclarator as variable_declarator, BindingName as binding_name}
+use Rattle.js_syntax.specs.Node.{Note, Forest, nothing, node, absent, joined, alone}
+use Rattle.js_syntax.specs.declared.kind.VariableKind.{VariableKind}
 use Rattle.form_rules.specs.declared.rule.Break.{Break}
 use Rattle.form_rules.specs.Break.{unless, least}
 use Rattle.form_rules.specs.Context as context
 use Rattle.form_rules.specs.Context.{Context, below_it, inside}
 use Rattle.form_rules.specs.Rules.{broken_at}
 use Rattle.form_rules.specs.Form.{broken_in, source_of, broken, IsWellFormed}
-use Rattle.steps.specs.KeepForm.Part.{is_asked_for, is_tested, StandsFor, Replaces, by_part, by_parts, by_test, without_alternate}
-use Rattle.steps.specs.KeepForm.Sheds.{may_leave, Around, entered, outermost, Sheds, ends, keeps_absent, keeps, leaves, empties, empties_idle, becomes}
+use Rattle.steps.specs.KeepForm.Part.{is_asked_for, is_tested, declares_one, StandsFor, Replaces, by_part, by_parts, by_test, without_alternate}
+use Rattle.steps.specs.KeepForm.Sheds.{may_leave, Around, entered, outermost, Sheds, ends, keeps_absent, keeps, leaves, empties, empties_idle, states, becomes}
 use Rattle.steps.proofs.KeepForm.Contexts.{inside_same}
 use Rattle.steps.proofs.KeepForm.Asked.{idle_kinds, tested_kinds, old_unasked, new_unasked}
 use Rattle.steps.proofs.KeepForm.Rows.{itself}
@@ -62,6 +63,33 @@ module _ (c : Context) (l : Kind) (i : Note) (b after : Forest) (p q : ℕ) wher
 
   test_kept : (k : Kind) → is_tested k ≡ true → broken_in (inside c k (node l i b after)) 0 p (node l i b after) ≡ [] → NoneBroken
   test_kept k tested = tested_kinds (λ z. broken_in (inside c z (node l i b after)) 0 p (node l i b after) ≡ [] → NoneBroken) test_of_if k tested
+
+-- so does a value that a declaration gave
+module _ (c : Context) (how : VariableKind) (x : List ℕ) (m l j : Note) (k : Kind) (i : Note) (b : Forest) (p q : ℕ) where
+  abbrev value : Forest
+  value = alone k i b
+
+  abbrev declared_value : Forest
+  declared_value = declares_one m l j x value
+
+  value_kept : broken_in (inside c (variable_declaration how) declared_value) 0 p declared_value ≡ []
+      → broken_at c expression_statement q value ++ broken_in (inside c expression_statement value) 0 (q + one_each expression_statement) value ≡ []
+  value_kept h =
+      let there : ℕ → Context = λ at. below_it c in
+      let name = node (binding_name x) j nothing value in
+      let declarator = alone variable_declarator l name in
+      let in_list = p + one_each declarators in
+      let in_it = in_list + one_each variable_declarator in
+      let list_own = broken_at (below_it c) declarators p declarator in
+      let list_below = broken_in there 0 in_list declarator in
+      let one_own = broken_at (below_it c) variable_declarator in_list name in
+      let one_below = broken_in there 0 in_it name in
+      let name_own = broken_at (below_it c) (binding_name x) in_it nothing in
+      let at_value = in_it + node_count (node (binding_name x) j nothing nothing) in
+      let of_list = second_empty list_own list_below (first_empty (list_own ++ list_below) [] h) in
+      let of_one = second_empty one_own one_below (first_empty (one_own ++ one_below) [] of_list) in
+      both_empty (broken_at c expression_statement q value) (broken_in there 0 (q + one_each expression_statement) value) (alone_keeps c.is_alone q)
+      (moved value there there (λ at. refl) 0 at_value (q + one_each expression_statement) (second_empty (name_own ++ []) (broken_in there 1 at_value value) of_one))
 
 -- an `if` breaks no rule itself, whatever its branches
 if_keeps : (alone : Bool) (place : ℕ) → (unless (not (alone && false)) place 11 ++ []) ++ [] ≡ []
@@ -116,6 +144,18 @@ form_kept (empties_idle {k = k} {n = n} {m = m} {a = a} {r = r} {s = s} idle loo
     both_empty (broken_at (g j) empty_statement q nothing ++ []) (broken_in g (suc j) (q + node_count (node empty_statement m nothing nothing)) s) (both_empty (broken_at (g j) empty_statement q nothing) [] (empty_keeps (g j) q) refl)
     (form_kept rest f g same (suc i) (suc j) (p + node_count (node k n a nothing)) (q + node_count (node empty_statement m nothing nothing)) (λ d. ap (λ n. suc n) (e d))
     (second_empty (broken_at (f i) k p a ++ broken_in (inside (f i) k a) 0 (p + one_each k) a) (broken_in f (suc i) (p + node_count (node k n a nothing)) r) h))
+form_kept (states {how = how} {x = x} {k = k} {n = n} {m = m} {l = l} {j = j} {i = y} {o = o} {b = b} {r = r} {s = s} listed unasked out rest) f g same i j2 p q e h =
+    let value = alone k y b in
+    let name = node (binding_name x) j nothing value in
+    let declarator = alone variable_declarator l name in
+    let all = declares_one m l j x value in
+    let own = broken_at (f i) (variable_declaration how) p all in
+    let below = broken_in (inside (f i) (variable_declaration how) all) 0 (p + one_each (variable_declaration how)) all in
+    let behind = broken_in f (suc i) (p + node_count (node (variable_declaration how) n all nothing)) r in
+    both_empty (broken_at (g j2) expression_statement q value ++ broken_in (inside (g j2) expression_statement value) 0 (q + one_each expression_statement) value) (broken_in g (suc j2) (q + node_count (node expression_statement o value nothing)) s)
+    (ap (λ c. broken_at c expression_statement q value ++ broken_in (inside c expression_statement value) 0 (q + one_each expression_statement) value) (same i j2 e)
+    ∙ value_kept (f i) how x m l j k y b (p + one_each (variable_declaration how)) q (second_empty own below (first_empty (own ++ below) behind h)))
+    (form_kept rest f g same (suc i) (suc j2) (p + node_count (node (variable_declaration how) n all nothing)) (q + node_count (node expression_statement o value nothing)) (λ d. ap (λ n. suc n) (e d)) (second_empty (own ++ below) behind h))
 form_kept (becomes {k = k} {l = l} {n = n} {m = m} {a = a} {b = b} {r = r} {s = s} part may bare rest) f g same i j p q e h =
     let own = broken_at (f i) k p a in
     let below = broken_in (inside (f i) k a) 0 (p + one_each k) a in
@@ -143,6 +183,7 @@ source_same stays (keeps {k = k} {n = n} {m = m} {a = a} {b = b} {r = r} {s = s}
 source_same stays (leaves may out strict rest) = absurd (cc (stays, may))
 source_same stays (empties may rest) = refl
 source_same stays (empties_idle {k = k} {n = n} {a = a} {r = r} idle loops may unnamed rest) = idle_kinds (λ z. source_of nothing ≡ source_of (node z n a r)) refl refl refl refl refl (λ label. refl) k idle
+source_same stays (states listed unasked out rest) = absurd (cc (stays, ap may_leave listed))
 source_same stays (becomes {k = k} {l = l} {n = n} {m = m} {a = a} {b = b} {r = r} {s = s} part may bare rest) = no_source l m b s (new_unasked part) ∙ sym (no_source k n a r (old_unasked part))
 
 pub stays_well_formed : (t u : Forest) → Sheds outermost t u → IsWellFormed t → IsWellFormed u

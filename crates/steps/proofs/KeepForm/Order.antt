@@ -1,12 +1,12 @@
 -- What is left of a tree is laid out as the tree was.
-use Rattle.std.proofs.Common.{◌≡◌, Bool, true, false, not, ◌&&◌, ◌||◌, refl, sym, ap, ◌∙◌}
+use Rattle.std.proofs.Common.{◌≡◌, Bool, true, false, not, ◌&&◌, ◌||◌, refl, sym, ap, subst, ◌∙◌}
 use Rattle.js_syntax.specs.declared.node_kind.NodeKind.{NodeKind as Kind}
-use Rattle.js_syntax.specs.declared.node_kind.NodeKind.TheVariants.{Program as program, EmptyStatement as empty_statement, Directive as directive, Statements as statements, FunctionBody as function_body, ExpressionStatement as expression_statement, BlockStatement as block_statement, StaticBlock as static_block, SwitchCase as switch_case, LabeledStatement as labeled_statement, IfStatement as if_statement, TryStatement as try_statement, WithStatement as with_statement, WhileStatement as while_statement, DoWhileStatement as do_while_statement, ForStatement as for_statement, ForInStatement as for_in_statement, ForOfStatement as for_of_statement, ConditionalExpression as conditional_expression, UnaryExpression as unary_expression, BinaryExpression as binary_expression, LogicalExpression as logical_expression, Function as function, VariableDeclaration as variable_declaration, Declarators as declarators, BindingName as binding_name, Specifiers as specifiers, ImportDeclaration as import_declaration, ExportNamedDeclaration as export_named_declaration}
-use Rattle.js_syntax.specs.Node.{Note, Forest, nothing, node, absent, joined}
+use Rattle.js_syntax.specs.declared.node_kind.NodeKind.TheVariants.{Program as program, EmptyStatement as empty_statement, Directive as directive, Statements as statements, FunctionBody as function_body, ExpressionStatement as expression_statement, BlockStatement as block_statement, StaticBlock as static_block, SwitchCase as switch_case, LabeledStatement as labeled_statement, IfStatement as if_statement, TryStatement as try_statement, WithStatement as with_statement, WhileStatement as while_statement, DoWhileStatement as do_while_statement, ForStatement as for_statement, ForInStatement as for_in_statement, ForOfStatement as for_of_statement, ConditionalExpression as conditional_expression, UnaryExpression as unary_expression, BinaryExpression as binary_expression, LogicalExpression as logical_expression, Function as function, VariableDeclaration as variable_declaration, Declarators as declarators, VariableDeclarator as variable_declarator, BindingName as binding_name, Specifiers as specifiers, ImportDeclaration as import_declaration, ExportNamedDeclaration as export_named_declaration}
+use Rattle.js_syntax.specs.Node.{Note, Forest, nothing, node, absent, joined, alone}
 use Rattle.form_rules.specs.Context.{has_use_strict}
 use Rattle.json_shape.specs.Shape.{is_directive_kind}
-use Rattle.steps.specs.KeepForm.Part.{gives_way, is_statement, is_asked_for, Replaces, by_part, by_parts, by_test, without_alternate}
-use Rattle.steps.specs.KeepForm.Sheds.{Row, other, parts, items, of_item, of_head, of_import, row_below, may_leave, may_empty, may_give_way, Around, entered, Sheds, ends, keeps_absent, keeps, leaves, empties, empties_idle, becomes}
+use Rattle.steps.specs.KeepForm.Part.{gives_way, is_statement, is_asked_for, declares_one, Replaces, by_part, by_parts, by_test, without_alternate}
+use Rattle.steps.specs.KeepForm.Sheds.{Row, other, parts, items, of_item, of_declarators, of_head, of_import, row_below, may_leave, may_empty, may_give_way, Around, entered, Sheds, ends, keeps_absent, keeps, leaves, empties, empties_idle, states, becomes}
 use Rattle.steps.proofs.KeepForm.Rows.{stays_below, behind_left, is_usual, is_other}
 use Rattle.steps.proofs.KeepForm.Asked.{idle_kinds, old_unasked, new_unasked, alike, statement_may}
 use Rattle.steps.proofs.KeepForm.Seen.{strict_same}
@@ -162,6 +162,7 @@ list_same stays (keeps {k = k} {n = n} {m = m} {a = a} {b = b} {r = r} {s = s} o
 list_same stays (leaves may out strict rest) = absurd (cc (stays, may))
 list_same stays (empties may rest) = refl
 list_same stays (empties_idle {k = k} {n = n} {a = a} {r = r} idle loops may unnamed rest) = idle_kinds (λ z. false ≡ is_list_first (node z n a r)) refl refl refl refl refl (λ label. refl) k idle
+list_same stays (states listed unasked out rest) = absurd (cc (stays, ap may_leave listed))
 list_same stays (becomes {k = k} {l = l} {n = n} {m = m} {a = a} {b = b} {r = r} {s = s} part may bare rest) = no_list l m b s (new_unasked part) ∙ sym (no_list k n a r (old_unasked part))
 
 specifiers_node : (k : Kind) (n m : Note) (a b r s : Forest) → are_specifiers_first (node k m b s) ≡ are_specifiers_first (node k n a r)
@@ -175,6 +176,7 @@ specifiers_same stays (keeps {k = k} {n = n} {m = m} {a = a} {b = b} {r = r} {s 
 specifiers_same stays (leaves may out strict rest) = absurd (cc (stays, may))
 specifiers_same stays (empties may rest) = refl
 specifiers_same stays (empties_idle {k = k} {n = n} {a = a} {r = r} idle loops may unnamed rest) = idle_kinds (λ z. false ≡ are_specifiers_first (node z n a r)) refl refl refl refl refl (λ label. refl) k idle
+specifiers_same stays (states listed unasked out rest) = absurd (cc (stays, ap may_leave listed))
 specifiers_same stays (becomes {k = k} {l = l} {n = n} {m = m} {a = a} {b = b} {r = r} {s = s} part may bare rest) = no_specifiers l m b s (new_unasked part) ∙ sym (no_specifiers k n a r (old_unasked part))
 
 binds_node : (k : Kind) (n m : Note) (a b r s : Forest) → binds_none s ≡ binds_none r → binds_none (node k m b s) ≡ binds_none (node k n a r)
@@ -188,6 +190,7 @@ binds_same stays (keeps {k = k} {n = n} {m = m} {a = a} {b = b} {r = r} {s = s} 
 binds_same stays (leaves may out strict rest) = absurd (cc (stays, may))
 binds_same stays (empties may rest) = binds_same stays rest
 binds_same stays (empties_idle {k = k} {n = n} {a = a} {r = r} idle loops may unnamed rest) = binds_same stays rest ∙ idle_kinds (λ z. binds_none r ≡ binds_none (node z n a r)) refl refl refl refl refl (λ label. refl) k idle
+binds_same stays (states listed unasked out rest) = absurd (cc (stays, ap may_leave listed))
 binds_same stays (becomes {k = k} {l = l} {n = n} {m = m} {a = a} {b = b} {r = r} {s = s} part may bare rest) =
     no_name l m b s (new_unasked part) ∙ binds_same stays rest ∙ sym (no_name k n a r (old_unasked part))
 
@@ -215,6 +218,17 @@ stays_laid_out (empties {w = w} {n = n} {m = m} {a = a} {r = r} {s = s} may rest
     both (not (has_use_strict s)) (is_laid_out w.row s) (ap not (strict_same rest) ∙ laid_order w.row expression_statement n a r h) (stays_laid_out rest (laid_behind w.row expression_statement n a r h))
 stays_laid_out (empties_idle {w = w} {k = k} {n = n} {m = m} {a = a} {r = r} {s = s} idle loops may unnamed rest) h =
     both (not (has_use_strict s)) (is_laid_out w.row s) (ap not (strict_same rest) ∙ ap (λ d. d || not (has_use_strict r)) (idle_kinds (λ z. false ≡ is_directive_kind z) refl refl refl refl refl (λ label. refl) k idle) ∙ laid_order w.row k n a r h) (stays_laid_out rest (laid_behind w.row k n a r h))
+stays_laid_out (states {w = w} {how = how} {x = x} {k = k} {n = n} {m = m} {l = l} {j = j} {i = i} {o = o} {b = b} {r = r} {s = s} listed unasked out rest) h =
+    let value = alone k i b in
+    let name = node (binding_name x) j nothing value in
+    let declarator = alone variable_declarator l name in
+    let all = declares_one m l j x value in
+    let inner = subst (λ row. is_laid_out (row_below row (variable_declaration how)) all ≡ true) listed (laid_below w.row (variable_declaration how) n all r h) in
+    both (not (has_use_strict s)) (stands_right w.row expression_statement value && (is_laid_out (row_below w.row expression_statement) value && is_laid_out w.row s)) (ap not (strict_same rest) ∙ laid_order w.row (variable_declaration how) n all r h)
+    (both (stands_right w.row expression_statement value) (is_laid_out (row_below w.row expression_statement) value && is_laid_out w.row s) (ap may_empty listed)
+    (both (is_laid_out (row_below w.row expression_statement) value) (is_laid_out w.row s)
+    (ap (λ row. is_laid_out row value) (is_other w.row expression_statement refl) ∙ laid_behind other (binding_name x) j nothing value (laid_below of_declarators variable_declarator l name nothing (laid_below of_item declarators m declarator nothing inner)))
+    (stays_laid_out rest (laid_behind w.row (variable_declaration how) n all r h))))
 stays_laid_out (becomes {w = w} {k = k} {l = l} {n = n} {m = m} {a = a} {b = b} {r = r} {s = s} part may bare rest) h =
     both (is_directive_kind l || not (has_use_strict s)) (stands_right w.row l b && (is_laid_out (row_below w.row l) b && is_laid_out w.row s))
     (ap (λ x. x || not (has_use_strict s)) (no_directive l (new_unasked part)) ∙ ap not (strict_same rest)

@@ -6,10 +6,10 @@ use Rattle.js_syntax.specs.declared.node_kind.NodeKind.{NodeKind as Kind}
 use Rattle.js_syntax.specs.declared.node_kind.NodeKind.TheVariants.{EmptyStatement as empty_statement, ExpressionStatement as expression_statement, SwitchCase as switch_case, MethodDefinition as method_definition, VariableDeclaration as variable_declaration, Declarators as declarators}
 use Rattle.js_syntax.specs.declared.kind.MethodKind.TheVariants as method_kind
 use Rattle.js_syntax.specs.declared.kind.VariableKind.{VariableKind}
-use Rattle.js_syntax.specs.Node.{Forest, nothing, node}
+use Rattle.js_syntax.specs.Node.{Forest, nothing, node, alone}
 use Rattle.form_rules.specs.Rules.{places_of, all_but_first, first_below, length_of, is_default, is_constructor, has_initializer, is_declarator_wrong, counts_right}
-use Rattle.steps.specs.KeepForm.Sheds.{Row, parts, items, of_item, of_declarators, of_head, of_import, of_specifiers, other, row_below, asked_below, may_leave, may_empty, keeps_one, Around, entered, Sheds, ends, keeps_absent, keeps, leaves, empties, empties_idle, becomes}
-use Rattle.steps.specs.KeepForm.Part.{is_asked_for}
+use Rattle.steps.specs.KeepForm.Sheds.{Row, parts, items, of_item, of_declarators, of_head, of_import, of_specifiers, other, row_below, asked_below, may_leave, may_empty, keeps_one, Around, entered, Sheds, ends, keeps_absent, keeps, leaves, empties, empties_idle, states, becomes}
+use Rattle.steps.specs.KeepForm.Part.{is_asked_for, declares_one}
 use Rattle.steps.proofs.KeepForm.Asked.{new_unasked, no_default, no_constructor, not_asked}
 use Rattle.steps.proofs.KeepForm.Fewer.{Fewer, none, both, more}
 use Rattle.steps.proofs.KeepForm.Rows.{stays_below, behind_left, absent_same, length_same}
@@ -40,6 +40,11 @@ module _ (test : Kind → Forest → Bool) where
       rw (emptied may) (less_if (test expression_statement a) q (places_fewer (p + node_count (node empty_statement m nothing nothing)) (q + node_count (node expression_statement n a nothing)) same emptied unasked rest))
   places_fewer p q same emptied unasked (empties_idle {k = k} {n = n} {m = m} {a = a} idle loops may unnamed rest) =
       rw (emptied may) (less_if (test k a) q (places_fewer (p + node_count (node empty_statement m nothing nothing)) (q + node_count (node k n a nothing)) same emptied unasked rest))
+  places_fewer p q same emptied unasked (states {how = how} {x = x} {k = k} {n = n} {m = m} {l = l} {j = j} {i = i} {o = o} {b = b} listed calm out rest) =
+      let value = alone k i b in
+      let all = declares_one m l j x value in
+      rw (unasked calm expression_statement value refl)
+      (less_if (test (variable_declaration how) all) q (places_fewer (p + node_count (node expression_statement o value nothing)) (q + node_count (node (variable_declaration how) n all nothing)) same emptied unasked rest))
   places_fewer p q same emptied unasked (becomes {w = w} {k = k} {l = l} {n = n} {m = m} {a = a} {b = b} part may bare rest) =
       rw (unasked (not_asked w k may) l b (new_unasked part)) (less_if (test k a) q (places_fewer (p + node_count (node l m b nothing)) (q + node_count (node k n a nothing)) same emptied unasked rest))
 
@@ -158,6 +163,7 @@ length_fewer (keeps one below rest) = omega (arith, length_fewer rest)
 length_fewer (leaves may out strict rest) = omega (arith, length_fewer rest)
 length_fewer (empties may rest) = omega (arith, length_fewer rest)
 length_fewer (empties_idle idle loops may unnamed rest) = omega (arith, length_fewer rest)
+length_fewer (states listed unasked out rest) = omega (arith, length_fewer rest)
 length_fewer (becomes part may bare rest) = omega (arith, length_fewer rest)
 
 counts_fewer : (is_head : Bool) (m n : ℕ) → m ≤ n → (n == 0 || not (m == 0)) ≡ true → counts_right is_head n ≡ true → counts_right is_head m ≡ true
@@ -178,6 +184,7 @@ counts_stay is_head is asked (keeps {w = w} {k = k} {a = a} {b = b} one below re
 counts_stay is_head {w = w} is asked (leaves may out strict rest) right = absurd (cc (may, (variables_stay w.row is).0))
 counts_stay is_head {w = w} is asked (empties may rest) right = absurd (cc (may, (variables_stay w.row is).1))
 counts_stay is_head {w = w} is asked (empties_idle idle loops may unnamed rest) right = absurd (cc (may, (variables_stay w.row is).1))
+counts_stay is_head {w = w} is asked (states listed unasked out rest) right = absurd (cc (asked, unasked))
 counts_stay is_head {w = w} is asked (becomes {k = k} part may bare rest) right = absurd (cc (asked, not_asked w k may))
 
 pub below_same : {w : Around} {t u : Forest} → w.row ≡ other → w.is_asked ≡ true → Sheds w t u → length_of (first_below u) ≡ length_of (first_below t)
@@ -187,6 +194,7 @@ below_same is asked (keeps {w = w} {k = k} one below rest) = length_same (plain_
 below_same is asked (leaves may out strict rest) = absurd (cc (may, ap may_leave is))
 below_same is asked (empties may rest) = absurd (cc (may, ap may_empty is))
 below_same is asked (empties_idle idle loops may unnamed rest) = absurd (cc (may, ap may_empty is))
+below_same is asked (states listed unasked out rest) = absurd (cc (asked, unasked))
 below_same is asked (becomes {w = w} {k = k} part may bare rest) = absurd (cc (asked, not_asked w k may))
 
 plain_below : (row : Row) (k : Kind) → of_variables row ≡ true → is_plain (row_below row k) ≡ true
@@ -221,4 +229,5 @@ declarators_left is_head how p q is asked (keeps {w = w} {k = k} one below rest)
 declarators_left is_head how p q {w = w} is asked (leaves may out strict rest) right = absurd (cc (may, (variables_stay w.row is).0))
 declarators_left is_head how p q {w = w} is asked (empties may rest) right = absurd (cc (may, (variables_stay w.row is).1))
 declarators_left is_head how p q {w = w} is asked (empties_idle idle loops may unnamed rest) right = absurd (cc (may, (variables_stay w.row is).1))
+declarators_left is_head how p q {w = w} is asked (states listed unasked out rest) right = absurd (cc (asked, unasked))
 declarators_left is_head how p q {w = w} is asked (becomes {k = k} part may bare rest) right = absurd (cc (asked, not_asked w k may))

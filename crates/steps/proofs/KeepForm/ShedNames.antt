@@ -4,16 +4,16 @@ use Rattle.std.specs.Str.{bytes_eq}
 use Rattle.std.proofs.lemmas.Slice.Eq.{bytes_eq-Decides}
 use Rattle.js_tree.specs.Count.{one_each, node_count}
 use Rattle.js_syntax.specs.declared.node_kind.NodeKind.{NodeKind as Kind}
-use Rattle.js_syntax.specs.declared.node_kind.NodeKind.TheVariants.{Program as program, BindingName as binding_name, EmptyStatement as empty_statement, ExpressionStatement as expression_statement, IfStatement as if_statement}
+use Rattle.js_syntax.specs.declared.node_kind.NodeKind.TheVariants.{Program as program, BindingName as binding_name, EmptyStatement as empty_statement, ExpressionStatement as expression_statement, IfStatement as if_statement, VariableDeclaration as variable_declaration}
 use Rattle.js_syntax.specs.Node.{Note, Forest, nothing, node, absent, alone, joined}
 use Rattle.form_rules.specs.declared.sought.Sought.{Sought}
 use Rattle.form_rules.specs.declared.sought.Sought.TheVariants.{Nothing as none_sought, Names as names, Bound as bound, Scope as scope, Variables as variables, FunctionScope as function_scope, CatchScope as catch_scope}
 use Rattle.js_syntax.specs.declared.scalar.SourceType.{SourceType}
 use Rattle.form_rules.specs.Scope.{Declared, declared, declared_here, sought_below}
 use Rattle.form_rules.specs.Rules.{Exported, is_exported, is_declared}
-use Rattle.steps.specs.KeepForm.Sheds.{Around, exports_none, sought_inside, exported_below, Sheds, ends, keeps_absent, keeps, leaves, empties, empties_idle, becomes}
+use Rattle.steps.specs.KeepForm.Sheds.{Around, exports_none, sought_inside, exported_below, Sheds, ends, keeps_absent, keeps, leaves, empties, empties_idle, states, becomes}
 use Rattle.steps.specs.VarNames.Texts.{is_of_catch}
-use Rattle.steps.specs.KeepForm.Part.{StandsFor, RebuildsTo, Replaces, by_part, by_parts, by_test, without_alternate}
+use Rattle.steps.specs.KeepForm.Part.{declares_one, StandsFor, RebuildsTo, Replaces, by_part, by_parts, by_test, without_alternate}
 use Rattle.steps.proofs.KeepForm.Asked.{old_unasked, no_name_here, sought_alike, no_catch_below, no_catch_inside, not_asked}
 use Rattle.steps.proofs.KeepForm.Fewer.{Fewer, none, both, more, fewest, behind_all, beside, SameName}
 use Rattle.js_syntax.proofs.Truth.{second_of_either}
@@ -126,6 +126,12 @@ fewer_declared s p q catch (empties_idle {k = k} {n = n} {m = m} {a = a} {s = r}
     rw (declares_nothing s p m r)
     (behind_all (declared_here s q k ++ declared (sought_below s k) (q + one_each k) a)
     (fewer_declared s (p + node_count (alone empty_statement m nothing)) (q + node_count (alone k n a)) catch rest))
+fewer_declared s p q catch (states {how = how} {x = x} {k = k} {n = n} {m = m} {l = l} {j = j} {i = i} {o = o} {b = b} {s = r} listed unasked out rest) =
+    let value = alone k i b in
+    let all = declares_one m l j x value in
+    rw (nothing_of_expression s p o value r)
+    (behind_all (declared_here s q (variable_declaration how) ++ declared (sought_below s (variable_declaration how)) (q + one_each (variable_declaration how)) all)
+    (fewer_declared s (p + node_count (alone expression_statement o value)) (q + node_count (alone (variable_declaration how) n all)) catch rest))
 fewer_declared s p q catch (becomes {w = w} {k = k} {l = l} {n = n} {m = m} {a = a} {b = b} part may bare rest) =
     beside (behind_all (declared_here s q k) (replaced_declared s p (q + one_each k) (no_catch (is_of_catch s) refl) part))
     (fewer_declared s (p + node_count (alone l m b)) (q + node_count (alone k n a)) catch rest)
@@ -248,6 +254,18 @@ still_replaced x s p q {k = k} {n = n} calm (by_test {l = l} {i = i} {b = b} {af
 still_replaced x s p q calm (without_alternate {t = t} {l = l} {i = i} {j = j} {o = o} {d = d} {b = b}) h =
     declared_in_more x (alternate_named (sought_below s if_statement) t l i j o d b q p) h
 
+-- behind what declares no exported name it is declared as before
+module _ (x : List ℕ) (q : ℕ) (w : Around) (k : Kind) (n : Note) (a r : Forest) (out : exports_none w.exported (declared w.sought 0 (alone k n a)) ≡ true) (e : is_exported x w.exported ≡ true) where
+  still_out : (b : Bool) → is_declared x (declared w.sought q (alone k n a)) ≡ b → is_declared x (declared w.sought q (alone k n a)) ≡ false
+  still_out true is = absurd (cc (sym (not_declared x w.exported (declared w.sought 0 (alone k n a)) out e) ∙ declared_in_more x (same_anywhere w.sought q 0 (alone k n a)) is))
+  still_out false is = is
+
+  behind_it : is_declared x (declared w.sought q (node k n a r)) ≡ true → is_declared x (declared w.sought (q + node_count (alone k n a)) r) ≡ true
+  behind_it h =
+      the_third (is_declared x (declared_here w.sought q k)) (is_declared x (declared (sought_below w.sought k) (q + one_each k) a)) (is_declared x (declared w.sought (q + node_count (alone k n a)) r))
+      (sym (declared_node x w.sought q k n a nothing) ∙ still_out (is_declared x (declared w.sought q (alone k n a))) refl)
+      (sym (declared_node x w.sought q k n a r) ∙ h)
+
 -- what is exported is declared by what is left
 pub still_declared : (x : List ℕ) (p q : ℕ) {w : Around} {t u : Forest} → is_of_catch w.sought ≡ false → Sheds w t u → is_exported x w.exported ≡ true
     → is_declared x (declared w.sought q t) ≡ true → is_declared x (declared w.sought p u) ≡ true
@@ -263,20 +281,18 @@ still_declared x p q calm (keeps {w = w} {k = k} {n = n} {m = m} {a = a} {b = b}
     (still_declared x (p + node_count (alone k m b)) (q + node_count (alone k n a)) calm rest e))
     (sym (declared_node x w.sought q k n a r) ∙ h)
 still_declared x p q calm (leaves {w = w} {k = k} {n = n} {a = a} {r = r} may out strict rest) e h =
-    still_declared x p (q + node_count (alone k n a)) calm rest e
-    (the_third (is_declared x (declared_here w.sought q k)) (is_declared x (declared (sought_below w.sought k) (q + one_each k) a)) (is_declared x (declared w.sought (q + node_count (alone k n a)) r))
-    (sym (declared_node x w.sought q k n a nothing) ∙ still_out (is_declared x (declared w.sought q (alone k n a))) refl)
-    (sym (declared_node x w.sought q k n a r) ∙ h))
-  where
-    still_out : (b : Bool) → is_declared x (declared w.sought q (alone k n a)) ≡ b → is_declared x (declared w.sought q (alone k n a)) ≡ false
-    still_out true is = absurd (cc (sym (not_declared x w.exported (declared w.sought 0 (alone k n a)) out e) ∙ declared_in_more x (same_anywhere w.sought q 0 (alone k n a)) is))
-    still_out false is = is
+    still_declared x p (q + node_count (alone k n a)) calm rest e (behind_it x q w k n a r out e h)
 still_declared x p q calm (empties {w = w} {n = n} {m = m} {a = a} {r = r} {s = s} may rest) e h =
     ap (is_declared x) (declares_nothing w.sought p m s)
     ∙ still_declared x (p + node_count (alone empty_statement m nothing)) (q + node_count (alone expression_statement n a)) calm rest e (sym (ap (is_declared x) (nothing_of_expression w.sought q n a r)) ∙ h)
 still_declared x p q calm (empties_idle {w = w} {k = k} {n = n} {m = m} {a = a} {r = r} {s = s} idle loops may unnamed rest) e h =
     let further = skipped w.sought q (alone k n a) r (unnamed q) in
     ap (is_declared x) (declares_nothing w.sought p m s) ∙ still_declared x (p + node_count (alone empty_statement m nothing)) further.0 calm rest e (sym (ap (is_declared x) further.1) ∙ h)
+still_declared x p q calm (states {w = w} {how = how} {x = y} {k = k} {n = n} {m = m} {l = l} {j = j} {i = i} {o = o} {b = b} {r = r} {s = s} listed unasked out rest) e h =
+    let value = alone k i b in
+    let all = declares_one m l j y value in
+    ap (is_declared x) (nothing_of_expression w.sought p o value s)
+    ∙ still_declared x (p + node_count (alone expression_statement o value)) (q + node_count (alone (variable_declaration how) n all)) calm rest e (behind_it x q w (variable_declaration how) n all r out e h)
 still_declared x p q calm (becomes {w = w} {k = k} {l = l} {n = n} {m = m} {a = a} {b = b} {r = r} {s = s} part may bare rest) e h =
     declared_node x w.sought p l m b s
     ∙ second_of_either (is_declared x (declared_here w.sought p l)) (is_declared x (declared (sought_below w.sought l) (p + one_each l) b) || is_declared x (declared w.sought (p + node_count (alone l m b)) s))

@@ -20,7 +20,7 @@ use Rattle.steps.specs.Owed.Kept.{is_program}
 use Rattle.steps.specs.Allowed.Exposure.{Exposure, in_code, in_block, declaring, shares, is_script_source, at_function_name, at_class_name, exposed_inside, beside_program}
 use Rattle.js_syntax.proofs.Truth.{first_of_either, second_of_either}
 use Rattle.steps.proofs.KeepForm.Asked.{idle_kinds, tested_kinds}
-use Rattle.steps.proofs.Marked.Cuts.{Cuts, leaves, empties, empties_idle, tests, alternate, parts, rebuilds, inside, behind, behind_none}
+use Rattle.steps.proofs.Marked.Cuts.{Cuts, leaves, empties, empties_idle, tests, states, alternate, parts, rebuilds, inside, behind, behind_none}
 use Rattle.steps.proofs.Marked.Rebuilding.{one_evals}
 
 -- ---- truth values
@@ -97,6 +97,9 @@ evals_stay listed t u (tests r k l n m i b after rest tested) e =
     let whole = node l i b after in
     only_or (part || false) (has_eval rest) (is_some (eval_of_call k whole) || has_eval whole) (has_eval rest)
     (λ h. second_of_either (is_some (eval_of_call k whole)) (has_eval whole) (first_of_either part (has_eval after) (or_nothing part h))) kept e
+evals_stay listed t u (states r how x k n m l j i o b rest none) e =
+    let value = is_some (eval_of_call k b) || has_eval b || false in
+    only_or value (has_eval rest) ((value || false) || false) (has_eval rest) (λ h. ap (λ (v : Bool). (v || false) || false) h) kept e
 evals_stay listed t u (alternate y l i j o d b) e = e
 evals_stay listed t u (parts r k l i j b v w rest gives unasked) e =
     let whole = joined v (node l j b w) in
@@ -116,6 +119,7 @@ evals_behind listed t u (leaves k n below rest plain) l e = absurd (true≢false
 evals_behind listed t u (empties r n m below rest) l e = e
 evals_behind listed t u (empties_idle r k n m below rest idle) l e = e
 evals_behind listed t u (tests r k x n m i b after rest tested) l e = e
+evals_behind listed t u (states r how x k n m l j i o b rest none) q e = e
 evals_behind listed t u (alternate y l i j o d b) m e = e
 evals_behind listed t u (parts r k x i j b v w rest gives unasked) l e = e
 evals_behind listed t u (rebuilds r k x n m a b rest made) l e = e
@@ -165,6 +169,7 @@ use_strict_stays listed t u (leaves k n below rest plain) e = never e
 use_strict_stays listed t u (empties r n m below rest) e = never e
 use_strict_stays listed t u (empties_idle r k n m below rest idle) e = never (idle_kinds (λ z. false ≡ has_use_strict (node z n below rest)) refl refl refl refl refl (λ label. refl) k idle ∙ e)
 use_strict_stays listed t u (tests r k l n m i b after rest tested) e = never (tested_kinds (λ z. false ≡ has_use_strict (node z n (node l i b after) rest)) refl k tested ∙ e)
+use_strict_stays listed t u (states r how x k n m l j i o b rest none) e = never e
 use_strict_stays listed t u (alternate y l i j o d b) e = first_strict y l i j o d b ∙ e
 use_strict_stays listed t u (parts r k l i j b v w rest gives unasked) e = never (sym (no_directive k i (joined v (node l j b w)) rest gives) ∙ e)
 use_strict_stays listed t u (rebuilds r k l n m a b rest made) e = never (sym (part_no_directive k n a rest made.old_unasked) ∙ e)
@@ -180,6 +185,7 @@ list_stays listed t u (leaves k n below rest plain) l e = absurd (true≢false l
 list_stays listed t u (empties r n m below rest) l e = never e
 list_stays listed t u (empties_idle r k n m below rest idle) l e = never (idle_kinds (λ z. false ≡ is_strict_list (node z n below rest)) refl refl refl refl refl (λ label. refl) k idle ∙ e)
 list_stays listed t u (tests r k x n m i b after rest tested) l e = never (tested_kinds (λ z. false ≡ is_strict_list (node z n (node x i b after) rest)) refl k tested ∙ e)
+list_stays listed t u (states r how x k n m l j i o b rest none) q e = never e
 list_stays listed t u (alternate y l i j o d b) m e = first_list y l i j o d b ∙ e
 list_stays listed t u (parts r k x i j b v w rest gives unasked) l e = never (sym (no_list k i (joined v (node x j b w)) rest gives) ∙ e)
 list_stays listed t u (rebuilds r k x n m a b rest made) l e = never (sym (part_no_list k n a rest made.old_unasked) ∙ e)
@@ -194,6 +200,7 @@ function_stays listed t u (leaves k n below rest plain) l e = absurd (true≢fal
 function_stays listed t u (empties r n m below rest) l e = e
 function_stays listed t u (empties_idle r k n m below rest idle) l e = idle_kinds (λ z. is_strict_function rest ≡ is_strict_function (node z n below rest)) refl refl refl refl refl (λ label. refl) k idle ∙ e
 function_stays listed t u (tests r k x n m i b after rest tested) l e = tested_kinds (λ z. is_strict_function rest ≡ is_strict_function (node z n (node x i b after) rest)) refl k tested ∙ e
+function_stays listed t u (states r how x k n m l j i o b rest none) q e = e
 function_stays listed t u (alternate y l i j o d b) m e = first_function y l i j o d b ∙ e
 function_stays listed t u (parts r k x i j b v w rest gives unasked) l e = part_no_body x j b rest unasked ∙ sym (whole_no_body k i (joined v (node x j b w)) rest gives) ∙ e
 function_stays listed t u (rebuilds r k x n m a b rest made) l e = part_no_body x m b rest made.unasked ∙ sym (part_no_body k n a rest made.old_unasked) ∙ e
@@ -208,6 +215,7 @@ there_same listed t u (leaves k n below rest plain) l = absurd (true≢false l)
 there_same listed t u (empties r n m below rest) l = refl
 there_same listed t u (empties_idle r k n m below rest idle) l = refl
 there_same listed t u (tests r k x n m i b after rest tested) l = refl
+there_same listed t u (states r how x k n m l j i o b rest none) q = refl
 there_same listed t u (alternate y l i j o d b) m = refl
 there_same listed t u (parts r k x i j b v w rest gives unasked) l = refl
 there_same listed t u (rebuilds r k x n m a b rest made) l = refl
@@ -220,6 +228,7 @@ second_same listed t u (leaves k n below rest plain) l = absurd (true≢false l)
 second_same listed t u (empties r n m below rest) l = refl
 second_same listed t u (empties_idle r k n m below rest idle) l = refl
 second_same listed t u (tests r k x n m i b after rest tested) l = refl
+second_same listed t u (states r how x k n m l j i o b rest none) q = refl
 second_same listed t u (alternate y l i j o d b) m = refl
 second_same listed t u (parts r k x i j b v w rest gives unasked) l = refl
 second_same listed t u (rebuilds r k x n m a b rest made) l = refl
@@ -315,6 +324,7 @@ below_stays listed t u (leaves k n below rest plain) l is e = absurd (true≢fal
 below_stays listed t u (empties r n m below rest) l is e = never e
 below_stays listed t u (empties_idle r k n m below rest idle) l is e = never e
 below_stays listed t u (tests r k x n m i b after rest tested) l is e = never (tested_kinds (λ z. false ≡ is_program (node z n (node x i b after) rest)) refl k tested ∙ is)
+below_stays listed t u (states r how x k n m l j i o b rest none) q is e = never is
 below_stays listed t u (alternate y l i j o d b) m is e = e
 below_stays listed t u (parts r k x i j b v w rest gives unasked) l is e = evals_part v x j b w (second_of_either (is_some (eval_of_call x b)) (has_eval b) e)
 below_stays listed t u (rebuilds r k x n m a b rest made) l is e = never (sym (part_no_program k n a rest made.old_unasked) ∙ is)

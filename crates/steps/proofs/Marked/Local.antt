@@ -1,7 +1,8 @@
 -- What an edit makes of the row in which it is made, whose other nodes keep their marks.
-use Rattle.std.proofs.Common.{◌≡◌, ◌∙◌, ◌⊎◌, inl, inr, ◌≤◌, ◌<◌, true, false, Some, is_some, arith, refl, sym, ap}
+use Rattle.std.proofs.Common.{◌≡◌, ◌∙◌, ◌⊎◌, inl, inr, ℕ, List, ◌≤◌, ◌<◌, true, false, Some, is_some, arith, refl, sym, ap}
 use Rattle.js_syntax.specs.declared.node_kind.NodeKind.{NodeKind as Kind}
-use Rattle.js_syntax.specs.declared.node_kind.NodeKind.TheVariants.{ExpressionStatement as expression_statement, IfStatement as if_statement, EmptyStatement as empty_statement}
+use Rattle.js_syntax.specs.declared.node_kind.NodeKind.TheVariants.{ExpressionStatement as expression_statement, IfStatement as if_statement, EmptyStatement as empty_statement, VariableDeclaration as variable_declaration}
+use Rattle.js_syntax.specs.declared.kind.VariableKind.{VariableKind}
 use Rattle.js_syntax.specs.Class.{root, expression}
 use Rattle.js_syntax.specs.Facts.{weight}
 use Rattle.js_syntax.specs.Node.{Forest, Tree, Note, nothing, node, absent, alone, joined, total, forest_of}
@@ -12,12 +13,13 @@ use Rattle.json_shape.specs.Shape.{is_directive_kind, Fits}
 use Rattle.scope_laws.specs.Place as places
 use Rattle.scope_laws.specs.Lists.{without}
 use Rattle.scope_counts.specs.Edits.{Around, plug, in_list}
-use Rattle.steps.specs.KeepForm.Part.{gives_way, may_be_idle, is_tested, is_asked_for}
+use Rattle.steps.specs.KeepForm.Part.{gives_way, may_be_idle, is_tested, is_asked_for, declares_one}
 use Rattle.steps.specs.Allowed.SilentStatement.{silent_statement_empties}
 use Rattle.steps.specs.Allowed.DeadIf.{nothing_is_run}
 use Rattle.steps.specs.Allowed.IdleBody.{idle_body_empties}
 use Rattle.steps.specs.Allowed.EmptyIf.{test_stays}
 use Rattle.steps.specs.Allowed.EmptyAlternate.{alternate_goes}
+use Rattle.steps.specs.Allowed.ValueStays.{value_is_stated}
 use Rattle.steps.specs.Allowed.UnrunValue.{a_zero, value_never_given}
 use Rattle.steps.specs.Allowed.Edits as edits
 use Rattle.steps.specs.Allowed.Edits.{Leaves, Becomes, Edit}
@@ -41,6 +43,7 @@ use Rattle.steps.proofs.Owed.TwoSides.{two_sides_owes}
 use Rattle.steps.proofs.Owed.UnusedObject.{unused_object_owes}
 use Rattle.steps.proofs.Owed.KnownOperation.{known_operation_owes}
 use Rattle.steps.proofs.Owed.UnrunValue.{dropped, new_fits, rebuilt}
+use Rattle.steps.proofs.Owed.ValueStays.{value_fits}
 use Rattle.steps.proofs.Owed.FitsBecoming.{taken_as}
 use Rattle.steps.proofs.Owed.Owed.{leaving}
 use Rattle.steps.proofs.Owed.Places.{place_of, rest_of, placed_is, without_is, listed_is}
@@ -59,14 +62,15 @@ pub record IsRebuilt (k : Kind) (n : Note) (a : Forest) (l : Kind) (m : Note) (b
   pub no_deeper : levels (alone l m b) ≤ levels (alone k n a)
   pub picks : Picks k a l b
 
--- A node leaves a list, a statement of an expression or one that does nothing becomes empty, one of its test comes in a statement's place, an
--- `if` loses its alternate, a part of a node stands in its place, or an expression is rebuilt of its parts; what comes isn't the name `eval`
--- if it is called.
+-- A node leaves a list, a statement of an expression or one that does nothing becomes empty, one of its test comes in a statement's place, one
+-- of its value in that of a declaration, an `if` loses its alternate, a part of a node stands in its place, or an expression is rebuilt of its
+-- parts; what comes isn't the name `eval` if it is called.
 pub data Local (place : Around) : (t u : Forest) → Type 0 where
   leaves : (k : Kind) (n : Note) (b rest : Forest) → in_list false place ≡ true → is_directive_kind k ≡ false → 1 ≤ total weight (alone k n b) → Local place (node k n b rest) rest
   empties : (n m : Note) (b rest : Forest) → Local place (node expression_statement n b rest) (node empty_statement m nothing rest)
   empties_idle : (k : Kind) (n m : Note) (b rest : Forest) → may_be_idle k ≡ true → Local place (node k n b rest) (node empty_statement m nothing rest)
   tests : (k l : Kind) (n m i : Note) (b after rest : Forest) → is_tested k ≡ true → Local place (node k n (node l i b after) rest) (node expression_statement m (node l i b nothing) rest)
+  states : (how : VariableKind) (x : List ℕ) (k : Kind) (n m l j i o : Note) (b rest : Forest) → DeclaresNothing (alone k i b) → Local place (node (variable_declaration how) n (declares_one m l j x (alone k i b)) rest) (node expression_statement o (alone k i b) rest)
   alternate : (t l : Kind) (n i j o : Note) (d b rest : Forest) → Local place (node if_statement n (node t i d (node l j b (node empty_statement o nothing nothing))) rest) (node if_statement n (node t i d (node l j b (absent nothing))) rest)
   parts : (k l : Kind) (i j : Note) (b v w rest : Forest) → gives_way k ≡ true → is_asked_for l ≡ false → (called_at false place ≡ true → is_some (eval_name (node l j b rest)) ≡ false)
       → Local place (node k i (joined v (node l j b w)) rest) (node l j b rest)
@@ -188,6 +192,14 @@ changed a x y (edits.empty_alternate (alternate_goes n i j o tested l d b last))
   old = node if_statement n (node tested i d (node l j b (node empty_statement o nothing nothing))) (rest_of a);
   new = node if_statement n (node tested i d (node l j b (absent nothing))) (rest_of a);
   local = alternate tested l n i j o d b (rest_of a);
+  old_is = placed_is a x;
+  new_is = placed_is a y;
+}
+changed a x y (edits.value_stays (value_is_stated how n m l j i o name k b stated item in_with own free)) fits = record {
+  place = place_of a;
+  old = node (variable_declaration how) n (declares_one m l j name (alone k i b)) (rest_of a);
+  new = node expression_statement o (alone k i b) (rest_of a);
+  local = states how name k n m l j i o b (rest_of a) (expression_declares_nothing (alone k i b) (value_fits a how n m l j i o name k b item own free fits));
   old_is = placed_is a x;
   new_is = placed_is a y;
 }

@@ -18,7 +18,7 @@ use Rattle.steps.specs.Allowed.Edits.{Edit, TreeEdits, no_tree_edit, one_tree_ed
 use Rattle.steps.proofs.Owed.FitsEdits.{edit_fits}
 use Rattle.steps.proofs.KeepForm.Asked.{tested_kinds}
 use Rattle.steps.proofs.Owed.IdleBody.{idle_weighs}
-use Rattle.steps.proofs.Marked.Local.{Local, leaves, empties, empties_idle, tests, alternate, parts, rebuilds, is_local, IsLocal}
+use Rattle.steps.proofs.Marked.Local.{Local, leaves, empties, empties_idle, tests, states, alternate, parts, rebuilds, is_local, IsLocal}
 use Rattle.steps.proofs.Owed.Declaring.{declaring_each, each_declaring}
 use Rattle.steps.proofs.Marked.Merged as merged
 use Rattle.steps.proofs.Marked.Merged.{same_tally, same_referring}
@@ -40,6 +40,7 @@ module _ (w : Weight) where
   tally_local place t u (empties n m b rest) = Prim.omega arith
   tally_local place t u (empties_idle k n m b rest idle) = Prim.omega arith
   tally_local place t u (tests k l n m i b after rest tested) = Prim.omega arith
+  tally_local place t u (states how x k n m l j i o b rest none) = Prim.omega arith
   tally_local place t u (alternate y l n i j o d b rest) = Prim.omega arith
   tally_local place t u (parts k l i j b v x rest gives unasked uncalled) = Prim.omega (arith, tally_joined v (node l j b x))
   tally_local place t u (rebuilds k l n m a b rest made uncalled) = Prim.omega (arith, rebuilt_tally w made.rebuilt)
@@ -87,6 +88,7 @@ weight_local place t u (leaves k n b rest listed plain weighs) = Prim.omega (ari
 weight_local place t u (empties n m b rest) = Prim.omega arith
 weight_local place t u (empties_idle k n m b rest idle) = let more = idle_weighs k idle in Prim.omega (arith, more)
 weight_local place t u (tests k l n m i b after rest tested) = Prim.omega (arith, tested_kinds (λ z. 3 ≤ facts.weight z) (Prim.omega arith) k tested)
+weight_local place t u (states how x k n m l j i o b rest none) = Prim.omega arith
 weight_local place t u (alternate y l n i j o d b rest) = Prim.omega arith
 weight_local place t u (parts k l i j b v x rest gives unasked uncalled) = Prim.omega (arith, weight_joined v (node l j b x), gives_weight k gives)
 weight_local place t u (rebuilds k l n m a b rest made uncalled) = Prim.omega (arith, made.lighter)
@@ -126,6 +128,7 @@ module _ (P : List ℕ → Option ℕ → Type 0) where
   declared_local place t u (empties n m b rest) e = (tt, tt, e.2)
   declared_local place t u (empties_idle k n m b rest idle) e = (tt, tt, e.2)
   declared_local place t u (tests k l n m i b after rest tested) e = (tt, (e.1.0, e.1.1, tt), e.2)
+  declared_local place t u (states how x k n m l j i o b rest none) e = (tt, e.1.1.1.2, e.2)
   declared_local place t u (alternate y l n i j o d b rest) e = (e.0, (e.1.0, e.1.1, (e.1.2.0, e.1.2.1, tt)), e.2)
   declared_local place t u (parts k l i j b v x rest gives unasked uncalled) e = let inner = declared_part v l j b x e.1 in (inner.0, inner.1, e.2)
   declared_local place t u (rebuilds k l n m a b rest made uncalled) e = each_declaring P u (λ d h. declaring_each P t e d ((rebuilt_thins (λ r. false) k l n m a b rest made.rebuilt).declarations d h))
@@ -160,6 +163,7 @@ module _ (P : List ℕ → Option ℕ → Type 0) where
   referring_local place t u (empties n m b rest) e = (tt, tt, e.2)
   referring_local place t u (empties_idle k n m b rest idle) e = (tt, tt, e.2)
   referring_local place t u (tests k l n m i b after rest tested) e = (tt, (e.1.0, e.1.1, tt), e.2)
+  referring_local place t u (states how x k n m l j i o b rest none) e = (tt, e.1.1.1.2, e.2)
   referring_local place t u (alternate y l n i j o d b rest) e = (e.0, (e.1.0, e.1.1, (e.1.2.0, e.1.2.1, tt)), e.2)
   referring_local place t u (parts k l i j b v x rest gives unasked uncalled) e = let inner = referring_part v l j b x e.1 in (inner.0, inner.1, e.2)
   referring_local place t u (rebuilds k l n m a b rest made uncalled) e = each_referring P u (λ d h. referring_each P t e d ((rebuilt_thins (λ r. false) k l n m a b rest made.rebuilt).references d h))

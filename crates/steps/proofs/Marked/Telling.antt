@@ -7,14 +7,14 @@ use Rattle.js_syntax.specs.declared.kind.ClassKind.TheVariants as class_kind
 use Rattle.js_syntax.specs.declared.kind.VariableKind.{VariableKind}
 use Rattle.js_syntax.specs.declared.kind.VariableKind.TheVariants as variable
 use Rattle.js_syntax.specs.Class.{root}
-use Rattle.js_syntax.specs.Node.{Forest, Tree, Note, nothing, node, absent, joined, below_of}
+use Rattle.js_syntax.specs.Node.{Forest, Tree, Note, nothing, node, absent, joined, below_of, alone}
 use Rattle.js_rebuilt.specs.Rebuilt.{is_operation, Rebuilt, ends, stays, leaves as leaves_whole, opened, built, absent_leaves, absent_comes}
 use Rattle.json_shape.specs.Shape.{Fits}
 use Rattle.scope_rules.specs.Table.{Scoping}
 use Rattle.scope_laws.specs.Lists.{is_list}
 use Rattle.scope_laws.specs.Place as places
 use Rattle.scope_laws.specs.Place.{Around, first, under}
-use Rattle.steps.specs.KeepForm.Part.{gives_way}
+use Rattle.steps.specs.KeepForm.Part.{gives_way, declares_one}
 use Rattle.steps.proofs.Fit.Modules.{fits_program}
 use Rattle.steps.specs.Allowed.Edits.{Edit, TreeEdits, no_tree_edit, one_tree_edit}
 use Rattle.steps.specs.Allowed.Exposure.{exposed_at, exposure, is_script, function_is_exposed, evaluates_somewhere, shares, IsOwnFunction, IsOwnDeclarator, IsOwnDeclaration}
@@ -26,7 +26,8 @@ use Rattle.scope_laws.proofs.Bindings.{same_value}
 use Rattle.js_syntax.proofs.Truth.{neither}
 use Rattle.steps.specs.Marked.Flags.{has_bits, scope_has, is_sloppy_block, Stand, is_within, holds_variables, declares_in, declaring_inside, stand_inside, first_mark, stands_of, stand_at, stand, Tells, Told, FlagsTell}
 use Rattle.steps.proofs.KeepForm.Asked.{idle_kinds, tested_kinds, tested_gives}
-use Rattle.steps.proofs.Marked.Cuts.{Cuts, leaves, empties, empties_idle, tests, alternate, parts, rebuilds, inside, behind, behind_none, edit_cuts}
+use Rattle.steps.proofs.Marked.Redeclaring.{redeclared_told, stands_within, out_of_declaration}
+use Rattle.steps.proofs.Marked.Cuts.{Cuts, leaves, empties, empties_idle, tests, states, alternate, parts, rebuilds, inside, behind, behind_none, edit_cuts}
 use Rattle.steps.proofs.Marked.Merged.{merged_told}
 use Rattle.steps.proofs.Marked.Passed.{passes_told}
 use Rattle.steps.proofs.Marked.Exposing.{never, part_no_program, Thinner, thinner_itself, thinner_cuts, Less, less_inside, below_stays, less_beside}
@@ -205,6 +206,18 @@ module _ (s : Scoping) (script : Bool) where
         ),
         row_stays r rest qs ps (suc i) (suc j) c (λ e. ap suc (f e)) h.2,
       )
+  cuts_told listed t u (states r how x k n m l j y o b rest none) qs ps i z c f h =
+      let p = ps z in
+      let given = stand_inside p (kind.VariableDeclaration how) n (declares_one m l j x (alone k y b)) 0 in
+      let inner = redeclared_told s script b (stand_inside p k y b) (stand_inside given k y b) 0 (λ at. stands_within s script p given (out_of_declaration s script p how n (declares_one m l j x (alone k y b)) h.0) h.0 k y b at) h.1.1.1.2.1 in (
+        tells_less (c i z f) h.0,
+        (
+          tells_less (c i z f) h.0,
+          row_stays (is_list k) b (stand_inside (qs i) k y b) (stand_inside p k y b) 0 0 (covers_inside k y b b (thinner_itself k b) (c i z f)) (λ e. refl) inner,
+          tt,
+        ),
+        row_stays r rest qs ps (suc i) (suc z) c (λ e. ap suc (f e)) h.2,
+      )
   cuts_told listed t u (alternate y l m n o d b) qs ps i j c f h =
       let behind_first = c (suc i) (suc j) (λ e. ap suc (f e)) in (
         tells_less (c i j f) h.0,
@@ -260,6 +273,7 @@ root_stays listed t u (leaves k n below rest plain) l e = absurd (true≢false l
 root_stays listed t u (empties r n m below rest) l e = never e
 root_stays listed t u (empties_idle r k n m below rest idle) l e = never (idle_kinds (λ z. false ≡ is_program (node z n below rest)) refl refl refl refl refl (λ label. refl) k idle ∙ e)
 root_stays listed t u (tests r k x n m i b after rest tested) l e = never (tested_kinds (λ z. false ≡ is_program (node z n (node x i b after) rest)) refl k tested ∙ e)
+root_stays listed t u (states r how x k n m l j i o b rest none) q e = never e
 root_stays listed t u (alternate y l i j o d b) m e =
     record { script = script_first y i i d d (node l j b (absent nothing)) (node l j b (node kind.EmptyStatement o nothing nothing)); mark = refl }
 root_stays listed t u (parts r k x i j b v w rest gives unasked) l e = never (sym (no_program k i (joined v (node x j b w)) rest gives) ∙ e)

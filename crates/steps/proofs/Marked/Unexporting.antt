@@ -1,5 +1,5 @@
 -- What edits leave of a program exports no declaration that it did not.
-use Rattle.std.proofs.Common.{◌≡◌, ◌∙◌, ◌<◌, ◌+◌, ◌==◌, ℕ, suc, List, [], ◌∷◌, ◌++◌, Bool, true, false, ◌&&◌, ◌||◌, true≢false, if◌then◌else◌, inl, inr, refl, sym, ap, ap₂, subst, arith}
+use Rattle.std.proofs.Common.{◌≡◌, ◌∙◌, ◌<◌, ◌+◌, ◌==◌, ℕ, suc, List, [], ◌∷◌, ◌++◌, Bool, true, false, ◌&&◌, ◌||◌, true≢false, if◌then◌else◌, inl, inr, append-nil, refl, sym, ap, ap₂, subst, arith}
 use Rattle.js_syntax.specs.declared.node_kind.NodeKind.{NodeKind as Kind}
 use Rattle.js_syntax.specs.declared.node_kind.NodeKind.TheVariants as kind
 use Rattle.js_syntax.specs.declared.kind.FunctionKind.{FunctionKind}
@@ -11,7 +11,7 @@ use Rattle.js_syntax.specs.declared.kind.MethodKind.TheVariants as method_kind
 use Rattle.js_syntax.specs.declared.kind.VariableKind.TheVariants as variable
 use Rattle.js_syntax.specs.declared.scalar.SourceType.{SourceType}
 use Rattle.js_syntax.specs.Class.{root}
-use Rattle.js_syntax.specs.Node.{Forest, Note, nothing, node, absent, joined}
+use Rattle.js_syntax.specs.Node.{Forest, Note, nothing, node, absent, joined, alone}
 use Rattle.json_shape.specs.Shape.{Fits}
 use Rattle.scope_rules.specs.declared.layer.Layer.{Layer}
 use Rattle.scope_rules.specs.declared.layer.Role.{Role}
@@ -20,12 +20,12 @@ use Rattle.scope_rules.specs.Binding.{same_layer}
 use Rattle.scope_rules.specs.Site.{Site, scope_site, ScopeSite, BindingSite, own_sites, opens_one, scope_count, sites, bindings_among}
 use Rattle.scope_laws.specs.Exact.{Among}
 use Rattle.scope_laws.specs.Lists.{is_list}
-use Rattle.scope_counts.specs.Counts.{Decl}
+use Rattle.scope_counts.specs.Counts.{Decl, no_part, aims_inside, hoisted}
 use Rattle.scope_counts.specs.Sites.{decls_in}
 use Rattle.scope_counts.proofs.Layers.{aims_at}
 use Rattle.scope_counts.proofs.Counting.{hoisted_are}
 use Rattle.scope_counts.proofs.Whole.{same_layer_same}
-use Rattle.steps.specs.KeepForm.Part.{gives_way}
+use Rattle.steps.specs.KeepForm.Part.{gives_way, declares_one}
 use Rattle.steps.specs.Naming.Standing.{is_export, exported_sites, exported_declarations}
 use Rattle.steps.proofs.Naming.Sites.{InThree, in_first, in_second, in_third, binding_in, binding_left, binding_second, binding_third}
 use Rattle.steps.proofs.Fit.Modules.{fits_program}
@@ -35,7 +35,7 @@ use Rattle.steps.specs.Owed.Part.{DeclaresNothing}
 use Rattle.steps.proofs.Owed.FitsEdits.{edit_fits}
 use Rattle.steps.specs.Marked.Exports.{IsMarkedAmong, WasExported}
 use Rattle.steps.proofs.KeepForm.Asked.{idle_kinds, tested_kinds, tested_gives}
-use Rattle.steps.proofs.Marked.Cuts.{Cuts, leaves, empties, empties_idle, tests, alternate, parts, rebuilds, inside as cut_inside, behind, behind_none, edit_cuts}
+use Rattle.steps.proofs.Marked.Cuts.{Cuts, leaves, empties, empties_idle, tests, states, alternate, parts, rebuilds, inside as cut_inside, behind, behind_none, edit_cuts}
 use Rattle.steps.proofs.Marked.Merged.{same_exports}
 use Rattle.steps.proofs.Marked.Passed as passed
 use Rattle.steps.proofs.Marked.Telling.{no_program}
@@ -221,6 +221,9 @@ declares_none t none all cs at next b some h =
     subst (Among (decl_of b)) (hoisted_are b.layer cs (λ i. aims_at b.layer (cs i)) at next t some (λ i. refl) ∙ none (λ i. aims_at b.layer (cs i)) at)
     (among_decls (bindings_among (sites cs at next t)) b (collected_declared all cs at next t b h))
 
+statement_declares : (t : Forest) (o : Note) → DeclaresNothing t → DeclaresNothing (node kind.ExpressionStatement o t nothing)
+statement_declares t o none aims at = append-nil (hoisted (aims_inside no_part (aims at) kind.ExpressionStatement t) 0 t) ∙ none (aims_inside no_part (aims at) kind.ExpressionStatement t) 0
+
 -- ---- a declaration that is there now, in the program's own scope
 
 module _ (e : BindingSite) (top : e.layer.scope ≡ 0) where
@@ -328,6 +331,23 @@ module _ (e : BindingSite) (top : e.layer.scope ≡ 0) where
       (covers_by (is_list l) l b b (qs i) (ps j) next other refl some (λ e. refl) (c i j (λ l. f))) (λ e. refl) g)
       (λ g. absurd g) h
 
+  -- what declares nothing, in the place of a node
+  replaced_found : (all listed : Bool) (k l : Kind) (n m : Note) (a b rest : Forest) → DeclaresNothing (node l m b nothing) → (qs ps : ℕ → Context) (i j next other : ℕ) → 0 < next → Covers listed qs ps → (listed ≡ false → i ≡ j)
+      → Among e (bindings_among (collected all qs i next (node l m b rest))) → Found (collected all ps j other (node k n a rest))
+  replaced_found all r k l n m a b rest nothing_declared qs ps i j next other some c f h =
+      by (binding_in e (if all then own_sites (qs i) m l b else []) (collected (all || is_export l) (inside (qs i) next l b) 0 (next + opens_one l b) b) (collected all qs (suc i) (next + scope_count (node l m b nothing)) rest) h)
+    where
+      none : Among e (bindings_among ((if all then own_sites (qs i) m l b else []) ++ collected (all || is_export l) (inside (qs i) next l b) 0 (next + opens_one l b) b ++ [])) → ⊥
+      none g = declares_none (node l m b nothing) nothing_declared all qs i next e (Prim.omega (arith, some, top)) g
+
+      by : InThree e (bindings_among (if all then own_sites (qs i) m l b else [])) (bindings_among (collected (all || is_export l) (inside (qs i) next l b) 0 (next + opens_one l b) b)) (bindings_among (collected all qs (suc i) (next + scope_count (node l m b nothing)) rest))
+          → Found (collected all ps j other (node k n a rest))
+      by (in_first g) = absurd (none (rest_only (if all then own_sites (qs i) m l b else []) (collected (all || is_export l) (inside (qs i) next l b) 0 (next + opens_one l b) b) [] g))
+      by (in_second g) = absurd (none (binding_second e (if all then own_sites (qs i) m l b else []) (collected (all || is_export l) (inside (qs i) next l b) 0 (next + opens_one l b) b) [] g))
+      by (in_third g) =
+          found_third (if all then own_sites (ps j) n k a else []) (collected (all || is_export k) (inside (ps j) other k a) 0 (other + opens_one k a) a) (collected all ps (suc j) (other + scope_count (node k n a nothing)) rest)
+          (row_found all r rest qs ps (suc i) (suc j) (next + scope_count (node l m b nothing)) (other + scope_count (node k n a nothing)) (Prim.omega (arith, some)) c (λ d. ap suc (f d)) g)
+
   cuts_found : (all listed : Bool) (t u : Forest) → Cuts listed t u → (qs ps : ℕ → Context) (i j next other : ℕ) → 0 < next → Covers listed qs ps → (listed ≡ false → i ≡ j) → Among e (bindings_among (collected all qs i next u)) → Found (collected all ps j other t)
   cuts_found all listed t u (leaves k n below rest plain) qs ps i j next other some c f h =
       found_third (if all then own_sites (ps j) n k below else []) (collected (all || is_export k) (inside (ps j) other k below) 0 (other + opens_one k below) below) (collected all ps (suc j) (other + scope_count (node k n below nothing)) rest)
@@ -362,6 +382,8 @@ module _ (e : BindingSite) (top : e.layer.scope ≡ 0) where
       by (in_third g) =
           found_third (if all then own_sites (ps j) n k (node l y b after) else []) (collected (all || is_export k) (inside (ps j) other k (node l y b after)) 0 (other + opens_one k (node l y b after)) (node l y b after)) (collected all ps (suc j) (other + scope_count (node k n (node l y b after) nothing)) rest)
           (row_found all r rest qs ps (suc i) (suc j) (next + scope_count (node kind.ExpressionStatement m (node l y b nothing) nothing)) (other + scope_count (node k n (node l y b after) nothing)) (Prim.omega (arith, some)) c (λ a. ap suc (f a)) g)
+  cuts_found all listed t u (states r how x k n m l j2 y o b rest none) qs ps i j next other some c f h =
+      replaced_found all r (kind.VariableDeclaration how) kind.ExpressionStatement n o (declares_one m l j2 x (alone k y b)) (alone k y b) rest (statement_declares (alone k y b) o none) qs ps i j next other some c f h
   cuts_found all listed t u (alternate k l n m o below b) qs ps i j next other some c f h =
       at_node all (qs i) (ps j) (c i j f) n k below below (collected (all || is_export k) (inside (qs i) next k below) 0 (next + opens_one k below) below) (collected all qs (suc i) (next + scope_count (node k n below nothing)) (node l m b (absent nothing)))
       (collected (all || is_export k) (inside (ps j) other k below) 0 (other + opens_one k below) below) (collected all ps (suc j) (other + scope_count (node k n below nothing)) (node l m b (node kind.EmptyStatement o nothing nothing)))
@@ -391,19 +413,7 @@ module _ (e : BindingSite) (top : e.layer.scope ≡ 0) where
       by x is (in_third g) =
           found_third (if all then own_sites (ps j) m k x else []) (collected (all || is_export k) (inside (ps j) other k x) 0 (other + opens_one k x) x) (collected all ps (suc j) (other + scope_count (node k m x nothing)) rest)
           (row_found all r rest qs ps (suc i) (suc j) (next + scope_count (node l n b nothing)) (other + scope_count (node k m x nothing)) (Prim.omega (arith, some)) c (λ a. ap suc (f a)) g)
-  cuts_found all listed t u (rebuilds r k l n m a b rest made) qs ps i j next other some c f h =
-      by (binding_in e (if all then own_sites (qs i) m l b else []) (collected (all || is_export l) (inside (qs i) next l b) 0 (next + opens_one l b) b) (collected all qs (suc i) (next + scope_count (node l m b nothing)) rest) h)
-    where
-      none : Among e (bindings_among ((if all then own_sites (qs i) m l b else []) ++ collected (all || is_export l) (inside (qs i) next l b) 0 (next + opens_one l b) b ++ [])) → ⊥
-      none g = declares_none (node l m b nothing) made.declares all qs i next e (Prim.omega (arith, some, top)) g
-
-      by : InThree e (bindings_among (if all then own_sites (qs i) m l b else [])) (bindings_among (collected (all || is_export l) (inside (qs i) next l b) 0 (next + opens_one l b) b)) (bindings_among (collected all qs (suc i) (next + scope_count (node l m b nothing)) rest))
-          → Found (collected all ps j other (node k n a rest))
-      by (in_first g) = absurd (none (rest_only (if all then own_sites (qs i) m l b else []) (collected (all || is_export l) (inside (qs i) next l b) 0 (next + opens_one l b) b) [] g))
-      by (in_second g) = absurd (none (binding_second e (if all then own_sites (qs i) m l b else []) (collected (all || is_export l) (inside (qs i) next l b) 0 (next + opens_one l b) b) [] g))
-      by (in_third g) =
-          found_third (if all then own_sites (ps j) n k a else []) (collected (all || is_export k) (inside (ps j) other k a) 0 (other + opens_one k a) a) (collected all ps (suc j) (other + scope_count (node k n a nothing)) rest)
-          (row_found all r rest qs ps (suc i) (suc j) (next + scope_count (node l m b nothing)) (other + scope_count (node k n a nothing)) (Prim.omega (arith, some)) c (λ d. ap suc (f d)) g)
+  cuts_found all listed t u (rebuilds r k l n m a b rest made) qs ps i j next other some c f h = replaced_found all r k l n m a b rest made.declares qs ps i j next other some c f h
   cuts_found all listed t u (cut_inside r k n below now rest called x) qs ps i j next other some c f h =
       at_node all (qs i) (ps j) (c i j f) n k now below (collected (all || is_export k) (inside (qs i) next k now) 0 (next + opens_one k now) now) (collected all qs (suc i) (next + scope_count (node k n now nothing)) rest)
       (collected (all || is_export k) (inside (ps j) other k below) 0 (other + opens_one k below) below) (collected all ps (suc j) (other + scope_count (node k n below nothing)) rest)
@@ -443,6 +453,7 @@ module _ (e : BindingSite) (top : e.layer.scope ≡ 0) where
   root_found listed t u (empties r n m below rest) l is h = never is
   root_found listed t u (empties_idle r k n m below rest idle) l is h = never (idle_kinds (λ z. false ≡ is_program (node z n below rest)) refl refl refl refl refl (λ label. refl) k idle ∙ is)
   root_found listed t u (tests r k x n m y b after rest tested) l is h = never (tested_kinds (λ z. false ≡ is_program (node z n (node x y b after) rest)) refl k tested ∙ is)
+  root_found listed t u (states r how x k n m l j i o b rest none) q is h = never is
   root_found listed t u (alternate (kind.Program source) l n m o below b) z is h =
       program_found source n below below (node l m b (node kind.EmptyStatement o nothing nothing)) (node l m b (absent nothing))
       (λ g. row_found false false below (inside outermost 0 (kind.Program source) below) (inside outermost 0 (kind.Program source) below) 0 0 1 1 (Prim.omega arith) (covers_program source below below) (λ l. refl) g)

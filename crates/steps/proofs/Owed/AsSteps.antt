@@ -21,6 +21,7 @@ use Rattle.steps.specs.Allowed.SilentStatement.{a_statement, SilentStatement}
 use Rattle.steps.specs.Allowed.UnusedFunction.{a_function}
 use Rattle.steps.specs.Allowed.UnusedDeclarator.{a_declarator, SilentDeclarator}
 use Rattle.steps.specs.Allowed.UnusedDeclaration.{one_declarator, a_declaration, SilentDeclaration}
+use Rattle.steps.specs.Allowed.EmptyIf.{statement_of}
 use Rattle.scope_rules.specs.Context.{inside, in_variables, outermost as outermost_context}
 use Rattle.scope_rules.specs.Site.{opens_one, scope_count}
 use Rattle.scope_rules.specs.Binding.{named_in}
@@ -152,3 +153,25 @@ module _ (a : Place) where
       (initialiser (declarations_of t) f.around.names f.in_with (inside e (place + opens_one Kind.Declarators ds) Kind.VariableDeclarator inner) 1
       (place + opens_one Kind.Declarators ds + opens_one Kind.VariableDeclarator inner + scope_count (node (Kind.BindingName x) j nothing nothing)) value (λ i. variables_known (declarations_of t) f.around.names c how f.here.known.0)
       (field_behind (Kind.BindingName x) value (and_parts (is_declarator Kind.VariableDeclarator inner) true (arranged_here (Kind.VariableDeclaration how) n all f.rest f.here.good)).0) (plain_value_here Kind.VariableDeclarator l inner nothing in_list) f.there.0.1))
+
+  -- a declaration becomes a statement of its value
+  pub value_step : (how : VariableKind) (n m l j i o : Note) (x : Text) (k : Kind) (b : Forest) → is_well_placed (plug a (a_declaration how n m l j x (alone k i b))) ≡ true → Good (plug a (a_declaration how n m l j x (alone k i b))) → IsItem a
+      → At a (a_declaration how n m l j x (alone k i b)) (Free (plug a (a_declaration how n m l j x (alone k i b))) how x) → Step steps.outermost (plug a (a_declaration how n m l j x (alone k i b))) (plug a (Some (statement_of o i k b)))
+  value_step how n m l j i o x k b w good item free =
+      let value = alone k i b in
+      let inner = node (Kind.BindingName x) j nothing value in
+      let ds = node Kind.VariableDeclarator l inner nothing in
+      let all = one_declarator m l inner in
+      let y : Tree = record { kind = Kind.VariableDeclaration how; note = n; below = all } in
+      let t = plug a (Some y) in
+      let f = focused y (Free t how x) a refl w good free in
+      let row = node (Kind.VariableDeclaration how) n all f.rest in
+      let in_all = good_below (Kind.VariableDeclaration how) n all f.rest f.here.good in
+      let in_list = good_below Kind.Declarators m ds nothing in_all in
+      f.keeps (statement_of o i k b) (steps.states (f.item item)
+      (declaration_unused t f.around f.contexts f.at f.next how x n m l j nothing value nothing f.rest w f.here.stands (record {
+        nothing_refers = f.there.unreferred;
+        is_not_exported = f.there.unexported;
+        is_seen = declaration_seen f.around how x n all f.rest (first_among x (((bound_names value) ++ []) ++ [])) f.here.variables (of_list f.around.row f.around row (f.item item) f.here.apart);
+      }))
+      (no_names (bound_names value) (plain_value_here Kind.VariableDeclarator l inner nothing in_list)))

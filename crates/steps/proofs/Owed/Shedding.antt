@@ -30,7 +30,7 @@ use Rattle.steps.proofs.Owed.Seeking.{within_below, within_later, seeks_inside}
 
 -- ---- rows of both relations
 
-abbrev Fit : AskedRow → Row → Type 0
+abbrev pub Fit : AskedRow → Row → Type 0
 Fit items m = m ≡ shed.items
 Fit of_item m = m ≡ shed.of_item
 Fit item_declarators m = m ≡ of_declarators
@@ -40,7 +40,7 @@ items_of_parts : (m : Row) → is_parts m ≡ true → row_below m statements �
 items_of_parts parts h = refl
 items_of_parts m h = absurd cc
 
-fit_inside : (row : AskedRow) (m : Row) (k : Kind) (a : Forest) → stands_right m k a ≡ true → Fit row m → Fit (asked_row_below row k) (row_below m k)
+pub fit_inside : (row : AskedRow) (m : Row) (k : Kind) (a : Forest) → stands_right m k a ≡ true → Fit row m → Fit (asked_row_below row k) (row_below m k)
 fit_inside row m statements a right h = items_of_parts m right
 fit_inside items m (variable_declaration how) a right h = ap (λ x. row_below x (variable_declaration how)) h
 fit_inside of_item m (variable_declaration how) a right h = tt
@@ -167,7 +167,7 @@ module _ (n m : Note) (expression : Forest) where
 
 -- ---- each shape
 
-all_within : (t : Forest) → Within t (sites (λ at. outermost_context) 0 0 t)
+pub all_within : (t : Forest) → Within t (sites (λ at. outermost_context) 0 0 t)
 all_within t = record { binding = λ b h. h; reference = λ r h. h }
 
 pub item_sheds : (a : Place) (x : Tree) → is_directive_kind x.kind ≡ false → IsListed a → At a (Some x) (IsUnexported (plug a (Some x)) x) → IsLaidOut (plug a (Some x)) → Sheds outermost (plug a (Some x)) (without a)

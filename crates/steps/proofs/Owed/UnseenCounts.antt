@@ -33,7 +33,7 @@ abbrev is_nil : List ℕ → Bool
 is_nil [] = true
 is_nil (x ∷ xs) = false
 
-abbrev unlisted : Scoping → ℕ → Bool
+abbrev pub unlisted : Scoping → ℕ → Bool
 unlisted s z = is_nil (lists_of s z)
 
 nil_counts : (r : ℕ) (ids : List ℕ) → is_nil ids ≡ true → count r ids ≡ 0
@@ -44,11 +44,11 @@ none_among : (ids : List ℕ) → ((id : ℕ) → Among id ids → ⊥) → is_n
 none_among [] h = refl
 none_among (x ∷ ids) h = absurd (h x (inl refl))
 
-users_leave : (s : Scoping) (p : Rooted) (t u : Forest) → ExactButMarks s unmarked (program_with p t) → UsersLeave (unlisted s) (program_with p t) t u
+pub users_leave : (s : Scoping) (p : Rooted) (t u : Forest) → ExactButMarks s unmarked (program_with p t) → UsersLeave (unlisted s) (program_with p t) t u
 users_leave s p t u x z g r h = absurd (Prim.omega (arith, h, x.lists z r, nil_counts r (lists_of s z) g))
 
 -- the symbol of a declaration that nothing refers to
-unreferred_unlisted : (s : Scoping) (t : Forest) → Exact s t → (b : BindingSite) → Among b (bindings_among (sites_of t)) → IsUnreferred t b → is_gone (unlisted s) b.id ≡ true
+pub unreferred_unlisted : (s : Scoping) (t : Forest) → Exact s t → (b : BindingSite) → Among b (bindings_among (sites_of t)) → IsUnreferred t b → is_gone (unlisted s) b.id ≡ true
 unreferred_unlisted s t x b h free =
     let d = x.declared b h in
     ap (is_gone (unlisted s)) d.is_marked

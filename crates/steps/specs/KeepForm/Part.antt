@@ -1,6 +1,6 @@
 -- What may stand in a node's place, as far as the rules of form ask: a part of it, what is built of its parts, a statement of its test, or
 -- an `if` without its alternate.
-use Rattle.std.specs.Prelude.{◌≡◌, ℕ, [], Bool, true, false}
+use Rattle.std.specs.Prelude.{◌≡◌, ℕ, List, [], Bool, true, false}
 use Rattle.js_syntax.specs.declared.node_kind.NodeKind.{NodeKind as Kind}
 use Rattle.js_syntax.specs.declared.node_kind.NodeKind.TheVariants.{Program as program, Directive as directive, Statements as statements, FunctionBody as function_body, ExpressionStatement as expression_statement, EmptyStatement as empty_statement, DebuggerStatement as debugger_statement, BlockStatement as block_statement, StaticBlock as static_block, Cases as cases, SwitchCase as switch_case, SwitchStatement as switch_statement, LabeledStatement as labeled_statement, BreakStatement as break_statement, ContinueStatement as continue_statement, ReturnStatement as return_statement, ThrowStatement as throw_statement, TryStatement as try_statement, CatchClause as catch_clause, IfStatement as if_statement, WithStatement as with_statement, WhileStatement as while_statement, DoWhileStatement as do_while_statement, ForStatement as for_statement, ForInStatement as for_in_statement, ForOfStatement as for_of_statement, Function as function, Class as class, ClassBody as class_body, Members as members, MethodDefinition as method_definition, PropertyDefinition as property_definition, BindingName as binding_name, PrivateName as private_name, Super as super, ConditionalExpression as conditional_expression, UnaryExpression as unary_expression, BinaryExpression as binary_expression, LogicalExpression as logical_expression, SequenceExpression as sequence_expression, TemplateLiteral as template_literal, VariableDeclaration as variable_declaration, Declarators as declarators, VariableDeclarator as variable_declarator, Parameters as parameters, Properties as properties, Elements as elements, Specifiers as specifiers, BindingRest as binding_rest, TargetRest as target_rest, BindingObject as binding_object, BindingArray as binding_array, BindingProperty as binding_property, BindingDefault as binding_default, ImportDeclaration as import_declaration, ImportSpecifier as import_specifier, ImportDefaultSpecifier as import_default_specifier, ImportNamespaceSpecifier as import_namespace_specifier, ExportNamedDeclaration as export_named_declaration, ExportSpecifier as export_specifier, ForeignSpecifier as foreign_specifier, ExportDefaultDeclaration as export_default_declaration, ExportAllDeclaration as export_all_declaration}
 use Rattle.js_syntax.specs.Node.{Note, Forest, nothing, node, absent, joined, alone}
@@ -136,6 +136,10 @@ pub record RebuildsTo (old : Kind) (n : Note) (below : Forest) (new : Kind) (m :
   pub none : (s : Sought) (place : ℕ) → declared s place (alone old n below) ≡ []
   pub still_none : (s : Sought) (place : ℕ) → declared s place (alone new m inner) ≡ []
   pub laid_out : is_laid_out other inner ≡ true
+
+-- what lies below a declaration of one name with a value
+abbrev pub declares_one : (m l j : Note) → List ℕ → (value : Forest) → Forest
+declares_one m l j x value = alone declarators m (alone variable_declarator l (node (binding_name x) j nothing value))
 
 -- statements whose test is an expression in the context that they are in
 abbrev pub is_tested : Kind → Bool

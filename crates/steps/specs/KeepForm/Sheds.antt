@@ -1,9 +1,10 @@
 -- What a program may lose so that no rule of form is broken by it: items of lists of statements, declarators of such items, names of
--- imports, expressions that are statements, statements that do nothing and declare nothing, and what stands around a part of a node,
--- around those of an expression, or behind a statement's test.
+-- imports, expressions that are statements, statements that do nothing and declare nothing, what declares a name around its value, and what
+-- stands around a part of a node, around those of an expression, or behind a statement's test.
 use Rattle.std.specs.Prelude.{◌≡◌, ℕ, List, [], ◌∷◌, Bool, true, false, not, ◌&&◌, ◌||◌, ◌==◌}
 use Rattle.js_syntax.specs.declared.node_kind.NodeKind.{NodeKind as Kind}
-use Rattle.js_syntax.specs.declared.node_kind.NodeKind.TheVariants.{Program as program, ExpressionStatement as expression_statement, EmptyStatement as empty_statement, LabeledStatement as labeled_statement, UnaryExpression as unary_expression, ParenthesizedExpression as parenthesized_expression}
+use Rattle.js_syntax.specs.declared.node_kind.NodeKind.TheVariants.{Program as program, ExpressionStatement as expression_statement, EmptyStatement as empty_statement, VariableDeclaration as variable_declaration, LabeledStatement as labeled_statement, UnaryExpression as unary_expression, ParenthesizedExpression as parenthesized_expression}
+use Rattle.js_syntax.specs.declared.kind.VariableKind.{VariableKind}
 use Rattle.js_syntax.specs.declared.operator.UnaryOperator.TheVariants as unary
 use Rattle.js_syntax.specs.Node.{Note, Forest, nothing, node, absent, alone}
 use Rattle.form_rules.specs.declared.sought.Sought.{Sought}
@@ -12,7 +13,7 @@ use Rattle.form_rules.specs.Context.{has_use_strict, is_loop}
 use Rattle.form_rules.specs.Scope.{Declared, sought_below, declared}
 use Rattle.form_rules.specs.Rules.{Exported, first_below, length_of, at_top, locals_among, is_exported, is_bare_name}
 pub use Rattle.steps.specs.KeepForm.Row.{Row, parts, items, of_item, of_declarators, of_head, of_import, of_specifiers, other, has_statements, row_below, may_leave, may_empty}
-use Rattle.steps.specs.KeepForm.Part.{is_statement, may_be_idle, asks_further, Replaces}
+use Rattle.steps.specs.KeepForm.Part.{is_statement, may_be_idle, asks_further, declares_one, Replaces}
 
 -- whether a rule asks what lies below the nodes of a row
 abbrev pub asked_below : Row → Kind → Bool
@@ -88,6 +89,9 @@ pub data Sheds : Around → (t u : Forest) → Type 0 where
   -- a statement that declares nothing becomes empty, but for a loop behind its label, which `continue` may ask for (ECMA-262 14.8.1)
   empties_idle : {w : Around} {k : Kind} {n m : Note} {a r s : Forest} → may_be_idle k ≡ true → (w.is_labeled ≡ true → is_loop (node k n a r) ≡ false) → may_empty w.row ≡ true
       → ((place : ℕ) → declared w.sought place (alone k n a) ≡ []) → Sheds w r s → Sheds w (node k n a r) (node empty_statement m nothing s)
+  -- an item that declares one name, which isn't exported, becomes a statement of its value
+  states : {w : Around} {how : VariableKind} {x : List ℕ} {k : Kind} {n m l j i o : Note} {b r s : Forest} → w.row ≡ items → w.is_asked ≡ false → exports_none w.exported (declared w.sought 0 (alone (variable_declaration how) n (declares_one m l j x (alone k i b)))) ≡ true → Sheds w r s
+      → Sheds w (node (variable_declaration how) n (declares_one m l j x (alone k i b)) r) (node expression_statement o (alone k i b) s)
   -- a part of a node stands for it, an expression is rebuilt of its parts, or a statement comes to one of its test
   becomes : {w : Around} {k l : Kind} {n m : Note} {a b r s : Forest} → Replaces k n a l m b → may_give_way w.row w.is_asked k ≡ true → may_come_out w.is_deleted (alone l m b) ≡ true → Sheds w r s
       → Sheds w (node k n a r) (node l m b s)

@@ -8,3 +8,4 @@
 pub mod laws;
 pub mod rows;
 pub mod silent_calls;
+pub mod values;
