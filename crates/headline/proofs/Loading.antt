@@ -14,8 +14,9 @@ use Rattle.steps.specs.KeepForm.Part.{gives_way, is_asked_for}
 use Rattle.steps.specs.Allowed.DeadIf.{nothing_is_run}
 use Rattle.steps.specs.Allowed.EmptyIf.{test_stays}
 use Rattle.steps.specs.Allowed.EmptyAlternate.{alternate_goes}
+use Rattle.steps.specs.Allowed.ValueStays.{value_is_stated}
 use Rattle.steps.specs.Allowed.IdleBody.{idle_body_empties}
-use Rattle.steps.specs.Allowed.Edits.{Leaves, empty_statement, empty_block, unused_function, unused_declarator, unused_declaration, unused_import, unreached, untaken, idle_statement, repeated_import, Becomes, silent_statement, known_conditional, known_side, known_if, idle_try, idle_body, empty_if, empty_alternate, dead_if, unused_operation, unused_list, indirect_choice, one_sided_choice, idle_parts, two_sides, unused_object, known_operation, unrun_value, Edit, leaves, becomes, Edits, no_edit, one_edit, merges, passes}
+use Rattle.steps.specs.Allowed.Edits.{Leaves, empty_statement, empty_block, unused_function, unused_declarator, unused_declaration, unused_import, unreached, untaken, idle_statement, repeated_import, Becomes, silent_statement, known_conditional, known_side, known_if, idle_try, idle_body, empty_if, empty_alternate, dead_if, unused_operation, unused_list, indirect_choice, one_sided_choice, idle_parts, two_sides, unused_object, known_operation, unrun_value, Edit, leaves, becomes, Edits, no_edit, one_edit, merges, passes, value_stays}
 use Rattle.steps.specs.Allowed.EmptyBlock.{holds_nothing, empty_block_leaves}
 use Rattle.steps.specs.Allowed.EmptyStatement.{empty_statement_leaves}
 use Rattle.steps.specs.Allowed.IdleStatement.{idle_leaves}
@@ -164,6 +165,7 @@ becomes_asks a x y (known_if c) fits = part_asks a x y (known_if_owes a x y c) f
 becomes_asks a x y (idle_try c) fits = part_asks a x y (idle_try_owes a x y c) fits
 becomes_asks a x y (dead_if (nothing_is_run n m i o t k b d truth none)) fits = (refl, refl)
 becomes_asks a x y (empty_if (test_stays n m o t d branches empty unnamed)) fits = (refl, refl)
+becomes_asks a x y (value_stays (value_is_stated how n m l j i o name k b stated item in_with own free)) fits = (refl, refl)
 becomes_asks a x y (empty_alternate (alternate_goes n i j o t l d b last)) fits = (refl, refl)
 becomes_asks a x y (idle_body (idle_body_empties _ m body idle none)) fits = (idle_kinds (λ z. asks_nothing z ≡ true) refl refl refl refl refl (λ label. refl) x.kind (body_kind x.kind x.below idle), refl)
 becomes_asks a x y (unused_operation c) fits = part_asks a x y (unused_operation_owes a x y c) fits

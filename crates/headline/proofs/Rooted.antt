@@ -29,8 +29,9 @@ use Rattle.steps.specs.Allowed.Branches.{declares_none}
 use Rattle.steps.specs.Allowed.DeadIf.{nothing_is_run}
 use Rattle.steps.specs.Allowed.EmptyIf.{test_stays}
 use Rattle.steps.specs.Allowed.EmptyAlternate.{alternate_goes}
+use Rattle.steps.specs.Allowed.ValueStays.{value_is_stated}
 use Rattle.steps.specs.Allowed.IdleBody.{idle_body_empties}
-use Rattle.steps.specs.Allowed.Edits.{Leaves, empty_statement, empty_block, unused_function, unused_declarator, unused_declaration, unused_import, unreached, untaken, idle_statement, repeated_import, Becomes, silent_statement, known_conditional, known_side, known_if, idle_try, idle_body, empty_if, empty_alternate, dead_if, unused_operation, unused_list, indirect_choice, one_sided_choice, idle_parts, two_sides, unused_object, known_operation, unrun_value, Edit, leaves, becomes, Edits, no_edit, one_edit, merges, passes}
+use Rattle.steps.specs.Allowed.Edits.{Leaves, empty_statement, empty_block, unused_function, unused_declarator, unused_declaration, unused_import, unreached, untaken, idle_statement, repeated_import, Becomes, silent_statement, known_conditional, known_side, known_if, idle_try, idle_body, empty_if, empty_alternate, dead_if, unused_operation, unused_list, indirect_choice, one_sided_choice, idle_parts, two_sides, unused_object, known_operation, unrun_value, Edit, leaves, becomes, Edits, no_edit, one_edit, merges, passes, value_stays}
 use Rattle.steps.specs.Allowed.EmptyBlock.{empty_block_leaves}
 use Rattle.steps.specs.Allowed.EmptyStatement.{empty_statement_leaves}
 use Rattle.steps.specs.Allowed.Exposure.{Exposure, shares, exposed_inside, exposed_of, exposed_at, exposure, is_script, evaluates_somewhere, function_is_exposed}
@@ -439,36 +440,39 @@ leaves_named a x (untaken (never_taken item branch runs undeclared)) s calm h = 
 leaves_named a x (idle_statement (idle_leaves item idle undeclared)) s calm h = outside s (forest_of x) calm undeclared
 leaves_named a x (repeated_import (repeated_import_leaves source n m item asked)) s calm h = outside s (forest_of (import_of source n m)) calm refl
 
-abbrev SameNames : (x y : Tree) → Type 0
-SameNames x y = (s : Sought) → is_of_catch s ≡ false → names_of s (forest_of y) ≡ names_of s (forest_of x)
+-- where the program has names that other code may use
+abbrev SameNames : (a : Around) (x y : Tree) → Type 0
+SameNames a x y = (s : Sought) → is_of_catch s ≡ false → Kept s (exposure a (Some x)) (evaluates_somewhere (plug a (Some x))) → names_of s (forest_of y) ≡ names_of s (forest_of x)
 
-part_named : (a : Around) (x y : Tree) → ByPart a x y → Fits root (plug a (Some x)) → SameNames x y
-part_named a x y owed fits = λ s calm. part_names s calm x.kind y.kind x.note y.note x.below y.below (owed.stands fits)
+part_named : (a : Around) (x y : Tree) → ByPart a x y → Fits root (plug a (Some x)) → SameNames a x y
+part_named a x y owed fits = λ s calm kept. part_names s calm x.kind y.kind x.note y.note x.below y.below (owed.stands fits)
 
-parts_named : (a : Around) (x y : Tree) → ByParts a x y → Fits root (plug a (Some x)) → SameNames x y
-parts_named a x y owed fits = λ s calm. let old = owed.fits_expression fits in of_expression s (forest_of y) (taken_as (owed.takes fits) expression refl old) ∙ sym (of_expression s (forest_of x) old)
+parts_named : (a : Around) (x y : Tree) → ByParts a x y → Fits root (plug a (Some x)) → SameNames a x y
+parts_named a x y owed fits = λ s calm kept. let old = owed.fits_expression fits in of_expression s (forest_of y) (taken_as (owed.takes fits) expression refl old) ∙ sym (of_expression s (forest_of x) old)
 
-becomes_named : (a : Around) (x y : Tree) → Becomes a x y → Fits root (plug a (Some x)) → SameNames x y
-becomes_named a x y (silent_statement (silent_statement_empties n m l k held silent)) fits = λ s calm. empty_named s m ∙ sym (statement_named s n x.below)
+becomes_named : (a : Around) (x y : Tree) → Becomes a x y → Fits root (plug a (Some x)) → SameNames a x y
+becomes_named a x y (silent_statement (silent_statement_empties n m l k held silent)) fits = λ s calm kept. empty_named s m ∙ sym (statement_named s n x.below)
 becomes_named a x y (known_conditional c) fits = part_named a x y (known_conditional_owes a x y c) fits
 becomes_named a x y (known_side c) fits = part_named a x y (known_side_owes a x y c) fits
 becomes_named a x y (known_if c) fits = part_named a x y (known_if_owes a x y c) fits
 becomes_named a x y (idle_try c) fits = part_named a x y (idle_try_owes a x y c) fits
-becomes_named a x y (dead_if (nothing_is_run n m i o t k d b truth undeclared)) fits = λ s calm.
+becomes_named a x y (dead_if (nothing_is_run n m i o t k d b truth undeclared)) fits = λ s calm kept.
     let branch = node k i b (absent nothing) in
     let below = node t m d branch in
     let tested = tested_row t m d branch (expression_declares_none (node t m d nothing) ((parts_of_if a n below fits).0, tt)) undeclared in
     empty_named s o ∙ sym (none_named s (forest_of x) (nothing_declared s 0 (forest_of x) (if_stays_outside s n below) (both (declares_none below) true tested refl)))
-becomes_named a x y (empty_if (test_stays n m o t d branches empty unnamed)) fits = λ s calm.
+becomes_named a x y (empty_if (test_stays n m o t d branches empty unnamed)) fits = λ s calm kept.
     let below = node t m d branches in
     let tested = tested_row t m d branches (expression_declares_none (node t m d nothing) ((parts_of_if a n below fits).0, tt)) (empty_declares branches empty) in
     statement_named s o (node t m d nothing) ∙ sym (none_named s (forest_of x) (nothing_declared s 0 (forest_of x) (if_stays_outside s n below) (both (declares_none below) true tested refl)))
-becomes_named a x y (empty_alternate (alternate_goes n i j o t l d b last)) fits = λ s calm.
+becomes_named a x y (value_stays (value_is_stated how n m l j i o name k b stated item in_with own free)) fits = λ s calm kept.
+    statement_named s o (alone k i b) ∙ sym (declaration_named s (exposure a (Some x)) (evaluates_somewhere (plug a (Some x))) how n x.below own kept)
+becomes_named a x y (empty_alternate (alternate_goes n i j o t l d b last)) fits = λ s calm kept.
     let z = sought_below s Kind.IfStatement in
     let first = names_in (declared_here z 0 t) ++ names_of (sought_below z t) d in
     let second = names_in (declared_here z 0 l) ++ names_of (sought_below z l) b in
     ap (λ ns. (names_in (declared_here s 0 Kind.IfStatement) ++ (first ++ (second ++ ns))) ++ []) (sym (empty_named z o))
-becomes_named a x y (idle_body (idle_body_empties _ m body idle undeclared)) fits = λ s calm. empty_named s m ∙ sym (outside s (forest_of x) calm undeclared)
+becomes_named a x y (idle_body (idle_body_empties _ m body idle undeclared)) fits = λ s calm kept. empty_named s m ∙ sym (outside s (forest_of x) calm undeclared)
 becomes_named a x y (unused_operation c) fits = part_named a x y (unused_operation_owes a x y c) fits
 becomes_named a x y (unused_list c) fits = parts_named a x y (unused_list_owes a x y c) fits
 becomes_named a x y (indirect_choice c) fits = parts_named a x y (indirect_choice_owes a x y c) fits
@@ -477,7 +481,7 @@ becomes_named a x y (idle_parts c) fits = parts_named a x y (idle_parts_owes a x
 becomes_named a x y (two_sides c) fits = parts_named a x y (two_sides_owes a x y c) fits
 becomes_named a x y (unused_object c) fits = parts_named a x y (unused_object_owes a x y c) fits
 becomes_named a x y (known_operation c) fits = parts_named a x y (known_operation_owes a x y c) fits
-becomes_named a x y (unrun_value (value_never_given n z given unrun drops)) fits = λ s calm. of_expression s (forest_of y) (new_fits a n x given unrun drops) ∙ sym (of_expression s (forest_of x) (old_fits a n x given unrun drops fits))
+becomes_named a x y (unrun_value (value_never_given n z given unrun drops)) fits = λ s calm kept. of_expression s (forest_of y) (new_fits a n x given unrun drops) ∙ sym (of_expression s (forest_of x) (old_fits a n x given unrun drops fits))
 
 -- ---- a place in a program that fits the table
 
@@ -533,10 +537,10 @@ left_there a x (in_program source n b rest) c h =
     ∙ left_names x s b (leaves_named a x c (sought_at s b) (no_catch_at s b refl) (kept_there source n b rest x h))
     ∙ sym (at_root source n (plug b (Some x)) rest)
 
-replaced_there : (a : Around) (x y : Tree) → InProgram a → SameNames x y → root_names (plug a (Some y)) ≡ root_names (plug a (Some x))
-replaced_there a x y (in_program source n b rest) same =
+replaced_there : (a : Around) (x y : Tree) → InProgram a → SameNames a x y → (is_script (plug a (Some x)) ≡ true) ⊎ (evaluates_somewhere (plug a (Some x)) ≡ true) → root_names (plug a (Some y)) ≡ root_names (plug a (Some x))
+replaced_there a x y (in_program source n b rest) same h =
     let s = scope (at_top source) in
-    at_root source n (plug b (Some y)) rest ∙ replaced_names x y s b (same (sought_at s b) (no_catch_at s b refl)) ∙ sym (at_root source n (plug b (Some x)) rest)
+    at_root source n (plug b (Some y)) rest ∙ replaced_names x y s b (same (sought_at s b) (no_catch_at s b refl) (kept_there source n b rest x h)) ∙ sym (at_root source n (plug b (Some x)) rest)
 
 -- no other code may use the names of a program of which two imports become one
 merged_names : (t u : Forest) → MergedImports t u → (is_script t ≡ true) ⊎ (evaluates_somewhere t ≡ true) → root_names u ≡ root_names t
@@ -550,7 +554,7 @@ passed_names _ _ (exports_pass n m names r s z h free no_calls) (inr calls) = ab
 
 edit_names : (t u : Forest) → Edit t u → Fits root t → (is_script t ≡ true) ⊎ (evaluates_somewhere t ≡ true) → root_names u ≡ root_names t
 edit_names t u (leaves a x c) fits h = left_there a x (in_its_program a x (leaves_inner a x (leaves_asks a x c)) fits) c h
-edit_names t u (becomes a x y c) fits h = replaced_there a x y (in_its_program a x (asking_inner x.kind (becomes_asks a x y c fits).0) fits) (becomes_named a x y c fits)
+edit_names t u (becomes a x y c) fits h = replaced_there a x y (in_its_program a x (asking_inner x.kind (becomes_asks a x y c fits).0) fits) (becomes_named a x y c fits) h
 edit_names t u (merges v w c) fits h = merged_names v w c h
 edit_names t u (passes v w c) fits h = passed_names v w c h
 

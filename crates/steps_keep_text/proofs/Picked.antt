@@ -1,7 +1,7 @@
 -- What comes of an array, an object literal, a sequence, a choice, an operation on two sides or one of known value counts no more.
 use Rattle.std.proofs.Common.{◌≡◌, ◌≤◌, ◌+◌, ℕ, pos, [], Bool, true, arith, refl, codes}
 use Rattle.js_syntax.specs.declared.node_kind.NodeKind.{NodeKind as Kind}
-use Rattle.js_syntax.specs.declared.node_kind.NodeKind.TheVariants.{EmptyStatement as empty_statement, ExpressionStatement as expression_statement, ArrayExpression as array_expression, Elements as elements, ObjectExpression as object_expression, Properties as properties, BinaryExpression as binary_expression, SequenceExpression as sequence_expression, TemplateLiteral as template_literal, Expressions as expressions, ConditionalExpression as conditional_expression, LogicalExpression as logical_expression, UnaryExpression as unary_expression, Literal as literal, TemplateElement as template_element, ImportSpecifier as import_specifier, ImportDefaultSpecifier as import_default_specifier}
+use Rattle.js_syntax.specs.declared.node_kind.NodeKind.TheVariants.{EmptyStatement as empty_statement, ExpressionStatement as expression_statement, ArrayExpression as array_expression, Elements as elements, ObjectExpression as object_expression, Properties as properties, BinaryExpression as binary_expression, SequenceExpression as sequence_expression, TemplateLiteral as template_literal, Expressions as expressions, ConditionalExpression as conditional_expression, LogicalExpression as logical_expression, UnaryExpression as unary_expression, Literal as literal, TemplateElement as template_element, ImportSpecifier as import_specifier, ImportDefaultSpecifier as import_default_specifier, VariableDeclaration as variable_declaration}
 use Rattle.js_syntax.specs.declared.value.ModuleName.TheVariants.{Name as plain_name}
 use Rattle.js_syntax.specs.declared.operator.BinaryOperator.{BinaryOperator}
 use Rattle.js_syntax.specs.declared.operator.UnaryOperator.{UnaryOperator}
@@ -17,6 +17,7 @@ use Rattle.steps.proofs.Owed.KnownSizes.{IsSmall}
 use Rattle.js_tree.specs.Count.{one_each}
 use Rattle.steps.specs.Allowed.TwoSides.{no_text, without_text, without_texts}
 use Rattle.steps.proofs.Marked.Picked.{SomeOf, none, stays, leaves, opens, absent_leaves, absent_stays, Picks, one_part, several, part_behind_zero, last_behind_zero, two_parts, after_test, known, signed, zeroed, one_substitution, substitutions, in_turn, with_less_text, with_no_texts, Emptied, this_one, a_later_one}
+use Rattle.js_syntax.specs.declared.kind.VariableKind.{VariableKind}
 
 -- `default as a`
 abbrev pub default_named : Kind
@@ -27,6 +28,7 @@ pub record IsSparing (counts : Kind → ℕ) : Type 0 where
   pub empty : counts empty_statement ≤ counts expression_statement
   pub empty_idle : (k : Kind) → may_be_idle k ≡ true → counts empty_statement ≤ counts k
   pub statement_of_test : (k : Kind) → is_tested k ≡ true → counts expression_statement ≤ counts k
+  pub statement_of_value : (how : VariableKind) → counts expression_statement ≤ counts (variable_declaration how)
   pub of_array : counts sequence_expression ≤ counts array_expression
   pub of_elements : counts expressions ≤ counts elements
   pub of_template : counts sequence_expression ≤ counts template_literal
@@ -52,6 +54,7 @@ uncounted counts empty statement sequence list small logical minus element defau
   empty = Prim.omega (arith, empty);
   empty_idle = λ k idle. Prim.omega (arith, empty);
   statement_of_test = λ k tested. Prim.omega (arith, statement);
+  statement_of_value = λ how. Prim.omega (arith, statement);
   of_array = Prim.omega (arith, sequence);
   of_elements = Prim.omega (arith, list);
   of_template = Prim.omega (arith, sequence);

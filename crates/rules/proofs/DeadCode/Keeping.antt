@@ -15,7 +15,7 @@ use Rattle.steps.specs.Owed.Kept.{is_program}
 use Rattle.steps.proofs.Owed.FitsEdits.{edit_fits, tree_edits_fit}
 use Rattle.steps.specs.Marked.Flags.{first_mark}
 use Rattle.steps.proofs.KeepForm.Asked.{idle_kinds, tested_kinds}
-use Rattle.steps.proofs.Marked.Cuts.{Cuts, leaves, empties, empties_idle, tests, alternate, parts, rebuilds, inside, behind, behind_none, edit_cuts}
+use Rattle.steps.proofs.Marked.Cuts.{Cuts, leaves, empties, empties_idle, tests, states, alternate, parts, rebuilds, inside, behind, behind_none, edit_cuts}
 use Rattle.steps.proofs.Marked.Exposing.{part_no_program}
 use Rattle.steps.proofs.Marked.Telling.{no_program, edits_told}
 use Rattle.steps.proofs.Marked.Tables.{edits_keep_marked}
@@ -41,6 +41,7 @@ root_cut listed t u (leaves k n below rest plain) l e = absurd (true≢false l)
 root_cut listed t u (empties r n m below rest) l e = never e
 root_cut listed t u (empties_idle r k n m below rest idle) l e = never (idle_kinds (λ z. false ≡ is_program (node z n below rest)) refl refl refl refl refl (λ label. refl) k idle ∙ e)
 root_cut listed t u (tests r k x n m i b after rest tested) l e = never (tested_kinds (λ z. false ≡ is_program (node z n (node x i b after) rest)) refl k tested ∙ e)
+root_cut listed t u (states r how x k n m l j i o b rest none) q e = never e
 root_cut listed t u (alternate y l i j o d b) m e =
     record { script = script_first y i i d d (node l j b (absent nothing)) (node l j b (node Kind.EmptyStatement o nothing nothing)); mark = refl }
 root_cut listed t u (parts r k x i j b v w rest gives unasked) l e = never (sym (no_program k i (joined v (node x j b w)) rest gives) ∙ e)

@@ -40,7 +40,7 @@ use Rattle.steps.specs.Allowed.EmptyIf.{are_empty, test_stays}
 use Rattle.steps.specs.Allowed.EmptyAlternate.{alternate_goes}
 use Rattle.steps.specs.Allowed.KnownIf.{an_if}
 use Rattle.steps.specs.Allowed.IdleBody.{idle_body_empties}
-use Rattle.steps.specs.Allowed.Edits.{Leaves, empty_statement, empty_block, unused_function, unused_declarator, unused_declaration, unused_import, unreached, untaken, idle_statement, repeated_import, Becomes, silent_statement, known_conditional, known_side, known_if, dead_if, unused_operation, unused_list, indirect_choice, one_sided_choice, idle_parts, two_sides, unused_object, known_operation, unrun_value, idle_try, idle_body, empty_if, empty_alternate, Edit, leaves, becomes, TreeEdits, no_tree_edit, one_tree_edit, merges, passes}
+use Rattle.steps.specs.Allowed.Edits.{Leaves, empty_statement, empty_block, unused_function, unused_declarator, unused_declaration, unused_import, unreached, untaken, idle_statement, repeated_import, Becomes, silent_statement, known_conditional, known_side, known_if, dead_if, unused_operation, unused_list, indirect_choice, one_sided_choice, idle_parts, two_sides, unused_object, known_operation, unrun_value, idle_try, idle_body, empty_if, empty_alternate, Edit, leaves, becomes, TreeEdits, no_tree_edit, one_tree_edit, merges, passes, value_stays}
 use Rattle.steps.specs.Owed.Kept.{is_program}
 use Rattle.steps.specs.Owed.Owed.{ByPart, ByParts}
 use Rattle.steps.specs.Owed.Part.{DeclaresNothing}
@@ -77,8 +77,10 @@ use Rattle.steps.proofs.Marked.Exposing.{part_no_program}
 use Rattle.steps.proofs.Marked.Telling.{no_program}
 use Rattle.steps.proofs.Marked.Unexporting.{exports_collected, collected_declared, edits_export}
 use Rattle.rules.specs.DeadCode.Quiet.{IsExported}
-use Rattle.rules.proofs.Export.Going.{Gone, empty_gone, import_gone, statement_gone, function_gone, declarator_gone, declaration_gone}
+use Rattle.rules.proofs.Export.Going.{Gone, empty_gone, import_gone, statement_gone, function_gone, declarator_gone, declaration_gone, stated_gone}
 use Rattle.rules.proofs.Export.Staying.{made, made_without, made_plug, LeavesLists, Stays, whole, part_stays, undeclared_stays, alternate_stays}
+use Rattle.steps.specs.Allowed.ValueStays.{value_is_stated}
+use Rattle.steps.proofs.Owed.ValueStays.{value_fits}
 
 -- ---- at a place
 
@@ -217,6 +219,12 @@ module _ (e : BindingSite) (top : e.layer.scope ≡ 0) where
       subst ExportedBy (made_plug a y)
       (settled a x (Some y) Anything fits (λ rest. refl) (λ f. absurd (true≢false f)) (anywhere (Some x) false (λ at. outermost) 0 0 a)
       (λ w c next some any. undeclared_stays e top x (Some y) (dead_declares_nothing a x y (nothing_is_run n m i o tested k d b truth none) fits) c next some) h)
+  changed a x y (value_stays (value_is_stated how n m l j i o name k b stated item in_with own free)) fits h =
+      let value = alone k i b in
+      let none = expression_declares_nothing value (value_fits a how n m l j i o name k b item own free fits) in
+      subst ExportedBy (made_plug a y)
+      (settled a x (Some y) (Free (plug a (Some x)) how name) fits (λ rest. refl) (λ f. absurd (true≢false f)) free
+      (λ w c next some holds. gone_stays e (kind.VariableDeclaration how) n x.below (Some y) c next (stated_gone (plug a (Some x)) e h top w name how n m l j value none c next some holds)) h)
   changed a x y (empty_if (test_stays n m o tested d branches empty unnamed)) fits h =
       subst ExportedBy (made_plug a y)
       (settled a x (Some y) Anything fits (λ rest. refl) (λ f. absurd (true≢false f)) (anywhere (Some x) false (λ at. outermost) 0 0 a)

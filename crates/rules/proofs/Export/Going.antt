@@ -1,5 +1,5 @@
 -- What an edit takes away declares nothing in the program's own scope that is exported.
-use Rattle.std.proofs.Common.{◌≡◌, ◌∙◌, ◌<◌, inl, inr, ℕ, ◌+◌, List, [], Bool, true, sym, ap, subst, arith}
+use Rattle.std.proofs.Common.{◌≡◌, ◌∙◌, ◌<◌, inl, inr, ℕ, ◌+◌, List, [], Bool, true, sym, ap, subst, arith, ◌++◌, append-nil}
 use Rattle.js_syntax.specs.declared.node_kind.NodeKind.{NodeKind as Kind}
 use Rattle.js_syntax.specs.declared.node_kind.NodeKind.TheVariants.{EmptyStatement as empty_statement, ExpressionStatement as expression_statement, Function as function, VariableDeclaration as variable_declaration, Declarators as declarators, VariableDeclarator as variable_declarator, BindingName as binding_name}
 use Rattle.js_syntax.specs.declared.kind.FunctionKind.TheVariants as function_kind
@@ -7,9 +7,9 @@ use Rattle.js_syntax.specs.declared.kind.VariableKind.{VariableKind}
 use Rattle.js_syntax.specs.declared.kind.VariableKind.TheVariants as variable
 use Rattle.js_syntax.specs.Node.{Forest, Note, nothing, node}
 use Rattle.scope_rules.specs.declared.layer.Layer.{Layer}
-use Rattle.scope_rules.specs.Context.{Context, inside}
+use Rattle.scope_rules.specs.Context.{Context, inside, in_variables}
 use Rattle.scope_rules.specs.Binding.{named_in}
-use Rattle.scope_rules.specs.Site.{BindingSite, own_sites, scope_count, sites, sites_of, bindings_among}
+use Rattle.scope_rules.specs.Site.{BindingSite, own_sites, scope_count, sites, sites_of, bindings_among, Site}
 use Rattle.scope_laws.specs.Exact.{Among}
 use Rattle.steps.specs.Naming.Standing.{exported_declarations}
 use Rattle.steps.proofs.Naming.Sites.{InThree, in_first, in_second, in_third, binding_in}
@@ -23,6 +23,9 @@ use Rattle.steps.proofs.Owed.ImportFacts.{declares_name}
 use Rattle.steps.proofs.Owed.Inside.{In}
 use Rattle.steps.proofs.Owed.FunctionParts.{function_behind}
 use Rattle.steps.proofs.Owed.Unseen.{silent_inside, layer_below}
+use Rattle.steps.specs.KeepForm.Part.{declares_one}
+use Rattle.steps.specs.Owed.Part.{DeclaresNothing}
+use Rattle.steps.proofs.Marked.Unexporting.{declares_none, all_collected}
 
 -- the node, which stands in this context, doesn't hold the declaration
 abbrev pub Gone : BindingSite → Kind → Note → Forest → Context → ℕ → Type 0
@@ -128,3 +131,18 @@ module _ (v : Forest) (e : BindingSite) (stands : Among e (exported_declarations
           of_outer (in_first q) = q
           of_outer (in_second q) = of_inner (binding_in e (own_sites (outer 0) j declarators ds) (sites list 0 (next + 0 + 0) ds) [] q)
           of_outer (in_third q) = q
+
+  -- a declaration whose value declares nothing
+  flat : (ss : List Site) → ((ss ++ []) ++ []) ++ [] ≡ ss
+  flat ss = append-nil ((ss ++ []) ++ []) ∙ append-nil (ss ++ []) ∙ append-nil ss
+
+  pub stated_gone : (w : Bool) (x : List ℕ) (how : VariableKind) (n m l j : Note) (value : Forest) → DeclaresNothing value → (c : Context) (next : ℕ) → 0 < next → Free v how x w c next → Gone e (variable_declaration how) n (declares_one m l j x value) c next
+  stated_gone w x how n m l j value none c next some free (inl q) =
+      no_free x (in_variables c how).declaring.layer (subst (λ r. IsFree v (named_in x r)) (sym (layer_below c how)) free) (ap (λ (s : BindingSite). s.name) (sym q)) (ap (λ (s : BindingSite). s.layer) (sym q))
+  stated_gone w x how n m l j value none c next some free (inr h) =
+      let name = node (binding_name x) j nothing value in
+      let declarator = node variable_declarator l name nothing in
+      let list = inside (inside c next (variable_declaration how) (declares_one m l j x value) 0) (next + 0) declarators declarator in
+      let fs = inside (list 0) (next + 0 + 0) variable_declarator name in
+      let from = next + 0 + 0 + 0 + scope_count (node (binding_name x) j nothing nothing) in
+      declares_none value none true fs 1 from e (Prim.omega (arith, some, top)) (subst (λ ss. Among e (bindings_among ss)) (flat (sites fs 1 from value) ∙ sym (all_collected fs 1 from value)) h)

@@ -26,7 +26,7 @@ use Rattle.rules.specs.Told.Places.{EachPlace}
 use Rattle.rules.specs.Told.Parts.{FlagsTellOnly, TellsCallsOnly, TellsNamesOnly, CallsToldOnly, NamesToldOnly}
 use Rattle.rules.proofs.Told.Standing.{strict_code, is_block, shares_code, exposed_in_scope, inside_reads, scope_evaluates, scope_strict, scope_sloppy, scope_names, scope_variables, scope_outside, variables_within}
 use Rattle.steps.proofs.KeepForm.Asked.{idle_kinds, tested_kinds}
-use Rattle.rules.proofs.Told.Trims.{Alike, Trims, leaves, empties, empties_idle, tests, alternate, parts, rebuilds, inside, behind, behind_none, fewer, trims}
+use Rattle.rules.proofs.Told.Trims.{Alike, Trims, leaves, empties, empties_idle, tests, states, alternate, parts, rebuilds, inside, behind, behind_none, fewer, trims}
 use Rattle.rules.proofs.Told.Merged.{merged_throughout, merged_evaluates}
 use Rattle.rules.proofs.Told.Passed.{passed_throughout, passed_evaluates}
 use Rattle.rules.proofs.Told.Walking.{trimmed_stays}
@@ -166,6 +166,7 @@ root_stays all listed t u (leaves k n below rest) l e = never (sym l)
 root_stays all listed t u (empties r n m below rest) l e = never e
 root_stays all listed t u (empties_idle r k n m below rest idle) l e = never (idle_kinds (λ z. false ≡ is_program (node z n below rest)) refl refl refl refl refl (λ label. refl) k idle ∙ e)
 root_stays all listed t u (tests r k x n m i b after rest tested) l e = never (tested_kinds (λ z. false ≡ is_program (node z n (node x i b after) rest)) refl k tested ∙ e)
+root_stays all listed t u (states r how x k n m l j y o b rest) q e = never e
 root_stays all listed t u (alternate (kind.Program source) l i j o d b) m e = record { script = refl; mark = refl; calls = λ g. kept }
 root_stays all listed t u (alternate y l i j o d b) m e = never e
 root_stays all listed t u (parts r k x i j b v w rest gives) l e = never (sym (no_program k i (joined v (node x j b w)) rest gives) ∙ e)

@@ -5,7 +5,7 @@ use Rattle.std.specs.Option.{option_to_list}
 use Rattle.js_syntax.specs.declared.node_kind.NodeKind.{NodeKind as Kind}
 use Rattle.js_syntax.specs.declared.node_kind.NodeKind.TheVariants as kind
 use Rattle.js_syntax.specs.Class.{root}
-use Rattle.js_syntax.specs.Node.{Forest, Note, nothing, node, absent, joined}
+use Rattle.js_syntax.specs.Node.{Forest, Note, nothing, node, absent, joined, alone}
 use Rattle.js_rebuilt.specs.Rebuilt.{is_operation, Rebuilt, ends, stays, leaves as leaves_whole, opened, built, absent_leaves, absent_comes}
 use Rattle.json_shape.specs.Shape.{Fits}
 use Rattle.scope_rules.specs.Context.{Context, opens, inside, outermost}
@@ -31,8 +31,9 @@ use Rattle.rules.specs.Told.Nesting.{scope_inside, IsScopeIn, NestsAt, own_scope
 use Rattle.rules.proofs.Told.Standing.{strict_code, within_opens, operation_outside}
 use Rattle.rules.proofs.Told.Contexts.{looks, inside_looks}
 use Rattle.rules.proofs.Told.Made.{IsMade, scope_of, EachMade, new_made}
-use Rattle.rules.proofs.Told.Trims.{Trims, leaves, empties, empties_idle, tests, alternate, parts, rebuilds, inside as inside_it, behind, behind_none, trims}
+use Rattle.rules.proofs.Told.Trims.{Trims, leaves, empties, empties_idle, tests, states, alternate, parts, rebuilds, inside as inside_it, behind, behind_none, trims}
 use Rattle.rules.proofs.Told.Walking.{trimmed_stays}
+use Rattle.steps.specs.KeepForm.Part.{declares_one}
 
 -- ---- a new table
 
@@ -134,6 +135,19 @@ fewer_marks i all listed t u (empties r n m below rest) = Prim.omega (arith, mar
 fewer_marks i all listed t u (empties_idle r k n m below rest idle) = Prim.omega (arith, marks_of_node i k n below rest)
 fewer_marks i all listed t u (tests r k l n m j b after rest tested) =
     Prim.omega (arith, marks_of_node i kind.ExpressionStatement m (node l j b nothing) rest, marks_of_node i k n (node l j b after) rest, marks_of_node i l j b nothing, marks_of_node i l j b after)
+fewer_marks i all listed t u (states r how x k n m l j y o b rest) =
+    let value = alone k y b in
+    let name = node (kind.BindingName x) j nothing value in
+    let declarator = alone kind.VariableDeclarator l name in
+    let whole = declares_one m l j x value in
+    Prim.omega (
+      arith,
+      marks_of_node i kind.ExpressionStatement o value rest,
+      marks_of_node i (kind.VariableDeclaration how) n whole rest,
+      marks_of_node i kind.Declarators m declarator nothing,
+      marks_of_node i kind.VariableDeclarator l name nothing,
+      marks_of_node i (kind.BindingName x) j nothing value,
+    )
 fewer_marks i all listed t u (alternate k l n m o below b) =
     let last = node kind.EmptyStatement o nothing nothing in
     Prim.omega (arith, marks_of_node i k n below (node l m b last), marks_of_node i k n below (node l m b (absent nothing)), marks_of_node i l m b last, marks_of_node i l m b (absent nothing))

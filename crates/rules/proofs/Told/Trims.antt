@@ -1,5 +1,5 @@
 -- What an edit makes of a program that is laid out, row by row, and what it leaves as it was.
-use Rattle.std.proofs.Common.{◌≡◌, ◌∙◌, ◌≤◌, ◌+◌, ℕ, zero, suc, Bool, true, false, not, ◌&&◌, ◌||◌, ◌==◌, true≢false, cond, is_some, bytes_eq, codes, refl, sym, ap, arith}
+use Rattle.std.proofs.Common.{◌≡◌, ◌∙◌, ◌≤◌, ◌+◌, ℕ, zero, suc, Bool, true, false, not, ◌&&◌, ◌||◌, ◌==◌, true≢false, cond, is_some, bytes_eq, codes, refl, sym, ap, arith, List}
 use Rattle.js_syntax.specs.declared.node_kind.NodeKind.{NodeKind as Kind}
 use Rattle.js_syntax.specs.declared.node_kind.NodeKind.TheVariants as kind
 use Rattle.js_syntax.specs.Node.{Forest, Note, nothing, node, absent, joined, alone}
@@ -11,7 +11,7 @@ use Rattle.form_rules.specs.Context.{is_module, has_use_strict, is_strict_list, 
 use Rattle.scope_rules.specs.Context.{opens}
 use Rattle.scope_rules.specs.Site.{has_eval, scope_row}
 use Rattle.scope_laws.specs.Lists.{is_list}
-use Rattle.steps.specs.KeepForm.Part.{gives_way, may_be_idle, is_tested, is_asked_for}
+use Rattle.steps.specs.KeepForm.Part.{gives_way, may_be_idle, is_tested, is_asked_for, declares_one}
 use Rattle.steps.specs.KeepForm.Sheds.{Row, row_below}
 use Rattle.steps.specs.KeepForm.Layout.{is_laid_out}
 use Rattle.steps.proofs.KeepForm.Asked.{idle_kinds, tested_kinds}
@@ -23,6 +23,7 @@ use Rattle.steps.proofs.Marked.Exposing.{Only, only_or, kept, never, whole_no_bo
 use Rattle.steps.proofs.Marked.Rebuilding.{calls_no_eval}
 use Rattle.min_context.specs.Edited.{evals}
 use Rattle.rules.proofs.Told.Standing.{strict_code}
+use Rattle.js_syntax.specs.declared.kind.VariableKind.{VariableKind}
 
 -- ---- code that wasn't strict is not
 
@@ -36,6 +37,7 @@ directives_back listed m t u (cuts.leaves k n below rest plain) laid e = never (
 directives_back listed m t u (cuts.empties r n i below rest) laid e = never e
 directives_back listed m t u (cuts.empties_idle r k n i below rest idle) laid e = never e
 directives_back listed m t u (cuts.tests r k l n i j b after rest tested) laid e = never e
+directives_back listed m t u (cuts.states r how x k n i l j y o b rest none) laid e = never e
 directives_back listed m t u (cuts.alternate y l i j o d b) laid e = sym (first_strict y l i j o d b) ∙ e
 directives_back listed m t u (cuts.parts r k l i j b v w rest gives unasked) laid e = never (sym (part_no_directive l j b rest unasked) ∙ e)
 directives_back listed m t u (cuts.rebuilds r k l n i a b rest made) laid e = never (sym (part_no_directive l i b rest made.unasked) ∙ e)
@@ -52,6 +54,7 @@ list_back listed m t u (cuts.leaves k n below rest plain) l laid e = absurd (tru
 list_back listed m t u (cuts.empties r n i below rest) l laid e = never e
 list_back listed m t u (cuts.empties_idle r k n i below rest idle) l laid e = never e
 list_back listed m t u (cuts.tests r k x n i j b after rest tested) l laid e = never e
+list_back listed m t u (cuts.states r how x k n i l j y o b rest none) q laid e = never e
 list_back listed m t u (cuts.alternate y k i j o d b) l laid e = sym (first_list y k i j o d b) ∙ e
 list_back listed m t u (cuts.parts r k x i j b v w rest gives unasked) l laid e = never (sym (part_no_list x j b rest unasked) ∙ e)
 list_back listed m t u (cuts.rebuilds r k x n i a b rest made) l laid e = never (sym (part_no_list x i b rest made.unasked) ∙ e)
@@ -66,6 +69,7 @@ function_back listed m t u (cuts.leaves k n below rest plain) l laid e = absurd 
 function_back listed m t u (cuts.empties r n i below rest) l laid e = e
 function_back listed m t u (cuts.empties_idle r k n i below rest idle) l laid e = sym (idle_kinds (λ z. is_strict_function rest ≡ is_strict_function (node z n below rest)) refl refl refl refl refl (λ label. refl) k idle) ∙ e
 function_back listed m t u (cuts.tests r k x n i j b after rest tested) l laid e = sym (tested_kinds (λ z. is_strict_function rest ≡ is_strict_function (node z n (node x j b after) rest)) refl k tested) ∙ e
+function_back listed m t u (cuts.states r how x k n i l j y o b rest none) q laid e = e
 function_back listed m t u (cuts.alternate y k i j o d b) l laid e = sym (first_function y k i j o d b) ∙ e
 function_back listed m t u (cuts.parts r k x i j b v w rest gives unasked) l laid e = whole_no_body k i (joined v (node x j b w)) rest gives ∙ sym (part_no_body x j b rest unasked) ∙ e
 function_back listed m t u (cuts.rebuilds r k x n i a b rest made) l laid e = part_no_body k n a rest made.old_unasked ∙ sym (part_no_body x i b rest made.unasked) ∙ e
@@ -125,6 +129,7 @@ fewer listed t u (cuts.leaves k n below rest plain) = Prim.omega arith
 fewer listed t u (cuts.empties r n m below rest) = Prim.omega arith
 fewer listed t u (cuts.empties_idle r k n m below rest idle) = Prim.omega arith
 fewer listed t u (cuts.tests r k l n m i b after rest tested) = Prim.omega arith
+fewer listed t u (cuts.states r how x k n m l j y o b rest none) = Prim.omega arith
 fewer listed t u (cuts.alternate y l i j o d b) = Prim.omega arith
 fewer listed t u (cuts.parts r k l i j b v w rest gives unasked) = Prim.omega (arith, part_fewer v l j b w)
 fewer listed t u (cuts.rebuilds r k l n m a b rest made) = Prim.omega (arith, rebuilt_fewer made.rebuilt)
@@ -164,6 +169,7 @@ behind_same listed t u (cuts.leaves k n below rest plain) l same = absurd (true�
 behind_same listed t u (cuts.empties r n m below rest) l same = refl
 behind_same listed t u (cuts.empties_idle r k n m below rest idle) l same = refl
 behind_same listed t u (cuts.tests r k x n m i b after rest tested) l same = refl
+behind_same listed t u (cuts.states r how x k n m l j y o b rest none) q same = refl
 behind_same listed t u (cuts.alternate y k i j o d b) l same = refl
 behind_same listed t u (cuts.parts r k x i j b v w rest gives unasked) l same = refl
 behind_same listed t u (cuts.rebuilds r k x n m a b rest made) l same = refl
@@ -203,6 +209,7 @@ pub data Trims (all : Bool) : (listed : Bool) → (t u : Forest) → Type 0 wher
   empties : (listed : Bool) (n m : Note) (below rest : Forest) → Trims all listed (node kind.ExpressionStatement n below rest) (node kind.EmptyStatement m nothing rest)
   empties_idle : (listed : Bool) (k : Kind) (n m : Note) (below rest : Forest) → may_be_idle k ≡ true → Trims all listed (node k n below rest) (node kind.EmptyStatement m nothing rest)
   tests : (listed : Bool) (k l : Kind) (n m i : Note) (b after rest : Forest) → is_tested k ≡ true → Trims all listed (node k n (node l i b after) rest) (node kind.ExpressionStatement m (node l i b nothing) rest)
+  states : (listed : Bool) (how : VariableKind) (x : List ℕ) (k : Kind) (n m l j i o : Note) (b rest : Forest) → Trims all listed (node (kind.VariableDeclaration how) n (declares_one m l j x (alone k i b)) rest) (node kind.ExpressionStatement o (alone k i b) rest)
   alternate : (t l : Kind) (i j o : Note) (d b : Forest) → Trims all false (node t i d (node l j b (node kind.EmptyStatement o nothing nothing))) (node t i d (node l j b (absent nothing)))
   parts : (listed : Bool) (k l : Kind) (i j : Note) (b v w rest : Forest) → gives_way k ≡ true → Trims all listed (node k i (joined v (node l j b w)) rest) (node l j b rest)
   rebuilds : (listed : Bool) (k l : Kind) (n m : Note) (a b rest : Forest) → Rebuilt (alone k n a) (alone l m b) → is_asked_for k ≡ false → Trims all listed (node k n a rest) (node l m b rest)
@@ -215,6 +222,7 @@ trims all listed m t u (cuts.leaves k n below rest plain) laid same = leaves k n
 trims all listed m t u (cuts.empties r n i below rest) laid same = empties r n i below rest
 trims all listed m t u (cuts.empties_idle r k n i below rest idle) laid same = empties_idle r k n i below rest idle
 trims all listed m t u (cuts.tests r k l n i j b after rest tested) laid same = tests r k l n i j b after rest tested
+trims all listed m t u (cuts.states r how x k n i l j y o b rest none) laid same = states r how x k n i l j y o b rest
 trims all listed m t u (cuts.alternate y l i j o d b) laid same = alternate y l i j o d b
 trims all listed m t u (cuts.parts r k l i j b v w rest gives unasked) laid same = parts r k l i j b v w rest gives
 trims all listed m t u (cuts.rebuilds r k l n i a b rest made) laid same = rebuilds r k l n i a b rest made.rebuilt made.old_unasked

@@ -2,7 +2,7 @@
 use Rattle.std.proofs.Common.{◌≡◌, ◌∙◌, ℕ, suc, Bool, true, false, true≢false, refl, sym, ap, subst}
 use Rattle.js_syntax.specs.declared.node_kind.NodeKind.{NodeKind as Kind}
 use Rattle.js_syntax.specs.declared.node_kind.NodeKind.TheVariants as kind
-use Rattle.js_syntax.specs.Node.{Forest, Note, nothing, node, absent, joined}
+use Rattle.js_syntax.specs.Node.{Forest, Note, nothing, node, absent, joined, alone}
 use Rattle.js_rebuilt.specs.Rebuilt.{is_operation, Rebuilt, ends, stays, leaves as leaves_whole, opened, built, absent_leaves, absent_comes}
 use Rattle.scope_rules.specs.Context.{opens}
 use Rattle.scope_laws.specs.Lists.{is_list}
@@ -11,7 +11,8 @@ use Rattle.steps.specs.Marked.Flags.{is_within}
 use Rattle.rules.specs.Told.Places.{EachPlace}
 use Rattle.steps.proofs.KeepForm.Asked.{tested_gives}
 use Rattle.rules.proofs.Told.Standing.{list_outside, plain_outside}
-use Rattle.rules.proofs.Told.Trims.{Alike, alike_itself, Trims, leaves, empties, empties_idle, tests, alternate, parts, rebuilds, inside, behind, behind_none}
+use Rattle.rules.proofs.Told.Trims.{Alike, alike_itself, Trims, leaves, empties, empties_idle, tests, states, alternate, parts, rebuilds, inside, behind, behind_none}
+use Rattle.steps.specs.KeepForm.Part.{declares_one}
 
 -- `Follows q p` says what is around a place now, q, of what was around it, p. Where a node stands another may stand that makes no scope,
 -- and around an operation, or a statement of one, is what is around its parts.
@@ -112,6 +113,26 @@ module _ {S : Type 0} (all : Bool) (around : S → Kind → Note → Forest → 
           tt,
         ),
         row_stays r rest qs ps (suc i) (suc j) c (λ e. ap suc (f e)) h.2,
+      )
+  trimmed_stays listed t u (states r how x k n m l j y o b rest) qs ps i z c f h =
+      let value = alone k y b in
+      let name = node (kind.BindingName x) j nothing value in
+      let declarator = alone kind.VariableDeclarator l name in
+      let whole = declares_one m l j x value in
+      let of_it = around (ps z) (kind.VariableDeclaration how) n whole 0 in
+      let of_list = around of_it kind.Declarators m declarator 0 in
+      let p = around of_list kind.VariableDeclarator l name 1 in
+      let q = around (qs i) kind.ExpressionStatement o value 0 in
+      let through = passes (qs i) of_it kind.Declarators m declarator 0 refl (passes (qs i) (ps z) (kind.VariableDeclaration how) n whole 0 refl (c i z f)) in
+      let over = subst (λ w. Follows w p) (sym (statement (qs i) o value 0)) (passes (qs i) of_list kind.VariableDeclarator l name 1 refl through) in
+      let given = h.1.1.1.2 in (
+        keeps (qs i) (ps z) kind.ExpressionStatement o value value (alike_itself all kind.ExpressionStatement value) (c i z f) (anew (ps z) (kind.VariableDeclaration how) kind.ExpressionStatement n o whole value refl h.0),
+        (
+          keeps q p k y b b (alike_itself all k b) over given.0,
+          row_stays (is_list k) b (around q k y b) (around p k y b) 0 0 (covers_inside q p k y b b (alike_itself all k b) over) (λ e. refl) given.1,
+          tt,
+        ),
+        row_stays r rest qs ps (suc i) (suc z) c (λ e. ap suc (f e)) h.2,
       )
   trimmed_stays listed t u (alternate k l n m o below b) qs ps i j c f h =
       let second = c (suc i) (suc j) (λ e. ap suc (f e)) in (
