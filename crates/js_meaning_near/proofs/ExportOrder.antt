@@ -98,10 +98,13 @@ in_order (export x s) (export y z) (export u t ∷ fs) l = go (in_order (export 
   where
     d : Export
     d = export x s
+
     e : Export
     e = export y z
+
     f : Export
     f = export u t
+
     go : insert d (insert e fs) ≡ insert e (insert d fs) → (b c : Bool) → before u x ≡ b → before u y ≡ c → insert d (insert e (f ∷ fs)) ≡ insert e (insert d (f ∷ fs))
     go more true true g h =
         ap (λ es. insert d es) (chosen (f ∷ insert e fs) _ (before u y) h) ∙ chosen _ _ (before u x) g ∙ ap (λ es. f ∷ es) more
@@ -120,6 +123,7 @@ either_order d e fs apart = go (before (exported_name d) (exported_name e)) refl
   where
     unlike : exported_name d ≡ exported_name e → ⊥
     unlike same = not_true apart ((bytes_eq-Decides (exported_name d) (exported_name e)).1 same)
+
     go : (b : Bool) → before (exported_name d) (exported_name e) ≡ b → insert d (insert e fs) ≡ insert e (insert d fs)
     go true l = in_order d e fs l
     go false l = sym (in_order e d fs (otherwise_back (exported_name d) (exported_name e) unlike l))
