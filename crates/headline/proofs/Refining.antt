@@ -111,12 +111,12 @@ merges_refine _ _ (imports_merge n m r s merged none) h g =
 
 -- an import and an export that become one
 passes_refine : (t u : Forest) → PassedExports t u → IsSensibleModule t → IsSensible u → Refines t u
-passes_refine _ _ (exports_pass n m names r s z passes free none) h g =
+passes_refine _ _ (exports_pass n m names r s z merged free none) h g =
     let list = node Kind.Statements m r nothing in
     let items = core_below Kind.Statements m r nothing (core_below (Kind.Program source_type.Module) n list nothing h.core) in
     record {
-      left = of_module (module_of n m z) (record { note = n; list_note = m; items = z; is = refl }) (both (all_core z && true) true (both (all_core z) true (module_core passes items) refl) refl) g;
-      refined = passed_refines n m names r s z passes free h;
+      left = of_module (module_of n m z) (record { note = n; list_note = m; items = z; is = refl }) (both (all_core z && true) true (both (all_core z) true (module_core merged items) refl) refl) g;
+      refined = passed_refines n m names r s z merged free h;
     }
 
 edit_refines : (t u : Forest) → Edit t u → IsSensibleModule t → Refines t u

@@ -549,8 +549,8 @@ merged_names _ _ (imports_merge n m r s h no_calls) (inr calls) = absurd (true�
 
 -- nor those of one of which an import and an export do
 passed_names : (t u : Forest) → PassedExports t u → (is_script t ≡ true) ⊎ (evaluates_somewhere t ≡ true) → root_names u ≡ root_names t
-passed_names _ _ (exports_pass n m names r s z h free no_calls) (inl script) = absurd (true≢false (sym script))
-passed_names _ _ (exports_pass n m names r s z h free no_calls) (inr calls) = absurd (true≢false (sym calls ∙ no_calls))
+passed_names _ _ (exports_pass n m ns r s z h free no_calls) (inl script) = absurd (true≢false (sym script))
+passed_names _ _ (exports_pass n m ns r s z h free no_calls) (inr calls) = absurd (true≢false (sym calls ∙ no_calls))
 
 edit_names : (t u : Forest) → Edit t u → Fits root t → (is_script t ≡ true) ⊎ (evaluates_somewhere t ≡ true) → root_names u ≡ root_names t
 edit_names t u (leaves a x c) fits h = left_there a x (in_its_program a x (leaves_inner a x (leaves_asks a x c)) fits) c h
@@ -570,7 +570,7 @@ edit_script : (t u : Forest) → Edit t u → Fits root t → is_script t ≡ is
 edit_script t u (leaves a x c) fits = script_left a (in_its_program a x (leaves_inner a x (leaves_asks a x c)) fits) (Some x)
 edit_script t u (becomes a x y c) fits = script_replaced a (in_its_program a x (asking_inner x.kind (becomes_asks a x y c fits).0) fits) (Some x) (Some y)
 edit_script _ _ (merges _ _ (imports_merge n m r s h no_calls)) fits = refl
-edit_script _ _ (passes _ _ (exports_pass n m names r s z h free no_calls)) fits = refl
+edit_script _ _ (passes _ _ (exports_pass n m ns r s z h free no_calls)) fits = refl
 
 edit_evaluates : (t u : Forest) → Edit t u → Fits root t → evaluates_somewhere u ≡ true → evaluates_somewhere t ≡ true
 edit_evaluates t u e fits h = elim (edit_cuts t u e fits) [
