@@ -1,5 +1,6 @@
 pub mod Composing
 pub mod Tried
+pub mod TriedExpressions
 pub mod TriedMerged
 pub mod TriedPassed
 pub mod TriedValues

@@ -1,4 +1,4 @@
-use Rattle.steps.proofs.Allowed.Tried.{block_leaves, nested_block_leaves, labeled_block_leaves, labeled_empty_leaves, block_of_call_stays, block_of_let_stays, branch_stays}
+use Rattle.steps.proofs.Allowed.TriedExpressions.{block_leaves, nested_block_leaves, labeled_block_leaves, labeled_empty_leaves, block_of_call_stays, block_of_let_stays, branch_stays}
 use Rattle.steps.proofs.allowed_laws.rows.blocks_of_nothing_leave.Goals as goal
 
 pub returns : goal.returns

@@ -1,4 +1,4 @@
-use Rattle.steps.proofs.Allowed.Tried.{argument_name_stays_direct, typed_member_stays_direct, called_name_stays_direct}
+use Rattle.steps.proofs.Allowed.TriedExpressions.{argument_name_stays_direct, typed_member_stays_direct, called_name_stays_direct}
 use Rattle.steps.proofs.allowed_laws.rows.direct_choices_take_no_zero.Goals as goal
 
 pub returns : goal.returns

@@ -1,4 +1,4 @@
-use Rattle.steps.proofs.Allowed.Tried.{empty_alternate_goes, chained_alternate_goes, alternate_of_branch_stays, alternate_of_body_stays, full_alternate_of_if_stays}
+use Rattle.steps.proofs.Allowed.TriedExpressions.{empty_alternate_goes, chained_alternate_goes, alternate_of_branch_stays, alternate_of_body_stays, full_alternate_of_if_stays}
 use Rattle.steps.proofs.allowed_laws.rows.empty_alternates_go.Goals as goal
 
 pub returns : goal.returns

@@ -1,4 +1,4 @@
-use Rattle.steps.proofs.Allowed.Tried.{empty_if_comes, empty_branches_come, empty_if_in_a_branch_comes, full_alternate_stays, full_consequent_stays, if_on_a_function_stays}
+use Rattle.steps.proofs.Allowed.TriedExpressions.{empty_if_comes, empty_branches_come, empty_if_in_a_branch_comes, full_alternate_stays, full_consequent_stays, if_on_a_function_stays}
 use Rattle.steps.proofs.allowed_laws.rows.empty_ifs_become_their_tests.Goals as goal
 
 pub returns : goal.returns

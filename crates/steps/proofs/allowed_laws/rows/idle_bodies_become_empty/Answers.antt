@@ -1,4 +1,4 @@
-use Rattle.steps.proofs.Allowed.Tried.{idle_block_empties, idle_while_empties, idle_label_empties, idle_body_of_while_empties, acting_body_stays, body_with_variable_stays, block_of_try_stays, block_behind_label_stays}
+use Rattle.steps.proofs.Allowed.TriedExpressions.{idle_block_empties, idle_while_empties, idle_label_empties, idle_body_of_while_empties, acting_body_stays, body_with_variable_stays, block_of_try_stays, block_behind_label_stays}
 use Rattle.steps.proofs.allowed_laws.rows.idle_bodies_become_empty.Goals as goal
 
 pub returns : goal.returns

@@ -1,4 +1,4 @@
-use Rattle.steps.proofs.Allowed.Tried.{last_part_stays, acting_parts_and_last_stay, member_keeps_a_zero, member_keeps_one_zero, typed_name_keeps_a_zero}
+use Rattle.steps.proofs.Allowed.TriedExpressions.{last_part_stays, acting_parts_and_last_stay, member_keeps_a_zero, member_keeps_one_zero, typed_name_keeps_a_zero}
 use Rattle.steps.proofs.allowed_laws.rows.idle_parts_go.Goals as goal
 
 pub returns : goal.returns

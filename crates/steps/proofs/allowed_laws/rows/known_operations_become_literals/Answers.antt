@@ -1,4 +1,4 @@
-use Rattle.steps.proofs.Allowed.Tried.{negation_is_known, type_is_known, sum_is_known, texts_are_joined, comparison_is_known, difference_is_known}
+use Rattle.steps.proofs.Allowed.TriedExpressions.{negation_is_known, type_is_known, sum_is_known, texts_are_joined, comparison_is_known, difference_is_known}
 use Rattle.steps.proofs.allowed_laws.rows.known_operations_become_literals.Goals as goal
 
 pub returns : goal.returns

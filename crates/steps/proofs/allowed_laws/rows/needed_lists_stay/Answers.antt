@@ -1,4 +1,4 @@
-use Rattle.steps.proofs.Allowed.Tried.{spread_stays, used_array_stays, last_array_stays, acting_sequence_stays}
+use Rattle.steps.proofs.Allowed.TriedExpressions.{spread_stays, used_array_stays, last_array_stays, acting_sequence_stays}
 use Rattle.steps.proofs.allowed_laws.rows.needed_lists_stay.Goals as goal
 
 pub returns : goal.returns

@@ -1,4 +1,4 @@
-use Rattle.steps.proofs.Allowed.Tried.{acting_consequent_stays, acting_alternate_stays}
+use Rattle.steps.proofs.Allowed.TriedExpressions.{acting_consequent_stays, acting_alternate_stays}
 use Rattle.steps.proofs.allowed_laws.rows.one_sided_choices_become_logical.Goals as goal
 
 pub returns : goal.returns

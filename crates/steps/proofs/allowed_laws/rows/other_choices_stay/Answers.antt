@@ -1,4 +1,4 @@
-use Rattle.steps.proofs.Allowed.Tried.{acting_branches_stay, idle_branches_stay, used_choice_stays}
+use Rattle.steps.proofs.Allowed.TriedExpressions.{acting_branches_stay, idle_branches_stay, used_choice_stays}
 use Rattle.steps.proofs.allowed_laws.rows.other_choices_stay.Goals as goal
 
 pub returns : goal.returns

@@ -1,4 +1,4 @@
-use Rattle.steps.proofs.Allowed.Tried.{empty_text_stays, used_text_stays, number_in_a_sum_stays, silent_truth_stays, empty_template_stays, used_template_stays, tagged_template_stays}
+use Rattle.steps.proofs.Allowed.TriedExpressions.{empty_text_stays, used_text_stays, number_in_a_sum_stays, silent_truth_stays, empty_template_stays, used_template_stays, tagged_template_stays}
 use Rattle.steps.proofs.allowed_laws.rows.other_sums_stay.Goals as goal
 
 pub returns : goal.returns

@@ -1,4 +1,4 @@
-use Rattle.steps.proofs.Allowed.Tried.{acting_elements_stay, acting_element_stays, hole_goes, elements_stay, acting_parts_of_sequence_stay, array_part_becomes}
+use Rattle.steps.proofs.Allowed.TriedExpressions.{acting_elements_stay, acting_element_stays, hole_goes, elements_stay, acting_parts_of_sequence_stay, array_part_becomes}
 use Rattle.steps.proofs.allowed_laws.rows.unused_lists_become_parts.Goals as goal
 
 pub returns : goal.returns

@@ -1,4 +1,4 @@
-use Rattle.steps.proofs.Allowed.Tried.{acting_value_stays, acting_values_all_stay, computed_keys_stay, computed_key_stays_alone, computed_prototype_leaves, computed_method_leaves}
+use Rattle.steps.proofs.Allowed.TriedExpressions.{acting_value_stays, acting_values_all_stay, computed_keys_stay, computed_key_stays_alone, computed_prototype_leaves, computed_method_leaves}
 use Rattle.steps.proofs.allowed_laws.rows.unused_objects_become_values.Goals as goal
 
 pub returns : goal.returns

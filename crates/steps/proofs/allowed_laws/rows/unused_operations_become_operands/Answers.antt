@@ -1,4 +1,4 @@
-use Rattle.steps.proofs.Allowed.Tried.{negation_goes, typeof_goes, sign_goes, first_side_stays, second_side_stays, left_side_stays, condition_stays, operand_in_parentheses}
+use Rattle.steps.proofs.Allowed.TriedExpressions.{negation_goes, typeof_goes, sign_goes, first_side_stays, second_side_stays, left_side_stays, condition_stays, operand_in_parentheses}
 use Rattle.steps.proofs.allowed_laws.rows.unused_operations_become_operands.Goals as goal
 
 pub returns : goal.returns

@@ -1,4 +1,4 @@
-use Rattle.steps.proofs.Allowed.Tried.{unrun_variable_drops, unrun_head_drops, unrun_name_stays, run_value_stays, may_run_value_stays, function_value_stays, statement_is_no_value}
+use Rattle.steps.proofs.Allowed.TriedExpressions.{unrun_variable_drops, unrun_head_drops, unrun_name_stays, run_value_stays, may_run_value_stays, function_value_stays, statement_is_no_value}
 use Rattle.steps.proofs.allowed_laws.rows.what_is_never_given_becomes_a_zero.Goals as goal
 
 pub returns : goal.returns

@@ -1,4 +1,4 @@
-use Rattle.steps.proofs.Allowed.Tried.{untaken_consequent_leaves, untaken_alternate_leaves, untaken_further_leaves, untaken_acting_leaves, untaken_declaration_stays, taken_stays, may_be_taken_stays, function_code_stays}
+use Rattle.steps.proofs.Allowed.TriedExpressions.{untaken_consequent_leaves, untaken_alternate_leaves, untaken_further_leaves, untaken_acting_leaves, untaken_declaration_stays, taken_stays, may_be_taken_stays, function_code_stays}
 use Rattle.steps.proofs.allowed_laws.rows.what_is_not_taken_leaves.Goals as goal
 
 pub returns : goal.returns

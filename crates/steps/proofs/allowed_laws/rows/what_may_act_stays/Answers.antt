@@ -1,4 +1,4 @@
-use Rattle.steps.proofs.Allowed.Tried.{both_sides_stay, right_side_stays, idle_sides_stay, used_negation_stays, typeof_name_stays, conversion_stays}
+use Rattle.steps.proofs.Allowed.TriedExpressions.{both_sides_stay, right_side_stays, idle_sides_stay, used_negation_stays, typeof_name_stays, conversion_stays}
 use Rattle.steps.proofs.allowed_laws.rows.what_may_act_stays.Goals as goal
 
 pub returns : goal.returns
