@@ -1,7 +1,7 @@
 use Rattle.std.proofs.Common.{◌++◌}
 use Rattle.form_rules.specs.Rules.{rule_1, rule_2, rule_3, rule_4, rule_5, rule_6, rule_7, rule_8, rule_9, rule_10, rule_11, rule_12}
 use Rattle.form_check.proofs.First.{joined}
-use Rattle.form_check.proofs.broken.broken_at.Goals as goal
+use Rattle.form_check.proofs.broken.broken_by_any.Goals as goal
 
 pub returns : goal.returns
 returns c =
