@@ -43,7 +43,7 @@ cases['statements']=[
 SILENT=('Literal','ArrowFunctionExpression','FunctionExpression','UnaryExpression')
 cases['expressions']=[N('ThrowStatement',argument=e) if e['type'] in SILENT else ES(e) for e in [
  L(None),L(True),L(7),N('Literal',value={},regex=dict(pattern='a',flags='g')),N('ThisExpression'),
- N('ArrayExpression',elements=[a,None,N('SpreadElement',argument=b)]),
+ call(I('use'),N('ArrayExpression',elements=[a,None,N('SpreadElement',argument=b)])),
  N('ObjectExpression',properties=[prop(a,a,shorthand=True),prop(L('k'),b),prop(L(3),b),prop(a,b,computed=True),prop(I('g'),fn('FunctionExpression',None,[],B()),kind='get'),prop(I('m'),fn('FunctionExpression',None,[],B()),method=True),N('SpreadElement',argument=c)]),
  fn('ArrowFunctionExpression',None,[a],b,True),dict(fn('ArrowFunctionExpression',None,[],B()),noSideEffects=True),
  un('typeof',a),un('-',L(3)),bi('in',a,b),bi('>>>',a,b),N('LogicalExpression',operator='??',left=a,right=b),
@@ -419,6 +419,7 @@ S('!f(); in a script',[ES(NOT(call(f)))],[do('f')],1,0,'script')
 S('export default !f(); return !f(); whose values are taken',[N('ExportDefaultDeclaration',declaration=NOT(call(f))),export(F_('h',[],RETURN(NOT(call(f)))))],None,0,0)
 
 ARR=lambda *es: N('ArrayExpression',elements=list(es))
+OF=lambda e: N('SpreadElement',argument=e)
 S('[f(), 1, g()];',[ES(ARR(call(f),L(1),call(g)))],[ES(SEQ(call(f),call(g)))],1,0)
 S('[f(), 1]; [, f()]; [function () {}, f()]; 1, f();',[ES(ARR(call(f),L(1))),ES(ARR(None,call(f))),ES(ARR(fn('FunctionExpression',None,[],B()),call(f))),ES(SEQ(L(1),call(f)))],[do('f'),do('f'),do('f'),do('f')],1,0)
 S('1, f(), 2, g(), 3;',[ES(SEQ(L(1),call(f),L(2),call(g),L(3)))],[ES(SEQ(call(f),call(g)))],1,0)
@@ -427,7 +428,9 @@ S('[[f()], g()];',[ES(ARR(ARR(call(f)),call(g)))],[ES(SEQ(call(f),call(g)))],2,0
 S('[!f(), 1];',[ES(ARR(NOT(call(f)),L(1)))],[do('f')],2,0)
 S('a && [f(), 1];',[ES(AND(a,ARR(call(f),L(1))))],[ES(AND(a,call(f)))],1,0)
 S('for (;; 1, f()) g();',[FOR(SEQ(L(1),call(f)),do('g'))],[FOR(call(f),do('g'))],1,0)
-S('[...f(), g()]; f(), g();',[ES(ARR(N('SpreadElement',argument=call(f)),call(g))),ES(SEQ(call(f),call(g)))],None,0,0)
+S('[...f(), g()]; f(), g();',[ES(ARR(OF(call(f)),call(g))),ES(SEQ(call(f),call(g)))],None,0,0)
+S('[f(), 1, ...g()]; [, ...g()]; [...[1], f()]; [...a, ...[], 1]; where something is spread',[ES(ARR(call(f),L(1),OF(call(g)))),ES(ARR(None,OF(call(g)))),ES(ARR(OF(ARR(L(1))),call(f))),ES(ARR(OF(a),OF(ARR()),L(1)))],[ES(ARR(call(f),OF(call(g)))),ES(ARR(OF(call(g)))),do('f'),ES(ARR(OF(a)))],1,0)
+S('use([1, ...g()]); [...[f(), 1]]; [!f(), ...g()]; whose value is taken, or all of which acts',[use(ARR(L(1),OF(call(g)))),ES(ARR(OF(ARR(call(f),L(1))))),ES(ARR(NOT(call(f)),OF(call(g))))],None,0,0)
 S('use([f(), 1]); use((f(), 1)); whose values are taken',[use(ARR(call(f),L(1))),use(SEQ(call(f),L(1)))],None,0,0)
 S("(1, o.f)(); (0, eval)('x'); which call by another reference",[ES(call(SEQ(L(1),mem(o,f)))),ES(call(SEQ(L(0),I('eval')),L('x')))],[ES(call(SEQ(L(0),mem(o,f)))),ES(call(SEQ(L(0),I('eval')),L('x')))],1,0)
 S('[class extends f() {}, 1];',[ES(ARR(N('ClassExpression',id=None,superClass=call(f),body=N('ClassBody',body=[])),L(1)))],None,0,0)

@@ -11,7 +11,7 @@ use Rattle.scope_laws.proofs.Notes.{unseen}
 use Rattle.steps.specs.Allowed.Uses.{Use, as_value, operand_of, chain_matters, matters, may_take_name, stands_bare}
 use Rattle.steps.specs.Allowed.Child.{child_at}
 use Rattle.steps.specs.Allowed.UnusedOperation.{acts, is_needed, index_if, operand_needed, side_needed, left_needed, condition_needed, needed_at}
-use Rattle.steps.specs.Allowed.UnusedList.{acting, all_act, is_spread, has_spread, as_one, list_becomes}
+use Rattle.steps.specs.Allowed.UnusedList.{acting, all_act, is_spread, has_spread, as_one, as_elements, array_stays, list_becomes}
 
 -- ---- what may stand bare
 
@@ -159,17 +159,29 @@ as_one_bare n m (node k i a nothing) =
 as_one_bare n m (node k i a (absent rest)) = refl
 as_one_bare n m (node k i a (node l j b rest)) = refl
 
-kept_bare : (n m : Note) (all : Forest → Bool) → ((t : Forest) → all (bare t) ≡ all t) → (parts : Forest)
-    → is_some (if all (bare parts) then None else as_one n m (acting (bare parts))) ≡ is_some (if all parts then None else as_one n m (acting parts))
-kept_bare n m all same parts = ap₂ (λ b ps. is_some (if b then None else as_one n m ps)) (same parts) (acting_bare parts) ∙ unless (all parts)
+as_elements_bare : (n m : Note) (t : Forest) → is_some (as_elements n m (bare t)) ≡ is_some (as_elements n m t)
+as_elements_bare n m t = ap (λ (b : Bool). is_some (if b then Some (record { kind = array_expression; note = n; below = node elements m (bare t) nothing }) else as_one n m (bare t))) (spread_bare t) ∙ by_spread (has_spread t)
   where
-    unless : (b : Bool) → is_some (if b then None else as_one n m (bare (acting parts))) ≡ is_some (if b then None else as_one n m (acting parts))
-    unless true = refl
-    unless false = as_one_bare n m (acting parts)
+    by_spread : (b : Bool) → is_some {T = Tree} (if b then Some (record { kind = array_expression; note = n; below = node elements m (bare t) nothing }) else as_one n m (bare t))
+        ≡ is_some {T = Tree} (if b then Some (record { kind = array_expression; note = n; below = node elements m t nothing }) else as_one n m t)
+    by_spread true = refl
+    by_spread false = as_one_bare n m t
+
+array_stays_bare : (t : Forest) → array_stays (bare t) ≡ array_stays t
+array_stays_bare t = ap₂ (λ x y. x && y) (ap has_spread (acting_bare t) ∙ spread_bare (acting t)) (all_act_bare t)
+
+module _ (all : Forest → Bool) (left : Forest → Option Tree) where
+  kept_bare : ((t : Forest) → all (bare t) ≡ all t) → ((t : Forest) → is_some (left (bare t)) ≡ is_some (left t)) → (parts : Forest)
+      → is_some (if all (bare parts) then None else left (acting (bare parts))) ≡ is_some (if all parts then None else left (acting parts))
+  kept_bare same so parts = ap₂ (λ b ps. is_some (if b then None else left ps)) (same parts) (acting_bare parts) ∙ unless (all parts)
+    where
+      unless : (b : Bool) → is_some (if b then None else left (bare (acting parts))) ≡ is_some (if b then None else left (acting parts))
+      unless true = refl
+      unless false = so (acting parts)
 
 list_bare : (n m : Note) (k : Kind) (t : Forest) → is_some (list_becomes n m k (bare t)) ≡ is_some (list_becomes n m k t)
-list_bare n m array_expression (node elements i parts nothing) = kept_bare n m has_spread spread_bare parts
-list_bare n m sequence_expression (node expressions i parts nothing) = kept_bare n m all_act all_act_bare parts
+list_bare n m array_expression (node elements i parts nothing) = kept_bare array_stays (as_elements n m) array_stays_bare (as_elements_bare n m) parts
+list_bare n m sequence_expression (node expressions i parts nothing) = kept_bare all_act (as_one n m) all_act_bare (as_one_bare n m) parts
 list_bare n m template_literal (node quasis h texts (node expressions i parts nothing)) =
     ap₂ (λ (b : Bool) ps. is_some (if b then as_one n m ps else None)) (combines_bare template_literal (node quasis h texts (node expressions i parts nothing))) (acting_bare parts)
     ∙ if_combines (only_combines template_literal (node quasis h texts (node expressions i parts nothing)))

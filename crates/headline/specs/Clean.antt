@@ -85,8 +85,8 @@ pub data IsDead (unused imports : Bool) (t : Forest) : Around → Option Tree �
   a_known_side : (a : Around) (x y : Tree) → KnownSide a x y → IsDead unused imports t a (Some x)
   -- an operation of which nobody takes the value, where one operand alone acts: the rest of it does nothing
   an_unused_operation : (a : Around) (x y : Tree) → UnusedOperation a x y → IsDead unused imports t a (Some x)
-  -- an array of which nobody takes the value and in which nothing is spread, or such a sequence of which not all parts act: what
-  -- doesn't act of it does nothing
+  -- an array of which nobody takes the value, where nothing that acts is spread or not all parts act, or such a sequence of which not
+  -- all act: what doesn't act of it does nothing
   an_unused_list : (a : Around) (x y : Tree) → UnusedList a x y → IsDead unused imports t a (Some x)
   -- a conditional or a logical expression that is so decided, where the part that counts may stand behind a zero alone, or of which the
   -- test, or the left side, acts and tells all the same that the part counts: the rest of it does nothing

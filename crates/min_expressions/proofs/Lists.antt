@@ -12,11 +12,11 @@ use Rattle.scope_counts.specs.Counts.{ids}
 use Rattle.min_context.specs.Edited.{evals, Leaves, DropsNode, Edited}
 use Rattle.min_context.specs.Seen.{Seen}
 use Rattle.steps.specs.Allowed.UnusedOperation.{acts}
-use Rattle.steps.specs.Allowed.UnusedList.{acting, all_act, is_spread, has_spread, as_one, list_becomes}
+use Rattle.steps.specs.Allowed.UnusedList.{acting, all_act, is_spread, has_spread, as_one, as_elements, list_becomes}
 use Rattle.steps.specs.Allowed.Uses.{as_value, stands_bare}
 use Rattle.rules.specs.Expressions.Lists.{new_note, list_note}
 use Rattle.min_expressions.specs.Kept.{child_at}
-use Rattle.min_expressions.specs.Lists.{only, item_acts, idle, Found, none, one, several, found_with, found_from, is_enough, are_one, array_goes, sequence_goes, parts_go}
+use Rattle.min_expressions.specs.Lists.{only, item_acts, idle, Found, none, one, several, found_with, found_from, is_enough, are_one, is_array, list_left, are_left, array_goes, sequence_goes, parts_go}
 use Rattle.min_expressions.specs.Unused.{tree_acts}
 use Rattle.min_expressions.proofs.Leaving.{leaves_none, Adds, ids_add, evals_add, leaves_more, same_some, found, emptied, edits_to}
 
@@ -30,6 +30,33 @@ pub spread_each : AsksEach has_spread
 spread_each None ts = refl
 spread_each (Some t) ts = ap (λ (b : Bool). b || has_spread (row ts)) (sym (or_false (is_spread t.kind)))
 
+-- of those that act
+abbrev pub has_acting_spread : Forest → Bool
+has_acting_spread t = has_spread (acting t)
+
+pub acting_spread_each : AsksEach has_acting_spread
+acting_spread_each None ts = refl
+acting_spread_each (Some t) ts = if_acts (tree_acts t)
+  where
+    if_acts : (b : Bool) → has_spread (if b then node t.kind t.note t.below (acting (row ts)) else acting (row ts)) ≡ has_spread (if b then alone t.kind t.note t.below else nothing) || has_spread (acting (row ts))
+    if_acts true = ap (λ (b : Bool). b || has_spread (acting (row ts))) (sym (or_false (is_spread t.kind)))
+    if_acts false = refl
+
+and_true : (b : Bool) → b && true ≡ b
+and_true true = refl
+and_true false = refl
+
+and_false : (b : Bool) → b && false ≡ false
+and_false true = refl
+and_false false = refl
+
+pub acting_spread_is : (x : Tree) → is_spread x.kind && tree_acts x ≡ has_acting_spread (row (Some x ∷ []))
+acting_spread_is x = if_acts (tree_acts x)
+  where
+    if_acts : (b : Bool) → is_spread x.kind && b ≡ has_spread (if b then alone x.kind x.note x.below else nothing)
+    if_acts true = and_true (is_spread x.kind) ∙ sym (or_false (is_spread x.kind))
+    if_acts false = and_false (is_spread x.kind)
+
 not_both : (a b : Bool) → not (a && b) ≡ not (a && true) || not b
 not_both true b = refl
 not_both false b = refl
@@ -40,10 +67,6 @@ some_idle t = not (all_act t)
 pub idle_each : AsksEach some_idle
 idle_each None ts = refl
 idle_each (Some t) ts = not_both _ (all_act (row ts))
-
-and_true : (b : Bool) → b && true ≡ b
-and_true true = refl
-and_true false = refl
 
 acts_is : (k : Kind) (n : Note) (b : Forest) → not (all_act (alone k n b)) ≡ not (acts k n b || is_list k)
 acts_is statements n b = ap not (and_true (acts statements n b || true))
@@ -195,8 +218,8 @@ pub record HasList (k : Kind) (t : Forest) : Type 0 where
 
 pub record IsListOf (k : Kind) (t : Forest) : Type 0 where
   pub has : HasList k t
-  pub becomes : (n m : Note) → list_becomes n m k t ≡ as_one n m (acting has.list.below)
-  pub is_one : are_one (acting has.list.below) ≡ true
+  pub becomes : (n m : Note) → list_becomes n m k t ≡ list_left (is_array k) n m (acting has.list.below)
+  pub is_one : are_left (is_array k) (acting has.list.below) ≡ true
 
 -- whether parts are one expression
 pub one_same : (n m : Note) (parts : Forest) → is_some (as_one n m parts) ≡ are_one parts
@@ -241,10 +264,15 @@ not_so : (b c : Bool) → not b && c ≡ true → (b ≡ false) × (c ≡ true)
 not_so true c e = absurd (true≢false (sym e))
 not_so false c e = (refl, e)
 
+array_goes_so : (s a o : Bool) → (if s then not a else o) ≡ true → ((s && a) ≡ false) × (((true && s) || o) ≡ true)
+array_goes_so true true o e = absurd (true≢false (sym e))
+array_goes_so true false o e = (refl, refl)
+array_goes_so false a o e = (refl, e)
+
 pub list_of : (k : Kind) (t : Forest) → parts_go k t ≡ true → IsListOf k t
 list_of array_expression (node elements i parts nothing) e =
-    let w = not_so (has_spread parts) (are_one (acting parts)) e in
-    record { has = array_list i parts; becomes = λ p q. ap (λ (b : Bool). if b then None else as_one p q (acting parts)) w.0; is_one = w.1 }
+    let w = array_goes_so (has_spread (acting parts)) (all_act parts) (are_one (acting parts)) e in
+    record { has = array_list i parts; becomes = λ p q. ap (λ (b : Bool). if b then None else as_elements p q (acting parts)) w.0; is_one = w.1 }
 list_of array_expression nothing e = no_list e
 list_of array_expression (absent rest) e = no_list e
 list_of array_expression (node k i parts nothing) e = no_list e
@@ -304,6 +332,14 @@ counts n m (node k i a nothing) y e = alone_counts (stands_bare as_value false k
 counts n m (node k i a (absent rest)) y e = made_counts n m (node k i a (absent rest)) y e
 counts n m (node k i a (node l j b rest)) y e = made_counts n m (node k i a (node l j b rest)) y e
 
+pub left_counts : (array : Bool) (n m : Note) (parts : Forest) (y : Tree) → list_left array n m parts ≡ Some y → Counts y parts
+left_counts false n m parts y e = counts n m parts y e
+left_counts true n m parts y e = by_spread (has_spread parts) e
+  where
+    by_spread : (b : Bool) → (if b then Some (record { kind = array_expression; note = n; below = node elements m parts nothing }) else as_one n m parts) ≡ Some y → Counts y parts
+    by_spread true e = subst (λ z. Counts z parts) (same_some e) (record { same_ids = λ r. Prim.omega arith; same_evals = Prim.omega arith })
+    by_spread false e = counts n m parts y e
+
 -- A node that becomes the sequence of all that lies below it by a rule, and counts nothing itself.
 pub record StaysInTurn (rule : Note → Note → Kind → Forest → Option Tree) (k : Kind) (t : Forest) : Type 0 where
   pub becomes : (n m : Note) → rule n m k t ≡ Some (made n m t)
@@ -326,19 +362,19 @@ parts_edits {c = c} {d = d} {e = e} {v = v} {y = y} x w is ids_left evals_left k
     (Prim.omega (arith, w.no_eval x.note x.below, w.no_eval x.note nothing, ap evals w.below, w.list_no_eval, ap {A = Tree} (λ u. evals u.below) is, evals_left))
 
 -- what acts of x became y
-pub list_edits : {c d e : Seen} {v y z l : Tree} (x : Tree) (n m : Note) (w : HasList x.kind x.below) → l ≡ w.list → as_one n m (acting l.below) ≡ Some z → y ≡ z
+pub list_edits : {c d e : Seen} {v y z l : Tree} (x : Tree) (array : Bool) (n m : Note) (w : HasList x.kind x.below) → l ≡ w.list → list_left array n m (acting l.below) ≡ Some z → y ≡ z
     → v.kind ≡ x.kind → v.note ≡ x.note → v.below ≡ nothing → IdleLeaves c l.below d → DropsNode d v e → Edited c x y true e
-list_edits {z = z} {l = l} x n m w is left put kind note empty others itself =
-    let s = counts n m (acting l.below) z left in
+list_edits {z = z} {l = l} x array n m w is left put kind note empty others itself =
+    let s = left_counts array n m (acting l.below) z left in
     parts_edits x w is
     (λ r. Prim.omega (arith, splits (ids r) (ids_add r) l.below, s.same_ids r, ap (λ u. ids r (forest_of u)) put))
     (Prim.omega (arith, splits evals evals_add l.below, s.same_evals, ap (λ u. evals (forest_of u)) put))
     kind note empty others itself
 
-pub list_kept : {y z l : Tree} (x : Tree) (w : IsListOf x.kind x.below) → l ≡ w.has.list → as_one (new_note x.note) (new_note l.note) (acting l.below) ≡ Some z → y ≡ z → list_becomes (new_note x.note) (new_note (list_note x.below)) x.kind x.below ≡ Some y
+pub list_kept : {y z l : Tree} (x : Tree) (w : IsListOf x.kind x.below) → l ≡ w.has.list → list_left (is_array x.kind) (new_note x.note) (new_note l.note) (acting l.below) ≡ Some z → y ≡ z → list_becomes (new_note x.note) (new_note (list_note x.below)) x.kind x.below ≡ Some y
 list_kept {l = l} x w is left put =
-    w.becomes (new_note x.note) (new_note (list_note x.below)) ∙ ap (λ u. as_one (new_note x.note) (new_note (list_note u)) (acting w.has.list.below)) w.has.below
-    ∙ ap {A = Tree} (λ u. as_one (new_note x.note) (new_note u.note) (acting u.below)) (sym is) ∙ left ∙ ap Some (sym put)
+    w.becomes (new_note x.note) (new_note (list_note x.below)) ∙ ap (λ u. list_left (is_array x.kind) (new_note x.note) (new_note (list_note u)) (acting w.has.list.below)) w.has.below
+    ∙ ap {A = Tree} (λ u. list_left (is_array x.kind) (new_note x.note) (new_note u.note) (acting u.below)) (sym is) ∙ left ∙ ap Some (sym put)
 
 -- ---- as the rule says it
 
@@ -346,10 +382,16 @@ pub unless_same : (b : Bool) (o : Option Tree) (c : Bool) → is_some o ≡ c �
 unless_same true o c e = refl
 unless_same false o c e = e
 
+elements_same : (s a : Bool) (x : Tree) (o : Option Tree) (c : Bool) → is_some o ≡ c → is_some (if s && a then None else (if s then Some x else o)) ≡ (if s then not a else c)
+elements_same true true x o c e = refl
+elements_same true false x o c e = refl
+elements_same false a x o c e = e
+
 pub array_same : (n m : Note) (t : Forest) → is_some (list_becomes n m array_expression t) ≡ array_goes (only t)
 array_same n m nothing = refl
 array_same n m (absent rest) = refl
-array_same n m (node elements i parts nothing) = unless_same (has_spread parts) (as_one n m (acting parts)) (are_one (acting parts)) (one_same n m (acting parts))
+array_same n m (node elements i parts nothing) =
+    elements_same (has_spread (acting parts)) (all_act parts) (record { kind = array_expression; note = n; below = node elements m (acting parts) nothing }) (as_one n m (acting parts)) (are_one (acting parts)) (one_same n m (acting parts))
 array_same n m (node elements i parts (absent rest)) = refl
 array_same n m (node elements i parts (node l j b rest)) = refl
 array_same n m (node k i parts nothing) = refl

@@ -2,9 +2,9 @@
 use Rattle.std.specs.Prelude.{List, [], ◌∷◌, Bool, true, false, not, ◌&&◌, Option, Some, None, if◌then◌else◌}
 use Rattle.js_syntax.specs.declared.node_kind.NodeKind.{NodeKind as Kind}
 use Rattle.js_syntax.specs.declared.node_kind.NodeKind.TheVariants.{ArrayExpression as array_expression, Elements as elements, SequenceExpression as sequence_expression, Expressions as expressions}
-use Rattle.js_syntax.specs.Node.{Forest, Tree, nothing, node, absent}
+use Rattle.js_syntax.specs.Node.{Forest, Tree, Note, nothing, node, absent}
 use Rattle.steps.specs.Allowed.UnusedOperation.{acts}
-use Rattle.steps.specs.Allowed.UnusedList.{acting, all_act, has_spread}
+use Rattle.steps.specs.Allowed.UnusedList.{acting, all_act, has_spread, as_one, as_elements}
 use Rattle.steps.specs.Allowed.Uses.{as_value, stands_bare}
 use Rattle.rules.specs.Expressions.Uses.{Spot}
 use Rattle.min_expressions.specs.Unused.{tree_acts}
@@ -62,10 +62,21 @@ are_one nothing = false
 are_one (node k n a nothing) = stands_bare as_value false k a
 are_one parts = true
 
+-- an array where one of its elements is spread, else one expression
+abbrev pub is_array : Kind → Bool
+is_array array_expression = true
+is_array k = false
+
+abbrev pub list_left : (array : Bool) → (n m : Note) → (parts : Forest) → Option Tree
+list_left array n m parts = if array then as_elements n m parts else as_one n m parts
+
+abbrev pub are_left : (array : Bool) → (parts : Forest) → Bool
+are_left array parts = (array && has_spread parts) || are_one parts
+
 -- ---- whether a list becomes what acts of it
 
 abbrev pub elements_go : Kind → (parts : Forest) → Bool
-elements_go elements parts = not (has_spread parts) && are_one (acting parts)
+elements_go elements parts = if has_spread (acting parts) then not (all_act parts) else are_one (acting parts)
 elements_go k parts = false
 
 abbrev pub expressions_go : Kind → (parts : Forest) → Bool

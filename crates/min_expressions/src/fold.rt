@@ -239,8 +239,9 @@ impl PeepholeOptimizations {
         }
     }
 
-    /// Where nobody takes the value, an array without spreads, a sequence of which not all parts act, and a template whose substitutions
-    /// are primitive by their form, become the parts that act: one that may stand there itself, or a sequence of them.
+    /// Where nobody takes the value, an array, a sequence of which not all parts act, and a template whose substitutions are primitive
+    /// by their form, become the parts that act: one that may stand there itself, or a sequence of them; or an array, where not all parts
+    /// of one act and one that does is spread.
     pub fn remove_unused_list(node: &mut Node, ctx: &mut MinifierTraverseCtx) -> bool
         ensures does { Does fold_unused_list ctx.old node.old result ctx.new node.new }
     {

@@ -1,7 +1,7 @@
 // What is left of a list of which nobody takes the value.
 ghost use Rattle.std.specs.Prelude.{◌≡◌, [], ◌∷◌, not, ◌||◌, length, Some, None, true, false, is_some};
 ghost use Rattle.std.specs.Option.{option_map};
-ghost use Rattle.js_syntax.specs.declared.node_kind.NodeKind.TheVariants.{SequenceExpression as sequence_expression, Expressions as expressions};
+ghost use Rattle.js_syntax.specs.declared.node_kind.NodeKind.TheVariants.{ArrayExpression as array_expression, Elements as elements, SequenceExpression as sequence_expression, Expressions as expressions};
 ghost use Rattle.js_syntax.specs.Node.{nothing, node, row};
 ghost use Rattle.js_tree.specs.Walk.{is_list};
 ghost use Rattle.scope_counts.specs.Counts.{ids};
@@ -10,7 +10,7 @@ ghost use Rattle.steps.specs.Allowed.UnusedList as unused;
 ghost use Rattle.rules.specs.Expressions.Lists.{new_note, list_note};
 ghost use Rattle.rules.specs.Expressions.Uses.{spot_of};
 ghost use Rattle.min_expressions.specs.Unused.{tree_acts};
-ghost use Rattle.min_expressions.specs.Lists.{only, item_acts, idle, told_found, none, found_with, found_from, is_enough, are_one, elements_go, expressions_go, array_goes, sequence_goes, parts_go, list_goes};
+ghost use Rattle.min_expressions.specs.Lists.{only, item_acts, idle, told_found, none, found_with, found_from, is_enough, are_one, is_array, list_left, are_left, elements_go, expressions_go, array_goes, sequence_goes, parts_go, list_goes};
 
 use crate::bare::stands_bare;
 use crate::kept::take_at;
@@ -46,6 +46,34 @@ pub fn has_spread(parts: &[Option<Node>]) -> bool
 {
     for part in parts {
         if is_spread(part) {
+            return true;
+        }
+    }
+    false
+}
+
+fn is_spread_kind(kind: &NodeKind) -> bool
+    ensures { result ≡ unused.is_spread kind.now }
+{
+    matches!(kind, NodeKind::SpreadElement)
+}
+
+#[tactic(auto, using(crate::proofs::Lists::acting_spread_is))]
+fn is_acting_spread(item: &Option<Node>) -> bool
+    ensures { result ≡ unused.has_spread (unused.acting (row (item.now ∷ []))) }
+{
+    match item {
+        Some(node) => is_spread_kind(node.kind()) && acts(node),
+        None => false,
+    }
+}
+
+// Whether one is that acts.
+fn has_acting_spread(parts: &[Option<Node>]) -> bool
+    ensures spread { result ≡ unused.has_spread (unused.acting (row parts.now)) }
+{
+    for part in parts {
+        if is_acting_spread(part) {
             return true;
         }
     }
@@ -169,11 +197,22 @@ pub(crate) fn only(children: &[Option<Node>]) -> Option<&Node>
     }
 }
 
+// What is spread and acts stays in an array, which changes if not all does.
+fn row_changes(parts: &[Option<Node>]) -> bool
+    ensures { result ≡ elements_go elements (row parts.now) }
+{
+    if has_acting_spread(parts) {
+        has_idle(parts)
+    } else {
+        are_one(parts)
+    }
+}
+
 fn elements_go(list: &Node) -> bool
     ensures { result ≡ elements_go list.now.kind list.now.below }
 {
     match list.kind() {
-        NodeKind::Elements => !has_spread(list.children()) && are_one(list.children()),
+        NodeKind::Elements => row_changes(list.children()),
         _ => false,
     }
 }
@@ -275,6 +314,23 @@ pub(crate) fn sequence(
     Node::new(NodeKind::SequenceExpression, span, children)
 }
 
+// One part that is alone, or a sequence of several.
+fn one_of(
+    span: Span,
+    children: Vec<Option<Node>>,
+    list_span: Span,
+    mut parts: Vec<Option<Node>>,
+) -> Node
+    requires field { length children.items ≡ 1 }
+    requires one { are_one (row parts.items) ≡ true }
+    ensures { unused.as_one (record { span = span; id = None }) (record { span = list_span; id = None }) (row parts.items) ≡ Some result }
+{
+    match take_only(&mut parts) {
+        Some(part) => part,
+        None => sequence(span, children, list_span, parts),
+    }
+}
+
 // What is left of some parts.
 pub(crate) fn left_of_parts(
     span: Span,
@@ -290,10 +346,7 @@ pub(crate) fn left_of_parts(
 {
     mark_all_idle(parts.as_slice(), ctx);
     keep_acting(&mut parts);
-    match take_only(&mut parts) {
-        Some(part) => part,
-        None => sequence(span, children, list_span, parts),
-    }
+    one_of(span, children, list_span, parts)
 }
 
 // What is left of a list.
@@ -312,6 +365,84 @@ pub(crate) fn left_of(
     left_of_parts(span, children, list_span, list.into_children(), ctx)
 }
 
+// An array of these elements, in the row of one field that is given.
+fn array(
+    span: Span,
+    mut children: Vec<Option<Node>>,
+    list_span: Span,
+    parts: Vec<Option<Node>>,
+) -> Node
+    requires { length children.items ≡ 1 }
+    ensures { result ≡ record { kind = array_expression; note = record { span = span; id = None }; below = node elements (record { span = list_span; id = None }) (row parts.items) nothing } }
+{
+    let list = Node::new(NodeKind::Elements, list_span, parts);
+    put_child(&mut children.as_mut_slice()[0], list);
+    Node::new(NodeKind::ArrayExpression, span, children)
+}
+
+// An array where one of these elements is spread.
+fn array_or_one(
+    span: Span,
+    children: Vec<Option<Node>>,
+    list_span: Span,
+    parts: Vec<Option<Node>>,
+) -> Node
+    requires field { length children.items ≡ 1 }
+    requires one { are_left true (row parts.items) ≡ true }
+    ensures { unused.as_elements (record { span = span; id = None }) (record { span = list_span; id = None }) (row parts.items) ≡ Some result }
+{
+    if has_spread(parts.as_slice()) {
+        array(span, children, list_span, parts)
+    } else {
+        one_of(span, children, list_span, parts)
+    }
+}
+
+// What is left of the elements of an array.
+fn left_of_elements(
+    span: Span,
+    children: Vec<Option<Node>>,
+    list: Node,
+    ctx: &mut MinifierTraverseCtx,
+) -> Node
+    requires field { length children.items ≡ 1 }
+    requires one { are_left true (unused.acting list.below) ≡ true }
+    ensures kept { unused.as_elements (record { span = span; id = None }) (new_note list.note) (unused.acting list.below) ≡ Some result }
+    ensures left { Leaves ctx.old (λ r. ids r (idle list.below)) (evals (idle list.below)) ctx.new }
+{
+    let list_span = list.span();
+    let mut parts = list.into_children();
+    mark_all_idle(parts.as_slice(), ctx);
+    keep_acting(&mut parts);
+    array_or_one(span, children, list_span, parts)
+}
+
+fn is_array(kind: &NodeKind) -> bool
+    ensures { result ≡ is_array kind.now }
+{
+    matches!(kind, NodeKind::ArrayExpression)
+}
+
+// The same of an array or of another list.
+fn left_of_list(
+    array: bool,
+    span: Span,
+    children: Vec<Option<Node>>,
+    list: Node,
+    ctx: &mut MinifierTraverseCtx,
+) -> Node
+    requires field { length children.items ≡ 1 }
+    requires one { are_left array (unused.acting list.below) ≡ true }
+    ensures kept { list_left array (record { span = span; id = None }) (new_note list.note) (unused.acting list.below) ≡ Some result }
+    ensures left { Leaves ctx.old (λ r. ids r (idle list.below)) (evals (idle list.below)) ctx.new }
+{
+    if array {
+        left_of_elements(span, children, list, ctx)
+    } else {
+        left_of(span, children, list, ctx)
+    }
+}
+
 // What acts of a list takes the place of the whole. The context is told of what leaves.
 pub(crate) fn keep_list(node: &mut Node, ctx: &mut MinifierTraverseCtx)
     requires goes { parts_go node.old.kind node.old.below ≡ true }
@@ -319,9 +450,10 @@ pub(crate) fn keep_list(node: &mut Node, ctx: &mut MinifierTraverseCtx)
     ensures edited { Edited ctx.old node.old node.new true ctx.new }
 {
     let span = node.span();
+    let array = is_array(node.kind());
     let mut children = node.replace_children(Vec::new(ctx.alloc()));
     if let Some(list) = take_at(children.as_mut_slice(), 0) {
-        let left = left_of(span, children, list, ctx);
+        let left = left_of_list(array, span, children, list, ctx);
         ctx.replace_expression(node, left);
     }
 }

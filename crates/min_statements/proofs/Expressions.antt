@@ -13,7 +13,7 @@ use Rattle.steps.specs.Allowed.KnownConditional.{KnownConditional, consequent_is
 use Rattle.steps.specs.Allowed.KnownSide.{KnownSide, right_side_counts, left_side_decides}
 use Rattle.steps.specs.Allowed.UnusedOperation.{acts, UnusedOperation, one_operand_acts}
 use Rattle.js_effects.specs.Silence.{only_combines}
-use Rattle.steps.specs.Allowed.UnusedList.{acting, all_act, has_spread, as_one, list_becomes, UnusedList, acting_parts_stay}
+use Rattle.steps.specs.Allowed.UnusedList.{acting, all_act, has_spread, as_one, as_elements, array_stays, list_becomes, UnusedList, acting_parts_stay}
 use Rattle.steps.proofs.Owed.BehindTest.{Follows, consequent_follows, alternate_follows, right_side_follows, part_follows}
 use Rattle.steps.specs.Allowed.IndirectChoice.{one_of as branch_of, if_so, part_counts, IndirectChoice, value_alone_counts, part_counts_behind_test}
 use Rattle.steps.specs.Allowed.OneSidedChoice.{sides, one_side, one_sided, OneSidedChoice, one_branch_acts}
@@ -140,6 +140,13 @@ one_calls n m (node k i b nothing) y e = alone_calls as_value false k i b y e
 one_calls n m (node k i b (node l j c rest)) y e = several_call as_value false n m (node k i b (node l j c rest)) y e
 one_calls n m (node k i b (absent rest)) y e = several_call as_value false n m (node k i b (absent rest)) y e
 
+elements_call : (n m : Note) (parts : Forest) (y : Tree) → as_elements n m parts ≡ Some y → LeavesCalls as_value false parts y
+elements_call n m parts y e = by_spread (has_spread parts) e
+  where
+    by_spread : (b : Bool) → (if b then Some (record { kind = array_expression; note = n; below = node elements m parts nothing }) else as_one n m parts) ≡ Some y → LeavesCalls as_value false parts y
+    by_spread true e = subst (LeavesCalls as_value false parts) (same_answer e) (record { fewer = Prim.omega arith; bare = refl })
+    by_spread false e = one_calls n m parts y e
+
 unless : (b : Bool) (o : Option Tree) (y : Tree) → (if b then None else o) ≡ Some y → o ≡ Some y
 unless true o y e = no_answer e
 unless false o y e = e
@@ -151,7 +158,7 @@ where_so false o y e = no_answer e
 module _ (a : places.Around) (i : Note) (used : use_at a ≡ as_value) where
   parts_call : (n m : Note) (k : Kind) (below : Forest) (y : Tree) → list_becomes n m k below ≡ Some y → CallsStay a (record { kind = k; note = i; below = below }) y
   parts_call n m array_expression (node elements j parts nothing) y e =
-      let left = one_calls n m (acting parts) y (unless (has_spread parts) (as_one n m (acting parts)) y e) in
+      let left = elements_call n m (acting parts) y (unless (array_stays parts) (as_elements n m (acting parts)) y e) in
       record { fewer = Prim.omega (arith, left.fewer, acting_calls parts); old = refl; in_with = false; bare = stands_there a i used y.kind y.below left.bare }
   parts_call n m sequence_expression (node expressions j parts nothing) y e =
       let left = one_calls n m (acting parts) y (unless (all_act parts) (as_one n m (acting parts)) y e) in

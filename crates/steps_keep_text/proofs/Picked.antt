@@ -16,7 +16,7 @@ use Rattle.steps.specs.KeepForm.Part.{may_be_idle, is_tested}
 use Rattle.steps.proofs.Owed.KnownSizes.{IsSmall}
 use Rattle.js_tree.specs.Count.{one_each}
 use Rattle.steps.specs.Allowed.TwoSides.{no_text, without_text, without_texts}
-use Rattle.steps.proofs.Marked.Picked.{SomeOf, none, stays, leaves, opens, absent_leaves, absent_stays, Picks, one_part, several, part_behind_zero, last_behind_zero, two_parts, after_test, known, signed, zeroed, one_substitution, substitutions, in_turn, with_less_text, with_no_texts, Emptied, this_one, a_later_one}
+use Rattle.steps.proofs.Marked.Picked.{SomeOf, none, stays, leaves, opens, absent_leaves, absent_stays, Picks, one_part, several, some_elements, part_behind_zero, last_behind_zero, two_parts, after_test, known, signed, zeroed, one_substitution, substitutions, in_turn, with_less_text, with_no_texts, Emptied, this_one, a_later_one}
 use Rattle.js_syntax.specs.declared.kind.VariableKind.{VariableKind}
 
 -- `default as a`
@@ -102,6 +102,7 @@ module _ (counts : Kind → ℕ) where
   picked_counts spares (several object_expression properties i m parts left holds some) = Prim.omega (arith, spares.of_object, spares.of_properties, some_counts some)
   picked_counts spares (several sequence_expression expressions i m parts left holds some) = Prim.omega (arith, some_counts some)
   picked_counts spares (several k j i m parts left holds some) = absurd cc
+  picked_counts spares (some_elements i m parts left some) = Prim.omega (arith, some_counts some)
   picked_counts spares (part_behind_zero conditional_expression l t o m i p d parts inner choice one some) = Prim.omega (arith, spares.of_conditional, spares.zero t one, some_counts some)
   picked_counts spares (part_behind_zero (logical_expression q) l t o m i p d parts inner choice one some) = Prim.omega (arith, spares.of_logical q, spares.zero t one, some_counts some)
   picked_counts spares (part_behind_zero k l t o m i p d parts inner choice one some) = absurd cc

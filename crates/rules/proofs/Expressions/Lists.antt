@@ -16,7 +16,7 @@ use Rattle.scope_laws.specs.Place as places
 use Rattle.scope_counts.specs.Edits.{Around}
 use Rattle.js_effects.specs.Silence.{only_combines}
 use Rattle.steps.specs.Allowed.UnusedOperation.{acts}
-use Rattle.steps.specs.Allowed.UnusedList.{acting, all_act, has_spread, as_one, list_becomes, UnusedList, acting_parts_stay}
+use Rattle.steps.specs.Allowed.UnusedList.{acting, all_act, has_spread, as_one, as_elements, array_stays, list_becomes, UnusedList, acting_parts_stay}
 use Rattle.steps.specs.Allowed.Uses.{as_value, stands_bare}
 use Rattle.rules.specs.DeadCode.Before.{before}
 use Rattle.rules.specs.Expressions.Uses.{Spot, spot_of}
@@ -57,9 +57,20 @@ pub when_as : (b : Bool) (o p : Option Tree) (y : Tree) → (o ≡ Some y → Ha
 when_as true o p y h e = h e
 when_as false o p y h e = no_answer e
 
+abbrev array_made : Note → Note → Forest → Tree
+array_made n m parts = record { kind = array_expression; note = n; below = node elements m parts nothing }
+
+-- of elements
+elements_as : (n m i j : Note) (parts : Forest) (y : Tree) → as_elements n m parts ≡ Some y → HasAnswer (as_elements i j parts) y
+elements_as n m i j parts y e = by_spread (has_spread parts) e
+  where
+    by_spread : (b : Bool) → (if b then Some (array_made n m parts) else as_one n m parts) ≡ Some y → HasAnswer (if b then Some (array_made i j parts) else as_one i j parts) y
+    by_spread true e = subst (λ z. HasAnswer (Some (array_made i j parts)) z) (same_answer e) (answer (array_made i j parts) (array_made n m parts) refl)
+    by_spread false e = one_as n m i j parts y e
+
 list_as : (n m i j : Note) (k : Kind) (below : Forest) (y : Tree) → list_becomes n m k below ≡ Some y → HasAnswer (list_becomes i j k below) y
 list_as n m i j array_expression (node elements l parts nothing) y e =
-    unless_as (has_spread parts) (as_one n m (acting parts)) (as_one i j (acting parts)) y (one_as n m i j (acting parts) y) e
+    unless_as (array_stays parts) (as_elements n m (acting parts)) (as_elements i j (acting parts)) y (elements_as n m i j (acting parts) y) e
 list_as n m i j sequence_expression (node expressions l parts nothing) y e =
     unless_as (all_act parts) (as_one n m (acting parts)) (as_one i j (acting parts)) y (one_as n m i j (acting parts) y) e
 list_as n m i j template_literal (node quasis h texts (node expressions l parts nothing)) y e =
@@ -193,8 +204,17 @@ one_little n m (node k l a nothing) y e =
 one_little n m (node k l a (node h g b rest)) y e = several_little n m (node k l a (node h g b rest)) y e
 one_little n m (node k l a (absent rest)) y e = several_little n m (node k l a (absent rest)) y e
 
-less_array : (n l : Note) (parts : Forest) (y : Tree) → IsLittle y (acting parts) → IsLess (record { kind = array_expression; note = n; below = node elements l parts nothing }) y
-less_array n l parts y h = record { thins = λ r. Prim.omega (arith, h.fewer r, no_more r parts); lighter = Prim.omega (arith, h.lighter, no_heavier parts) }
+-- of an array with what is spread it becomes lighter, since not all of it acts
+less_array : (i j n l : Note) (parts : Forest) (y : Tree) → array_stays parts ≡ false → as_elements i j (acting parts) ≡ Some y → IsLess (record { kind = array_expression; note = n; below = node elements l parts nothing }) y
+less_array i j n l parts y some e = by_spread (has_spread (acting parts)) some e
+  where
+    by_spread : (b : Bool) → (b && all_act parts) ≡ false → (if b then Some (array_made i j (acting parts)) else as_one i j (acting parts)) ≡ Some y → IsLess (record { kind = array_expression; note = n; below = node elements l parts nothing }) y
+    by_spread true some e =
+        subst (λ z. IsLess (record { kind = array_expression; note = n; below = node elements l parts nothing }) z) (same_answer e)
+        (record { thins = λ r. Prim.omega (arith, no_more r parts); lighter = Prim.omega (arith, lighter_row parts some) })
+    by_spread false some e =
+        let h = one_little i j (acting parts) y e in
+        record { thins = λ r. Prim.omega (arith, h.fewer r, no_more r parts); lighter = Prim.omega (arith, h.lighter, no_heavier parts) }
 
 less_template : (n h l : Note) (texts parts : Forest) (y : Tree) → IsLittle y (acting parts) → IsLess (record { kind = template_literal; note = n; below = node quasis h texts (node expressions l parts nothing) }) y
 less_template n h l texts parts y little = record { thins = λ r. Prim.omega (arith, little.fewer r, no_more r parts); lighter = Prim.omega (arith, little.lighter, no_heavier parts) }
@@ -211,7 +231,7 @@ unless true o y e = no_answer e
 unless false o y e = record { holds_not = refl; answers = e }
 
 list_less : (i j n : Note) (k : Kind) (parts : Forest) (y : Tree) → list_becomes i j k parts ≡ Some y → IsLess (record { kind = k; note = n; below = parts }) y
-list_less i j n array_expression (node elements l parts nothing) y e = let h = unless (has_spread parts) (as_one i j (acting parts)) y e in less_array n l parts y (one_little i j (acting parts) y h.answers)
+list_less i j n array_expression (node elements l parts nothing) y e = let h = unless (array_stays parts) (as_elements i j (acting parts)) y e in less_array i j n l parts y h.holds_not h.answers
 list_less i j n sequence_expression (node expressions l parts nothing) y e = let h = unless (all_act parts) (as_one i j (acting parts)) y e in less_sequence n l parts y h.holds_not (one_little i j (acting parts) y h.answers)
 list_less i j n template_literal (node quasis h texts (node expressions l parts nothing)) y e =
     less_template n h l texts parts y (one_little i j (acting parts) y (taken (only_combines template_literal (node quasis h texts (node expressions l parts nothing))) (as_one i j (acting parts)) y e).answers)

@@ -106,17 +106,20 @@ pub fn operations_that_stay()
     ensures name { left_of (unary unary_operator.Typeof (reads a)) ≡ doing (unary unary_operator.Typeof (reads a)) }
 {}
 
-/// Where nobody takes the value of an array or a sequence its parts are left that act, and one of them alone.
+/// Where nobody takes the value of an array or a sequence its parts are left that act, and one of them alone; in an array where one of
+/// them is spread.
 pub fn lists_left()
     ensures of_array { left_of (array (calls (reads a) ∷ one ∷ calls (reads b) ∷ [])) ≡ doing (sequence (calls (reads a) ∷ calls (reads b) ∷ [])) }
     ensures one_of_array { left_of (array (calls (reads a) ∷ one ∷ [])) ≡ doing (calls (reads a)) }
+    ensures beside_a_spread { left_of (array (calls (reads a) ∷ one ∷ spread (reads b) ∷ [])) ≡ doing (array (calls (reads a) ∷ spread (reads b) ∷ [])) }
+    ensures silent_spread { left_of (array (spread (array []) ∷ calls (reads a) ∷ [])) ≡ doing (calls (reads a)) }
     ensures of_sequence { left_of (sequence (calls (reads a) ∷ one ∷ calls (reads b) ∷ [])) ≡ doing (sequence (calls (reads a) ∷ calls (reads b) ∷ [])) }
     ensures one_of_sequence { left_of (sequence (one ∷ calls (reads a) ∷ [])) ≡ doing (calls (reads a)) }
     ensures in_branch { left_of (logical logical_operator.And (reads a) (array (calls (reads b) ∷ []))) ≡ doing (logical logical_operator.And (reads a) (calls (reads b))) }
 {}
 
-/// What is spread asks for its iterator (13.2.4), so the array stays, as one does whose value is used; and so does a sequence all of
-/// whose parts act.
+/// What is spread asks for its iterator (13.2.4), so the array stays where all else acts, as one does whose value is used; and so does
+/// a sequence all of whose parts act.
 pub fn lists_that_stay()
     ensures spread { left_of (array (spread (calls (reads a)) ∷ [])) ≡ doing (array (spread (calls (reads a)) ∷ [])) }
     ensures used { left_of (uses (array (calls (reads a) ∷ []))) ≡ doing (uses (array (calls (reads a) ∷ []))) }

@@ -107,6 +107,15 @@ hole_goes = becomes_list Kind.ArrayExpression (Kind.CallExpression false false) 
 pub elements_stay : Edit (a_module (does (array (call_of_a ∷ o_f ∷ [])) ∷ [])) (a_module (does (sequence (call_of_a ∷ o_f ∷ [])) ∷ []))
 elements_stay = becomes_list Kind.ArrayExpression Kind.SequenceExpression _ _ refl
 
+pub spread_and_part_stay : Edit (a_module (does (array (call_of_a ∷ one ∷ spread (reads a) ∷ [])) ∷ [])) (a_module (does (array (call_of_a ∷ spread (reads a) ∷ [])) ∷ []))
+spread_and_part_stay = becomes_list Kind.ArrayExpression Kind.ArrayExpression _ _ refl
+
+pub hole_goes_from_spread : Edit (a_module (does (array (hole ∷ spread (reads a) ∷ [])) ∷ [])) (a_module (does (array (spread (reads a) ∷ [])) ∷ []))
+hole_goes_from_spread = becomes_list Kind.ArrayExpression Kind.ArrayExpression _ _ refl
+
+pub silent_spread_goes : Edit (a_module (does (array (spread (array (one ∷ [])) ∷ call_of_a ∷ [])) ∷ [])) (a_module (does call_of_a ∷ []))
+silent_spread_goes = becomes_list Kind.ArrayExpression (Kind.CallExpression false false) _ _ refl
+
 pub acting_parts_of_sequence_stay : Edit (a_module (does (sequence (one ∷ call_of_a ∷ o_f ∷ [])) ∷ [])) (a_module (does (sequence (call_of_a ∷ o_f ∷ [])) ∷ []))
 acting_parts_of_sequence_stay = becomes_list Kind.SequenceExpression Kind.SequenceExpression _ _ refl
 
@@ -119,6 +128,12 @@ no_list e = cc
 
 pub spread_stays : ListStays statement (array (spread (reads a) ∷ []))
 spread_stays y (acting_parts_stay n m _ _ unused is) = no_list is
+
+pub acting_array_stays : ListStays statement (array (call_of_a ∷ spread (reads a) ∷ []))
+acting_array_stays y (acting_parts_stay n m _ _ unused is) = no_list is
+
+pub used_spread_stays : ListStays argument (array (one ∷ spread (reads a) ∷ []))
+used_spread_stays y (acting_parts_stay n m _ _ unused is) = true≢false (sym unused)
 
 pub used_array_stays : ListStays argument (array (call_of_a ∷ []))
 used_array_stays y (acting_parts_stay n m _ _ unused is) = true≢false (sym unused)

@@ -27,7 +27,7 @@ use Rattle.steps.specs.Allowed.TwoSides.{without_texts, TwoSides, both_sides_act
 use Rattle.steps.specs.Allowed.UnusedObject.{all_come_apart, keys_and_values, object_becomes, UnusedObject, acting_values_stay}
 use Rattle.steps.specs.Allowed.KnownOperation.{is_literal, has_operand, KnownOperation, value_is_known, negative_is_known}
 use Rattle.steps.specs.Allowed.Places.{asked_at}
-use Rattle.steps.specs.Allowed.UnusedList.{acting, all_act, has_spread, as_one, list_becomes, UnusedList, acting_parts_stay}
+use Rattle.steps.specs.Allowed.UnusedList.{acting, all_act, has_spread, as_one, as_elements, array_stays, list_becomes, UnusedList, acting_parts_stay}
 use Rattle.steps.specs.Allowed.UnusedOperation.{acts}
 use Rattle.steps.specs.Allowed.Uses.{Use, use_at, as_value, stands_bare}
 use Rattle.steps.proofs.Owed.IdleParts.{some_left, first_leaves, none_behind}
@@ -74,6 +74,7 @@ pub data Emptied : (r s : Forest) → Type 0 where
 pub data Picks : (k : Kind) (below : Forest) (l : Kind) (inner : Forest) → Type 0 where
   one_part : (k j l : Kind) (i m : Note) (parts inner : Forest) → holds_parts k j ≡ true → SomeOf parts (alone l m inner) → Picks k (node j i parts nothing) l inner
   several : (k j : Kind) (i m : Note) (parts left : Forest) → holds_parts k j ≡ true → SomeOf parts left → Picks k (node j i parts nothing) sequence_expression (node expressions m left nothing)
+  some_elements : (i m : Note) (parts left : Forest) → SomeOf parts left → Picks array_expression (node elements i parts nothing) array_expression (node elements m left nothing)
   part_behind_zero : (k l t : Kind) (o m i p : Note) (d parts inner : Forest) → is_choice k ≡ true → one_each t ≡ 1 → SomeOf parts (alone l p inner) → Picks k (node t o d parts) sequence_expression (node expressions m (node (literal (value.Number (pos 0))) i nothing (alone l p inner)) nothing)
   last_behind_zero : (j l : Kind) (i m o p q : Note) (b parts inner : Forest) → one_each j ≡ 1 → SomeOf parts (node j q b (alone l p inner)) → Picks sequence_expression (node expressions i parts nothing) sequence_expression (node expressions m (node (literal (value.Number (pos 0))) o nothing (alone l p inner)) nothing)
   two_parts : (o : LogicalOperator) (parts left : Forest) → SomeOf parts left → Picks conditional_expression parts (logical_expression o) left
@@ -138,9 +139,15 @@ module _ (h i : Note) (texts parts : Forest) where
   template_picks n m (node l j a (node x o b rest)) y some is = subst TemplateTree (same_value is) (substitutions h i m texts parts (node l j a (node x o b rest)) some)
   template_picks n m (node l j a (absent rest)) y some is = subst TemplateTree (same_value is) (substitutions h i m texts parts (node l j a (absent rest)) some)
 
+elements_picks : (n m i : Note) (parts left : Forest) (y : Tree) → SomeOf parts left → as_elements n m left ≡ Some y → Picks array_expression (node elements i parts nothing) y.kind y.below
+elements_picks n m i parts left y some is = by_spread (has_spread left) is
+  where
+    by_spread : (b : Bool) → (if b then Some (record { kind = array_expression; note = n; below = node elements m left nothing }) else as_one n m left) ≡ Some y → Picks array_expression (node elements i parts nothing) y.kind y.below
+    by_spread true is = subst (λ (y : Tree). Picks array_expression (node elements i parts nothing) y.kind y.below) (same_value is) (some_elements i m parts left some)
+    by_spread false is = picks_one array_expression elements i parts refl n m left y some is
+
 list_picks : (n m : Note) (k : Kind) (a : Forest) (y : Tree) → list_becomes n m k a ≡ Some y → Picks k a y.kind y.below
-list_picks n m array_expression (node elements i parts nothing) y is =
-    picks_one array_expression elements i parts refl n m (acting parts) y (some_act parts) (unless_given (has_spread parts) (as_one n m (acting parts)) y is)
+list_picks n m array_expression (node elements i parts nothing) y is = elements_picks n m i parts (acting parts) y (some_act parts) (unless_given (array_stays parts) (as_elements n m (acting parts)) y is)
 list_picks n m sequence_expression (node expressions i parts nothing) y is =
     picks_one sequence_expression expressions i parts refl n m (acting parts) y (some_act parts) (unless_given (all_act parts) (as_one n m (acting parts)) y is)
 list_picks n m template_literal (node quasis h texts (node expressions i parts nothing)) y is =

@@ -1,10 +1,10 @@
 -- What an array, a sequence or a template owes of which nobody takes the value, and of which the parts stay that act.
-use Rattle.std.proofs.Common.{◌≡◌, inl, inr, ◌≤◌, ◌<◌, ◌+◌, ℕ, suc, pos, zero, List, [], ◌∷◌, ◌++◌, Bool, true, false, ◌&&◌, ◌||◌, Some, None, arith, refl, sym, ap, ◌∙◌, subst, true≢false}
+use Rattle.std.proofs.Common.{◌≡◌, inl, inr, ◌≤◌, ◌<◌, ◌+◌, ℕ, suc, pos, zero, List, [], ◌∷◌, ◌++◌, Bool, true, false, ◌&&◌, ◌||◌, Some, None, arith, refl, sym, ap, ap₂, ◌∙◌, subst, true≢false}
 use Rattle.std.proofs.lemmas.Bool.{lt-ltb}
 use Rattle.std.specs.Prelude.{if◌then◌else◌}
 use Rattle.js_syntax.specs.Class.{Class, root, expression, argument}
 use Rattle.js_syntax.specs.declared.node_kind.NodeKind.{NodeKind as Kind}
-use Rattle.js_syntax.specs.declared.node_kind.NodeKind.TheVariants.{ArrayExpression as array_expression, Elements as elements, SequenceExpression as sequence_expression, Expressions as expressions, TemplateLiteral as template_literal, Quasis as quasis, Hole as hole}
+use Rattle.js_syntax.specs.declared.node_kind.NodeKind.TheVariants.{ArrayExpression as array_expression, Elements as elements, SequenceExpression as sequence_expression, Expressions as expressions, TemplateLiteral as template_literal, Quasis as quasis, SpreadElement as spread_element, Hole as hole}
 use Rattle.js_syntax.specs.declared.kind.FunctionKind.{FunctionKind}
 use Rattle.js_syntax.specs.declared.kind.FunctionKind.TheVariants as function_kind
 use Rattle.js_syntax.specs.declared.value.LiteralValue.{LiteralValue}
@@ -87,16 +87,19 @@ acting_nodes (node k n a r) = each (acts k n a) (acting_nodes r)
 
 -- by the kind of the list
 pub data Listed (n m : Note) : Kind → (below : Forest) → Tree → Type 0 where
-  an_array : (i : Note) (parts : Forest) (y : Tree) → has_spread parts ≡ false → Left n m (acting parts) y → Listed n m array_expression (node elements i parts nothing) y
+  an_array : (i : Note) (parts : Forest) (y : Tree) → has_spread (acting parts) ≡ false → Left n m (acting parts) y → Listed n m array_expression (node elements i parts nothing) y
+  an_array_of_spreads : (i : Note) (parts : Forest) → has_spread (acting parts) ≡ true → all_act parts ≡ false → Listed n m array_expression (node elements i parts nothing) (tree array_expression n (node elements m (acting parts) nothing))
   a_sequence : (i : Note) (parts : Forest) (y : Tree) → all_act parts ≡ false → Left n m (acting parts) y → Listed n m sequence_expression (node expressions i parts nothing) y
   a_template : (h i : Note) (texts parts : Forest) (y : Tree) → Left n m (acting parts) y → Listed n m template_literal (node quasis h texts (node expressions i parts nothing)) y
 
 is_listed : (n m : Note) (k : Kind) (below : Forest) (y : Tree) → list_becomes n m k below ≡ Some y → Listed n m k below y
-is_listed n m array_expression (node elements i parts nothing) y e = by_spread (has_spread parts) refl e
+is_listed n m array_expression (node elements i parts nothing) y e = by_spread (has_spread (acting parts)) (all_act parts) refl refl e
   where
-    by_spread : (b : Bool) → has_spread parts ≡ b → (if b then None else as_one n m (acting parts)) ≡ Some y → Listed n m array_expression (node elements i parts nothing) y
-    by_spread true spread is = absurd cc
-    by_spread false spread is = an_array i parts y spread (is_left n m (acting parts) y (acting_nodes parts) is)
+    by_spread : (b c : Bool) → has_spread (acting parts) ≡ b → all_act parts ≡ c
+        → (if b && c then None else (if b then Some (tree array_expression n (node elements m (acting parts) nothing)) else as_one n m (acting parts))) ≡ Some y → Listed n m array_expression (node elements i parts nothing) y
+    by_spread true true spread acting_all is = absurd cc
+    by_spread true false spread some is = subst (Listed n m array_expression (node elements i parts nothing)) (cc is) (an_array_of_spreads i parts spread some)
+    by_spread false c single all is = an_array i parts y single (is_left n m (acting parts) y (acting_nodes parts) is)
 is_listed n m sequence_expression (node expressions i parts nothing) y e = by_all (all_act parts) refl e
   where
     by_all : (b : Bool) → all_act parts ≡ b → (if b then None else as_one n m (acting parts)) ≡ Some y → Listed n m sequence_expression (node expressions i parts nothing) y
@@ -113,6 +116,12 @@ is_listed n m k below y e = absurd cc
 
 pub list_is_built : (parts : Forest) → MayBeBuilt expressions parts
 list_is_built parts = record { operation = refl; calls_none = refl; breaks_none = λ c place. refl }
+
+elements_are_built : (parts : Forest) → MayBeBuilt elements parts
+elements_are_built parts = record { operation = refl; calls_none = refl; breaks_none = λ c place. refl }
+
+array_is_built : (m : Note) (parts : Forest) → MayBeBuilt array_expression (node elements m parts nothing)
+array_is_built m parts = record { operation = refl; calls_none = refl; breaks_none = λ c place. refl }
 
 -- a sequence has two parts or more
 pub sequence_is_built : (m : Note) (k l : Kind) (i j : Note) (a b r : Forest) → MayBeBuilt sequence_expression (node expressions m (node k i a (node l j b r)) nothing)
@@ -199,14 +208,27 @@ argument_is k a single of = (of.0, of.1, argument_row of.0 of.1 of.2 (ap is_spre
 hole_is_idle : (k : Kind) (n : Note) (a : Forest) → k ≡ hole → acts k n a ≡ true → ⊥
 hole_is_idle k n a is h = true≢false (sym h ∙ ap (λ l. acts l n a) is)
 
-acting_elements : (parts : Forest) → has_spread parts ≡ false → Elements parts → Parts (acting parts)
+acting_elements : (parts : Forest) → has_spread (acting parts) ≡ false → Elements parts → Parts (acting parts)
 acting_elements nothing single st = tt
 acting_elements (absent r) single st = absurd st.0
-acting_elements (node k n a r) single st = each (acts k n a) refl (acting_elements r (second_of_neither (is_spread k) (has_spread r) single) st.1)
+acting_elements (node k n a r) single st = each (acts k n a) refl single (λ h. acting_elements r h st.1)
   where
-    each : (b : Bool) → acts k n a ≡ b → Parts (acting r) → Parts (if b then node k n a (acting r) else acting r)
-    each true is later = elim st.0 [ inl at ↦ absurd (hole_is_idle k n a at.0 is) | inr of ↦ (argument_is k a (first_of_neither (is_spread k) (has_spread r) single) of, later) ]
-    each false is later = later
+    each : (b : Bool) → acts k n a ≡ b → has_spread (if b then node k n a (acting r) else acting r) ≡ false → (has_spread (acting r) ≡ false → Parts (acting r)) → Parts (if b then node k n a (acting r) else acting r)
+    each true is alone later = elim st.0 [
+      | inl at ↦ absurd (hole_is_idle k n a at.0 is)
+      | inr of ↦ (argument_is k a (first_of_neither (is_spread k) (has_spread (acting r)) alone) of, later (second_of_neither (is_spread k) (has_spread (acting r)) alone))
+    ]
+    each false is alone later = later alone
+
+-- and what stood among elements stands there still
+acting_stand : (parts : Forest) → Elements parts → Elements (acting parts)
+acting_stand nothing st = tt
+acting_stand (absent r) st = absurd st.0
+acting_stand (node k n a r) st = each (acts k n a) (acting_stand r st.1)
+  where
+    each : (b : Bool) → Elements (acting r) → Elements (if b then node k n a (acting r) else acting r)
+    each true later = (st.0, later)
+    each false later = later
 
 pub left_fits : {n m : Note} {parts : Forest} {y : Tree} → Left n m parts y → Parts parts → IsExpression y.kind y.below
 left_fits (one_left k i a bare) st = st.0
@@ -257,6 +279,16 @@ pub left_core : {n m : Note} {parts : Forest} {y : Tree} → Left n m parts y �
 left_core (one_left k i a bare) core = core
 left_core (several_left k l i j a b r) core = both (all_core (node k i a (node l j b r)) && true) true (both (all_core (node k i a (node l j b r))) true core refl) refl
 
+-- nothing is spread in core
+core_is_single : (k : Kind) → is_core k ≡ true → is_spread k ≡ false
+core_is_single spread_element core = absurd (true≢false (sym core))
+core_is_single k core = refl
+
+core_has_no_spread : (parts : Forest) → all_core parts ≡ true → has_spread parts ≡ false
+core_has_no_spread nothing core = refl
+core_has_no_spread (absent r) core = core_has_no_spread r core
+core_has_no_spread (node k n a r) core = ap₂ (λ b c. b || c) (core_is_single k (core_here k n a r core)) (core_has_no_spread r (core_behind k n a r core))
+
 -- nothing is imported
 abbrev pub ImportsNone : Forest → Type 0
 ImportsNone t = (source : Text) → import_decls source t ≡ []
@@ -285,7 +317,7 @@ left_declares {y = y} left st core none = record {
 -- ---- each list
 
 module _ (a : Around) (unused : is_unused_at a ≡ true) (p n m i : Note) (parts : Forest) (y : Tree) (left : Left n m (acting parts) y) where
-  module _ (single : has_spread parts ≡ false) (lighter : total weight (forest_of y) < total weight (node array_expression p (node elements i parts nothing) nothing)) where
+  module _ (single : has_spread (acting parts) ≡ false) (lighter : total weight (forest_of y) < total weight (node array_expression p (node elements i parts nothing) nothing)) where
     abbrev array : Tree
     array = tree array_expression p (node elements i parts nothing)
 
@@ -388,6 +420,42 @@ module _ (a : Around) (unused : is_unused_at a ≡ true) (p n m i : Note) (parts
       runs = by_coming sequence_comes;
     }
 
+-- what is spread stays in an array
+module _ (a : Around) (unused : is_unused_at a ≡ true) (p n m i : Note) (parts : Forest) (spread : has_spread (acting parts) ≡ true) (lighter : total weight (acting parts) < total weight parts) where
+  abbrev whole : Tree
+  whole = tree array_expression p (node elements i parts nothing)
+
+  abbrev shorter : Tree
+  shorter = tree array_expression n (node elements m (acting parts) nothing)
+
+  whole_fits : Fits root (plug a (Some whole)) → IsExpression array_expression whole.below
+  whole_fits fits = (an_array_expression, tt, refl, tt, refl, parts_of_array a p whole.below fits)
+
+  shorter_fits : Fits root (plug a (Some whole)) → IsExpression array_expression shorter.below
+  shorter_fits fits = (an_array_expression, tt, refl, tt, refl, ((refl, acting_stand parts ((parts_of_array a p whole.below fits).0.1)), tt))
+
+  spreads_owe : ByParts a whole shorter
+  spreads_owe = record {
+    rebuilt = λ fits. opened refl (opened refl (built (array_is_built m (acting parts)) (built (elements_are_built (acting parts)) (acting_rebuilt parts))));
+    lighter = Prim.omega (arith, lighter);
+    no_deeper = let h = acting_lower (λ i. lower elements i) (λ i. lower elements i) (λ i. refl) parts 0 0 in Prim.omega (arith, h);
+    no_call = record { counts = refl; lists = λ i. refl; begins = λ i. refl; calls = refl };
+    ends = refl;
+    may_change = refl;
+    fits_expression = λ fits. (whole_fits fits, tt);
+    takes = λ fits.
+        let of = shorter_fits fits in
+        anywhere (record { classes = λ (to : Class) f. (as_array array_expression shorter.below to (array_stood to p whole.below f) of, tt); old_told = refl; new_told = expression_told array_expression shorter.below of });
+    no_name = refl;
+    old_unasked = λ fits. refl;
+    unasked = λ fits. refl;
+    comes_out = comes_out a shorter unused;
+    -- nothing that is spread is core
+    runs = by_coming (λ q s b is fits form core.
+        let below = core_below array_expression p whole.below nothing (core_there a whole (subst (λ t. all_core t ≡ true) (sym is) core)) in
+        absurd (true≢false (sym spread ∙ core_has_no_spread (acting parts) (acting_core parts (core_below elements i parts nothing below)))));
+  }
+
 -- its substitutions stand in the second list
 module _ (a : Around) (unused : is_unused_at a ≡ true) (p n m h i : Note) (texts parts : Forest) (y : Tree) (left : Left n m (acting parts) y) where
   abbrev template : Tree
@@ -421,6 +489,7 @@ module _ (a : Around) (unused : is_unused_at a ≡ true) (p n m h i : Note) (tex
 
 listed_owes : (a : Around) (p n m : Note) (k : Kind) (below : Forest) (y : Tree) → is_unused_at a ≡ true → Listed n m k below y → total weight (forest_of y) < total weight (node k p below nothing) → ByParts a (tree k p below) y
 listed_owes a p n m _ _ y unused (an_array i parts _ single left) lighter = array_owes a unused p n m i parts y left single lighter
+listed_owes a p n m _ _ _ unused (an_array_of_spreads i parts spread some) lighter = spreads_owe a unused p n m i parts spread (Prim.omega (arith, lighter))
 listed_owes a p n m _ _ y unused (a_sequence i parts _ some left) lighter = sequence_owes a unused p n m i parts y left lighter
 listed_owes a p n m _ _ y unused (a_template h i texts parts _ left) lighter = template_owes a unused p n m h i texts parts y left
 
@@ -483,6 +552,7 @@ acting_lighter (node k n a r) some = each (acts k n a) (is_list k) refl refl som
 
 list_is_heavier : (p n m : Note) (k : Kind) (below : Forest) (y : Tree) → Listed n m k below y → total weight (forest_of y) < total weight (node k p below nothing)
 list_is_heavier p n m _ _ y (an_array i parts _ single left) = array_is_heavier parts p i left
+list_is_heavier p n m _ _ _ (an_array_of_spreads i parts spread some) = let less = acting_lighter parts some in Prim.omega (arith, less)
 list_is_heavier p n m _ _ y (a_template h i texts parts _ left) = let fewer = left_weighs left in let less = acting_less weight parts in Prim.omega (arith, fewer, less)
 list_is_heavier p n m _ _ y (a_sequence i parts _ some left) = let h = left_weighs left in let less = acting_lighter parts some in Prim.omega (arith, h, less)
 

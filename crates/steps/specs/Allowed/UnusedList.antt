@@ -1,5 +1,5 @@
--- Of an array or a sequence of which nobody takes the value the parts stay that act: one alone, or several in a sequence. So do the
--- substitutions of a template, where each is primitive by its form (ECMA-262 13.2.8).
+-- Of an array or a sequence of which nobody takes the value the parts stay that act: one alone, or several in a sequence; where one of
+-- them is spread, in an array. So do the substitutions of a template, where each is primitive by its form (ECMA-262 13.2.8).
 use Rattle.std.specs.Prelude.{◌≡◌, Bool, true, false, ◌&&◌, ◌||◌, Option, Some, None, if◌then◌else◌}
 use Rattle.js_syntax.specs.declared.node_kind.NodeKind.{NodeKind as Kind}
 use Rattle.js_syntax.specs.declared.node_kind.NodeKind.TheVariants.{ArrayExpression as array_expression, Elements as elements, SequenceExpression as sequence_expression, Expressions as expressions, TemplateLiteral as template_literal, Quasis as quasis, SpreadElement as spread_element}
@@ -39,9 +39,17 @@ as_one n m nothing = None
 as_one n m (node k i a nothing) = if stands_bare as_value false k a then Some (record { kind = k; note = i; below = a }) else None
 as_one n m parts = Some (record { kind = sequence_expression; note = n; below = node expressions m parts nothing })
 
+-- an array of parts where one is spread
+abbrev pub as_elements : (n m : Note) → (parts : Forest) → Option Tree
+as_elements n m parts = if has_spread parts then Some (record { kind = array_expression; note = n; below = node elements m parts nothing }) else as_one n m parts
+
+-- whether an array stays as it is
+abbrev pub array_stays : (parts : Forest) → Bool
+array_stays parts = has_spread (acting parts) && all_act parts
+
 -- what a list becomes, which is made with these notes
 abbrev pub list_becomes : (n m : Note) → Kind → (below : Forest) → Option Tree
-list_becomes n m array_expression (node elements i parts nothing) = if has_spread parts then None else as_one n m (acting parts)
+list_becomes n m array_expression (node elements i parts nothing) = if array_stays parts then None else as_elements n m (acting parts)
 list_becomes n m sequence_expression (node expressions i parts nothing) = if all_act parts then None else as_one n m (acting parts)
 list_becomes n m template_literal (node quasis h texts (node expressions i parts nothing)) =
     if only_combines template_literal (node quasis h texts (node expressions i parts nothing)) then as_one n m (acting parts) else None

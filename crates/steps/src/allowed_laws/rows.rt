@@ -372,21 +372,27 @@ pub fn what_may_act_stays()
     ensures converted { StaysUnused statement (applied unary.UnaryPlus call_of_a) }
 {}
 
-/// Where nobody takes its value, of an array and of a sequence the parts stay that act: one alone, or several in a sequence.
+/// Where nobody takes its value, of an array and of a sequence the parts stay that act: one alone, or several in a sequence. What is
+/// spread and acts stays in an array, with what acts beside it.
 pub fn unused_lists_become_parts()
     ensures several { Edit (a_module (does (array (call_of_a ∷ one ∷ o_f ∷ [])) ∷ [])) (a_module (does (sequence (call_of_a ∷ o_f ∷ [])) ∷ [])) }
     ensures one_part { Edit (a_module (does (array (call_of_a ∷ one ∷ [])) ∷ [])) (a_module (does call_of_a ∷ [])) }
     ensures beside_a_hole { Edit (a_module (does (array (hole ∷ call_of_a ∷ [])) ∷ [])) (a_module (does call_of_a ∷ [])) }
     ensures all_parts { Edit (a_module (does (array (call_of_a ∷ o_f ∷ [])) ∷ [])) (a_module (does (sequence (call_of_a ∷ o_f ∷ [])) ∷ [])) }
+    ensures beside_a_spread { Edit (a_module (does (array (call_of_a ∷ one ∷ spread (reads a) ∷ [])) ∷ [])) (a_module (does (array (call_of_a ∷ spread (reads a) ∷ [])) ∷ [])) }
+    ensures hole_and_spread { Edit (a_module (does (array (hole ∷ spread (reads a) ∷ [])) ∷ [])) (a_module (does (array (spread (reads a) ∷ [])) ∷ [])) }
+    ensures silent_spread { Edit (a_module (does (array (spread (array (one ∷ [])) ∷ call_of_a ∷ [])) ∷ [])) (a_module (does call_of_a ∷ [])) }
     ensures sequence { Edit (a_module (does (sequence (one ∷ call_of_a ∷ o_f ∷ [])) ∷ [])) (a_module (does (sequence (call_of_a ∷ o_f ∷ [])) ∷ [])) }
     ensures part { Edit (placed (second_part (one ∷ [])) (array (call_of_a ∷ null ∷ []))) (placed (second_part (one ∷ [])) call_of_a) }
 {}
 
-/// An array stays where something is spread in it, and where its value is taken, as that of the last part of such a sequence is; and a
-/// sequence where each part acts.
+/// An array stays where something that acts is spread in it and all else acts too, and where its value is taken, as that of the last
+/// part of such a sequence is; and a sequence where each part acts.
 pub fn needed_lists_stay()
     ensures spread { ListStays statement (array (spread (reads a) ∷ [])) }
+    ensures beside_a_spread { ListStays statement (array (call_of_a ∷ spread (reads a) ∷ [])) }
     ensures used { ListStays argument (array (call_of_a ∷ [])) }
+    ensures used_spread { ListStays argument (array (one ∷ spread (reads a) ∷ [])) }
     ensures last_part { ListStays (second_part []) (array (call_of_a ∷ [])) }
     ensures all_parts { ListStays statement (sequence (call_of_a ∷ o_f ∷ [])) }
 {}
