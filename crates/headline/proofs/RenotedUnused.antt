@@ -160,7 +160,7 @@ as_one_bare n m (node k i a (absent rest)) = refl
 as_one_bare n m (node k i a (node l j b rest)) = refl
 
 as_elements_bare : (n m : Note) (t : Forest) → is_some (as_elements n m (bare t)) ≡ is_some (as_elements n m t)
-as_elements_bare n m t = ap (λ (b : Bool). is_some (if b then Some (record { kind = array_expression; note = n; below = node elements m (bare t) nothing }) else as_one n m (bare t))) (spread_bare t) ∙ by_spread (has_spread t)
+as_elements_bare n m t = ap (λ (b : Bool). is_some {T = Tree} (if b then Some (record { kind = array_expression; note = n; below = node elements m (bare t) nothing }) else as_one n m (bare t))) (spread_bare t) ∙ by_spread (has_spread t)
   where
     by_spread : (b : Bool) → is_some {T = Tree} (if b then Some (record { kind = array_expression; note = n; below = node elements m (bare t) nothing }) else as_one n m (bare t))
         ≡ is_some {T = Tree} (if b then Some (record { kind = array_expression; note = n; below = node elements m t nothing }) else as_one n m t)

@@ -1,5 +1,5 @@
 -- What an array, a sequence or a template owes of which nobody takes the value, and of which the parts stay that act.
-use Rattle.std.proofs.Common.{◌≡◌, inl, inr, ◌≤◌, ◌<◌, ◌+◌, ℕ, suc, pos, zero, List, [], ◌∷◌, ◌++◌, Bool, true, false, ◌&&◌, ◌||◌, Some, None, arith, refl, sym, ap, ap₂, ◌∙◌, subst, true≢false}
+use Rattle.std.proofs.Common.{◌≡◌, inl, inr, ◌≤◌, ◌<◌, ◌+◌, ℕ, suc, pos, zero, List, [], ◌∷◌, ◌++◌, Bool, true, false, not, ◌&&◌, ◌||◌, Some, None, arith, refl, sym, ap, ap₂, ◌∙◌, subst, true≢false}
 use Rattle.std.proofs.lemmas.Bool.{lt-ltb}
 use Rattle.std.specs.Prelude.{if◌then◌else◌}
 use Rattle.js_syntax.specs.Class.{Class, root, expression, argument}
@@ -12,9 +12,9 @@ use Rattle.js_syntax.specs.declared.value.LiteralValue.TheVariants as value
 use Rattle.js_syntax.specs.Core.{value_weight, text_weight}
 use Rattle.js_syntax.specs.Facts.{weight, is_core}
 use Rattle.js_syntax.specs.Node.{Note, Forest, Tree, nothing, node, absent, forest_of, joined, total}
-use Rattle.js_syntax.specs.Table.{Row, an_array_expression, a_sequence_expression, a_template_literal, a_spread_element, fields_of, type_of, stands}
+use Rattle.js_syntax.specs.Table.{Row, an_array_expression, a_sequence_expression, a_template_literal, a_spread_element, a_binding_rest, a_target_rest, fields_of, type_of, stands}
 use Rattle.js_syntax.proofs.Truth.{both, first_of_neither, second_of_neither}
-use Rattle.js_tree.specs.Count.{lower, levels_at, levels}
+use Rattle.js_tree.specs.Count.{lower, levels_at, levels, node_count}
 use Rattle.js_effects.specs.Silence.{only_combines}
 use Rattle.js_rebuilt.specs.Rebuilt.{MayBeBuilt, Rebuilt, ends, stays, leaves, opened, built, absent_leaves}
 use Rattle.js_meaning.specs.Scope.{specifier_decls, import_decls}
@@ -29,7 +29,7 @@ use Rattle.js_meaning_near.proofs.Unused.{AllNodes, array_wasted}
 use Rattle.json_shape.specs.Shape.{Values, kind_in, first_of, one as one_place, list, list_with_holes, these, all, all_or_holes, IsOf, Stand, Fits}
 use Rattle.form_rules.specs.Break.{unless}
 use Rattle.form_rules.specs.Form.{IsWellFormed}
-use Rattle.form_rules.specs.Rules.{length_of}
+use Rattle.form_rules.specs.Rules.{length_of, is_rest, is_last, early_rests, each_breaks}
 use Rattle.scope_laws.specs.Lists.{is_list}
 use Rattle.scope_laws.specs.Place.{Around, plug}
 use Rattle.steps.specs.Steps.{all_core}
@@ -99,7 +99,7 @@ is_listed n m array_expression (node elements i parts nothing) y e = by_spread (
         → (if b && c then None else (if b then Some (tree array_expression n (node elements m (acting parts) nothing)) else as_one n m (acting parts))) ≡ Some y → Listed n m array_expression (node elements i parts nothing) y
     by_spread true true spread acting_all is = absurd cc
     by_spread true false spread some is = subst (Listed n m array_expression (node elements i parts nothing)) (cc is) (an_array_of_spreads i parts spread some)
-    by_spread false c single all is = an_array i parts y single (is_left n m (acting parts) y (acting_nodes parts) is)
+    by_spread false c single _ is = an_array i parts y single (is_left n m (acting parts) y (acting_nodes parts) is)
 is_listed n m sequence_expression (node expressions i parts nothing) y e = by_all (all_act parts) refl e
   where
     by_all : (b : Bool) → all_act parts ≡ b → (if b then None else as_one n m (acting parts)) ≡ Some y → Listed n m sequence_expression (node expressions i parts nothing) y
@@ -116,9 +116,6 @@ is_listed n m k below y e = absurd cc
 
 pub list_is_built : (parts : Forest) → MayBeBuilt expressions parts
 list_is_built parts = record { operation = refl; calls_none = refl; breaks_none = λ c place. refl }
-
-elements_are_built : (parts : Forest) → MayBeBuilt elements parts
-elements_are_built parts = record { operation = refl; calls_none = refl; breaks_none = λ c place. refl }
 
 array_is_built : (m : Note) (parts : Forest) → MayBeBuilt array_expression (node elements m parts nothing)
 array_is_built m parts = record { operation = refl; calls_none = refl; breaks_none = λ c place. refl }
@@ -219,6 +216,26 @@ acting_elements (node k n a r) single st = each (acts k n a) refl single (λ h. 
       | inr of ↦ (argument_is k a (first_of_neither (is_spread k) (has_spread (acting r)) alone) of, later (second_of_neither (is_spread k) (has_spread (acting r)) alone))
     ]
     each false is alone later = later alone
+
+-- no element is a rest, of which a rule of form asks whether it stands last
+rest_row : (r : Row) (vs : Values (fields_of r)) → stands argument (type_of r) ≡ Some (first_of r) → is_rest (kind_in r vs) ≡ false
+rest_row a_binding_rest vs stood = absurd cc
+rest_row a_target_rest vs stood = absurd cc
+rest_row r vs stood = refl
+
+no_rest_there : (k : Kind) (place : ℕ) (n : Note) (a r : Forest) → is_rest k ≡ false → early_rests place (node k n a r) ≡ early_rests (place + node_count (node k n a nothing)) r
+no_rest_there k place n a r none =
+    ap (λ (b : Bool). if b && not (is_last r) then place ∷ early_rests (place + node_count (node k n a nothing)) r else early_rests (place + node_count (node k n a nothing)) r) none
+
+no_early_rests : (place : ℕ) (parts : Forest) → Elements parts → early_rests place parts ≡ []
+no_early_rests place nothing st = refl
+no_early_rests place (absent r) st = absurd st.0
+no_early_rests place (node k n a r) st =
+    no_rest_there k place n a r (elim st.0 [ inl at ↦ ap is_rest at.0 | inr of ↦ ap is_rest of.4 ∙ rest_row of.0 of.1 of.2 ])
+    ∙ no_early_rests (place + node_count (node k n a nothing)) r st.1
+
+elements_are_built : (parts : Forest) → Elements parts → MayBeBuilt elements parts
+elements_are_built parts st = record { operation = refl; calls_none = refl; breaks_none = λ c place. ap (λ places. each_breaks 11 places ++ []) (no_early_rests place parts st) }
 
 -- and what stood among elements stands there still
 acting_stand : (parts : Forest) → Elements parts → Elements (acting parts)
@@ -431,12 +448,15 @@ module _ (a : Around) (unused : is_unused_at a ≡ true) (p n m i : Note) (parts
   whole_fits : Fits root (plug a (Some whole)) → IsExpression array_expression whole.below
   whole_fits fits = (an_array_expression, tt, refl, tt, refl, parts_of_array a p whole.below fits)
 
+  acting_there : Fits root (plug a (Some whole)) → Elements (acting parts)
+  acting_there fits = acting_stand parts ((parts_of_array a p whole.below fits).0.1)
+
   shorter_fits : Fits root (plug a (Some whole)) → IsExpression array_expression shorter.below
-  shorter_fits fits = (an_array_expression, tt, refl, tt, refl, ((refl, acting_stand parts ((parts_of_array a p whole.below fits).0.1)), tt))
+  shorter_fits fits = (an_array_expression, tt, refl, tt, refl, ((refl, acting_there fits), tt))
 
   spreads_owe : ByParts a whole shorter
   spreads_owe = record {
-    rebuilt = λ fits. opened refl (opened refl (built (array_is_built m (acting parts)) (built (elements_are_built (acting parts)) (acting_rebuilt parts))));
+    rebuilt = λ fits. opened refl (opened refl (built (array_is_built m (acting parts)) (built (elements_are_built (acting parts) (acting_there fits)) (acting_rebuilt parts))));
     lighter = Prim.omega (arith, lighter);
     no_deeper = let h = acting_lower (λ i. lower elements i) (λ i. lower elements i) (λ i. refl) parts 0 0 in Prim.omega (arith, h);
     no_call = record { counts = refl; lists = λ i. refl; begins = λ i. refl; calls = refl };
