@@ -68,7 +68,8 @@ fn matters(used: Use, in_with: bool, node: &Node) -> bool
     }
 }
 
-fn may_take_name(node: &Node) -> bool
+/// Whether an expression is a function or a class, parentheses aside: it may take its name from where it stands.
+pub fn may_take_name(node: &Node) -> bool
     ensures { result ≡ may_take_name node.now.kind node.now.below }
 {
     match node.kind() {

@@ -44,6 +44,7 @@ mod two_sides;
 mod unused;
 mod uses;
 
+pub use bare::may_take_name;
 pub use fold::PeepholeOptimizations;
 pub use kept::keep_child;
 pub use known::{truth_given, truth_known};

@@ -16,7 +16,7 @@ use min_context::MinifierTraverseCtx;
 
 // ---- whether it does
 
-fn is_nothing(children: &[Option<Node>]) -> bool
+pub(crate) fn is_nothing(children: &[Option<Node>]) -> bool
     ensures { result ≡ is_nothing (row children.now) }
 {
     match children {

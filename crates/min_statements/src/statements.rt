@@ -8,6 +8,7 @@ use crate::facts::Facts;
 use crate::ifs::try_fold_if;
 use crate::imports::{remove_repeated_imports, remove_unused_import_specifiers};
 use crate::merged::merge_module_imports;
+use crate::stated::state_value;
 use crate::trimmed::trim_statements;
 use exported_names::{bound_references, exported_symbols};
 use js_syntax::SourceType;
@@ -122,6 +123,9 @@ impl Traverse for Statements {
         ctx: &mut MinifierTraverseCtx,
     ) -> Result<(), AllocError> {
         if empty_statement(self, node, ctx) {
+            return Ok(());
+        }
+        if state_value(self, node, ctx) {
             return Ok(());
         }
         if try_fold_if(node, ctx) {

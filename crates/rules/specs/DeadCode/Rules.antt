@@ -1,4 +1,4 @@
--- Which nodes the pass over dead code takes out: what does nothing, and what nobody uses.
+-- Which nodes the pass over dead code takes out or changes: what does nothing, and what nobody uses.
 use Rattle.std.specs.Prelude.{ℕ, ◌==◌, List, [], ◌∷◌, length, Bool, true, false, not, ◌&&◌, ◌||◌, Option, Some, None, if◌then◌else◌}
 use Rattle.js_syntax.specs.declared.node_kind.NodeKind.{NodeKind as Kind}
 use Rattle.js_syntax.specs.declared.node_kind.NodeKind.TheVariants.{EmptyStatement as empty_statement, BlockStatement as block_statement, LabeledStatement as labeled_statement, ExpressionStatement as expression_statement, Function as function, VariableDeclaration as variable_declaration, VariableDeclarator as variable_declarator, Declarators as declarators, BindingName as binding_name}
@@ -20,6 +20,7 @@ use Rattle.scope_table.specs.Reading.{symbol_at}
 use Rattle.steps.specs.Allowed.Branches.{declares_no_name}
 use Rattle.steps.specs.Allowed.EmptyBlock.{idles}
 use Rattle.steps.specs.Allowed.IdleBody.{is_idle_statement}
+use Rattle.steps.specs.Allowed.ValueStays.{may_be_stated}
 use Rattle.steps.specs.Marked.Flags.{scope_has, is_sloppy_block}
 
 -- What is known of the program: its table; of each reference by its id, whether it has a symbol; of each symbol by its number,
@@ -185,3 +186,48 @@ becomes_empty f p k below = is_silent_statement f (where_of p) k below || is_idl
 
 abbrev pub emptied : Facts → Place → Tree → Option Tree
 emptied f p x = if becomes_empty f p x.kind x.below then Some (record { kind = empty_statement; note = unmarked x.note; below = nothing }) else None
+
+-- ---- declarations that become statements of their values
+
+abbrev pub is_item_under : Ancestor → Bool
+is_item_under (field parent.Statements at) = true
+is_item_under a = false
+
+-- an item of a list of statements
+abbrev pub is_item : Place → Bool
+is_item p = is_item_under (nearest p.ancestors 0)
+
+-- of what lies below a declarator: nothing uses the name, and a statement may begin with the value
+abbrev pub value_stays : Facts → (scope : ℕ) → (parts : Forest) → Bool
+value_stays f scope (node (binding_name x) n nothing (node k i b nothing)) = variable_is_unused f scope n.id && may_be_stated k b
+value_stays f scope parts = false
+
+-- it is the only declarator
+abbrev pub value_of_one_stays : Facts → (scope : ℕ) → (ds : Forest) → Bool
+value_of_one_stays f scope (node variable_declarator n parts nothing) = value_stays f scope parts
+value_of_one_stays f scope ds = false
+
+abbrev pub value_of_list_stays : Facts → (scope : ℕ) → (below : Forest) → Bool
+value_of_list_stays f scope (node declarators n ds nothing) = value_of_one_stays f scope ds
+value_of_list_stays f scope below = false
+
+-- Inside of a `with` statement the value may be that of a property of its object (14.3.2).
+abbrev pub becomes_stated : Facts → Place → Kind → (below : Forest) → Bool
+becomes_stated f p (variable_declaration how) below = is_item p && (not (where_of p).in_with && value_of_list_stays f (scope_of (where_of p) how) below)
+becomes_stated f p k below = false
+
+-- what lies below the first node of a row, and what stands behind it
+abbrev pub below_first : Forest → Forest
+below_first (node k n below rest) = below
+below_first t = nothing
+
+abbrev pub behind_first : Forest → Forest
+behind_first (node k n below rest) = rest
+behind_first t = nothing
+
+-- the value, behind the name in the only declarator of the list
+abbrev pub value_below : (below : Forest) → Forest
+value_below below = behind_first (below_first (below_first below))
+
+abbrev pub stated : Facts → Place → Tree → Option Tree
+stated f p x = if becomes_stated f p x.kind x.below then Some (record { kind = expression_statement; note = unmarked x.note; below = value_below x.below }) else None

@@ -3,8 +3,8 @@ use Rattle.std.specs.Prelude.{ℕ, suc, ◌==◌, List, [], ◌∷◌, map, Bool
 use Rattle.js_syntax.specs.declared.node_kind.NodeKind.{NodeKind as Kind}
 use Rattle.js_syntax.specs.declared.kind.VariableKind.{VariableKind}
 use Rattle.js_syntax.specs.declared.kind.VariableKind.TheVariants as variable
-use Rattle.js_syntax.specs.Node.{Forest, nothing, node, absent, joined, bare}
-use Rattle.form_rules.specs.Samples.{over, row, listed, a, binds, one}
+use Rattle.js_syntax.specs.Node.{Forest, Tree, nothing, node, absent, joined, bare, forest_of}
+use Rattle.form_rules.specs.Samples.{over, row, listed, a, binds, reads, one, calls}
 use Rattle.scope_rules.specs.Samples.{b}
 use Rattle.scope_rules.specs.Table.{Reference}
 use Rattle.scope_counts.specs.Tried.{with_marks}
@@ -16,10 +16,11 @@ use Rattle.scope_rules.specs.Table.{Scoping}
 use Rattle.steps.specs.Allowed.Exposure.{Exposure}
 use Rattle.steps.specs.Marked.Flags.{scope_has, is_sloppy_block, Stand, stand_inside, stands_of}
 use Rattle.min_context.specs.Place.{Place}
+use Rattle.min_traverse.specs.Lawful.{or_same}
 use Rattle.min_context.specs.declared.ancestor.Ancestor.TheVariants.{Field as field}
 use Rattle.min_context.specs.declared.ancestor.Parent.{Parent}
 use Rattle.min_context.specs.declared.ancestor.Parent.TheVariants as parent
-use Rattle.rules.specs.DeadCode.Rules.{Facts, Where, trimmed, becomes_empty}
+use Rattle.rules.specs.DeadCode.Rules.{Facts, Where, trimmed, becomes_empty, stated}
 
 -- by its own table, and what is exported, where nothing is kept
 abbrev pub facts_of : (exported : List Bool) → Forest → Facts
@@ -76,6 +77,27 @@ as_body = right_below parent.WhileStatement 1
 abbrev pub empties : Place → Forest → Bool
 empties p (node k n below rest) = becomes_empty (facts_of [] nothing) p k below
 empties p t = false
+
+-- ---- what becomes a statement of a value
+
+abbrev pub as_item : Place
+as_item = right_below parent.Statements 0
+
+-- as an item of a list in a `with` statement
+abbrev pub as_item_in_with : Place
+as_item_in_with = record { ancestors = field parent.WithStatement 1 ∷ field parent.Statements 0 ∷ []; scope = 0; hoist_scope = 0; block_scope = 0 }
+
+abbrev pub first_left : Facts → Place → (items : Forest) → Forest
+first_left f p (node k n below rest) = let x : Tree = record { kind = k; note = n; below = below } in bare (forest_of (or_same x (stated f p x)))
+first_left f p t = t
+
+-- what becomes of the first item of a program
+abbrev pub first_at : Place → (exported : List Bool) → Forest → Forest
+first_at p exported t = first_left (facts_of exported t) p (items_of (with_marks t))
+
+-- a = f() in a declaration, where nothing declares f
+abbrev pub takes_call : VariableKind → Forest
+takes_call how = declares_each how (declarator (binds a) (calls (reads b)) ∷ [])
 
 -- ---- whether flags tell only what is so
 
