@@ -187,8 +187,8 @@ S('function f() {} in a script',[F_('f',[])],None,0,0,'script')
 S('function f() {} in a module',[F_('f',[])],[],1,0)
 S("function f() {} eval('f()');",[F_('f',[]),do('eval',L('f()'))],None,0,0)
 S("let x = 1; use(function () { eval(''); });",[x_is(L(1)),do('use',fn('FunctionExpression',None,[],B(do('eval',L('')))))],None,0,0)
-S('let x = f();',[x_is(call(f))],None,0,0)
-S('let a = 1, b = f(), c = 2;',[var('let',(a,L(1)),(b,call(f)),(c,L(2)))],[var('let',(b,call(f)))],1,0)
+S('let x = f();',[x_is(call(f))],[do('f')],1,0)
+S('let a = 1, b = f(), c = 2;',[var('let',(a,L(1)),(b,call(f)),(c,L(2)))],[do('f')],2,0)
 S('for (let a = 1;;) b();',[N('ForStatement',init=var('let',(a,L(1))),test=None,update=None,body=do('b'))],None,0,0)
 S('switch (a) { case 1: 1; b(); default: ; }',[N('SwitchStatement',discriminant=a,cases=[N('SwitchCase',test=L(1),consequent=[ES(L(1)),do('b')]),N('SwitchCase',test=None,consequent=[EMPTY])])],[N('SwitchStatement',discriminant=a,cases=[N('SwitchCase',test=L(1),consequent=[do('b')]),N('SwitchCase',test=None,consequent=[])])],1,0)
 S('if (a) 1;',[IF(ES(L(1)))],[ES(a)],1,0)
@@ -313,9 +313,9 @@ S('if (0) f(); in a script',[WHEN(L(0),do('f'))],[],1,0,'script')
 BREAK=lambda l=None: N('BreakStatement',label=l)
 CLASS=lambda name: N('ClassDeclaration',id=I(name),superClass=None,body=N('ClassBody',body=[]))
 S('export function h() { if (a) { return 1; g(); } return f(); g(); for (;;) { g(); } { g(); } }',[export(F_('h',[],WHEN(a,B(RETURN(L(1)),do('g'))),RETURN(call(f)),do('g'),EACH(do('g')),B(do('g'))))],[export(F_('h',[],WHEN(a,B(RETURN(L(1)))),RETURN(call(f))))],1,0)
-S('l: for (;;) { break l; f(); let x = g(); h(); } for (;;) { if (a) continue; else break; f(); }',[LABEL('l',EACH(BREAK(I('l')),do('f'),x_is(call(g)),do('h'))),EACH(WHEN(a,N('ContinueStatement',label=None),BREAK()),do('f'))],[LABEL('l',EACH(BREAK(I('l')),x_is(call(g)))),EACH(WHEN(a,N('ContinueStatement',label=None),BREAK()))],1,0)
+S('l: for (;;) { break l; f(); let x = g(); h(); } for (;;) { if (a) continue; else break; f(); }',[LABEL('l',EACH(BREAK(I('l')),do('f'),x_is(call(g)),do('h'))),EACH(WHEN(a,N('ContinueStatement',label=None),BREAK()),do('f'))],[LABEL('l',EACH(BREAK(I('l')))),EACH(WHEN(a,N('ContinueStatement',label=None),BREAK()))],1,0)
 S('export function h() { if (1) { return 1; } g(); for (;;) { { { break; } } f(); } }',[export(F_('h',[],WHEN(L(1),B(RETURN(L(1)))),do('g'),EACH(B(B(BREAK())),do('f'))))],[export(F_('h',[],B(RETURN(L(1)))))],1,0)
-S('for (;;) { { f(); { break; } } var v = g(); h(v); { h(); } } l: { break l; } f();',[EACH(B(do('f'),B(BREAK())),var('var',(I('v'),call(g))),do('h',I('v')),B(do('h'))),LABEL('l',B(BREAK(I('l')))),do('f')],[EACH(B(do('f'),B(BREAK())),var('var',(I('v'),call(g)))),do('f')],1,0)
+S('for (;;) { { f(); { break; } } var v = g(); h(v); { h(); } } l: { break l; } f();',[EACH(B(do('f'),B(BREAK())),var('var',(I('v'),call(g))),do('h',I('v')),B(do('h'))),LABEL('l',B(BREAK(I('l')))),do('f')],[EACH(B(do('f'),B(BREAK()))),do('f')],2,0)
 S('export function h() { if (a) return 1; else { return 2; } f(); } for (;;) { if (a) { if (b) break; else continue; } else throw c; f(); }',[export(F_('h',[],WHEN(a,RETURN(L(1)),B(RETURN(L(2)))),do('f'))),EACH(WHEN(a,B(WHEN(b,BREAK(),N('ContinueStatement',label=None))),N('ThrowStatement',argument=c)),do('f'))],[export(F_('h',[],WHEN(a,RETURN(L(1)),B(RETURN(L(2)))))),EACH(WHEN(a,B(WHEN(b,BREAK(),N('ContinueStatement',label=None))),N('ThrowStatement',argument=c)))],1,0)
 S('export function h() { if (a) { return 1; } else f(); g(); } for (;;) { if (a) break; f(); } where one branch goes on',[export(F_('h',[],WHEN(a,B(RETURN(L(1))),do('f')),do('g'))),EACH(WHEN(a,BREAK()),do('f'))],None,0,0)
 S('{} { ; {} } l: {} m: n: ; f();',[B(),B(EMPTY,B()),LABEL('l',B()),LABEL('m',LABEL('n',EMPTY)),do('f')],[do('f')],1,0)
@@ -370,7 +370,7 @@ S('if (f()) {} else g(); while (f()) {} do { {} } while (f()); for (;;) l: {} fo
 S('with (a) {} in a script',[N('WithStatement',object=a,body=B())],[N('WithStatement',object=a,body=EMPTY)],1,0,'script')
 S('if (a) l: m: try { ; } catch { f(); } else for (; 0;) f(); l: while (a) { 1; }',[IF(LABEL('l',LABEL('m',TRY(B(EMPTY),None,do('f')))),LOOP(None,L(0),do('f'))),LABEL('l',WHILE(a,ES(L(1))))],[ES(a),LABEL('l',N('WhileStatement',test=a,body=EMPTY))],1,0)
 S('if (a) while (0) { var x = 1; } use(x); whose branch declares a name around it',[WHEN(a,WHILE(L(0),var('var',(x,L(1))))),use(x)],None,0,1)
-S('if (a) { f(); } else { let y = f(); } try { f(); } catch {} finally {} whose blocks hold something, or are asked for',[IF(B(do('f')),B(var('let',(I('y'),call(f))))),{**TRY(B(do('f')),None),'finalizer':B()}],None,0,0)
+S('if (a) { f(); } else { let y = f(); } try { f(); } catch {} finally {} whose blocks hold something, or are asked for',[IF(B(do('f')),B(var('let',(I('y'),call(f))))),{**TRY(B(do('f')),None),'finalizer':B()}],[IF(B(do('f')),B(do('f'))),{**TRY(B(do('f')),None),'finalizer':B()}],1,0)
 S('let x = 1; if (a) while (0) { use(x); } where a name goes with it',[x_is(L(1)),WHEN(a,WHILE(L(0),use(x)))],[ES(a)],2,0)
 S("export function h() { let x = 1; if (a) while (0) { eval('x'); } }",[export(F_('h',[],x_is(L(1)),WHEN(a,WHILE(L(0),do('eval',L('x'))))))],[export(F_('h',[],ES(a)))],2,0)
 S('if (a && 0) { f(); } whose branch holds nothing then',[WHEN(AND(a,L(0)),B(do('f')))],[ES(a)],3,0)
@@ -582,8 +582,9 @@ STATEMENTS=[
  ('l: { break l; f(); }',[LABEL('l',B(BREAK(I('l')),CALL))],[],1,0),
  # variables
  ('let x = 1;',[x_is(L(1))],[],1,0),
- ('let x = f();',[x_is(call(f))],None,0,0),
- ('var x = 1, y = f();',[var('var',(x,L(1)),(Y,call(f)))],[var('var',(Y,call(f)))],1,0),
+ ('let x = f();',[x_is(call(f))],[CALL],1,0),
+ ('let x = f(); use(x);',[x_is(call(f)),use(x)],None,0,1),
+ ('var x = 1, y = f(); use(y);',[var('var',(x,L(1)),(Y,call(f))),use(Y)],[var('var',(Y,call(f))),use(Y)],1,1),
  ('const x = function () { f(); };',[x_is(fn('FunctionExpression',None,[],B(CALL)),'const')],[],1,0),
  ('let x; use(x);',[x_is(None),use(x)],None,0,1),
  ('let [x] = a;',[var('let',(N('ArrayPattern',elements=[x]),a))],None,0,0),
@@ -626,7 +627,8 @@ STATEMENTS=[
  ('try {} finally { f(); }',[FINALLY(B(),CALL)],[B(CALL)],1,0),
  ('with (a) { 1; } in a script',[N('WithStatement',object=a,body=B(ES(L(1))))],[N('WithStatement',object=a,body=EMPTY)],1,0,'script'),
  ('throw a; f(); { f(); }',[THROW(a),CALL,B(CALL)],[THROW(a)],1,0),
- ('throw a; let x = f();',[THROW(a),x_is(call(f))],None,0,0),
+ ('throw a; let x = f();',[THROW(a),x_is(call(f))],[THROW(a)],1,0),
+ ('use(x); throw a; let x = f();',[use(x),THROW(a),x_is(call(f))],None,0,1),
  ('debugger; 1;',[DEBUGGER,ES(L(1))],[DEBUGGER],1,0),
  # imports, exports
  ("import { a } from 'm';",[IMPORT('m',NAMED('a'))],[IMPORT('m')],1,0),
@@ -637,6 +639,24 @@ STATEMENTS=[
 ]
 for row in STATEMENTS: S(*row)
 assert all(row[3] <= 1 for row in STATEMENTS)
+# A declaration of a name that nothing uses becomes a statement of its value.
+S('var x = f(); const y = h(); at the start of a function',[export(F_('g',[],x_is(call(f),'var'),var('const',(I('y'),call(I('h'))))))],[export(F_('g',[],do('f'),do('h')))],1,0)
+S('let x = f(); let y = x; let z = use(y);',[x_is(call(f)),var('let',(I('y'),x)),var('let',(I('z'),call(I('use'),I('y'))))],[x_is(call(f)),var('let',(I('y'),x)),use(I('y'))],1,2)
+S('let x = f(); let y = x;',[x_is(call(f)),var('let',(I('y'),x))],[do('f')],2,0)
+S('let x = a.b; let y = z;',[x_is(mem(a,b)),var('let',(I('y'),I('z')))],[ES(mem(a,b)),ES(I('z'))],1,0)
+S('let x = { a: f(), b: 1 }; let y = a ? f() : 1; let z = [2, g()];',[x_is(N('ObjectExpression',properties=[prop(I('a'),call(f)),prop(I('b'),L(1))])),var('let',(I('y'),N('ConditionalExpression',test=a,consequent=call(f),alternate=L(1)))),var('let',(I('z'),N('ArrayExpression',elements=[L(2),call(g)])))],[do('f'),ES(N('LogicalExpression',operator='&&',left=a,right=call(f))),do('g')],2,0)
+S('switch (a) { case 1: let x = f(); }',[N('SwitchStatement',discriminant=a,cases=[N('SwitchCase',test=L(1),consequent=[x_is(call(f))])])],[N('SwitchStatement',discriminant=a,cases=[N('SwitchCase',test=L(1),consequent=[do('f')])])],1,0)
+S('if (a) { var x = f(); } else var y = f();',[IF(B(x_is(call(f),'var')),var('var',(I('y'),call(f))))],[IF(B(do('f')),var('var',(I('y'),call(f))))],1,0)
+S('{ let x = f(); } in a script',[B(x_is(call(f)))],[B(do('f'))],1,0,'script')
+S('{ var x = f(); } in a script',[B(x_is(call(f),'var'))],None,0,0,'script')
+S('var x = f(); in a script',[x_is(call(f),'var')],None,0,0,'script')
+S('function g() { with (a) { var x = f(); } } in a script',[F_('g',[],N('WithStatement',object=a,body=B(x_is(call(f),'var'))))],None,0,0,'script')
+S("let x = f(); eval('');",[x_is(call(f)),do('eval',L(''))],None,0,0)
+S('export const x = f(); for (let y = f(); a;) g();',[export(x_is(call(f),'const')),N('ForStatement',init=var('let',(I('y'),call(f))),test=a,update=None,body=do('g'))],None,0,0)
+S('let x = f(), y = f(); use(x);',[var('let',(x,call(f)),(I('y'),call(f))),use(x)],None,0,1)
+S('let x = f(x);',[x_is(call(f,x))],None,0,1)
+S('let x = class { static [f()] = 1; };',[x_is(N('ClassExpression',id=None,superClass=None,body=N('ClassBody',body=[N('PropertyDefinition',key=call(f),computed=True,static=True,value=L(1))])))],None,0,0)
+S("let [x] = f(); let { y } = f();",[var('let',(N('ArrayPattern',elements=[x]),call(f))),var('let',(N('ObjectPattern',properties=[prop(I('y'),I('y'),shorthand=True)]),call(f)))],None,0,0)
 
 def text(tree): return json.dumps(tree, sort_keys=True, separators=(',', ':'))
 
@@ -732,7 +752,8 @@ def rows():
         ('call smallest:', prog(kept), 'passes 1 scopes 1\n%s\n' % text(prog([IMPORT('m')]))),
         ('call imports:', prog(kept), 'passes 1 scopes 1\n%s\n' % text(prog(kept[:1]))),
         ('call imports:', prog(kept[:1]), 'passes 0 scopes 1\n%s\n' % text(prog(kept[:1]))),
-        ('call safest:', prog(kept), 'passes 1 scopes 2\n%s\n' % text(prog(kept[:3])))]
+        ('call safest:', prog(kept), 'passes 1 scopes 2\n%s\n' % text(prog(kept[:3]))),
+        ('call safest:', prog([x_is(CALL['expression'])]), 'passes 0 scopes 1\n%s\n' % text(prog([x_is(CALL['expression'])])))]
     again = [IMPORT('m', NAMED('a')), IMPORT('m')]
     yield "and an import without names is none of it: import { a } from 'm'; import 'm';", [
         ('call imports:', prog(again), 'passes 1 scopes 1\n%s\n' % text(prog(again[:1]))),
