@@ -11,6 +11,7 @@ pub mod Bodies
 pub mod Emptying
 pub mod Lighter
 pub mod Splitting
+pub mod Stating
 pub mod Idle
 pub mod Alive
 pub mod Before

@@ -6,7 +6,7 @@ use Rattle.js_syntax.specs.declared.node_kind.NodeKind.TheVariants.{EmptyStateme
 use Rattle.js_syntax.specs.declared.kind.FunctionKind.TheVariants as function_kind
 use Rattle.js_syntax.specs.declared.kind.VariableKind.{VariableKind}
 use Rattle.js_syntax.specs.declared.kind.VariableKind.TheVariants as variable
-use Rattle.js_syntax.specs.Node.{Forest, Tree, Note, nothing, node, absent}
+use Rattle.js_syntax.specs.Node.{Forest, Tree, Note, nothing, node, absent, alone}
 use Rattle.js_effects.specs.Silence.{may_have_effects}
 use Rattle.min_context.specs.Place.{Place, place_at, goes_on}
 use Rattle.min_pass.specs.declared.around.Around.{Around as Asked}
@@ -25,29 +25,34 @@ use Rattle.scope_counts.specs.Scopes.{unmarked}
 use Rattle.steps.proofs.Naming.Sites.{binding_second}
 use Rattle.steps.specs.Allowed.EmptyBlock.{holds_nothing, EmptyBlock, empty_block_leaves}
 use Rattle.steps.specs.Allowed.IdleBody.{IdleBody}
-use Rattle.steps.specs.Allowed.Exposure.{Exposure, exposure, is_script, shares, function_is_exposed, evaluates_somewhere, IsOwnFunction, IsOwnDeclarator}
+use Rattle.steps.specs.Allowed.Exposure.{Exposure, exposure, is_script, shares, function_is_exposed, evaluates_somewhere, IsOwnFunction, IsOwnDeclarator, IsOwnDeclaration}
 use Rattle.steps.specs.Allowed.Places.{a_node, asked_at, IsItem, IsDeclarator, At}
-use Rattle.steps.specs.Allowed.Free.{Free, FreeDeclarator}
+use Rattle.steps.specs.Allowed.Free.{IsFree, Free, FreeDeclarator}
+use Rattle.scope_rules.specs.Binding.{named_in}
 use Rattle.steps.specs.Allowed.SilentStatement.{SilentStatement}
 use Rattle.steps.specs.Allowed.UnusedFunction.{a_function}
 use Rattle.steps.specs.Allowed.UnusedDeclarator.{a_declarator, SilentDeclarator}
+use Rattle.steps.specs.Allowed.UnusedDeclaration.{one_declarator, a_declaration}
+use Rattle.steps.specs.Allowed.ValueStays.{may_be_stated, ValueStays, value_is_stated}
 use Rattle.steps.proofs.Owed.Places.{place_of, rest_of}
+use Rattle.steps.proofs.Owed.Unseen.{layer_below}
 use Rattle.steps.specs.Marked.Flags.{Stand, scope_has, is_sloppy_block, stand_inside, first_mark, stands_of, stand_at, stand}
 use Rattle.steps.proofs.Marked.Telling.{stand_exposed}
 use Rattle.js_syntax.proofs.Truth.{neither, first_of_neither, second_of_neither, first_of_either, second_of_either}
-use Rattle.rules.specs.DeadCode.Rules.{Facts, Where, has_with, where_of, scope_of, is_unlisted, is_global, variable_is_unused, is_quiet, is_silent_statement, one_goes, item_has_dead, is_idle_body}
+use Rattle.rules.specs.DeadCode.Rules.{Facts, Where, has_with, where_of, scope_of, is_unlisted, is_global, variable_is_unused, is_quiet, is_silent_statement, one_goes, item_has_dead, is_idle_body, is_item}
 use Rattle.rules.specs.DeadCode.Knows.{Knows}
 use Rattle.rules.proofs.DeadCode.Keeping.{Known}
 use Rattle.rules.proofs.DeadCode.LaidOut.{has_list, is_laid, fits_laid, laid_here}
 use Rattle.rules.proofs.DeadCode.Bodies.{idle_told}
 use Rattle.rules.proofs.DeadCode.Places.{to, plugged, join, plug_join, asked_row, asked_to, is_row, with_is}
-use Rattle.rules.proofs.DeadCode.Numbers.{Same, whole_stand, stand_to, stand_along}
+use Rattle.rules.proofs.DeadCode.Numbers.{Same, whole_stand, numbers, stand_to, stand_along}
 use Rattle.rules.proofs.DeadCode.Silent.{of_left, of_right}
 use Rattle.rules.proofs.DeadCode.Leaving.{named_site}
 use Rattle.rules.proofs.DeadCode.Items.{laid_there, items_same, in_declaration, declarator_with}
+use Rattle.rules.proofs.DeadCode.Stating.{is_item_there, with_there}
 use Rattle.rules.specs.DeadCode.Quiet.{TellsOnly, ToldOnly, Exactly, IsQuiet}
 use Rattle.rules.proofs.DeadCode.Idle.{find, idle_row, unlisted}
-use Rattle.rules.proofs.DeadCode.Splitting.{whole_place, in_list, in_declaration as inside_declaration, list_items, none_dead, some_goes, only_list}
+use Rattle.rules.proofs.DeadCode.Splitting.{is_items, whole_place, in_list, in_declaration as inside_declaration, list_items, none_dead, some_goes, only_list}
 
 wrong : {P : Type 0} → true ≡ false → P
 wrong e = absurd (true≢false e)
@@ -220,6 +225,44 @@ module _ (f : Facts) where
       (of_right all name behind_name (of_right all own (name ++ behind_name) (of_left all (own ++ (name ++ behind_name)) [] place.references))) place.holds_there.1 in
       ap not (subst (λ v. (may_have_effects f.bound v value || v && is_given value) ≡ false) is (neither (may_have_effects f.bound in_with value) (in_with && is_given value) idle place.holds_there.0))
 
+  -- a declaration of one name, of which the value stays
+  value_alive : f.keeps_unused ≡ false → (a : counts.Around) (rest : Forest) (how : VariableKind) (n m l j i : Note) (x : List ℕ) (k : Kind) (inner : Forest)
+      → let b = to a (first rest) in let v = alone k i inner in let y = a_declaration how n m l j x v in
+      Good f (places.plug b y) → may_be_stated k inner ≡ true → IsItem b → (asked_at (asked_of_program true) b).in_with ≡ false → IsOwnDeclaration how b y → At b y (Free (places.plug b y) how x) → ⊥
+  value_alive unkept a rest how n m l j i x k inner g may item without own free =
+      let b = to a (first rest) in
+      let value = alone k i inner in
+      let parts = node (binding_name x) j nothing value in
+      let ds = node variable_declarator l parts nothing in
+      let below = one_declarator m l parts in
+      let y : Tree = record { kind = variable_declaration how; note = n; below = below } in
+      let t = places.plug b (Some y) in
+      let p = place_at a (goes_on rest) in
+      let w = where_of p in
+      let row = node (variable_declaration how) n below rest in
+      let here_ = good_row a y rest g in
+      let same = numbers f.scoping a (variable_declaration how) n below rest (fits_laid (plug a row) here_.knows.fits) here_.knows.flags here_.knows.outermost in
+      let outer = whole_stand a row in
+      let shared : shares outer.exposure how ≡ false =
+      ap (λ (r : Stand). shares r.exposure how) (sym (stand_to a (first rest) (Some y))) ∙ ap (λ (e : Exposure). shares e how) (stand_exposed b (Some y)) ∙ first_of_neither (shares (exposure b (Some y)) how) (evaluates_somewhere t) own in
+      let only : TellsOnly f.scoping (is_script t) outer = subst (λ v. TellsOnly f.scoping (is_script v) outer) (sym (plugged a (first rest) (Some y))) (only_item a (variable_declaration how) n below rest here_.exactly) in
+      let hidden = variable_hidden t outer w how g.knows.script only same shared (program_evaluates t g.knows.outermost g.exactly.flags) (second_of_neither (shares (exposure b (Some y)) how) (evaluates_somewhere t) own) in
+      let place = find b (Some y) (Free t how x) free in
+      let cs = place.contexts place.at in
+      let whole = inside cs place.next (variable_declaration how) below in
+      let list = inside (whole 0) (place.next + 0) declarators ds in
+      let fs = inside (list 0) (place.next + 0 + 0) variable_declarator parts in
+      let site = named_site (fs 0) j x in
+      let stands = place.bindings site (binding_second site (own_sites cs n (variable_declaration how) below) (sites whole 0 (place.next + 0) below) []
+      (binding_second site (own_sites (whole 0) m declarators ds) (sites list 0 (place.next + 0 + 0) ds) []
+      (binding_second site (own_sites (list 0) l variable_declarator parts) (sites fs 0 (place.next + 0 + 0 + 0) parts) [] (inl refl)))) in
+      let is_free = subst (λ r. IsFree t (named_in x r)) (sym (layer_below cs how)) place.holds_there in
+      let unused = and_from (is_unlisted f j.id) (not (is_global f (scope_of w how) || scope_has f.scoping 0 scope_flag.direct_eval)) (unlisted f t g.knows unkept g.exactly site stands is_free) (ap not hidden) in
+      let value_there = and_from (variable_is_unused f (scope_of w how) j.id) (may_be_stated k inner) unused may in
+      let outside_with : not w.in_with ≡ true = ap not (sym (with_there a rest) ∙ without) in
+      let goes = and_from (is_item p) (not w.in_with && (variable_is_unused f (scope_of w how) j.id && may_be_stated k inner)) (sym (is_item_there a rest) ∙ ap is_items item) (and_from (not w.in_with) (variable_is_unused f (scope_of w how) j.id && may_be_stated k inner) outside_with value_there) in
+      some_empty (is_item p && (not w.in_with && (variable_is_unused f (scope_of w how) j.id && may_be_stated k inner))) (record { kind = expression_statement; note = without_mark n; below = value }) goes (here_.quiet.declarations_stay a y rest refl)
+
   declarator_alive : f.keeps_unused ≡ false → (o : counts.Around) (m : Note) (c : counts.Around) (beside rest : Forest) → is_row c ≡ true → (how : VariableKind) (n l : Note) (d : counts.Around) (more : Forest) → is_row d ≡ true → (i j : Note) (x : List ℕ) (value : Forest)
       → let b = to (join o (under statements m c beside)) (in_declaration how n l d more rest) in
       Good f (places.plug b (a_declarator i j x value)) → IsOwnDeclarator b (a_declarator i j x value)
@@ -372,3 +415,9 @@ module _ (f : Facts) (t : Forest) (knows : Knows f unmarked t) (exactly : Exactl
       subst (λ c. Good f (places.plug c y) → IsOwnDeclarator c y → At c y (SilentDeclarator (places.plug c y) (node (binding_name x) m nothing value)) → At c y (FreeDeclarator (places.plug c y) x) → ⊥) i.is
       (declarator_alive f unkept i.outer i.note i.inner i.beside i.rest i.in_row i.how i.declaration_note i.list_note i.before i.more i.before_in_row n m x value) here_ own
       (subst (λ v. At b y (SilentDeclarator v (node (binding_name x) m nothing value))) is silent) (subst (λ v. At b y (FreeDeclarator v x)) is free)
+
+  pub no_value_stays : (x y : Tree) → t ≡ places.plug b (Some x) → f.keeps_unused ≡ false → ValueStays b x y → ⊥
+  no_value_stays _ _ is unkept (value_is_stated how n m l j i o x k inner may item without own free) =
+      let y = a_declaration how n m l j x (alone k i inner) in
+      subst (λ c. Good f (places.plug c y) → IsItem c → (asked_at (asked_of_program true) c).in_with ≡ false → IsOwnDeclaration how c y → At c y (Free (places.plug c y) how x) → ⊥) (whole_place b)
+      (λ g there outside_with owns frees. value_alive f unkept (place_of b) (rest_of b) how n m l j i x k inner g may there outside_with owns frees) (good_there y is) item without own free

@@ -17,7 +17,7 @@ use Rattle.steps.specs.Allowed.IdleBody.{has_body, stands_as_body, is_idle_state
 use Rattle.rules.specs.DeadCode.Rules.{is_body_under, is_body, is_idle_body}
 use Rattle.rules.proofs.DeadCode.Places.{to}
 
-nearest_last : (above : List Ancestor) (a : Ancestor) → nearest (above ++ (a ∷ [])) 0 ≡ a
+pub nearest_last : (above : List Ancestor) (a : Ancestor) → nearest (above ++ (a ∷ [])) 0 ≡ a
 nearest_last above a = ap (λ (up : List Ancestor). slice_index_or up 0 past_program) (reverse-append above (a ∷ []))
 
 body_of_field : (k : Kind) (at : ℕ) (previous more : Bool) → is_body_under (field (told_of (parent_of k) at previous more) at) ≡ has_body k

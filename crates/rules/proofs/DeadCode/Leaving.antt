@@ -17,7 +17,7 @@ use Rattle.scope_rules.specs.Binding.{named_in}
 use Rattle.scope_laws.specs.Place.{Around, plug}
 use Rattle.scope_laws.specs.Lists.{without}
 use Rattle.steps.proofs.Naming.Sites.{binding_second}
-use Rattle.steps.specs.Allowed.Exposure.{is_script, evaluates_somewhere, IsOwnDeclarator}
+use Rattle.steps.specs.Allowed.Exposure.{is_script, evaluates_somewhere, IsOwnDeclarator, IsOwnDeclaration}
 use Rattle.steps.specs.Allowed.Places.{a_node, asked_at, IsItem, IsDeclarator, has_other, At}
 use Rattle.steps.specs.Allowed.Free.{IsFree, Free, FreeDeclarator}
 use Rattle.steps.specs.Allowed.EmptyStatement.{empty_statement_leaves}
@@ -162,18 +162,46 @@ declarator_leaves f marked scope a n m x value h declarator other_stays is e qui
     let o = declarator_unused f marked scope a n m x value h is e quiet in
     leaves a (record { kind = variable_declarator; note = n; below = node (binding_name x) m nothing value }) (unused_declarator (unused_declarator_leaves n m x value declarator other_stays o.own o.silent o.free))
 
+-- what is to be true of a declaration of one name that nothing uses, whether its value is silent or stays
+pub record DeclaresUnused (a : Around) (how : VariableKind) (n m l j : Note) (x : List ℕ) (value : Forest) : Type 0 where
+  pub own : IsOwnDeclaration how a (a_declaration how n m l j x value)
+  pub free : At a (a_declaration how n m l j x value) (Free (plug a (a_declaration how n m l j x value)) how x)
+
+pub declaration_unused : (f : Facts) (marked : ℕ → Bool) (scope : ℕ) (a : Around) (how : VariableKind) (n m l j : Note) (x : List ℕ) (value : Forest) → Knows f marked (plug a (a_declaration how n m l j x value))
+    → declares_in (stand a (a_declaration how n m l j x value)) how ≡ Some scope → variable_is_unused f scope j.id ≡ true → DeclaresUnused a how n m l j x value
+declaration_unused f marked scope a how n m l j x value h is e =
+    let y = a_declaration how n m l j x value in
+    let v = plug a y in
+    let o = hidden f marked v h scope j.id e in
+    let below = node (binding_name x) j nothing value in
+    let ds = node variable_declarator l below nothing in
+    let whole = one_declarator m l below in
+    record {
+      own = declaration_hidden how a (record { kind = variable_declaration how; note = n; below = whole }) f.scoping h.flags scope is o.unshared o.no_evals;
+      free = declared_at a y (Free v how x)
+          (λ in_with cs place next all_of.
+          let outer = inside (cs place) next (variable_declaration how) whole in
+          let list = inside (outer 0) (next + 0) declarators ds in
+          let fs = inside (list 0) (next + 0 + 0) variable_declarator below in
+          let d = named_site (fs 0) j x in
+          let stands = binding_second d (own_sites (cs place) n (variable_declaration how) whole) (sites outer 0 (next + 0) whole) []
+          (binding_second d (own_sites (outer 0) m declarators ds) (sites list 0 (next + 0 + 0) ds) []
+          (binding_second d (own_sites (list 0) l variable_declarator below) (sites fs 0 (next + 0 + 0 + 0) below) [] (inl refl))) in
+          subst (λ r. IsFree v (named_in x r)) (layer_below (cs place) how) (is_free f marked v h d (all_of d stands) o.unlisted));
+    }
+
 pub declaration_leaves : (f : Facts) (marked : ℕ → Bool) (scope : ℕ) (a : Around) (how : VariableKind) (n m l j : Note) (x : List ℕ) (value : Forest) → Knows f marked (plug a (a_declaration how n m l j x value)) → IsItem a
     → declares_in (stand a (a_declaration how n m l j x value)) how ≡ Some scope → variable_is_unused f scope j.id ≡ true → Quiet f (asked_at (asked_of_program true) a).in_with value → Edit (plug a (a_declaration how n m l j x value)) (without a)
 declaration_leaves f marked scope a how n m l j x value h item is e quiet =
     let y = a_declaration how n m l j x value in
     let v = plug a y in
-    let o = hidden f marked v h scope j.id e in
+    let o = declaration_unused f marked scope a how n m l j x value h is e in
     let all = references_among (sites_of v) in
     let below = node (binding_name x) j nothing value in
     let ds = node variable_declarator l below nothing in
     let whole = one_declarator m l below in
     leaves a (record { kind = variable_declaration how; note = n; below = whole })
-    (unused_declaration (unused_declaration_leaves how n m l j x value item (declaration_hidden how a (record { kind = variable_declaration how; note = n; below = whole }) f.scoping h.flags scope is o.unshared o.no_evals)
+    (unused_declaration (unused_declaration_leaves how n m l j x value item o.own
     (silent_at a y (SilentDeclaration v how m l below)
     (λ cs at next all_of.
     let place = next + opens_one (variable_declaration how) whole in
@@ -185,13 +213,4 @@ declaration_leaves f marked scope a how n m l j x value h item is e quiet =
     silent_behind f v (known_binds f marked v h) (asked_at (asked_of_program true) a).in_with list 0 (place + opens_one declarators ds) l j x value
     (of_right all own_list declarator (of_left all (own_list ++ declarator) [] (of_right all own ((own_list ++ declarator) ++ []) (of_left all (own ++ ((own_list ++ declarator) ++ [])) [] all_of))))
     quiet))
-    (declared_at a y (Free v how x)
-    (λ in_with cs place next all_of.
-    let outer = inside (cs place) next (variable_declaration how) whole in
-    let list = inside (outer 0) (next + 0) declarators ds in
-    let fs = inside (list 0) (next + 0 + 0) variable_declarator below in
-    let d = named_site (fs 0) j x in
-    let stands = binding_second d (own_sites (cs place) n (variable_declaration how) whole) (sites outer 0 (next + 0) whole) []
-    (binding_second d (own_sites (outer 0) m declarators ds) (sites list 0 (next + 0 + 0) ds) []
-    (binding_second d (own_sites (list 0) l variable_declarator below) (sites fs 0 (next + 0 + 0 + 0) below) [] (inl refl))) in
-    subst (λ r. IsFree v (named_in x r)) (layer_below (cs place) how) (is_free f marked v h d (all_of d stands) o.unlisted)))))
+    o.free))

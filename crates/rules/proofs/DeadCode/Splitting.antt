@@ -23,7 +23,7 @@ use Rattle.js_syntax.proofs.Truth.{first_of_neither, second_of_neither, first_of
 
 -- ---- rows
 
-abbrev is_items : Row → Bool
+abbrev pub is_items : Row → Bool
 is_items items = true
 is_items r = false
 

@@ -25,4 +25,5 @@ pub quiet_nodes : (f : Facts) (t : Forest) → EachNode (IsQuietAt f) top t → 
 quiet_nodes f t h = record {
   lists = λ a n row rest is. (there (IsQuietAt f) top a (record { kind = statements; note = n; below = row }) rest (subst (λ u. EachNode (IsQuietAt f) top u) is h)).list refl;
   statements_stay = λ a x rest is. (there (IsQuietAt f) top a x rest (subst (λ u. EachNode (IsQuietAt f) top u) is h)).statement;
+  declarations_stay = λ a x rest is. (there (IsQuietAt f) top a x rest (subst (λ u. EachNode (IsQuietAt f) top u) is h)).declaration;
 }

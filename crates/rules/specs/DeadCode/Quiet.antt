@@ -1,4 +1,4 @@
--- Where the rules take nothing out of a program, and what is known of it is known exactly.
+-- Where the rules take nothing out of a program and change nothing of it, and what is known of it is known exactly.
 use Rattle.std.specs.Prelude.{◌≡◌, ℕ, suc, Bool, true, false, Some, None}
 use Rattle.js_syntax.specs.declared.node_kind.NodeKind.TheVariants.{Statements as statements}
 use Rattle.js_syntax.specs.Node.{Forest, Note, Tree, nothing, node, absent}
@@ -13,7 +13,7 @@ use Rattle.scope_counts.specs.Edits.{Around, plug}
 use Rattle.steps.specs.Allowed.Exposure.{is_script}
 use Rattle.steps.specs.Naming.Standing.{exported_declarations}
 use Rattle.steps.specs.Marked.Flags.{scope_has, is_sloppy_block, Stand, stand_inside, stands_of}
-use Rattle.rules.specs.DeadCode.Rules.{Facts, where_of, has_dead, emptied}
+use Rattle.rules.specs.DeadCode.Rules.{Facts, where_of, has_dead, emptied, stated}
 
 -- ---- what is known is so
 
@@ -46,6 +46,7 @@ pub record Exactly (f : Facts) (t : Forest) : Type 0 where
 pub record IsQuiet (f : Facts) (t : Forest) : Type 0 where
   pub lists : (a : Around) (n : Note) (row rest : Forest) → t ≡ plug a (node statements n row rest) → has_dead f (where_of (place_at a (goes_on rest))) row ≡ false
   pub statements_stay : (a : Around) (x : Tree) (rest : Forest) → t ≡ plug a (node x.kind x.note x.below rest) → emptied f (place_at a (goes_on rest)) x ≡ None
+  pub declarations_stay : (a : Around) (x : Tree) (rest : Forest) → t ≡ plug a (node x.kind x.note x.below rest) → stated f (place_at a (goes_on rest)) x ≡ None
 
 -- ---- node by node, as a walk goes
 
@@ -58,3 +59,4 @@ EachNode Q s (node k n inner rest) = Q (place_of s (goes_on rest)) (record { kin
 pub record IsQuietAt (f : Facts) (p : Place) (x : Tree) : Type 0 where
   pub list : x.kind ≡ statements → has_dead f (where_of p) x.below ≡ false
   pub statement : emptied f p x ≡ None
+  pub declaration : stated f p x ≡ None

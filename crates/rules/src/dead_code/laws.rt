@@ -26,7 +26,7 @@ ghost use Rattle.min_traverse.specs.Lawful.{Stays};
 ghost use Rattle.symbol_sets.specs.Numbers.{none_below};
 ghost use Rattle.min_context.specs.IsTrue.{IsTrue};
 ghost use Rattle.min_context.specs.Seen.{Seen};
-ghost use Rattle.rules.specs.DeadCode.Rules.{Facts, Where, where_of, trimmed, has_dead, emptied};
+ghost use Rattle.rules.specs.DeadCode.Rules.{Facts, Where, where_of, trimmed, has_dead, emptied, stated};
 ghost use Rattle.rules.specs.DeadCode.Knows.{TellsBound, TellsExported, Knows};
 
 /// Law: a program is known by its own table, where it is read which references are bound and which symbols exported, whatever is kept.
@@ -63,6 +63,13 @@ pub fn silent_statements_may_become_empty()
         → Edit (plug a (node x.kind x.note x.below rest)) (plug a (node y.kind y.note y.below rest)) }
 {}
 
+/// Law: by what is known a declaration that becomes a statement of its value declares a name that nothing uses where it stands, so that this
+/// is an edit.
+pub fn values_may_stay()
+    ensures { (f : Facts) (marked : ℕ → Bool) (a : Around) (x y : Tree) (rest : Forest) → Knows f marked (plug a (node x.kind x.note x.below rest)) → stated f (place_at a (goes_on rest)) x ≡ Some y
+        → Edit (plug a (node x.kind x.note x.below rest)) (plug a (node y.kind y.note y.below rest)) }
+{}
+
 /// Law: what goes of a list of statements may go, one after the other: empty and silent statements, functions and declarators
 /// that nothing uses, and declarations of which none of those stays.
 pub fn what_goes_may_go()
@@ -83,6 +90,12 @@ pub fn a_trimmed_list_is_lighter()
 pub fn an_emptied_statement_is_lighter()
     ensures lighter { (f : Facts) (p : Place) (x y : Tree) → emptied f p x ≡ Some y → total weight (forest_of y) + 1 ≤ total weight (forest_of x) }
     ensures references { (f : Facts) (p : Place) (x y : Tree) → emptied f p x ≡ Some y → (r : ℕ) → ids r (forest_of y) ≤ ids r (forest_of x) }
+{}
+
+/// Law: and a declaration that becomes a statement of its value.
+pub fn a_stated_value_is_lighter()
+    ensures lighter { (f : Facts) (p : Place) (x y : Tree) → stated f p x ≡ Some y → total weight (forest_of y) + 1 ≤ total weight (forest_of x) }
+    ensures references { (f : Facts) (p : Place) (x y : Tree) → stated f p x ≡ Some y → (r : ℕ) → ids r (forest_of y) ≤ ids r (forest_of x) }
 {}
 
 /// Law: what the context of a walk tells stays true of what edits leave, once exactly what left is marked.

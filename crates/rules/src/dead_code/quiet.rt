@@ -14,6 +14,7 @@ ghost use Rattle.steps.specs.Allowed.Places.{a_node, IsItem, IsDeclarator, At};
 ghost use Rattle.steps.specs.Allowed.SilentStatement.{SilentStatement};
 ghost use Rattle.steps.specs.Allowed.UnusedFunction.{a_function};
 ghost use Rattle.steps.specs.Allowed.UnusedDeclarator.{a_declarator, SilentDeclarator};
+ghost use Rattle.steps.specs.Allowed.ValueStays.{ValueStays};
 ghost use Rattle.rules.specs.DeadCode.Rules.{Facts};
 ghost use Rattle.rules.specs.DeadCode.Knows.{Knows};
 ghost use Rattle.rules.specs.DeadCode.Quiet.{Exactly, IsQuiet, EachNode, IsQuietAt};
@@ -25,7 +26,7 @@ pub fn walks_see_what_is_quiet()
 
 /// Law: a program of which the rules take nothing out has no empty statement in a list, nor a block of nothing, no silent statement
 /// anywhere, none that does nothing as a branch or a body, and in lists, unless that is kept, no function declaration or declarator with a silent initialiser whose name nothing refers
-/// to, no export is of and no other code may use.
+/// to, no export is of and no other code may use, nor a declaration of one such name whose value may stay as a statement.
 pub fn what_is_quiet_has_no_dead_code()
     ensures empty_statements { (f : Facts) (t : Forest) → Knows f unmarked t → Exactly f t → IsQuiet f t → (a : Around) → (n : Note) → t ≡ plug a (a_node empty_statement n nothing) → IsItem a → ⊥ }
     ensures empty_blocks { (f : Facts) (t : Forest) → Knows f unmarked t → Exactly f t → IsQuiet f t → (a : Around) → (x : Tree) → t ≡ plug a (Some x) → EmptyBlock a x → ⊥ }
@@ -36,4 +37,5 @@ pub fn what_is_quiet_has_no_dead_code()
         → IsOwnFunction a (a_function pure n m x rest) → At a (a_function pure n m x rest) (Free t variable.Let x) → ⊥ }
     ensures declarators { (f : Facts) (t : Forest) → Knows f unmarked t → Exactly f t → IsQuiet f t → (a : Around) → (n m : Note) (x : List ℕ) (value : Forest) → t ≡ plug a (a_declarator n m x value) → f.keeps_unused ≡ false → IsDeclarator a
         → IsOwnDeclarator a (a_declarator n m x value) → At a (a_declarator n m x value) (SilentDeclarator t (node (binding_name x) m nothing value)) → At a (a_declarator n m x value) (FreeDeclarator t x) → ⊥ }
+    ensures values { (f : Facts) (t : Forest) → Knows f unmarked t → Exactly f t → IsQuiet f t → (a : Around) → (x y : Tree) → t ≡ plug a (Some x) → f.keeps_unused ≡ false → ValueStays a x y → ⊥ }
 {}
